@@ -1,0 +1,104 @@
+-- The rows of a tree, and the tree that tables hold.
+use Rattle.std.specs.Prelude.{◌≡◌, ℕ, ◌+◌, ◌^◌, ◌<◌, ◌≤◌, List, [], ◌∷◌, ◌++◌, Option, Some, None, length, map, slice_range}
+use Rattle.std.specs.List.{AllByRecursion}
+use Rattle.std.specs.Option.{option_map, option_and_then}
+use Rattle.rox_grammar.specs.Forest.{Forest, Nil, Cons, size}
+use Rattle.rox_grammar.specs.Written.{Declaration}
+use Rattle.rox_grammar.specs.Tree as tree
+use Rattle.rox_grammar.specs.Tree.{Node, xml_uri}
+use Rattle.rox_build.specs.Storage.{storage_bytes, is_borrowed}
+use Rattle.rox_build.specs.declared.tables.Namespace.{Namespace}
+use Rattle.rox_build.specs.declared.tables.AttributeNamespace.{AttributeNamespace}
+use Rattle.rox_build.specs.declared.tables.AttributeNamespace.TheVariants as space
+use Rattle.rox_build.specs.declared.tables.AttributeData.{AttributeData}
+use Rattle.rox_build.specs.declared.tables.ElementData.{ElementData}
+use Rattle.rox_build.specs.declared.tables.NodeKind.{NodeKind}
+use Rattle.rox_build.specs.declared.tables.NodeKind.TheVariants as kind
+use Rattle.rox_build.specs.declared.tables.NodeData.{NodeData}
+use Rattle.rox_build.specs.declared.tables.Tables.{Tables}
+
+-- one row: where its node stands, and the node
+pub record Line : Type 0 where
+  pub parent : ℕ
+  pub next : ℕ
+  pub depth : ℕ
+  pub node : Node
+
+-- the rows of siblings and of what is below them, in preorder: under parent, at this depth, the first of them at this place
+abbrev pub lines : ℕ → ℕ → ℕ → Forest Node → List Line
+lines parent depth at Nil = []
+lines parent depth at (Cons node children rest) =
+    record { parent = parent; next = at + 1 + size children; depth = depth; node = node }
+    ∷ (lines at (depth + 1) (at + 1) children ++ lines parent depth (at + 1 + size children) rest)
+
+abbrev pub declaration : Namespace → Declaration
+declaration n = record { prefix = option_map (λ p. p.now) n.name; uri = storage_bytes n.uri }
+
+-- the one at this place of a table
+abbrev pub entry : List Declaration → ℕ → Declaration
+entry [] i = record { prefix = None; uri = [] }
+entry (d ∷ ds) Prim.Native.Nat.zero = d
+entry (d ∷ ds) (Prim.Native.Nat.suc i) = entry ds i
+
+abbrev pub namespace_of : List Declaration → AttributeNamespace → Option (List ℕ)
+namespace_of names space.None = None
+namespace_of names space.Xml = Some xml_uri
+namespace_of names (space.Listed i) = Some (entry names i).uri
+
+abbrev pub attribute : List Declaration → AttributeData → tree.Attribute
+attribute names a = record {
+    start = a.start; name_end = a.name_end; value_start = a.value_start; end = a.end;
+    namespace = namespace_of names a.namespace; local = a.local.now; value = storage_bytes a.value; borrowed = is_borrowed a.value }
+
+-- the node of a row, over the tables of attributes, namespaces and listed places
+abbrev pub node : List AttributeData → List Declaration → List ℕ → (start end : ℕ) → NodeKind → Node
+node attributes names listed start end kind.Root = tree.Root end
+node attributes names listed start end (kind.Element e) =
+    tree.Element start end (option_map (λ i. (entry names i).uri) e.namespace) e.local.now
+      (map (entry names) (slice_range listed e.namespaces_from e.namespaces_until))
+      (map (attribute names) (slice_range attributes e.attributes_from e.attributes_until))
+node attributes names listed start end (kind.Text value) = tree.Text start end (storage_bytes value) (is_borrowed value)
+node attributes names listed start end (kind.Comment text) = tree.Comment start end text.now
+node attributes names listed start end (kind.PI pi) = tree.PI start end pi.target.now (option_map (λ v. v.now) pi.value)
+
+abbrev pub line : List AttributeData → List Declaration → List ℕ → NodeData → Line
+line attributes names listed row =
+    record { parent = row.parent; next = row.next; depth = row.depth; node = node attributes names listed row.start row.end row.kind }
+
+-- the namespaces that an attribute's or an element's row names are in the table
+abbrev pub NamespaceWithin : ℕ → AttributeNamespace → Type 0
+NamespaceWithin n space.None = Unit {0}
+NamespaceWithin n space.Xml = Unit {0}
+NamespaceWithin n (space.Listed i) = i < n
+
+abbrev pub OptionWithin : ℕ → Option ℕ → Type 0
+OptionWithin n None = Unit {0}
+OptionWithin n (Some i) = i < n
+
+-- what a row names is in the tables, of these lengths
+abbrev pub KindWithin : (attributes names listed : ℕ) → NodeKind → Type 0
+KindWithin attributes names listed kind.Root = Unit {0}
+KindWithin attributes names listed (kind.Element e) =
+    (e.attributes_from ≤ e.attributes_until) × (e.attributes_until ≤ attributes)
+    × (e.namespaces_from ≤ e.namespaces_until) × (e.namespaces_until ≤ listed) × OptionWithin names e.namespace
+KindWithin attributes names listed (kind.Text value) = Unit {0}
+KindWithin attributes names listed (kind.Comment text) = Unit {0}
+KindWithin attributes names listed (kind.PI pi) = Unit {0}
+
+-- each row names only what the tables have
+pub record Sound (t : Tables) : Type 0 where
+  pub nodes : AllByRecursion (λ row. KindWithin (length t.attributes.items) (length t.namespaces.items) (length t.listed.items) row.kind) t.nodes.items
+  pub attributes : AllByRecursion (λ a. NamespaceWithin (length t.namespaces.items) a.namespace) t.attributes.items
+  pub listed : AllByRecursion (λ i. i < length t.namespaces.items) t.listed.items
+
+abbrev pub names_of : Tables → List Declaration
+names_of t = map declaration t.namespaces.items
+
+abbrev pub lines_of : Tables → List Line
+lines_of t = map (line t.attributes.items (names_of t) t.listed.items) t.nodes.items
+
+-- the tables are those of the tree
+pub record Holds (t : Tables) (tree : Forest Node) : Type 0 where
+  pub rows : lines_of t ≡ lines 0 0 0 tree
+  pub sound : Sound t
+  pub few : length t.nodes.items < 2 ^ 32

@@ -1,0 +1,5 @@
+//! From a text to the tables of its tree.
+#![tactic(auto)]
+
+pub mod storage;
+pub mod tables;

@@ -1,0 +1,36 @@
+//! Text that is a slice of the input, or owned.
+
+ghost use Rattle.std.specs.Prelude.{◌≡◌, IfOk, false};
+ghost use Rattle.rox_build.specs.Storage.{storage_bytes, is_borrowed};
+
+use std::alloc::{AllocError, Global};
+use std::rc::RcStr;
+
+/// Text of a document: a slice of the input where nothing of it had to be changed, else a text of its own.
+#[derive(Debug, Drop)]
+pub enum StringStorage<'input> {
+    Borrowed(&'input str),
+    Owned(RcStr),
+}
+
+impl<'input> StringStorage<'input> {
+    /// A text of its own. The only error is want of memory.
+    pub fn new_owned(alloc: Global, s: &str) -> Result<Self, AllocError>
+        ensures bytes { IfOk result (λ t. storage_bytes t ≡ s.now) }
+        ensures owned { IfOk result (λ t. is_borrowed t ≡ false) }
+    {
+        let text = RcStr::from_str(alloc, s)?;
+        Ok(StringStorage::Owned(text))
+    }
+
+    /// Its text.
+    #[inline]
+    pub fn as_str(&self) -> &str
+        ensures { result.now ≡ storage_bytes self.now }
+    {
+        match self {
+            StringStorage::Borrowed(s) => s,
+            StringStorage::Owned(s) => s.as_str(),
+        }
+    }
+}

@@ -1,0 +1,82 @@
+//! The tables of a document: a row for each node in document order, and beside them attributes and namespaces.
+
+use crate::storage::StringStorage;
+
+/// A processing instruction: its target, and its value where it has one (XML 1.0 section 2.6).
+#[derive(Clone, Copy, Debug, PartialEq, Eq)]
+pub struct PI<'input> {
+    pub target: &'input str,
+    pub value: Option<&'input str>,
+}
+
+/// A namespace that an element lists: a prefix, or none for the default, and its URI.
+#[derive(Debug, Drop)]
+pub struct Namespace<'input> {
+    pub name: Option<&'input str>,
+    pub uri: StringStorage<'input>,
+}
+
+/// The namespace of an attribute's name.
+#[derive(Clone, Copy, Debug)]
+pub enum AttributeNamespace {
+    None,
+    /// That of the prefix `xml`.
+    Xml,
+    /// One of the table of namespaces.
+    Listed(u16),
+}
+
+/// An attribute. Its places count bytes of its source; `value_start` is behind the opening quote, `end` behind the other.
+#[derive(Debug, Drop)]
+pub struct AttributeData<'input> {
+    pub start: usize,
+    pub name_end: usize,
+    pub value_start: usize,
+    pub end: usize,
+    pub local: &'input str,
+    pub value: StringStorage<'input>,
+    pub namespace: AttributeNamespace,
+}
+
+/// What an element has: its name, and where its attributes and the namespaces that it lists stand in their tables.
+#[derive(Clone, Copy, Debug)]
+pub struct ElementData<'input> {
+    pub local: &'input str,
+    pub namespaces_from: usize,
+    pub namespaces_until: usize,
+    pub attributes_from: u32,
+    pub attributes_until: u32,
+    /// The namespace of its name, in the table of namespaces.
+    pub namespace: Option<u16>,
+}
+
+#[derive(Debug, Drop)]
+pub enum NodeKind<'input> {
+    Root,
+    Element(ElementData<'input>),
+    Text(StringStorage<'input>),
+    Comment(&'input str),
+    PI(PI<'input>),
+}
+
+/// A node: 96 bytes. `parent`, `next` and `depth` are its only links: the id of its parent (0 at the root node too), the id
+/// past its last descendant, and how many nodes are above it.
+#[derive(Debug, Drop)]
+pub struct NodeData<'input> {
+    pub start: usize,
+    pub end: usize,
+    pub parent: u32,
+    pub next: u32,
+    pub depth: u32,
+    pub kind: NodeKind<'input>,
+}
+
+/// The tables. An element lists a stretch of `listed`, whose numbers are places in `namespaces`; elements without
+/// declarations share their parent's stretch.
+#[derive(Debug, Drop)]
+pub struct Tables<'input> {
+    pub nodes: Vec<NodeData<'input>>,
+    pub attributes: Vec<AttributeData<'input>>,
+    pub namespaces: Vec<Namespace<'input>>,
+    pub listed: Vec<u16>,
+}

@@ -1,0 +1,86 @@
+-- The tree of a text with its names as they are written. Every place is a count of bytes from the start of the source.
+use Rattle.std.specs.Prelude.{ℕ, ◌+◌, ◌-◌, Bool, true, false, ◌||◌, not, List, [], ◌∷◌, ◌++◌, Option, Some, None, bytes_eq, filter, map, if◌then◌else◌, length}
+use Rattle.rox_grammar.specs.declared.fault.Word.TheVariants.{Xmlns}
+use Rattle.rox_grammar.specs.declared.fault.Span.{Span}
+use Rattle.rox_grammar.specs.Words.{word_text}
+use Rattle.rox_grammar.specs.Forest.{Forest, Nil, Cons}
+
+-- NS 4: a prefix, which is empty where none is written, and a local part
+pub record Name : Type 0 where
+  pub prefix : List ℕ
+  pub local : List ℕ
+
+-- an attribute: its name from start to name_end, its value between the quotes from value_start to end less one
+pub record Attribute : Type 0 where
+  pub start : ℕ
+  pub name_end : ℕ
+  pub value_start : ℕ
+  pub end : ℕ
+  pub name : Name
+  pub value : List ℕ
+  -- the value is a slice of the source
+  pub borrowed : Bool
+
+-- NS 3: a prefix, or none for the default, and the URI that it stands for
+pub record Declaration : Type 0 where
+  pub prefix : Option (List ℕ)
+  pub uri : List ℕ
+
+-- what an element's start tag says
+pub record Tag : Type 0 where
+  pub name : Name
+  -- the place where its name ends
+  pub name_end : ℕ
+  pub declarations : List Declaration
+  pub attributes : List Attribute
+
+-- each with its range
+pub data Item : Type 0 where
+  Element : (start end : ℕ) → Tag → Item
+  -- whether its value is a slice of the source
+  Text : (start end : ℕ) → (value : List ℕ) → (borrowed : Bool) → Item
+  Comment : (start end : ℕ) → (text : List ℕ) → Item
+  PI : (start end : ℕ) → (target : List ℕ) → (value : Option (List ℕ)) → Item
+
+-- NS 3: `xmlns:p` declares p, and any other name with the local part `xmlns` the default
+abbrev pub declares : Name → Bool
+declares n = bytes_eq n.prefix (word_text Xmlns) || bytes_eq n.local (word_text Xmlns)
+
+abbrev pub declaration_of : Attribute → Declaration
+declaration_of a = record { prefix = if bytes_eq a.name.prefix (word_text Xmlns) then Some a.name.local else None; uri = a.value }
+
+-- of the attributes as written those that declare, and the others
+abbrev pub declarations_of : List Attribute → List Declaration
+declarations_of as' = map declaration_of (filter (λ a. declares a.name) as')
+
+abbrev pub attributes_of : List Attribute → List Attribute
+attributes_of as' = filter (λ a. not (declares a.name)) as'
+
+-- a text in front: it takes in one that it touches
+abbrev pub glue : ℕ → ℕ → List ℕ → Bool → Forest Item → Forest Item
+glue a e v plain Nil = Cons (Text a e v plain) Nil Nil
+glue a e v plain (Cons (Text x y w p) children rest) = Cons (Text a e (v ++ w) false) Nil rest
+glue a e v plain (Cons (Element x y t) children rest) = Cons (Text a e v plain) Nil (Cons (Element x y t) children rest)
+glue a e v plain (Cons (Comment x y t) children rest) = Cons (Text a e v plain) Nil (Cons (Comment x y t) children rest)
+glue a e v plain (Cons (PI x y t o) children rest) = Cons (Text a e v plain) Nil (Cons (PI x y t o) children rest)
+
+-- Each longest row of touching pieces of text becomes one text, with the range of its first piece. It is a slice of the
+-- source only where it is one such piece.
+abbrev pub merge : Forest Item → Forest Item
+merge Nil = Nil
+merge (Cons (Text a e v plain) children rest) = glue a e v plain (merge rest)
+merge (Cons (Element a e t) children rest) = Cons (Element a e t) children (merge rest)
+merge (Cons (Comment a e t) children rest) = Cons (Comment a e t) children (merge rest)
+merge (Cons (PI a e t o) children rest) = Cons (PI a e t o) children (merge rest)
+
+-- a text or another item with nothing below it
+abbrev pub leaf : Item → Forest Item
+leaf item = Cons item Nil Nil
+
+-- Where the parts of a name stand, which ends at this place.
+abbrev pub local_span : Name → ℕ → Span
+local_span n end = record { start = end - length n.local; end = end }
+
+-- from its first byte
+abbrev pub prefix_span : Name → ℕ → Span
+prefix_span n start = record { start = start; end = start + length n.prefix }
