@@ -6,3 +6,9 @@ pub mod Words
 pub mod Forest
 pub mod Written
 pub mod Tree
+pub mod Names
+pub mod Constructs
+pub mod References
+pub mod Content
+pub mod WellNamed
+pub mod Document

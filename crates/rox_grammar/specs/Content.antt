@@ -1,0 +1,165 @@
+-- Character data, attribute values, tags, elements and content, each as a relation between two places of one source.
+use Rattle.std.specs.Prelude.{◌≡◌, ◌≢◌, ℕ, ◌+◌, ◌-◌, ◌<◌, ◌≤◌, ◌⊎◌, ◌==◌, ◌||◌, Bool, true, false, not, List, [], ◌∷◌, ◌++◌, Option, Some, None, length, take, if◌then◌else◌}
+use Rattle.std.specs.List.{list_any}
+use Rattle.std.specs.Char.{encode_utf8}
+use Rattle.rox_grammar.specs.declared.fault.Word.TheVariants as word
+use Rattle.rox_grammar.specs.Words.{word_text}
+use Rattle.rox_grammar.specs.Marks.{byte_from}
+use Rattle.rox_grammar.specs.Forest.{Forest, Nil, Cons, join}
+use Rattle.rox_grammar.specs.Written.{Name, Attribute, Declaration, Tag, Item, Element, Text, Comment, PI, declarations_of, attributes_of, merge, leaf}
+use Rattle.rox_grammar.specs.Tree.{none_if_empty}
+use Rattle.rox_grammar.specs.Names.{byte, slice, spaces_end, IsQName}
+use Rattle.rox_grammar.specs.Constructs.{AreChars, has_mark, IsComment, IsPI, IsCData, IsEq, IsLiteral, IsEnd}
+use Rattle.rox_grammar.specs.References.{IsReference, IsCharacter, predefined}
+
+-- What a reference to a name means: in content, with this many openings left, these items, and so many are left then;
+-- in a value likewise these bytes.
+pub record Opener : Type 1 where
+  pub content : List ℕ → ℕ → Forest Item → ℕ → Type 0
+  pub value : List ℕ → ℕ → List ℕ → ℕ → Type 0
+
+-- A byte of character data: as it stands, or kept as it is since it came from a reference.
+pub data Sign : Type 0 where
+  literal : ℕ → Sign
+  kept : ℕ → Sign
+
+abbrev pub sign_byte : Sign → ℕ
+sign_byte (literal b) = b
+sign_byte (kept b) = b
+
+abbrev pub is_literal : ℕ → Sign → Bool
+is_literal c (literal b) = b == c
+is_literal c (kept b) = false
+
+-- the bytes of a character from a reference, which is kept outside replacement texts alone
+abbrev pub signs_of : Bool → List ℕ → List Sign
+signs_of main [] = []
+signs_of true (b ∷ bs) = kept b ∷ signs_of true bs
+signs_of false (b ∷ bs) = literal b ∷ signs_of false bs
+
+-- XML 2.11: a literal CR LF gives LF, and so does any other literal CR. The flag says that a literal CR came right before.
+abbrev pub line_ends_after : Bool → List Sign → List ℕ
+line_ends_after after [] = []
+line_ends_after after (s ∷ ss) =
+    if is_literal 13 s then 10 ∷ line_ends_after true ss
+    else if is_literal 10 s then (if after then line_ends_after false ss else 10 ∷ line_ends_after false ss)
+    else sign_byte s ∷ line_ends_after false ss
+
+abbrev pub line_ends : List Sign → List ℕ
+line_ends ss = line_ends_after false ss
+
+-- each byte as it stands
+abbrev pub literals : List ℕ → List Sign
+literals bs = signs_of false bs
+
+-- no `&` and no CR
+abbrev pub is_plain : List ℕ → Bool
+is_plain bs = not (list_any (λ b. b == 38 || b == 13) bs)
+
+-- no `&` and no white space but space
+abbrev pub is_plain_value : List ℕ → Bool
+is_plain_value bs = not (list_any (λ b. b == 38 || (b == 9 || (b == 10 || b == 13))) bs)
+
+-- the text of a part, if it has a character
+abbrev pub piece : ℕ → ℕ → Bool → List Sign → Forest Item
+piece start stop plain [] = Nil
+piece start stop plain (s ∷ ss) = leaf (Text start stop (line_ends (s ∷ ss)) plain)
+
+-- XML 2.4, 4.1: characters and references to them, from i up to j
+pub data Part (main : Bool) (src : List ℕ) (j : ℕ) : ℕ → List Sign → Type 0 where
+  part_ends : Part main src j j []
+  as_written : (i : ℕ) (ss : List Sign) → i < j → byte src i ≢ 38 → Part main src j (i + 1) ss → Part main src j i (literal (byte src i) ∷ ss)
+  from_reference : (i n c : ℕ) (ss : List Sign) → IsCharacter src i c n → n ≤ j → Part main src j n ss → Part main src j i (signs_of main (encode_utf8 c) ++ ss)
+
+-- the parts of the run from start up to stop, from i on, which references to entities cut
+pub data Parts (main : Bool) (Opens : Opener) (src : List ℕ) (start stop : ℕ) : ℕ → ℕ → ℕ → Forest Item → Type 0 where
+  last_part : (i b : ℕ) (ss : List Sign) → Part main src stop i ss
+    → Parts main Opens src start stop i b b (piece start stop (is_plain (slice src start stop)) ss)
+  then_entity : (i p n j b c d : ℕ) (ss : List Sign) (items more : Forest Item) → Part main src p i ss → IsReference src p n j → predefined (slice src (p + 1) n) ≡ None
+    → Opens.content (slice src (p + 1) n) b items c → Parts main Opens src start stop j c d more
+    → Parts main Opens src start stop i b d (join (piece start stop false ss) (join items more))
+
+-- XML 2.4: a run reaches to the next `<` or the end
+pub record IsRun (src : List ℕ) (i j : ℕ) : Type 0 where
+  pub some : i < j
+  pub end : j ≡ byte_from (λ c. c == 60) src i
+  pub chars : AreChars src i j
+  pub no_end_mark : has_mark (word_text word.CDataEnd) (slice src i j) ≡ false
+
+-- a character from a reference in a value: within a replacement text white space gives a space, and `<` may not come
+abbrev pub value_bytes : Bool → ℕ → List ℕ
+value_bytes true c = encode_utf8 c
+value_bytes false c = if c == 9 || (c == 10 || c == 13) then 32 ∷ [] else encode_utf8 c
+
+-- XML 3.3.3: the value that stands from i up to j
+pub data Value (main : Bool) (Opens : Opener) (src : List ℕ) (j : ℕ) : ℕ → ℕ → ℕ → List ℕ → Type 0 where
+  value_ends : (b : ℕ) → Value main Opens src j j b b []
+  line_end : (i b c : ℕ) (v : List ℕ) → i + 1 < j → byte src i ≡ 13 → byte src (i + 1) ≡ 10 → Value main Opens src j (i + 1) b c v
+    → Value main Opens src j i b c v
+  white : (i b c : ℕ) (v : List ℕ) → i < j → (byte src i ≡ 9) ⊎ ((byte src i ≡ 10) ⊎ ((byte src i ≡ 13) × ((j ≡ i + 1) ⊎ (byte src (i + 1) ≢ 10))))
+    → Value main Opens src j (i + 1) b c v → Value main Opens src j i b c (32 ∷ v)
+  other : (i b c : ℕ) (v : List ℕ) → i < j → byte src i ≢ 38 → byte src i ≢ 9 → byte src i ≢ 10 → byte src i ≢ 13 → byte src i ≢ 60
+    → Value main Opens src j (i + 1) b c v → Value main Opens src j i b c (byte src i ∷ v)
+  a_character : (i n x b c : ℕ) (v : List ℕ) → IsCharacter src i x n → n ≤ j → (main ≡ true) ⊎ (x ≢ 60) → Value main Opens src j n b c v
+    → Value main Opens src j i b c (value_bytes main x ++ v)
+  an_entity : (i n k b c d : ℕ) (w v : List ℕ) → IsReference src i n k → predefined (slice src (i + 1) n) ≡ None → k ≤ j → Opens.value (slice src (i + 1) n) b w c
+    → Value main Opens src j k c d v → Value main Opens src j i b d (w ++ v)
+
+-- XML 3.1 [41] Attribute
+pub record IsAttribute (main : Bool) (Opens : Opener) (src : List ℕ) (i j b c : ℕ) (a : Attribute) : Type 0 where
+  pub starts : a.start ≡ i
+  pub is_name : IsQName src i a.name a.name_end
+  pub v : ℕ
+  pub eq : IsEq src a.name_end v
+  pub e : ℕ
+  pub literal : IsLiteral src v e j
+  pub value_start : a.value_start ≡ v + 1
+  pub end : a.end ≡ j
+  pub value : Value main Opens src e (v + 1) b c a.value
+  pub borrowed : a.borrowed ≡ is_plain_value (slice src (v + 1) e)
+
+-- attributes, each after white space
+pub data Attributes (main : Bool) (Opens : Opener) (src : List ℕ) : ℕ → ℕ → ℕ → ℕ → List Attribute → Type 0 where
+  no_more : (i b : ℕ) → Attributes main Opens src i i b b []
+  one_more : (i j k b c d : ℕ) (a : Attribute) (as' : List Attribute) → i < spaces_end src i → IsAttribute main Opens src (spaces_end src i) j b c a
+    → Attributes main Opens src j k c d as' → Attributes main Opens src i k b d (a ∷ as')
+
+-- `>`, or `/>` where the element is empty, after white space
+pub data TagEnds (src : List ℕ) : ℕ → Bool → ℕ → Type 0 where
+  opened : (i : ℕ) → byte src (spaces_end src i) ≡ 62 → TagEnds src i false (spaces_end src i + 1)
+  closed : (i : ℕ) → byte src (spaces_end src i) ≡ 47 → byte src (spaces_end src i + 1) ≡ 62 → TagEnds src i true (spaces_end src i + 2)
+
+-- XML 3.1 [40] STag, [44] EmptyElemTag; the flag says that the element is empty
+pub record IsTag (main : Bool) (Opens : Opener) (src : List ℕ) (i j b c : ℕ) (empty : Bool) (t : Tag) : Type 0 where
+  pub begins : byte src i ≡ 60
+  pub is_name : IsQName src (i + 1) t.name t.name_end
+  pub written : List Attribute
+  pub last : ℕ
+  pub attributes : Attributes main Opens src t.name_end last b c written
+  pub ends : TagEnds src last empty j
+  pub declares : t.declarations ≡ declarations_of written
+  pub has : t.attributes ≡ attributes_of written
+
+-- a comment or a processing instruction, as an item
+pub data IsMisc (src : List ℕ) : ℕ → ℕ → Item → Type 0 where
+  comment : (i e j : ℕ) → IsComment src i e j → IsMisc src i j (Comment i j (slice src (i + 4) e))
+  instruction : (i n e j : ℕ) → IsPI src i n e j → IsMisc src i j (PI i j (slice src (i + 2) n) (none_if_empty (slice src (spaces_end src n) e)))
+
+mutual
+  -- XML 3 [39] element: from i up to j
+  pub data IsElement (main : Bool) (Opens : Opener) (src : List ℕ) : ℕ → ℕ → ℕ → ℕ → Forest Item → Type 0 where
+    empty : (i j b c : ℕ) (t : Tag) → IsTag main Opens src i j b c true t → IsElement main Opens src i j b c (leaf (Element i j t))
+    nest : (i j m p e b c d : ℕ) (t : Tag) (kids : Forest Item) → IsTag main Opens src i j b c false t → Content main Opens src j m c d kids
+      → IsEnd src m t.name p e → IsElement main Opens src i e b d (Cons (Element i e t) (merge kids) Nil)
+
+  -- XML 3.1 [43] content: from i up to j
+  pub data Content (main : Bool) (Opens : Opener) (src : List ℕ) : ℕ → ℕ → ℕ → ℕ → Forest Item → Type 0 where
+    ends : (i b : ℕ) → Content main Opens src i i b b Nil
+    run : (i j l b c d : ℕ) (items more : Forest Item) → IsRun src i j → Parts main Opens src i j i b c items → Content main Opens src j l c d more
+      → Content main Opens src i l b d (join items more)
+    cdata : (i e j l b c : ℕ) (more : Forest Item) → IsCData src i e j → Content main Opens src j l b c more
+      → Content main Opens src i l b c (join (leaf (Text i j (line_ends (literals (slice src (i + 9) e))) (not (list_any (λ b. b == 13) (slice src (i + 9) e))))) more)
+    misc : (i j l b c : ℕ) (item : Item) (more : Forest Item) → IsMisc src i j item → Content main Opens src j l b c more
+      → Content main Opens src i l b c (join (leaf item) more)
+    node : (i j l b c d : ℕ) (one more : Forest Item) → IsElement main Opens src i j b c one → Content main Opens src j l c d more
+      → Content main Opens src i l b d (join one more)

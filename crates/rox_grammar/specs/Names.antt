@@ -1,0 +1,36 @@
+-- Places in a source, white space and names. A source is a list of bytes, and a thing stands from place i up to place j.
+use Rattle.std.specs.Prelude.{◌≡◌, ◌≢◌, ℕ, ◌+◌, true, List, [], slice_index, slice_range}
+use Rattle.rox_grammar.specs.Chars.{is_space, is_name_start, is_name_char, is_part_char}
+use Rattle.rox_grammar.specs.Runs.{run_end, begins}
+use Rattle.rox_grammar.specs.Written.{Name}
+
+-- the byte at a place, 0 past the end
+abbrev pub byte : List ℕ → ℕ → ℕ
+byte src i = slice_index src i
+
+-- what stands from i up to j
+abbrev pub slice : List ℕ → ℕ → ℕ → List ℕ
+slice src i j = slice_range src i j
+
+-- where the white space ends that begins at i; it may be none (XML 2.3 [3] S)
+abbrev pub spaces_end : List ℕ → ℕ → ℕ
+spaces_end src i = run_end is_space src i
+
+-- XML 2.3 [5] Name, the longest
+pub record IsName (src : List ℕ) (i j : ℕ) : Type 0 where
+  pub starts : begins is_name_start src i ≡ true
+  pub longest : j ≡ run_end is_name_char src i
+
+-- NS 3 [4] NCName, a name without colon, the longest
+pub record IsNCName (src : List ℕ) (i j : ℕ) : Type 0 where
+  pub starts : begins is_name_start src i ≡ true
+  pub no_colon : byte src i ≢ 58
+  pub longest : j ≡ run_end is_part_char src i
+
+-- NS 4 [7] QName. No second colon follows. A colon may also stand in front, and the prefix is empty then.
+pub data IsQName (src : List ℕ) : ℕ → Name → ℕ → Type 0 where
+  unprefixed : (i j : ℕ) → IsNCName src i j → byte src j ≢ 58 → IsQName src i (record { prefix = []; local = slice src i j }) j
+  prefixed : (i k j : ℕ) → IsNCName src i k → byte src k ≡ 58 → IsNCName src (k + 1) j → byte src j ≢ 58
+    → IsQName src i (record { prefix = slice src i k; local = slice src (k + 1) j }) j
+  colon_first : (i j : ℕ) → byte src i ≡ 58 → IsNCName src (i + 1) j → byte src j ≢ 58
+    → IsQName src i (record { prefix = []; local = slice src (i + 1) j }) j

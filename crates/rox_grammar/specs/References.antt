@@ -1,0 +1,70 @@
+-- References (XML 4.1).
+use Rattle.std.specs.Prelude.{◌≡◌, ℕ, ◌+◌, ◌*◌, ◌-◌, ◌^◌, ◌<◌, ◌≤◌, ◌==◌, ◌&&◌, ◌||◌, Bool, true, false, List, [], ◌∷◌, Option, Some, None, nat_le, nat_lt, bytes_eq, if◌then◌else◌, drop}
+use Rattle.std.specs.List.{prefix_len}
+use Rattle.rox_grammar.specs.Chars.{is_between, is_char}
+use Rattle.rox_grammar.specs.Names.{byte, slice, IsName}
+
+abbrev pub is_digit : ℕ → Bool
+is_digit b = is_between 48 57 b
+
+abbrev pub is_hex_digit : ℕ → Bool
+is_hex_digit b = is_digit b || (is_between 97 102 b || is_between 65 70 b)
+
+-- the number that a digit stands for
+abbrev pub digit_value : ℕ → ℕ
+digit_value b = if nat_le b 57 then b - 48 else if nat_le b 70 then b - 55 else b - 87
+
+-- the number of digits, the first of which follow this one
+abbrev pub number_from : ℕ → ℕ → List ℕ → ℕ
+number_from base n [] = n
+number_from base n (d ∷ ds) = number_from base (n * base + digit_value d) ds
+
+abbrev pub number : ℕ → List ℕ → ℕ
+number base ds = number_from base 0 ds
+
+-- where the stretch of bytes that pass ends
+unfoldable pub bytes_end : (ℕ → Bool) → List ℕ → ℕ → ℕ
+bytes_end p src i = i + prefix_len p (drop i src)
+
+-- the character of a number; a number that is no character gives U+FFFD
+abbrev pub character : ℕ → ℕ
+character n = if nat_lt n 0xD800 || is_between 0xE000 0x10FFFF n then n else 0xFFFD
+
+-- XML 4.6: the five names
+abbrev pub predefined : List ℕ → Option ℕ
+predefined name =
+    -- lt
+    if bytes_eq name (108 ∷ 116 ∷ []) then Some 60
+    -- gt
+    else if bytes_eq name (103 ∷ 116 ∷ []) then Some 62
+    -- amp
+    else if bytes_eq name (97 ∷ 109 ∷ 112 ∷ []) then Some 38
+    -- quot
+    else if bytes_eq name (113 ∷ 117 ∷ 111 ∷ 116 ∷ []) then Some 34
+    -- apos
+    else if bytes_eq name (97 ∷ 112 ∷ 111 ∷ 115 ∷ []) then Some 39
+    else None
+
+-- digits from d up to e, then `;`, of a Char below 2^32
+pub record IsNumber (base : ℕ) (is : ℕ → Bool) (src : List ℕ) (d e c j : ℕ) : Type 0 where
+  pub end : e ≡ bytes_end is src d
+  pub some : d < e
+  pub closes : byte src e ≡ 59
+  pub small : number base (slice src d e) < 2 ^ 32
+  pub is_character : c ≡ character (number base (slice src d e))
+  pub allowed : is_char c ≡ true
+  pub next : j ≡ e + 1
+
+-- XML 4.1 [68] `&`, a name up to n, and `;`
+pub record IsReference (src : List ℕ) (i n j : ℕ) : Type 0 where
+  pub opens : byte src i ≡ 38
+  pub name : IsName src (i + 1) n
+  pub closes : byte src n ≡ 59
+  pub next : j ≡ n + 1
+
+-- XML 4.1 [66], 4.6: from i up to j a reference to the character c
+pub data IsCharacter (src : List ℕ) : ℕ → ℕ → ℕ → Type 0 where
+  decimal : (i e c j : ℕ) → byte src i ≡ 38 → byte src (i + 1) ≡ 35 → IsNumber 10 is_digit src (i + 2) e c j → IsCharacter src i c j
+  hexadecimal : (i e c j : ℕ) → byte src i ≡ 38 → byte src (i + 1) ≡ 35 → byte src (i + 2) ≡ 120 → IsNumber 16 is_hex_digit src (i + 3) e c j
+    → IsCharacter src i c j
+  named : (i n c j : ℕ) → IsReference src i n j → predefined (slice src (i + 1) n) ≡ Some c → IsCharacter src i c j
