@@ -1,0 +1,3 @@
+pub mod Lexical
+pub mod Markup
+pub mod Values
