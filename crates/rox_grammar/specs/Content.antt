@@ -74,10 +74,10 @@ pub data Part (main : Bool) (src : List ℕ) (j : ℕ) : ℕ → List Sign → T
 -- the parts of the run from start up to stop, from i on, which references to entities cut
 pub data Parts (main : Bool) (Opens : Opener) (src : List ℕ) (start stop : ℕ) : ℕ → ℕ → ℕ → Forest Item → Type 0 where
   last_part : (i b : ℕ) (ss : List Sign) → Part main src stop i ss
-    → Parts main Opens src start stop i b b (piece start stop (is_plain (slice src start stop)) ss)
+      → Parts main Opens src start stop i b b (piece start stop (is_plain (slice src start stop)) ss)
   then_entity : (i p n j b c d : ℕ) (ss : List Sign) (items more : Forest Item) → Part main src p i ss → IsReference src p n j → predefined (slice src (p + 1) n) ≡ None
-    → Opens.content (slice src (p + 1) n) b items c → Parts main Opens src start stop j c d more
-    → Parts main Opens src start stop i b d (join (piece start stop false ss) (join items more))
+      → Opens.content (slice src (p + 1) n) b items c → Parts main Opens src start stop j c d more
+      → Parts main Opens src start stop i b d (join (piece start stop false ss) (join items more))
 
 -- XML 2.4: a run reaches to the next `<` or the end
 pub record IsRun (src : List ℕ) (i j : ℕ) : Type 0 where
@@ -95,15 +95,15 @@ value_bytes false c = if c == 9 || (c == 10 || c == 13) then 32 ∷ [] else enco
 pub data Value (main : Bool) (Opens : Opener) (src : List ℕ) (j : ℕ) : ℕ → ℕ → ℕ → List ℕ → Type 0 where
   value_ends : (b : ℕ) → Value main Opens src j j b b []
   line_end : (i b c : ℕ) (v : List ℕ) → i + 1 < j → byte src i ≡ 13 → byte src (i + 1) ≡ 10 → Value main Opens src j (i + 1) b c v
-    → Value main Opens src j i b c v
+      → Value main Opens src j i b c v
   white : (i b c : ℕ) (v : List ℕ) → i < j → (byte src i ≡ 9) ⊎ ((byte src i ≡ 10) ⊎ ((byte src i ≡ 13) × ((j ≡ i + 1) ⊎ (byte src (i + 1) ≢ 10))))
-    → Value main Opens src j (i + 1) b c v → Value main Opens src j i b c (32 ∷ v)
+      → Value main Opens src j (i + 1) b c v → Value main Opens src j i b c (32 ∷ v)
   other : (i b c : ℕ) (v : List ℕ) → i < j → byte src i ≢ 38 → byte src i ≢ 9 → byte src i ≢ 10 → byte src i ≢ 13 → byte src i ≢ 60
-    → Value main Opens src j (i + 1) b c v → Value main Opens src j i b c (byte src i ∷ v)
+      → Value main Opens src j (i + 1) b c v → Value main Opens src j i b c (byte src i ∷ v)
   a_character : (i n x b c : ℕ) (v : List ℕ) → IsCharacter src i x n → n ≤ j → (main ≡ true) ⊎ (x ≢ 60) → Value main Opens src j n b c v
-    → Value main Opens src j i b c (value_bytes main x ++ v)
+      → Value main Opens src j i b c (value_bytes main x ++ v)
   an_entity : (i n k b c d : ℕ) (w v : List ℕ) → IsReference src i n k → predefined (slice src (i + 1) n) ≡ None → k ≤ j → Opens.value (slice src (i + 1) n) b w c
-    → Value main Opens src j k c d v → Value main Opens src j i b d (w ++ v)
+      → Value main Opens src j k c d v → Value main Opens src j i b d (w ++ v)
 
 -- XML 3.1 [41] Attribute
 pub record IsAttribute (main : Bool) (Opens : Opener) (src : List ℕ) (i j b c : ℕ) (a : Attribute) : Type 0 where
@@ -122,7 +122,7 @@ pub record IsAttribute (main : Bool) (Opens : Opener) (src : List ℕ) (i j b c 
 pub data Attributes (main : Bool) (Opens : Opener) (src : List ℕ) : ℕ → ℕ → ℕ → ℕ → List Attribute → Type 0 where
   no_more : (i b : ℕ) → Attributes main Opens src i i b b []
   one_more : (i j k b c d : ℕ) (a : Attribute) (as' : List Attribute) → i < spaces_end src i → IsAttribute main Opens src (spaces_end src i) j b c a
-    → Attributes main Opens src j k c d as' → Attributes main Opens src i k b d (a ∷ as')
+      → Attributes main Opens src j k c d as' → Attributes main Opens src i k b d (a ∷ as')
 
 -- `>`, or `/>` where the element is empty, after white space
 pub data TagEnds (src : List ℕ) : ℕ → Bool → ℕ → Type 0 where
@@ -150,16 +150,16 @@ mutual
   pub data IsElement (main : Bool) (Opens : Opener) (src : List ℕ) : ℕ → ℕ → ℕ → ℕ → Forest Item → Type 0 where
     empty : (i j b c : ℕ) (t : Tag) → IsTag main Opens src i j b c true t → IsElement main Opens src i j b c (leaf (Element i j t))
     nest : (i j m p e b c d : ℕ) (t : Tag) (kids : Forest Item) → IsTag main Opens src i j b c false t → Content main Opens src j m c d kids
-      → IsEnd src m t.name p e → IsElement main Opens src i e b d (Cons (Element i e t) (merge kids) Nil)
+        → IsEnd src m t.name p e → IsElement main Opens src i e b d (Cons (Element i e t) (merge kids) Nil)
 
   -- XML 3.1 [43] content: from i up to j
   pub data Content (main : Bool) (Opens : Opener) (src : List ℕ) : ℕ → ℕ → ℕ → ℕ → Forest Item → Type 0 where
     ends : (i b : ℕ) → Content main Opens src i i b b Nil
     run : (i j l b c d : ℕ) (items more : Forest Item) → IsRun src i j → Parts main Opens src i j i b c items → Content main Opens src j l c d more
-      → Content main Opens src i l b d (join items more)
+        → Content main Opens src i l b d (join items more)
     cdata : (i e j l b c : ℕ) (more : Forest Item) → IsCData src i e j → Content main Opens src j l b c more
-      → Content main Opens src i l b c (join (leaf (Text i j (line_ends (literals (slice src (i + 9) e))) (not (list_any (λ b. b == 13) (slice src (i + 9) e))))) more)
+        → Content main Opens src i l b c (join (leaf (Text i j (line_ends (literals (slice src (i + 9) e))) (not (list_any (λ b. b == 13) (slice src (i + 9) e))))) more)
     misc : (i j l b c : ℕ) (item : Item) (more : Forest Item) → IsMisc src i j item → Content main Opens src j l b c more
-      → Content main Opens src i l b c (join (leaf item) more)
+        → Content main Opens src i l b c (join (leaf item) more)
     node : (i j l b c d : ℕ) (one more : Forest Item) → IsElement main Opens src i j b c one → Content main Opens src j l c d more
-      → Content main Opens src i l b d (join one more)
+        → Content main Opens src i l b d (join one more)

@@ -66,5 +66,5 @@ pub record IsReference (src : List ℕ) (i n j : ℕ) : Type 0 where
 pub data IsCharacter (src : List ℕ) : ℕ → ℕ → ℕ → Type 0 where
   decimal : (i e c j : ℕ) → byte src i ≡ 38 → byte src (i + 1) ≡ 35 → IsNumber 10 is_digit src (i + 2) e c j → IsCharacter src i c j
   hexadecimal : (i e c j : ℕ) → byte src i ≡ 38 → byte src (i + 1) ≡ 35 → byte src (i + 2) ≡ 120 → IsNumber 16 is_hex_digit src (i + 3) e c j
-    → IsCharacter src i c j
+      → IsCharacter src i c j
   named : (i n c j : ℕ) → IsReference src i n j → predefined (slice src (i + 1) n) ≡ Some c → IsCharacter src i c j

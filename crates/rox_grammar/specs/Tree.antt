@@ -71,8 +71,15 @@ attribute_namespace scope name =
 
 abbrev pub attribute_in : List Declaration → written.Attribute → Attribute
 attribute_in scope a = record {
-    start = a.start; name_end = a.name_end; value_start = a.value_start; end = a.end;
-    namespace = attribute_namespace scope a.name; local = a.name.local; value = a.value; borrowed = a.borrowed }
+  start = a.start;
+  name_end = a.name_end;
+  value_start = a.value_start;
+  end = a.end;
+  namespace = attribute_namespace scope a.name;
+  local = a.name.local;
+  value = a.value;
+  borrowed = a.borrowed;
+}
 
 -- what an element lists, where its parent lists these
 abbrev pub scope_in : List Declaration → Item → List Declaration
