@@ -3,7 +3,7 @@ use Rattle.std.specs.Prelude.{ℕ, ◌+◌, ◌-◌, Bool, true, false, ◌||◌
 use Rattle.rox_grammar.specs.declared.fault.Word.TheVariants.{Xmlns}
 use Rattle.rox_grammar.specs.declared.fault.Span.{Span}
 use Rattle.rox_grammar.specs.Words.{word_text}
-use Rattle.rox_grammar.specs.Forest.{Forest, Nil, Cons}
+use Rattle.rox_grammar.specs.Forest.{Forest, Nil, Cons, join}
 
 -- NS 4: a prefix, which is empty where none is written, and a local part
 pub record Name : Type 0 where
@@ -56,19 +56,19 @@ declarations_of as' = map declaration_of (filter (λ a. declares a.name) as')
 abbrev pub attributes_of : List Attribute → List Attribute
 attributes_of as' = filter (λ a. not (declares a.name)) as'
 
--- a text in front: it takes in one that it touches
-abbrev pub glue : ℕ → ℕ → List ℕ → Bool → Forest Item → Forest Item
-glue a e v plain Nil = Cons (Text a e v plain) Nil Nil
-glue a e v plain (Cons (Text x y w p) children rest) = Cons (Text a e (v ++ w) false) Nil rest
-glue a e v plain (Cons (Element x y t) children rest) = Cons (Text a e v plain) Nil (Cons (Element x y t) children rest)
-glue a e v plain (Cons (Comment x y t) children rest) = Cons (Text a e v plain) Nil (Cons (Comment x y t) children rest)
-glue a e v plain (Cons (PI x y t o) children rest) = Cons (Text a e v plain) Nil (Cons (PI x y t o) children rest)
+-- a text in front: it takes in one that it touches (nothing ever stands below a text)
+abbrev pub glue : ℕ → ℕ → List ℕ → Bool → Forest Item → Forest Item → Forest Item
+glue a e v plain below Nil = Cons (Text a e v plain) below Nil
+glue a e v plain below (Cons (Text x y w p) children rest) = Cons (Text a e (v ++ w) false) (join below children) rest
+glue a e v plain below (Cons (Element x y t) children rest) = Cons (Text a e v plain) below (Cons (Element x y t) children rest)
+glue a e v plain below (Cons (Comment x y t) children rest) = Cons (Text a e v plain) below (Cons (Comment x y t) children rest)
+glue a e v plain below (Cons (PI x y t o) children rest) = Cons (Text a e v plain) below (Cons (PI x y t o) children rest)
 
--- Each longest row of touching pieces of text becomes one text, with the range of its first piece. It is a slice of the
+-- Each longest row of touching pieces becomes one text, with the range of its first piece. It is a slice of the
 -- source only where it is one such piece.
 abbrev pub merge : Forest Item → Forest Item
 merge Nil = Nil
-merge (Cons (Text a e v plain) children rest) = glue a e v plain (merge rest)
+merge (Cons (Text a e v plain) children rest) = glue a e v plain children (merge rest)
 merge (Cons (Element a e t) children rest) = Cons (Element a e t) children (merge rest)
 merge (Cons (Comment a e t) children rest) = Cons (Comment a e t) children (merge rest)
 merge (Cons (PI a e t o) children rest) = Cons (PI a e t o) children (merge rest)
