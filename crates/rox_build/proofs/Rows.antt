@@ -1,0 +1,100 @@
+-- The rows of what is read so far.
+use Rattle.std.proofs.Common.{◌≡◌, ℕ, ◌+◌, ◌-◌, ◌<◌, ◌≤◌, List, [], ◌∷◌, ◌++◌, length, set, get_or, map, slice_range, refl, sym, ap, ◌∙◌, arith, append_assoc, length-append}
+use Rattle.std.proofs.lemmas.List.{append-nil, length_push, set_at}
+use Rattle.rox_grammar.specs.Forest.{Forest, Nil, Cons, join, size}
+use Rattle.rox_grammar.specs.Written.{Tag, Item, Element, Declaration, merge}
+use Rattle.rox_grammar.specs.Tree.{Node, listed, node_in, scope_in, resolved}
+use Rattle.rox_reading.specs.State.{Open, root, inside, scope_of, nodes_so_far}
+use Rattle.rox_build.specs.Lines.{Line, lines}
+use Rattle.rox_build.specs.SoFar.{top, depth_of, root_line, open_line, rows_to, so_far}
+use Rattle.rox_reading.proofs.Forests.{size-join, size-resolved, resolved-join}
+
+pub length-lines : (p d at : ℕ) (f : Forest Node) → length (lines p d at f) ≡ size f
+length-lines p d at Nil = refl
+length-lines p d at (Cons n c r) =
+    omega (arith, length-append (lines at (d + 1) (at + 1) c) (lines p d (at + 1 + size c) r), length-lines at (d + 1) (at + 1) c, length-lines p d (at + 1 + size c) r)
+
+pub lines-join : (p d at : ℕ) (f g : Forest Node) → lines p d at (join f g) ≡ lines p d at f ++ lines p d (at + size f) g
+lines-join p d at Nil g = let e : at + 0 ≡ at = omega arith in rw e refl
+lines-join p d at (Cons n c f) g =
+    let k : at + 1 + size c + size f ≡ at + (1 + size c + size f) = omega arith in
+    let ih = rw k at (lines-join p d (at + 1 + size c) f g) in
+    ap (λ (xs : List Line). record { parent = p; next = at + 1 + size c; depth = d; node = n } ∷ xs)
+    (ap (λ ys. lines at (d + 1) (at + 1) c ++ ys) ih
+    ∙ sym (append_assoc (lines at (d + 1) (at + 1) c) (lines p d (at + 1 + size c) f) (lines p d (at + (1 + size c + size f)) g)))
+
+pub length-rows_to : (end : ℕ) (o : Open) → length (rows_to end o) ≡ top o + 1
+length-rows_to end root = refl
+length-rows_to end (inside start tag before up) =
+    let below = lines (top up) (depth_of up + 1) (top up + 1) (resolved (scope_of up) (merge before)) in
+    omega (
+      arith,
+      length-append (rows_to end up) (below ++ open_line start tag up ∷ []),
+      length-append below (open_line start tag up ∷ []),
+      length-rows_to end up,
+      length-lines (top up) (depth_of up + 1) (top up + 1) (resolved (scope_of up) (merge before)),
+      size-resolved (scope_of up) (merge before),
+    )
+
+-- how many rows there are
+pub length-so_far : (end : ℕ) (o : Open) (front : Forest Item) → length (so_far end o front) ≡ top o + 1 + size front
+length-so_far end o front =
+    let below = lines (top o) (depth_of o + 1) (top o + 1) (resolved (scope_of o) front) in
+    omega (
+      arith,
+      length-append (rows_to end o) below,
+      length-rows_to end o,
+      length-lines (top o) (depth_of o + 1) (top o + 1) (resolved (scope_of o) front),
+      size-resolved (scope_of o) front,
+    )
+
+pub nodes_are : (o : Open) (done : Forest Item) → nodes_so_far o done ≡ top o + 1 + size (merge done)
+nodes_are root done = omega arith
+nodes_are (inside start tag before up) done = omega (arith, nodes_are up before)
+
+-- more siblings are more rows
+pub so_far-join : (end : ℕ) (o : Open) (front more : Forest Item)
+    → so_far end o (join front more) ≡ so_far end o front ++ lines (top o) (depth_of o + 1) (top o + 1 + size front) (resolved (scope_of o) more)
+so_far-join end o front more =
+    let scope = scope_of o in
+    let p = top o in let d = depth_of o + 1 in let at = top o + 1 in
+    let e = resolved-join scope front more in
+    let k : lines p d at (resolved scope (join front more)) ≡ lines p d at (resolved scope front) ++ lines p d (at + size front) (resolved scope more) =
+    ap (lines p d at) e ∙ lines-join p d at (resolved scope front) (resolved scope more)
+    ∙ ap (λ n. lines p d at (resolved scope front) ++ lines p d (at + n) (resolved scope more)) (size-resolved scope front) in
+    ap (λ xs. rows_to end o ++ xs) k ∙ sym (append_assoc (rows_to end o) (lines p d at (resolved scope front)) (lines p d (at + size front) (resolved scope more)))
+
+-- an element opens
+pub so_far-open : (end : ℕ) (up : Open) (start : ℕ) (tag : Tag) (before : Forest Item)
+    → so_far end (inside start tag before up) Nil ≡ so_far end up (merge before) ++ open_line start tag up ∷ []
+so_far-open end up start tag before =
+    let below = lines (top up) (depth_of up + 1) (top up + 1) (resolved (scope_of up) (merge before)) in
+    append-nil (rows_to end (inside start tag before up)) ∙ sym (append_assoc (rows_to end up) below (open_line start tag up ∷ []))
+
+-- the row of an element that ended at e
+abbrev pub closed_line : ℕ → ℕ → Tag → Open → ℕ → Line
+closed_line start e tag up next =
+    record { parent = top up; next = next; depth = depth_of up + 1; node = node_in (listed (scope_of up) tag.declarations) (Element start e tag) }
+
+-- an element that ends is written into its row
+pub so_far-closed : (end : ℕ) (up : Open) (start e : ℕ) (tag : Tag) (before front : Forest Item)
+    → so_far end up (join (merge before) (Cons (Element start e tag) front Nil))
+    ≡ set (so_far end (inside start tag before up) front) (top (inside start tag before up))
+    (closed_line start e tag up (top (inside start tag before up) + 1 + size front))
+so_far-closed end up start e tag before front =
+    let scope = listed (scope_of up) tag.declarations in
+    let at = top up + 1 + size (merge before) in
+    let outer = so_far end up (merge before) in
+    let inner = lines at (depth_of up + 1 + 1) (at + 1) (resolved scope front) in
+    let closed = closed_line start e tag up (at + 1 + size front) in
+    let below = lines (top up) (depth_of up + 1) (top up + 1) (resolved (scope_of up) (merge before)) in
+    let size_is = size-resolved scope front in
+    let long : length outer ≡ at = length-so_far end up (merge before) in
+    let before_is : so_far end (inside start tag before up) front ≡ outer ++ open_line start tag up ∷ inner =
+    append_assoc (rows_to end up) (below ++ open_line start tag up ∷ []) inner
+    ∙ ap (λ xs. rows_to end up ++ xs) (append_assoc below (open_line start tag up ∷ []) inner)
+    ∙ sym (append_assoc (rows_to end up) below (open_line start tag up ∷ inner)) in
+    so_far-join end up (merge before) (Cons (Element start e tag) front Nil)
+    ∙ ap (λ (n : ℕ). outer ++ record closed { next = at + 1 + n } ∷ (inner ++ [])) size_is
+    ∙ ap (λ xs. outer ++ closed ∷ xs) (append-nil inner)
+    ∙ sym (ap (λ xs. set xs at closed) before_is ∙ set_at outer _ inner closed at long)
