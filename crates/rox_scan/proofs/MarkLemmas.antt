@@ -9,7 +9,8 @@ use Rattle.std.proofs.lemmas.List.{length-drop}
 use Rattle.std.proofs.lemmas.List.Sums.{position_or_len_is}
 use Rattle.std.proofs.lemmas.List.Prefix.{at_reads, front_fits}
 use Rattle.std.proofs.lemmas.Slice.Eq.{starts_is}
-use Rattle.memchr.specs.Find.{IsFirstByte}
+use Rattle.memchr.specs.Find.{IsFirstByte, FindsNeedle, OccursAt}
+use Rattle.memchr.proofs.lemmas.MatchLemmas.{OccursAt-split}
 use Rattle.rox_grammar.specs.Marks.{stands, before_mark}
 
 bool_cases : (b : Bool) → (b ≡ true) ⊎ (b ≡ false)
@@ -71,3 +72,44 @@ first_byte_found p hay None h =
 first_byte_found p hay (Some k) h =
     let high = h.0.high in
     position_or_len_is p hay k 0 (omega arith) (λ j below. fails (p (get_or hay j 0)) (h.0.before j (omega arith) below)) (λ more. h.1)
+
+-- where a needle occurs the mark stands, and the other way round
+occurs_stands : (mark hay : List ℕ) (k : ℕ) → OccursAt hay mark k → starts_with ◌==◌ (drop k hay) mark ≡ true
+occurs_stands mark hay k h = (starts_is Decides-eqb (drop k hay) mark _ refl).1 _ (OccursAt-split hay mark k h)
+
+stands_occurs : (mark hay : List ℕ) (k : ℕ) → 0 < length mark → starts_with ◌==◌ (drop k hay) mark ≡ true → OccursAt hay mark k
+stands_occurs mark hay k some h =
+    let split = (starts_is Decides-eqb (drop k hay) mark true (sym h)).0 refl in
+    let fits = front_fits (drop k hay) mark _ split in
+    record {
+      fits = omega (arith, fits, length-drop k hay);
+      reads = λ j within. at_reads 0 hay mark k _ split j within;
+    }
+
+-- what a search for the mark finds
+pub found_before : (mark hay : List ℕ) (r : Option ℕ) → 0 < length mark → FindsNeedle hay mark 0 r → before_mark mark hay ≡ unwrap_or r (length hay)
+found_before mark hay None some h =
+    before_mark_is mark hay (length hay) (omega arith)
+    (λ j below. fails _ (λ here. h j (omega arith) (omega arith) (stands_occurs mark hay j some here)))
+    (λ more. absurd (omega arith))
+found_before mark hay (Some k) some h =
+    let fits = h.1.fits in
+    before_mark_is mark hay k (omega arith)
+    (λ j below. fails _ (λ here. h.0.before j (omega arith) below (stands_occurs mark hay j some here)))
+    (λ more. occurs_stands mark hay k h.1)
+
+-- the first byte of the mark stands there
+pub found_reads : (mark hay : List ℕ) (r : Option ℕ) → 0 < length mark → FindsNeedle hay mark 0 r → unwrap_or r (length hay) < length hay → get_or hay (unwrap_or r (length hay)) 0 ≡ get_or mark 0 0
+found_reads mark hay None some h more = absurd (omega arith)
+found_reads mark hay (Some k) some h more = rw add-zero at (h.1.reads 0 some)
+
+pub found_within : (mark hay : List ℕ) (r : Option ℕ) → FindsNeedle hay mark 0 r → unwrap_or r (length hay) ≤ length hay
+found_within mark hay None h = omega arith
+found_within mark hay (Some k) h = omega (arith, h.1.fits)
+
+-- after the ASCII byte n of a fixed text that stands at i
+pub stands_front_cut : (mark src : List ℕ) (i n : ℕ) → n < length mark → IsUtf8 src → get_or mark n 0 < 128 → stands mark src i ≡ true → IsCharBoundary src (i + (n + 1))
+stands_front_cut mark src i n within utf8 ascii h =
+    let fits = stands_fits mark src i (omega arith) h in
+    let read = stands_reads mark src i n h within in
+    rw (← add_assoc i n 1) (IsCharBoundary-after_ascii src (i + n) utf8 (omega arith) (omega arith))

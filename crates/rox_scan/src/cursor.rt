@@ -1,6 +1,6 @@
 //! A place in a source, and the small steps that read from it.
 
-ghost use Rattle.std.specs.Prelude.{◌≡◌, IfOk, ◌+◌, ◌<◌, ◌≤◌, true, length, take, slice_index, nat_le};
+ghost use Rattle.std.specs.Prelude.{◌≡◌, IfOk, ◌+◌, ◌<◌, ◌≤◌, true, length, take, slice_index, slice_range, nat_le};
 ghost use Rattle.std.specs.Str.{IsCharBoundary, IsUtf8};
 ghost use Rattle.std.proofs.Props.{props};
 
@@ -241,6 +241,8 @@ impl<'input> Cursor<'input> {
         requires cut { IsCharBoundary self.old.text.now end }
         ensures value { Reads (λ x. x.now) self.new result (spec.chars_up_to end self.old.text.now self.old.pos) }
         ensures source { self.new.text ≡ self.old.text }
+        ensures text { IfOk result (λ x. x.now ≡ slice_range self.old.text.now self.old.pos end) }
+        ensures place { IfOk result (λ x. self.new.pos ≡ end) }
         ensures onward { self.old.pos ≤ self.new.pos }
     {
         let start = self.pos;

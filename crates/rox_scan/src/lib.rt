@@ -6,4 +6,5 @@ pub mod chars;
 pub mod cursor;
 pub mod failure;
 pub mod marks;
+pub mod markup;
 pub mod runs;
