@@ -1,0 +1,99 @@
+-- Reading of a start tag: its attributes and declarations, each tested in order.
+use Rattle.std.specs.Prelude.{ℕ, zero, suc, ◌+◌, ◌-◌, ◌==◌, ◌&&◌, not, Bool, true, false, List, [], ◌∷◌, ◌++◌, Option, Some, None, Result, Ok, Err, length, slice_range, nat_lt, nat_le, bytes_eq, filter, if◌then◌else◌}
+use Rattle.std.specs.List.{list_any}
+use Rattle.rox_grammar.specs.declared.fault.Fault.{Fault}
+use Rattle.rox_grammar.specs.declared.fault.Fault.TheVariants as fault
+use Rattle.rox_grammar.specs.declared.fault.Word.TheVariants as word
+use Rattle.rox_grammar.specs.Words.{word_text}
+use Rattle.rox_grammar.specs.Written.{Name, Attribute, Declaration, Tag, declares, declaration_of, local_span, prefix_span}
+use Rattle.rox_grammar.specs.Tree.{xml_uri, xmlns_uri, is_declared, listed}
+use Rattle.rox_grammar.specs.WellNamed.{is_xml, is_known, same_expanded, may_name}
+use Rattle.rox_grammar.specs.Document.{with_new, distinct_pairs, most_pairs, most_attributes}
+use Rattle.rox_reading.specs.Lexical.{Read, ◌>>=◌, qname_at}
+use Rattle.rox_reading.specs.Markup.{RawAttribute, Turn, more, opened, closed, turn_at}
+use Rattle.rox_reading.specs.Values.{RunText, value_at}
+
+-- what a tag holds so far
+pub record Held : Type 0 where
+  pub own : List Declaration
+  pub attributes : List Attribute
+
+-- a declaration with the prefix `xmlns`: its URI
+abbrev pub prefix_tested : Attribute → Result (Unit {0}) Fault
+prefix_tested a =
+    if bytes_eq a.value xmlns_uri then Err (fault.UnexpectedXmlnsUri a.start)
+    else if bytes_eq a.name.local (word_text word.Xml) then (if bytes_eq a.value xml_uri then Ok tt else Err (fault.InvalidXmlPrefixUri a.start))
+    else if bytes_eq a.value xml_uri then Err (fault.UnexpectedXmlUri a.start)
+    else Ok tt
+
+-- the same of the default
+abbrev pub default_tested : Attribute → Result (Unit {0}) Fault
+default_tested a =
+    if bytes_eq a.value xml_uri then Err (fault.UnexpectedXmlUri a.start)
+    else if bytes_eq a.value xmlns_uri then Err (fault.UnexpectedXmlnsUri a.start)
+    else Ok tt
+
+abbrev pub uri_tested : Attribute → Result (Unit {0}) Fault
+uri_tested a = if bytes_eq a.name.prefix (word_text word.Xmlns) then prefix_tested a else default_tested a
+
+-- those that are listed
+abbrev pub listable_of : List Declaration → List Declaration
+listable_of ds = filter (λ d. not (is_xml d.prefix)) ds
+
+-- a declaration, where these pairs are known before the tag
+unfoldable pub declared : List Declaration → Attribute → Held → Result Held Fault
+declared known a h =
+    uri_tested a >>= λ _.
+    if is_declared (declaration_of a).prefix h.own then Err (fault.DuplicatedNamespace (local_span a.name a.name_end) a.start)
+    else if nat_lt most_pairs (length (with_new known (listable_of (h.own ++ declaration_of a ∷ [])))) then Err fault.NamespacesLimitReached
+    else Ok (record { own = h.own ++ declaration_of a ∷ []; attributes = h.attributes })
+
+-- one attribute as written
+abbrev pub taken : List Declaration → Attribute → Held → Result Held Fault
+taken known a h =
+    if declares a.name then declared known a h
+    else Ok (record { own = h.own; attributes = h.attributes ++ a ∷ [] })
+
+-- an attribute with its value
+abbrev pub attribute_with : RawAttribute → RunText → Attribute
+attribute_with raw v =
+    record { start = raw.start; name_end = raw.name_end; value_start = raw.value_start; end = raw.value_end + 1; name = raw.name; value = v.value; borrowed = v.plain }
+
+-- after a turn that ends at j, with what reads the attributes from there
+abbrev pub after_turn : (ℕ → Held → Read (Held × Bool)) → List Declaration → List ℕ → Held → Turn → ℕ → Read (Held × Bool)
+after_turn next known src h (more raw) j =
+    value_at src raw.value_start raw.value_end >>= λ v. taken known (attribute_with raw v) h >>= λ held. next j held
+after_turn next known src h opened j = Ok ((h, false), j)
+after_turn next known src h closed j = Ok ((h, true), j)
+
+-- attributes and declarations, and whether the tag is empty. The number bounds them; a tag that is cut off right behind
+-- its name or an attribute is refused by this fault.
+unfoldable pub attributes_at : ℕ → Fault → List Declaration → List ℕ → ℕ → Held → Read (Held × Bool)
+attributes_at zero cut known src i h = Err cut
+attributes_at (suc n) cut known src i h =
+    if nat_le (length src) i then Err cut
+    else turn_at src i >>= λ x. after_turn (λ j held. attributes_at n cut known src j held) known src h x.0 x.1
+
+-- each prefix is known, and no expanded name comes twice; the first list holds those that are tested
+unfoldable pub names_tested : List Declaration → List Attribute → List Attribute → Result (Unit {0}) Fault
+names_tested scope before [] = Ok tt
+names_tested scope before (a ∷ as') =
+    if not (is_known scope a.name) then Err (fault.UnknownNamespace (prefix_span a.name a.start) a.start)
+    else if list_any (λ e. same_expanded scope e.name a.name) before then Err (fault.DuplicatedAttribute (local_span a.name a.name_end) a.start)
+    else names_tested scope (before ++ a ∷ []) as'
+
+-- the end of a tag that begins at i, with so many attributes before it, of an element that lists this scope
+unfoldable pub tag_tested : List Declaration → ℕ → ℕ → Name → List Attribute → Result (Unit {0}) Fault
+tag_tested scope count i name as' =
+    if nat_lt most_attributes (count + length as') then Err fault.AttributesLimitReached
+    else names_tested scope [] as' >>= λ _.
+    if may_name scope name then Ok tt else Err (fault.UnknownNamespace (prefix_span name (i + 1)) (i + 1))
+
+-- a start tag, from its `<`, and whether it is empty; above is what the parent lists
+unfoldable pub tag_at : Fault → List Declaration → ℕ → List Declaration → List ℕ → ℕ → Read (Tag × Bool)
+tag_at cut above count known src i =
+    qname_at src (i + 1) >>= λ name.
+    if bytes_eq name.0.prefix (word_text word.Xmlns) then Err (fault.InvalidElementNamePrefix (i + 1))
+    else attributes_at (length src) cut known src name.1 (record { own = []; attributes = [] }) >>= λ x.
+    tag_tested (listed above x.0.0.own) count i name.0 x.0.0.attributes >>= λ _.
+    Ok ((record { name = name.0; name_end = name.1; declarations = x.0.0.own; attributes = x.0.0.attributes }, x.0.1), x.1)
