@@ -1,2 +1,3 @@
 pub mod Storage
 pub mod Lines
+pub mod Values

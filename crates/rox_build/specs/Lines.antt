@@ -47,16 +47,23 @@ namespace_of names (space.Listed i) = Some (entry names i).uri
 
 abbrev pub attribute : List Declaration → AttributeData → tree.Attribute
 attribute names a = record {
-    start = a.start; name_end = a.name_end; value_start = a.value_start; end = a.end;
-    namespace = namespace_of names a.namespace; local = a.local.now; value = storage_bytes a.value; borrowed = is_borrowed a.value }
+  start = a.start;
+  name_end = a.name_end;
+  value_start = a.value_start;
+  end = a.end;
+  namespace = namespace_of names a.namespace;
+  local = a.local.now;
+  value = storage_bytes a.value;
+  borrowed = is_borrowed a.value;
+}
 
 -- the node of a row, over the tables of attributes, namespaces and listed places
 abbrev pub node : List AttributeData → List Declaration → List ℕ → (start end : ℕ) → NodeKind → Node
 node attributes names listed start end kind.Root = tree.Root end
 node attributes names listed start end (kind.Element e) =
     tree.Element start end (option_map (λ i. (entry names i).uri) e.namespace) e.local.now
-      (map (entry names) (slice_range listed e.namespaces_from e.namespaces_until))
-      (map (attribute names) (slice_range attributes e.attributes_from e.attributes_until))
+    (map (entry names) (slice_range listed e.namespaces_from e.namespaces_until))
+    (map (attribute names) (slice_range attributes e.attributes_from e.attributes_until))
 node attributes names listed start end (kind.Text value) = tree.Text start end (storage_bytes value) (is_borrowed value)
 node attributes names listed start end (kind.Comment text) = tree.Comment start end text.now
 node attributes names listed start end (kind.PI pi) = tree.PI start end pi.target.now (option_map (λ v. v.now) pi.value)

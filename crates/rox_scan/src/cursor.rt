@@ -42,6 +42,16 @@ impl<'input> Cursor<'input> {
         Cursor { text, pos: 0 }
     }
 
+    /// A place of a source.
+    #[inline]
+    pub fn at(text: &'input str, pos: usize) -> Cursor<'input>
+        requires { IsCharBoundary text.now pos }
+        ensures place { result.pos ≡ pos }
+        ensures source { result.text ≡ text.entry }
+    {
+        Cursor { text, pos }
+    }
+
     /// The place `start` of a source that ends at `end`. Places count from the start of the whole text.
     #[inline]
     pub fn within(text: &'input str, start: usize, end: usize) -> Cursor<'input>
