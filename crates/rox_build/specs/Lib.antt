@@ -1,3 +1,4 @@
-pub mod Storage
 pub mod Lines
 pub mod SoFar
+pub mod Storage
+pub mod Values

@@ -1,5 +1,7 @@
 //! From a text to the tables of its tree.
 #![tactic(auto)]
 
+pub mod reference;
 pub mod storage;
 pub mod tables;
+pub mod value;

@@ -1,0 +1,185 @@
+//! References to characters and to entities (XML 1.0 sections 4.1 and 4.6).
+
+ghost use Rattle.std.specs.Prelude.{◌≡◌, ◌+◌, ◌^◌, ◌≤◌, ◌<◌, length, slice_index, slice_range, option_map, MatchOption};
+ghost use Rattle.std.specs.Str.{IsCharBoundary};
+ghost use Rattle.rox_grammar.specs.References as spec;
+ghost use Rattle.rox_reading.specs.Values as reading;
+ghost use Rattle.rox_scan.specs.Gives.{Reads};
+ghost use Rattle.rox_build.specs.Values.{base_of, is_digit_of, reference_view};
+
+use rox_grammar::fault::{Fault, Span};
+use rox_scan::chars::is_char;
+use rox_scan::cursor::Cursor;
+use rox_scan::runs::{NameChar, NameStart, after_byte, begins, is_at, run_end};
+
+/// What a reference names: a character, or an entity, by the place of its name.
+#[derive(Clone, Copy, Debug)]
+pub enum Reference {
+    Character(char),
+    Entity(Span),
+}
+
+/// Whether the byte is a digit, of base 16 or of base 10.
+#[inline]
+fn is_digit(byte: u8, hexadecimal: bool) -> bool
+    ensures { result ≡ is_digit_of hexadecimal byte }
+{
+    let decimal = matches!(byte, b'0'..=b'9');
+    if hexadecimal {
+        decimal || matches!(byte, b'a'..=b'f' | b'A'..=b'F')
+    } else {
+        decimal
+    }
+}
+
+/// The number that a digit stands for.
+#[inline]
+fn digit_value(byte: u8) -> u64
+    ensures value { result ≡ spec.digit_value byte }
+    ensures small { result < 256 }
+{
+    let value = if byte <= b'9' {
+        byte.saturating_sub(48)
+    } else if byte <= b'F' {
+        byte.saturating_sub(55)
+    } else {
+        byte.saturating_sub(87)
+    };
+    value as u64
+}
+
+/// Where the digits end that begin at `at`.
+#[inline]
+#[tactic(auto, using(crate::proofs::DigitLemmas::digit_steps))]
+fn digits_end(text: &str, at: usize, hexadecimal: bool) -> usize
+    requires { at ≤ length text.now }
+    ensures place { result ≡ spec.bytes_end (is_digit_of hexadecimal) text.now at }
+    ensures onward { at ≤ result }
+    ensures within { result ≤ length text.now }
+{
+    let bytes = text.as_bytes();
+    let mut end = at;
+    while end < bytes.len() && is_digit(bytes[end], hexadecimal) {
+        end += 1;
+    }
+    end
+}
+
+/// The number that digits stand for, if it is below 2^32.
+#[inline]
+#[tactic(auto, using(crate::proofs::DigitLemmas::number_step, crate::proofs::DigitLemmas::number_grows))]
+fn number_of(digits: &[u8], hexadecimal: bool) -> Option<u32>
+    ensures { MatchOption result (2 ^ 32 ≤ spec.number (base_of hexadecimal) digits.now) (λ n. spec.number (base_of hexadecimal) digits.now ≡ n) }
+{
+    let base: u64 = if hexadecimal { 16 } else { 10 };
+    let mut number: u64 = 0;
+    for digit in digits {
+        number = number * base + digit_value(*digit);
+        if number > 0xFFFF_FFFF {
+            return None;
+        }
+    }
+    Some(number as u32)
+}
+
+/// The character of a number. A number that is no character gives U+FFFD.
+#[inline]
+fn character(number: u32) -> char
+    ensures { result ≡ spec.character number }
+{
+    char::from_u32(number).unwrap_or('\u{FFFD}')
+}
+
+/// The digits from `digits` on and the `;` of a reference that stands here. It is a fault where there is no digit, where the
+/// number is 2^32 or more, and where it is that of no Char.
+#[tactic(auto, unfolding(rox_reading::specs::Values::number_at))]
+fn number(cursor: &mut Cursor<'_>, digits: usize, hexadecimal: bool) -> Result<Reference, Fault>
+    requires onward { cursor.old.pos ≤ digits }
+    requires within { digits ≤ length cursor.old.text.now }
+    ensures value { Reads reference_view cursor.new result (reading.number_at (base_of hexadecimal) (is_digit_of hexadecimal) cursor.old.text.now cursor.old.pos digits) }
+    ensures source { cursor.new.text ≡ cursor.old.text }
+    ensures onward { cursor.old.pos ≤ cursor.new.pos }
+{
+    let start = cursor.pos;
+    let text = cursor.text;
+    let end = digits_end(text, digits, hexadecimal);
+    if end == digits {
+        return Err(Fault::MalformedEntityReference(start));
+    }
+    let Some(number) = number_of(&text.as_bytes()[digits..end], hexadecimal) else {
+        return Err(Fault::MalformedEntityReference(start));
+    };
+    let character = character(number);
+    if !is_char(character) || !is_at(text, end, b';') {
+        return Err(Fault::MalformedEntityReference(start));
+    }
+    cursor.pos = after_byte(text, end, b';');
+    Ok(Reference::Character(character))
+}
+
+/// The character that one of the five predefined names stands for (XML 1.0 section 4.6).
+#[inline]
+fn predefined(name: &str) -> Option<char>
+    ensures { result ≡ spec.predefined name.now }
+{
+    if name == "lt" {
+        Some('<')
+    } else if name == "gt" {
+        Some('>')
+    } else if name == "amp" {
+        Some('&')
+    } else if name == "quot" {
+        Some('"')
+    } else if name == "apos" {
+        Some('\'')
+    } else {
+        None
+    }
+}
+
+/// The name and the `;` of a reference that stands here, with its `&`.
+#[tactic(auto, unfolding(rox_reading::specs::Values::name_reference_at))]
+fn name_reference(cursor: &mut Cursor<'_>) -> Result<Reference, Fault>
+    requires { slice_index cursor.old.text.now cursor.old.pos ≡ 38 }
+    ensures value { Reads reference_view cursor.new result (reading.name_reference_at cursor.old.text.now cursor.old.pos) }
+    ensures source { cursor.new.text ≡ cursor.old.text }
+    ensures onward { cursor.old.pos ≤ cursor.new.pos }
+{
+    let reference = cursor.pos;
+    let text = cursor.text;
+    let start = after_byte(text, reference, b'&');
+    if !begins::<NameStart>(text, start) {
+        return Err(Fault::MalformedEntityReference(reference));
+    }
+    let end = run_end::<NameChar>(text, start);
+    if !is_at(text, end, b';') {
+        return Err(Fault::MalformedEntityReference(reference));
+    }
+    cursor.pos = after_byte(text, end, b';');
+    Ok(match predefined(&text[start..end]) {
+        Some(character) => Reference::Character(character),
+        None => Reference::Entity(Span { start, end }),
+    })
+}
+
+/// The reference that stands here, from its `&` to its `;` (XML 1.0 [66] CharRef, [68] EntityRef). One that is not well
+/// formed is a fault at its start.
+#[tactic(auto, unfolding(rox_reading::specs::Values::reference_at))]
+pub fn read_reference(cursor: &mut Cursor<'_>) -> Result<Reference, Fault>
+    requires { slice_index cursor.old.text.now cursor.old.pos ≡ 38 }
+    ensures value { Reads reference_view cursor.new result (reading.reference_at cursor.old.text.now cursor.old.pos) }
+    ensures source { cursor.new.text ≡ cursor.old.text }
+    ensures onward { cursor.old.pos ≤ cursor.new.pos }
+{
+    let start = cursor.pos;
+    let text = cursor.text;
+    let sign = after_byte(text, start, b'&');
+    if !is_at(text, sign, b'#') {
+        return name_reference(cursor);
+    }
+    let digits = after_byte(text, sign, b'#');
+    if !is_at(text, digits, b'x') {
+        return number(cursor, digits, false);
+    }
+    number(cursor, digits + 1, true)
+}

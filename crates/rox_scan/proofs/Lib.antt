@@ -1,0 +1,3 @@
+pub mod MarkLemmas
+pub mod PlainLemmas
+pub mod RunLemmas

@@ -1,0 +1,61 @@
+-- One step of a run.
+use Rattle.std.proofs.Common.{◌≡◌, ℕ, ◌+◌, ◌<◌, ◌≤◌, Bool, true, false, List, ◌∷◌, length, get_or, drop, arith, add-zero, add_assoc}
+use Rattle.std.specs.Char.{len_utf8}
+use Rattle.std.specs.Str.{chars, IsUtf8, IsCharBoundary}
+use Rattle.std.proofs.lemmas.Str.{chars-nil, chars_past_char, encode_ascii, len_utf8_ascii, IsUtf8-drop, IsCharBoundary-start, IsCharBoundary-before_ascii, IsCharBoundary-after_ascii}
+use Rattle.std.proofs.lemmas.List.{drop_more, drop_all}
+use Rattle.rox_grammar.specs.Runs.{passing, run_end, begins, StandsAt}
+
+pub chars_at : (src : List ℕ) (i c : ℕ) → IsUtf8 src → IsCharBoundary src i → StandsAt c src i → chars (drop i src) ≡ c ∷ chars (drop (i + len_utf8 c) src)
+chars_at src i c utf8 cut stands = chars_past_char (drop i src) (drop (i + len_utf8 c) src) c (IsUtf8-drop src i utf8 cut) stands
+
+pub run_on : (p : ℕ → Bool) (src : List ℕ) (i c : ℕ) → IsUtf8 src → IsCharBoundary src i → StandsAt c src i → p c ≡ true → run_end p src (i + len_utf8 c) ≡ run_end p src i
+unfolding run_end
+run_on p src i c utf8 cut stands passes = rw (chars_at src i c utf8 cut stands, passes) (add_assoc i (len_utf8 c) (passing p (chars (drop (i + len_utf8 c) src))))
+
+pub run_stops : (p : ℕ → Bool) (src : List ℕ) (i c : ℕ) → IsUtf8 src → IsCharBoundary src i → StandsAt c src i → p c ≡ false → run_end p src i ≡ i
+unfolding run_end
+run_stops p src i c utf8 cut stands fails = rw (chars_at src i c utf8 cut stands, fails) (add-zero i)
+
+-- an ASCII byte is a character
+pub stands_ascii : (src : List ℕ) (i : ℕ) → i < length src → get_or src i 0 < 128 → StandsAt (get_or src i 0) src i
+stands_ascii src i within ascii =
+    rw (encode_ascii (get_or src i 0) ascii, len_utf8_ascii (get_or src i 0) ascii) (drop_more src i 0 within)
+
+pub run_on_ascii : (p : ℕ → Bool) (src : List ℕ) (i : ℕ) → IsUtf8 src → i < length src → get_or src i 0 < 128 → p (get_or src i 0) ≡ true → run_end p src (i + 1) ≡ run_end p src i
+run_on_ascii p src i utf8 within ascii passes =
+    let step = run_on p src i (get_or src i 0) utf8 (IsCharBoundary-before_ascii src i within ascii) (stands_ascii src i within ascii) passes in
+    rw (len_utf8_ascii (get_or src i 0) ascii) at step
+
+pub run_stops_ascii : (p : ℕ → Bool) (src : List ℕ) (i : ℕ) → IsUtf8 src → i < length src → get_or src i 0 < 128 → p (get_or src i 0) ≡ false → run_end p src i ≡ i
+run_stops_ascii p src i utf8 within ascii fails =
+    run_stops p src i (get_or src i 0) utf8 (IsCharBoundary-before_ascii src i within ascii) (stands_ascii src i within ascii) fails
+
+pub run_at_end : (p : ℕ → Bool) (src : List ℕ) (i : ℕ) → length src ≤ i → run_end p src i ≡ i
+unfolding run_end
+run_at_end p src i past = rw (drop_all i src past, chars-nil) (add-zero i)
+
+pub begins_at : (p : ℕ → Bool) (src : List ℕ) (i c : ℕ) → IsUtf8 src → IsCharBoundary src i → StandsAt c src i → begins p src i ≡ p c
+unfolding begins
+begins_at p src i c utf8 cut stands = rw (chars_at src i c utf8 cut stands)
+
+pub begins_ascii : (p : ℕ → Bool) (src : List ℕ) (i : ℕ) → IsUtf8 src → i < length src → get_or src i 0 < 128 → begins p src i ≡ p (get_or src i 0)
+begins_ascii p src i utf8 within ascii =
+    begins_at p src i (get_or src i 0) utf8 (IsCharBoundary-before_ascii src i within ascii) (stands_ascii src i within ascii)
+
+pub begins_no_end : (p : ℕ → Bool) (src : List ℕ) (i : ℕ) → length src ≤ i → begins p src i ≡ false
+unfolding begins
+begins_no_end p src i past = rw (drop_all i src past, chars-nil)
+
+pub ruleset run_steps = (run_on, run_stops, run_on_ascii, run_stops_ascii, run_at_end, IsCharBoundary-after_ascii)
+
+pub ruleset begin_steps = (begins_at, begins_ascii, begins_no_end)
+
+-- the second part of `IsCharBoundary-start` alone, which is the goal that `search` meets
+pub lead_at_start : (src : List ℕ) → IsUtf8 src → 0 < length src → 128 ≤ get_or src 0 0 → 192 ≤ get_or src 0 0
+lead_at_start src utf8 more wide = (IsCharBoundary-start src utf8).1 more wide
+
+pub lead_after_first : (src : List ℕ) → IsUtf8 src → get_or src 0 0 < 128 → 1 < length src → 128 ≤ get_or src 1 0 → 192 ≤ get_or src 1 0
+lead_after_first src utf8 ascii more wide = (IsCharBoundary-after_ascii src 0 utf8 (omega arith) ascii).1 more wide
+
+pub ruleset first_cuts = (lead_at_start, lead_after_first)

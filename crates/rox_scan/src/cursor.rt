@@ -1,0 +1,266 @@
+//! A place in a source, and the small steps that read from it.
+
+ghost use Rattle.std.specs.Prelude.{◌≡◌, IfOk, ◌+◌, ◌<◌, ◌≤◌, true, length, take, slice_index, slice_range, nat_le};
+ghost use Rattle.std.specs.Str.{IsCharBoundary, IsUtf8};
+ghost use Rattle.std.proofs.Props.{props};
+
+use crate::chars::is_space;
+use crate::runs::{
+    NameChar, NameStart, PartChar, Space, after_byte, begins, char_at, chars_end, is_at, run_end,
+};
+use rox_grammar::fault::{Due, Fault, Word};
+
+/// A place between two characters of a source, as a count of bytes from its start.
+#[derive(Clone, Copy)]
+pub struct Cursor<'input> {
+    pub text: &'input str,
+    pub pos: usize,
+    pub ghost utf8: { IsUtf8 text.now } by { Prim.hlevel props },
+    pub ghost cut: { IsCharBoundary text.now pos },
+}
+
+/// A name as it is written (Namespaces in XML section 4). The prefix is empty where there is no colon.
+#[derive(Clone, Copy, Debug)]
+pub struct QName<'input> {
+    pub prefix: &'input str,
+    pub local: &'input str,
+}
+
+impl<'input> Cursor<'input> {
+    ghost use Rattle.rox_scan.specs.Gives.{Reads, name_view};
+    ghost use Rattle.rox_grammar.specs.Marks.{stands};
+    ghost use Rattle.rox_grammar.specs.Words.{word_text};
+    ghost use Rattle.rox_grammar.specs.Names.{spaces_end};
+    ghost use Rattle.rox_reading.specs.Lexical as spec;
+
+    /// The start of a source.
+    #[inline]
+    pub fn new(text: &'input str) -> Cursor<'input>
+        ensures place { result.pos ≡ 0 }
+        ensures source { result.text ≡ text.entry }
+    {
+        Cursor { text, pos: 0 }
+    }
+
+    /// A place of a source.
+    #[inline]
+    pub fn at(text: &'input str, pos: usize) -> Cursor<'input>
+        requires { IsCharBoundary text.now pos }
+        ensures place { result.pos ≡ pos }
+        ensures source { result.text ≡ text.entry }
+    {
+        Cursor { text, pos }
+    }
+
+    /// The place `start` of a source that ends at `end`. Places count from the start of the whole text.
+    #[inline]
+    pub fn within(text: &'input str, start: usize, end: usize) -> Cursor<'input>
+        requires ordered { start ≤ end }
+        requires start { IsCharBoundary text.now start }
+        requires end { IsCharBoundary text.now end }
+        ensures place { result.pos ≡ start }
+        ensures source { result.text.now ≡ take end text.entry.now }
+    {
+        Cursor {
+            text: &text[..end],
+            pos: start,
+        }
+    }
+
+    /// Whether the source ends here.
+    #[inline(always)]
+    #[tactic(auto, using(std::proofs::lemmas::Bool::Decides::nat_tests))]
+    pub fn is_at_end(&self) -> bool
+        ensures { result ≡ nat_le (length self.now.text.now) self.now.pos }
+    {
+        self.pos >= self.text.len()
+    }
+
+    /// Moves past an ASCII byte that stands here.
+    #[inline(always)]
+    pub fn advance(&mut self)
+        requires there { self.old.pos < length self.old.text.now }
+        requires ascii { slice_index self.old.text.now self.old.pos < 128 }
+        ensures place { self.new.pos ≡ self.old.pos + 1 }
+        ensures source { self.new.text ≡ self.old.text }
+    {
+        self.pos += 1;
+    }
+
+    /// Moves past any white space, also none (XML 1.0 [3] S).
+    #[inline]
+    pub fn spaces(&mut self)
+        ensures place { self.new.pos ≡ spaces_end self.old.text.now self.old.pos }
+        ensures source { self.new.text ≡ self.old.text }
+        ensures onward { self.old.pos ≤ self.new.pos }
+    {
+        self.pos = run_end::<Space>(self.text, self.pos);
+    }
+
+    /// One or more white space. Any other byte is a fault, and so is the end.
+    #[inline]
+    #[tactic(auto, unfolding(rox_reading::specs::Lexical::space_at))]
+    pub fn space(&mut self) -> Result<(), Fault>
+        ensures value { Reads (λ x. x) self.new result (spec.space_at self.old.text.now self.old.pos) }
+        ensures source { self.new.text ≡ self.old.text }
+        ensures onward { self.old.pos ≤ self.new.pos }
+    {
+        if self.pos >= self.text.len() {
+            return Err(Fault::UnexpectedEndOfStream);
+        }
+        let here = self.text.as_bytes()[self.pos];
+        if !is_space(here) {
+            return Err(Fault::InvalidChar2(Due::Space, here, self.pos));
+        }
+        self.spaces();
+        Ok(())
+    }
+
+    /// The ASCII byte. Any other is a fault, and so is the end.
+    #[inline]
+    #[tactic(auto, unfolding(rox_reading::specs::Lexical::byte_at))]
+    pub fn byte(&mut self, byte: u8) -> Result<(), Fault>
+        requires { byte < 128 }
+        ensures value { Reads (λ x. x) self.new result (spec.byte_at byte self.old.text.now self.old.pos) }
+        ensures source { self.new.text ≡ self.old.text }
+        ensures onward { self.old.pos ≤ self.new.pos }
+    {
+        if self.pos >= self.text.len() {
+            return Err(Fault::UnexpectedEndOfStream);
+        }
+        let here = self.text.as_bytes()[self.pos];
+        if here != byte {
+            return Err(Fault::InvalidChar(byte, here, self.pos));
+        }
+        self.advance();
+        Ok(())
+    }
+
+    /// A quote, `'` or `"`, which it answers. Any other byte is a fault, and so is the end.
+    #[inline]
+    #[tactic(auto, unfolding(rox_reading::specs::Lexical::quote_at))]
+    pub fn quote(&mut self) -> Result<u8, Fault>
+        ensures ascii { IfOk result (λ quote. quote < 128) }
+        ensures value { Reads (λ x. x) self.new result (spec.quote_at self.old.text.now self.old.pos) }
+        ensures source { self.new.text ≡ self.old.text }
+        ensures onward { self.old.pos ≤ self.new.pos }
+    {
+        if self.pos >= self.text.len() {
+            return Err(Fault::UnexpectedEndOfStream);
+        }
+        let here = self.text.as_bytes()[self.pos];
+        if here != b'\'' && here != b'"' {
+            return Err(Fault::InvalidChar2(Due::Quote, here, self.pos));
+        }
+        self.advance();
+        Ok(here)
+    }
+
+    /// The longest name (XML 1.0 [5] Name). It is a fault where none begins here.
+    #[inline]
+    #[tactic(auto, unfolding(rox_reading::specs::Lexical::name_at))]
+    pub fn name(&mut self) -> Result<&'input str, Fault>
+        ensures value { Reads (λ x. x.now) self.new result (spec.name_at self.old.text.now self.old.pos) }
+        ensures source { self.new.text ≡ self.old.text }
+        ensures onward { self.old.pos ≤ self.new.pos }
+    {
+        let start = self.pos;
+        if !begins::<NameStart>(self.text, start) {
+            return Err(Fault::InvalidName(start));
+        }
+        self.pos = run_end::<NameChar>(self.text, start);
+        Ok(&self.text[start..self.pos])
+    }
+
+    /// Whether the fixed text stands here.
+    #[inline]
+    #[tactic(auto, unfolding(rox_grammar::specs::Marks::stands))]
+    pub fn starts(&self, word: Word) -> bool
+        ensures { result ≡ stands (word_text word) self.now.text.now self.now.pos }
+    {
+        self.text.as_bytes()[self.pos..].starts_with(word.text())
+    }
+
+    /// Moves past a fixed text that stands here.
+    #[inline]
+    pub fn skip(&mut self, word: Word)
+        requires { stands (word_text word) self.old.text.now self.old.pos ≡ true }
+        ensures place { self.new.pos ≡ self.old.pos + length (word_text word) }
+        ensures source { self.new.text ≡ self.old.text }
+    {
+        self.pos += word.text().len();
+    }
+
+    /// The fixed text. It is a fault where it does not stand here.
+    #[inline]
+    #[tactic(auto, unfolding(rox_reading::specs::Lexical::string_at))]
+    pub fn string(&mut self, word: Word) -> Result<(), Fault>
+        ensures value { Reads (λ x. x) self.new result (spec.string_at word self.old.text.now self.old.pos) }
+        ensures source { self.new.text ≡ self.old.text }
+        ensures onward { self.old.pos ≤ self.new.pos }
+    {
+        if !self.starts(word) {
+            return Err(Fault::InvalidString(word, self.pos));
+        }
+        self.skip(word);
+        Ok(())
+    }
+
+    /// The longest run of name characters, split at its colon (Namespaces in XML section 4). A second colon, an empty local
+    /// part and a part that does not begin as a name are faults at the start of the run.
+    #[inline]
+    #[tactic(auto, unfolding(rox_reading::specs::Lexical::qname_at))]
+    pub fn qname(&mut self) -> Result<QName<'input>, Fault>
+        ensures value { Reads name_view self.new result (spec.qname_at self.old.text.now self.old.pos) }
+        ensures source { self.new.text ≡ self.old.text }
+        ensures onward { self.old.pos ≤ self.new.pos }
+    {
+        let start = self.pos;
+        let text = self.text;
+        let colon = run_end::<PartChar>(text, start);
+        if !is_at(text, colon, b':') {
+            if !begins::<NameStart>(text, start) {
+                return Err(Fault::InvalidName(start));
+            }
+            self.pos = colon;
+            return Ok(QName {
+                prefix: "",
+                local: &text[start..colon],
+            });
+        }
+        if colon != start && !begins::<NameStart>(text, start) {
+            return Err(Fault::InvalidName(start));
+        }
+        let local = after_byte(text, colon, b':');
+        let end = run_end::<PartChar>(text, local);
+        if !begins::<NameStart>(text, local) || is_at(text, local, b':') || is_at(text, end, b':') {
+            return Err(Fault::InvalidName(start));
+        }
+        self.pos = end;
+        Ok(QName {
+            prefix: &text[start..colon],
+            local: &text[local..end],
+        })
+    }
+
+    /// The text up to `end`. A character that is no Char (XML 1.0 [2]) is a fault at its place.
+    #[inline]
+    #[tactic(auto, unfolding(rox_reading::specs::Lexical::chars_up_to))]
+    pub fn chars_up_to(&mut self, end: usize) -> Result<&'input str, Fault>
+        requires onward { self.old.pos ≤ end }
+        requires cut { IsCharBoundary self.old.text.now end }
+        ensures value { Reads (λ x. x.now) self.new result (spec.chars_up_to end self.old.text.now self.old.pos) }
+        ensures source { self.new.text ≡ self.old.text }
+        ensures text { IfOk result (λ x. x.now ≡ slice_range self.old.text.now self.old.pos end) }
+        ensures place { IfOk result (λ x. self.new.pos ≡ end) }
+        ensures onward { self.old.pos ≤ self.new.pos }
+    {
+        let start = self.pos;
+        let ill = chars_end(&self.text[..end], start);
+        if ill < end {
+            return Err(Fault::NonXmlChar(char_at(self.text, ill), ill));
+        }
+        self.pos = end;
+        Ok(&self.text[start..end])
+    }
+}

@@ -1,0 +1,215 @@
+//! Runs of characters.
+ghost use Rattle.std.specs.Prelude.{◌≡◌, ◌==◌, ◌+◌, ◌<◌, ◌≤◌, ℕ, Bool, length, drop, slice_index};
+ghost use Rattle.std.specs.Char.{len_utf8};
+ghost use Rattle.std.specs.List.{list_all};
+ghost use Rattle.std.specs.Str.{IsCharBoundary, chars};
+ghost use Rattle.rox_grammar.specs.Chars as spec;
+ghost use Rattle.rox_grammar.specs.Runs.{run_end, begins, StandsAt};
+
+use crate::chars;
+
+/// A set of characters, to find a run of them.
+pub trait Class {
+    ghost test: { ℕ → Bool };
+
+    fn has(c: char) -> bool
+        ensures { result ≡ test c };
+
+    /// The same of an ASCII byte.
+    fn has_byte(b: u8) -> bool
+        requires { b < 128 }
+        ensures { result ≡ test b };
+}
+
+/// The characters of a name.
+pub struct NameChar;
+
+impl Class for NameChar {
+    ghost test = { spec.is_name_char };
+
+    #[inline]
+    fn has(c: char) -> bool {
+        chars::is_name_char(c)
+    }
+
+    #[inline]
+    fn has_byte(b: u8) -> bool {
+        chars::is_name_char(char::from(b))
+    }
+}
+
+/// The characters that begin a name.
+pub struct NameStart;
+
+impl Class for NameStart {
+    ghost test = { spec.is_name_start };
+
+    #[inline]
+    fn has(c: char) -> bool {
+        chars::is_name_start(c)
+    }
+
+    #[inline]
+    fn has_byte(b: u8) -> bool {
+        chars::is_name_start(char::from(b))
+    }
+}
+
+/// The characters of a name, but for the colon.
+pub struct PartChar;
+
+impl Class for PartChar {
+    ghost test = { spec.is_part_char };
+
+    #[inline]
+    fn has(c: char) -> bool {
+        chars::is_part_char(c)
+    }
+
+    #[inline(always)]
+    fn has_byte(b: u8) -> bool {
+        chars::is_part_byte(b)
+    }
+}
+
+/// The characters of XML.
+pub struct XmlChar;
+
+impl Class for XmlChar {
+    ghost test = { spec.is_char };
+
+    #[inline]
+    fn has(c: char) -> bool {
+        chars::is_char(c)
+    }
+
+    #[inline]
+    fn has_byte(b: u8) -> bool {
+        chars::is_char(char::from(b))
+    }
+}
+
+/// White space.
+pub struct Space;
+
+impl Class for Space {
+    ghost test = { spec.is_space };
+
+    #[inline]
+    fn has(c: char) -> bool {
+        c == ' ' || c == '\t' || c == '\n' || c == '\r'
+    }
+
+    #[inline]
+    fn has_byte(b: u8) -> bool {
+        chars::is_space(b)
+    }
+}
+
+/// The character that begins at `at`.
+#[inline]
+pub(crate) fn char_at(text: &str, at: usize) -> char
+    requires cut { IsCharBoundary text.now at }
+    requires within { at < length text.now }
+    ensures stands { StandsAt result text.now at }
+    ensures first { result ≡ slice_index (chars (drop at text.now)) 0 }
+    ensures cut { IsCharBoundary text.now (at + len_utf8 result) }
+{
+    match text[at..].chars().next() {
+        Some(c) => c,
+        None => unreachable!(),
+    }
+}
+
+/// Where the run of characters that begins at `at` ends.
+#[inline(always)]
+#[tactic(auto, using(crate::proofs::RunLemmas::run_steps))]
+pub fn run_end<C: Class>(text: &str, at: usize) -> usize
+    requires { IsCharBoundary text.now at }
+    ensures end { result ≡ run_end C.test text.now at }
+    ensures onward { at ≤ result }
+    ensures cut { IsCharBoundary text.now result }
+{
+    let bytes = text.as_bytes();
+    let mut i = at;
+    while i < bytes.len() {
+        let b = bytes[i];
+        if b < 128 {
+            if !C::has_byte(b) {
+                return i;
+            }
+            i += 1;
+        } else {
+            let c = char_at(text, i);
+            if !C::has(c) {
+                return i;
+            }
+            i += c.len_utf8();
+        }
+    }
+    i
+}
+
+/// Whether a character of the class begins at `at`.
+#[inline(always)]
+#[tactic(auto, using(crate::proofs::RunLemmas::begin_steps))]
+pub fn begins<C: Class>(text: &str, at: usize) -> bool
+    requires { IsCharBoundary text.now at }
+    ensures { result ≡ begins C.test text.now at }
+{
+    if at >= text.len() {
+        return false;
+    }
+    let b = text.as_bytes()[at];
+    if b < 128 {
+        return C::has_byte(b);
+    }
+    C::has(char_at(text, at))
+}
+
+/// Whether the byte stands at `at`.
+#[inline(always)]
+pub fn is_at(text: &str, at: usize, byte: u8) -> bool
+    requires { 0 < byte }
+    ensures { result ≡ (slice_index text.now at == byte) }
+{
+    at < text.len() && text.as_bytes()[at] == byte
+}
+
+/// The place after a byte that stands at `at`.
+#[inline(always)]
+pub fn after_byte(text: &str, at: usize, byte: u8) -> usize
+    requires some { 0 < byte }
+    requires ascii { byte < 128 }
+    requires here { slice_index text.now at ≡ byte }
+    ensures place { result ≡ at + 1 }
+    ensures cut { IsCharBoundary text.now result }
+{
+    at + 1
+}
+
+/// Whether each byte is one of a Char, whichever character it is of. It may be false where all are Chars.
+#[inline(always)]
+pub fn is_plain(bytes: &[u8]) -> bool
+    ensures { result ≡ list_all spec.is_plain bytes.now }
+{
+    let mut plain = true;
+    for byte in bytes {
+        plain &= chars::is_plain_byte(*byte);
+    }
+    plain
+}
+
+/// Where the Chars from `at` on end.
+#[inline]
+pub fn chars_end(text: &str, at: usize) -> usize
+    requires { IsCharBoundary text.now at }
+    ensures end { result ≡ run_end spec.is_char text.now at }
+    ensures onward { at ≤ result }
+    ensures cut { IsCharBoundary text.now result }
+{
+    if is_plain(text[at..].as_bytes()) {
+        return text.len();
+    }
+    run_end::<XmlChar>(text, at)
+}
