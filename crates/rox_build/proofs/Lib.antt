@@ -1,3 +1,6 @@
 pub mod DigitLemmas
 pub mod Rows
 pub mod Stable
+pub mod Pairs
+pub mod Inherits
+pub mod Listing

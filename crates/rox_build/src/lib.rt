@@ -2,6 +2,7 @@
 #![tactic(auto)]
 
 pub mod reference;
+pub mod scope;
 pub mod storage;
 pub mod tables;
 pub mod value;

@@ -1,0 +1,153 @@
+//! Namespaces in scope (Namespaces in XML 1.0, section 6). A namespace is a place in the table of the distinct pairs of a
+//! prefix, or the default, and a URI; what an element lists is a stretch of such places.
+
+ghost use Rattle.std.specs.Prelude.{◌≡◌, ◌<◌, ◌≤◌, ◌∷◌, ◌++◌, [], ℕ, List, length, map, take, drop, slice_range, true, false, IfOk, OnOk, IfSome, IfNone, Ok, Err, Some, None, is_some, IsTrue, IfErr, ◌&&◌, ◌||◌};
+ghost use Rattle.rox_grammar.specs.Written.{Declaration};
+ghost use Rattle.rox_grammar.specs.Tree.{same_prefix, is_declared, uri_of};
+ghost use Rattle.rox_grammar.specs.WellNamed.{is_xml};
+ghost use Rattle.rox_grammar.specs.Document.{same_pair, has_pair, with_new, most_pairs};
+ghost use Rattle.rox_build.specs.Storage.{storage_bytes};
+ghost use Rattle.rox_build.specs.Lines.{declaration, entry};
+ghost use Rattle.rox_grammar.specs.declared.fault.Fault.{Fault};
+ghost use Rattle.rox_build.specs.Scopes.{prefix_view, pair, entries, ArePlaces, others};
+
+use crate::storage::StringStorage;
+use crate::tables::Namespace;
+use rox_grammar::fault::Fault;
+use rox_scan::failure::Failure;
+
+/// The most pairs that the table holds.
+const MOST_PAIRS: usize = 65_535;
+
+/// Whether two prefixes are one; two defaults are.
+#[inline]
+pub fn same_prefix(one: Option<&str>, other: Option<&str>) -> bool
+    ensures { result ≡ same_prefix (prefix_view one.entry) (prefix_view other.entry) }
+{
+    match (one, other) {
+        (None, None) => true,
+        (Some(one), Some(other)) => one == other,
+        _ => false,
+    }
+}
+
+/// Whether a namespace is this pair.
+#[inline]
+fn is_pair(name: &Namespace<'_>, prefix: Option<&str>, uri: &str) -> bool
+    ensures { result ≡ same_pair (declaration name.now) (pair (prefix_view prefix.entry) uri.now) }
+{
+    same_prefix(name.name, prefix) && name.uri.as_str() == uri
+}
+
+/// The place of a pair in the table, if it is there.
+
+fn find_pair(names: &[Namespace<'_>], prefix: Option<&str>, uri: &str) -> Option<usize>
+    ensures there { IfSome result (λ i. (i < length names.now) × (entry (map declaration names.now) i ≡ pair (prefix_view prefix.entry) uri.now)
+        × (has_pair (map declaration names.now) (pair (prefix_view prefix.entry) uri.now) ≡ true)) }
+    ensures absent { IfNone result (has_pair (map declaration names.now) (pair (prefix_view prefix.entry) uri.now) ≡ false) }
+{
+    for (place, name) in names.iter().enumerate() {
+        if is_pair(name, prefix, uri) {
+            return Some(place);
+        }
+    }
+    None
+}
+
+/// The place of a pair in the table, where it is put if it is new. The table may hold 65,535 of them.
+pub fn place_pair<'input>(
+    names: &mut Vec<Namespace<'input>>,
+    prefix: Option<&'input str>,
+    uri: StringStorage<'input>,
+) -> Result<u16, Failure>
+    requires { length names.old.items ≤ most_pairs }
+    ensures there { IfOk result (λ i. (i < length names.new.items) × (entry (map declaration names.new.items) i ≡ pair (prefix_view prefix.entry) (storage_bytes uri.entry))) }
+    ensures table { OnOk result (map declaration names.new.items ≡ with_new (map declaration names.old.items) (pair (prefix_view prefix.entry) (storage_bytes uri.entry) ∷ [])) }
+    ensures few { OnOk result (length names.new.items ≤ most_pairs) }
+    ensures fault { (f : Fault) → result ≡ Err (Failure.Fault f) → (f ≡ Fault.NamespacesLimitReached)
+        × (most_pairs < length (with_new (map declaration names.old.items) (pair (prefix_view prefix.entry) (storage_bytes uri.entry) ∷ []))) }
+{
+    if let Some(place) = find_pair(names.as_slice(), prefix, uri.as_str()) {
+        return Ok(place as u16);
+    }
+    if names.len() >= MOST_PAIRS {
+        return Err(Failure::Fault(Fault::NamespacesLimitReached));
+    }
+    let place = names.len() as u16;
+    names.push(Namespace { name: prefix, uri })?;
+    Ok(place)
+}
+
+/// The first of these places whose namespace has this prefix, or is the default.
+pub fn place_of(names: &[Namespace<'_>], places: &[u16], prefix: Option<&str>) -> Option<u16>
+    requires { ArePlaces (length names.now) places.now }
+    ensures there { IfSome result (λ i. (i < length names.now)
+        × (uri_of (entries (map declaration names.now) places.now) (prefix_view prefix.entry) ≡ Some (entry (map declaration names.now) i).uri)) }
+    ensures absent { IfNone result (uri_of (entries (map declaration names.now) places.now) (prefix_view prefix.entry) ≡ None) }
+{
+    for place in places {
+        if same_prefix(names[*place as usize].name, prefix) {
+            return Some(*place);
+        }
+    }
+    None
+}
+
+/// Whether one of these has this prefix, or is the default.
+#[tactic(auto, using(crate::proofs::Pairs::declared_some, crate::proofs::Pairs::declared_none))]
+pub fn is_declared(names: &[Namespace<'_>], places: &[u16], prefix: Option<&str>) -> bool
+    requires { ArePlaces (length names.now) places.now }
+    ensures { result ≡ is_declared (prefix_view prefix.entry) (entries (map declaration names.now) places.now) }
+{
+    match place_of(names, places, prefix) {
+        Some(_) => true,
+        None => false,
+    }
+}
+
+/// The prefix `xml`.
+#[inline]
+fn is_xml(prefix: Option<&str>) -> bool
+    ensures { result ≡ is_xml (prefix_view prefix.entry) }
+{
+    match prefix {
+        Some(prefix) => prefix == "xml",
+        None => false,
+    }
+}
+
+/// Whether an element that declares those behind `own`, and `xml` if the flag says so, declares this prefix.
+#[inline]
+fn is_own(names: &[Namespace<'_>], own: &[u16], xml: bool, prefix: Option<&str>) -> bool
+    requires { ArePlaces (length names.now) own.now }
+    ensures { result ≡ (is_declared (prefix_view prefix.entry) (entries (map declaration names.now) own.now) || (xml && is_xml (prefix_view prefix.entry))) }
+{
+    is_declared(names, own, prefix) || (xml && is_xml(prefix))
+}
+
+/// Lists, behind what an element declares itself, what its parent lists from `from` up to `until` and it does not declare.
+pub fn inherit(
+    names: &[Namespace<'_>],
+    listed: &mut Vec<u16>,
+    own: usize,
+    xml: bool,
+    from: usize,
+    until: usize,
+) -> Result<(), Failure>
+    requires places { ArePlaces (length names.now) listed.old.items }
+    requires own { own ≤ length listed.old.items }
+    requires parent { (from ≤ until) × (until ≤ own) }
+    ensures ok { OnOk result ((more : List ℕ) × (listed.new.items ≡ listed.old.items ++ more) × ArePlaces (length names.now) more
+        × (entries (map declaration names.now) more
+        ≡ others (entries (map declaration names.now) (drop own listed.old.items)) xml (entries (map declaration names.now) (slice_range listed.old.items from until)))) }
+    ensures err { IfErr result (λ e. e ≡ Failure.Memory) }
+{
+    let end = listed.len();
+    for turn in from..until {
+        let place = listed[turn];
+        if !is_own(names, &listed[own..end], xml, names[place as usize].name) {
+            listed.push(place)?;
+        }
+    }
+    Ok(())
+}
