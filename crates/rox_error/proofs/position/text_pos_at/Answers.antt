@@ -1,0 +1,8 @@
+use Rattle.std.proofs.Common.{rules}
+use Rattle.std.proofs.lemmas.Str.{chars_from_encodes}
+use Rattle.rox_grammar.specs.Positions.{col_of}
+use Rattle.rox_error.proofs.position.text_pos_at.Goals as goal
+
+pub returns-clause-col : goal.returns-clause-col
+unfolding col_of
+returns-clause-col c = search (rules, chars_from_encodes)
