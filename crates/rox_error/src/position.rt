@@ -4,7 +4,8 @@ ghost use Rattle.std.specs.Prelude.{◌≡◌, ◌+◌, min};
 ghost use Rattle.std.specs.Str.{IsCharBoundary};
 ghost use Rattle.rox_grammar.specs.Positions as spec;
 
-use memchr::memrchr;
+use memchr::{memchr_iter, memrchr};
+use std::fmt;
 
 /// A row and a column, both from 1. A column counts characters.
 #[derive(Clone, Copy, Debug, PartialEq, Eq, Hash)]
@@ -21,6 +22,18 @@ impl TextPos {
         ensures col { result.col ≡ col }
     {
         TextPos { row, col }
+    }
+}
+
+impl fmt::Display for TextPos {
+    ghost use Rattle.std.specs.Prelude.{Some};
+    ghost use Rattle.rox_error.specs.Messages.{position_text};
+
+    ghost output = { λ p. Some (position_text p) };
+
+    fn fmt<W: fmt::Write>(&self, f: &mut fmt::Formatter<W>) -> fmt::Result {
+        let (row, col) = (self.row, self.col);
+        write!(f, "{row}:{col}")
     }
 }
 
@@ -68,7 +81,7 @@ pub fn text_pos_at(text: &str, at: usize) -> TextPos
     ensures col { result.col ≡ spec.col_of text.now at }
 {
     let front = &text[..round_down(text, at)];
-    let rows = front.bytes().filter(|b| *b == b'\n').count();
+    let rows = memchr_iter(b'\n', front.as_bytes()).count();
     let cols = last_line(front).chars().count();
     TextPos {
         row: counted(rows),
