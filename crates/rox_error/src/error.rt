@@ -1,6 +1,7 @@
 //! Why a text is refused, as a caller is told.
 
 use crate::position::TextPos;
+use std::alloc::AllocError;
 use std::fmt;
 
 /// Why a text is refused. Each kind but those without a field keeps the position that it is named at.
@@ -124,46 +125,55 @@ impl fmt::Display for Error {
 
     fn fmt<W: fmt::Write>(&self, f: &mut fmt::Formatter<W>) -> fmt::Result {
         match self {
-            Error::InvalidXmlPrefixUri(p) => write!(
+            Error::InvalidXmlPrefixUri(pos) => write!(
                 f,
-                "'xml' namespace prefix mapped to wrong URI at {p}"
+                "'xml' namespace prefix mapped to wrong URI at {pos}"
             ),
-            Error::UnexpectedXmlUri(p) => write!(
+            Error::UnexpectedXmlUri(pos) => write!(
                 f,
-                "the 'xml' namespace URI is used for not 'xml' prefix at {p}"
+                "the 'xml' namespace URI is used for not 'xml' prefix at {pos}"
             ),
-            Error::UnexpectedXmlnsUri(p) => write!(
+            Error::UnexpectedXmlnsUri(pos) => write!(
                 f,
-                "the 'xmlns' URI is used at {p}, but it must not be declared"
+                "the 'xmlns' URI is used at {pos}, but it must not be declared"
             ),
-            Error::InvalidElementNamePrefix(p) => write!(
+            Error::InvalidElementNamePrefix(pos) => write!(
                 f,
-                "the 'xmlns' prefix is used at {p}, but it must not be"
+                "the 'xmlns' prefix is used at {pos}, but it must not be"
             ),
-            Error::DuplicatedNamespace(n, p) => write!(
+            Error::DuplicatedNamespace(name, pos) => write!(
                 f,
-                "namespace '{n}' at {p} is already defined"
+                "namespace '{name}' at {pos} is already defined"
             ),
-            Error::UnknownNamespace(n, p) => write!(f, "an unknown namespace prefix '{n}' at {p}"),
-            Error::UnexpectedCloseTag(e, a, p) => write!(f, "expected '{e}' tag, not '{a}' at {p}"),
-            Error::UnexpectedEntityCloseTag(p) => write!(f, "unexpected close tag at {p}"),
-            Error::UnknownEntityReference(n, p) => write!(
+            Error::UnknownNamespace(name, pos) => write!(
                 f,
-                "unknown entity reference '{n}' at {p}"
+                "an unknown namespace prefix '{name}' at {pos}"
             ),
-            Error::MalformedEntityReference(p) => write!(f, "malformed entity reference at {p}"),
-            Error::EntityReferenceLoop(p) => write!(
+            Error::UnexpectedCloseTag(expected, actual, pos) => write!(
                 f,
-                "a possible entity reference loop is detected at {p}"
+                "expected '{expected}' tag, not '{actual}' at {pos}"
             ),
-            Error::InvalidAttributeValue(p) => write!(f, "unescaped '<' found at {p}"),
-            Error::DuplicatedAttribute(n, p) => write!(
+            Error::UnexpectedEntityCloseTag(pos) => write!(f, "unexpected close tag at {pos}"),
+            Error::UnknownEntityReference(name, pos) => write!(
                 f,
-                "attribute '{n}' at {p} is already defined"
+                "unknown entity reference '{name}' at {pos}"
+            ),
+            Error::MalformedEntityReference(pos) => write!(
+                f,
+                "malformed entity reference at {pos}"
+            ),
+            Error::EntityReferenceLoop(pos) => write!(
+                f,
+                "a possible entity reference loop is detected at {pos}"
+            ),
+            Error::InvalidAttributeValue(pos) => write!(f, "unescaped '<' found at {pos}"),
+            Error::DuplicatedAttribute(name, pos) => write!(
+                f,
+                "attribute '{name}' at {pos} is already defined"
             ),
             Error::NoRootNode => write!(f, "the document does not have a root node"),
             Error::UnclosedRootNode => write!(f, "the root node was opened but never closed"),
-            Error::UnexpectedDeclaration(p) => write!(f, "unexpected XML declaration at {p}"),
+            Error::UnexpectedDeclaration(pos) => write!(f, "unexpected XML declaration at {pos}"),
             Error::DtdDetected => write!(f, "XML with DTD detected"),
             Error::NodesLimitReached => write!(f, "nodes limit reached"),
             Error::AttributesLimitReached => write!(f, "more than 2^32 attributes were parsed"),
@@ -171,25 +181,32 @@ impl fmt::Display for Error {
                 f,
                 "more than 2^16 unique namespaces were parsed"
             ),
-            Error::InvalidName(p) => write!(f, "invalid name token at {p}"),
-            Error::NonXmlChar(c, p) => write!(f, "a non-XML character {c:?} found at {p}"),
-            Error::InvalidChar(e, a, p) => {
-                let (e, a) = (char::from(*e), char::from(*a));
-                write!(f, "expected '{e}' not '{a}' at {p}")
-            }
-            Error::InvalidChar2(e, a, p) => {
-                let a = char::from(*a);
-                write!(f, "expected {e} not '{a}' at {p}")
-            }
-            Error::InvalidString(s, p) => write!(f, "expected '{s}' at {p}"),
-            Error::InvalidExternalID(p) => write!(f, "invalid ExternalID at {p}"),
-            Error::EntityResolver(p, m) => write!(f, "entity resolver failed at {p}: {m}"),
-            Error::InvalidComment(p) => write!(f, "comment at {p} contains '--'"),
-            Error::InvalidCharacterData(p) => write!(
+            Error::InvalidName(pos) => write!(f, "invalid name token at {pos}"),
+            Error::NonXmlChar(character, pos) => write!(
                 f,
-                "']]>' at {p} is not allowed inside a character data"
+                "a non-XML character {character:?} found at {pos}"
             ),
-            Error::UnknownToken(p) => write!(f, "unknown token at {p}"),
+            Error::InvalidChar(expected, actual, pos) => {
+                let expected = char::from(*expected);
+                let actual = char::from(*actual);
+                write!(f, "expected '{expected}' not '{actual}' at {pos}")
+            }
+            Error::InvalidChar2(expected, actual, pos) => {
+                let actual = char::from(*actual);
+                write!(f, "expected {expected} not '{actual}' at {pos}")
+            }
+            Error::InvalidString(expected, pos) => write!(f, "expected '{expected}' at {pos}"),
+            Error::InvalidExternalID(pos) => write!(f, "invalid ExternalID at {pos}"),
+            Error::EntityResolver(pos, reason) => write!(
+                f,
+                "entity resolver failed at {pos}: {reason}"
+            ),
+            Error::InvalidComment(pos) => write!(f, "comment at {pos} contains '--'"),
+            Error::InvalidCharacterData(pos) => write!(
+                f,
+                "']]>' at {pos} is not allowed inside a character data"
+            ),
+            Error::UnknownToken(pos) => write!(f, "unknown token at {pos}"),
             Error::UnexpectedEndOfStream => write!(f, "unexpected end of stream"),
             Error::OutOfMemory => write!(f, "out of memory"),
         }
@@ -197,3 +214,14 @@ impl fmt::Display for Error {
 }
 
 impl std::error::Error for Error {}
+
+impl From<AllocError> for Error {
+    ghost use Rattle.rox_error.specs.declared.error.Error.TheVariants.{OutOfMemory};
+    ghost use Rattle.std.specs.Prelude.{◌≡◌};
+
+    ghost from_gives = { λ _ e. e ≡ OutOfMemory };
+
+    fn from(_error: AllocError) -> Error {
+        Error::OutOfMemory
+    }
+}

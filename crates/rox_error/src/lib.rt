@@ -3,3 +3,6 @@
 
 pub mod error;
 pub mod position;
+mod telling;
+#[cfg(test)]
+mod tests;
