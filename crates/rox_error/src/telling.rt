@@ -30,80 +30,71 @@ fn told(alloc: Global, text: &str, fault: Fault) -> Result<Error, AllocError>
     ensures { MatchResult result (IsErrorOf text.now fault) (λ _. IsErrorOf text.now fault error.OutOfMemory) }
 {
     match fault {
-        Fault::InvalidXmlPrefixUri(at) => Ok(Error::InvalidXmlPrefixUri(position(text, at))),
-        Fault::UnexpectedXmlUri(at) => Ok(Error::UnexpectedXmlUri(position(text, at))),
-        Fault::UnexpectedXmlnsUri(at) => Ok(Error::UnexpectedXmlnsUri(position(text, at))),
-        Fault::InvalidElementNamePrefix(at) => Ok(Error::InvalidElementNamePrefix(position(
-            text, at,
-        ))),
+        Fault::InvalidXmlPrefixUri(at) => Ok(Error::InvalidXmlPrefixUri(pos(text, at))),
+        Fault::UnexpectedXmlUri(at) => Ok(Error::UnexpectedXmlUri(pos(text, at))),
+        Fault::UnexpectedXmlnsUri(at) => Ok(Error::UnexpectedXmlnsUri(pos(text, at))),
+        Fault::InvalidElementNamePrefix(at) => Ok(Error::InvalidElementNamePrefix(pos(text, at))),
         Fault::DuplicatedNamespace(prefix, at) => Ok(Error::DuplicatedNamespace(
             named(alloc, text, prefix)?,
-            position(text, at),
+            pos(text, at),
         )),
         Fault::UnknownNamespace(prefix, at) => Ok(Error::UnknownNamespace(
             named(alloc, text, prefix)?,
-            position(text, at),
+            pos(text, at),
         )),
         Fault::UnexpectedCloseTag(expected, actual, at) => {
             Ok(Error::UnexpectedCloseTag(
                 named(alloc, text, expected)?,
                 named(alloc, text, actual)?,
-                position(text, at),
+                pos(text, at),
             ))
         }
-        Fault::UnexpectedEntityCloseTag(at) => Ok(Error::UnexpectedEntityCloseTag(position(
-            text, at,
-        ))),
+        Fault::UnexpectedEntityCloseTag(at) => Ok(Error::UnexpectedEntityCloseTag(pos(text, at))),
         Fault::UnknownEntityReference(entity, at) => Ok(Error::UnknownEntityReference(
             named(alloc, text, entity)?,
-            position(text, at),
+            pos(text, at),
         )),
-        Fault::MalformedEntityReference(at) => Ok(Error::MalformedEntityReference(position(
-            text, at,
-        ))),
-        Fault::EntityReferenceLoop(at) => Ok(Error::EntityReferenceLoop(position(text, at))),
-        Fault::InvalidAttributeValue(at) => Ok(Error::InvalidAttributeValue(position(text, at))),
+        Fault::MalformedEntityReference(at) => Ok(Error::MalformedEntityReference(pos(text, at))),
+        Fault::EntityReferenceLoop(at) => Ok(Error::EntityReferenceLoop(pos(text, at))),
+        Fault::InvalidAttributeValue(at) => Ok(Error::InvalidAttributeValue(pos(text, at))),
         Fault::DuplicatedAttribute(local, at) => Ok(Error::DuplicatedAttribute(
             named(alloc, text, local)?,
-            position(text, at),
+            pos(text, at),
         )),
         Fault::NoRootNode => Ok(Error::NoRootNode),
         Fault::UnclosedRootNode => Ok(Error::UnclosedRootNode),
-        Fault::UnexpectedDeclaration(at) => Ok(Error::UnexpectedDeclaration(position(text, at))),
+        Fault::UnexpectedDeclaration(at) => Ok(Error::UnexpectedDeclaration(pos(text, at))),
         Fault::DtdDetected => Ok(Error::DtdDetected),
         Fault::NodesLimitReached => Ok(Error::NodesLimitReached),
         Fault::AttributesLimitReached => Ok(Error::AttributesLimitReached),
         Fault::NamespacesLimitReached => Ok(Error::NamespacesLimitReached),
-        Fault::InvalidName(at) => Ok(Error::InvalidName(position(text, at))),
-        Fault::NonXmlChar(c, at) => Ok(Error::NonXmlChar(c, position(text, at))),
+        Fault::InvalidName(at) => Ok(Error::InvalidName(pos(text, at))),
+        Fault::NonXmlChar(c, at) => Ok(Error::NonXmlChar(c, pos(text, at))),
         Fault::InvalidChar(expected, actual, at) => Ok(Error::InvalidChar(
             expected,
             actual,
-            position(text, at),
+            pos(text, at),
         )),
         Fault::InvalidChar2(expected, actual, at) => Ok(Error::InvalidChar2(
             due_words(expected),
             actual,
-            position(text, at),
+            pos(text, at),
         )),
         Fault::InvalidString(expected, at) => Ok(Error::InvalidString(
             fixed_text(expected),
-            position(text, at),
+            pos(text, at),
         )),
-        Fault::InvalidExternalID(at) => Ok(Error::InvalidExternalID(position(text, at))),
-        Fault::EntityResolver(at) => Ok(Error::EntityResolver(
-            position(text, at),
-            String::new(alloc),
-        )),
-        Fault::InvalidComment(at) => Ok(Error::InvalidComment(position(text, at))),
-        Fault::InvalidCharacterData(at) => Ok(Error::InvalidCharacterData(position(text, at))),
-        Fault::UnknownToken(at) => Ok(Error::UnknownToken(position(text, at))),
+        Fault::InvalidExternalID(at) => Ok(Error::InvalidExternalID(pos(text, at))),
+        Fault::EntityResolver(at) => Ok(Error::EntityResolver(pos(text, at), String::new(alloc))),
+        Fault::InvalidComment(at) => Ok(Error::InvalidComment(pos(text, at))),
+        Fault::InvalidCharacterData(at) => Ok(Error::InvalidCharacterData(pos(text, at))),
+        Fault::UnknownToken(at) => Ok(Error::UnknownToken(pos(text, at))),
         Fault::UnexpectedEndOfStream => Ok(Error::UnexpectedEndOfStream),
     }
 }
 
 /// The position of a place.
-fn position(text: &str, at: usize) -> TextPos
+fn pos(text: &str, at: usize) -> TextPos
     ensures { result ≡ position_at text.now at }
 {
     text_pos_at(text, at)
