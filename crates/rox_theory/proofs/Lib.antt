@@ -1,3 +1,4 @@
 pub mod Places
 pub mod Constructions
 pub mod Standing
+pub mod Steps
