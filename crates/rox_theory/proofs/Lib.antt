@@ -2,3 +2,4 @@ pub mod Places
 pub mod Constructions
 pub mod Standing
 pub mod Steps
+pub mod Chains
