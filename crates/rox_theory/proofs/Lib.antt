@@ -3,3 +3,4 @@ pub mod Constructions
 pub mod Standing
 pub mod Steps
 pub mod Chains
+pub mod Derivations
