@@ -4,3 +4,4 @@ pub mod Standing
 pub mod Steps
 pub mod Chains
 pub mod Derivations
+pub mod Around

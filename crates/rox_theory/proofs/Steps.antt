@@ -173,7 +173,7 @@ module _ (src : List ℕ) where
   module _ (agrees : Agrees src) where
 
     -- a plain item that is read
-    item_read : (limit most : ℕ) (s t : State) (j : ℕ) (item : Item) → limit ≤ most → own_attributes item ≡ 0 → own_pairs item ≡ [] → ItemWellNamed (scope_in (scope_of s.stack) item) item
+    pub item_read : (limit most : ℕ) (s t : State) (j : ℕ) (item : Item) → limit ≤ most → own_attributes item ≡ 0 → own_pairs item ≡ [] → ItemWellNamed (scope_in (scope_of s.stack) item) item
         → IsFine most s → with_item limit s j item ≡ Ok t → (t ≡ with_leaf s j item) × IsFine most t
     item_read limit most s t j item more no_attributes no_pairs named fine h =
         let c = counted_fits limit (with_leaf s j item) t h in
@@ -239,7 +239,7 @@ module _ (src : List ℕ) where
     step_sound limit most s t more within fine h =
         by_sound limit most (kind_at src s.at) s t more (kind_means src s.at) within fine (sym (step_is limit src s) ∙ h)
 
-    read_item : (limit : ℕ) (s t : State) (j : ℕ) (item : Item) → t ≡ with_leaf s j item → IsFine limit t → with_item limit s j item ≡ Ok t
+    pub read_item : (limit : ℕ) (s t : State) (j : ℕ) (item : Item) → t ≡ with_leaf s j item → IsFine limit t → with_item limit s j item ≡ Ok t
     read_item limit s t j item is fine =
         let here : IsFine limit (with_leaf s j item) = subst (IsFine limit) is fine in
         fits_counted limit (with_leaf s j item) here.nodes ∙ ap Ok (sym is)
