@@ -1,33 +1,31 @@
 -- What stands around the root element.
-use Rattle.std.proofs.Common.{◌≡◌, ◌≢◌, ℕ, zero, suc, ◌+◌, ◌<◌, ◌≤◌, ◌==◌, Bool, true, false, not, cond, nat_lt, List, [], ◌∷◌, ◌++◌, length, drop, Result, Ok, Err, refl, sym, ap, ◌∙◌, subst, arith, true≢false, lt-ltb, ltb-true, add_assoc}
+use Rattle.std.proofs.Common.{◌≡◌, ℕ, zero, suc, ◌+◌, ◌<◌, ◌≤◌, ◌==◌, Bool, true, false, List, [], ◌++◌, length, drop, Ok, refl, sym, ap, ◌∙◌, subst, arith}
 use Rattle.std.specs.List.{starts_with}
 use Rattle.std.specs.Str.{IsUtf8, IsCharBoundary}
 use Rattle.std.specs.Char.{encode_utf8}
 use Rattle.std.proofs.lemmas.Str.{IsCharBoundary-start, IsCharBoundary-after_ascii, IsCharBoundary-at_seam, IsUtf8-past_char}
-use Rattle.std.proofs.lemmas.Bool.{false_from_ne_true, cases_lt, cond_both}
+use Rattle.std.proofs.lemmas.Bool.{false_from_ne_true, cond_both}
 use Rattle.std.proofs.lemmas.Bool.Decides.{Decides-eqb}
 use Rattle.std.proofs.lemmas.Slice.Eq.{starts_is}
 use Rattle.rox_grammar.specs.declared.fault.Word.TheVariants as word
 use Rattle.rox_grammar.specs.Chars.{is_space}
 use Rattle.rox_grammar.specs.Words.{word_text}
-use Rattle.rox_grammar.specs.Forest.{Forest, Nil, Cons, join, size}
-use Rattle.rox_grammar.specs.Written.{Tag, Declaration, Item, Element, Text, Comment, PI, merge, leaf}
-use Rattle.rox_grammar.specs.Tree.{none_if_empty}
-use Rattle.rox_grammar.specs.Names.{byte, slice, spaces_end}
+use Rattle.rox_grammar.specs.Forest.{Forest, Nil, join, size}
+use Rattle.rox_grammar.specs.Written.{Declaration, Item, Comment, PI, merge, leaf}
+use Rattle.rox_grammar.specs.Names.{byte, spaces_end}
 use Rattle.rox_grammar.specs.Constructs.{at, IsDeclaration}
 use Rattle.rox_grammar.specs.Content.{IsMisc, comment, instruction, IsElement, empty, nest, TagEnds, opened, closed}
 use Rattle.rox_grammar.specs.Document.{no_entities, bom, after_bom, MayDeclare, declared, not_declared, Misc, no_misc, space, an_item, own_attributes, own_pairs}
 use Rattle.rox_grammar.specs.WellNamed.{ItemWellNamed}
-use Rattle.rox_reading.specs.Lexical.{◌>>=◌}
-use Rattle.rox_reading.specs.Markup.{Instruction, comment_at, instruction_at, declaration_at}
-use Rattle.rox_reading.specs.State.{Open, root, inside, State}
+use Rattle.rox_reading.specs.Markup.{comment_at, instruction_at, declaration_at}
+use Rattle.rox_reading.specs.State.{Open, root, State}
 use Rattle.rox_reading.specs.Machine.{with_item, comment_step, instruction_step, misc, prolog}
 use Rattle.rox_reading.proofs.Forests.{join-nil, join_assoc, merge-more}
 use Rattle.rox_theory.specs.Agrees.{Agrees}
 use Rattle.rox_theory.proofs.Constructions.{name_byte, comment_bytes, instruction_bytes, doctype_bytes, IsNameByte}
-use Rattle.rox_theory.proofs.Places.{byte_within, stands_reads, stands_fits, run_stops, run_past, over_spaces, spaces_on, space_within}
+use Rattle.rox_theory.proofs.Places.{byte_within, stands_reads, run_stops, run_past, over_spaces, spaces_on, space_within}
 use Rattle.rox_theory.proofs.Standing.{IsFine}
-use Rattle.rox_theory.proofs.Steps.{bind_ok, chosen, ok_one, with_leaf, fits_counted, item_read}
+use Rattle.rox_theory.proofs.Steps.{bind_ok, chosen, with_leaf, fits_counted, item_read}
 use Rattle.rox_theory.proofs.Chains.{state}
 use Rattle.rox_theory.proofs.Derivations.{comment_is, instruction_is}
 
@@ -66,8 +64,8 @@ unfolding encode_utf8
 bom_cut src utf8 =
     cond_both (starts_with ◌==◌ src bom) 3 0 (IsCharBoundary src)
     (λ marked.
-        let split : src ≡ bom ++ drop (length bom) src = (starts_is Decides-eqb src bom true (sym marked)).0 refl in
-        IsCharBoundary-at_seam src bom (drop (length bom) src) split (IsUtf8-past_char src (drop (length bom) src) 0xFEFF utf8 split))
+    let split : src ≡ bom ++ drop (length bom) src = (starts_is Decides-eqb src bom true (sym marked)).0 refl in
+    IsCharBoundary-at_seam src bom (drop (length bom) src) split (IsUtf8-past_char src (drop (length bom) src) 0xFEFF utf8 split))
     (λ bare. IsCharBoundary-start src utf8)
 
 -- ---- where comments and processing instructions stop
@@ -89,13 +87,15 @@ element_stops src i j b c one is = from_tag (begins one is)
     begins one (nest _ k m p _ _ d _ t kids tag inner end) = (tag.begins, name_byte src (i + 1) t.name t.name_end tag.is_name)
 
     from_tag : (byte src i ≡ 60) × IsNameByte src (i + 1) → (byte src i ≡ 60) × (at word.DoctypeStart src i ≡ false) × Stops src i
-    from_tag (here, name) =
-        (here, false_from_ne_true _ (λ h. name.no_mark (doctype_bytes src i h).2),
-          record {
-            no_space = no_spaces src i here;
-            no_comment = false_from_ne_true _ (λ h. name.no_mark (comment_bytes src i h).2);
-            no_instruction = false_from_ne_true _ (λ h. name.no_question (instruction_bytes src i h).2);
-          })
+    from_tag (here, name) = (
+      here,
+      false_from_ne_true _ (λ h. name.no_mark (doctype_bytes src i h).2),
+      record {
+        no_space = no_spaces src i here;
+        no_comment = false_from_ne_true _ (λ h. name.no_mark (comment_bytes src i h).2);
+        no_instruction = false_from_ne_true _ (λ h. name.no_question (instruction_bytes src i h).2);
+      },
+    )
 
 pub end_stops : (src : List ℕ) → Stops src (length src)
 end_stops src =
@@ -109,7 +109,6 @@ pub fine_at : (limit i j : ℕ) (done : Forest Item) (stack : Open) → IsFine l
 fine_at limit i j done stack fine = record { nodes = fine.nodes; attributes = fine.attributes; pairs = fine.pairs; named = fine.named }
 
 module _ (src : List ℕ) (agrees : Agrees src) where
-
   -- ---- what is read is Misc
 
   -- what is read of them from a place on
@@ -144,22 +143,22 @@ module _ (src : List ℕ) (agrees : Agrees src) where
       let fine' = fine_at most i k done root fine in
       let within = (over_spaces src (λ (k : ℕ). Unit {0}) i utf8 cut (λ k is rest. tt)).0 in
       let go : (j : ℕ) (item : Item) (t : State) → IsMisc src k j item → with_item limit (state k done root) j item ≡ Ok t → misc limit n src t ≡ Ok u → MiscRead most i done u =
-        λ j item t is one rest.
-        let p = misc_plain k j item is in
-        let both = item_read src agrees limit most (state k done root) t j item more p.0 p.1 (p.2 _) fine' one in
-        let here : misc limit n src (state j (join done (leaf item)) root) ≡ Ok u = subst (λ (t : State). misc limit n src t ≡ Ok u) both.0 rest in
-        let next = misc_sound n limit most j (join done (leaf item)) u more utf8 (ends_cut src j utf8 (misc_ends src k j item is)) (subst (IsFine most) both.0 both.1) here in
-        spaces_then most i done u utf8 cut (item_then most k j done item u is next)
+      λ j item t is one rest.
+      let p = misc_plain k j item is in
+      let both = item_read src agrees limit most (state k done root) t j item more p.0 p.1 (p.2 _) fine' one in
+      let here : misc limit n src (state j (join done (leaf item)) root) ≡ Ok u = subst (λ (t : State). misc limit n src t ≡ Ok u) both.0 rest in
+      let next = misc_sound n limit most j (join done (leaf item)) u more utf8 (ends_cut src j utf8 (misc_ends src k j item is)) (subst (IsFine most) both.0 both.1) here in
+      spaces_then most i done u utf8 cut (item_then most k j done item u is next)
       in
       chosen (at word.CommentStart src k) _ _ _ h
       (λ here h. bind_ok (comment_step limit src (state k done root)) _ _ h (λ t one rest.
-          bind_ok (comment_at src k) _ _ one (λ x read one. go x.1 (Comment k x.1 x.0) t (comment_is src agrees k x.1 x.0 here read) one rest)))
+      bind_ok (comment_at src k) _ _ one (λ x read one. go x.1 (Comment k x.1 x.0) t (comment_is src agrees k x.1 x.0 here read) one rest)))
       (λ none h. chosen (at word.PIStart src k) _ _ _ h
-          (λ here h. bind_ok (instruction_step limit src (state k done root)) _ _ h (λ t one rest.
-              bind_ok (instruction_at src k) _ _ one (λ x read one. go x.1 (PI k x.1 x.0.target x.0.value) t (instruction_is src agrees k x.1 x.0 here read) one rest)))
-          (λ none h.
-              let e : state k done root ≡ u = cc in
-              subst (λ (u : State). MiscRead most i done u) e (spaces_then most i done (state k done root) utf8 cut (Nil, no_misc k, rw join-nil refl, fine', within))))
+      (λ here h. bind_ok (instruction_step limit src (state k done root)) _ _ h (λ t one rest.
+      bind_ok (instruction_at src k) _ _ one (λ x read one. go x.1 (PI k x.1 x.0.target x.0.value) t (instruction_is src agrees k x.1 x.0 here read) one rest)))
+      (λ none h.
+      let e : state k done root ≡ u = cc in
+      subst (λ (u : State). MiscRead most i done u) e (spaces_then most i done (state k done root) utf8 cut (Nil, no_misc k, rw join-nil refl, fine', within))))
 
   -- ---- Misc is what is read
 

@@ -1,25 +1,21 @@
 -- Content as a chain of steps.
-use Rattle.std.proofs.Common.{◌≡◌, ◌≢◌, ℕ, zero, suc, ◌+◌, ◌<◌, ◌≤◌, ◌==◌, Bool, true, false, not, cond, nat_lt, List, [], ◌∷◌, ◌++◌, length, Result, Ok, Err, refl, sym, ap, ◌∙◌, subst, arith, true≢false, lt-ltb, ltb-true}
-use Rattle.std.specs.List.{list_any}
-use Rattle.rox_grammar.specs.declared.fault.Fault.{Fault}
-use Rattle.rox_grammar.specs.Forest.{Forest, Nil, Cons, join}
-use Rattle.rox_grammar.specs.Written.{Name, Attribute, Tag, Item, Element, Text, Comment, PI, merge, leaf}
+use Rattle.std.proofs.Common.{◌≡◌, ℕ, zero, suc, ◌+◌, ◌<◌, ◌≤◌, Bool, true, false, nat_lt, List, length, Ok, refl, sym, ◌∙◌, subst, arith, true≢false, lt-ltb, ltb-true}
+use Rattle.rox_grammar.specs.Forest.{Forest, Nil, join}
+use Rattle.rox_grammar.specs.Written.{Attribute, Tag, Item, Text, leaf}
 use Rattle.rox_grammar.specs.Tree.{none_if_empty}
-use Rattle.rox_grammar.specs.Names.{byte, slice, spaces_end}
+use Rattle.rox_grammar.specs.Names.{slice, spaces_end}
 use Rattle.rox_grammar.specs.Constructs.{IsEnd}
-use Rattle.rox_grammar.specs.Content.{Value, value_ends, line_end, white, other, a_character, an_entity, IsAttribute, Attributes, no_more, one_more, IsTag, IsMisc, comment, instruction, IsElement, empty, nest, Content, ends, run, cdata, misc, node, literals, line_ends}
+use Rattle.rox_grammar.specs.Content.{Value, value_ends, line_end, white, other, a_character, an_entity, Attributes, no_more, one_more, IsTag, IsMisc, comment, instruction, IsElement, empty, nest, Content, ends, run, cdata, misc, node}
 use Rattle.rox_grammar.specs.Document.{no_entities}
-use Rattle.rox_reading.specs.Markup.{Instruction, EndTag, instruction_at, comment_at, cdata_at, end_tag_at}
-use Rattle.rox_reading.specs.Values.{RunText, run_at}
 use Rattle.rox_reading.specs.State.{Open, root, inside, State, is_root}
 use Rattle.rox_reading.specs.Machine.{step, drive}
 use Rattle.rox_reading.proofs.Forests.{join-nil, join_assoc}
 use Rattle.rox_theory.specs.Agrees.{Agrees}
 use Rattle.rox_theory.specs.Single.{OneTag}
-use Rattle.rox_theory.proofs.Constructions.{Kind, a_run, a_comment, a_cdata, an_instruction, an_end, a_tag, nothing, kind_at, Means, kind_means, name_byte, run_within, run_kind, comment_kind, comment_bytes, cdata_kind, cdata_bytes, instruction_kind, instruction_bytes, end_kind, end_bytes, tag_kind}
+use Rattle.rox_theory.proofs.Constructions.{Kind, a_run, a_comment, a_cdata, an_instruction, an_end, a_tag, kind_at, kind_means, name_byte, run_within, run_kind, comment_kind, comment_bytes, cdata_kind, cdata_bytes, instruction_kind, instruction_bytes, end_kind, end_bytes, tag_kind}
 use Rattle.rox_theory.proofs.Places.{byte_within}
 use Rattle.rox_theory.proofs.Standing.{IsFine}
-use Rattle.rox_theory.proofs.Steps.{bind_ok, chosen, with_leaf, after_tag, closed, Closes, By, step_sound, step_complete, by_back, by_moves, by_one}
+use Rattle.rox_theory.proofs.Steps.{bind_ok, chosen, with_leaf, after_tag, closed, By, step_sound, step_complete, by_back, by_moves, by_one}
 
 -- ---- without entities a derivation takes none of its budget
 
@@ -36,15 +32,31 @@ attributes_free src i k b c as' (no_more _ _) d = no_more i d
 attributes_free src i k b c as' (one_more _ j _ _ e _ a rest spaces is more) d =
     one_more i j k d d d a rest spaces
     (record {
-      starts = is.starts; is_name = is.is_name; v = is.v; eq = is.eq; e = is.e; literal = is.literal; value_start = is.value_start; end = is.end;
-      value = value_free src is.e (is.v + 1) b e a.value is.value d; borrowed = is.borrowed })
+      starts = is.starts;
+      is_name = is.is_name;
+      v = is.v;
+      eq = is.eq;
+      e = is.e;
+      literal = is.literal;
+      value_start = is.value_start;
+      end = is.end;
+      value = value_free src is.e (is.v + 1) b e a.value is.value d;
+      borrowed = is.borrowed;
+    })
     (attributes_free src j k e c rest more d)
 
 pub tag_free : (src : List ℕ) (i j b c : ℕ) (is_empty : Bool) (t : Tag) → IsTag true no_entities src i j b c is_empty t → (d : ℕ) → IsTag true no_entities src i j d d is_empty t
 tag_free src i j b c is_empty t is d =
     record {
-      begins = is.begins; is_name = is.is_name; written = is.written; last = is.last; attributes = attributes_free src t.name_end is.last b c is.written is.attributes d;
-      ends = is.ends; declares = is.declares; has = is.has }
+      begins = is.begins;
+      is_name = is.is_name;
+      written = is.written;
+      last = is.last;
+      attributes = attributes_free src t.name_end is.last b c is.written is.attributes d;
+      ends = is.ends;
+      declares = is.declares;
+      has = is.has;
+    }
 
 abbrev pub state : ℕ → Forest Item → Open → State
 state i done stack = record { at = i; done = done; stack = stack }
@@ -55,7 +67,6 @@ pub data Drives (src : List ℕ) : State → State → Type 0 where
   goes : (s t u : State) → is_root s.stack ≡ false → s.at < length src → By src (kind_at src s.at) s t → Drives src t u → Drives src s u
 
 module _ (src : List ℕ) (agrees : Agrees src) where
-
   -- ---- the chain is what is read
 
   pub drive_sound : (n limit most : ℕ) (s u : State) → limit ≤ most → IsFine most s → drive limit n src s ≡ Ok u → Drives src s u × IsFine most u
@@ -68,12 +79,12 @@ module _ (src : List ℕ) (agrees : Agrees src) where
       chosen (is_root s.stack) _ _ _ h
       (λ at_root h. let e : s ≡ u = cc in subst (λ (u : State). Drives src s u × IsFine most u) e (arrives s at_root, fine))
       (λ inner h. chosen (nat_lt s.at (length src)) _ _ _ h
-          (λ within h. bind_ok (step limit src s) _ _ h (λ t read h.
-              let l = ltb-true _ _ within in
-              let one = step_sound src agrees limit most s t more l fine read in
-              let rest = drive_sound n limit most t u more one.1 h in
-              (goes s t u inner l one.0 rest.0, rest.1)))
-          (λ past h. cc))
+      (λ within h. bind_ok (step limit src s) _ _ h (λ t read h.
+      let l = ltb-true _ _ within in
+      let one = step_sound src agrees limit most s t more l fine read in
+      let rest = drive_sound n limit most t u more one.1 h in
+      (goes s t u inner l one.0 rest.0, rest.1)))
+      (λ past h. cc))
 
   pub drives_back : (limit : ℕ) (s u : State) → Drives src s u → IsFine limit u → IsFine limit s
   drives_back limit s u (arrives _ h) fine = fine
@@ -162,6 +173,8 @@ module _ (src : List ℕ) (agrees : Agrees src) where
       let g = tag_goes (state i before root) j b c x true is in
       (after_tag (state i before root) j x true, g.1, arrives (state j (join before one) root) refl)
   root_drives i j b c one before (nest _ k m p _ _ d _ x kids is inner end) =
-      let g = tag_goes (state i before root) k b d x false is in
-      (after_tag (state i before root) k x false, g.1,
-        content_drives k m d c kids inner Nil i x before root (state j (join before one) root) (end_goes m p j i x kids before root _ end (arrives (state j (join before one) root) refl)))
+      let g = tag_goes (state i before root) k b d x false is in (
+        after_tag (state i before root) k x false,
+        g.1,
+        content_drives k m d c kids inner Nil i x before root (state j (join before one) root) (end_goes m p j i x kids before root _ end (arrives (state j (join before one) root) refl)),
+      )

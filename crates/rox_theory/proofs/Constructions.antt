@@ -1,5 +1,5 @@
 -- Which construct stands at a place of content, by its first bytes.
-use Rattle.std.proofs.Common.{◌≡◌, ◌≢◌, ◌⊎◌, ℕ, zero, suc, ◌+◌, ◌<◌, ◌≤◌, ◌==◌, Bool, true, false, not, cond, List, [], ◌∷◌, length, drop, Result, Err, refl, sym, ap, ◌∙◌, subst, inl, inr, arith, nat_le, eqb-true, eq-eqb, ne_eqb, add-zero}
+use Rattle.std.proofs.Common.{◌≡◌, ◌≢◌, ℕ, ◌+◌, ◌<◌, ◌==◌, Bool, true, false, not, cond, List, ◌∷◌, length, drop, Result, Err, refl, inl, inr, arith, nat_le, eqb-true, eq-eqb, ne_eqb, add-zero}
 use Rattle.std.specs.List.{position_or_len}
 use Rattle.std.proofs.lemmas.Bool.{cases_lt, cond_both, not-true, not-false, leb-false, lt-leb, eqb-false, false_from_ne_true}
 use Rattle.std.proofs.lemmas.List.{drop_all}
@@ -10,10 +10,10 @@ use Rattle.rox_grammar.specs.Chars.{is_name_start}
 use Rattle.rox_grammar.specs.Marks.{stands, byte_from}
 use Rattle.rox_grammar.specs.Words.{word_text}
 use Rattle.rox_grammar.specs.Runs.{begins}
-use Rattle.rox_grammar.specs.Written.{Name, Tag}
+use Rattle.rox_grammar.specs.Written.{Name}
 use Rattle.rox_grammar.specs.Names.{byte, IsQName, unprefixed, prefixed, colon_first}
-use Rattle.rox_grammar.specs.Constructs.{at, IsComment, IsPI, IsCData, IsEnd}
-use Rattle.rox_grammar.specs.Content.{IsRun, IsTag, Opener}
+use Rattle.rox_grammar.specs.Constructs.{at}
+use Rattle.rox_grammar.specs.Content.{IsRun}
 use Rattle.rox_reading.specs.State.{State}
 use Rattle.rox_reading.specs.Machine.{step, run_step, comment_step, cdata_step, instruction_step, end_step, tag_step}
 use Rattle.rox_theory.proofs.Places.{stands_reads, stands_fits, stands_two, begins_with, begins_within, byte_within, here_is}
@@ -80,14 +80,14 @@ kind_means src i =
     cond_both (not (byte src i == 60)) _ _ M
     (λ apart. eqb-false _ _ (not-true _ apart))
     (λ here.
-        let begins : byte src i ≡ 60 = eqb-true _ _ (not-false _ here) in
-        cond_both (nat_le (length src) (i + 1)) _ _ M (λ cut. tt) (λ more.
-            let within : i + 1 < length src = leb-false _ _ more in
-            cond_both (byte src (i + 1) == 33) _ _ M
-            (λ mark. cond_both (at word.CommentStart src i) _ _ M (λ h. h) (λ no. cond_both (at word.CDataStart src i) _ _ M (λ h. h) (λ no. tt)))
-            (λ no. cond_both (byte src (i + 1) == 63) _ _ M
-                (λ mark. stands_two 60 63 src i within begins (eqb-true _ _ mark))
-                (λ no. cond_both (byte src (i + 1) == 47) _ _ M (λ mark. stands_two 60 47 src i within begins (eqb-true _ _ mark)) (λ no. begins)))))
+    let begins : byte src i ≡ 60 = eqb-true _ _ (not-false _ here) in
+    cond_both (nat_le (length src) (i + 1)) _ _ M (λ cut. tt) (λ more.
+    let within : i + 1 < length src = leb-false _ _ more in
+    cond_both (byte src (i + 1) == 33) _ _ M
+    (λ mark. cond_both (at word.CommentStart src i) _ _ M (λ h. h) (λ no. cond_both (at word.CDataStart src i) _ _ M (λ h. h) (λ no. tt)))
+    (λ no. cond_both (byte src (i + 1) == 63) _ _ M
+    (λ mark. stands_two 60 63 src i within begins (eqb-true _ _ mark))
+    (λ no. cond_both (byte src (i + 1) == 47) _ _ M (λ mark. stands_two 60 47 src i within begins (eqb-true _ _ mark)) (λ no. begins)))))
 
 -- the first two bytes of a fixed text
 two : (mark src : List ℕ) (i a b : ℕ) (rest : List ℕ) → mark ≡ a ∷ b ∷ rest → stands mark src i ≡ true
@@ -124,7 +124,7 @@ unfolding is_name_start
 starts_name src i h =
     let within = begins_within is_name_start src i h in
     let apart : (b : ℕ) → b < 128 → is_name_start b ≡ false → byte src i ≢ b = λ b ascii fails e.
-      (let k = begins_with is_name_start src i within (omega arith) in let f : is_name_start (byte src i) ≡ false = rw e fails in cc) in
+    (let k = begins_with is_name_start src i within (omega arith) in let f : is_name_start (byte src i) ≡ false = rw e fails in cc) in
     record { within = within; no_mark = apart 33 (omega arith) refl; no_question = apart 63 (omega arith) refl; no_slash = apart 47 (omega arith) refl }
 
 colon_byte : (src : List ℕ) (i : ℕ) → byte src i ≡ 58 → IsNameByte src i
@@ -142,8 +142,11 @@ unfolding byte_from
 run_within src i j r =
     let some = r.some in let end = r.end in
     elim (cases_lt i (length src)) [
-      | inl l ↦ (l, λ e. let f = eq-eqb _ _ e in
-          let z : position_or_len (λ c. c == 60) (drop i src) ≡ 0 = rw (here_is src i l, f) refl in omega arith)
+      | inl l ↦ (
+        l,
+        λ e. let f = eq-eqb _ _ e in
+            let z : position_or_len (λ c. c == 60) (drop i src) ≡ 0 = rw (here_is src i l, f) refl in omega arith,
+      )
       | inr l ↦ (let z : position_or_len (λ c. c == 60) (drop i src) ≡ 0 = rw (drop_all i src l) refl in absurd (omega arith))
     ]
 
@@ -159,9 +162,9 @@ pub cdata_kind : (src : List ℕ) (i : ℕ) → at word.CDataStart src i ≡ tru
 cdata_kind src i h =
     let b = cdata_bytes src i h in
     let no : at word.CommentStart src i ≡ false = false_from_ne_true _ (λ k.
-      (let c : byte src (i + 2) ≡ 45 = stands_reads (word_text word.CommentStart) src i 2 k (omega arith) in
-      let d : byte src (i + 2) ≡ 91 = stands_reads (word_text word.CDataStart) src i 2 h (omega arith) in
-      omega arith)) in
+    (let c : byte src (i + 2) ≡ 45 = stands_reads (word_text word.CommentStart) src i 2 k (omega arith) in
+    let d : byte src (i + 2) ≡ 91 = stands_reads (word_text word.CDataStart) src i 2 h (omega arith) in
+    omega arith)) in
     rw (eq-eqb _ _ b.1, lt-leb (length src) (i + 1) b.0, eq-eqb _ _ b.2, no, h) refl
 
 pub instruction_kind : (src : List ℕ) (i : ℕ) → at word.PIStart src i ≡ true → kind_at src i ≡ an_instruction

@@ -1,25 +1,21 @@
 -- A chain of steps as content.
-use Rattle.std.proofs.Common.{◌≡◌, ◌≢◌, ℕ, zero, suc, ◌+◌, ◌<◌, ◌≤◌, ◌==◌, Bool, true, false, not, List, [], ◌∷◌, length, Result, Ok, Err, refl, sym, ap, ◌∙◌, subst, arith, true≢false}
+use Rattle.std.proofs.Common.{◌≡◌, ℕ, ◌<◌, ◌==◌, true, false, not, List, length, Ok, refl, sym, ap, ◌∙◌, subst}
 use Rattle.std.specs.List.{list_any}
 use Rattle.rox_grammar.specs.Forest.{Forest, Nil, Cons, join}
 use Rattle.rox_grammar.specs.Written.{Name, Tag, Item, Element, Text, Comment, PI, merge, leaf}
-use Rattle.rox_grammar.specs.Tree.{none_if_empty}
-use Rattle.rox_grammar.specs.Names.{byte, slice, spaces_end}
 use Rattle.rox_grammar.specs.Constructs.{at, IsEnd}
 use Rattle.rox_grammar.specs.Content.{IsTag, IsMisc, comment, instruction, IsElement, empty, nest, Content, ends, run, cdata, misc, node, literals, line_ends}
 use Rattle.rox_grammar.specs.Document.{no_entities}
 use Rattle.rox_grammar.specs.declared.fault.Word.TheVariants as word
-use Rattle.rox_reading.specs.Markup.{Instruction, EndTag, instruction_at, comment_at, cdata_at, end_tag_at}
-use Rattle.rox_reading.specs.Values.{RunText, run_at}
+use Rattle.rox_reading.specs.Markup.{Instruction, instruction_at, comment_at}
 use Rattle.rox_reading.specs.State.{Open, root, inside, State, is_root}
 use Rattle.rox_reading.proofs.Forests.{join-nil, join_assoc}
 use Rattle.rox_theory.specs.Agrees.{Agrees}
 use Rattle.rox_theory.proofs.Constructions.{Kind, a_run, a_comment, a_cdata, an_instruction, an_end, a_tag, nothing, kind_at, Means, kind_means}
-use Rattle.rox_theory.proofs.Steps.{with_leaf, after_tag, closed, Closes, By}
+use Rattle.rox_theory.proofs.Steps.{Closes, By}
 use Rattle.rox_theory.proofs.Chains.{state, Drives, arrives, goes}
 
 module _ (src : List ℕ) (agrees : Agrees src) where
-
   -- how the text has to go on from a state for the root element to end in the last one
   abbrev pub Completes : ℕ → Forest Item → Open → State → Type 0
   Completes i done root u = u ≡ state i done root
@@ -95,9 +91,11 @@ module _ (src : List ℕ) (agrees : Agrees src) where
       → (one : Forest Item) × IsElement true no_entities src i u.at 255 255 one × (u ≡ state u.at (join before one) root)
   root_element i before t u (tag, j, true, stands, is) drives =
       let h : u ≡ state j (join before (leaf (Element i j tag))) root = subst (λ (t : State). Completes t.at t.done t.stack u) is (drives_completes t u drives) in
-      let e : j ≡ u.at = sym (ap (λ (s : State). s.at) h) in
-      (leaf (Element i j tag), subst (λ (k : ℕ). IsElement true no_entities src i k 255 255 (leaf (Element i j tag))) e (empty i j 255 255 tag (stands 255)),
-        h ∙ ap (λ (k : ℕ). state k (join before (leaf (Element i j tag))) root) e)
+      let e : j ≡ u.at = sym (ap (λ (s : State). s.at) h) in (
+        leaf (Element i j tag),
+        subst (λ (k : ℕ). IsElement true no_entities src i k 255 255 (leaf (Element i j tag))) e (empty i j 255 255 tag (stands 255)),
+        h ∙ ap (λ (k : ℕ). state k (join before (leaf (Element i j tag))) root) e,
+      )
   root_element i before t u (tag, j, false, stands, is) drives =
       let h : Completes j Nil (inside i tag before root) u = subst (λ (t : State). Completes t.at t.done t.stack u) is (drives_completes t u drives) in
       nested i j before tag u (stands 255) h

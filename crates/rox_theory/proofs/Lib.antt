@@ -5,3 +5,4 @@ pub mod Steps
 pub mod Chains
 pub mod Derivations
 pub mod Around
+pub mod Whole

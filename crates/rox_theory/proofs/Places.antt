@@ -1,7 +1,5 @@
 -- Bytes, fixed texts and white space at a place.
-use Rattle.std.proofs.Common.{◌≡◌, ◌≢◌, ◌⊎◌, ℕ, zero, suc, ◌+◌, ◌-◌, ◌<◌, ◌≤◌, ◌==◌, ◌||◌, Bool, true, false, cond, List, [], ◌∷◌, ◌++◌, length, get_or, drop, refl, sym, ap, ◌∙◌, subst, inl, inr, add-zero, arith, add_assoc, eqb-true, lt-ltb}
-use Rattle.std.specs.List.{starts_with}
-use Rattle.std.specs.Char.{len_utf8, encode_utf8}
+use Rattle.std.proofs.Common.{◌≡◌, ◌≢◌, ℕ, ◌+◌, ◌<◌, ◌≤◌, ◌==◌, Bool, true, false, List, [], ◌∷◌, ◌++◌, length, get_or, drop, refl, sym, ap, ◌∙◌, subst, inl, inr, arith, eqb-true, lt-ltb}
 use Rattle.std.specs.Str.{chars, IsUtf8, IsCharBoundary, encode_utf8_all, all_scalars}
 use Rattle.std.proofs.lemmas.Str.{chars-nil, chars-encodes, encode_ascii, len_utf8_ascii, IsUtf8-drop}
 use Rattle.std.proofs.lemmas.Bool.{cases_lt, and_parts, or_cases, cases_Bool}
@@ -9,7 +7,6 @@ use Rattle.std.proofs.lemmas.Bool.Decides.{Decides-eqb}
 use Rattle.std.proofs.lemmas.List.{length-drop, drop_more, drop_all, get_or_past}
 use Rattle.std.proofs.lemmas.List.Prefix.{at_reads, front_fits}
 use Rattle.std.proofs.lemmas.Slice.Eq.{starts_is}
-use Rattle.rox_grammar.specs.declared.fault.Word.{Word}
 use Rattle.rox_grammar.specs.Chars.{is_space}
 use Rattle.rox_grammar.specs.Marks.{stands}
 use Rattle.rox_grammar.specs.Runs.{run_end, begins}
@@ -123,18 +120,18 @@ spaces_back src P (c ∷ cs) i is within scalars back =
     let all : chars (drop i src) ≡ c ∷ cs = ap chars is ∙ chars-encodes (c ∷ cs) scalars in
     elim (cases_Bool (is_space c)) [
       | inl space ↦ (
-        let ascii = space_ascii c space in
-        let cut : drop i src ≡ c ∷ encode_utf8_all cs = is ∙ ap (λ (bs : List ℕ). bs ++ encode_utf8_all cs) (encode_ascii c ascii) in
-        let some : i < length src = some_left src i c (encode_utf8_all cs) cut in
-        let same : byte src i ∷ drop (i + 1) src ≡ c ∷ encode_utf8_all cs = sym (here_is src i some) ∙ cut in
-        let first : byte src i ≡ c = cc in
-        let rest : drop (i + 1) src ≡ encode_utf8_all cs = cc in
-        let next = spaces_back src P cs (i + 1) rest (omega arith) (and_parts _ _ scalars).1 back in
-        let e : spaces_end src i ≡ spaces_end src (i + 1) = spaces_on src i (rw first space) in
-        (omega (arith, next.0), λ h. back i (rw first space) (next.1 (subst P e h))))
+          let ascii = space_ascii c space in
+          let cut : drop i src ≡ c ∷ encode_utf8_all cs = is ∙ ap (λ (bs : List ℕ). bs ++ encode_utf8_all cs) (encode_ascii c ascii) in
+          let some : i < length src = some_left src i c (encode_utf8_all cs) cut in
+          let same : byte src i ∷ drop (i + 1) src ≡ c ∷ encode_utf8_all cs = sym (here_is src i some) ∙ cut in
+          let first : byte src i ≡ c = cc in
+          let rest : drop (i + 1) src ≡ encode_utf8_all cs = cc in
+          let next = spaces_back src P cs (i + 1) rest (omega arith) (and_parts _ _ scalars).1 back in
+          let e : spaces_end src i ≡ spaces_end src (i + 1) = spaces_on src i (rw first space) in
+          (omega (arith, next.0), λ h. back i (rw first space) (next.1 (subst P e h))))
       | inr no_space ↦ (
-        let e : spaces_end src i ≡ i = rw (all, no_space) (omega arith) in
-        (omega arith, λ h. subst P e h))
+          let e : spaces_end src i ≡ i = rw (all, no_space) (omega arith) in
+          (omega arith, λ h. subst P e h))
     ]
 
 -- white space, byte by byte, where a character begins

@@ -1,9 +1,9 @@
 -- What holds of a state all along: its names and its limits, and how they grow.
-use Rattle.std.proofs.Common.{◌≡◌, ℕ, zero, suc, ◌+◌, ◌<◌, ◌≤◌, Bool, true, false, cond, List, [], ◌∷◌, ◌++◌, length, refl, sym, ap, ◌∙◌, subst, arith, append_assoc}
+use Rattle.std.proofs.Common.{◌≡◌, ℕ, ◌+◌, ◌≤◌, Bool, true, false, cond, List, [], ◌∷◌, ◌++◌, length, refl, ap, ◌∙◌, arith, append_assoc}
 use Rattle.std.proofs.lemmas.List.{append-nil, length-append}
 use Rattle.std.proofs.lemmas.Bool.{cond_both}
 use Rattle.rox_grammar.specs.Forest.{Forest, Nil, Cons, join, size}
-use Rattle.rox_grammar.specs.Written.{Tag, Item, Element, Declaration, merge, leaf}
+use Rattle.rox_grammar.specs.Written.{Tag, Item, Element, Declaration, merge}
 use Rattle.rox_grammar.specs.Tree.{scope_in, listed}
 use Rattle.rox_grammar.specs.WellNamed.{IsWellNamed, ItemWellNamed, AreWellNamed}
 use Rattle.rox_grammar.specs.Document.{own_pairs, pairs, own_attributes, attribute_count, has_pair, with_new, distinct_pairs, most_attributes, most_pairs}
@@ -79,11 +79,11 @@ pub nodes-element : (stack : Open) (done : Forest Item) (start end : ℕ) (tag :
     → nodes_so_far stack (join done (Cons (Element start end tag) kids Nil)) ≡ nodes_so_far stack done + (1 + size kids)
 nodes-element root done start end tag kids =
     let e : size (merge (join done (Cons (Element start end tag) kids Nil))) ≡ size (merge done) + size (Cons (Element start end tag) kids Nil) =
-      ap size (merge-item done (Element start end tag) kids refl) ∙ size-join (merge done) (Cons (Element start end tag) kids Nil) in
+    ap size (merge-item done (Element start end tag) kids refl) ∙ size-join (merge done) (Cons (Element start end tag) kids Nil) in
     omega arith
 nodes-element (inside a b before up) done start end tag kids =
     let e : size (merge (join done (Cons (Element start end tag) kids Nil))) ≡ size (merge done) + size (Cons (Element start end tag) kids Nil) =
-      ap size (merge-item done (Element start end tag) kids refl) ∙ size-join (merge done) (Cons (Element start end tag) kids Nil) in
+    ap size (merge-item done (Element start end tag) kids refl) ∙ size-join (merge done) (Cons (Element start end tag) kids Nil) in
     omega arith
 
 pub nodes-grow : (stack : Open) (done more : Forest Item) → nodes_so_far stack done ≤ nodes_so_far stack (join done more)

@@ -1,29 +1,28 @@
 -- One step, apart from its limits.
-use Rattle.std.proofs.Common.{◌≡◌, ◌≢◌, ℕ, zero, suc, ◌+◌, ◌<◌, ◌≤◌, ◌==◌, Bool, true, false, not, ◌&&◌, cond, nat_le, List, [], ◌∷◌, ◌++◌, length, Result, Ok, Err, refl, sym, ap, ◌∙◌, subst, arith, append_assoc, le-leb, leb-true, bytes_eq}
+use Rattle.std.proofs.Common.{◌≡◌, ℕ, ◌+◌, ◌<◌, ◌≤◌, ◌==◌, Bool, true, false, not, cond, nat_le, List, [], ◌++◌, length, Result, Ok, Err, refl, sym, ap, ◌∙◌, subst, arith, le-leb, leb-true}
 use Rattle.std.specs.List.{list_any}
 use Rattle.std.proofs.lemmas.List.{append-nil}
 use Rattle.std.proofs.lemmas.Bool.{and_parts, and_from}
 use Rattle.std.proofs.lemmas.Slice.Eq.{bytes_eq-Decides}
 use Rattle.rox_grammar.specs.declared.fault.Fault.{Fault}
-use Rattle.rox_grammar.specs.declared.fault.Fault.TheVariants as fault
-use Rattle.rox_grammar.specs.Forest.{Forest, Nil, Cons, join, size}
+use Rattle.rox_grammar.specs.Forest.{Forest, Nil, Cons, join}
 use Rattle.rox_grammar.specs.Written.{Name, Tag, Item, Element, Text, Comment, PI, Declaration, merge, leaf}
 use Rattle.rox_grammar.specs.Tree.{scope_in, listed}
 use Rattle.rox_grammar.specs.Names.{byte}
 use Rattle.rox_grammar.specs.Content.{IsTag, literals, line_ends}
-use Rattle.rox_grammar.specs.WellNamed.{IsWellNamed, ItemWellNamed}
-use Rattle.rox_grammar.specs.Document.{no_entities, listable, own_pairs, own_attributes, pairs, attribute_count, with_new, distinct_pairs, most_attributes, most_pairs}
-use Rattle.rox_reading.specs.Lexical.{Read, ◌>>=◌}
+use Rattle.rox_grammar.specs.WellNamed.{ItemWellNamed}
+use Rattle.rox_grammar.specs.Document.{no_entities, listable, own_pairs, own_attributes, with_new, distinct_pairs, most_attributes, most_pairs}
+use Rattle.rox_reading.specs.Lexical.{◌>>=◌}
 use Rattle.rox_reading.specs.Markup.{comment_at, Instruction, instruction_at, cdata_at, EndTag, end_tag_at}
 use Rattle.rox_reading.specs.Values.{RunText, run_at}
 use Rattle.rox_reading.specs.Tags.{tag_at}
 use Rattle.rox_reading.specs.State.{Open, root, inside, State, scope_of, nodes_so_far, attributes_so_far, pairs_so_far}
 use Rattle.rox_reading.specs.Machine.{counted, with_item, run_step, comment_step, cdata_step, instruction_step, end_step, tag_step, opened_by, closed_by, cut_off, same_name, step}
 use Rattle.rox_reading.proofs.Forests.{attribute_count-merge, pairs-merge, named-merge, merge-named}
-use Rattle.rox_theory.specs.Agrees.{Agrees, TagStands}
+use Rattle.rox_theory.specs.Agrees.{Agrees}
 use Rattle.rox_theory.specs.Single.{OneTag}
 use Rattle.rox_theory.proofs.Constructions.{Kind, a_run, a_comment, a_cdata, an_instruction, an_end, a_tag, nothing, kind_at, step_by, step_is, Means, kind_means}
-use Rattle.rox_theory.proofs.Standing.{AreNamed, IsFine, distinct-append, distinct-grows, attributes-item, pairs-item, named-item, item-named, nodes-element, nodes-grow}
+use Rattle.rox_theory.proofs.Standing.{IsFine, distinct-append, distinct-grows, attributes-item, pairs-item, named-item, item-named, nodes-element, nodes-grow}
 
 pub bind_ok : {A B P : Type 0} (r : Result A Fault) (f : A → Result B Fault) (y : B) → (r >>= f) ≡ Ok y → ((x : A) → r ≡ Ok x → f x ≡ Ok y → P) → P
 bind_ok (Ok x) f y h go = go x refl h
@@ -81,14 +80,15 @@ fine_leaf limit s j item fine =
     let e : pairs_so_far s.stack (join s.done (leaf item)) ≡ pairs_so_far s.stack s.done ++ own_pairs item = pairs-item s.stack s.done item Nil ∙ ap (λ (ds : List Declaration). pairs_so_far s.stack s.done ++ ds) (append-nil (own_pairs item)) in
     let all : length (distinct_pairs (pairs_so_far s.stack s.done ++ own_pairs item)) ≤ most_pairs = rw e at fine.pairs in
     let named = item-named s.stack s.done item Nil fine.named in
-    let sum = attributes-item s.stack s.done item Nil in
-    (record {
-      nodes = omega (arith, nodes-grow s.stack s.done (leaf item), fine.nodes);
-      attributes = omega (arith, fine.attributes);
-      pairs = omega (arith, distinct-grows (pairs_so_far s.stack s.done) (own_pairs item));
-      named = named.0;
-    },
-    record { attributes = omega (arith, fine.attributes); pairs = rw distinct-append at all; named = named.1 })
+    let sum = attributes-item s.stack s.done item Nil in (
+      record {
+        nodes = omega (arith, nodes-grow s.stack s.done (leaf item), fine.nodes);
+        attributes = omega (arith, fine.attributes);
+        pairs = omega (arith, distinct-grows (pairs_so_far s.stack s.done) (own_pairs item));
+        named = named.0;
+      },
+      record { attributes = omega (arith, fine.attributes); pairs = rw distinct-append at all; named = named.1 },
+    )
 
 -- an item that declares nothing and has no attributes
 plain_adds : (limit : ℕ) (s : State) (item : Item) → own_attributes item ≡ 0 → own_pairs item ≡ [] → ItemWellNamed (scope_in (scope_of s.stack) item) item → IsFine limit s → Adds s item
@@ -106,14 +106,15 @@ opened_fine limit s j tag end fine adds nodes =
 
 pub fine_opened : (limit : ℕ) (s : State) (j : ℕ) (tag : Tag) (end : ℕ) → IsFine limit (after_tag s j tag false) → IsFine limit s × Adds s (Element s.at end tag)
 fine_opened limit s j tag end fine =
-    let all : length (distinct_pairs (pairs_so_far s.stack s.done ++ listable tag)) ≤ most_pairs = rw (append-nil (listable tag)) at fine.pairs in
-    (record {
-      nodes = omega (arith, fine.nodes);
-      attributes = omega (arith, fine.attributes);
-      pairs = omega (arith, distinct-grows (pairs_so_far s.stack s.done) (listable tag));
-      named = fine.named.0;
-    },
-    record { attributes = omega (arith, fine.attributes); pairs = rw distinct-append at all; named = fine.named.1 })
+    let all : length (distinct_pairs (pairs_so_far s.stack s.done ++ listable tag)) ≤ most_pairs = rw (append-nil (listable tag)) at fine.pairs in (
+      record {
+        nodes = omega (arith, fine.nodes);
+        attributes = omega (arith, fine.attributes);
+        pairs = omega (arith, distinct-grows (pairs_so_far s.stack s.done) (listable tag));
+        named = fine.named.0;
+      },
+      record { attributes = omega (arith, fine.attributes); pairs = rw distinct-append at all; named = fine.named.1 },
+    )
 
 closed_pairs : (j : ℕ) (done : Forest Item) (start : ℕ) (tag : Tag) (before : Forest Item) (up : Open)
     → pairs_so_far up (join before (Cons (Element start j tag) (merge done) Nil)) ≡ pairs_so_far (inside start tag before up) done
@@ -158,7 +159,6 @@ names_same : (m n : Name) → m ≡ n → same_name m n ≡ true
 names_same m n h = and_from _ _ ((bytes_eq-Decides m.prefix n.prefix).1 (ap (λ (x : Name). x.prefix) h)) ((bytes_eq-Decides m.local n.local).1 (ap (λ (x : Name). x.local) h))
 
 module _ (src : List ℕ) where
-
   -- the construct of a kind leads from a state to a state
   abbrev pub By : Kind → State → State → Type 0
   By a_run s t = (x : RunText) × (j : ℕ) × (run_at src s.at ≡ Ok (x, j)) × (t ≡ with_leaf s j (Text s.at j x.value x.plain))
@@ -171,7 +171,6 @@ module _ (src : List ℕ) where
   By nothing s t = ⊥
 
   module _ (agrees : Agrees src) where
-
     -- a plain item that is read
     pub item_read : (limit most : ℕ) (s t : State) (j : ℕ) (item : Item) → limit ≤ most → own_attributes item ≡ 0 → own_pairs item ≡ [] → ItemWellNamed (scope_in (scope_of s.stack) item) item
         → IsFine most s → with_item limit s j item ≡ Ok t → (t ≡ with_leaf s j item) × IsFine most t
@@ -196,7 +195,7 @@ module _ (src : List ℕ) where
     closed_read i name n j limit done (inside start tag before up) t fine h =
         chosen (same_name tag.name name) _ _ _ h
         (λ same h. let e : closed j done start tag before up ≡ t = cc in
-          ((same_names tag.name name same, sym e), subst (IsFine limit) e (closed_fine limit i j done start tag before up fine)))
+        ((same_names tag.name name same, sym e), subst (IsFine limit) e (closed_fine limit i j done start tag before up fine)))
         (λ apart h. cc)
 
     pub tag_read : (limit most : ℕ) (s t : State) → limit ≤ most → byte src s.at ≡ 60 → IsFine most s → tag_step limit src s ≡ Ok t → By a_tag s t × IsFine most t
