@@ -6,3 +6,4 @@ pub mod LiteralLemmas
 pub mod DeclarationLemmas
 pub mod ReferenceLemmas
 pub mod PartLemmas
+pub mod RunLemmas

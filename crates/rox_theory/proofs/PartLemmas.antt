@@ -84,7 +84,7 @@ module _ (src : List ℕ) (utf8 : IsUtf8 src) (stop : ℕ) (long : stop ≤ leng
   next_part i ss below other (from_reference _ n c rest r inside p) = absurd (other (character_opens src i c n r).0)
 
   -- the signs of a stretch of ordinary bytes, one more by one
-  stretch_on : (d i j : ℕ) (ss : List Sign) → i + d ≡ j → j ≤ stop → ((k : ℕ) → i ≤ k → k < j → ordinary (byte src k) ≡ false) → Part true src stop j ss
+  pub stretch_on : (d i j : ℕ) (ss : List Sign) → i + d ≡ j → j ≤ stop → ((k : ℕ) → i ≤ k → k < j → ordinary (byte src k) ≡ false) → Part true src stop j ss
       → (front : List Sign) × Part true src stop i front × (line_ends front ≡ slice src i j ++ line_ends ss)
   stretch_on zero i j ss to inside plain p =
       let e : j ≡ i = omega arith in
@@ -97,7 +97,7 @@ module _ (src : List ℕ) (utf8 : IsUtf8 src) (stop : ℕ) (long : stop ≤ leng
         literal_ends (byte src i) ih.0 (eqb-false _ _ here.1) ∙ ap (λ (r : List ℕ). byte src i ∷ r) ih.2 ∙ ap (λ (r : List ℕ). r ++ line_ends ss) (sym (slice_cons src i j (omega arith) (omega arith))),
       )
 
-  stretch_off : (d i j : ℕ) (ss : List Sign) → i + d ≡ j → j ≤ stop → ((k : ℕ) → i ≤ k → k < j → ordinary (byte src k) ≡ false) → Part true src stop i ss
+  pub stretch_off : (d i j : ℕ) (ss : List Sign) → i + d ≡ j → j ≤ stop → ((k : ℕ) → i ≤ k → k < j → ordinary (byte src k) ≡ false) → Part true src stop i ss
       → (rest : List Sign) × Part true src stop j rest × (line_ends ss ≡ slice src i j ++ line_ends rest)
   stretch_off zero i j ss to inside plain p =
       let e : i ≡ j = omega arith in
