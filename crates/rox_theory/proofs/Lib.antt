@@ -4,6 +4,7 @@ pub mod CharLemmas
 pub mod MarkupLemmas
 pub mod LiteralLemmas
 pub mod DeclarationLemmas
+pub mod StretchLemmas
 pub mod ReferenceLemmas
 pub mod PartLemmas
 pub mod RunLemmas

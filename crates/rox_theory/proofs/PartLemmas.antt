@@ -18,13 +18,8 @@ use Rattle.rox_reading.specs.Lexical.{◌>>=◌}
 use Rattle.rox_reading.specs.Values.{expansion_at, run_part_at, run_text}
 use Rattle.rox_theory.proofs.Basics.{ok_same, bind_ok, chosen, within}
 use Rattle.rox_theory.proofs.NameLemmas.{slice_nil}
-use Rattle.rox_theory.proofs.LiteralLemmas.{from_le, from_bound, from_before, from_here}
+use Rattle.rox_theory.proofs.StretchLemmas.{slice_cons, next_at, next_bound, next_before, next_more, follows, follows_not}
 use Rattle.rox_theory.proofs.ReferenceLemmas.{IsStop, expansion_sound, expansion_complete, character_opens, character_inside}
-
-pub slice_cons : (src : List ℕ) (i j : ℕ) → i < j → j ≤ length src → slice src i j ≡ byte src i ∷ slice src (i + 1) j
-slice_cons src i j some inside =
-    let e : j - i ≡ suc (j - (i + 1)) = omega arith in
-    rw (drop_more src i 0 (omega arith), e) refl
 
 pub encode_some : (c : ℕ) → 0 < length (encode_utf8 c)
 encode_some c = omega (arith, length-encode c, len_utf8_bounds c)
@@ -55,23 +50,6 @@ cr_ends a ss cr after = rw (cr, after) refl
 
 joined : (x r v a s : List ℕ) → x ++ r ≡ v → x ≡ a → r ≡ s → v ≡ a ++ s
 joined x r v a s h p q = cc
-
-any_none : (p : ℕ → Bool) (bs : List ℕ) (k : ℕ) → list_any p bs ≡ false → k < length bs → p (get_or bs k 0) ≡ false
-any_none p [] k h below = absurd (omega arith)
-any_none p (b ∷ bs) zero h below = (or_parts (p b) (list_any p bs) h).0
-any_none p (b ∷ bs) (suc k) h below = any_none p bs k (or_parts (p b) (list_any p bs) h).1 (omega arith)
-
-pub slice_length : (src : List ℕ) (i j : ℕ) → i ≤ j → j ≤ length src → length (slice src i j) ≡ j - i
-slice_length src i j le inside = length-take-le (j - i) (drop i src) (rw length-drop (omega arith))
-
--- none of the bytes of a slice passes
-pub slice_none : (p : ℕ → Bool) (src : List ℕ) (i j k : ℕ) → j ≤ length src → list_any p (slice src i j) ≡ false → i ≤ k → k < j → p (byte src k) ≡ false
-slice_none p src i j k inside h from below =
-    let long = slice_length src i j (omega arith) inside in
-    let q = any_none p (slice src i j) (k - i) h (omega arith) in
-    let at : get_or (slice src i j) (k - i) 0 ≡ byte src (i + (k - i)) = get_or-take (j - i) (drop i src) (k - i) 0 (omega arith) ∙ get_or-drop i src (k - i) 0 in
-    let e : i + (k - i) ≡ k = omega arith in
-    rw (e) at (rw at at q)
 
 -- a byte that is neither `&` nor CR
 abbrev pub ordinary : ℕ → Bool
@@ -118,42 +96,6 @@ module _ (src : List ℕ) (utf8 : IsUtf8 src) (stop : ℕ) (long : stop ≤ leng
   no_line_feed i ss none (as_written _ rest lt no_amp p) = let n = ne_eqb (byte src i) 10 (none lt) in rw n refl
   no_line_feed i ss none (from_reference _ n c rest r inside p) = kept_after (encode_utf8 c) rest (encode_some c)
 
-  -- where a stretch ends
-  abbrev next_at : ℕ → ℕ
-  next_at i = byte_from ordinary (take stop src) i
-
-  taken : length (take stop src) ≡ stop
-  taken = length-take-le stop src long
-
-  next_bound : (i : ℕ) → i ≤ stop → next_at i ≤ stop
-  next_bound i below = omega (arith, taken, from_bound ordinary (take stop src) i (rw taken below))
-
-  next_before : (i k : ℕ) → i ≤ stop → i ≤ k → k < next_at i → ordinary (byte src k) ≡ false
-  next_before i k inside from below = rw (get_or-take stop src k 0 (omega (arith, next_bound i inside))) at (from_before ordinary (take stop src) i k from below)
-
-  next_more : (i : ℕ) → i < stop → ordinary (byte src i) ≡ false → i < next_at i
-  next_more i below plain =
-      let le = from_le ordinary (take stop src) i in
-      elim (cases_lt i (next_at i)) as (λ s. i < next_at i) [
-        | inl l ↦ l
-        | inr g ↦ absurd (
-            let e : next_at i ≡ i = omega arith in
-            let h = from_here ordinary (take stop src) i (omega (arith, taken)) in
-            let h' : ordinary (byte src i) ≡ true = rw (e, get_or-take stop src i 0 below) at h in
-            false≢true (sym plain ∙ h'))
-      ]
-
-  follows : (i : ℕ) → eqb (byte (take stop src) i) 10 ≡ true → (i < stop) × (byte src i ≡ 10)
-  follows i h =
-      let e = eqb-true _ _ h in
-      elim (cases_lt i stop) as (λ s. (i < stop) × (byte src i ≡ 10)) [
-        | inl l ↦ (l, sym (get_or-take stop src i 0 l) ∙ e)
-        | inr g ↦ absurd (let z : byte (take stop src) i ≡ 0 = get_or_past (take stop src) i 0 (omega (arith, taken)) in omega arith)
-      ]
-
-  follows_not : (i : ℕ) → eqb (byte (take stop src) i) 10 ≡ false → i < stop → byte src i ≢ 10
-  follows_not i h l e = eqb-false _ _ h (get_or-take stop src i 0 l ∙ e)
-
   pub run_text_sound : (n i : ℕ) (v : List ℕ) → i ≤ stop → stop ≤ i + n → run_text n src stop i ≡ Ok v → (ss : List Sign) × Part true src stop i ss × (v ≡ line_ends ss)
   unfolding run_text run_part_at
   run_text_sound zero i v to enough h =
@@ -177,7 +119,7 @@ module _ (src : List ℕ) (utf8 : IsUtf8 src) (stop : ℕ) (long : stop ≤ leng
       let bytes : 10 ∷ [] ≡ x.0 = ap (λ p. p.0) (ok_same _ _ part) in
       chosen (eqb (byte (take stop src) (i + 1)) 10) (i + 2) (i + 1) x.1 (ap (λ p. p.1) (ok_same _ _ part))
       (λ lf next.
-      let f = follows (i + 1) lf in
+      let f = follows src stop long (i + 1) lf in
       let two : i + 1 + 1 ≡ x.1 = omega arith in
       let ih = run_text_sound n x.1 rest (omega arith) (omega arith) more in
       let p = subst (λ (m : ℕ). Part true src stop m ih.0) (sym two) ih.1 in (
@@ -188,21 +130,21 @@ module _ (src : List ℕ) (utf8 : IsUtf8 src) (stop : ℕ) (long : stop ≤ leng
       (λ no_lf next.
       let ih = run_text_sound n x.1 rest (omega arith) (omega arith) more in
       let p = subst (λ (m : ℕ). Part true src stop m ih.0) (sym next) ih.1 in
-      let after = no_line_feed (i + 1) ih.0 (follows_not (i + 1) no_lf) p in (
+      let after = no_line_feed (i + 1) ih.0 (follows_not src stop long (i + 1) no_lf) p in (
         literal (byte src i) ∷ ih.0,
         as_written i ih.0 below (eqb-false _ _ no_amp) p,
         joined x.0 rest v (10 ∷ []) (line_ends ih.0) v_is (sym bytes) ih.2 ∙ sym (cr_ends (byte src i) ih.0 cr after),
       )))
       (λ no_cr part.
       let plain = or_from (eqb (byte src i) 38) (eqb (byte src i) 13) no_amp no_cr in
-      let bytes : slice src i (next_at i) ≡ x.0 = ap (λ p. p.0) (ok_same _ _ part) in
-      let next : next_at i ≡ x.1 = ap (λ p. p.1) (ok_same _ _ part) in
-      let bound = next_bound i to in
-      let progress = next_more i below plain in
+      let bytes : slice src i (next_at src stop ordinary i) ≡ x.0 = ap (λ p. p.0) (ok_same _ _ part) in
+      let next : next_at src stop ordinary i ≡ x.1 = ap (λ p. p.1) (ok_same _ _ part) in
+      let bound = next_bound src stop long ordinary i to in
+      let progress = next_more src stop long ordinary i below plain in
       let ih = run_text_sound n x.1 rest (omega arith) (omega arith) more in
       let p = subst (λ (m : ℕ). Part true src stop m ih.0) (sym next) ih.1 in
-      let s = stretch_on (next_at i - i) i (next_at i) ih.0 (omega arith) bound (λ k from lt. next_before i k to from lt) p in
-      (s.0, s.1, joined x.0 rest v (slice src i (next_at i)) (line_ends ih.0) v_is (sym bytes) ih.2 ∙ sym s.2))))))
+      let s = stretch_on (next_at src stop ordinary i - i) i (next_at src stop ordinary i) ih.0 (omega arith) bound (λ k from lt. next_before src stop long ordinary i k to from lt) p in
+      (s.0, s.1, joined x.0 rest v (slice src i (next_at src stop ordinary i)) (line_ends ih.0) v_is (sym bytes) ih.2 ∙ sym s.2))))))
       (λ past h.
       let e : stop ≡ i = omega (arith, ltb-false _ _ past) in
       ([], subst (λ (m : ℕ). Part true src stop m []) e part_ends, sym (ok_same _ _ h)))
@@ -215,7 +157,7 @@ module _ (src : List ℕ) (utf8 : IsUtf8 src) (stop : ℕ) (long : stop ≤ leng
   unfolding run_part_at
   cr_part i amp cr lf = rw (amp, cr, lf) refl
 
-  plain_part : (i : ℕ) → eqb (byte src i) 38 ≡ false → eqb (byte src i) 13 ≡ false → run_part_at src stop i ≡ Ok (slice src i (next_at i), next_at i)
+  plain_part : (i : ℕ) → eqb (byte src i) 38 ≡ false → eqb (byte src i) 13 ≡ false → run_part_at src stop i ≡ Ok (slice src i (next_at src stop ordinary i), next_at src stop ordinary i)
   unfolding run_part_at
   plain_part i amp cr = rw (amp, cr) refl
 
@@ -245,22 +187,22 @@ module _ (src : List ℕ) (utf8 : IsUtf8 src) (stop : ℕ) (long : stop ≤ leng
       elim (cases_Bool (eqb (byte src i) 13)) as (λ s. run_text (suc n) src stop i ≡ Ok (line_ends (literal (byte src i) ∷ rest))) [
         | inl cr ↦ elim (cases_Bool (eqb (byte (take stop src) (i + 1)) 10)) as (λ s. run_text (suc n) src stop i ≡ Ok (line_ends (literal (byte src i) ∷ rest))) [
           | inl lf ↦ (
-              let f = follows (i + 1) lf in
+              let f = follows src stop long (i + 1) lf in
               let one = next_part (i + 1) rest f.0 (λ z. omega arith) p in
               let two : i + 1 + 1 ≡ i + 2 = omega arith in
               let ih = run_text_complete n (i + 2) one.0 (omega arith) (omega arith) (subst (λ (m : ℕ). Part true src stop m one.0) two one.2) in
               text_on n i (i + 2) (10 ∷ []) (line_ends one.0) lt (cr_lf_part i amp cr lf) ih
               ∙ ap Ok (sym (ap (λ (ss : List Sign). line_ends (literal (byte src i) ∷ ss)) one.1 ∙ crlf_ends (byte src i) (byte src (i + 1)) one.0 cr f.1)))
           | inr no_lf ↦ (
-              let after = no_line_feed (i + 1) rest (follows_not (i + 1) no_lf) p in
+              let after = no_line_feed (i + 1) rest (follows_not src stop long (i + 1) no_lf) p in
               let ih = run_text_complete n (i + 1) rest (omega arith) (omega arith) p in
               text_on n i (i + 1) (10 ∷ []) (line_ends rest) lt (cr_part i amp cr no_lf) ih ∙ ap Ok (sym (cr_ends (byte src i) rest cr after)))
         ]
         | inr no_cr ↦ (
             let plain = or_from (eqb (byte src i) 38) (eqb (byte src i) 13) amp no_cr in
-            let bound = next_bound i to in
-            let progress = next_more i lt plain in
-            let s = stretch_off (next_at i - i) i (next_at i) (literal (byte src i) ∷ rest) (omega arith) bound (λ k from lt. next_before i k to from lt) (as_written i rest lt no_amp p) in
-            let ih = run_text_complete n (next_at i) s.0 bound (omega arith) s.1 in
-            text_on n i (next_at i) (slice src i (next_at i)) (line_ends s.0) lt (plain_part i amp no_cr) ih ∙ ap Ok (sym s.2))
+            let bound = next_bound src stop long ordinary i to in
+            let progress = next_more src stop long ordinary i lt plain in
+            let s = stretch_off (next_at src stop ordinary i - i) i (next_at src stop ordinary i) (literal (byte src i) ∷ rest) (omega arith) bound (λ k from lt. next_before src stop long ordinary i k to from lt) (as_written i rest lt no_amp p) in
+            let ih = run_text_complete n (next_at src stop ordinary i) s.0 bound (omega arith) s.1 in
+            text_on n i (next_at src stop ordinary i) (slice src i (next_at src stop ordinary i)) (line_ends s.0) lt (plain_part i amp no_cr) ih ∙ ap Ok (sym s.2))
       ]

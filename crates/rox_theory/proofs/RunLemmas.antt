@@ -21,7 +21,8 @@ use Rattle.rox_reading.specs.Values.{RunText, run_text, run_at}
 use Rattle.rox_theory.proofs.Basics.{ok_same, bind_ok, chosen, chars_sound, chars_complete}
 use Rattle.rox_theory.proofs.LiteralLemmas.{from_le, from_bound, from_before, from_here}
 use Rattle.rox_theory.proofs.ReferenceLemmas.{IsStop, character_opens}
-use Rattle.rox_theory.proofs.PartLemmas.{slice_none, encode_some, ordinary, stretch_on, stretch_off, run_text_sound, run_text_complete}
+use Rattle.rox_theory.proofs.StretchLemmas.{slice_none}
+use Rattle.rox_theory.proofs.PartLemmas.{encode_some, ordinary, stretch_on, stretch_off, run_text_sound, run_text_complete}
 
 signs_piece : (a b : ℕ) (plain : Bool) (bs : List ℕ) (ss : List Sign) → 0 < length bs → piece a b plain (signs_of true bs ++ ss) ≡ leaf (Text a b (line_ends (signs_of true bs ++ ss)) plain)
 signs_piece a b plain [] ss some = absurd (omega arith)
