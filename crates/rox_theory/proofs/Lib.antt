@@ -8,3 +8,4 @@ pub mod StretchLemmas
 pub mod ReferenceLemmas
 pub mod PartLemmas
 pub mod RunLemmas
+pub mod ValueLemmas

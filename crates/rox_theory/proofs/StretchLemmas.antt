@@ -30,13 +30,11 @@ slice_none p src i j k inside h from below =
     rw (e) at (rw at at q)
 
 module _ (src : List ℕ) (stop : ℕ) where
-
   -- where a stretch ends
   abbrev pub next_at : (ℕ → Bool) → ℕ → ℕ
   next_at p i = byte_from p (take stop src) i
 
 module _ (src : List ℕ) (stop : ℕ) (long : stop ≤ length src) where
-
   taken : length (take stop src) ≡ stop
   taken = length-take-le stop src long
 
