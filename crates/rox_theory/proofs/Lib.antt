@@ -1,3 +1,14 @@
+pub mod Basics
+pub mod NameLemmas
+pub mod CharLemmas
+pub mod MarkupLemmas
+pub mod LiteralLemmas
+pub mod DeclarationLemmas
+pub mod StretchLemmas
+pub mod ReferenceLemmas
+pub mod PartLemmas
+pub mod RunLemmas
+pub mod ValueLemmas
 pub mod Places
 pub mod Constructions
 pub mod Standing

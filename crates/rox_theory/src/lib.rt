@@ -3,3 +3,4 @@
 #![tactic(auto)]
 
 pub mod document;
+pub mod laws;
