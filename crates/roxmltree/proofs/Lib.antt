@@ -1,0 +1,6 @@
+pub mod Preorder
+pub mod Siblings
+pub mod Rows
+pub mod Bare
+pub mod Ends
+pub mod Ranges

@@ -1,0 +1,13 @@
+pub mod Places
+pub mod Says
+pub mod Bare
+pub mod Flat
+pub mod Doc
+pub mod Whole
+pub mod Words
+pub mod Spot
+pub mod Elements
+pub mod Walk
+pub mod Left
+pub mod Range
+pub mod Axis

@@ -1,0 +1,138 @@
+//! A document: the tables of its nodes, seen by callers as the one tree that they hold.
+
+ghost use Rattle.std.specs.Prelude.{◌≡◌, ◌+◌, ◌^◌, ◌<◌, ◌≤◌, ℕ, length, Some, None, IfSome, IfNone};
+ghost use Rattle.rox_grammar.specs.Forest.{Forest, size};
+ghost use Rattle.roxmltree.specs.Places.{place, parent};
+ghost use Rattle.roxmltree.specs.Says.{node_at};
+
+use crate::nodes::{Node, NodeId};
+use crate::walks::Descendants;
+use rox_build::tables::{NodeData, Tables};
+use std::fmt;
+use std::marker::Model;
+
+/// An XML document as a read-only tree of nodes.
+#[derive(Drop)]
+pub struct Document<'input> {
+    text: &'input str,
+    tables: Tables<'input>,
+    key: u64,
+}
+
+impl<'input> Model for Document<'input> {
+    ghost use Rattle.roxmltree.specs.Doc.{Doc, doc_code};
+
+    ghost Value = { Doc };
+
+    ghost coded = { doc_code };
+
+    ghost use Rattle.roxmltree.specs.Whole.{doc_of, IsSound};
+
+    ghost view = { doc_of };
+
+    ghost invariant = { IsSound };
+}
+
+impl fmt::Debug for Document<'_> {
+    fn fmt<W: fmt::Write>(&self, f: &mut fmt::Formatter<W>) -> fmt::Result {
+        let count = self.count();
+        write!(f, "Document of {count} nodes")
+    }
+}
+
+impl<'input> Document<'input> {
+    ghost use Rattle.rox_grammar.specs.Tree as grammar;
+    ghost use Rattle.rox_build.specs.Lines.{Holds};
+    ghost use Rattle.roxmltree.specs.Whole.{IsDocument};
+    ghost use Rattle.roxmltree.specs.Bare.{bare, bare_row};
+    ghost use Rattle.roxmltree.specs.Spot.{number, spots, id_of, document_of};
+
+    /// The document of a text, from the tables of its tree.
+    pub(crate) fn from_tables(
+        text: &'input str,
+        key: u64,
+        tables: Tables<'input>,
+    ) -> Document<'input>
+        ghost tree: { Forest grammar.Node }
+        requires tables { Holds tables tree }
+        requires document { IsDocument (length text.now) tree }
+        ensures tree { result.tree ≡ tree }
+        ensures text { result.text ≡ text.now }
+        ensures key { result.key ≡ key }
+    {
+        Document { text, tables, key }
+    }
+
+    /// How many nodes there are.
+    #[inline]
+    pub(crate) fn count(&self) -> usize
+        ensures value { result ≡ size self.now.tree }
+        ensures few { result < 2 ^ 32 }
+    {
+        self.tables.nodes.len()
+    }
+
+    /// The row of a node.
+    #[inline]
+    pub(crate) fn row(&self, id: NodeId) -> &NodeData<'input>
+        requires { number id < size self.now.tree }
+        ensures no_parent { result.now.depth ≡ 0 → parent self.now.tree (number id) ≡ None }
+        ensures parent { 0 < result.now.depth → parent self.now.tree (number id) ≡ Some result.now.parent }
+        ensures next { result.now.next ≡ number id + (place self.now.tree (number id)).count }
+        ensures depth { result.now.depth ≡ length (place self.now.tree (number id)).above }
+        ensures item { bare_row result.now.start result.now.end result.now.kind ≡ bare (node_at self.now.tree (number id)) }
+        ensures few { size self.now.tree < 2 ^ 32 }
+    {
+        &self.tables.nodes[id.0 as usize]
+    }
+
+    /// What the caller gave to tell this document's nodes from those of others.
+    #[inline]
+    pub(crate) fn key(&self) -> u64
+        ensures { result ≡ self.now.key }
+    {
+        self.key
+    }
+
+    /// The text that was parsed.
+    #[inline]
+    pub fn input_text(&self) -> &'input str
+        ensures { result.now ≡ self.now.text }
+    {
+        self.text
+    }
+
+    /// The root node, the parent of all top nodes. Its id is 0.
+    #[inline]
+    pub fn root(&self) -> Node<'_, 'input>
+        ensures id { id_of result ≡ 0 }
+        ensures document { document_of result ≡ self.now }
+    {
+        let _ = &self.tables;
+        Node {
+            document: self,
+            id: NodeId(0),
+        }
+    }
+
+    /// The node of an id, if the document has one.
+    #[inline]
+    pub fn get_node(&self, id: NodeId) -> Option<Node<'_, 'input>>
+        ensures some { IfSome result (λ node. (number id < size self.now.tree) × (id_of node ≡ number id) × (document_of node ≡ self.now)) }
+        ensures none { IfNone result (size self.now.tree ≤ number id) }
+    {
+        if (id.0 as usize) < self.count() {
+            Some(Node { document: self, id })
+        } else {
+            None
+        }
+    }
+
+    /// All nodes, the root node first, in document order.
+    #[inline]
+    pub fn descendants(&self) -> Descendants<'_, 'input>
+        ensures { result ≡ spots self.now (place self.now.tree 0).descendants }
+    {
+        self.root().descendants()
+    }
+}
