@@ -1,6 +1,8 @@
 pub mod Places
 pub mod Says
 pub mod Bare
+pub mod Kinds
+pub mod Stored
 pub mod Flat
 pub mod Doc
 pub mod Whole

@@ -1,9 +1,10 @@
 -- What a node says of itself.
-use Rattle.std.specs.Prelude.{ℕ, Bool, true, false, List, [], Option, None, Some}
+use Rattle.std.specs.Prelude.{ℕ, Bool, true, false, List, [], Option, None, Some, if◌then◌else◌}
+use Rattle.std.specs.Option.{option_map}
 use Rattle.rox_grammar.specs.Forest.{Forest}
 use Rattle.rox_grammar.specs.Written.{Declaration}
 use Rattle.rox_grammar.specs.Tree.{Node, Attribute, Root, Element, Text, Comment, PI}
-use Rattle.roxmltree.specs.Places.{place}
+use Rattle.roxmltree.specs.Places.{place, first_child, next_sibling}
 
 -- the node of this id
 abbrev pub node_at : Forest Node → ℕ → Node
@@ -65,3 +66,34 @@ attributes_of other = []
 abbrev pub pi_of : Node → Option (List ℕ × Option (List ℕ))
 pi_of (PI start end target value) = Some (target, value)
 pi_of other = None
+
+-- the text of a text node, and whether it is a slice of the input
+abbrev pub text_content : Node → Option (List ℕ × Bool)
+text_content (Text start end value borrowed) = Some (value, borrowed)
+text_content other = None
+
+-- that of a text node or a comment: a comment's is always a slice
+abbrev pub content_of : Node → Option (List ℕ × Bool)
+content_of (Text start end value borrowed) = Some (value, borrowed)
+content_of (Comment start end text) = Some (text, true)
+content_of other = None
+
+-- that of a node, if it is a text node
+abbrev pub stored_under : Forest Node → Option ℕ → Option (List ℕ × Bool)
+stored_under tree None = None
+stored_under tree (Some id) = text_content (node_at tree id)
+
+-- of an element that of its first child, if that is a text node, and of a text node or a comment its own
+abbrev pub stored_text : Forest Node → ℕ → Option (List ℕ × Bool)
+stored_text tree id = if says_element (node_at tree id) then stored_under tree (first_child tree id) else content_of (node_at tree id)
+
+-- of an element that of its next sibling, if that is a text node
+abbrev pub stored_tail : Forest Node → ℕ → Option (List ℕ × Bool)
+stored_tail tree id = if says_element (node_at tree id) then stored_under tree (next_sibling tree id) else None
+
+-- the texts alone
+abbrev pub text : Forest Node → ℕ → Option (List ℕ)
+text tree id = option_map (λ t. t.0) (stored_text tree id)
+
+abbrev pub tail : Forest Node → ℕ → Option (List ℕ)
+tail tree id = option_map (λ t. t.0) (stored_tail tree id)

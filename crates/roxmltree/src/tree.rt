@@ -3,7 +3,7 @@
 ghost use Rattle.std.specs.Prelude.{◌≡◌, ◌+◌, ◌^◌, ◌<◌, ◌≤◌, ℕ, length, Some, None, IfSome, IfNone};
 ghost use Rattle.rox_grammar.specs.Forest.{Forest, size};
 ghost use Rattle.roxmltree.specs.Places.{place, parent};
-ghost use Rattle.roxmltree.specs.Says.{node_at};
+ghost use Rattle.roxmltree.specs.Says.{node_at, content_of};
 
 use crate::nodes::{Node, NodeId};
 use crate::walks::Descendants;
@@ -45,6 +45,7 @@ impl<'input> Document<'input> {
     ghost use Rattle.rox_build.specs.Lines.{Holds};
     ghost use Rattle.roxmltree.specs.Whole.{IsDocument};
     ghost use Rattle.roxmltree.specs.Bare.{bare, bare_row};
+    ghost use Rattle.roxmltree.specs.Stored.{content_in};
     ghost use Rattle.roxmltree.specs.Spot.{number, spots, id_of, document_of};
 
     /// The document of a text, from the tables of its tree.
@@ -81,6 +82,7 @@ impl<'input> Document<'input> {
         ensures next { result.now.next ≡ number id + (place self.now.tree (number id)).count }
         ensures depth { result.now.depth ≡ length (place self.now.tree (number id)).above }
         ensures item { bare_row result.now.start result.now.end result.now.kind ≡ bare (node_at self.now.tree (number id)) }
+        ensures content { content_in result.now.kind ≡ content_of (node_at self.now.tree (number id)) }
         ensures few { size self.now.tree < 2 ^ 32 }
     {
         &self.tables.nodes[id.0 as usize]

@@ -2,7 +2,7 @@ use Rattle.std.proofs.Common.{◌≡◌, ◌<◌, ap, arith}
 use Rattle.rox_grammar.specs.Forest.{size}
 use Rattle.roxmltree.specs.Whole.{tree_in}
 use Rattle.roxmltree.proofs.Rows.{row_count, row_next, row_depth, row_parent, row_no_parent}
-use Rattle.roxmltree.proofs.Bare.{row_item}
+use Rattle.roxmltree.proofs.Bare.{row_item, row_content}
 use Rattle.roxmltree.proofs.tree.Document.row.Goals as goal
 
 -- the tree that the rows hold is the one that callers see
@@ -36,3 +36,6 @@ returns-clause-item c = rw (← same_tree c) (row_item c.self.inside.tables (tre
 pub returns-clause-few : goal.returns-clause-few
 returns-clause-few c =
     rw (← same_tree c) (omega (arith, c.self.invariant.holds.few, row_count c.self.inside.tables (tree_in c.self.inside.tables) c.self.invariant.holds))
+
+pub returns-clause-content : goal.returns-clause-content
+returns-clause-content c = rw (← same_tree c) (row_content c.self.inside.tables (tree_in c.self.inside.tables) _ _ c.self.invariant.holds (in_tree c) c.index.ensures)
