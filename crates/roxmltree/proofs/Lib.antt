@@ -2,5 +2,6 @@ pub mod Preorder
 pub mod Siblings
 pub mod Rows
 pub mod Bare
+pub mod Tops
 pub mod Ends
 pub mod Ranges

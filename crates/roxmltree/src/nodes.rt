@@ -13,6 +13,64 @@ use std::fmt;
 #[derive(Clone, Copy, PartialEq, Eq, PartialOrd, Ord, Hash, Debug)]
 pub struct NodeId(pub(crate) u32);
 
+/// A number that is no node's id: past `u32::MAX`.
+#[derive(Clone, Copy, PartialEq, Eq, Debug)]
+pub struct NodeIdTooLarge;
+
+impl NodeId {
+    ghost use Rattle.roxmltree.specs.Spot.{number};
+
+    /// The id of this number.
+    #[inline]
+    pub fn new(id: u32) -> NodeId
+        ensures { number result ≡ id }
+    {
+        NodeId(id)
+    }
+
+    /// Its number.
+    #[inline]
+    pub fn get(self) -> u32
+        ensures { result ≡ number self }
+    {
+        self.0
+    }
+
+    /// Its number, as an index.
+    #[inline]
+    pub fn get_usize(self) -> usize
+        ensures { result ≡ number self }
+    {
+        self.0 as usize
+    }
+}
+
+impl From<u32> for NodeId {
+    ghost use Rattle.roxmltree.specs.Spot.{number};
+
+    ghost from_gives = { λ n id. number id ≡ n };
+
+    fn from(id: u32) -> NodeId {
+        NodeId(id)
+    }
+}
+
+impl TryFrom<usize> for NodeId {
+    type Error = NodeIdTooLarge;
+
+    ghost use Rattle.std.specs.Prelude.{MatchResult};
+    ghost use Rattle.roxmltree.specs.Spot.{number};
+
+    ghost try_from_gives = { λ n r. MatchResult r (λ id. number id ≡ n) (λ _. 2 ^ 32 ≤ n) };
+
+    fn try_from(id: usize) -> Result<NodeId, NodeIdTooLarge> {
+        if id > u32::MAX as usize {
+            return Err(NodeIdTooLarge);
+        }
+        Ok(NodeId(id as u32))
+    }
+}
+
 /// A node of a document.
 #[derive(Clone, Copy)]
 pub struct Node<'a, 'input> {
@@ -30,6 +88,7 @@ impl fmt::Debug for Node<'_, '_> {
 
 impl<'a, 'input> Node<'a, 'input> {
     ghost use Rattle.roxmltree.specs.Words.{GivesNode};
+    ghost use Rattle.roxmltree.specs.Elements.{nearest_element};
     ghost use Rattle.roxmltree.specs.Spot.{number, id_of, document_of, tree_of, spot, spots};
 
     /// The document that it is in.
@@ -240,5 +299,61 @@ impl<'a, 'input> Node<'a, 'input> {
             node: Some(*self),
             axis: Axis::LastChildren,
         }
+    }
+
+    /// The nearest element above it.
+    pub fn parent_element(&self) -> Option<Node<'a, 'input>>
+        ensures { option_map spot result ≡ nearest_element (spots (document_of self.now) (place (tree_of self.now) (id_of self.now)).above) }
+    {
+        let mut nodes = self.ancestors();
+        nodes.next();
+        AxisIter::first_element(nodes)
+    }
+
+    /// The nearest element among its siblings before it.
+    pub fn prev_sibling_element(&self) -> Option<Node<'a, 'input>>
+        ensures { option_map spot result ≡ nearest_element (spots (document_of self.now) (place (tree_of self.now) (id_of self.now)).before) }
+    {
+        let mut nodes = self.prev_siblings();
+        nodes.next();
+        AxisIter::first_element(nodes)
+    }
+
+    /// The nearest element among its siblings after it.
+    pub fn next_sibling_element(&self) -> Option<Node<'a, 'input>>
+        ensures { option_map spot result ≡ nearest_element (spots (document_of self.now) (place (tree_of self.now) (id_of self.now)).after) }
+    {
+        let mut nodes = self.next_siblings();
+        nodes.next();
+        AxisIter::first_element(nodes)
+    }
+
+    /// The first element among its children.
+    pub fn first_element_child(&self) -> Option<Node<'a, 'input>>
+        ensures { option_map spot result ≡ nearest_element (spots (document_of self.now) (children (tree_of self.now) (id_of self.now))) }
+    {
+        Children::first_element(self.children())
+    }
+
+    /// The last element among its children.
+    pub fn last_element_child(&self) -> Option<Node<'a, 'input>>
+        ensures { option_map spot result ≡ nearest_element (reverse (spots (document_of self.now) (children (tree_of self.now) (id_of self.now)))) }
+    {
+        Children::last_element(self.children())
+    }
+
+    /// Whether it has a child.
+    #[inline]
+    pub fn has_children(&self) -> bool
+        ensures { IsTrue result ↔ (first_child (tree_of self.now) (id_of self.now) ≢ None) }
+    {
+        self.first_child().is_some()
+    }
+
+    /// Whether its parent has another child.
+    pub fn has_siblings(&self) -> bool
+        ensures { IsTrue result ↔ ((next_sibling (tree_of self.now) (id_of self.now) ≢ None) ⊎ (prev_sibling (tree_of self.now) (id_of self.now) ≢ None)) }
+    {
+        self.prev_sibling().is_some() || self.next_sibling().is_some()
     }
 }

@@ -2,7 +2,7 @@
 
 ghost use Rattle.std.specs.Prelude.{◌≡◌, ◌+◌, ◌^◌, ◌<◌, ◌≤◌, ℕ, length, Some, None, IfSome, IfNone};
 ghost use Rattle.rox_grammar.specs.Forest.{Forest, size};
-ghost use Rattle.roxmltree.specs.Places.{place, parent};
+ghost use Rattle.roxmltree.specs.Places.{place, parent, children};
 ghost use Rattle.roxmltree.specs.Says.{node_at, content_of};
 
 use crate::nodes::{Node, NodeId};
@@ -46,7 +46,8 @@ impl<'input> Document<'input> {
     ghost use Rattle.roxmltree.specs.Whole.{IsDocument};
     ghost use Rattle.roxmltree.specs.Bare.{bare, bare_row};
     ghost use Rattle.roxmltree.specs.Stored.{content_in};
-    ghost use Rattle.roxmltree.specs.Spot.{number, spots, id_of, document_of};
+    ghost use Rattle.roxmltree.specs.Spot.{number, spot, spots, id_of, document_of};
+    ghost use Rattle.roxmltree.specs.Elements.{nearest_element};
 
     /// The document of a text, from the tables of its tree.
     pub(crate) fn from_tables(
@@ -114,6 +115,19 @@ impl<'input> Document<'input> {
         Node {
             document: self,
             id: NodeId(0),
+        }
+    }
+
+    /// The outermost element (XML 1.0 section 2.1).
+    #[tactic(auto, using(crate::proofs::Tops::root_element_there))]
+    pub fn root_element(&self) -> Node<'_, 'input>
+        ensures { Some (spot result) ≡ nearest_element (spots self.now (children self.now.tree 0)) }
+    {
+        let _ = &self.tables;
+        let root = self.root();
+        match root.first_element_child() {
+            Some(element) => element,
+            None => root,
         }
     }
 

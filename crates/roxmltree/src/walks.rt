@@ -1,4 +1,4 @@
-//! Iterators over nodes.
+//! Iterators over nodes, each of which answers None again after its end.
 
 ghost use Rattle.std.specs.Prelude.{◌≡◌, ◌∷◌, [], ◌++◌};
 
@@ -6,6 +6,7 @@ use crate::nodes::{Node, NodeId};
 use crate::tree::Document;
 use std::marker::Model;
 
+/// What to go along.
 #[derive(Clone, Copy, Debug)]
 pub(crate) enum Axis {
     Ancestors,
@@ -15,6 +16,7 @@ pub(crate) enum Axis {
     LastChildren,
 }
 
+/// A node, and those after it along an axis.
 #[derive(Clone, Debug, Drop)]
 pub struct AxisIter<'a, 'input> {
     pub(crate) node: Option<Node<'a, 'input>>,
@@ -68,6 +70,24 @@ impl<'a, 'input> AxisIter<'a, 'input> {
     }
 }
 
+impl<'a, 'input> AxisIter<'a, 'input> {
+    ghost use Rattle.std.specs.Option.{option_map};
+    ghost use Rattle.roxmltree.specs.Elements.{nearest_element};
+    ghost use Rattle.roxmltree.specs.Spot.{spot};
+
+    /// The first element of these nodes.
+    pub(crate) fn first_element(nodes: AxisIter<'a, 'input>) -> Option<Node<'a, 'input>>
+        ensures { option_map spot result ≡ nearest_element nodes.entry }
+    {
+        for node in nodes {
+            if node.is_element() {
+                return Some(node);
+            }
+        }
+        None
+    }
+}
+
 impl<'a, 'input> Iterator for AxisIter<'a, 'input> {
     type Item = Node<'a, 'input>;
 
@@ -89,6 +109,7 @@ impl<'a, 'input> Iterator for AxisIter<'a, 'input> {
     }
 }
 
+/// A node and those below it in document order, from both ends.
 #[derive(Clone, Debug, Drop)]
 pub struct Descendants<'a, 'input> {
     pub(crate) document: &'a Document<'input>,
@@ -155,6 +176,7 @@ impl<'a, 'input> DoubleEndedIterator for Descendants<'a, 'input> {
     }
 }
 
+/// Children of one node, from both ends.
 #[derive(Clone, Debug, Drop)]
 pub struct Children<'a, 'input> {
     pub(crate) ends: Option<(Node<'a, 'input>, Node<'a, 'input>)>,
@@ -214,6 +236,37 @@ impl<'a, 'input> Children<'a, 'input> {
             Some(before) => Some((front, before)),
             None => None,
         }
+    }
+}
+
+impl<'a, 'input> Children<'a, 'input> {
+    ghost use Rattle.std.specs.Prelude.{reverse};
+    ghost use Rattle.std.specs.Option.{option_map};
+    ghost use Rattle.roxmltree.specs.Elements.{nearest_element};
+    ghost use Rattle.roxmltree.specs.Spot.{spot};
+
+    /// The first element of these nodes.
+    pub(crate) fn first_element(nodes: Children<'a, 'input>) -> Option<Node<'a, 'input>>
+        ensures { option_map spot result ≡ nearest_element nodes.entry }
+    {
+        for node in nodes {
+            if node.is_element() {
+                return Some(node);
+            }
+        }
+        None
+    }
+
+    /// The last element of these nodes.
+    pub(crate) fn last_element(mut nodes: Children<'a, 'input>) -> Option<Node<'a, 'input>>
+        ensures { option_map spot result ≡ nearest_element (reverse nodes.entry) }
+    {
+        while let Some(node) = nodes.next_back() {
+            if node.is_element() {
+                return Some(node);
+            }
+        }
+        None
     }
 }
 
