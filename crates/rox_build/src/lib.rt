@@ -1,5 +1,6 @@
 //! From a text to the tables of its tree.
 #![tactic(auto)]
 
+pub mod namespaces;
 pub mod storage;
 pub mod tables;

@@ -4,6 +4,7 @@ ghost use Rattle.std.specs.Prelude.{◌≡◌, IfOk, false};
 ghost use Rattle.rox_build.specs.Storage.{storage_bytes, is_borrowed};
 
 use std::alloc::{AllocError, Global};
+use std::fmt;
 use std::rc::RcStr;
 
 /// Text of a document: a slice of the input where nothing of it had to be changed, else a text of its own.
@@ -32,5 +33,38 @@ impl<'input> StringStorage<'input> {
             StringStorage::Borrowed(s) => s,
             StringStorage::Owned(s) => s.as_str(),
         }
+    }
+}
+
+impl PartialEq for StringStorage<'_> {
+    ghost use Rattle.std.specs.Prelude.{bytes_eq};
+    ghost use Rattle.std.specs.Ordering.{on};
+    ghost use Rattle.std.proofs.Common.{rules};
+    ghost use Rattle.std.specs.Cmp.Rules.{comparing};
+
+    ghost eq = { on storage_bytes bytes_eq };
+
+    ghost laws = { Prim.search (comparing, rules) };
+
+    fn eq(&self, other: &Self) -> bool {
+        self.as_str() == other.as_str()
+    }
+}
+
+impl Eq for StringStorage<'_> {
+    ghost use Rattle.std.proofs.Common.{rules};
+    ghost use Rattle.std.specs.Cmp.Rules.{comparing};
+
+    ghost laws = { Prim.search (comparing, rules) };
+}
+
+impl fmt::Display for StringStorage<'_> {
+    ghost use Rattle.std.specs.Prelude.{Some};
+
+    ghost output = { λ s. Some (storage_bytes s) };
+
+    fn fmt<W: fmt::Write>(&self, f: &mut fmt::Formatter<W>) -> fmt::Result {
+        let text = self.as_str();
+        write!(f, "{text}")
     }
 }
