@@ -6,6 +6,9 @@ pub mod Stored
 pub mod Flat
 pub mod Doc
 pub mod Whole
+pub mod Names
+pub mod Reach
+pub mod Listed
 pub mod Words
 pub mod Spot
 pub mod Elements
