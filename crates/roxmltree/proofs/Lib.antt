@@ -4,5 +4,7 @@ pub mod Rows
 pub mod Bare
 pub mod Tops
 pub mod Entries
+pub mod Prefixes
+pub mod Parts
 pub mod Ends
 pub mod Ranges

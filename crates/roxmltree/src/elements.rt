@@ -152,6 +152,32 @@ impl<'a, 'input> Model for Attributes<'a, 'input> {
     ghost invariant = { AttributesWithin };
 }
 
+impl<'a, 'input> Attributes<'a, 'input> {
+    ghost use Rattle.std.specs.Prelude.{map, slice_range};
+    ghost use Rattle.std.specs.List.{AllByRecursion};
+    ghost use Rattle.rox_build.specs.Lines.{attribute, NamespaceWithin};
+
+    /// A stretch of the attributes of all elements, whose namespaces are in this table.
+    #[inline]
+    #[tactic(auto, using(crate::proofs::Parts::all_stretch))]
+    pub(crate) fn part(
+        items: &'a [AttributeData<'input>],
+        from: usize,
+        until: usize,
+        names: &'a [Namespace<'input>],
+    ) -> Attributes<'a, 'input>
+        requires ordered { from ≤ until }
+        requires within { until ≤ length items.now }
+        requires named { AllByRecursion (λ a. NamespaceWithin (length names.now) a.namespace) items.now }
+        ensures { result ≡ map (attribute (map declaration names.now)) (slice_range items.now from until) }
+    {
+        Attributes {
+            items: items[from..until].iter(),
+            names,
+        }
+    }
+}
+
 impl fmt::Debug for Attributes<'_, '_> {
     fn fmt<W: fmt::Write>(&self, f: &mut fmt::Formatter<W>) -> fmt::Result {
         let count = self.len();
@@ -220,6 +246,32 @@ impl<'a, 'input> Model for NamespaceIter<'a, 'input> {
     ghost view = { namespaces_left };
 
     ghost invariant = { NamespacesWithin };
+}
+
+impl<'a, 'input> NamespaceIter<'a, 'input> {
+    ghost use Rattle.std.specs.Prelude.{map, slice_range, ◌<◌};
+    ghost use Rattle.std.specs.List.{AllByRecursion};
+    ghost use Rattle.rox_build.specs.Lines.{entry};
+
+    /// A stretch of the places that all elements list, in this table of namespaces.
+    #[inline]
+    #[tactic(auto, using(crate::proofs::Parts::all_stretch))]
+    pub(crate) fn part(
+        items: &'a [u16],
+        from: usize,
+        until: usize,
+        names: &'a [Namespace<'input>],
+    ) -> NamespaceIter<'a, 'input>
+        requires ordered { from ≤ until }
+        requires within { until ≤ length items.now }
+        requires named { AllByRecursion (λ i. i < length names.now) items.now }
+        ensures { result ≡ map (entry (map declaration names.now)) (slice_range items.now from until) }
+    {
+        NamespaceIter {
+            items: items[from..until].iter(),
+            names,
+        }
+    }
 }
 
 impl fmt::Debug for NamespaceIter<'_, '_> {

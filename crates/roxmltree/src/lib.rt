@@ -3,6 +3,7 @@
 
 pub mod contents;
 pub mod elements;
+mod lookups;
 pub mod names;
 pub mod nodes;
 mod order;

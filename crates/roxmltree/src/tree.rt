@@ -1,13 +1,15 @@
 //! A document: the tables of its nodes, seen by callers as the one tree that they hold.
 
 ghost use Rattle.std.specs.Prelude.{◌≡◌, ◌+◌, ◌^◌, ◌<◌, ◌≤◌, ℕ, length, Some, None, IfSome, IfNone};
+ghost use Rattle.std.specs.Option.{option_map};
 ghost use Rattle.rox_grammar.specs.Forest.{Forest, size};
 ghost use Rattle.roxmltree.specs.Places.{place, parent, children};
-ghost use Rattle.roxmltree.specs.Says.{node_at, content_of};
+ghost use Rattle.roxmltree.specs.Says.{node_at, content_of, namespace_of, listed_of, attributes_of};
 
+use crate::elements::{Attributes, NamespaceIter};
 use crate::nodes::{Node, NodeId};
 use crate::walks::Descendants;
-use rox_build::tables::{NodeData, Tables};
+use rox_build::tables::{NodeData, NodeKind, Tables};
 use std::fmt;
 use std::marker::Model;
 
@@ -150,5 +152,56 @@ impl<'input> Document<'input> {
         ensures { result ≡ spots self.now (place self.now.tree 0).descendants }
     {
         self.root().descendants()
+    }
+
+    /// The namespace of an element's name.
+    #[inline]
+    pub(crate) fn namespace_of(&self, id: NodeId) -> Option<&str>
+        requires { number id < size self.now.tree }
+        ensures { option_map (λ u. u.now) result ≡ namespace_of (node_at self.now.tree (number id)) }
+    {
+        match &self.tables.nodes[id.0 as usize].kind {
+            NodeKind::Element(element) => match element.namespace {
+                Some(place) => Some(self.tables.namespaces[place as usize].uri()),
+                None => None,
+            },
+            _ => None,
+        }
+    }
+
+    /// The attributes of an element.
+    #[inline]
+    pub(crate) fn attributes_of(&self, id: NodeId) -> Attributes<'_, 'input>
+        requires { number id < size self.now.tree }
+        ensures { result ≡ attributes_of (node_at self.now.tree (number id)) }
+    {
+        let items = self.tables.attributes.as_slice();
+        let names = self.tables.namespaces.as_slice();
+        match &self.tables.nodes[id.0 as usize].kind {
+            NodeKind::Element(element) => {
+                let from = element.attributes_from as usize;
+                let until = element.attributes_until as usize;
+                Attributes::part(items, from, until, names)
+            }
+            _ => Attributes::part(items, 0, 0, names),
+        }
+    }
+
+    /// The namespaces that an element lists.
+    #[inline]
+    pub(crate) fn namespaces_of(&self, id: NodeId) -> NamespaceIter<'_, 'input>
+        requires { number id < size self.now.tree }
+        ensures { result ≡ listed_of (node_at self.now.tree (number id)) }
+    {
+        let items = self.tables.listed.as_slice();
+        let names = self.tables.namespaces.as_slice();
+        match &self.tables.nodes[id.0 as usize].kind {
+            NodeKind::Element(element) => {
+                let from = element.namespaces_from;
+                let until = element.namespaces_until;
+                NamespaceIter::part(items, from, until, names)
+            }
+            _ => NamespaceIter::part(items, 0, 0, names),
+        }
     }
 }
