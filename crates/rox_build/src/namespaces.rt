@@ -5,6 +5,7 @@ ghost use Rattle.std.specs.Option.{option_map, option_eq};
 ghost use Rattle.rox_build.specs.Lines.{declaration};
 
 use crate::tables::Namespace;
+use std::alloc::AllocError;
 
 impl<'input> Namespace<'input> {
     /// Its prefix. None for the default namespace.
@@ -21,6 +22,18 @@ impl<'input> Namespace<'input> {
         ensures { result.now ≡ (declaration self.now).uri }
     {
         self.uri.as_str()
+    }
+}
+
+impl<'input> Clone for Namespace<'input> {
+    ghost is_clone = { λ n copy. declaration copy ≡ declaration n };
+
+    fn clone(&self) -> Result<Namespace<'input>, AllocError> {
+        let uri = self.uri.clone()?;
+        Ok(Namespace {
+            name: self.name,
+            uri,
+        })
     }
 }
 

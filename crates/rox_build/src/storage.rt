@@ -36,6 +36,20 @@ impl<'input> StringStorage<'input> {
     }
 }
 
+impl<'input> Clone for StringStorage<'input> {
+    ghost is_clone = { λ s copy. (storage_bytes copy ≡ storage_bytes s) × (is_borrowed copy ≡ is_borrowed s) };
+
+    fn clone(&self) -> Result<StringStorage<'input>, AllocError> {
+        match self {
+            StringStorage::Borrowed(s) => Ok(StringStorage::Borrowed(s)),
+            StringStorage::Owned(s) => {
+                let text = s.clone()?;
+                Ok(StringStorage::Owned(text))
+            }
+        }
+    }
+}
+
 impl PartialEq for StringStorage<'_> {
     ghost use Rattle.std.specs.Prelude.{bytes_eq};
     ghost use Rattle.std.specs.Ordering.{on};

@@ -1,7 +1,9 @@
 -- An element is among the top nodes of a document.
 use Rattle.std.proofs.Common.{◌≡◌, ℕ, ◌+◌, List, [], ◌∷◌, None, Some, true, false, refl, ap, subst, arith}
 use Rattle.rox_grammar.specs.Forest.{Forest, Nil, Cons, size}
-use Rattle.rox_grammar.specs.Tree.{Node, Root, Element, Text, Comment, PI}
+use Rattle.rox_grammar.specs.Written as written
+use Rattle.rox_grammar.specs.Written.{Declaration}
+use Rattle.rox_grammar.specs.Tree.{Node, Root, Element, Text, Comment, PI, resolved, document_tree}
 use Rattle.roxmltree.specs.Doc.{Doc}
 use Rattle.roxmltree.specs.Places.{places, preorder, place, ids, children}
 use Rattle.roxmltree.specs.Says.{says_element}
@@ -48,3 +50,23 @@ root_element_there d n w h =
     let s : Sits (preorder d.tree) [] [] 0 (Cons (Root n) w.tops Nil) = subst (λ f. Sits (preorder d.tree) [] [] 0 f) w.rooted (whole_sits d.tree) in
     let c : children d.tree 0 ≡ ids 1 w.tops = ap (λ p. p.children) s.0 in
     none_among d (0 ∷ []) [] 1 w.tops s.2 w.element (rw c at h)
+
+-- an element is among these items side by side
+abbrev pub AnyElement : Forest written.Item → Type 0
+AnyElement Nil = ⊥
+AnyElement (Cons (written.Element start end tag) children rest) = Unit {0}
+AnyElement (Cons (written.Text start end value borrowed) children rest) = AnyElement rest
+AnyElement (Cons (written.Comment start end text) children rest) = AnyElement rest
+AnyElement (Cons (written.PI start end target value) children rest) = AnyElement rest
+
+-- and is one still with the names resolved
+element_stays : (above : List Declaration) (f : Forest written.Item) → AnyElement f → HasElement (resolved above f)
+element_stays above Nil h = h
+element_stays above (Cons (written.Element start end tag) c r) h = tt
+element_stays above (Cons (written.Text start end value borrowed) c r) h = element_stays above r h
+element_stays above (Cons (written.Comment start end text) c r) h = element_stays above r h
+element_stays above (Cons (written.PI start end target value) c r) h = element_stays above r h
+
+-- top nodes with an element make a document
+pub is_document : (n : ℕ) (tops : Forest written.Item) → AnyElement tops → IsDocument n (document_tree n tops)
+is_document n tops h = record { tops = resolved [] tops; rooted = refl; element = element_stays [] tops h }

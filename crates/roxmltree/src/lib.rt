@@ -3,6 +3,7 @@
 
 pub mod contents;
 pub mod elements;
+pub mod laws;
 mod lookups;
 pub mod names;
 pub mod nodes;
