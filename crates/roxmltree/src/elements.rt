@@ -22,7 +22,7 @@ pub struct Attribute<'a, 'input> {
 
 impl<'a, 'input> Attribute<'a, 'input> {
     ghost use Rattle.roxmltree.specs.Listed.{attribute_of};
-    ghost use Rattle.roxmltree.specs.Names.{expanded};
+    ghost use Rattle.roxmltree.specs.Names.{expanded, same_name};
     ghost use Rattle.roxmltree.specs.Stored.{stored};
 
     /// The namespace of its name. None where the name has no prefix.
@@ -48,12 +48,12 @@ impl<'a, 'input> Attribute<'a, 'input> {
         self.data.local
     }
 
-    /// Its name with its namespace.
+    /// Whether it has this name.
     #[inline]
-    pub(crate) fn expanded_name(&self) -> ExpandedName<'a, 'input>
-        ensures { expanded result ≡ ((attribute_of self.now).namespace, (attribute_of self.now).local) }
+    pub(crate) fn has_name(&self, name: &ExpandedName<'_, '_>) -> bool
+        ensures { result ≡ same_name ((attribute_of self.now).namespace, (attribute_of self.now).local) (expanded name.now) }
     {
-        ExpandedName::from_parts(self.namespace(), self.data.local)
+        self.data.local == name.name() && self.namespace() == name.namespace()
     }
 
     /// Its value (XML 1.0 section 3.3.3).
@@ -119,7 +119,9 @@ impl PartialEq for Attribute<'_, '_> {
     ghost laws = { partial_equiv_from_equiv (and_equiv (and_equiv (on_equiv (λ a. (attribute_of a).local) nat_list_eq_equiv) (on_equiv (λ a. (attribute_of a).namespace) (options_equiv nat_list_eq_equiv))) (on_equiv (λ a. (attribute_of a).value) nat_list_eq_equiv)) };
 
     fn eq(&self, other: &Self) -> bool {
-        self.expanded_name().matches(&other.expanded_name()) && self.value() == other.value()
+        self.name() == other.name()
+            && self.namespace() == other.namespace()
+            && self.value() == other.value()
     }
 }
 

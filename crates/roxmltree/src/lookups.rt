@@ -39,7 +39,9 @@ impl<'a, 'input> Node<'a, 'input> {
     pub fn has_tag_name(&self, name: ExpandedName<'_, '_>) -> bool
         ensures { result ≡ (says_element (node_at (tree_of self.now) (id_of self.now)) && same_name (namespace_of (node_at (tree_of self.now) (id_of self.now)), local_of (node_at (tree_of self.now) (id_of self.now))) (expanded name.entry)) }
     {
-        self.is_element() && self.tag_name().matches(&name)
+        self.is_element()
+            && self.local_name() == name.name()
+            && self.document.namespace_of(self.id) == name.namespace()
     }
 
     /// Whether it is an element of this local name, whatever its namespace.
@@ -71,7 +73,7 @@ impl<'a, 'input> Node<'a, 'input> {
         ensures { option_map attribute_of result ≡ named (expanded name.entry) (attributes_of (node_at (tree_of self.now) (id_of self.now))) }
     {
         for attribute in self.attributes() {
-            if attribute.expanded_name().matches(&name) {
+            if attribute.has_name(&name) {
                 return Some(attribute);
             }
         }

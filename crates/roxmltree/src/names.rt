@@ -42,14 +42,6 @@ impl<'a, 'b> ExpandedName<'a, 'b> {
     {
         self.local
     }
-
-    /// Whether the two are equal.
-    #[inline]
-    pub(crate) fn matches(&self, other: &ExpandedName<'_, '_>) -> bool
-        ensures { result ≡ same_name (expanded self.now) (expanded other.now) }
-    {
-        self.local == other.local && self.uri == other.uri
-    }
 }
 
 impl ExpandedName<'static, 'static> {

@@ -46,26 +46,11 @@ impl<'a, 'input> AxisIter<'a, 'input> {
         ensures { line_from axis (Some node.entry) ≡ spot node.entry ∷ line_from axis result }
     {
         match axis {
-            Axis::Ancestors => match node.parent() {
-                Some(next) => Some(next),
-                None => None,
-            },
-            Axis::PrevSiblings => match node.prev_sibling() {
-                Some(next) => Some(next),
-                None => None,
-            },
-            Axis::NextSiblings => match node.next_sibling() {
-                Some(next) => Some(next),
-                None => None,
-            },
-            Axis::FirstChildren => match node.first_child() {
-                Some(next) => Some(next),
-                None => None,
-            },
-            Axis::LastChildren => match node.last_child() {
-                Some(next) => Some(next),
-                None => None,
-            },
+            Axis::Ancestors => node.parent(),
+            Axis::PrevSiblings => node.prev_sibling(),
+            Axis::NextSiblings => node.next_sibling(),
+            Axis::FirstChildren => node.first_child(),
+            Axis::LastChildren => node.last_child(),
         }
     }
 }
