@@ -1,6 +1,7 @@
 //! From a text to the tables of its tree.
 #![tactic(auto)]
 
+pub mod namespaces;
 pub mod reference;
 pub mod scope;
 pub mod storage;

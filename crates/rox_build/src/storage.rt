@@ -53,15 +53,13 @@ impl Clone for StringStorage<'_> {
     }
 }
 
-/// Two texts are equal by their bytes alone.
 impl PartialEq for StringStorage<'_> {
-    ghost use Rattle.std.specs.Prelude.{nat_eq};
+    ghost use Rattle.std.specs.Prelude.{bytes_eq};
     ghost use Rattle.std.specs.Ordering.{on};
-    ghost use Rattle.std.specs.Cmp.Lexicographic.{pointwise};
-    ghost use Rattle.std.specs.Cmp.Rules.{comparing};
     ghost use Rattle.std.proofs.Common.{rules};
+    ghost use Rattle.std.specs.Cmp.Rules.{comparing};
 
-    ghost eq = { on storage_bytes (pointwise nat_eq) };
+    ghost eq = { on storage_bytes bytes_eq };
 
     ghost laws = { Prim.search (comparing, rules) };
 
