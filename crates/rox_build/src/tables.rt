@@ -10,7 +10,7 @@ pub struct PI<'input> {
 }
 
 /// A namespace that an element lists: a prefix, or none for the default, and its URI.
-#[derive(Clone, Debug, Drop, PartialEq, Eq)]
+#[derive(Debug, Drop)]
 pub struct Namespace<'input> {
     pub name: Option<&'input str>,
     pub uri: StringStorage<'input>,
