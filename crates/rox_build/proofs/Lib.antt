@@ -1,1 +1,3 @@
 pub mod DigitLemmas
+pub mod PartLemmas
+pub mod SectionLemmas
