@@ -4,3 +4,5 @@ pub mod Stable
 pub mod Pairs
 pub mod Inherits
 pub mod Listing
+pub mod PartLemmas
+pub mod SectionLemmas
