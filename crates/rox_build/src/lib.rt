@@ -1,9 +1,11 @@
 //! From a text to the tables of its tree.
 #![tactic(auto)]
 
+pub mod declaration;
 pub mod namespaces;
 pub mod reference;
 pub mod scope;
 pub mod storage;
 pub mod tables;
+pub mod taken;
 pub mod value;
