@@ -17,3 +17,4 @@ pub mod Chains
 pub mod Derivations
 pub mod Around
 pub mod Whole
+pub mod TagOnce

@@ -11,24 +11,8 @@ use Rattle.rox_grammar.specs.Chars.{is_space}
 use Rattle.rox_grammar.specs.Marks.{stands}
 use Rattle.rox_grammar.specs.Runs.{run_end, begins}
 use Rattle.rox_grammar.specs.Names.{byte, spaces_end}
-
--- a place holds a byte other than 0 only within the source
-pub byte_within : (src : List ℕ) (i : ℕ) → byte src i ≢ 0 → i < length src
-byte_within src i h = elim (cases_lt i (length src)) [ inl l ↦ l | inr l ↦ absurd (h (get_or_past src i 0 l)) ]
-
-stands_split : (mark src : List ℕ) (i : ℕ) → stands mark src i ≡ true → drop i src ≡ mark ++ drop (length mark) (drop i src)
-unfolding stands
-stands_split mark src i h = (starts_is Decides-eqb (drop i src) mark true (sym h)).0 refl
-
--- a fixed text, byte by byte
-pub stands_reads : (mark src : List ℕ) (i j : ℕ) → stands mark src i ≡ true → j < length mark → byte src (i + j) ≡ get_or mark j 0
-stands_reads mark src i j h within = at_reads 0 src mark i _ (stands_split mark src i h) j within
-
--- a fixed text is within the source
-pub stands_fits : (mark src : List ℕ) (i : ℕ) → 0 < length mark → stands mark src i ≡ true → i + length mark ≤ length src
-stands_fits mark src i some h =
-    let fits = front_fits (drop i src) mark _ (stands_split mark src i h) in
-    omega (arith, fits, length-drop i src)
+use Rattle.rox_theory.proofs.Basics.{within as byte_within}
+use Rattle.rox_theory.proofs.NameLemmas.{chars_here}
 
 -- a byte, and what follows it
 pub here_is : (src : List ℕ) (i : ℕ) → i < length src → drop i src ≡ byte src i ∷ drop (i + 1) src
@@ -41,38 +25,12 @@ stands_two a b src i within first second =
     let e : drop i src ≡ (a ∷ b ∷ []) ++ drop (i + 1 + 1) src = here_is src i (omega arith) ∙ rw (first, here_is src (i + 1) within, second) refl in
     (starts_is Decides-eqb (drop i src) (a ∷ b ∷ []) _ refl).1 (drop (i + 1 + 1) src) e
 
--- an ASCII byte is a character
-pub chars_ascii : (b : ℕ) (bs : List ℕ) → b < 128 → chars (b ∷ bs) ≡ b ∷ chars bs
-unfolding chars
-chars_ascii b [] ascii = rw (lt-ltb b 128 ascii) refl
-chars_ascii b (c ∷ bs) ascii = rw (lt-ltb b 128 ascii) refl
-
-pub chars_here : (src : List ℕ) (i : ℕ) → i < length src → byte src i < 128 → chars (drop i src) ≡ byte src i ∷ chars (drop (i + 1) src)
-chars_here src i within ascii = ap chars (here_is src i within) ∙ chars_ascii (byte src i) (drop (i + 1) src) ascii
-
 -- a run goes on over an ASCII byte that passes
 pub run_on : (p : ℕ → Bool) (src : List ℕ) (i : ℕ) → i < length src → byte src i < 128 → p (byte src i) ≡ true → run_end p src i ≡ run_end p src (i + 1)
 unfolding run_end
 run_on p src i within ascii passes = rw (chars_here src i within ascii, passes, len_utf8_ascii (byte src i) ascii) (omega arith)
 
--- a run stops before an ASCII byte that fails
-pub run_stops : (p : ℕ → Bool) (src : List ℕ) (i : ℕ) → i < length src → byte src i < 128 → p (byte src i) ≡ false → run_end p src i ≡ i
-unfolding run_end
-run_stops p src i within ascii fails = rw (chars_here src i within ascii, fails) (omega arith)
-
-pub run_past : (p : ℕ → Bool) (src : List ℕ) (i : ℕ) → length src ≤ i → run_end p src i ≡ i
-unfolding run_end
-run_past p src i past = rw (drop_all i src past, chars-nil) (omega arith)
-
-pub run_forward : (p : ℕ → Bool) (src : List ℕ) (i : ℕ) → i ≤ run_end p src i
-unfolding run_end
-run_forward p src i = omega arith
-
--- what begins with an ASCII byte
-pub begins_with : (p : ℕ → Bool) (src : List ℕ) (i : ℕ) → i < length src → byte src i < 128 → begins p src i ≡ p (byte src i)
-unfolding begins
-begins_with p src i within ascii = rw (chars_here src i within ascii) refl
-
+-- what begins is within the source
 pub begins_within : (p : ℕ → Bool) (src : List ℕ) (i : ℕ) → begins p src i ≡ true → i < length src
 unfolding begins
 begins_within p src i h =
@@ -81,6 +39,7 @@ begins_within p src i h =
       | inr l ↦ (let e = rw (drop_all i src l, chars-nil) at h in cc)
     ]
 
+-- white space is ASCII
 pub space_ascii : (c : ℕ) → is_space c ≡ true → c < 128
 space_ascii c h =
     let one : (n : ℕ) → n < 128 → (c == n) ≡ true → c < 128 = λ n small e. omega (arith, eqb-true c n e) in
@@ -99,9 +58,11 @@ space_ascii c h =
 pub space_within : (src : List ℕ) (i : ℕ) → is_space (byte src i) ≡ true → i < length src
 space_within src i h = byte_within src i (λ z. let e = rw z at h in cc)
 
+-- white space goes on
 pub spaces_on : (src : List ℕ) (i : ℕ) → is_space (byte src i) ≡ true → spaces_end src i ≡ spaces_end src (i + 1)
 spaces_on src i h = run_on is_space src i (space_within src i h) (space_ascii (byte src i) h) h
 
+-- a byte is left
 some_left : (src : List ℕ) (i c : ℕ) (rest : List ℕ) → drop i src ≡ c ∷ rest → i < length src
 some_left src i c rest is =
     elim (cases_lt i (length src)) [
