@@ -9,3 +9,4 @@ pub mod ReferenceLemmas
 pub mod PartLemmas
 pub mod RunLemmas
 pub mod ValueLemmas
+pub mod AttributeLemmas

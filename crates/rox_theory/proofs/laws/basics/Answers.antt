@@ -1,5 +1,6 @@
 use Rattle.rox_theory.proofs.Basics.{mark_from_le}
 use Rattle.rox_theory.proofs.MarkupLemmas.{end_sound}
+use Rattle.rox_theory.proofs.AttributeLemmas.{attribute_complete}
 use Rattle.rox_theory.proofs.ValueLemmas.{value_complete}
 use Rattle.rox_theory.proofs.RunLemmas.{run_complete}
 use Rattle.rox_theory.proofs.PartLemmas.{run_text_complete}
