@@ -1,18 +1,17 @@
 -- Attributes and the end of a start tag: what is read stands there, and what stands there is read.
-use Rattle.std.proofs.Common.{◌≡◌, ◌≢◌, ℕ, zero, suc, ◌+◌, ◌-◌, ◌<◌, ◌≤◌, ◌==◌, Bool, true, false, not, ◌&&◌, ◌||◌, cond, eqb, leb, List, [], ◌∷◌, ◌++◌, length, refl, sym, ap, ◌∙◌, subst, arith, inl, inr, ◌⊎◌}
-use Rattle.std.specs.Prelude.{Result, Ok, Err}
+use Rattle.std.proofs.Common.{◌≡◌, ◌≢◌, ℕ, ◌+◌, ◌<◌, Bool, true, false, cond, eqb, leb, List, length, refl, sym, ap, ◌∙◌, subst, arith, inl, inr, ◌⊎◌}
+use Rattle.std.specs.Prelude.{Ok}
 use Rattle.std.specs.Str.{IsUtf8}
-use Rattle.std.proofs.lemmas.Bool.{eqb-true, eqb-false, eq-eqb, ne_eqb, leb-true, leb-false, lt-leb, cases_lt, false≢true}
-use Rattle.rox_grammar.specs.declared.fault.Fault.{Fault}
+use Rattle.std.proofs.lemmas.Bool.{eqb-true, eqb-false, ne_eqb, leb-false, lt-leb, false≢true}
 use Rattle.rox_grammar.specs.Chars.{is_space, is_name_start}
-use Rattle.rox_grammar.specs.Runs.{run_end, begins}
+use Rattle.rox_grammar.specs.Runs.{begins}
 use Rattle.rox_grammar.specs.Written.{Name, Attribute}
-use Rattle.rox_grammar.specs.Names.{byte, slice, spaces_end, IsQName, unprefixed, prefixed, colon_first}
+use Rattle.rox_grammar.specs.Names.{byte, spaces_end, IsQName, unprefixed, prefixed, colon_first}
 use Rattle.rox_grammar.specs.Constructs.{IsEq, IsLiteral}
 use Rattle.rox_grammar.specs.Content.{is_plain_value, Value, IsAttribute, TagEnds}
 use Rattle.rox_grammar.specs.Content as content
 use Rattle.rox_grammar.specs.Document.{no_entities}
-use Rattle.rox_reading.specs.Lexical.{Read, ◌>>=◌, byte_at, quote_at, qname_at, chars_up_to}
+use Rattle.rox_reading.specs.Lexical.{byte_at, quote_at, qname_at}
 use Rattle.rox_reading.specs.Markup.{RawAttribute, raw_value_at, attribute_at, Turn, more, opened, closed, turn_at}
 use Rattle.rox_reading.specs.Values.{RunText, value_at}
 use Rattle.rox_reading.specs.Tags.{attribute_with}

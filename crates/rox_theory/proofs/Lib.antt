@@ -10,3 +10,6 @@ pub mod PartLemmas
 pub mod RunLemmas
 pub mod ValueLemmas
 pub mod AttributeLemmas
+pub mod DeclaredLemmas
+pub mod TagLemmas
+pub mod Constructs
