@@ -25,7 +25,7 @@ use Rattle.rox_theory.specs.Agrees.{Agrees}
 use Rattle.rox_theory.proofs.Basics.{within as byte_within, bind_ok, chosen}
 use Rattle.rox_theory.proofs.Constructions.{name_byte, comment_bytes, instruction_bytes, doctype_bytes, IsNameByte}
 use Rattle.rox_theory.proofs.NameLemmas.{run_stops, run_past}
-use Rattle.rox_theory.proofs.DeclarationLemmas.{stands_reads, stands_fits}
+use Rattle.rox_theory.proofs.DeclarationLemmas.{stands_reads}
 use Rattle.rox_theory.proofs.Places.{over_spaces, spaces_on, space_within}
 use Rattle.rox_theory.proofs.Standing.{IsFine}
 use Rattle.rox_theory.proofs.Steps.{with_leaf, fits_counted, item_read}

@@ -13,7 +13,6 @@ use Rattle.rox_reading.proofs.Forests.{join-nil, join_assoc}
 use Rattle.rox_theory.specs.Agrees.{Agrees}
 use Rattle.rox_theory.proofs.Basics.{within as byte_within, bind_ok, chosen}
 use Rattle.rox_theory.proofs.Constructions.{Kind, a_run, a_comment, a_cdata, an_instruction, an_end, a_tag, kind_at, kind_means, name_byte, run_within, run_kind, comment_kind, comment_bytes, cdata_kind, cdata_bytes, instruction_kind, instruction_bytes, end_kind, end_bytes, tag_kind}
-
 use Rattle.rox_theory.proofs.Standing.{IsFine}
 use Rattle.rox_theory.proofs.Steps.{OneTag, with_leaf, after_tag, closed, By, step_sound, step_complete, by_back, by_moves, by_one}
 

@@ -9,6 +9,10 @@ pub mod ReferenceLemmas
 pub mod PartLemmas
 pub mod RunLemmas
 pub mod ValueLemmas
+pub mod AttributeLemmas
+pub mod DeclaredLemmas
+pub mod TagLemmas
+pub mod Constructs
 pub mod Places
 pub mod Constructions
 pub mod Standing

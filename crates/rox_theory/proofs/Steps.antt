@@ -1,5 +1,5 @@
 -- One step, apart from its limits.
-use Rattle.std.proofs.Common.{◌≡◌, ℕ, ◌+◌, ◌<◌, ◌≤◌, ◌==◌, Bool, true, false, not, cond, nat_le, List, [], ◌++◌, length, Result, Ok, Err, refl, sym, ap, ◌∙◌, subst, arith, le-leb, leb-true}
+use Rattle.std.proofs.Common.{◌≡◌, ℕ, ◌+◌, ◌<◌, ◌≤◌, ◌==◌, Bool, true, false, not, nat_le, List, [], ◌++◌, length, Result, Ok, refl, sym, ap, ◌∙◌, subst, arith, le-leb, leb-true}
 use Rattle.std.specs.List.{list_any}
 use Rattle.std.proofs.lemmas.List.{append-nil}
 use Rattle.std.proofs.lemmas.Bool.{and_parts, and_from}
@@ -12,7 +12,6 @@ use Rattle.rox_grammar.specs.Names.{byte}
 use Rattle.rox_grammar.specs.Content.{IsTag, literals, line_ends}
 use Rattle.rox_grammar.specs.WellNamed.{ItemWellNamed}
 use Rattle.rox_grammar.specs.Document.{no_entities, listable, own_pairs, own_attributes, with_new, distinct_pairs, most_attributes, most_pairs}
-use Rattle.rox_reading.specs.Lexical.{◌>>=◌}
 use Rattle.rox_reading.specs.Markup.{comment_at, Instruction, instruction_at, cdata_at, EndTag, end_tag_at}
 use Rattle.rox_reading.specs.Values.{RunText, run_at}
 use Rattle.rox_reading.specs.Tags.{tag_at}

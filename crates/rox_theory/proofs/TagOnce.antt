@@ -1,18 +1,17 @@
 -- At most one start tag stands at a place, whatever the limits are.
-use Rattle.std.proofs.Common.{◌≡◌, ℕ, ◌+◌, ◌<◌, Bool, true, false, cond, List, [], ◌∷◌, Result, Ok, refl, sym, ap, ◌∙◌, subst}
+use Rattle.std.proofs.Common.{◌≡◌, ℕ, ◌+◌, ◌<◌, Bool, true, false, cond, List, Ok, refl, sym, ap, ◌∙◌, subst}
 use Rattle.std.specs.Str.{IsUtf8}
-use Rattle.rox_grammar.specs.declared.fault.Fault.{Fault}
-use Rattle.rox_grammar.specs.Written.{Name, Attribute, Declaration, Tag, declarations_of, attributes_of}
+use Rattle.rox_grammar.specs.Written.{Name, Attribute, declarations_of, attributes_of}
 use Rattle.rox_grammar.specs.Names.{spaces_end}
-use Rattle.rox_grammar.specs.Content.{IsAttribute, Attributes, no_more, one_more, TagEnds, IsTag}
+use Rattle.rox_grammar.specs.Content.{IsAttribute, Attributes, no_more, one_more, TagEnds}
 use Rattle.rox_grammar.specs.Document.{no_entities}
 use Rattle.rox_reading.specs.Markup.{RawAttribute, Turn, more, opened, closed, turn_at}
-use Rattle.rox_reading.specs.Values.{RunText, value_at}
+use Rattle.rox_reading.specs.Values.{value_at}
 use Rattle.rox_reading.specs.Tags.{attribute_with}
 use Rattle.rox_reading.specs.Lexical.{qname_at}
 use Rattle.rox_theory.proofs.Steps.{ok_one, OneTag}
 use Rattle.rox_theory.proofs.NameLemmas.{qname_complete}
-use Rattle.rox_theory.proofs.AttributeLemmas.{RawStands, AttributeReads, attribute_complete, more_complete, end_complete}
+use Rattle.rox_theory.proofs.AttributeLemmas.{AttributeReads, attribute_complete, more_complete, end_complete}
 
 -- the end of a tag is no attribute
 apart : (raw : RawAttribute) (x : Bool) → more raw ≡ cond x closed opened → ⊥
@@ -38,7 +37,6 @@ unfolding raw_of
 same_more r s e = ap (raw_of r) e
 
 module _ (src : List ℕ) (utf8 : IsUtf8 src) where
-
   -- a turn of a tag that is an attribute
   turn_is : (i j b c : ℕ) (a : Attribute) → IsAttribute true no_entities src (spaces_end src i) j b c a → (spaces : i < spaces_end src i)
       → (r : AttributeReads src (spaces_end src i) j a) × (turn_at src i ≡ Ok (more r.0, j))

@@ -14,7 +14,7 @@ use Rattle.rox_reading.specs.State.{root, State}
 use Rattle.rox_reading.specs.Machine.{tag_step, drive, misc, body, finished, prolog, reading}
 use Rattle.rox_reading.proofs.Forests.{join-nil, join_assoc, size-join, merge-more, pairs-join, attribute_count-join, named-left}
 use Rattle.rox_theory.specs.Agrees.{Agrees}
-use Rattle.rox_theory.proofs.Basics.{within as byte_within, bind_ok, chosen}
+use Rattle.rox_theory.proofs.Basics.{bind_ok, chosen}
 use Rattle.rox_theory.proofs.Constructions.{a_tag}
 use Rattle.rox_theory.proofs.Standing.{IsFine, distinct-grows}
 use Rattle.rox_theory.proofs.Steps.{OneTag, ok_one, tag_read, read_tag, by_one}
