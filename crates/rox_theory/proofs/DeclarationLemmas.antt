@@ -1,24 +1,20 @@
 -- The declaration: what is read stands there, and what stands there is read.
-use Rattle.std.proofs.Common.{◌≡◌, ◌≢◌, ℕ, ◌+◌, ◌-◌, ◌<◌, ◌≤◌, ◌==◌, Bool, true, false, not, ◌&&◌, ◌||◌, cond, eqb, leb, ltb, List, [], ◌∷◌, ◌++◌, length, get_or, take, drop, refl, sym, ap, ◌∙◌, subst, arith, inl, inr, ◌⊎◌, length-drop}
-use Rattle.std.specs.Prelude.{Result, Ok, Err}
-use Rattle.std.specs.List.{starts_with}
+use Rattle.std.proofs.Common.{◌≡◌, ℕ, ◌+◌, ◌<◌, ◌≤◌, true, cond, leb, List, ◌++◌, length, get_or, drop, refl, sym, ap, arith, inl, inr, length-drop}
+use Rattle.std.specs.Prelude.{Ok}
 use Rattle.std.specs.Str.{IsUtf8, IsCharBoundary}
 use Rattle.std.proofs.lemmas.Str.{IsCharBoundary-after_ascii}
 use Rattle.std.proofs.lemmas.List.Prefix.{at_reads, front_fits}
 use Rattle.std.proofs.lemmas.Slice.Eq.{starts_is}
 use Rattle.std.proofs.lemmas.Bool.{leb-true, leb-false, lt-leb, le-leb, cases_lt}
 use Rattle.std.proofs.lemmas.Bool.Decides.{Decides-eqb}
-use Rattle.rox_grammar.specs.declared.fault.Fault.{Fault}
 use Rattle.rox_grammar.specs.declared.fault.Word.{Word}
 use Rattle.rox_grammar.specs.declared.fault.Word.TheVariants as word
 use Rattle.rox_grammar.specs.Chars.{is_space}
-use Rattle.rox_grammar.specs.Runs.{run_end}
 use Rattle.rox_grammar.specs.Words.{word_text}
 use Rattle.rox_grammar.specs.Marks.{stands}
-use Rattle.rox_grammar.specs.Written.{Name}
-use Rattle.rox_grammar.specs.Names.{byte, slice, spaces_end, IsQName}
-use Rattle.rox_grammar.specs.Constructs.{at, IsEq, IsLiteral, IsPair, IsGap, some_space, no_space, MayBePair, is_pair, no_pair, MayEndPair, is_last, no_last, IsDeclaration}
-use Rattle.rox_reading.specs.Lexical.{Read, ◌>>=◌, byte_at, quote_at, qname_at, string_at, chars_up_to}
+use Rattle.rox_grammar.specs.Names.{byte, spaces_end}
+use Rattle.rox_grammar.specs.Constructs.{at, IsPair, IsGap, some_space, no_space, MayBePair, is_pair, no_pair, MayEndPair, is_last, no_last, IsDeclaration}
+use Rattle.rox_reading.specs.Lexical.{Read, byte_at, quote_at, qname_at, chars_up_to}
 use Rattle.rox_reading.specs.Markup.{pair_at, gap_at, pair_if, declaration_at}
 use Rattle.rox_theory.proofs.Basics.{ok_same, bind_ok, chosen, within, byte_sound, byte_complete, string_sound, string_complete, chars_sound, chars_complete}
 use Rattle.rox_theory.proofs.NameLemmas.{qname_sound, qname_complete, run_past}

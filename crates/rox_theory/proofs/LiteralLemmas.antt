@@ -1,13 +1,12 @@
 -- Stretches of bytes, quotes and literals: what is read stands there, and what stands there is read.
-use Rattle.std.proofs.Common.{◌≡◌, ◌≢◌, ℕ, ◌+◌, ◌-◌, ◌<◌, ◌≤◌, ◌==◌, Bool, true, false, not, ◌&&◌, ◌||◌, cond, eqb, leb, ltb, List, [], ◌∷◌, length, get_or, take, drop, refl, sym, ap, ◌∙◌, subst, arith, inl, inr, ◌⊎◌, length-drop, get_or-drop}
-use Rattle.std.specs.Prelude.{Result, Ok, Err}
-use Rattle.std.specs.List.{position_or_len, prefix_len}
-use Rattle.std.proofs.lemmas.List.{length-take-le, get_or-take, drop_all}
+use Rattle.std.proofs.Common.{◌≡◌, ◌≢◌, ℕ, ◌+◌, ◌-◌, ◌<◌, ◌≤◌, ◌==◌, Bool, true, false, not, ◌||◌, eqb, leb, List, length, get_or, take, drop, refl, sym, ap, subst, arith, inl, inr, ◌⊎◌, length-drop, get_or-drop}
+use Rattle.std.specs.Prelude.{Ok}
+use Rattle.std.specs.List.{prefix_len}
+use Rattle.std.proofs.lemmas.List.{length-take-le, get_or-take}
 use Rattle.std.proofs.lemmas.List.Sums.{prefix_len-le-length, prefix_len_is, prefix_len_passes, prefix_len_stops}
-use Rattle.std.proofs.lemmas.Bool.{not-true, not-false, not_from_false, not_from_true, eqb-true, eqb-false, eq-eqb, ne_eqb, lt-ltb, lt-leb, leb-false, and_parts, or_parts, or_from, or_right, or_left, or_cases, cases_lt}
-use Rattle.rox_grammar.specs.declared.fault.Fault.{Fault}
+use Rattle.std.proofs.lemmas.Bool.{not-true, not-false, not_from_false, not_from_true, eqb-true, eqb-false, eq-eqb, ne_eqb, lt-leb, or_parts, or_from, or_right, or_left, or_cases}
 use Rattle.rox_grammar.specs.Marks.{byte_from}
-use Rattle.rox_grammar.specs.Names.{byte, slice}
+use Rattle.rox_grammar.specs.Names.{byte}
 use Rattle.rox_grammar.specs.Constructs.{AreChars, IsLiteral}
 use Rattle.rox_reading.specs.Lexical.{quote_at}
 use Rattle.rox_theory.proofs.Basics.{ok_same, chosen, within}

@@ -1,20 +1,18 @@
 -- Comments, processing instructions, CDATA sections and end tags: what is read stands there, and what stands there is read.
-use Rattle.std.proofs.Common.{◌≡◌, ◌≢◌, ℕ, ◌+◌, ◌-◌, ◌<◌, ◌≤◌, Bool, true, false, not, ◌&&◌, ◌||◌, cond, eqb, List, [], ◌∷◌, length, get_or, take, drop, refl, sym, ap, ◌∙◌, subst, arith}
-use Rattle.std.specs.Prelude.{Result, Ok, Err}
-use Rattle.std.proofs.lemmas.Bool.{eqb-false, ne_eqb, or_parts, or_from}
-use Rattle.rox_grammar.specs.declared.fault.Fault.{Fault}
+use Rattle.std.proofs.Common.{◌≡◌, ℕ, ◌+◌, ◌-◌, ◌<◌, ◌≤◌, true, ◌||◌, eqb, List, length, refl, sym, ap, ◌∙◌, subst, arith}
+use Rattle.std.specs.Prelude.{Ok}
+use Rattle.std.proofs.lemmas.Bool.{eqb-false, ne_eqb, or_parts}
 use Rattle.rox_grammar.specs.declared.fault.Word.TheVariants as word
 use Rattle.rox_grammar.specs.Words.{word_text}
-use Rattle.rox_grammar.specs.Marks.{stands, mark_from}
-use Rattle.rox_grammar.specs.Runs.{run_end}
+use Rattle.rox_grammar.specs.Marks.{mark_from}
 use Rattle.rox_grammar.specs.Chars.{is_space, is_name_char}
 use Rattle.rox_grammar.specs.Written.{Name}
 use Rattle.rox_grammar.specs.Tree.{none_if_empty}
-use Rattle.rox_grammar.specs.Names.{byte, slice, spaces_end, IsName}
+use Rattle.rox_grammar.specs.Names.{byte, slice, spaces_end}
 use Rattle.rox_grammar.specs.Constructs.{at, has_mark, double_dash, IsComment, IsPI, IsCData, IsEnd}
 use Rattle.rox_reading.specs.Lexical.{name_at, qname_at, text_to, byte_at}
 use Rattle.rox_reading.specs.Markup.{comment_at, Instruction, instruction_at, cdata_at, EndTag, end_tag_at}
-use Rattle.rox_theory.proofs.Basics.{ok_same, bind_ok, chosen, within, byte_sound, byte_complete, text_sound, text_complete, mark_from_le, run_end_le}
+use Rattle.rox_theory.proofs.Basics.{ok_same, bind_ok, chosen, byte_sound, byte_complete, text_sound, text_complete, mark_from_le, run_end_le}
 use Rattle.rox_theory.proofs.NameLemmas.{name_sound, name_complete, qname_sound, qname_complete, qname_le}
 
 pub comment_sound : (src : List ℕ) (i j : ℕ) (text : List ℕ) → at word.CommentStart src i ≡ true → comment_at src i ≡ Ok (text, j)

@@ -1,13 +1,12 @@
 -- Names: what is read stands there, and what stands there is read.
-use Rattle.std.proofs.Common.{◌≡◌, ◌≢◌, ℕ, ◌+◌, ◌-◌, ◌<◌, ◌≤◌, Bool, true, false, not, ◌&&◌, ◌||◌, cond, eqb, List, [], ◌∷◌, length, get_or, take, drop, refl, sym, ap, ◌∙◌, subst, arith, inl, inr, ◌⊎◌, add-zero}
-use Rattle.std.specs.Prelude.{Result, Ok, Err}
+use Rattle.std.proofs.Common.{◌≡◌, ◌≢◌, ℕ, ◌+◌, ◌-◌, ◌<◌, ◌≤◌, Bool, true, false, not, ◌&&◌, ◌||◌, eqb, List, [], ◌∷◌, length, drop, refl, ap, ◌∙◌, subst, arith, add-zero}
+use Rattle.std.specs.Prelude.{Ok}
 use Rattle.std.specs.Str.{chars}
 use Rattle.std.proofs.lemmas.List.{drop_more, drop_all}
 use Rattle.std.proofs.lemmas.Str.{chars-nil}
-use Rattle.std.proofs.lemmas.Bool.{not-true, eqb-true, eqb-false, eq-eqb, ne_eqb, lt-ltb, and_parts, or_parts, or_right, or_left, or_cases}
-use Rattle.rox_grammar.specs.declared.fault.Fault.{Fault}
+use Rattle.std.proofs.lemmas.Bool.{not-true, eqb-true, eqb-false, eq-eqb, ne_eqb, lt-ltb, and_parts, or_parts, or_right}
 use Rattle.rox_grammar.specs.Chars.{is_name_start, is_name_char, is_part_char}
-use Rattle.rox_grammar.specs.Runs.{run_end, begins, passing}
+use Rattle.rox_grammar.specs.Runs.{run_end, begins}
 use Rattle.rox_grammar.specs.Written.{Name}
 use Rattle.rox_grammar.specs.Names.{byte, slice, IsName, IsNCName, IsQName, unprefixed, prefixed, colon_first}
 use Rattle.rox_reading.specs.Lexical.{name_at, qname_at}

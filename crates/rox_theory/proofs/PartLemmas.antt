@@ -1,22 +1,15 @@
 -- The text of a run: what is read stands there, and what stands there is read.
-use Rattle.std.proofs.Common.{◌≡◌, ◌≢◌, ℕ, zero, suc, ◌+◌, ◌-◌, ◌<◌, ◌≤◌, ◌==◌, Bool, true, false, not, ◌&&◌, ◌||◌, cond, eqb, leb, ltb, List, [], ◌∷◌, ◌++◌, length, get_or, take, drop, refl, sym, ap, ◌∙◌, subst, arith, inl, inr, ◌⊎◌, length-drop, get_or-drop, add-zero, append_assoc}
-use Rattle.std.specs.Prelude.{Result, Ok, Err}
+use Rattle.std.proofs.Common.{◌≡◌, ◌≢◌, ℕ, zero, suc, ◌+◌, ◌-◌, ◌<◌, ◌≤◌, ◌==◌, Bool, true, false, ◌||◌, eqb, ltb, List, [], ◌∷◌, ◌++◌, length, take, refl, sym, ap, ◌∙◌, subst, arith, inl, inr}
+use Rattle.std.specs.Prelude.{Ok}
 use Rattle.std.specs.Char.{encode_utf8}
-use Rattle.std.specs.List.{list_any}
 use Rattle.std.specs.Str.{IsUtf8}
 use Rattle.std.proofs.lemmas.Str.{length-encode, len_utf8_bounds}
-use Rattle.std.proofs.lemmas.List.{length-take-le, get_or-take, get_or_past, drop_more, take_all}
-use Rattle.std.proofs.lemmas.Bool.{not-true, not-false, eqb-true, eqb-false, eq-eqb, ne_eqb, lt-ltb, le-ltb, ltb-true, ltb-false, or_parts, or_from, cases_lt, cases_eq, cases_Bool, false≢true}
-use Rattle.rox_grammar.specs.declared.fault.Fault.{Fault}
-use Rattle.rox_grammar.specs.Marks.{byte_from}
-use Rattle.rox_grammar.specs.Forest.{Forest, Nil, Cons}
-use Rattle.rox_grammar.specs.Written.{Item, Text, leaf}
+use Rattle.std.proofs.lemmas.Bool.{eqb-true, eqb-false, eq-eqb, ne_eqb, lt-ltb, le-ltb, ltb-true, ltb-false, or_parts, or_from, cases_eq, cases_Bool}
 use Rattle.rox_grammar.specs.Names.{byte, slice}
 use Rattle.rox_grammar.specs.References.{IsCharacter}
-use Rattle.rox_grammar.specs.Content.{Sign, literal, kept, is_literal, sign_byte, signs_of, line_ends_after, line_ends, is_plain, piece, Part, part_ends, as_written, from_reference}
-use Rattle.rox_reading.specs.Lexical.{◌>>=◌}
-use Rattle.rox_reading.specs.Values.{expansion_at, run_part_at, run_text}
-use Rattle.rox_theory.proofs.Basics.{ok_same, bind_ok, chosen, within}
+use Rattle.rox_grammar.specs.Content.{Sign, literal, signs_of, line_ends_after, line_ends, Part, part_ends, as_written, from_reference}
+use Rattle.rox_reading.specs.Values.{run_part_at, run_text}
+use Rattle.rox_theory.proofs.Basics.{ok_same, bind_ok, chosen}
 use Rattle.rox_theory.proofs.NameLemmas.{slice_nil}
 use Rattle.rox_theory.proofs.StretchLemmas.{slice_cons, next_at, next_bound, next_before, next_more, follows, follows_not}
 use Rattle.rox_theory.proofs.ReferenceLemmas.{IsStop, expansion_sound, expansion_complete, character_opens, character_inside}

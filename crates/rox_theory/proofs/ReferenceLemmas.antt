@@ -1,20 +1,17 @@
 -- References to characters: what is read stands there, and what stands there is read.
-use Rattle.std.proofs.Common.{◌≡◌, ◌≢◌, ℕ, ◌+◌, ◌-◌, ◌*◌, ◌^◌, ◌<◌, ◌≤◌, ◌==◌, Bool, true, false, not, ◌&&◌, ◌||◌, cond, eqb, leb, ltb, List, [], ◌∷◌, ◌++◌, length, get_or, take, drop, refl, sym, ap, ◌∙◌, subst, arith, inl, inr, ◌⊎◌, length-drop, get_or-drop, add-zero}
-use Rattle.std.specs.Prelude.{Result, Ok, Err, Option, Some, None}
+use Rattle.std.proofs.Common.{◌≡◌, ◌≢◌, ℕ, ◌+◌, ◌-◌, ◌^◌, ◌<◌, ◌≤◌, Bool, true, false, eqb, leb, List, length, get_or, drop, refl, sym, ap, ◌∙◌, subst, arith, inl, inr, ◌⊎◌, get_or-drop}
+use Rattle.std.specs.Prelude.{Ok, Option, Some, None}
 use Rattle.std.specs.Char.{encode_utf8}
-use Rattle.std.specs.List.{prefix_len}
-use Rattle.std.specs.Str.{IsUtf8, IsCharBoundary}
+use Rattle.std.specs.Str.{IsUtf8}
 use Rattle.std.proofs.lemmas.Str.{IsCharBoundary-after_ascii}
 use Rattle.std.proofs.lemmas.List.Sums.{prefix_len_passes}
-use Rattle.std.proofs.lemmas.Bool.{not-true, eqb-true, eqb-false, eq-eqb, ne_eqb, leb-false, lt-leb, leb-true, and_parts, or_cases, cases_lt, cases_eq, false≢true}
-use Rattle.rox_grammar.specs.declared.fault.Fault.{Fault}
+use Rattle.std.proofs.lemmas.Bool.{eqb-true, eqb-false, eq-eqb, ne_eqb, leb-false, lt-leb, leb-true, and_parts, cases_lt, cases_eq, false≢true}
 use Rattle.rox_grammar.specs.declared.fault.Span.{Span}
 use Rattle.rox_grammar.specs.Chars.{is_name_start, is_name_char, is_char}
 use Rattle.rox_grammar.specs.Runs.{run_end, begins}
-use Rattle.rox_grammar.specs.Names.{byte, slice, IsName}
+use Rattle.rox_grammar.specs.Names.{byte, slice}
 use Rattle.rox_grammar.specs.References.{is_digit, is_hex_digit, number, bytes_end, character, predefined, IsNumber, IsReference, IsCharacter, decimal, hexadecimal, named}
-use Rattle.rox_reading.specs.Lexical.{Read, ◌>>=◌}
-use Rattle.rox_reading.specs.Values.{Reference, character_of, entity_at, named_or, number_at, name_reference_at, reference_at, expanded, expansion_at}
+use Rattle.rox_reading.specs.Values.{Reference, character_of, named_or, number_at, name_reference_at, reference_at, expanded, expansion_at}
 use Rattle.rox_theory.proofs.Basics.{ok_same, bind_ok, chosen, within, run_end_le}
 use Rattle.rox_theory.proofs.NameLemmas.{begins_here}
 use Rattle.rox_theory.proofs.CharLemmas.{run_within}

@@ -1,25 +1,23 @@
 -- Runs: what is read stands there, and what stands there is read.
-use Rattle.std.proofs.Common.{◌≡◌, ◌≢◌, ℕ, zero, suc, ◌+◌, ◌-◌, ◌<◌, ◌≤◌, ◌==◌, Bool, true, false, not, ◌&&◌, ◌||◌, cond, eqb, List, [], ◌∷◌, ◌++◌, length, refl, sym, ap, ◌∙◌, subst, arith, inl, inr, add-zero}
-use Rattle.std.specs.Prelude.{Result, Ok, Err}
+use Rattle.std.proofs.Common.{◌≡◌, ◌≢◌, ℕ, ◌-◌, ◌<◌, ◌≤◌, ◌==◌, Bool, true, false, List, [], ◌∷◌, ◌++◌, length, refl, sym, ap, ◌∙◌, subst, arith, inl, inr, add-zero}
+use Rattle.std.specs.Prelude.{Ok}
 use Rattle.std.specs.Char.{encode_utf8}
-use Rattle.std.specs.List.{list_any}
 use Rattle.std.specs.Str.{IsUtf8}
 use Rattle.std.proofs.lemmas.List.{append-nil, drop_all}
-use Rattle.std.proofs.lemmas.Bool.{not-true, not-false, eqb-true, ne_eqb, cases_lt, cases_Bool, false≢true}
-use Rattle.rox_grammar.specs.declared.fault.Fault.{Fault}
+use Rattle.std.proofs.lemmas.Bool.{not-true, eqb-true, cases_lt, cases_Bool}
 use Rattle.rox_grammar.specs.declared.fault.Word.TheVariants as word
 use Rattle.rox_grammar.specs.Words.{word_text}
 use Rattle.rox_grammar.specs.Marks.{byte_from}
-use Rattle.rox_grammar.specs.Forest.{Forest, Nil, Cons}
+use Rattle.rox_grammar.specs.Forest.{Forest}
 use Rattle.rox_grammar.specs.Written.{Item, Text, leaf}
 use Rattle.rox_grammar.specs.Names.{byte, slice}
-use Rattle.rox_grammar.specs.Constructs.{AreChars, has_mark}
+use Rattle.rox_grammar.specs.Constructs.{has_mark}
 use Rattle.rox_grammar.specs.Content.{Sign, line_ends, signs_of, is_plain, piece, Part, part_ends, as_written, from_reference, Parts, last_part, then_entity, IsRun}
 use Rattle.rox_grammar.specs.Document.{no_entities}
-use Rattle.rox_reading.specs.Lexical.{◌>>=◌, chars_up_to}
+use Rattle.rox_reading.specs.Lexical.{chars_up_to}
 use Rattle.rox_reading.specs.Values.{RunText, run_text, run_at}
 use Rattle.rox_theory.proofs.Basics.{ok_same, bind_ok, chosen, chars_sound, chars_complete}
-use Rattle.rox_theory.proofs.LiteralLemmas.{from_le, from_bound, from_before, from_here}
+use Rattle.rox_theory.proofs.LiteralLemmas.{from_le, from_bound, from_here}
 use Rattle.rox_theory.proofs.ReferenceLemmas.{IsStop, character_opens}
 use Rattle.rox_theory.proofs.StretchLemmas.{slice_none}
 use Rattle.rox_theory.proofs.PartLemmas.{encode_some, ordinary, stretch_on, stretch_off, run_text_sound, run_text_complete}

@@ -1,17 +1,15 @@
 -- The value of an attribute: what is read stands there, and what stands there is read.
-use Rattle.std.proofs.Common.{◌≡◌, ◌≢◌, ℕ, zero, suc, ◌+◌, ◌-◌, ◌<◌, ◌≤◌, ◌==◌, Bool, true, false, not, ◌&&◌, ◌||◌, cond, eqb, leb, ltb, List, [], ◌∷◌, ◌++◌, length, take, refl, sym, ap, ◌∙◌, subst, arith, inl, inr, ◌⊎◌, append_assoc}
-use Rattle.std.specs.Prelude.{Result, Ok, Err}
+use Rattle.std.proofs.Common.{◌≡◌, ◌≢◌, ℕ, zero, suc, ◌+◌, ◌-◌, ◌<◌, ◌≤◌, true, false, ◌||◌, eqb, ltb, List, [], ◌∷◌, ◌++◌, length, take, refl, sym, ap, ◌∙◌, subst, arith, inl, inr, ◌⊎◌}
+use Rattle.std.specs.Prelude.{Ok}
 use Rattle.std.specs.Char.{encode_utf8}
 use Rattle.std.specs.Str.{IsUtf8}
 use Rattle.std.proofs.lemmas.List.{append-nil, get_or-take, get_or_past, length-take-le}
-use Rattle.std.proofs.lemmas.Bool.{not-true, not-false, eqb-true, eqb-false, eq-eqb, ne_eqb, lt-ltb, le-ltb, ltb-true, ltb-false, or_parts, or_from, or_cases, cases_lt, cases_Bool, false≢true}
-use Rattle.rox_grammar.specs.declared.fault.Fault.{Fault}
+use Rattle.std.proofs.lemmas.Bool.{not-true, eqb-true, eqb-false, eq-eqb, ne_eqb, lt-ltb, le-ltb, ltb-true, ltb-false, or_parts, or_from, or_cases, cases_lt, cases_Bool, false≢true}
 use Rattle.rox_grammar.specs.Names.{byte, slice}
 use Rattle.rox_grammar.specs.References.{IsCharacter}
-use Rattle.rox_grammar.specs.Content.{is_plain_value, value_bytes, Value, value_ends, line_end, white, other, a_character, an_entity}
+use Rattle.rox_grammar.specs.Content.{is_plain_value, Value, value_ends, line_end, white, other, a_character, an_entity}
 use Rattle.rox_grammar.specs.Document.{no_entities}
-use Rattle.rox_reading.specs.Lexical.{◌>>=◌}
-use Rattle.rox_reading.specs.Values.{RunText, is_special, expansion_at, value_part_at, value_text, value_at}
+use Rattle.rox_reading.specs.Values.{RunText, is_special, value_part_at, value_text, value_at}
 use Rattle.rox_theory.proofs.Basics.{ok_same, bind_ok, chosen}
 use Rattle.rox_theory.proofs.NameLemmas.{slice_nil}
 use Rattle.rox_theory.proofs.StretchLemmas.{slice_cons, slice_none, next_at, next_bound, next_before, next_more, follows, follows_not}
