@@ -116,6 +116,9 @@ pub fn take_declaration<'input>(
     xml: bool,
     taken: Taken<'input>,
 ) -> Result<bool, Failure>
+    requires places { ArePlaces (length names.old.items) listed.old.items }
+    requires own { own ≤ length listed.old.items }
+    requires few { length names.old.items ≤ most_pairs }
     ensures { (known : List Declaration) (before : List ℕ) (h : Held) → own ≡ length before
         → Declares known before (map declaration names.old.items) listed.old.items xml h.own
         → Declared known before (map declaration names.new.items) listed.new.items result h (spec.declared known (taken_view taken.entry) h) }
