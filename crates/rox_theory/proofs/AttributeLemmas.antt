@@ -17,7 +17,7 @@ use Rattle.rox_reading.specs.Values.{RunText, value_at}
 use Rattle.rox_reading.specs.Tags.{attribute_with}
 use Rattle.rox_theory.proofs.Basics.{ok_same, bind_ok, chosen, within, run_end_le, byte_sound, byte_complete, chars_sound, chars_complete}
 use Rattle.rox_theory.proofs.NameLemmas.{qname_sound, qname_complete, qname_le, begins_here}
-use Rattle.rox_theory.proofs.LiteralLemmas.{value_stop, quote_sound, quote_complete, quote_ascii, literal_sound, literal_complete, literal_closes, literal_plain, literal_le}
+use Rattle.rox_theory.proofs.LiteralLemmas.{value_stop, value_stop_le, quote_sound, quote_complete, quote_ascii, literal_sound, literal_complete, literal_closes, literal_plain, literal_le}
 use Rattle.rox_theory.proofs.ReferenceLemmas.{IsStop}
 use Rattle.rox_theory.proofs.ValueLemmas.{value_sound, value_complete}
 
@@ -30,9 +30,9 @@ pub record RawStands (src : List ℕ) (i j : ℕ) (raw : RawAttribute) : Type 0 
   pub value_start : raw.value_start ≡ v + 1
   pub literal : IsLiteral src v raw.value_end j
 
-pub raw_sound : (src : List ℕ) (i : ℕ) (x : RawAttribute × ℕ) → attribute_at src i ≡ Ok x → RawStands src i x.1 x.0
+pub raw_sound : (src : List ℕ) → IsUtf8 src → (i : ℕ) (x : RawAttribute × ℕ) → attribute_at src i ≡ Ok x → RawStands src i x.1 x.0
 unfolding attribute_at raw_value_at
-raw_sound src i x h =
+raw_sound src utf8 i x h =
     bind_ok (qname_at src i) _ _ h (λ n named h.
     bind_ok (byte_at 61 src (spaces_end src n.1)) _ _ h (λ s equals h.
     bind_ok (quote_at src (spaces_end src s.1)) _ _ h (λ q quoted h.
@@ -47,7 +47,7 @@ raw_sound src i x h =
     let last = rw q0 at last in
     let e = value_stop src v in
     chosen (leb (length src) e) _ _ _ read (λ out z. cc) (λ some read.
-    let c = chars_sound e src (v + 1) t read in
+    let c = chars_sound e src (v + 1) t utf8 (value_stop_le src v) read in
     let t1 : t.1 ≡ e = c.2 in
     let b = byte_sound (byte src v) src t.1 d last in
     let same : byte src e ≡ byte src v = rw t1 at b.0 in
@@ -111,9 +111,9 @@ TurnStands src i (more raw) j = (i < spaces_end src i) × RawStands src (spaces_
 TurnStands src i opened j = TagEnds src i false j
 TurnStands src i closed j = TagEnds src i true j
 
-pub turn_sound : (src : List ℕ) (i : ℕ) (x : Turn × ℕ) → turn_at src i ≡ Ok x → TurnStands src i x.0 x.1
+pub turn_sound : (src : List ℕ) → IsUtf8 src → (i : ℕ) (x : Turn × ℕ) → turn_at src i ≡ Ok x → TurnStands src i x.0 x.1
 unfolding turn_at
-turn_sound src i x h =
+turn_sound src utf8 i x h =
     let j = spaces_end src i in
     chosen (leb (length src) j) _ _ _ h (λ out e. cc)
     (λ inside h. chosen (eqb (byte src j) 47) _ _ _ h
@@ -129,7 +129,7 @@ turn_sound src i x h =
     (λ some h. bind_ok (attribute_at src j) _ _ h (λ a read h.
     let apart = eqb-false _ _ some in
     let le = run_end_le is_space src i in
-    subst (λ (y : Turn × ℕ). TurnStands src i y.0 y.1) (ok_same _ _ h) (omega arith, raw_sound src j a read))))))
+    subst (λ (y : Turn × ℕ). TurnStands src i y.0 y.1) (ok_same _ _ h) (omega arith, raw_sound src utf8 j a read))))))
 
 pub end_complete : (src : List ℕ) (i : ℕ) (empty : Bool) (j : ℕ) → TagEnds src i empty j → turn_at src i ≡ Ok (cond empty closed opened, j)
 unfolding turn_at

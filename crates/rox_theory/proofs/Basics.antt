@@ -3,6 +3,7 @@ use Rattle.std.proofs.Common.{◌≡◌, ◌≢◌, ℕ, ◌+◌, ◌<◌, ◌�
 use Rattle.std.specs.Prelude.{Result, Ok, Err}
 use Rattle.std.proofs.lemmas.List.{get_or_past}
 use Rattle.std.proofs.lemmas.Bool.{eqb-true, leb-false, lt-leb, eq-eqb, ltb-false, le-ltb, cases_lt}
+use Rattle.std.specs.Str.{IsUtf8}
 use Rattle.rox_grammar.specs.declared.fault.Fault.{Fault}
 use Rattle.rox_grammar.specs.declared.fault.Word.{Word}
 use Rattle.rox_grammar.specs.Chars.{is_char}
@@ -12,6 +13,7 @@ use Rattle.rox_grammar.specs.Words.{word_text}
 use Rattle.rox_grammar.specs.Names.{byte, slice}
 use Rattle.rox_grammar.specs.Constructs.{AreChars}
 use Rattle.rox_reading.specs.Lexical.{◌>>=◌, byte_at, string_at, chars_up_to, text_to}
+use Rattle.rox_theory.proofs.SpanLemmas.{run_end_inside}
 
 pub ok_same : {A : Type 0} (x y : A) → ◌≡◌ {A = Result A Fault} (Ok x) (Ok y) → x ≡ y
 ok_same x y h = cc
@@ -51,25 +53,32 @@ pub string_complete : (w : Word) (src : List ℕ) (i : ℕ) → stands (word_tex
 unfolding string_at
 string_complete w src i h = rw h refl
 
-pub chars_sound : (end : ℕ) (src : List ℕ) (i : ℕ) (x : List ℕ × ℕ) → chars_up_to end src i ≡ Ok x → AreChars src i end × (x.0 ≡ slice src i end) × (x.1 ≡ end)
+pub chars_sound : (end : ℕ) (src : List ℕ) (i : ℕ) (x : List ℕ × ℕ) → IsUtf8 src → i ≤ end → chars_up_to end src i ≡ Ok x → AreChars src i end × (x.0 ≡ slice src i end) × (x.1 ≡ end)
 unfolding chars_up_to
-chars_sound end src i x h = chosen (ltb (run_end is_char (take end src) i) end) _ _ _ h
+chars_sound end src i x utf8 from h = chosen (ltb (run_end is_char (take end src) i) end) _ _ _ h
     (λ ill e. cc)
-    (λ fine e. (ltb-false _ _ fine, sym (ap (λ p. p.0) (ok_same _ _ e)), sym (ap (λ p. p.1) (ok_same _ _ e))))
+    (λ fine e.
+    let le = ltb-false _ _ fine in
+    let ge = run_end_inside is_char src i end utf8 from in
+    (omega arith, sym (ap (λ p. p.0) (ok_same _ _ e)), sym (ap (λ p. p.1) (ok_same _ _ e))))
 
 pub chars_complete : (end : ℕ) (src : List ℕ) (i : ℕ) → AreChars src i end → chars_up_to end src i ≡ Ok (slice src i end, end)
 unfolding chars_up_to
-chars_complete end src i h = let e = le-ltb (run_end is_char (take end src) i) end h in rw e refl
+chars_complete end src i h = let e = le-ltb (run_end is_char (take end src) i) end (omega arith) in rw e refl
+
+pub mark_from_le : (mark src : List ℕ) (i : ℕ) → i ≤ mark_from mark src i
+unfolding mark_from
+mark_from_le mark src i = omega arith
 
 -- from the text to a mark
-pub text_sound : (w : Word) (src : List ℕ) (i : ℕ) (x : List ℕ × ℕ) → text_to w src i ≡ Ok x
+pub text_sound : (w : Word) (src : List ℕ) (i : ℕ) (x : List ℕ × ℕ) → IsUtf8 src → text_to w src i ≡ Ok x
     → AreChars src i (mark_from (word_text w) src i) × (stands (word_text w) src (mark_from (word_text w) src i) ≡ true)
     × (x.0 ≡ slice src i (mark_from (word_text w) src i)) × (x.1 ≡ mark_from (word_text w) src i + length (word_text w))
 unfolding text_to
-text_sound w src i x h =
+text_sound w src i x utf8 h =
     let e = mark_from (word_text w) src i in
     bind_ok (chars_up_to e src i) _ _ h (λ t is h. bind_ok (string_at w src t.1) _ _ h (λ m ends h.
-    let c = chars_sound e src i t is in
+    let c = chars_sound e src i t utf8 (mark_from_le (word_text w) src i) is in
     let s = string_sound w src t.1 m ends in
     let at_end : t.1 ≡ e = c.2 in
     (c.0, rw at_end at s.0, sym (ap (λ p. p.0) (ok_same _ _ h)) ∙ c.1, sym (ap (λ p. p.1) (ok_same _ _ h)) ∙ rw at_end at s.1)))
@@ -81,10 +90,6 @@ text_complete w src i e is chars stands =
     let c = chars_complete e src i chars in
     let s = string_complete w src e stands in
     rw (← is, c, s) refl
-
-pub mark_from_le : (mark src : List ℕ) (i : ℕ) → i ≤ mark_from mark src i
-unfolding mark_from
-mark_from_le mark src i = omega arith
 
 pub run_end_le : (p : ℕ → Bool) (src : List ℕ) (i : ℕ) → i ≤ run_end p src i
 unfolding run_end

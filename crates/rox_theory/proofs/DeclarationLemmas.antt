@@ -19,7 +19,7 @@ use Rattle.rox_reading.specs.Markup.{pair_at, gap_at, pair_if, declaration_at}
 use Rattle.rox_theory.proofs.Basics.{ok_same, bind_ok, chosen, within, byte_sound, byte_complete, string_sound, string_complete, chars_sound, chars_complete}
 use Rattle.rox_theory.proofs.NameLemmas.{qname_sound, qname_complete, run_past}
 use Rattle.rox_theory.proofs.CharLemmas.{space_some, some_run, begins_byte, space_ascii}
-use Rattle.rox_theory.proofs.LiteralLemmas.{value_stop, quote_sound, quote_complete, quote_ascii, literal_sound, literal_complete, literal_closes}
+use Rattle.rox_theory.proofs.LiteralLemmas.{value_stop, value_stop_le, quote_sound, quote_complete, quote_ascii, literal_sound, literal_complete, literal_closes}
 
 pub stands_split : (mark src : List ℕ) (i : ℕ) → stands mark src i ≡ true → drop i src ≡ mark ++ drop (length mark) (drop i src)
 unfolding stands
@@ -33,9 +33,9 @@ stands_fits mark src i some h =
     let fits = front_fits (drop i src) mark _ (stands_split mark src i h) in
     omega (arith, fits, length-drop i src)
 
-pub pair_sound : (src : List ℕ) (i : ℕ) (x : Unit {0} × ℕ) → pair_at src i ≡ Ok x → IsPair src i x.1
+pub pair_sound : (src : List ℕ) → IsUtf8 src → (i : ℕ) (x : Unit {0} × ℕ) → pair_at src i ≡ Ok x → IsPair src i x.1
 unfolding pair_at
-pair_sound src i x h =
+pair_sound src utf8 i x h =
     bind_ok (qname_at src i) _ _ h (λ n named h.
     bind_ok (byte_at 61 src (spaces_end src n.1)) _ _ h (λ s equals h.
     bind_ok (quote_at src (spaces_end src s.1)) _ _ h (λ q quoted h.
@@ -47,7 +47,7 @@ pair_sound src i x h =
     let q1 : q.1 ≡ v + 1 = quote.2 in
     let read = rw (q0, q1) at text in
     let last = rw q0 at h in
-    let c = chars_sound (value_stop src v) src (v + 1) t read in
+    let c = chars_sound (value_stop src v) src (v + 1) t utf8 (value_stop_le src v) read in
     let t1 : t.1 ≡ value_stop src v = c.2 in
     let b = byte_sound (byte src v) src t.1 x last in
     let same : byte src (value_stop src v) ≡ byte src v = rw t1 at b.0 in
@@ -110,12 +110,12 @@ gap_complete src i j utf8 cut (no_space _ (inr ends)) =
     let b : byte src i ≡ 63 = rw zero at mark in
     rw (here, b, ends) refl
 
-pair_if_sound : (w : Word) (src : List ℕ) (i : ℕ) (x : Unit {0} × ℕ) → pair_if w src i ≡ Ok x → MayBePair w src i x.1
+pair_if_sound : (w : Word) (src : List ℕ) → IsUtf8 src → (i : ℕ) (x : Unit {0} × ℕ) → pair_if w src i ≡ Ok x → MayBePair w src i x.1
 unfolding pair_if
-pair_if_sound w src i x h =
+pair_if_sound w src utf8 i x h =
     chosen (at w src i) _ _ _ h
     (λ holds h. bind_ok (pair_at src i) _ _ h (λ y pair h.
-    let p = pair_sound src i y pair in
+    let p = pair_sound src utf8 i y pair in
     let closes = p.literal.closes in let next = p.literal.next in
     is_pair i y.1 x.1 holds p (gap_sound src y.1 x (omega arith) h)))
     (λ fails e. rw (← ap (λ p. p.1) (ok_same _ _ e)) (no_pair i fails))
@@ -131,19 +131,19 @@ pair_if_complete w src i j utf8 (no_pair _ fails) = rw fails refl
 abbrev last_at : List ℕ → ℕ → Read (Unit {0})
 last_at src i = cond (at word.Standalone src i) (pair_at src i) (Ok (tt, i))
 
-last_sound : (src : List ℕ) (i : ℕ) (x : Unit {0} × ℕ) → last_at src i ≡ Ok x → MayEndPair word.Standalone src i x.1
-last_sound src i x h =
+last_sound : (src : List ℕ) → IsUtf8 src → (i : ℕ) (x : Unit {0} × ℕ) → last_at src i ≡ Ok x → MayEndPair word.Standalone src i x.1
+last_sound src utf8 i x h =
     chosen (at word.Standalone src i) _ _ _ h
-    (λ holds h. is_last i x.1 holds (pair_sound src i x h))
+    (λ holds h. is_last i x.1 holds (pair_sound src utf8 i x h))
     (λ fails e. rw (← ap (λ p. p.1) (ok_same _ _ e)) (no_last i fails))
 
 last_complete : (src : List ℕ) (i j : ℕ) → MayEndPair word.Standalone src i j → last_at src i ≡ Ok (tt, j)
 last_complete src i j (is_last _ _ holds p) = let pair = pair_complete src i j p in rw (holds, pair) refl
 last_complete src i j (no_last _ fails) = rw fails refl
 
-pub declaration_sound : (src : List ℕ) (i j : ℕ) (x : Unit {0}) → at word.DeclarationStart src i ≡ true → declaration_at src i ≡ Ok (x, j) → IsDeclaration src i j
+pub declaration_sound : (src : List ℕ) → IsUtf8 src → (i j : ℕ) (x : Unit {0}) → at word.DeclarationStart src i ≡ true → declaration_at src i ≡ Ok (x, j) → IsDeclaration src i j
 unfolding declaration_at
-declaration_sound src i j x opens h =
+declaration_sound src utf8 i j x opens h =
     chosen (at word.Version src (spaces_end src (i + 5))) _ _ _ h
     (λ version h.
     bind_ok (pair_if word.Version src (spaces_end src (i + 5))) _ _ h (λ v first h.
@@ -154,19 +154,19 @@ declaration_sound src i j x opens h =
       opens = opens;
       version = version;
       v = v.1;
-      first_pair = pair_if_sound word.Version src _ v first;
+      first_pair = pair_if_sound word.Version src utf8 _ v first;
       e = e.1;
-      encoding = pair_if_sound word.Encoding src _ e second;
+      encoding = pair_if_sound word.Encoding src utf8 _ e second;
       s = s.1;
-      standalone = last_sound src e.1 s third;
+      standalone = last_sound src utf8 e.1 s third;
       closes = c.0;
       next = c.1;
     }))))
     (λ fails e. cc)
 
-pub declaration_complete : (src : List ℕ) (i j : ℕ) → IsUtf8 src → IsDeclaration src i j → declaration_at src i ≡ Ok (tt, j)
+pub declaration_complete : (src : List ℕ) → IsUtf8 src → (i j : ℕ) → IsDeclaration src i j → declaration_at src i ≡ Ok (tt, j)
 unfolding declaration_at
-declaration_complete src i j utf8 d =
+declaration_complete src utf8 i j d =
     let version = d.version in
     let first = pair_if_complete word.Version src (spaces_end src (i + 5)) d.v utf8 d.first_pair in
     let second = pair_if_complete word.Encoding src d.v d.e utf8 d.encoding in

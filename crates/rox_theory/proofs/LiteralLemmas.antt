@@ -78,6 +78,9 @@ quote_complete src i h =
 abbrev pub value_stop : List ℕ → ℕ → ℕ
 value_stop src i = byte_from (λ c. c == byte src i || c == 60) src (i + 1)
 
+pub value_stop_le : (src : List ℕ) (i : ℕ) → i + 1 ≤ value_stop src i
+value_stop_le src i = from_le (λ c. c == byte src i || c == 60) src (i + 1)
+
 pub literal_sound : (src : List ℕ) (i : ℕ) → (byte src i ≡ 39) ⊎ (byte src i ≡ 34) → AreChars src (i + 1) (value_stop src i) → byte src (value_stop src i) ≡ byte src i
     → value_stop src i < length src → IsLiteral src i (value_stop src i) (value_stop src i + 1)
 literal_sound src i quote chars same inside =

@@ -2,6 +2,7 @@
 use Rattle.std.proofs.Common.{◌≡◌, ℕ, ◌+◌, ◌-◌, ◌<◌, ◌≤◌, true, ◌||◌, eqb, List, length, refl, sym, ap, ◌∙◌, subst, arith}
 use Rattle.std.specs.Prelude.{Ok}
 use Rattle.std.proofs.lemmas.Bool.{eqb-false, ne_eqb, or_parts}
+use Rattle.std.specs.Str.{IsUtf8}
 use Rattle.rox_grammar.specs.declared.fault.Word.TheVariants as word
 use Rattle.rox_grammar.specs.Words.{word_text}
 use Rattle.rox_grammar.specs.Marks.{mark_from}
@@ -15,14 +16,14 @@ use Rattle.rox_reading.specs.Markup.{comment_at, Instruction, instruction_at, cd
 use Rattle.rox_theory.proofs.Basics.{ok_same, bind_ok, chosen, byte_sound, byte_complete, text_sound, text_complete, mark_from_le, run_end_le}
 use Rattle.rox_theory.proofs.NameLemmas.{name_sound, name_complete, qname_sound, qname_complete, qname_le}
 
-pub comment_sound : (src : List ℕ) (i j : ℕ) (text : List ℕ) → at word.CommentStart src i ≡ true → comment_at src i ≡ Ok (text, j)
+pub comment_sound : (src : List ℕ) → IsUtf8 src → (i j : ℕ) (text : List ℕ) → at word.CommentStart src i ≡ true → comment_at src i ≡ Ok (text, j)
     → (e : ℕ) × IsComment src i e j × (text ≡ slice src (i + 4) e) × (i < j)
 unfolding comment_at
-comment_sound src i j text opens h =
+comment_sound src utf8 i j text opens h =
     let e = mark_from (word_text word.CommentEnd) src (i + 4) in
     bind_ok (text_to word.CommentEnd src (i + 4)) _ _ h (λ t is h.
     chosen (has_mark double_dash t.0 || eqb (byte t.0 (length t.0 - 1)) 45) _ _ _ h (λ ill h. cc) (λ fine h.
-    let s = text_sound word.CommentEnd src (i + 4) t is in
+    let s = text_sound word.CommentEnd src (i + 4) t utf8 is in
     let f = or_parts (has_mark double_dash t.0) (eqb (byte t.0 (length t.0 - 1)) 45) fine in
     let text_is : t.0 ≡ text = ap (λ p. p.0) (ok_same _ _ h) in
     let next : t.1 ≡ j = ap (λ p. p.1) (ok_same _ _ h) in
@@ -46,16 +47,16 @@ comment_complete src i e j c =
     let n = c.next in
     rw (t, d, l, n) refl
 
-pub instruction_sound : (src : List ℕ) (i j : ℕ) (x : Instruction) → at word.PIStart src i ≡ true → instruction_at src i ≡ Ok (x, j)
+pub instruction_sound : (src : List ℕ) → IsUtf8 src → (i j : ℕ) (x : Instruction) → at word.PIStart src i ≡ true → instruction_at src i ≡ Ok (x, j)
     → (n : ℕ) × (e : ℕ) × IsPI src i n e j × (x ≡ record { target = slice src (i + 2) n; value = none_if_empty (slice src (spaces_end src n) e) }) × (i < j)
 unfolding instruction_at
-instruction_sound src i j x opens h =
+instruction_sound src utf8 i j x opens h =
     chosen (at word.DeclarationStart src i) _ _ _ h (λ ill h. cc) (λ fine h.
     bind_ok (name_at src (i + 2)) _ _ h (λ n named h.
     bind_ok (text_to word.PIEnd src (spaces_end src n.1)) _ _ h (λ t is h.
     let e = mark_from (word_text word.PIEnd) src (spaces_end src n.1) in
     let name = name_sound src (i + 2) n named in
-    let s = text_sound word.PIEnd src (spaces_end src n.1) t is in
+    let s = text_sound word.PIEnd src (spaces_end src n.1) t utf8 is in
     let item : record { target = n.0; value = none_if_empty t.0 } ≡ x = ap (λ p. p.0) (ok_same _ _ h) in
     let next : t.1 ≡ j = ap (λ p. p.1) (ok_same _ _ h) in
     let ends : t.1 ≡ e + 2 = s.3 in
@@ -81,12 +82,12 @@ instruction_complete src i n e j p =
     let next = p.next in
     rw (d, name, t, next) refl
 
-pub cdata_sound : (src : List ℕ) (i j : ℕ) (text : List ℕ) → at word.CDataStart src i ≡ true → cdata_at src i ≡ Ok (text, j)
+pub cdata_sound : (src : List ℕ) → IsUtf8 src → (i j : ℕ) (text : List ℕ) → at word.CDataStart src i ≡ true → cdata_at src i ≡ Ok (text, j)
     → (e : ℕ) × IsCData src i e j × (text ≡ slice src (i + 9) e) × (i < j)
 unfolding cdata_at
-cdata_sound src i j text opens h =
+cdata_sound src utf8 i j text opens h =
     let e = mark_from (word_text word.CDataEnd) src (i + 9) in
-    let s = text_sound word.CDataEnd src (i + 9) (text, j) h in
+    let s = text_sound word.CDataEnd src (i + 9) (text, j) utf8 h in
     let ends : j ≡ e + 3 = s.3 in
     let le = mark_from_le (word_text word.CDataEnd) src (i + 9) in
     (e, record { opens = opens; end = refl; chars = s.0; closes = s.1; next = ends }, s.2, omega arith)

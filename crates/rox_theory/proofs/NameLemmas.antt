@@ -4,21 +4,17 @@ use Rattle.std.specs.Prelude.{Ok}
 use Rattle.std.specs.Str.{chars}
 use Rattle.std.proofs.lemmas.List.{drop_more, drop_all}
 use Rattle.std.proofs.lemmas.Str.{chars-nil}
-use Rattle.std.proofs.lemmas.Bool.{not-true, eqb-true, eqb-false, eq-eqb, ne_eqb, lt-ltb, and_parts, or_parts, or_right}
+use Rattle.std.proofs.lemmas.Bool.{not-true, eqb-true, eqb-false, eq-eqb, ne_eqb, and_parts, or_parts, or_right}
 use Rattle.rox_grammar.specs.Chars.{is_name_start, is_name_char, is_part_char}
 use Rattle.rox_grammar.specs.Runs.{run_end, begins}
 use Rattle.rox_grammar.specs.Written.{Name}
 use Rattle.rox_grammar.specs.Names.{byte, slice, IsName, IsNCName, IsQName, unprefixed, prefixed, colon_first}
 use Rattle.rox_reading.specs.Lexical.{name_at, qname_at}
+use Rattle.rox_theory.proofs.SpanLemmas.{chars_ascii}
 use Rattle.rox_theory.proofs.Basics.{ok_same, chosen, within, run_end_le}
 
 pub slice_nil : (src : List ℕ) (i : ℕ) → slice src i i ≡ []
 slice_nil src i = let z : i - i ≡ 0 = omega arith in rw z refl
-
-chars_ascii : (b : ℕ) (bs : List ℕ) → b < 128 → chars (b ∷ bs) ≡ b ∷ chars bs
-unfolding chars
-chars_ascii b [] h = rw (lt-ltb b 128 h) refl
-chars_ascii b (c ∷ bs) h = rw (lt-ltb b 128 h) refl
 
 -- an ASCII byte is a character
 pub chars_here : (src : List ℕ) (i : ℕ) → i < length src → byte src i < 128 → chars (drop i src) ≡ byte src i ∷ chars (drop (i + 1) src)

@@ -90,7 +90,7 @@ run_sound src utf8 i j x here other h =
     let some = some_before src i here other in
     let inside = from_bound (λ c. c == 60) src i (omega arith) in
     bind_ok (chars_up_to end src i) _ _ h (λ raw read h.
-    let c = chars_sound end src i raw read in
+    let c = chars_sound end src i raw utf8 (from_le (λ c. c == 60) src i) read in
     chosen (has_mark (word_text word.CDataEnd) raw.0) _ _ _ h (λ ill h. cc) (λ fine h.
     let run : IsRun src i end = record { some = some; end = refl; chars = c.0; no_end_mark = rw c.1 at fine } in
     chosen (is_plain raw.0) _ _ _ h

@@ -51,7 +51,7 @@ unfolding attributes_at
 rest_sound zero cut known src utf8 i h x is = cc is
 rest_sound (suc n) cut known src utf8 i h x is =
     chosen (leb (length src) i) _ _ _ is (λ out is. cc) (λ inside is. bind_ok (turn_at src i) _ _ is (λ t turn is.
-    after_sound src utf8 known (λ j held. attributes_at n cut known src j held) (λ j held y. rest_sound n cut known src utf8 j held y) i h t.0 t.1 x (turn_sound src i t turn) is))
+    after_sound src utf8 known (λ j held. attributes_at n cut known src j held) (λ j held y. rest_sound n cut known src utf8 j held y) i h t.0 t.1 x (turn_sound src utf8 i t turn) is))
 
 ends_inside : (src : List ℕ) (i : ℕ) (empty : Bool) (j : ℕ) → TagEnds src i empty j → (i < length src) × (i < j)
 ends_inside src i empty j (content.opened _ greater) =
