@@ -30,6 +30,7 @@ pub record RawStands (src : List ℕ) (i j : ℕ) (raw : RawAttribute) : Type 0 
   pub value_start : raw.value_start ≡ v + 1
   pub literal : IsLiteral src v raw.value_end j
 
+-- an attribute that is read stands there, its value apart
 pub raw_sound : (src : List ℕ) → IsUtf8 src → (i : ℕ) (x : RawAttribute × ℕ) → attribute_at src i ≡ Ok x → RawStands src i x.1 x.0
 unfolding attribute_at raw_value_at
 raw_sound src utf8 i x h =
@@ -58,6 +59,7 @@ raw_sound src utf8 i x h =
     subst (λ (y : RawAttribute × ℕ). RawStands src i y.1 y.0) x0
     (record { starts = refl; is_name = qname_sound src i n named; v = v; eq = record { equals = eq.0; next = ap (spaces_end src) eq.1 }; value_start = q1; literal = l' })))))))
 
+-- an attribute that stands there is read, its value apart
 pub raw_complete : (src : List ℕ) (i j : ℕ) (raw : RawAttribute) → RawStands src i j raw → attribute_at src i ≡ Ok (raw, j)
 unfolding attribute_at raw_value_at
 raw_complete src i j raw r =
@@ -75,6 +77,7 @@ raw_complete src i j raw r =
     let i' = r.starts in
     rw (n, s, ← v, q, e, more, c, b, next, ← start, ← i') refl
 
+-- it has a byte
 raw_le : (src : List ℕ) (i j : ℕ) (raw : RawAttribute) → RawStands src i j raw → i < j
 raw_le src i j raw r =
     let name_le = qname_le src i raw.name raw.name_end r.is_name in
@@ -85,14 +88,17 @@ raw_le src i j raw r =
     let next = r.literal.next in
     omega arith
 
+-- no name begins with a slash
 no_slash : is_name_start 47 ≡ false
 unfolding is_name_start
 no_slash = refl
 
+-- no name begins with `>`
 no_greater : is_name_start 62 ≡ false
 unfolding is_name_start
 no_greater = refl
 
+-- where a name begins, no byte stands that begins none
 not_start : (src : List ℕ) (i c : ℕ) → 0 < c → c < 128 → is_name_start c ≡ false → begins is_name_start src i ≡ true → byte src i ≢ c
 not_start src i c some ascii none starts is =
     let b = begins_here is_name_start src i (within src i (λ z. omega arith)) (omega arith) in
@@ -111,6 +117,7 @@ TurnStands src i (more raw) j = (i < spaces_end src i) × RawStands src (spaces_
 TurnStands src i opened j = TagEnds src i false j
 TurnStands src i closed j = TagEnds src i true j
 
+-- what a turn reads stands there
 pub turn_sound : (src : List ℕ) → IsUtf8 src → (i : ℕ) (x : Turn × ℕ) → turn_at src i ≡ Ok x → TurnStands src i x.0 x.1
 unfolding turn_at
 turn_sound src utf8 i x h =
@@ -131,6 +138,7 @@ turn_sound src utf8 i x h =
     let le = run_end_le is_space src i in
     subst (λ (y : Turn × ℕ). TurnStands src i y.0 y.1) (ok_same _ _ h) (omega arith, raw_sound src utf8 j a read))))))
 
+-- the end of a tag is read
 pub end_complete : (src : List ℕ) (i : ℕ) (empty : Bool) (j : ℕ) → TagEnds src i empty j → turn_at src i ≡ Ok (cond empty closed opened, j)
 unfolding turn_at
 end_complete src i empty j (content.opened _ greater) =
@@ -142,6 +150,7 @@ end_complete src i empty j (content.closed _ slash greater) =
     let next : spaces_end src i + 1 + 1 ≡ spaces_end src i + 2 = omega arith in
     rw (inside, slash, b, next) refl
 
+-- one more attribute is read
 pub more_complete : (src : List ℕ) (i j : ℕ) (raw : RawAttribute) → i < spaces_end src i → RawStands src (spaces_end src i) j raw → turn_at src i ≡ Ok (more raw, j)
 unfolding turn_at
 more_complete src i j raw some r =
@@ -160,13 +169,16 @@ more_complete src i j raw some r =
     let one = raw_complete src (spaces_end src i) j raw r in
     rw (inside, slash, greater, apart, one) refl
 
+-- a quote stops a value
 quote_stop : (b : ℕ) → (b ≡ 39) ⊎ (b ≡ 34) → IsStop b
 quote_stop b (inl h) = inr (inl h)
 quote_stop b (inr h) = inr (inr h)
 
+-- a literal ends where a quote stops it
 literal_stop : (src : List ℕ) (v e j : ℕ) → IsLiteral src v e j → IsStop (byte src e)
 literal_stop src v e j l = rw (literal_closes src v e j l) (quote_stop (byte src v) l.quote)
 
+-- an attribute whose value is read stands there
 pub attribute_sound : (src : List ℕ) → IsUtf8 src → (i j : ℕ) (raw : RawAttribute) (x : RunText) → RawStands src i j raw → value_at src raw.value_start raw.value_end ≡ Ok x
     → (b : ℕ) → IsAttribute true no_entities src i j b b (attribute_with raw x)
 attribute_sound src utf8 i j raw x r h b =
@@ -186,10 +198,12 @@ attribute_sound src utf8 i j raw x r h b =
       borrowed = value.1;
     }
 
+-- the attribute is read from i up to j, and then its value
 abbrev pub AttributeReads : List ℕ → ℕ → ℕ → Attribute → Type 0
 AttributeReads src i j a =
     (raw : RawAttribute) × (x : RunText) × RawStands src i j raw × (value_at src raw.value_start raw.value_end ≡ Ok x) × (a ≡ attribute_with raw x)
 
+-- an attribute that stands there is read, and opens nothing
 pub attribute_complete : (src : List ℕ) → IsUtf8 src → (i j b c : ℕ) (a : Attribute) → IsAttribute true no_entities src i j b c a → AttributeReads src i j a × (b ≡ c)
 attribute_complete src utf8 i j b c a h =
     let closes = h.literal.closes in
@@ -209,5 +223,6 @@ attribute_complete src utf8 i j b c a h =
       value.1,
     )
 
+-- an attribute has a byte
 pub attribute_le : (src : List ℕ) → IsUtf8 src → (i j b c : ℕ) (a : Attribute) → IsAttribute true no_entities src i j b c a → i < j
 attribute_le src utf8 i j b c a h = let r = (attribute_complete src utf8 i j b c a h).0 in raw_le src i j r.0 r.2

@@ -7,6 +7,7 @@ use Rattle.rox_theory.proofs.DeclarationLemmas as declaration
 use Rattle.rox_theory.proofs.RunLemmas as run
 use Rattle.rox_theory.proofs.TagLemmas as tag
 
+-- all of it, of a text in UTF-8
 pub agrees : (src : List ℕ) → IsUtf8 src → Agrees src
 agrees src utf8 = record {
   comment_sound = markup.comment_sound src utf8;
