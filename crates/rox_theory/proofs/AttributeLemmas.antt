@@ -17,7 +17,7 @@ use Rattle.rox_reading.specs.Values.{RunText, value_at}
 use Rattle.rox_reading.specs.Tags.{attribute_with}
 use Rattle.rox_theory.proofs.Basics.{ok_same, bind_ok, chosen, within, run_end_le, byte_sound, byte_complete, chars_sound, chars_complete}
 use Rattle.rox_theory.proofs.NameLemmas.{qname_sound, qname_complete, qname_le, begins_here}
-use Rattle.rox_theory.proofs.LiteralLemmas.{value_stop, quote_sound, quote_complete, quote_ascii, literal_sound, literal_complete, literal_closes, literal_plain, literal_le}
+use Rattle.rox_theory.proofs.LiteralLemmas.{value_stop, value_stop_le, quote_sound, quote_complete, quote_ascii, literal_sound, literal_complete, literal_closes, literal_plain, literal_le}
 use Rattle.rox_theory.proofs.ReferenceLemmas.{IsStop}
 use Rattle.rox_theory.proofs.ValueLemmas.{value_sound, value_complete}
 
@@ -30,9 +30,10 @@ pub record RawStands (src : List ℕ) (i j : ℕ) (raw : RawAttribute) : Type 0 
   pub value_start : raw.value_start ≡ v + 1
   pub literal : IsLiteral src v raw.value_end j
 
-pub raw_sound : (src : List ℕ) (i : ℕ) (x : RawAttribute × ℕ) → attribute_at src i ≡ Ok x → RawStands src i x.1 x.0
+-- an attribute that is read stands there, its value apart
+pub raw_sound : (src : List ℕ) → IsUtf8 src → (i : ℕ) (x : RawAttribute × ℕ) → attribute_at src i ≡ Ok x → RawStands src i x.1 x.0
 unfolding attribute_at raw_value_at
-raw_sound src i x h =
+raw_sound src utf8 i x h =
     bind_ok (qname_at src i) _ _ h (λ n named h.
     bind_ok (byte_at 61 src (spaces_end src n.1)) _ _ h (λ s equals h.
     bind_ok (quote_at src (spaces_end src s.1)) _ _ h (λ q quoted h.
@@ -47,7 +48,7 @@ raw_sound src i x h =
     let last = rw q0 at last in
     let e = value_stop src v in
     chosen (leb (length src) e) _ _ _ read (λ out z. cc) (λ some read.
-    let c = chars_sound e src (v + 1) t read in
+    let c = chars_sound e src (v + 1) t utf8 (value_stop_le src v) read in
     let t1 : t.1 ≡ e = c.2 in
     let b = byte_sound (byte src v) src t.1 d last in
     let same : byte src e ≡ byte src v = rw t1 at b.0 in
@@ -58,6 +59,7 @@ raw_sound src i x h =
     subst (λ (y : RawAttribute × ℕ). RawStands src i y.1 y.0) x0
     (record { starts = refl; is_name = qname_sound src i n named; v = v; eq = record { equals = eq.0; next = ap (spaces_end src) eq.1 }; value_start = q1; literal = l' })))))))
 
+-- an attribute that stands there is read, its value apart
 pub raw_complete : (src : List ℕ) (i j : ℕ) (raw : RawAttribute) → RawStands src i j raw → attribute_at src i ≡ Ok (raw, j)
 unfolding attribute_at raw_value_at
 raw_complete src i j raw r =
@@ -75,6 +77,7 @@ raw_complete src i j raw r =
     let i' = r.starts in
     rw (n, s, ← v, q, e, more, c, b, next, ← start, ← i') refl
 
+-- it has a byte
 raw_le : (src : List ℕ) (i j : ℕ) (raw : RawAttribute) → RawStands src i j raw → i < j
 raw_le src i j raw r =
     let name_le = qname_le src i raw.name raw.name_end r.is_name in
@@ -85,14 +88,17 @@ raw_le src i j raw r =
     let next = r.literal.next in
     omega arith
 
+-- no name begins with a slash
 no_slash : is_name_start 47 ≡ false
 unfolding is_name_start
 no_slash = refl
 
+-- no name begins with `>`
 no_greater : is_name_start 62 ≡ false
 unfolding is_name_start
 no_greater = refl
 
+-- where a name begins, no byte stands that begins none
 not_start : (src : List ℕ) (i c : ℕ) → 0 < c → c < 128 → is_name_start c ≡ false → begins is_name_start src i ≡ true → byte src i ≢ c
 not_start src i c some ascii none starts is =
     let b = begins_here is_name_start src i (within src i (λ z. omega arith)) (omega arith) in
@@ -111,9 +117,10 @@ TurnStands src i (more raw) j = (i < spaces_end src i) × RawStands src (spaces_
 TurnStands src i opened j = TagEnds src i false j
 TurnStands src i closed j = TagEnds src i true j
 
-pub turn_sound : (src : List ℕ) (i : ℕ) (x : Turn × ℕ) → turn_at src i ≡ Ok x → TurnStands src i x.0 x.1
+-- what a turn reads stands there
+pub turn_sound : (src : List ℕ) → IsUtf8 src → (i : ℕ) (x : Turn × ℕ) → turn_at src i ≡ Ok x → TurnStands src i x.0 x.1
 unfolding turn_at
-turn_sound src i x h =
+turn_sound src utf8 i x h =
     let j = spaces_end src i in
     chosen (leb (length src) j) _ _ _ h (λ out e. cc)
     (λ inside h. chosen (eqb (byte src j) 47) _ _ _ h
@@ -129,8 +136,9 @@ turn_sound src i x h =
     (λ some h. bind_ok (attribute_at src j) _ _ h (λ a read h.
     let apart = eqb-false _ _ some in
     let le = run_end_le is_space src i in
-    subst (λ (y : Turn × ℕ). TurnStands src i y.0 y.1) (ok_same _ _ h) (omega arith, raw_sound src j a read))))))
+    subst (λ (y : Turn × ℕ). TurnStands src i y.0 y.1) (ok_same _ _ h) (omega arith, raw_sound src utf8 j a read))))))
 
+-- the end of a tag is read
 pub end_complete : (src : List ℕ) (i : ℕ) (empty : Bool) (j : ℕ) → TagEnds src i empty j → turn_at src i ≡ Ok (cond empty closed opened, j)
 unfolding turn_at
 end_complete src i empty j (content.opened _ greater) =
@@ -142,6 +150,7 @@ end_complete src i empty j (content.closed _ slash greater) =
     let next : spaces_end src i + 1 + 1 ≡ spaces_end src i + 2 = omega arith in
     rw (inside, slash, b, next) refl
 
+-- one more attribute is read
 pub more_complete : (src : List ℕ) (i j : ℕ) (raw : RawAttribute) → i < spaces_end src i → RawStands src (spaces_end src i) j raw → turn_at src i ≡ Ok (more raw, j)
 unfolding turn_at
 more_complete src i j raw some r =
@@ -160,13 +169,16 @@ more_complete src i j raw some r =
     let one = raw_complete src (spaces_end src i) j raw r in
     rw (inside, slash, greater, apart, one) refl
 
+-- a quote stops a value
 quote_stop : (b : ℕ) → (b ≡ 39) ⊎ (b ≡ 34) → IsStop b
 quote_stop b (inl h) = inr (inl h)
 quote_stop b (inr h) = inr (inr h)
 
+-- a literal ends where a quote stops it
 literal_stop : (src : List ℕ) (v e j : ℕ) → IsLiteral src v e j → IsStop (byte src e)
 literal_stop src v e j l = rw (literal_closes src v e j l) (quote_stop (byte src v) l.quote)
 
+-- an attribute whose value is read stands there
 pub attribute_sound : (src : List ℕ) → IsUtf8 src → (i j : ℕ) (raw : RawAttribute) (x : RunText) → RawStands src i j raw → value_at src raw.value_start raw.value_end ≡ Ok x
     → (b : ℕ) → IsAttribute true no_entities src i j b b (attribute_with raw x)
 attribute_sound src utf8 i j raw x r h b =
@@ -186,10 +198,12 @@ attribute_sound src utf8 i j raw x r h b =
       borrowed = value.1;
     }
 
+-- the attribute is read from i up to j, and then its value
 abbrev pub AttributeReads : List ℕ → ℕ → ℕ → Attribute → Type 0
 AttributeReads src i j a =
     (raw : RawAttribute) × (x : RunText) × RawStands src i j raw × (value_at src raw.value_start raw.value_end ≡ Ok x) × (a ≡ attribute_with raw x)
 
+-- an attribute that stands there is read, and opens nothing
 pub attribute_complete : (src : List ℕ) → IsUtf8 src → (i j b c : ℕ) (a : Attribute) → IsAttribute true no_entities src i j b c a → AttributeReads src i j a × (b ≡ c)
 attribute_complete src utf8 i j b c a h =
     let closes = h.literal.closes in
@@ -209,5 +223,6 @@ attribute_complete src utf8 i j b c a h =
       value.1,
     )
 
+-- an attribute has a byte
 pub attribute_le : (src : List ℕ) → IsUtf8 src → (i j b c : ℕ) (a : Attribute) → IsAttribute true no_entities src i j b c a → i < j
 attribute_le src utf8 i j b c a h = let r = (attribute_complete src utf8 i j b c a h).0 in raw_le src i j r.0 r.2

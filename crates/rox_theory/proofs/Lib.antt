@@ -1,3 +1,4 @@
+pub mod SpanLemmas
 pub mod Basics
 pub mod NameLemmas
 pub mod CharLemmas

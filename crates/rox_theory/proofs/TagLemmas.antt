@@ -29,6 +29,7 @@ abbrev RestStands : List ℕ → List Declaration → ℕ → Held → (Held × 
 RestStands src known i h x =
     (written : List Attribute) × (last : ℕ) × ((b : ℕ) → Attributes true no_entities src i last b b written) × TagEnds src last x.0.1 x.1 × (all_taken known written h ≡ Ok x.0.0)
 
+-- a turn and the rest that are read stand there
 after_sound : (src : List ℕ) → IsUtf8 src → (known : List Declaration) (next : ℕ → Held → Read (Held × Bool)) → ((j : ℕ) (held : Held) (x : (Held × Bool) × ℕ) → next j held ≡ Ok x → RestStands src known j held x)
     → (i : ℕ) (h : Held) (t : Turn) (j : ℕ) (x : (Held × Bool) × ℕ) → TurnStands src i t j → after_turn next known src h t j ≡ Ok x → RestStands src known i h x
 after_sound src utf8 known next rest i h (more raw) j x stands is =
@@ -46,13 +47,15 @@ after_sound src utf8 known next rest i h opened j x stands is =
 after_sound src utf8 known next rest i h closed j x stands is =
     subst (λ (y : (Held × Bool) × ℕ). RestStands src known i h y) (ok_same _ _ is) ([], i, λ b. no_more i b, stands, refl)
 
+-- the rest of a tag that is read stands there
 rest_sound : (n : ℕ) (cut : Fault) (known : List Declaration) (src : List ℕ) → IsUtf8 src → (i : ℕ) (h : Held) (x : (Held × Bool) × ℕ) → attributes_at n cut known src i h ≡ Ok x → RestStands src known i h x
 unfolding attributes_at
 rest_sound zero cut known src utf8 i h x is = cc is
 rest_sound (suc n) cut known src utf8 i h x is =
     chosen (leb (length src) i) _ _ _ is (λ out is. cc) (λ inside is. bind_ok (turn_at src i) _ _ is (λ t turn is.
-    after_sound src utf8 known (λ j held. attributes_at n cut known src j held) (λ j held y. rest_sound n cut known src utf8 j held y) i h t.0 t.1 x (turn_sound src i t turn) is))
+    after_sound src utf8 known (λ j held. attributes_at n cut known src j held) (λ j held y. rest_sound n cut known src utf8 j held y) i h t.0 t.1 x (turn_sound src utf8 i t turn) is))
 
+-- a tag ends in the source
 ends_inside : (src : List ℕ) (i : ℕ) (empty : Bool) (j : ℕ) → TagEnds src i empty j → (i < length src) × (i < j)
 ends_inside src i empty j (content.opened _ greater) =
     let l = within src (spaces_end src i) (λ z. omega arith) in
@@ -63,6 +66,7 @@ ends_inside src i empty j (content.closed _ slash greater) =
     let le = run_end_le is_space src i in
     (omega arith, omega arith)
 
+-- attributes go forwards
 attributes_le : (src : List ℕ) → IsUtf8 src → (i j b c : ℕ) (as' : List Attribute) → Attributes true no_entities src i j b c as' → i ≤ j
 attributes_le src utf8 i j b c as' (no_more _ _) = omega arith
 attributes_le src utf8 i j b c as' (one_more _ k _ _ d _ a rest some first p) =
@@ -70,6 +74,7 @@ attributes_le src utf8 i j b c as' (one_more _ k _ _ d _ a rest some first p) =
     let ih = attributes_le src utf8 k j d c rest p in
     omega arith
 
+-- the rest of a tag that stands there is read, and opens nothing
 rest_complete : (n : ℕ) (cut : Fault) (known : List Declaration) (src : List ℕ) → IsUtf8 src → (i last b c : ℕ) (written : List Attribute) (empty : Bool) (j : ℕ) (h held : Held)
     → length src ≤ i + n → Attributes true no_entities src i last b c written → TagEnds src last empty j → all_taken known written h ≡ Ok held
     → (attributes_at n cut known src i h ≡ Ok ((held, empty), j)) × (b ≡ c)
@@ -101,6 +106,7 @@ rest_complete (suc n) cut known src utf8 i last b c written empty j h held enoug
     let taken' : taken known (attribute_with raw read.0.1) h ≡ Ok g = rw a_is at one_taken in
     (rw (inside, t, value, taken') ih.0, read.1 ∙ ih.1))
 
+-- a tag that passes the tests has distinct names, within the limit
 tested_sound : (scope : List Declaration) (count i : ℕ) (name : Name) (as' : List Attribute) (x : Unit {0}) → tag_tested scope count i name as' ≡ Ok x
     → (count + length as' ≤ most_attributes) × AreDistinct scope [] as' × (may_name scope name ≡ true)
 unfolding tag_tested
@@ -109,6 +115,7 @@ tested_sound scope count i name as' x h =
     bind_ok (names_tested scope [] as') _ _ h (λ u names h.
     chosen (may_name scope name) _ _ _ h (λ may h. (ltb-false _ _ few, names_sound scope [] as' u names, may)) (λ unknown h. cc)))
 
+-- a tag with distinct names within the limit passes the tests
 tested_complete : (scope : List Declaration) (count i : ℕ) (name : Name) (as' : List Attribute) → count + length as' ≤ most_attributes → AreDistinct scope [] as' → may_name scope name ≡ true
     → tag_tested scope count i name as' ≡ Ok tt
 unfolding tag_tested
@@ -117,9 +124,11 @@ tested_complete scope count i name as' few distinct may =
     let n = names_complete scope [] as' distinct in
     rw (l, n, may) refl
 
+-- nothing yet
 abbrev none_yet : Held
 none_yet = record { own = []; attributes = [] }
 
+-- a tag that is read stands there, well named and within the limits
 pub tag_sound : (src : List ℕ) → IsUtf8 src → (cut : Fault) (above : List Declaration) (count : ℕ) (known : List Declaration) (i j : ℕ) (t : Tag) (empty : Bool) → byte src i ≡ 60
     → length known ≤ most_pairs → tag_at cut above count known src i ≡ Ok ((t, empty), j) → TagStands src above count known i j t empty × (i < j)
 unfolding tag_at
@@ -148,6 +157,7 @@ tag_sound src utf8 cut above count known i j t empty begins few h =
       omega arith,
     )))))
 
+-- a tag that stands there, well named and within the limits, is read
 pub tag_complete : (src : List ℕ) → IsUtf8 src → (cut : Fault) (above : List Declaration) (count : ℕ) (known : List Declaration) (i j b c : ℕ) (t : Tag) (empty : Bool)
     → IsTag true no_entities src i j b c empty t → IsWellNamed (listed above t.declarations) t → count + length t.attributes ≤ most_attributes
     → length (with_new known (listable t)) ≤ most_pairs → (tag_at cut above count known src i ≡ Ok ((t, empty), j)) × (b ≡ c)
