@@ -1,6 +1,6 @@
 //! The declarations of a start tag, one by one (XML 1.0 section 3.1, Namespaces in XML 1.0 section 3).
 
-ghost use Rattle.std.specs.Prelude.{◌≡◌, ◌<◌, ◌≤◌, ◌+◌, ◌-◌, ◌^◌, List, ℕ, length, map, Ok, Err};
+ghost use Rattle.std.specs.Prelude.{◌≡◌, ◌<◌, ◌≤◌, ◌+◌, ◌-◌, ◌^◌, List, ℕ, length, map, Ok, Err, OnOk};
 ghost use Rattle.rox_grammar.specs.declared.fault.Span.{Span as SpecSpan};
 ghost use Rattle.rox_grammar.specs.Written.{Attribute, Declaration, Name, declares, local_span, prefix_span};
 ghost use Rattle.rox_grammar.specs.Document.{most_pairs};
@@ -119,7 +119,10 @@ pub fn take_declaration<'input>(
     requires places { ArePlaces (length names.old.items) listed.old.items }
     requires own { own ≤ length listed.old.items }
     requires few { length names.old.items ≤ most_pairs }
-    ensures { (known : List Declaration) (before : List ℕ) (h : Held) → own ≡ length before
+    ensures places { OnOk result (ArePlaces (length names.new.items) listed.new.items) }
+    ensures own { OnOk result (own ≤ length listed.new.items) }
+    ensures few { OnOk result (length names.new.items ≤ most_pairs) }
+    ensures value { (known : List Declaration) (before : List ℕ) (h : Held) → own ≡ length before
         → Declares known before (map declaration names.old.items) listed.old.items xml h.own
         → Declared known before (map declaration names.new.items) listed.new.items result h (spec.declared known (taken_view taken.entry) h) }
 {

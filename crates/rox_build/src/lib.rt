@@ -7,5 +7,6 @@ pub mod reference;
 pub mod scope;
 pub mod storage;
 pub mod tables;
+pub mod tag;
 pub mod taken;
 pub mod value;

@@ -1,0 +1,143 @@
+//! Start tags: attributes and declarations, each tested in order (XML 1.0 section 3.1, Namespaces in XML 1.0).
+
+ghost use Rattle.std.specs.Prelude.{◌≡◌, ◌<◌, ◌≤◌, ◌+◌, ◌-◌, ◌^◌, ◌∷◌, [], Bool, false, true, List, ℕ, length, map, Ok, Err, OnOk, IfOk, slice_index, IfErr};
+ghost use Rattle.rox_grammar.specs.Written.{Declaration};
+ghost use Rattle.rox_grammar.specs.Document.{most_pairs};
+ghost use Rattle.rox_reading.specs.Tags.{Held, attributes_at};
+ghost use Rattle.rox_scan.specs.Parts.{HasValue, attribute_view};
+ghost use Rattle.rox_build.specs.Values.{piece_view};
+ghost use Rattle.rox_build.specs.Storage.{storage_bytes, is_borrowed};
+ghost use Rattle.rox_build.specs.Lines.{declaration};
+ghost use Rattle.rox_build.specs.Scopes.{ArePlaces};
+ghost use Rattle.rox_build.specs.Tags.{Holding, Took, TookAll, one_more};
+
+use crate::declaration::{declares, take_declaration};
+use crate::storage::StringStorage;
+use crate::tables::ElementTables;
+use crate::taken::Taken;
+use crate::value::{Piece, value};
+use rox_grammar::fault::Fault;
+use rox_scan::cursor::Cursor;
+use rox_scan::failure::Failure;
+use rox_scan::markup::{RawAttribute, Turn};
+use std::alloc::Global;
+
+/// What is used again for each start tag.
+#[derive(Drop)]
+pub struct Buffers<'input> {
+    /// The text that is read, where it is no slice of the source.
+    pub scratch: String,
+    /// The attributes of the tag.
+    pub taken: Vec<Taken<'input>>,
+}
+
+/// A text to keep: a slice of the source where it is one, else a copy of the buffer.
+#[inline]
+pub fn stored<'input>(alloc: Global, piece: Piece<'input>, scratch: &str) -> Result<StringStorage<'input>, Failure>
+    ensures bytes { IfOk result (λ s. storage_bytes s ≡ (piece_view piece.entry scratch.now).value) }
+    ensures kind { IfOk result (λ s. is_borrowed s ≡ (piece_view piece.entry scratch.now).plain) }
+    ensures err { IfErr result (λ e. e ≡ Failure.Memory) }
+{
+    match piece {
+        Piece::Plain(text) => Ok(StringStorage::Borrowed(text)),
+        Piece::Changed => {
+            let text = StringStorage::new_owned(alloc, scratch)?;
+            Ok(text)
+        }
+    }
+}
+
+/// One attribute or declaration as written, which ends at `end`; `own` is where the listed places of the tag begin. Answers
+/// whether the tag declares `xml` now.
+fn take<'input>(
+    alloc: Global,
+    text: &'input str,
+    raw: &RawAttribute<'input>,
+    end: usize,
+    elements: &mut ElementTables<'input>,
+    buffers: &mut Buffers<'input>,
+    own: usize,
+    xml: bool,
+) -> Result<bool, Failure>
+    requires value { HasValue text.now raw.now }
+    requires placed { raw.now.start < 2 ^ 63 }
+    requires end { end ≡ raw.now.value_end + 1 }
+    requires places { ArePlaces (length elements.old.namespaces.items) elements.old.listed.items }
+    requires own { own ≤ length elements.old.listed.items }
+    requires few { length elements.old.namespaces.items ≤ most_pairs }
+    ensures places { OnOk result (ArePlaces (length elements.new.namespaces.items) elements.new.listed.items) }
+    ensures own { OnOk result (own ≤ length elements.new.listed.items) }
+    ensures few { OnOk result (length elements.new.namespaces.items ≤ most_pairs) }
+    ensures attributes { elements.new.attributes ≡ elements.old.attributes }
+    ensures took { (known : List Declaration) (before : List ℕ) (h : Held) → own ≡ length before
+        → Holding known before (map declaration elements.old.namespaces.items) elements.old.listed.items xml buffers.old.taken.items h
+        → Took known before (map declaration elements.new.namespaces.items) elements.new.listed.items buffers.new.taken.items result (one_more known text.now (attribute_view raw.now) h) }
+{
+    let piece = value(text, raw, &mut buffers.scratch)?;
+    let value = stored(alloc, piece, buffers.scratch.as_str())?;
+    let one = Taken {
+        start: raw.start,
+        name_end: raw.name_end,
+        value_start: raw.value_start,
+        end,
+        name: raw.name,
+        value,
+    };
+    if declares(raw.name) {
+        return take_declaration(&mut elements.namespaces, &mut elements.listed, own, xml, one);
+    }
+    buffers.taken.push(one)?;
+    Ok(xml)
+}
+
+/// How many bytes a text has, which is always less than 2^63.
+#[inline]
+pub fn byte_count(text: &str) -> usize
+    ensures value { result ≡ length text.now }
+    ensures small { length text.now < 2 ^ 63 }
+{
+    let bytes = text.as_bytes();
+    bytes.len()
+}
+
+/// Attributes and declarations, up to the end of the tag; `own` is where the listed places of the tag begin. Answers whether
+/// the tag declares `xml`, and whether it is empty. A tag that is cut off right behind its name or an attribute is refused as
+/// `cut`.
+#[tactic(auto, unfolding(rox_reading::specs::Tags::attributes_at))]
+fn attributes<'input>(
+    alloc: Global,
+    cursor: &mut Cursor<'input>,
+    elements: &mut ElementTables<'input>,
+    buffers: &mut Buffers<'input>,
+    own: usize,
+    cut: Fault,
+) -> Result<(bool, bool), Failure>
+    requires places { ArePlaces (length elements.old.namespaces.items) elements.old.listed.items }
+    requires own { own ≤ length elements.old.listed.items }
+    requires few { length elements.old.namespaces.items ≤ most_pairs }
+    ensures places { OnOk result (ArePlaces (length elements.new.namespaces.items) elements.new.listed.items) }
+    ensures own { OnOk result (own ≤ length elements.new.listed.items) }
+    ensures few { OnOk result (length elements.new.namespaces.items ≤ most_pairs) }
+    ensures attributes { elements.new.attributes ≡ elements.old.attributes }
+    ensures source { cursor.new.text ≡ cursor.old.text }
+    ensures took { (known : List Declaration) (before : List ℕ) (h : Held) → own ≡ length before
+        → Holding known before (map declaration elements.old.namespaces.items) elements.old.listed.items false buffers.old.taken.items h
+        → TookAll known before (map declaration elements.new.namespaces.items) elements.new.listed.items buffers.new.taken.items cursor.new result
+          (attributes_at (length cursor.old.text.now) cut known cursor.old.text.now cursor.old.pos h) }
+{
+    let mut xml = false;
+    let count = byte_count(cursor.text);
+    'attributes: for _turn in 0..count {
+        if cursor.is_at_end() {
+            return Err(Failure::Fault(cut));
+        }
+        match cursor.turn()? {
+            Turn::More(raw) => {
+                xml = take(alloc, cursor.text, &raw, cursor.pos, elements, buffers, own, xml)?;
+            }
+            Turn::Open => return Ok((xml, false)),
+            Turn::Empty => return Ok((xml, true)),
+        }
+    }
+    Err(Failure::Fault(cut))
+}
