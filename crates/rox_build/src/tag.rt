@@ -1,6 +1,6 @@
 //! Start tags: attributes and declarations, each tested in order (XML 1.0 section 3.1, Namespaces in XML 1.0).
 
-ghost use Rattle.std.specs.Prelude.{◌≡◌, ◌<◌, ◌≤◌, ◌+◌, ◌-◌, ◌^◌, ◌∷◌, [], Bool, false, true, List, ℕ, length, map, Ok, Err, OnOk, IfOk, slice_index, IfErr};
+ghost use Rattle.std.specs.Prelude.{◌≡◌, ◌<◌, ◌≤◌, ◌+◌, ◌-◌, ◌^◌, ◌∷◌, [], Bool, false, true, List, ℕ, length, map, Ok, Err, OnOk, IfOk, slice_index, slice_range, IfErr, ◌++◌};
 ghost use Rattle.rox_grammar.specs.Written.{Declaration};
 ghost use Rattle.rox_grammar.specs.Document.{most_pairs};
 ghost use Rattle.rox_reading.specs.Tags.{Held, attributes_at};
@@ -8,19 +8,32 @@ ghost use Rattle.rox_scan.specs.Parts.{HasValue, attribute_view};
 ghost use Rattle.rox_build.specs.Values.{piece_view};
 ghost use Rattle.rox_build.specs.Storage.{storage_bytes, is_borrowed};
 ghost use Rattle.rox_build.specs.Lines.{declaration};
-ghost use Rattle.rox_build.specs.Scopes.{ArePlaces};
-ghost use Rattle.rox_build.specs.Tags.{Holding, Took, TookAll, one_more};
+ghost use Rattle.rox_build.specs.Scopes.{ArePlaces, entries};
+ghost use Rattle.rox_build.specs.Tags.{Declares, Holding, Took, TookAll, one_more};
+ghost use Rattle.rox_grammar.specs.Tree.{listed};
 
 use crate::declaration::{declares, take_declaration};
+use crate::scope::inherit;
 use crate::storage::StringStorage;
-use crate::tables::ElementTables;
+use crate::tables::{ElementData, ElementTables, Scope};
 use crate::taken::Taken;
 use crate::value::{Piece, value};
 use rox_grammar::fault::Fault;
-use rox_scan::cursor::Cursor;
+use rox_scan::cursor::{Cursor, QName};
 use rox_scan::failure::Failure;
 use rox_scan::markup::{RawAttribute, Turn};
 use std::alloc::Global;
+
+/// A start tag that was read: its name, from `name_start` up to `name_end`, and what its element has.
+#[derive(Clone, Copy, Debug)]
+pub struct StartTag<'input> {
+    pub name: QName<'input>,
+    pub name_start: usize,
+    pub name_end: usize,
+    pub element: ElementData<'input>,
+    /// It ends with `/>`.
+    pub empty: bool,
+}
 
 /// What is used again for each start tag.
 #[derive(Drop)]
@@ -140,4 +153,28 @@ fn attributes<'input>(
         }
     }
     Err(Failure::Fault(cut))
+}
+
+/// What an element lists whose own declarations are those behind `own`, and `xml` if the flag says so, below one that lists
+/// `above`: a stretch of its own, or its parent's where it declares nothing.
+fn scope_of_tag(elements: &mut ElementTables<'_>, above: Scope, own: usize, xml: bool) -> Result<Scope, Failure>
+    requires places { ArePlaces (length elements.old.namespaces.items) elements.old.listed.items }
+    requires own { own ≤ length elements.old.listed.items }
+    requires above { (above.from ≤ above.until) × (above.until ≤ own) }
+    ensures names { elements.new.namespaces ≡ elements.old.namespaces }
+    ensures attributes { elements.new.attributes ≡ elements.old.attributes }
+    ensures more { OnOk result ((more : List ℕ) × (elements.new.listed.items ≡ elements.old.listed.items ++ more)) }
+    ensures places { OnOk result (ArePlaces (length elements.new.namespaces.items) elements.new.listed.items) }
+    ensures within { IfOk result (λ s. (s.from ≤ s.until) × (s.until ≤ length elements.new.listed.items)) }
+    ensures lists { (known : List Declaration) (before : List ℕ) (ds : List Declaration) → own ≡ length before
+        → Declares known before (map declaration elements.old.namespaces.items) elements.old.listed.items xml ds
+        → IfOk result (λ s. entries (map declaration elements.new.namespaces.items) (slice_range elements.new.listed.items s.from s.until)
+          ≡ listed (entries (map declaration elements.old.namespaces.items) (slice_range elements.old.listed.items above.from above.until)) ds) }
+    ensures err { IfErr result (λ e. e ≡ Failure.Memory) }
+{
+    if own >= elements.listed.len() && !xml {
+        return Ok(above);
+    }
+    inherit(elements.namespaces.as_slice(), &mut elements.listed, own, xml, above.from, above.until)?;
+    Ok(Scope { from: own, until: elements.listed.len() })
 }
