@@ -4,5 +4,7 @@ pub mod Stable
 pub mod Pairs
 pub mod Inherits
 pub mod Listing
+pub mod NameTests
+pub mod Resolving
 pub mod PartLemmas
 pub mod SectionLemmas
