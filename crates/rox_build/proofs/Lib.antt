@@ -4,6 +4,8 @@ pub mod Stable
 pub mod Pairs
 pub mod Inherits
 pub mod Listing
+pub mod NameTests
+pub mod Resolving
 pub mod PartLemmas
 pub mod SectionLemmas
 pub mod Declaring

@@ -5,3 +5,4 @@ pub mod Values
 pub mod Scopes
 pub mod Tags
 pub mod Tagged
+pub mod Resolved

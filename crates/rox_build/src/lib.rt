@@ -4,6 +4,7 @@
 pub mod declaration;
 pub mod namespaces;
 pub mod reference;
+pub mod resolve;
 pub mod scope;
 pub mod storage;
 pub mod tables;
