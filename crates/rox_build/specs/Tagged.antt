@@ -1,5 +1,5 @@
 -- What the code holds of a start tag that was read, against the tag.
-use Rattle.std.specs.Prelude.{◌≡◌, ℕ, ◌+◌, ◌<◌, ◌≤◌, List, ◌++◌, length, map, Option, Result, Ok, Err, slice_range}
+use Rattle.std.specs.Prelude.{◌≡◌, ℕ, Bool, ◌+◌, ◌<◌, ◌≤◌, List, ◌++◌, length, map, Option, Result, Ok, Err, slice_range}
 use Rattle.std.specs.List.{AllByRecursion}
 use Rattle.std.specs.Option.{option_map}
 use Rattle.rox_grammar.specs.declared.fault.Fault.{Fault}
@@ -15,6 +15,7 @@ use Rattle.rox_build.specs.Scopes.{entries, ArePlaces}
 use Rattle.rox_build.specs.declared.tables.AttributeData.{AttributeData}
 use Rattle.rox_build.specs.declared.tables.ElementData.{ElementData}
 use Rattle.rox_build.specs.declared.tables.ElementTables.{ElementTables}
+use Rattle.rox_build.specs.declared.tables.Scope.{Scope}
 use Rattle.rox_build.specs.declared.tag.StartTag.{StartTag}
 
 -- The table of attributes has grown by these, in this scope.
@@ -51,3 +52,7 @@ pub record Tagged (old new : ElementTables) (t : StartTag) (above : List Declara
 abbrev pub GivesTag : ElementTables → ElementTables → Cursor → Result StartTag Failure → List Declaration → Read (Tag × Bool) → Type 0
 GivesTag old new after (Ok t) above read = (tag : Tag) × (read ≡ Ok ((tag, t.empty), after.pos)) × Tagged old new t above tag
 GivesTag old new after (Err e) above read = Fails e read
+
+-- the namespaces at these listed places
+abbrev pub scope_in_tables : ElementTables → Scope → List Declaration
+scope_in_tables t s = entries (map declaration t.namespaces.items) (slice_range t.listed.items s.from s.until)

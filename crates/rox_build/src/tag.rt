@@ -2,17 +2,20 @@
 
 ghost use Rattle.std.specs.Prelude.{◌≡◌, ◌<◌, ◌≤◌, ◌+◌, ◌-◌, ◌^◌, ◌∷◌, [], Bool, false, true, List, ℕ, length, map, Ok, Err, OnOk, IfOk, slice_index, slice_range, IfErr, ◌++◌};
 ghost use Rattle.rox_grammar.specs.Written.{Declaration};
-ghost use Rattle.rox_grammar.specs.Document.{most_pairs};
-ghost use Rattle.rox_reading.specs.Tags.{Held, attributes_at};
+ghost use Rattle.rox_grammar.specs.Document.{most_pairs, most_attributes};
+ghost use Rattle.rox_reading.specs.Tags.{Held, attributes_at, tag_tested, tag_at};
+ghost use Rattle.rox_scan.specs.Gives.{Fails, name_view};
+ghost use Rattle.rox_build.specs.Tagged.{IsElement, GivesTag, scope_in_tables};
 ghost use Rattle.rox_scan.specs.Parts.{HasValue, attribute_view};
 ghost use Rattle.rox_build.specs.Values.{piece_view};
 ghost use Rattle.rox_build.specs.Storage.{storage_bytes, is_borrowed};
 ghost use Rattle.rox_build.specs.Lines.{declaration};
 ghost use Rattle.rox_build.specs.Scopes.{ArePlaces, entries};
-ghost use Rattle.rox_build.specs.Tags.{Declares, Holding, Took, TookAll, one_more};
+ghost use Rattle.rox_build.specs.Tags.{Declares, Holding, Took, TookAll, one_more, taken_view};
 ghost use Rattle.rox_grammar.specs.Tree.{listed};
 
 use crate::declaration::{declares, take_declaration};
+use crate::resolve::{element_namespace, resolve};
 use crate::scope::inherit;
 use crate::storage::StringStorage;
 use crate::tables::{ElementData, ElementTables, Scope};
@@ -177,4 +180,43 @@ fn scope_of_tag(elements: &mut ElementTables<'_>, above: Scope, own: usize, xml:
     }
     inherit(elements.namespaces.as_slice(), &mut elements.listed, own, xml, above.from, above.until)?;
     Ok(Scope { from: own, until: elements.listed.len() })
+}
+
+/// How many attributes a document may have.
+const MOST_ATTRIBUTES: usize = 4294967294;
+
+/// What an element has that lists this scope, with its names tested: its attributes go into the table. The name stands at
+/// `at`.
+#[tactic(auto, unfolding(rox_reading::specs::Tags::tag_tested))]
+fn element_data<'input>(
+    elements: &mut ElementTables<'input>,
+    taken: &mut Vec<Taken<'input>>,
+    name: QName<'input>,
+    at: usize,
+    scope: Scope,
+) -> Result<ElementData<'input>, Failure>
+    requires places { ArePlaces (length elements.old.namespaces.items) elements.old.listed.items }
+    requires within { (scope.from ≤ scope.until) × (scope.until ≤ length elements.old.listed.items) }
+    requires few { length elements.old.attributes.items ≤ most_attributes }
+    requires small { at < 2 ^ 63 }
+    ensures names { elements.new.namespaces ≡ elements.old.namespaces }
+    ensures listed { elements.new.listed ≡ elements.old.listed }
+    ensures tested { (i : ℕ) → at ≡ i + 1 → OnOk result (tag_tested (scope_in_tables elements.old scope) (length elements.old.attributes.items) i (name_view name.entry) (map taken_view taken.old.items) ≡ Ok tt) }
+    ensures element { IfOk result (λ e. IsElement elements.old elements.new e (scope_in_tables elements.old scope) (name_view name.entry) (map taken_view taken.old.items)) }
+    ensures err { (i : ℕ) → at ≡ i + 1 → IfErr result (λ e. Fails e (tag_tested (scope_in_tables elements.old scope) (length elements.old.attributes.items) i (name_view name.entry) (map taken_view taken.old.items))) }
+{
+    let from = elements.attributes.len();
+    if taken.len() > MOST_ATTRIBUTES - from {
+        return Err(Failure::Fault(Fault::AttributesLimitReached));
+    }
+    resolve(elements.namespaces.as_slice(), &elements.listed[scope.from..scope.until], taken, &mut elements.attributes)?;
+    let namespace = element_namespace(elements.namespaces.as_slice(), &elements.listed[scope.from..scope.until], name, at)?;
+    Ok(ElementData {
+        local: name.local,
+        namespaces_from: scope.from,
+        namespaces_until: scope.until,
+        attributes_from: from as u32,
+        attributes_until: elements.attributes.len() as u32,
+        namespace,
+    })
 }
