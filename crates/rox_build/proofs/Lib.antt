@@ -10,3 +10,4 @@ pub mod PartLemmas
 pub mod SectionLemmas
 pub mod Declaring
 pub mod Taking
+pub mod Starting

@@ -46,9 +46,11 @@ pub took_attribute : (known : List Declaration) (before : List ℕ) (names : Lis
     → (x : Held) × (one_more known src (attribute_view raw) h ≡ Ok x) × Holding known before names listed xml kept x
 took_attribute known before names listed xml taken kept src raw h v t push is a b d e n f g dec hold =
     let view = view_is raw v t a b d e n f g in
-    let other : declares (taken_view t).name ≡ false = ap (λ n. declares (name_view n)) n ∙ dec in
-    (record { own = h.own; attributes = h.attributes ++ taken_view t ∷ [] }, one_is known src (attribute_view raw) h v (taken_view t) is view ∙ rw other refl,
-     record { declares = hold.declares; attributes = ap (map taken_view) push ∙ map-append taken_view taken (t ∷ []) ∙ ap (λ xs. xs ++ taken_view t ∷ []) hold.attributes })
+    let other : declares (taken_view t).name ≡ false = ap (λ n. declares (name_view n)) n ∙ dec in (
+      record { own = h.own; attributes = h.attributes ++ taken_view t ∷ [] },
+      one_is known src (attribute_view raw) h v (taken_view t) is view ∙ rw other refl,
+      record { declares = hold.declares; attributes = ap (map taken_view) push ∙ map-append taken_view taken (t ∷ []) ∙ ap (λ xs. xs ++ taken_view t ∷ []) hold.attributes },
+    )
 
 -- ---- what a turn gives
 
@@ -78,11 +80,11 @@ unfolding attribute_at
 attribute_gives src i raw j h =
     bind_ok (qname_at src i) _ _ h (λ name _ h. bind_ok (byte_at 61 src (spaces_end src name.1)) _ _ h (λ equals _ h. bind_ok (quote_at src (spaces_end src equals.1)) _ _ h (λ quote _ h.
     bind_ok (raw_value_at quote.0 src quote.1) _ _ h (λ value _ h. bind_ok (byte_at quote.0 src value.1) _ _ h (λ done is h.
-        let made : RawAttribute = record { start = i; name = name.0; name_end = name.1; value_start = quote.1; value_end = value.1 } in
-        let k : ◌≡◌ {A = RawAttribute × ℕ} (made, done.1) (raw, j) = same_ok (made, done.1) (raw, j) h in
-        let r : made ≡ raw = ap (λ p. p.0) k in
-        let e : done.1 ≡ j = ap (λ p. p.1) k in
-        (sym (ap (λ r. r.start) r), sym e ∙ byte_next quote.0 src value.1 done.0 done.1 is ∙ ap (λ r. r.value_end + 1) r))))))
+    let made : RawAttribute = record { start = i; name = name.0; name_end = name.1; value_start = quote.1; value_end = value.1 } in
+    let k : ◌≡◌ {A = RawAttribute × ℕ} (made, done.1) (raw, j) = same_ok (made, done.1) (raw, j) h in
+    let r : made ≡ raw = ap (λ p. p.0) k in
+    let e : done.1 ≡ j = ap (λ p. p.1) k in
+    (sym (ap (λ r. r.start) r), sym e ∙ byte_next quote.0 src value.1 done.0 done.1 is ∙ ap (λ r. r.value_end + 1) r))))))
   where
     same_ok : (p q : RawAttribute × ℕ) → ◌≡◌ {A = Result (RawAttribute × ℕ) Fault} (Ok p) (Ok q) → p ≡ q
     same_ok p q h = cc h
@@ -108,11 +110,11 @@ turn_gives src i raw j h =
     chosen (eqb (get_or src k 0) 62) _ _ _ h (λ t h. absurd (opened_no raw j (k + 1) h)) (λ f h.
     chosen (eqb k i) _ _ _ h (λ t h. absurd (fault_no _ _ h)) (λ f h.
     bind_ok (attribute_at src k) _ _ h (λ x is h.
-        let e : ◌≡◌ {A = Turn × ℕ} (more x.0, x.1) (more raw, j) = same_turn (more x.0, x.1) (more raw, j) h in
-        let r : x.0 ≡ raw = same_more x.0 raw (ap (λ p. p.0) e) in
-        let n : x.1 ≡ j = ap (λ p. p.1) e in
-        let g = attribute_gives src k x.0 x.1 is in
-        record { within = subst (λ (m : ℕ). m < length src) (sym g.0 ∙ ap (λ r. r.start) r) (leb-false _ _ inside); end = sym n ∙ g.1 ∙ ap (λ r. r.value_end + 1) r })))))
+    let e : ◌≡◌ {A = Turn × ℕ} (more x.0, x.1) (more raw, j) = same_turn (more x.0, x.1) (more raw, j) h in
+    let r : x.0 ≡ raw = same_more x.0 raw (ap (λ p. p.0) e) in
+    let n : x.1 ≡ j = ap (λ p. p.1) e in
+    let g = attribute_gives src k x.0 x.1 is in
+    record { within = subst (λ (m : ℕ). m < length src) (sym g.0 ∙ ap (λ r. r.start) r) (leb-false _ _ inside); end = sym n ∙ g.1 ∙ ap (λ r. r.value_end + 1) r })))))
   where
     same_more : (a b : RawAttribute) → ◌≡◌ {A = Turn} (more a) (more b) → a ≡ b
     same_more a b h = cc h

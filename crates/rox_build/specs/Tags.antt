@@ -23,8 +23,14 @@ declares_xml own = list_any (λ d. is_xml d.prefix) own
 -- an attribute of the tag that is being read, as written
 abbrev pub taken_view : Taken → Attribute
 taken_view t = record {
-    start = t.start; name_end = t.name_end; value_start = t.value_start; end = t.end; name = name_view t.name;
-    value = storage_bytes t.value; borrowed = is_borrowed t.value }
+  start = t.start;
+  name_end = t.name_end;
+  value_start = t.value_start;
+  end = t.end;
+  name = name_view t.name;
+  value = storage_bytes t.value;
+  borrowed = is_borrowed t.value;
+}
 
 -- The table of pairs, the listed places and the flag for `xml` are those of these declarations, where the table was
 -- `known` and the places `before` when the tag began.

@@ -49,7 +49,11 @@ pub struct Buffers<'input> {
 
 /// A text to keep: a slice of the source where it is one, else a copy of the buffer.
 #[inline]
-pub fn stored<'input>(alloc: Global, piece: Piece<'input>, scratch: &str) -> Result<StringStorage<'input>, Failure>
+pub fn stored<'input>(
+    alloc: Global,
+    piece: Piece<'input>,
+    scratch: &str,
+) -> Result<StringStorage<'input>, Failure>
     ensures bytes { IfOk result (λ s. storage_bytes s ≡ (piece_view piece.entry scratch.now).value) }
     ensures kind { IfOk result (λ s. is_borrowed s ≡ (piece_view piece.entry scratch.now).plain) }
     ensures err { IfErr result (λ e. e ≡ Failure.Memory) }
@@ -100,7 +104,13 @@ fn take<'input>(
         value,
     };
     if declares(raw.name) {
-        return take_declaration(&mut elements.namespaces, &mut elements.listed, own, xml, one);
+        return take_declaration(
+            &mut elements.namespaces,
+            &mut elements.listed,
+            own,
+            xml,
+            one,
+        );
     }
     buffers.taken.push(one)?;
     Ok(xml)
@@ -139,7 +149,7 @@ fn attributes<'input>(
     ensures took { (known : List Declaration) (before : List ℕ) (h : Held) → own ≡ length before
         → Holding known before (map declaration elements.old.namespaces.items) elements.old.listed.items false buffers.old.taken.items h
         → TookAll known before (map declaration elements.new.namespaces.items) elements.new.listed.items buffers.new.taken.items cursor.new result
-          (attributes_at (length cursor.old.text.now) cut known cursor.old.text.now cursor.old.pos h) }
+        (attributes_at (length cursor.old.text.now) cut known cursor.old.text.now cursor.old.pos h) }
 {
     let mut xml = false;
     let count = byte_count(cursor.text);
@@ -149,7 +159,16 @@ fn attributes<'input>(
         }
         match cursor.turn()? {
             Turn::More(raw) => {
-                xml = take(alloc, cursor.text, &raw, cursor.pos, elements, buffers, own, xml)?;
+                xml = take(
+                    alloc,
+                    cursor.text,
+                    &raw,
+                    cursor.pos,
+                    elements,
+                    buffers,
+                    own,
+                    xml,
+                )?;
             }
             Turn::Open => return Ok((xml, false)),
             Turn::Empty => return Ok((xml, true)),
@@ -160,7 +179,12 @@ fn attributes<'input>(
 
 /// What an element lists whose own declarations are those behind `own`, and `xml` if the flag says so, below one that lists
 /// `above`: a stretch of its own, or its parent's where it declares nothing.
-fn scope_of_tag(elements: &mut ElementTables<'_>, above: Scope, own: usize, xml: bool) -> Result<Scope, Failure>
+fn scope_of_tag(
+    elements: &mut ElementTables<'_>,
+    above: Scope,
+    own: usize,
+    xml: bool,
+) -> Result<Scope, Failure>
     requires places { ArePlaces (length elements.old.namespaces.items) elements.old.listed.items }
     requires own { own ≤ length elements.old.listed.items }
     requires above { (above.from ≤ above.until) × (above.until ≤ own) }
@@ -172,14 +196,24 @@ fn scope_of_tag(elements: &mut ElementTables<'_>, above: Scope, own: usize, xml:
     ensures lists { (known : List Declaration) (before : List ℕ) (ds : List Declaration) → own ≡ length before
         → Declares known before (map declaration elements.old.namespaces.items) elements.old.listed.items xml ds
         → IfOk result (λ s. entries (map declaration elements.new.namespaces.items) (slice_range elements.new.listed.items s.from s.until)
-          ≡ listed (entries (map declaration elements.old.namespaces.items) (slice_range elements.old.listed.items above.from above.until)) ds) }
+        ≡ listed (entries (map declaration elements.old.namespaces.items) (slice_range elements.old.listed.items above.from above.until)) ds) }
     ensures err { IfErr result (λ e. e ≡ Failure.Memory) }
 {
     if own >= elements.listed.len() && !xml {
         return Ok(above);
     }
-    inherit(elements.namespaces.as_slice(), &mut elements.listed, own, xml, above.from, above.until)?;
-    Ok(Scope { from: own, until: elements.listed.len() })
+    inherit(
+        elements.namespaces.as_slice(),
+        &mut elements.listed,
+        own,
+        xml,
+        above.from,
+        above.until,
+    )?;
+    Ok(Scope {
+        from: own,
+        until: elements.listed.len(),
+    })
 }
 
 /// How many attributes a document may have.
@@ -209,8 +243,18 @@ fn element_data<'input>(
     if taken.len() > MOST_ATTRIBUTES - from {
         return Err(Failure::Fault(Fault::AttributesLimitReached));
     }
-    resolve(elements.namespaces.as_slice(), &elements.listed[scope.from..scope.until], taken, &mut elements.attributes)?;
-    let namespace = element_namespace(elements.namespaces.as_slice(), &elements.listed[scope.from..scope.until], name, at)?;
+    resolve(
+        elements.namespaces.as_slice(),
+        &elements.listed[scope.from..scope.until],
+        taken,
+        &mut elements.attributes,
+    )?;
+    let namespace = element_namespace(
+        elements.namespaces.as_slice(),
+        &elements.listed[scope.from..scope.until],
+        name,
+        at,
+    )?;
     Ok(ElementData {
         local: name.local,
         namespaces_from: scope.from,
@@ -218,5 +262,49 @@ fn element_data<'input>(
         attributes_from: from as u32,
         attributes_until: elements.attributes.len() as u32,
         namespace,
+    })
+}
+
+/// A start tag, from its `<`, of an element whose parent lists `above`. A tag that is cut off by the end of the text right
+/// behind its name or an attribute is refused as `cut`.
+#[tactic(auto, unfolding(rox_reading::specs::Tags::tag_at))]
+pub fn start_tag<'input>(
+    alloc: Global,
+    cursor: &mut Cursor<'input>,
+    elements: &mut ElementTables<'input>,
+    buffers: &mut Buffers<'input>,
+    above: Scope,
+    cut: Fault,
+) -> Result<StartTag<'input>, Failure>
+    requires there { cursor.old.pos < length cursor.old.text.now }
+    requires here { slice_index cursor.old.text.now cursor.old.pos ≡ 60 }
+    requires places { ArePlaces (length elements.old.namespaces.items) elements.old.listed.items }
+    requires few { length elements.old.namespaces.items ≤ most_pairs }
+    requires few_attributes { length elements.old.attributes.items ≤ most_attributes }
+    requires above { (above.from ≤ above.until) × (above.until ≤ length elements.old.listed.items) }
+    ensures source { cursor.new.text ≡ cursor.old.text }
+    ensures starts { IfOk result (λ t. t.name_start ≡ cursor.old.pos + 1) }
+    ensures value { GivesTag elements.old elements.new cursor.new result (scope_in_tables elements.old above)
+        (tag_at cut (scope_in_tables elements.old above) (length elements.old.attributes.items) (map declaration elements.old.namespaces.items) cursor.old.text.now cursor.old.pos) }
+{
+    let small = byte_count(cursor.text);
+    cursor.advance();
+    let name_start = cursor.pos;
+    let name = cursor.qname()?;
+    let name_end = cursor.pos;
+    if name.prefix == "xmlns" {
+        return Err(Failure::Fault(Fault::InvalidElementNamePrefix(name_start)));
+    }
+    let own = elements.listed.len();
+    buffers.taken.clear();
+    let (xml, empty) = attributes(alloc, cursor, elements, buffers, own, cut)?;
+    let scope = scope_of_tag(elements, above, own, xml)?;
+    let element = element_data(elements, &mut buffers.taken, name, name_start, scope)?;
+    Ok(StartTag {
+        name,
+        name_start,
+        name_end,
+        element,
+        empty,
     })
 }

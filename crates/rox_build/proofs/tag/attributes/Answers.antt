@@ -37,7 +37,7 @@ take-requires-clause-placed c =
     let src = c.args.cursor.now.text.now in
     let s = ap (λ t. t.now) c.attributes.invariant.source in
     let is : turn_at c.attributes.cursor.text.now c.attributes.cursor.pos ≡ Ok (more (attribute_view c.in-More.raw), c.turn.new.self.pos) =
-        c.in_ok-raw.ensures.value ∙ ap (λ (t : CodeTurn). Ok (turn_view t, c.turn.new.self.pos)) c.in-More.is in
+    c.in_ok-raw.ensures.value ∙ ap (λ (t : CodeTurn). Ok (turn_view t, c.turn.new.self.pos)) c.in-More.is in
     let k = turn_gives c.attributes.cursor.text.now c.attributes.cursor.pos (attribute_view c.in-More.raw) c.turn.new.self.pos is in
     let w = k.within in
     let small = c.byte_count-count.ensures.small in
@@ -47,7 +47,7 @@ take-requires-clause-placed c =
 pub take-requires-clause-end : goal.take-requires-clause-end
 take-requires-clause-end c =
     let is : turn_at c.attributes.cursor.text.now c.attributes.cursor.pos ≡ Ok (more (attribute_view c.in-More.raw), c.turn.new.self.pos) =
-        c.in_ok-raw.ensures.value ∙ ap (λ (t : CodeTurn). Ok (turn_view t, c.turn.new.self.pos)) c.in-More.is in
+    c.in_ok-raw.ensures.value ∙ ap (λ (t : CodeTurn). Ok (turn_view t, c.turn.new.self.pos)) c.in-More.is in
     (turn_gives c.attributes.cursor.text.now c.attributes.cursor.pos (attribute_view c.in-More.raw) c.turn.new.self.pos is).end
 
 pub returns-in_err-xml-in-More-clause-took : goal.returns-in_err-xml-in-More-clause-took
@@ -58,7 +58,7 @@ returns-in_err-xml-in-More-clause-took c = λ known before h o hold.
     let g = c.attributes.invariant.reads known before h o hold in
     let inside : c.attributes.cursor.pos < length src = rw s at (leb-false _ _ (sym c.is_at_end.ensures ∙ c.if-is_at_end.false)) in
     let is0 : turn_at c.attributes.cursor.text.now c.attributes.cursor.pos ≡ Ok (more (attribute_view c.in-More.raw), c.turn.new.self.pos) =
-        c.in_ok-raw.ensures.value ∙ ap (λ (t : CodeTurn). Ok (turn_view t, c.turn.new.self.pos)) c.in-More.is in
+    c.in_ok-raw.ensures.value ∙ ap (λ (t : CodeTurn). Ok (turn_view t, c.turn.new.self.pos)) c.in-More.is in
     let is = rw s at is0 in
     let p = err_from_is_err_and c.from_residual-in_err-xml-in-More.result c.from_residual-in_err-xml-in-More.ensures.1 in
     let one : n ≡ suc (n - 1) = omega arith in
@@ -91,25 +91,25 @@ returns-in-Empty-clause-took c = λ known before h o hold.
 
 pub attributes-preserved : goal.attributes-preserved
 attributes-preserved c = record {
-    source = c.turn.ensures.source ∙ c.attributes.invariant.source;
-    attributes = c.in_ok-xml-in-More.ensures.attributes ∙ c.attributes.invariant.attributes;
-    places = c.in_ok-xml-in-More.ensures.places;
-    own = c.in_ok-xml-in-More.ensures.own;
-    few = c.in_ok-xml-in-More.ensures.few;
-    reads = λ known before h o hold.
+  source = c.turn.ensures.source ∙ c.attributes.invariant.source;
+  attributes = c.in_ok-xml-in-More.ensures.attributes ∙ c.attributes.invariant.attributes;
+  places = c.in_ok-xml-in-More.ensures.places;
+  own = c.in_ok-xml-in-More.ensures.own;
+  few = c.in_ok-xml-in-More.ensures.few;
+  reads = λ known before h o hold.
       let src = c.args.cursor.now.text.now in
       let n = length src - c.attributes._turn in
       let s = ap (λ t. t.now) c.attributes.invariant.source in
       let g = c.attributes.invariant.reads known before h o hold in
       let inside : c.attributes.cursor.pos < length src = rw s at (leb-false _ _ (sym c.is_at_end.ensures ∙ c.if-is_at_end.false)) in
       let is0 : turn_at c.attributes.cursor.text.now c.attributes.cursor.pos ≡ Ok (more (attribute_view c.in-More.raw), c.turn.new.self.pos) =
-          c.in_ok-raw.ensures.value ∙ ap (λ (t : CodeTurn). Ok (turn_view t, c.turn.new.self.pos)) c.in-More.is in
+      c.in_ok-raw.ensures.value ∙ ap (λ (t : CodeTurn). Ok (turn_view t, c.turn.new.self.pos)) c.in-More.is in
       let is = rw s at is0 in
       let one : n ≡ suc (length src - (c.attributes._turn + 1)) = omega arith in
       let after = ap (λ t. t.now) c.turn.ensures.source ∙ s in
       let took = rw after at (c.in_ok-xml-in-More.ensures.took known before g.h o g.holding) in
       going_on known before c.args.cut src _ n (length src - (c.attributes._turn + 1)) c.attributes.cursor.pos c.turn.new.self.pos _ _ _ _ _ _ _ _ (attribute_view c.in-More.raw) g one inside is took;
-  }
+}
 
 pub returns-clause-took : goal.returns-clause-took
 returns-clause-took c = λ known before h o hold.

@@ -19,4 +19,4 @@ returns-clause-lists c = λ known before ds o d.
     let k = c.inherit.new.listed.ok.0 in
     let end : c.len-2.result ≡ length c.inherit.new.listed.items = omega arith in
     lists_both known before names (map declaration c.as_slice.result.now) c.args.elements.now.listed.items c.inherit.new.listed.items ok.0 c.args.xml ds c.args.own c.args.above.from c.args.above.until c.len-2.result
-        o (ap (map declaration) c.as_slice.ensures.value) end d ok.1 ok.3
+    o (ap (map declaration) c.as_slice.ensures.value) end d ok.1 ok.3
