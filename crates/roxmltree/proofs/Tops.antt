@@ -9,7 +9,9 @@ use Rattle.roxmltree.specs.Places.{places, preorder, place, ids, children}
 use Rattle.roxmltree.specs.Says.{says_element}
 use Rattle.roxmltree.specs.Spot.{spots}
 use Rattle.roxmltree.specs.Elements.{nearest_element}
-use Rattle.roxmltree.specs.Whole.{HasElement, IsDocument}
+use Rattle.roxmltree.specs.Whole.{HasElement, IsDocument, HoldsDocument}
+use Rattle.rox_build.specs.Lines.{Holds}
+use Rattle.rox_build.specs.declared.tables.Tables.{Tables}
 use Rattle.roxmltree.proofs.Preorder.{Sits, sits, length-places}
 
 -- an element is the nearest
@@ -70,3 +72,8 @@ element_stays above (Cons (written.PI start end target value) c r) h = element_s
 -- top nodes with an element make a document
 pub is_document : (n : ℕ) (tops : Forest written.Item) → AnyElement tops → IsDocument n (document_tree n tops)
 is_document n tops h = record { tops = resolved [] tops; rooted = refl; element = element_stays [] tops h }
+
+-- tables of such a tree are a document's
+pub holds_document : (text : List ℕ) (t : Tables) (tops : Forest written.Item) → Holds t (document_tree (length text) tops) → AnyElement tops → HoldsDocument text t
+holds_document text t tops h e =
+    record { tree = document_tree (length text) tops; holds = h; document = is_document (length text) tops e }

@@ -32,7 +32,13 @@ pub record IsDocument (end : ℕ) (tree : Forest Node) : Type 0 where
   pub rooted : tree ≡ Cons (Root end) tops Nil
   pub element : HasElement tops
 
--- the tables hold a document's tree
+-- the tables are those of a document of this text
+pub record HoldsDocument (text : List ℕ) (t : Tables) : Type 0 where
+  pub tree : Forest Node
+  pub holds : Holds t tree
+  pub document : IsDocument (length text) tree
+
+-- the tables hold the tree that they are read as
 pub record IsWhole (text : List ℕ) (t : Tables) : Type 0 where
   pub holds : Holds t (tree_in t)
   pub document : IsDocument (length text) (tree_in t)

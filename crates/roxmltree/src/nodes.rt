@@ -41,7 +41,7 @@ impl NodeId {
     pub fn get_usize(self) -> usize
         ensures { result ≡ number self }
     {
-        self.0 as usize
+        self.get() as usize
     }
 }
 
@@ -51,7 +51,7 @@ impl From<u32> for NodeId {
     ghost from_gives = { λ n id. number id ≡ n };
 
     fn from(id: u32) -> NodeId {
-        NodeId(id)
+        NodeId::new(id)
     }
 }
 
