@@ -19,6 +19,7 @@ use Rattle.rox_build.specs.Lines.{entry}
 use Rattle.rox_build.specs.Scopes.{entries, ArePlaces}
 use Rattle.rox_build.specs.Tags.{declares_xml, Declares, Declared}
 use Rattle.rox_build.proofs.Listing.{with_new-append, with_new-front}
+use Rattle.rox_build.proofs.Inherits.{slice-rest}
 use Rattle.rox_build.proofs.Stable.{all_append, all_weaker, map_same, entry-append}
 
 -- the URI is refused
@@ -113,3 +114,26 @@ own_places before listed mine own o l = ap (drop own) l ∙ ap (λ n. drop n (be
     dropped : (xs ys : List ℕ) → drop (length xs) (xs ++ ys) ≡ ys
     dropped [] ys = refl
     dropped (x ∷ xs) ys = dropped xs ys
+
+-- those listed from where the tag began are what it declares
+pub own_listed : (known : List Declaration) (before : List ℕ) (names seen_names : List Declaration) (listed seen : List ℕ) (xml : Bool) (ds : List Declaration) (own : ℕ)
+    → own ≡ length before → seen_names ≡ names → seen ≡ listed → Declares known before names listed xml ds
+    → entries seen_names (slice_range seen own (length seen)) ≡ listable_of ds
+own_listed known before names seen_names listed seen xml ds own o n s d =
+    ap (λ ns. entries ns (slice_range seen own (length seen))) n
+    ∙ ap (entries names) (slice-rest seen own ∙ own_places before seen d.mine own o (s ∙ d.listed_are)) ∙ d.same
+
+pub fails_by : {X Y : Type 0} (e : Failure) (r : Result X Failure) (read : Result Y Fault) → r ≡ Err e → ((f : Fault) → r ≡ Err (failure.Fault f) → read ≡ Err f) → Fails e read
+fails_by failure.Memory r read is go = tt
+fails_by (failure.Fault f) r read is go = go f is
+
+-- one pair too many
+pub many_pairs : (known : List Declaration) (before : List ℕ) (names : List Declaration) (listed : List ℕ) (xml : Bool) (a : Attribute) (h : Held)
+    → Declares known before names listed xml h.own → is_xml (declaration_of a).prefix ≡ false → most_pairs < length (with_new names (declaration_of a ∷ []))
+    → most_pairs < length (with_new known (listable_of (h.own ++ declaration_of a ∷ [])))
+many_pairs known before names listed xml a h d is many =
+    let one = declaration_of a in
+    let more : listable_of (h.own ++ one ∷ []) ≡ listable_of h.own ++ one ∷ [] = listable-push h.own one ∙ ap (λ xs. listable_of h.own ++ xs) (listable-other one is) in
+    let pairs : with_new known (listable_of (h.own ++ one ∷ [])) ≡ with_new names (one ∷ []) =
+        ap (with_new known) more ∙ with_new-append known (listable_of h.own) (one ∷ []) ∙ ap (λ ns. with_new ns (one ∷ [])) (sym d.names_are) in
+    rw pairs many
