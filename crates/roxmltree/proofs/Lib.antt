@@ -6,5 +6,5 @@ pub mod Tops
 pub mod Entries
 pub mod Prefixes
 pub mod Parts
-pub mod Ends
+pub mod Stretches
 pub mod Ranges
