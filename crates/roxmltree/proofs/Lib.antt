@@ -3,6 +3,9 @@ pub mod Siblings
 pub mod Rows
 pub mod Bare
 pub mod Tops
+pub mod Parsed
+pub mod Apart
+pub mod Once
 pub mod Entries
 pub mod Prefixes
 pub mod Parts

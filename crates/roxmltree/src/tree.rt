@@ -44,6 +44,8 @@ impl fmt::Debug for Document<'_> {
 
 impl<'input> Document<'input> {
     ghost use Rattle.rox_grammar.specs.Tree as grammar;
+    ghost use Rattle.rox_grammar.specs.Document.{IsTreeOf};
+    ghost use Rattle.std.specs.Prelude.{IsUtf8};
     ghost use Rattle.rox_build.specs.Lines.{Holds};
     ghost use Rattle.roxmltree.specs.Whole.{HoldsDocument};
     ghost use Rattle.roxmltree.specs.Bare.{bare, bare_row};
@@ -63,6 +65,14 @@ impl<'input> Document<'input> {
         ensures key { result.key ≡ key }
     {
         Document { text, tables, key }
+    }
+
+    /// What is true of every document.
+    pub(crate) fn whole(&self)
+        ensures parsed { IsTreeOf self.now.text 4294967295 self.now.tree }
+        ensures utf8 { IsUtf8 self.now.text }
+    {
+        let _ = &self.text;
     }
 
     /// How many nodes there are.
