@@ -3,7 +3,8 @@
 /// What a caller asks of the parser.
 #[derive(Clone, Copy, Debug)]
 pub struct ParsingOptions {
-    /// Whether a document type declaration may stand (XML 1.0 section 2.8).
+    /// Whether a document type declaration may stand (XML 1.0 section 2.8). As yet none may, whatever this says: a text with
+    /// one gives `Error::DtdDetected`.
     pub allow_dtd: bool,
     /// How many nodes there may be, the root node counted.
     pub nodes_limit: u32,
