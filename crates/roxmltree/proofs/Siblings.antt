@@ -24,17 +24,17 @@ sib T up left b (Cons x c r) (suc k) s l =
     record { inside = h.inside; after = h.after; before = h.before ∙ omega arith; above = h.above }
 
 -- the nodes from one node on
-row_sits : (f : Forest Node) (i : ℕ) (h : Here (preorder f) i) → Sits (preorder f) h.up h.left i (Cons h.item h.below h.beside)
+pub row_sits : (f : Forest Node) (i : ℕ) (h : Here (preorder f) i) → Sits (preorder f) h.up h.left i (Cons h.item h.below h.beside)
 row_sits f i h = (h.is, h.inside, h.under, h.next)
 
 -- the k-th of a node and its siblings after it
-record At (f : Forest Node) (i k q : ℕ) : Type 0 where
-  inside : q < size f
-  after : (place f q).after ≡ drop (suc k) (row_from f i)
-  before : length (place f q).before ≡ k + length (place f i).before
-  above : (place f q).above ≡ (place f i).above
+pub record At (f : Forest Node) (i k q : ℕ) : Type 0 where
+  pub inside : q < size f
+  pub after : (place f q).after ≡ drop (suc k) (row_from f i)
+  pub before : length (place f q).before ≡ k + length (place f i).before
+  pub above : (place f q).above ≡ (place f i).above
 
-row_at : (f : Forest Node) (i k q : ℕ) → i < size f → k < length (row_from f i) → get_or (row_from f i) k 0 ≡ q → At f i k q
+pub row_at : (f : Forest Node) (i k q : ℕ) → i < size f → k < length (row_from f i) → get_or (row_from f i) k 0 ≡ q → At f i k q
 unfolding place
 row_at f i k q l m e =
     let h = here f i l in
@@ -73,7 +73,7 @@ apart_pos : (f : Forest Node) (i j : ℕ) → IsRun f i j → (i ≡ j → ⊥) 
 apart_pos f i j r n = not_zero i j (apart f i j) (place f i).after r.there n
 
 -- the second of a list
-second : (xs : List ℕ) (n : ℕ) → first xs ≡ Some n → (0 < length xs) × (get_or xs 0 0 ≡ n)
+pub second : (xs : List ℕ) (n : ℕ) → first xs ≡ Some n → (0 < length xs) × (get_or xs 0 0 ≡ n)
 second [] n e = cc
 second (x ∷ xs) n e = (omega arith, cc)
 
