@@ -1,8 +1,7 @@
 //! Laws of the calls, each a function whose contract is the law.
 
-ghost use Rattle.std.specs.Prelude.{◌≡◌, ℕ, ◌<◌, Some, None, IsTrue, length, slice_index};
+ghost use Rattle.std.specs.Prelude.{◌≡◌, ℕ, ◌+◌, ◌<◌, ◌≤◌, ◌∷◌, Some, None, IsTrue, length, slice_index, slice_get};
 ghost use Rattle.std.specs.List.{range_with_len, last_or};
-ghost use Rattle.std.specs.Prelude.{slice_get};
 ghost use Rattle.std.specs.Ordering.{nat_cmp};
 ghost use Rattle.rox_grammar.specs.Forest.{size};
 ghost use Rattle.roxmltree.specs.Places.{place, parent, children, first_child, last_child, next_sibling, prev_sibling};
@@ -11,6 +10,24 @@ ghost use Rattle.roxmltree.specs.Spot.{id_of, document_of};
 use crate::nodes::Node;
 use crate::tree::Document;
 use std::cmp::Ordering;
+
+/// A node's id is its place in document order, and its subtree ends within the document.
+#[tactic(auto, using(crate::proofs::Preorder::place_id, crate::proofs::Preorder::place_end))]
+pub fn ids_are_places(document: &Document<'_>)
+    ensures place { (i : ℕ) → i < size document.now.tree → (place document.now.tree i).id ≡ i }
+    ensures within { (i : ℕ) → i < size document.now.tree → i + (place document.now.tree i).count ≤ size document.now.tree }
+{
+    let _ = document;
+}
+
+/// The nodes above a node are its parent and the nodes above that.
+#[tactic(auto, using(crate::proofs::Preorder::parent_is))]
+pub fn parents_are_the_nearest_above(document: &Document<'_>)
+    ensures inside { (i q : ℕ) → i < size document.now.tree → parent document.now.tree i ≡ Some q → q < size document.now.tree }
+    ensures above { (i q : ℕ) → i < size document.now.tree → parent document.now.tree i ≡ Some q → (place document.now.tree i).above ≡ q ∷ (place document.now.tree q).above }
+{
+    let _ = document;
+}
 
 /// The nodes from one on in its subtree are the ids from its own on, each once: as many as the subtree has.
 #[tactic(auto, using(crate::proofs::Siblings::descendants_is))]
