@@ -1,6 +1,6 @@
 //! Laws of the calls, each a function whose contract is the law.
 
-ghost use Rattle.std.specs.Prelude.{◌≡◌, ℕ, ◌+◌, ◌<◌, ◌≤◌, ◌∷◌, Some, None, IsTrue, length, slice_index, slice_get};
+ghost use Rattle.std.specs.Prelude.{◌≡◌, ℕ, ◌+◌, ◌<◌, ◌≤◌, ◌∷◌, ◌++◌, List, Some, None, IsTrue, length, slice_index, slice_get};
 ghost use Rattle.std.specs.List.{range_with_len, last_or};
 ghost use Rattle.std.specs.Ordering.{nat_cmp};
 ghost use Rattle.rox_grammar.specs.Forest.{size};
@@ -33,6 +33,13 @@ pub fn parents_are_the_nearest_above(document: &Document<'_>)
 #[tactic(auto, using(crate::proofs::Siblings::descendants_is))]
 pub fn descendants_are_in_order(document: &Document<'_>)
     ensures { (i : ℕ) → i < size document.now.tree → (place document.now.tree i).descendants ≡ range_with_len i (place document.now.tree i).count }
+{
+    let _ = document;
+}
+
+/// From each node of a subtree but its top one comes up to the top: above it are some nodes, the top, and those above that.
+pub fn descendants_are_below(document: &Document<'_>)
+    ensures { (i j : ℕ) → i < size document.now.tree → i < j → j < i + (place document.now.tree i).count → (between : List ℕ) × ((place document.now.tree j).above ≡ between ++ i ∷ (place document.now.tree i).above) }
 {
     let _ = document;
 }
