@@ -1,3 +1,4 @@
 pub mod DigitLemmas
 pub mod PartLemmas
 pub mod SectionLemmas
+pub mod ShortLemmas
