@@ -55,7 +55,7 @@ before_mark_is mark (b ∷ bs) (suc k) within none here =
     rw first (omega arith)
 
 -- no mark stands where its first byte doesn't
-not_from_first : (mark hay : List ℕ) (j : ℕ) → 0 < length mark → (get_or hay j 0 ≡ get_or mark 0 0 → ⊥) → starts_with ◌==◌ (drop j hay) mark ≡ false
+pub not_from_first : (mark hay : List ℕ) (j : ℕ) → 0 < length mark → (get_or hay j 0 ≡ get_or mark 0 0 → ⊥) → starts_with ◌==◌ (drop j hay) mark ≡ false
 not_from_first mark hay j some apart =
     fails (starts_with ◌==◌ (drop j hay) mark) (λ h.
     apart (rw add-zero at (at_reads 0 hay mark j _ ((starts_is Decides-eqb (drop j hay) mark true (sym h)).0 refl) 0 some)))

@@ -119,3 +119,22 @@ pub fn is_text_byte(byte: u8) -> bool
 {
     TEXT_BYTES[byte as usize] == b'#'
 }
+
+// A `#` at the place of each byte of a comment that stands for itself: ASCII but for `-` and the controls except TAB, LF and CR.
+static COMMENT_BYTES: [u8; 256] = *b"\
+    .........##..#..................\
+    #############.##################\
+    ################################\
+    ################################\
+    ................................\
+    ................................\
+    ................................\
+    ................................";
+
+/// An ASCII byte of a comment that stands for itself: no `-`, and no control but TAB, LF and CR.
+#[inline(always)]
+pub fn is_comment_byte(byte: u8) -> bool
+    ensures { result ≡ near.is_comment_byte byte }
+{
+    COMMENT_BYTES[byte as usize] == b'#'
+}

@@ -14,7 +14,7 @@ ghost use Rattle.rox_scan.specs.Parts.{HasValue, TurnHasValue, attribute_view, e
 use crate::chars::is_space;
 use crate::cursor::{Cursor, QName};
 use crate::marks::{Finders, either_from, has_mark, mark_from};
-use crate::runs::{ValueByte, is_at, near_end};
+use crate::runs::{CommentByte, ValueByte, is_at, near_end};
 use memchr::memmem::Finder;
 use rox_grammar::fault::{Due, Fault, Word};
 
@@ -90,7 +90,6 @@ impl<'input> Cursor<'input> {
     /// A comment, from `<!--` to its end `-->` (XML 1.0 section 2.5). It answers the text between these. Two dashes within
     /// the text, or one at its end, are a fault at the comment's start.
     #[inline]
-    #[tactic(auto, unfolding(rox_reading::specs::Markup::comment_at))]
     pub fn comment(&mut self, finders: &Finders) -> Result<&'input str, Fault>
         requires { stands (word_text word.CommentStart) self.old.text.now self.old.pos ≡ true }
         ensures value { Reads (λ x. x.now) self.new result (spec.comment_at self.old.text.now self.old.pos) }
@@ -99,6 +98,26 @@ impl<'input> Cursor<'input> {
     {
         let start = self.pos;
         self.skip(Word::CommentStart);
+        let text = self.text;
+        let from = self.pos;
+        let near = near_end::<CommentByte>(text, from);
+        let mut behind = Cursor::at(text, near);
+        if !behind.starts(Word::CommentEnd) {
+            return self.far_comment(start, finders);
+        }
+        behind.skip(Word::CommentEnd);
+        self.pos = behind.pos;
+        Ok(&text[from..near])
+    }
+
+    /// The same, behind its `<!--`, of a long comment and of one that holds more than plain ASCII.
+    #[tactic(auto, unfolding(rox_reading::specs::Markup::comment_at))]
+    fn far_comment(&mut self, start: usize, finders: &Finders) -> Result<&'input str, Fault>
+        requires { self.old.pos ≡ start + 4 }
+        ensures value { Reads (λ x. x.now) self.new result (spec.comment_at self.old.text.now start) }
+        ensures source { self.new.text ≡ self.old.text }
+        ensures onward { self.old.pos ≤ self.new.pos }
+    {
         let text = self.text_to(Word::CommentEnd, &finders.comment_end)?;
         let bytes = text.as_bytes();
         if has_mark(bytes, b"--") || bytes.last() == Some(&b'-') {

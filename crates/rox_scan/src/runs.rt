@@ -249,6 +249,18 @@ impl Near for TextByte {
     }
 }
 
+/// The bytes of a comment that stand for themselves.
+pub struct CommentByte;
+
+impl Near for CommentByte {
+    ghost test = { near.is_comment_byte };
+
+    #[inline(always)]
+    fn has(byte: u8) -> bool {
+        chars::is_comment_byte(byte)
+    }
+}
+
 /// How far a look for the end of a short text goes, in bytes. A search of a longer one is faster by vectors.
 const NEAR: usize = 64;
 
