@@ -16,7 +16,7 @@ use crate::reference::{Reference, read_reference};
 use rox_grammar::fault::Fault;
 use rox_scan::cursor::Cursor;
 use rox_scan::failure::Failure;
-use rox_scan::marks::{before_byte, byte_from, either_from, has_mark};
+use rox_scan::marks::{before_byte, before_either, byte_from, either_from, has_mark};
 use rox_scan::markup::RawAttribute;
 use rox_scan::runs::{TextByte, after_byte, is_at, near_end};
 use std::alloc::AllocError;
@@ -50,11 +50,7 @@ fn expand(cursor: &mut Cursor<'_>, out: &mut String) -> Result<(), Failure>
 fn is_plain(bytes: &[u8]) -> bool
     ensures { result ≡ content.is_plain bytes.now }
 {
-    let mut special = false;
-    for byte in bytes {
-        special |= (*byte == b'&') | (*byte == b'\r');
-    }
-    !special
+    before_either(bytes, b'&', b'\r') == bytes.len()
 }
 
 /// Whether the bytes are a value as they stand: they have no `&`, and no white space but space.
@@ -62,11 +58,9 @@ fn is_plain(bytes: &[u8]) -> bool
 fn is_plain_value(bytes: &[u8]) -> bool
     ensures { result ≡ content.is_plain_value bytes.now }
 {
-    let mut special = false;
-    for byte in bytes {
-        special |= is_special(*byte);
-    }
-    !special
+    let one = before_either(bytes, b'&', b'\r') == bytes.len();
+    let other = before_either(bytes, b'\t', b'\n') == bytes.len();
+    one & other
 }
 
 /// `&`, or white space that is no space.
