@@ -7,7 +7,9 @@ pub mod Listing
 pub mod NameTests
 pub mod Resolving
 pub mod PartLemmas
+pub mod PlainLemmas
 pub mod SectionLemmas
 pub mod Declaring
 pub mod Taking
 pub mod Starting
+pub mod ShortLemmas
