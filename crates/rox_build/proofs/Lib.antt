@@ -1,3 +1,5 @@
 pub mod DigitLemmas
 pub mod Rows
 pub mod Stable
+pub mod PartLemmas
+pub mod SectionLemmas

@@ -1,7 +1,7 @@
 -- The rows of a tree, and the tree that tables hold.
 use Rattle.std.specs.Prelude.{◌≡◌, ℕ, ◌+◌, ◌^◌, ◌<◌, ◌≤◌, List, [], ◌∷◌, ◌++◌, Option, Some, None, length, map, slice_range}
 use Rattle.std.specs.List.{AllByRecursion}
-use Rattle.std.specs.Option.{option_map, option_and_then}
+use Rattle.std.specs.Option.{option_map}
 use Rattle.rox_grammar.specs.Forest.{Forest, Nil, Cons, size}
 use Rattle.rox_grammar.specs.Written.{Declaration}
 use Rattle.rox_grammar.specs.Tree as tree
@@ -11,7 +11,6 @@ use Rattle.rox_build.specs.declared.tables.Namespace.{Namespace}
 use Rattle.rox_build.specs.declared.tables.AttributeNamespace.{AttributeNamespace}
 use Rattle.rox_build.specs.declared.tables.AttributeNamespace.TheVariants as space
 use Rattle.rox_build.specs.declared.tables.AttributeData.{AttributeData}
-use Rattle.rox_build.specs.declared.tables.ElementData.{ElementData}
 use Rattle.rox_build.specs.declared.tables.NodeKind.{NodeKind}
 use Rattle.rox_build.specs.declared.tables.NodeKind.TheVariants as kind
 use Rattle.rox_build.specs.declared.tables.NodeData.{NodeData}

@@ -1,6 +1,8 @@
 -- How the code's texts and references stand to what is read.
-use Rattle.std.specs.Prelude.{◌≡◌, ℕ, Bool, true, false, List, [], ◌++◌, Option, option_map, Result, Ok, Err, if◌then◌else◌}
+use Rattle.std.specs.Prelude.{◌≡◌, ℕ, Bool, true, false, not, ◌==◌, List, ◌++◌, Result, Ok, Err, drop, if◌then◌else◌}
+use Rattle.std.specs.List.{list_any}
 use Rattle.rox_grammar.specs.declared.fault.Fault.{Fault}
+use Rattle.rox_grammar.specs.Content.{literals, line_ends}
 use Rattle.rox_grammar.specs.References.{is_digit, is_hex_digit}
 use Rattle.rox_reading.specs.Lexical.{Read, ◌>>=◌}
 use Rattle.rox_reading.specs.Values as reading
@@ -45,3 +47,11 @@ Appends old new after (Err e) read = Fails e read
 abbrev pub AppendsText : List ℕ → List ℕ → Result (Unit {0}) Failure → Result (List ℕ) Fault → Type 0
 AppendsText old new (Ok x) read = text_behind old read ≡ Ok new
 AppendsText old new (Err e) read = Fails e read
+
+-- XML 2.7, 2.11: the text of a CDATA section, a slice of the source if it has no CR
+abbrev pub section_text : List ℕ → reading.RunText
+section_text raw = record { value = line_ends (literals raw); plain = not (list_any (λ b. b == 13) raw) }
+
+-- what a section's text from i on stands for, where no CR comes right before it
+abbrev pub section_rest : List ℕ → ℕ → List ℕ
+section_rest raw i = line_ends (literals (drop i raw))
