@@ -2,3 +2,4 @@ pub mod Lines
 pub mod SoFar
 pub mod Storage
 pub mod Values
+pub mod Waiting

@@ -1,7 +1,12 @@
 //! From a text to the tables of its tree.
 #![tactic(auto)]
 
+pub mod builder;
+pub mod pending;
+pub mod reader;
 pub mod reference;
+pub mod scope;
 pub mod storage;
 pub mod tables;
+pub mod tag;
 pub mod value;

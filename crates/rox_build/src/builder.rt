@@ -1,0 +1,297 @@
+//! The tables as they grow: the open elements, and the text that may go on.
+
+ghost use Rattle.std.specs.Prelude.{◌<◌, ◌+◌, ◌^◌, ◌≡◌, vec_len, IfOk, OnOk};
+ghost use Rattle.rox_build.specs.Waiting.{waiting};
+
+use crate::pending::Pending;
+use crate::scope::{ElementTables, Scope};
+use crate::storage::StringStorage;
+use crate::tables::{NodeData, NodeKind, Tables};
+use crate::tag::{Buffers, StartTag};
+use crate::value::Piece;
+use rox_grammar::fault::Fault;
+use rox_scan::cursor::QName;
+use rox_scan::failure::Failure;
+use rox_scan::marks::Finders;
+use std::alloc::Global;
+use std::mem;
+
+/// An element that is open: its row, its name, which stands from `name_start` up to `name_end`, and what it lists.
+#[derive(Clone, Copy, Debug)]
+pub struct OpenElement<'input> {
+    pub row: u32,
+    pub name: QName<'input>,
+    pub name_start: usize,
+    pub name_end: usize,
+    pub scope: Scope,
+}
+
+/// The tables of what is read so far. The root node has row 0.
+#[derive(Drop)]
+pub struct Builder<'input> {
+    pub nodes: Vec<NodeData<'input>>,
+    pub tables: ElementTables<'input>,
+    /// Outermost first.
+    pub opened: Vec<OpenElement<'input>>,
+    pub pending: Pending<'input>,
+    /// The text of `Pending::Joined`.
+    pub joined: String,
+    pub buffers: Buffers<'input>,
+    pub finders: Finders,
+    pub nodes_limit: u32,
+    pub ghost few: { vec_len nodes + waiting pending < 2 ^ 32 },
+    pub ghost shallow: { vec_len opened < vec_len nodes },
+}
+
+/// The row of the root node of a text of so many bytes, with room for more.
+fn root_row<'input>(alloc: Global, bytes: usize) -> Result<Vec<NodeData<'input>>, Failure>
+    ensures { IfOk result (λ nodes. vec_len nodes ≡ 1) }
+{
+    let mut nodes = Vec::with_capacity(alloc, bytes / 32 + 1)?;
+    nodes.push(NodeData {
+        start: 0,
+        end: bytes,
+        parent: 0,
+        next: 0,
+        depth: 0,
+        kind: NodeKind::Root,
+    })?;
+    Ok(nodes)
+}
+
+impl<'input> Builder<'input> {
+    /// The tables with the root node of a text of so many bytes.
+    pub fn new(alloc: Global, bytes: usize, nodes_limit: u32) -> Result<Builder<'input>, Failure> {
+        Ok(Builder {
+            nodes: root_row(alloc, bytes)?,
+            tables: ElementTables {
+                attributes: Vec::with_capacity(alloc, bytes / 64)?,
+                namespaces: Vec::new(alloc),
+                listed: Vec::new(alloc),
+            },
+            opened: Vec::new(alloc),
+            pending: Pending::None,
+            joined: String::new(alloc),
+            buffers: Buffers {
+                scratch: String::new(alloc),
+                prefixes: Vec::new(alloc),
+            },
+            finders: Finders::new(),
+            nodes_limit,
+        })
+    }
+
+    /// No element is open.
+    #[inline]
+    pub fn is_at_root(&self) -> bool {
+        self.opened.is_empty()
+    }
+
+    /// The row of the innermost open element, or of the root node.
+    #[inline]
+    fn parent(&self) -> u32 {
+        match self.opened.last() {
+            Some(element) => element.row,
+            None => 0,
+        }
+    }
+
+    /// What the innermost open element lists.
+    #[inline]
+    pub fn scope(&self) -> Scope {
+        match self.opened.last() {
+            Some(element) => element.scope,
+            None => Scope { from: 0, until: 0 },
+        }
+    }
+
+    /// The only fault is that one more node would be too many.
+    #[inline]
+    fn room(&self) -> Result<(), Failure>
+        ensures { OnOk result (vec_len self.now.nodes + waiting self.now.pending + 1 < 2 ^ 32) }
+    {
+        let count = match self.pending {
+            Pending::None => self.nodes.len(),
+            Pending::Slice(_, _, _) => self.nodes.len() + 1,
+            Pending::Joined(_, _) => self.nodes.len() + 1,
+        };
+        if count >= self.nodes_limit as usize {
+            return Err(Failure::Fault(Fault::NodesLimitReached));
+        }
+        Ok(())
+    }
+
+    /// One more row without rows below it.
+    #[inline]
+    fn push(&mut self, start: usize, end: usize, kind: NodeKind<'input>) -> Result<(), Failure>
+        requires { vec_len self.old.nodes + waiting self.old.pending + 1 < 2 ^ 32 }
+        ensures pending { self.new.pending ≡ self.old.pending }
+        ensures opened { self.new.opened ≡ self.old.opened }
+        ensures more { OnOk result (vec_len self.new.nodes ≡ vec_len self.old.nodes + 1) }
+    {
+        let parent = self.parent();
+        let depth = self.opened.len() as u32 + 1;
+        let next = self.nodes.len() as u32 + 1;
+        self.nodes.push(NodeData {
+            start,
+            end,
+            parent,
+            next,
+            depth,
+            kind,
+        })?;
+        Ok(())
+    }
+
+    /// Writes the text that may go on.
+    #[inline]
+    fn flush(&mut self, alloc: Global) -> Result<(), Failure>
+        ensures { OnOk result (waiting self.new.pending ≡ 0) }
+    {
+        match mem::replace(&mut self.pending, Pending::None) {
+            Pending::None => Ok(()),
+            Pending::Slice(start, end, text) => self.push(
+                start,
+                end,
+                NodeKind::Text(StringStorage::Borrowed(text)),
+            ),
+            Pending::Joined(start, end) => {
+                let text = StringStorage::new_owned(alloc, self.joined.as_str())?;
+                self.push(start, end, NodeKind::Text(text))
+            }
+        }
+    }
+
+    /// A node that is no text and has no nodes below it.
+    pub fn leaf(
+        &mut self,
+        alloc: Global,
+        start: usize,
+        end: usize,
+        kind: NodeKind<'input>,
+    ) -> Result<(), Failure> {
+        self.flush(alloc)?;
+        self.room()?;
+        self.push(start, end, kind)
+    }
+
+    /// A piece of text that is a slice of the source.
+    pub fn slice_piece(
+        &mut self,
+        start: usize,
+        end: usize,
+        text: &'input str,
+    ) -> Result<(), Failure> {
+        match self.pending {
+            Pending::None => {
+                self.room()?;
+                self.pending = Pending::Slice(start, end, text);
+            }
+            Pending::Slice(first, until, before) => {
+                self.joined.clear();
+                self.joined.push_str(before)?;
+                self.joined.push_str(text)?;
+                self.pending = Pending::Joined(first, until);
+            }
+            Pending::Joined(_, _) => self.joined.push_str(text)?,
+        }
+        Ok(())
+    }
+
+    /// A piece of text that stands in the buffer for values.
+    pub fn buffered_piece(&mut self, start: usize, end: usize) -> Result<(), Failure> {
+        match self.pending {
+            Pending::None => {
+                self.room()?;
+                mem::swap(&mut self.joined, &mut self.buffers.scratch);
+                self.pending = Pending::Joined(start, end);
+            }
+            Pending::Slice(first, until, before) => {
+                self.joined.clear();
+                self.joined.push_str(before)?;
+                self.joined.push_str(self.buffers.scratch.as_str())?;
+                self.pending = Pending::Joined(first, until);
+            }
+            Pending::Joined(_, _) => self.joined.push_str(self.buffers.scratch.as_str())?,
+        }
+        Ok(())
+    }
+
+    /// A piece of text: a slice of the source where it is one, else what the buffer for values holds.
+    #[inline]
+    pub fn piece(&mut self, start: usize, end: usize, piece: Piece<'input>) -> Result<(), Failure> {
+        match piece {
+            Piece::Plain(text) => self.slice_piece(start, end, text),
+            Piece::Changed => self.buffered_piece(start, end),
+        }
+    }
+
+    /// An element opens.
+    pub fn open_element(
+        &mut self,
+        alloc: Global,
+        start: usize,
+        tag: &StartTag<'input>,
+    ) -> Result<(), Failure> {
+        self.flush(alloc)?;
+        self.room()?;
+        let row = self.nodes.len() as u32;
+        self.push(start, 0, NodeKind::Element(tag.element))?;
+        self.opened.push(OpenElement {
+            row,
+            name: tag.name,
+            name_start: tag.name_start,
+            name_end: tag.name_end,
+            scope: Scope {
+                from: tag.element.namespaces_from,
+                until: tag.element.namespaces_until,
+            },
+        })?;
+        Ok(())
+    }
+
+    /// Writes the end of an element, or of the root node, into its row.
+    fn end_row(&mut self, row: u32, end: usize) {
+        let next = self.nodes.len() as u32;
+        if let Some(node) = self.nodes.get_mut(row as usize) {
+            node.end = end;
+            node.next = next;
+        }
+    }
+
+    /// The innermost open element, or the root node where none is open, ends.
+    pub fn close(&mut self, alloc: Global, end: usize) -> Result<(), Failure> {
+        self.flush(alloc)?;
+        let row = self.parent();
+        self.opened.pop();
+        self.end_row(row, end);
+        Ok(())
+    }
+
+    /// The tables of a whole text that ends here.
+    pub fn finish(mut self, alloc: Global, end: usize) -> Result<Tables<'input>, Failure> {
+        self.flush(alloc)?;
+        self.end_row(0, end);
+        let Builder {
+            nodes,
+            tables,
+            opened: _,
+            pending: _,
+            joined: _,
+            buffers: _,
+            finders: _,
+            nodes_limit: _,
+        } = self;
+        let ElementTables {
+            attributes,
+            namespaces,
+            listed,
+        } = tables;
+        Ok(Tables {
+            nodes,
+            attributes,
+            namespaces,
+            listed,
+        })
+    }
+}
