@@ -117,7 +117,7 @@ kind_more a n l a' n' l' (kind.Element e) x y z (p, q, r, s, o) = (p, omega arit
     option_more n n' None y h = tt
     option_more n n' (Some i) y h = omega arith
 kind_more a n l a' n' l' (kind.Text v) x y z h = tt
-kind_more a n l a' n' l' (kind.Comment t) x y z h = tt
+kind_more a n l a' n' l' (kind.Comment t) x y z h = h
 kind_more a n l a' n' l' (kind.PI p) x y z h = tt
 
 pub namespace_more : (n n' : ℕ) (a : AttributeNamespace) → n ≤ n' → NamespaceWithin n a → NamespaceWithin n' a

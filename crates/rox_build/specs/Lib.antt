@@ -3,3 +3,4 @@ pub mod SoFar
 pub mod Storage
 pub mod Values
 pub mod Waiting
+pub mod Scopes

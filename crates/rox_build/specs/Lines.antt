@@ -1,5 +1,5 @@
 -- The rows of a tree, and the tree that tables hold.
-use Rattle.std.specs.Prelude.{◌≡◌, ℕ, ◌+◌, ◌^◌, ◌<◌, ◌≤◌, List, [], ◌∷◌, ◌++◌, Option, Some, None, length, map, slice_range}
+use Rattle.std.specs.Prelude.{◌≡◌, true, ℕ, ◌+◌, ◌^◌, ◌<◌, ◌≤◌, List, [], ◌∷◌, ◌++◌, Option, Some, None, length, map, slice_range}
 use Rattle.std.specs.List.{AllByRecursion}
 use Rattle.std.specs.Option.{option_map}
 use Rattle.rox_grammar.specs.Forest.{Forest, Nil, Cons, size}
@@ -64,7 +64,7 @@ node attributes names listed start end (kind.Element e) =
     (map (entry names) (slice_range listed e.namespaces_from e.namespaces_until))
     (map (attribute names) (slice_range attributes e.attributes_from e.attributes_until))
 node attributes names listed start end (kind.Text value) = tree.Text start end (storage_bytes value) (is_borrowed value)
-node attributes names listed start end (kind.Comment text) = tree.Comment start end text.now
+node attributes names listed start end (kind.Comment text) = tree.Comment start end (storage_bytes text)
 node attributes names listed start end (kind.PI pi) = tree.PI start end pi.target.now (option_map (λ v. v.now) pi.value)
 
 abbrev pub line : List AttributeData → List Declaration → List ℕ → NodeData → Line
@@ -81,14 +81,14 @@ abbrev pub OptionWithin : ℕ → Option ℕ → Type 0
 OptionWithin n None = Unit {0}
 OptionWithin n (Some i) = i < n
 
--- what a row names is in the tables, of these lengths
+-- what a row names is in the tables, of these lengths, and a comment is a slice of the input
 abbrev pub KindWithin : (attributes names listed : ℕ) → NodeKind → Type 0
 KindWithin attributes names listed kind.Root = Unit {0}
 KindWithin attributes names listed (kind.Element e) =
     (e.attributes_from ≤ e.attributes_until) × (e.attributes_until ≤ attributes)
     × (e.namespaces_from ≤ e.namespaces_until) × (e.namespaces_until ≤ listed) × OptionWithin names e.namespace
 KindWithin attributes names listed (kind.Text value) = Unit {0}
-KindWithin attributes names listed (kind.Comment text) = Unit {0}
+KindWithin attributes names listed (kind.Comment text) = is_borrowed text ≡ true
 KindWithin attributes names listed (kind.PI pi) = Unit {0}
 
 -- each row names only what the tables have

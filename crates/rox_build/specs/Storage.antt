@@ -1,5 +1,5 @@
 -- The bytes of a text, and whether they are a slice of the input.
-use Rattle.std.specs.Prelude.{ℕ, List, Bool, true, false}
+use Rattle.std.specs.Prelude.{◌≡◌, ℕ, List, Bool, true, false}
 use Rattle.std.specs.Rc.{rc_str_bytes}
 use Rattle.rox_build.specs.declared.storage.StringStorage.{StringStorage}
 use Rattle.rox_build.specs.declared.storage.StringStorage.TheVariants.{Borrowed, Owned}
@@ -11,3 +11,7 @@ storage_bytes (Owned s) = rc_str_bytes s
 abbrev pub is_borrowed : StringStorage → Bool
 is_borrowed (Borrowed s) = true
 is_borrowed (Owned s) = false
+
+-- both have these bytes, and both or neither are a slice of the input
+abbrev pub IsSameText : StringStorage → StringStorage → Type 0
+IsSameText s t = (storage_bytes t ≡ storage_bytes s) × (is_borrowed t ≡ is_borrowed s)

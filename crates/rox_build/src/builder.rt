@@ -4,7 +4,7 @@ ghost use Rattle.std.specs.Prelude.{◌<◌, ◌+◌, ◌^◌, ◌≡◌, vec_le
 ghost use Rattle.rox_build.specs.Waiting.{waiting};
 
 use crate::pending::Pending;
-use crate::scope::{ElementTables, Scope};
+use crate::naming::{ElementTables, Scope};
 use crate::storage::StringStorage;
 use crate::tables::{NodeData, NodeKind, Tables};
 use crate::tag::{Buffers, StartTag};

@@ -2,6 +2,7 @@
 #![tactic(auto)]
 
 pub mod builder;
+pub mod naming;
 pub mod pending;
 pub mod reader;
 pub mod reference;

@@ -7,6 +7,7 @@ ghost use Rattle.rox_grammar.specs.Words.{word_text};
 ghost use Rattle.rox_grammar.specs.declared.fault.Word.TheVariants as word;
 
 use crate::builder::Builder;
+use crate::storage::StringStorage;
 use crate::tables::{NodeKind, PI, Tables};
 use crate::tag::{local_span, start_tag};
 use crate::value::{cdata_text, run};
@@ -34,7 +35,7 @@ fn comment<'input>(
 {
     let start = cursor.pos;
     let text = cursor.comment(&builder.finders)?;
-    builder.leaf(alloc, start, cursor.pos, NodeKind::Comment(text))
+    builder.leaf(alloc, start, cursor.pos, NodeKind::Comment(StringStorage::Borrowed(text)))
 }
 
 /// A processing instruction, from `<?`.

@@ -1,166 +1,153 @@
-//! The namespaces that elements list (Namespaces in XML 1.0 section 6).
+//! Namespaces in scope (Namespaces in XML 1.0, section 6). A namespace is a place in the table of the distinct pairs of a
+//! prefix, or the default, and a URI; what an element lists is a stretch of such places.
+
+ghost use Rattle.std.specs.Prelude.{◌≡◌, ◌<◌, ◌≤◌, ◌∷◌, ◌++◌, [], ℕ, List, length, map, take, drop, slice_range, true, false, IfOk, OnOk, IfSome, IfNone, Ok, Err, Some, None, is_some, IsTrue, IfErr, ◌&&◌, ◌||◌};
+ghost use Rattle.rox_grammar.specs.Written.{Declaration};
+ghost use Rattle.rox_grammar.specs.Tree.{same_prefix, is_declared, uri_of};
+ghost use Rattle.rox_grammar.specs.WellNamed.{is_xml};
+ghost use Rattle.rox_grammar.specs.Document.{same_pair, has_pair, with_new, most_pairs};
+ghost use Rattle.rox_build.specs.Storage.{storage_bytes};
+ghost use Rattle.rox_build.specs.Lines.{declaration, entry};
+ghost use Rattle.rox_grammar.specs.declared.fault.Fault.{Fault};
+ghost use Rattle.rox_build.specs.Scopes.{prefix_view, pair, entries, ArePlaces, others};
 
 use crate::storage::StringStorage;
-use crate::tables::{AttributeData, Namespace};
-use crate::value::Piece;
+use crate::tables::Namespace;
 use rox_grammar::fault::Fault;
 use rox_scan::failure::Failure;
-use std::alloc::Global;
 
-/// The URI of the prefix `xml`.
-pub const XML_URI: &str = "http://www.w3.org/XML/1998/namespace";
+/// The most pairs that the table holds.
+const MOST_PAIRS: usize = 65_535;
 
-/// The URI of the prefix `xmlns`.
-pub const XMLNS_URI: &str = "http://www.w3.org/2000/xmlns/";
-
-/// How many pairs of a prefix and a URI a document may have.
-const MOST_PAIRS: usize = 65535;
-
-/// What elements have: their attributes, each pair of a prefix and a URI that is declared, and the places of those that they
-/// list.
-#[derive(Debug, Drop)]
-pub struct ElementTables<'input> {
-    pub attributes: Vec<AttributeData<'input>>,
-    pub namespaces: Vec<Namespace<'input>>,
-    pub listed: Vec<u16>,
-}
-
-/// What an element lists: a stretch of the table of listed places.
-#[derive(Clone, Copy, Debug)]
-pub struct Scope {
-    pub from: usize,
-    pub until: usize,
-}
-
-/// Whether two prefixes are the same; `None` is the default.
+/// Whether two prefixes are one; two defaults are.
 #[inline]
-pub fn same_prefix(one: Option<&str>, other: Option<&str>) -> bool {
-    match one {
-        Some(p) => match other {
-            Some(q) => p == q,
-            None => false,
-        },
-        None => other.is_none(),
+pub fn same_prefix(one: Option<&str>, other: Option<&str>) -> bool
+    ensures { result ≡ same_prefix (prefix_view one.entry) (prefix_view other.entry) }
+{
+    match (one, other) {
+        (None, None) => true,
+        (Some(one), Some(other)) => one == other,
+        _ => false,
     }
 }
 
-/// The place of the pair in the table of namespaces, if it is there.
-fn find(namespaces: &[Namespace<'_>], prefix: Option<&str>, uri: &str) -> Option<usize> {
-    for (place, namespace) in namespaces.iter().enumerate() {
-        if same_prefix(namespace.name, prefix) && namespace.uri.as_str() == uri {
+/// Whether a namespace is this pair.
+#[inline]
+fn is_pair(name: &Namespace<'_>, prefix: Option<&str>, uri: &str) -> bool
+    ensures { result ≡ same_pair (declaration name.now) (pair (prefix_view prefix.entry) uri.now) }
+{
+    same_prefix(name.name, prefix) && name.uri.as_str() == uri
+}
+
+/// The place of a pair in the table, if it is there.
+
+fn find_pair(names: &[Namespace<'_>], prefix: Option<&str>, uri: &str) -> Option<usize>
+    ensures there { IfSome result (λ i. (i < length names.now) × (entry (map declaration names.now) i ≡ pair (prefix_view prefix.entry) uri.now)
+        × (has_pair (map declaration names.now) (pair (prefix_view prefix.entry) uri.now) ≡ true)) }
+    ensures absent { IfNone result (has_pair (map declaration names.now) (pair (prefix_view prefix.entry) uri.now) ≡ false) }
+{
+    for (place, name) in names.iter().enumerate() {
+        if is_pair(name, prefix, uri) {
             return Some(place);
         }
     }
     None
 }
 
-/// The place in the table of namespaces of the first in the scope with this prefix.
-#[inline]
-pub fn lookup(tables: &ElementTables<'_>, scope: Scope, prefix: Option<&str>) -> Option<u16> {
-    for at in scope.from..scope.until {
-        if let Some(place) = tables.listed.get(at) {
-            if let Some(namespace) = tables.namespaces.get(*place as usize) {
-                if same_prefix(namespace.name, prefix) {
-                    return Some(*place);
-                }
-            }
+/// The place of a pair in the table, where it is put if it is new. The table may hold 65,535 of them.
+pub fn place_pair<'input>(
+    names: &mut Vec<Namespace<'input>>,
+    prefix: Option<&'input str>,
+    uri: StringStorage<'input>,
+) -> Result<u16, Failure>
+    requires { length names.old.items ≤ most_pairs }
+    ensures there { IfOk result (λ i. (i < length names.new.items) × (entry (map declaration names.new.items) i ≡ pair (prefix_view prefix.entry) (storage_bytes uri.entry))) }
+    ensures table { OnOk result (map declaration names.new.items ≡ with_new (map declaration names.old.items) (pair (prefix_view prefix.entry) (storage_bytes uri.entry) ∷ [])) }
+    ensures few { OnOk result (length names.new.items ≤ most_pairs) }
+    ensures fault { (f : Fault) → result ≡ Err (Failure.Fault f) → (f ≡ Fault.NamespacesLimitReached)
+        × (most_pairs < length (with_new (map declaration names.old.items) (pair (prefix_view prefix.entry) (storage_bytes uri.entry) ∷ []))) }
+{
+    if let Some(place) = find_pair(names.as_slice(), prefix, uri.as_str()) {
+        return Ok(place as u16);
+    }
+    if names.len() >= MOST_PAIRS {
+        return Err(Failure::Fault(Fault::NamespacesLimitReached));
+    }
+    let place = names.len() as u16;
+    names.push(Namespace { name: prefix, uri })?;
+    Ok(place)
+}
+
+/// The first of these places whose namespace has this prefix, or is the default.
+pub fn place_of(names: &[Namespace<'_>], places: &[u16], prefix: Option<&str>) -> Option<u16>
+    requires { ArePlaces (length names.now) places.now }
+    ensures there { IfSome result (λ i. (i < length names.now)
+        × (uri_of (entries (map declaration names.now) places.now) (prefix_view prefix.entry) ≡ Some (entry (map declaration names.now) i).uri)) }
+    ensures absent { IfNone result (uri_of (entries (map declaration names.now) places.now) (prefix_view prefix.entry) ≡ None) }
+{
+    for place in places {
+        if same_prefix(names[*place as usize].name, prefix) {
+            return Some(*place);
         }
     }
     None
 }
 
-/// The text of a value.
+/// Whether one of these has this prefix, or is the default.
+#[tactic(auto, using(crate::proofs::Pairs::declared_some, crate::proofs::Pairs::declared_none))]
+pub fn is_declared(names: &[Namespace<'_>], places: &[u16], prefix: Option<&str>) -> bool
+    requires { ArePlaces (length names.now) places.now }
+    ensures { result ≡ is_declared (prefix_view prefix.entry) (entries (map declaration names.now) places.now) }
+{
+    match place_of(names, places, prefix) {
+        Some(_) => true,
+        None => false,
+    }
+}
+
+/// The prefix `xml`.
 #[inline]
-pub fn piece_text<'a>(piece: Piece<'a>, scratch: &'a str) -> &'a str {
-    match piece {
-        Piece::Plain(text) => text,
-        Piece::Changed => scratch,
+fn is_xml(prefix: Option<&str>) -> bool
+    ensures { result ≡ is_xml (prefix_view prefix.entry) }
+{
+    match prefix {
+        Some(prefix) => prefix == "xml",
+        None => false,
     }
 }
 
-/// A value to keep: a slice of the source where it is one, else a copy of the buffer.
+/// Whether an element that declares those behind `own`, and `xml` if the flag says so, declares this prefix.
 #[inline]
-pub fn stored<'input>(
-    alloc: Global,
-    piece: Piece<'input>,
-    scratch: &str,
-) -> Result<StringStorage<'input>, Failure> {
-    match piece {
-        Piece::Plain(text) => Ok(StringStorage::Borrowed(text)),
-        Piece::Changed => Ok(StringStorage::new_owned(alloc, scratch)?),
-    }
+fn is_own(names: &[Namespace<'_>], own: &[u16], xml: bool, prefix: Option<&str>) -> bool
+    requires { ArePlaces (length names.now) own.now }
+    ensures { result ≡ (is_declared (prefix_view prefix.entry) (entries (map declaration names.now) own.now) || (xml && is_xml (prefix_view prefix.entry))) }
+{
+    is_declared(names, own, prefix) || (xml && is_xml(prefix))
 }
 
-/// The place of the pair in the table of namespaces, where it is put if it is new.
-fn place_of<'input>(
-    alloc: Global,
-    tables: &mut ElementTables<'input>,
-    prefix: Option<&'input str>,
-    piece: Piece<'input>,
-    scratch: &str,
-) -> Result<u16, Failure> {
-    let uri = piece_text(piece, scratch);
-    let known = find(tables.namespaces.as_slice(), prefix, uri);
-    let place = match known {
-        Some(place) => place,
-        None => tables.namespaces.len(),
-    };
-    if place >= MOST_PAIRS {
-        return Err(Failure::Fault(Fault::NamespacesLimitReached));
-    }
-    if known.is_none() {
-        let uri = stored(alloc, piece, scratch)?;
-        tables.namespaces.push(Namespace { name: prefix, uri })?;
-    }
-    Ok(place as u16)
-}
-
-/// Lists one more declaration of the element whose own ones stand last. The only fault is that there are too many pairs.
-pub fn declare<'input>(
-    alloc: Global,
-    tables: &mut ElementTables<'input>,
-    prefix: Option<&'input str>,
-    piece: Piece<'input>,
-    scratch: &str,
-) -> Result<(), Failure> {
-    let place = place_of(alloc, tables, prefix, piece, scratch)?;
-    tables.listed.push(place)?;
-    Ok(())
-}
-
-/// Lists the place if its prefix is not among the element's own.
-fn inherit_one(tables: &mut ElementTables<'_>, own: Scope, place: u16) -> Result<(), Failure> {
-    let prefix = match tables.namespaces.get(place as usize) {
-        Some(namespace) => namespace.name,
-        None => return Ok(()),
-    };
-    if lookup(tables, own, prefix).is_none() {
-        tables.listed.push(place)?;
-    }
-    Ok(())
-}
-
-/// What an element lists that declares those of `own`, which stand last, below one that lists those of `above`.
-pub fn listed(
-    tables: &mut ElementTables<'_>,
-    above: Scope,
-    own_from: usize,
-) -> Result<Scope, Failure> {
-    let own = Scope {
-        from: own_from,
-        until: tables.listed.len(),
-    };
-    if own.from >= own.until {
-        return Ok(above);
-    }
-    for at in above.from..above.until {
-        if let Some(place) = tables.listed.get(at) {
-            let place = *place;
-            inherit_one(tables, own, place)?;
+/// Lists, behind what an element declares itself, what its parent lists from `from` up to `until` and it does not declare.
+pub fn inherit(
+    names: &[Namespace<'_>],
+    listed: &mut Vec<u16>,
+    own: usize,
+    xml: bool,
+    from: usize,
+    until: usize,
+) -> Result<(), Failure>
+    requires places { ArePlaces (length names.now) listed.old.items }
+    requires own { own ≤ length listed.old.items }
+    requires parent { (from ≤ until) × (until ≤ own) }
+    ensures ok { OnOk result ((more : List ℕ) × (listed.new.items ≡ listed.old.items ++ more) × ArePlaces (length names.now) more
+        × (entries (map declaration names.now) more
+        ≡ others (entries (map declaration names.now) (drop own listed.old.items)) xml (entries (map declaration names.now) (slice_range listed.old.items from until)))) }
+    ensures err { IfErr result (λ e. e ≡ Failure.Memory) }
+{
+    let end = listed.len();
+    for turn in from..until {
+        let place = listed[turn];
+        if !is_own(names, &listed[own..end], xml, names[place as usize].name) {
+            listed.push(place)?;
         }
     }
-    Ok(Scope {
-        from: own_from,
-        until: tables.listed.len(),
-    })
+    Ok(())
 }

@@ -4,6 +4,7 @@ ghost use Rattle.std.specs.Prelude.{◌≡◌, IfOk, false};
 ghost use Rattle.rox_build.specs.Storage.{storage_bytes, is_borrowed};
 
 use std::alloc::{AllocError, Global};
+use std::fmt;
 use std::rc::RcStr;
 
 /// Text of a document: a slice of the input where nothing of it had to be changed, else a text of its own.
@@ -32,5 +33,75 @@ impl<'input> StringStorage<'input> {
             StringStorage::Borrowed(s) => s,
             StringStorage::Owned(s) => s.as_str(),
         }
+    }
+}
+
+/// A copy of the same kind: a slice of the input stays one, and a text of its own is shared. The only error is want of memory.
+impl Clone for StringStorage<'_> {
+    ghost use Rattle.rox_build.specs.Storage.{IsSameText};
+
+    ghost is_clone = { IsSameText };
+
+    fn clone(&self) -> Result<Self, AllocError> {
+        match self {
+            StringStorage::Borrowed(s) => Ok(StringStorage::Borrowed(s)),
+            StringStorage::Owned(s) => {
+                let shared = s.clone()?;
+                Ok(StringStorage::Owned(shared))
+            }
+        }
+    }
+}
+
+impl PartialEq for StringStorage<'_> {
+    ghost use Rattle.std.specs.Prelude.{bytes_eq};
+    ghost use Rattle.std.specs.Ordering.{on};
+    ghost use Rattle.std.proofs.Common.{rules};
+    ghost use Rattle.std.specs.Cmp.Rules.{comparing};
+
+    ghost eq = { on storage_bytes bytes_eq };
+
+    ghost laws = { Prim.search (comparing, rules) };
+
+    fn eq(&self, other: &Self) -> bool {
+        self.as_str() == other.as_str()
+    }
+}
+
+impl Eq for StringStorage<'_> {
+    ghost use Rattle.std.specs.Cmp.Rules.{comparing};
+    ghost use Rattle.std.proofs.Common.{rules};
+
+    ghost laws = { Prim.search (comparing, rules) };
+}
+
+/// Prints the text.
+impl fmt::Display for StringStorage<'_> {
+    ghost use Rattle.std.specs.Prelude.{Some};
+
+    ghost output = { λ s. Some (storage_bytes s) };
+
+    fn fmt<W: fmt::Write>(&self, f: &mut fmt::Formatter<W>) -> fmt::Result {
+        let text = self.as_str();
+        write!(f, "{text}")
+    }
+}
+
+#[cfg(test)]
+mod tests {
+    use super::StringStorage;
+    use std::test::Fail;
+
+    #[test]
+    fn texts_compare_by_bytes(rt: HostRuntime) -> Result<(), Fail> {
+        let slice = StringStorage::Borrowed("text");
+        let owned = StringStorage::new_owned(rt.alloc(), "text")?;
+        let copy = owned.clone()?;
+        assert!(rt; slice == owned);
+        assert!(rt; copy == owned);
+        assert!(rt; slice != StringStorage::Borrowed("texts"));
+        let shown = copy.to_string(rt.alloc())?;
+        assert_eq!(rt; shown.as_str(), "text");
+        Ok(())
     }
 }

@@ -55,7 +55,8 @@ pub enum NodeKind<'input> {
     Root,
     Element(ElementData<'input>),
     Text(StringStorage<'input>),
-    Comment(&'input str),
+    /// Its text is always a slice of the input.
+    Comment(StringStorage<'input>),
     PI(PI<'input>),
 }
 

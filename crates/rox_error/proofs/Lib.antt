@@ -1,0 +1,2 @@
+pub mod PositionLemmas
+pub mod WordLemmas

@@ -1,0 +1,227 @@
+//! Why a text is refused, as a caller is told.
+
+use crate::position::TextPos;
+use std::alloc::AllocError;
+use std::fmt;
+
+/// Why a text is refused. Each kind but those without a field keeps the position that it is named at.
+#[derive(Clone, Debug, Drop, PartialEq, Eq, Hash)]
+pub enum Error {
+    /// The prefix `xml` is declared with another URI (Namespaces in XML section 3).
+    InvalidXmlPrefixUri(TextPos),
+    /// The URI of the prefix `xml` is declared for another prefix (Namespaces in XML section 3).
+    UnexpectedXmlUri(TextPos),
+    /// The URI of the prefix `xmlns` is declared (Namespaces in XML section 3).
+    UnexpectedXmlnsUri(TextPos),
+    /// An element's prefix is `xmlns` (Namespaces in XML section 3).
+    InvalidElementNamePrefix(TextPos),
+    /// One element declares a prefix twice, or `xmlns` for the default.
+    DuplicatedNamespace(String, TextPos),
+    /// A prefix is used that is not declared (Namespaces in XML section 5).
+    UnknownNamespace(String, TextPos),
+    /// An end tag has another name than the innermost open element: that of the element, and that of the tag.
+    UnexpectedCloseTag(String, String, TextPos),
+    /// An end tag in a replacement text closes an element that was opened outside of it.
+    UnexpectedEntityCloseTag(TextPos),
+    /// A reference names an entity that is not declared (XML 1.0 section 4.1).
+    UnknownEntityReference(String, TextPos),
+    /// A reference is not well formed (XML 1.0 section 4.1).
+    MalformedEntityReference(TextPos),
+    /// References lie too deep or are too many inside replacement texts.
+    EntityReferenceLoop(TextPos),
+    /// An attribute's value has a `<` (XML 1.0 section 3.1).
+    InvalidAttributeValue(TextPos),
+    /// Two attributes of one element have one name.
+    DuplicatedAttribute(String, TextPos),
+    /// There is no element.
+    NoRootNode,
+    /// The text ends inside the root element.
+    UnclosedRootNode,
+    /// A processing instruction has the target `xml` (XML 1.0 section 2.6).
+    UnexpectedDeclaration(TextPos),
+    /// There is a DOCTYPE, and none is allowed.
+    DtdDetected,
+    /// There are more nodes than are allowed.
+    NodesLimitReached,
+    /// There are more attributes than a `u32` counts.
+    AttributesLimitReached,
+    /// There are more distinct namespaces than a `u16` counts.
+    NamespacesLimitReached,
+    /// No Name stands where one is due (XML 1.0 section 2.3).
+    InvalidName(TextPos),
+    /// A character that no XML text may have (XML 1.0 section 2.2).
+    NonXmlChar(char, TextPos),
+    /// The byte that is due, and the one that stands there.
+    InvalidChar(u8, u8, TextPos),
+    /// What is due, and the byte that stands there.
+    InvalidChar2(&'static str, u8, TextPos),
+    /// The text that is due.
+    InvalidString(&'static str, TextPos),
+    /// No ExternalID stands where one is due (XML 1.0 section 4.2.2).
+    InvalidExternalID(TextPos),
+    /// The resolver of external entities refused, with these words.
+    EntityResolver(TextPos, String),
+    /// A comment has `--` or ends in `-` (XML 1.0 section 2.5).
+    InvalidComment(TextPos),
+    /// Character data has `]]>` (XML 1.0 section 2.4).
+    InvalidCharacterData(TextPos),
+    /// No construct begins here.
+    UnknownToken(TextPos),
+    /// The text ends inside a construct.
+    UnexpectedEndOfStream,
+    /// There is no memory.
+    OutOfMemory,
+}
+
+impl Error {
+    ghost use Rattle.std.specs.Prelude.{◌≡◌};
+    ghost use Rattle.rox_error.specs.Telling.{position_of};
+
+    /// The position that the error is named at, or 1:1 where it keeps none.
+    pub fn pos(&self) -> TextPos
+        ensures { result ≡ position_of self.now }
+    {
+        match self {
+            Error::InvalidXmlPrefixUri(pos)
+            | Error::UnexpectedXmlUri(pos)
+            | Error::UnexpectedXmlnsUri(pos)
+            | Error::InvalidElementNamePrefix(pos)
+            | Error::DuplicatedNamespace(_, pos)
+            | Error::UnknownNamespace(_, pos)
+            | Error::UnexpectedCloseTag(_, _, pos)
+            | Error::UnexpectedEntityCloseTag(pos)
+            | Error::UnknownEntityReference(_, pos)
+            | Error::MalformedEntityReference(pos)
+            | Error::EntityReferenceLoop(pos)
+            | Error::InvalidAttributeValue(pos)
+            | Error::DuplicatedAttribute(_, pos)
+            | Error::UnexpectedDeclaration(pos)
+            | Error::InvalidName(pos)
+            | Error::NonXmlChar(_, pos)
+            | Error::InvalidChar(_, _, pos)
+            | Error::InvalidChar2(_, _, pos)
+            | Error::InvalidString(_, pos)
+            | Error::InvalidExternalID(pos)
+            | Error::EntityResolver(pos, _)
+            | Error::InvalidComment(pos)
+            | Error::InvalidCharacterData(pos)
+            | Error::UnknownToken(pos) => *pos,
+            Error::NoRootNode
+            | Error::UnclosedRootNode
+            | Error::DtdDetected
+            | Error::NodesLimitReached
+            | Error::AttributesLimitReached
+            | Error::NamespacesLimitReached
+            | Error::UnexpectedEndOfStream
+            | Error::OutOfMemory => TextPos::new(1, 1),
+        }
+    }
+}
+
+impl fmt::Display for Error {
+    ghost use Rattle.rox_error.specs.Messages.{message};
+
+    ghost output = { message };
+
+    fn fmt<W: fmt::Write>(&self, f: &mut fmt::Formatter<W>) -> fmt::Result {
+        match self {
+            Error::InvalidXmlPrefixUri(pos) => write!(
+                f,
+                "'xml' namespace prefix mapped to wrong URI at {pos}"
+            ),
+            Error::UnexpectedXmlUri(pos) => write!(
+                f,
+                "the 'xml' namespace URI is used for not 'xml' prefix at {pos}"
+            ),
+            Error::UnexpectedXmlnsUri(pos) => write!(
+                f,
+                "the 'xmlns' URI is used at {pos}, but it must not be declared"
+            ),
+            Error::InvalidElementNamePrefix(pos) => write!(
+                f,
+                "the 'xmlns' prefix is used at {pos}, but it must not be"
+            ),
+            Error::DuplicatedNamespace(name, pos) => write!(
+                f,
+                "namespace '{name}' at {pos} is already defined"
+            ),
+            Error::UnknownNamespace(name, pos) => write!(
+                f,
+                "an unknown namespace prefix '{name}' at {pos}"
+            ),
+            Error::UnexpectedCloseTag(expected, actual, pos) => write!(
+                f,
+                "expected '{expected}' tag, not '{actual}' at {pos}"
+            ),
+            Error::UnexpectedEntityCloseTag(pos) => write!(f, "unexpected close tag at {pos}"),
+            Error::UnknownEntityReference(name, pos) => write!(
+                f,
+                "unknown entity reference '{name}' at {pos}"
+            ),
+            Error::MalformedEntityReference(pos) => write!(
+                f,
+                "malformed entity reference at {pos}"
+            ),
+            Error::EntityReferenceLoop(pos) => write!(
+                f,
+                "a possible entity reference loop is detected at {pos}"
+            ),
+            Error::InvalidAttributeValue(pos) => write!(f, "unescaped '<' found at {pos}"),
+            Error::DuplicatedAttribute(name, pos) => write!(
+                f,
+                "attribute '{name}' at {pos} is already defined"
+            ),
+            Error::NoRootNode => write!(f, "the document does not have a root node"),
+            Error::UnclosedRootNode => write!(f, "the root node was opened but never closed"),
+            Error::UnexpectedDeclaration(pos) => write!(f, "unexpected XML declaration at {pos}"),
+            Error::DtdDetected => write!(f, "XML with DTD detected"),
+            Error::NodesLimitReached => write!(f, "nodes limit reached"),
+            Error::AttributesLimitReached => write!(f, "more than 2^32 attributes were parsed"),
+            Error::NamespacesLimitReached => write!(
+                f,
+                "more than 2^16 unique namespaces were parsed"
+            ),
+            Error::InvalidName(pos) => write!(f, "invalid name token at {pos}"),
+            Error::NonXmlChar(character, pos) => write!(
+                f,
+                "a non-XML character {character:?} found at {pos}"
+            ),
+            Error::InvalidChar(expected, actual, pos) => {
+                let expected = char::from(*expected);
+                let actual = char::from(*actual);
+                write!(f, "expected '{expected}' not '{actual}' at {pos}")
+            }
+            Error::InvalidChar2(expected, actual, pos) => {
+                let actual = char::from(*actual);
+                write!(f, "expected {expected} not '{actual}' at {pos}")
+            }
+            Error::InvalidString(expected, pos) => write!(f, "expected '{expected}' at {pos}"),
+            Error::InvalidExternalID(pos) => write!(f, "invalid ExternalID at {pos}"),
+            Error::EntityResolver(pos, reason) => write!(
+                f,
+                "entity resolver failed at {pos}: {reason}"
+            ),
+            Error::InvalidComment(pos) => write!(f, "comment at {pos} contains '--'"),
+            Error::InvalidCharacterData(pos) => write!(
+                f,
+                "']]>' at {pos} is not allowed inside a character data"
+            ),
+            Error::UnknownToken(pos) => write!(f, "unknown token at {pos}"),
+            Error::UnexpectedEndOfStream => write!(f, "unexpected end of stream"),
+            Error::OutOfMemory => write!(f, "out of memory"),
+        }
+    }
+}
+
+impl std::error::Error for Error {}
+
+impl From<AllocError> for Error {
+    ghost use Rattle.rox_error.specs.declared.error.Error.TheVariants.{OutOfMemory};
+    ghost use Rattle.std.specs.Prelude.{◌≡◌};
+
+    ghost from_gives = { λ _ e. e ≡ OutOfMemory };
+
+    fn from(_error: AllocError) -> Error {
+        Error::OutOfMemory
+    }
+}

@@ -1,0 +1,8 @@
+//! What a caller is told of a text that is refused: the kind of the fault, its row and column, and its printed text.
+#![tactic(auto)]
+
+pub mod error;
+pub mod position;
+mod telling;
+#[cfg(test)]
+mod tests;

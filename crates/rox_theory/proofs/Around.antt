@@ -1,0 +1,220 @@
+-- What stands around the root element.
+use Rattle.std.proofs.Common.{◌≡◌, ℕ, zero, suc, ◌+◌, ◌<◌, ◌≤◌, ◌==◌, Bool, true, false, List, [], ◌++◌, length, drop, Ok, refl, sym, ap, ◌∙◌, subst, arith}
+use Rattle.std.specs.List.{starts_with}
+use Rattle.std.specs.Str.{IsUtf8, IsCharBoundary}
+use Rattle.std.specs.Char.{encode_utf8}
+use Rattle.std.proofs.lemmas.Str.{IsCharBoundary-start, IsCharBoundary-after_ascii, IsCharBoundary-at_seam, IsUtf8-past_char}
+use Rattle.std.proofs.lemmas.Bool.{false_from_ne_true, cond_both}
+use Rattle.std.proofs.lemmas.Bool.Decides.{Decides-eqb}
+use Rattle.std.proofs.lemmas.Slice.Eq.{starts_is}
+use Rattle.rox_grammar.specs.declared.fault.Word.TheVariants as word
+use Rattle.rox_grammar.specs.Chars.{is_space}
+use Rattle.rox_grammar.specs.Words.{word_text}
+use Rattle.rox_grammar.specs.Forest.{Forest, Nil, join, size}
+use Rattle.rox_grammar.specs.Written.{Declaration, Item, Comment, PI, merge, leaf}
+use Rattle.rox_grammar.specs.Names.{byte, spaces_end}
+use Rattle.rox_grammar.specs.Constructs.{at, IsDeclaration}
+use Rattle.rox_grammar.specs.Content.{IsMisc, comment, instruction, IsElement, empty, nest, TagEnds, opened, closed}
+use Rattle.rox_grammar.specs.Document.{no_entities, bom, after_bom, MayDeclare, declared, not_declared, Misc, no_misc, space, an_item, own_attributes, own_pairs}
+use Rattle.rox_grammar.specs.WellNamed.{ItemWellNamed}
+use Rattle.rox_reading.specs.Markup.{comment_at, instruction_at, declaration_at}
+use Rattle.rox_reading.specs.State.{Open, root, State}
+use Rattle.rox_reading.specs.Machine.{with_item, comment_step, instruction_step, misc, prolog}
+use Rattle.rox_reading.proofs.Forests.{join-nil, join_assoc, merge-more}
+use Rattle.rox_theory.specs.Agrees.{Agrees}
+use Rattle.rox_theory.proofs.Constructions.{name_byte, comment_bytes, instruction_bytes, doctype_bytes, IsNameByte}
+use Rattle.rox_theory.proofs.Places.{byte_within, stands_reads, run_stops, run_past, over_spaces, spaces_on, space_within}
+use Rattle.rox_theory.proofs.Standing.{IsFine}
+use Rattle.rox_theory.proofs.Steps.{bind_ok, chosen, with_leaf, fits_counted, item_read}
+use Rattle.rox_theory.proofs.Chains.{state}
+use Rattle.rox_theory.proofs.Derivations.{comment_is, instruction_is}
+
+-- ---- where a character begins
+
+-- what ends there ends in an ASCII byte
+abbrev pub Ends : List ℕ → ℕ → Type 0
+Ends src j = (k : ℕ) × (j ≡ k + 1) × (k < length src) × (byte src k < 128)
+
+pub ends_cut : (src : List ℕ) (j : ℕ) → IsUtf8 src → Ends src j → IsCharBoundary src j
+ends_cut src j utf8 (k, is, within, ascii) = subst (IsCharBoundary src) (sym is) (IsCharBoundary-after_ascii src k utf8 within ascii)
+
+ends_by : (src : List ℕ) (j k b : ℕ) → j ≡ k + 1 → byte src k ≡ b → 0 < b → b < 128 → Ends src j
+ends_by src j k b is here some ascii = (k, is, byte_within src k (λ z. omega arith), omega arith)
+
+misc_ends : (src : List ℕ) (i j : ℕ) (item : Item) → IsMisc src i j item → Ends src j
+misc_ends src i j item (comment _ e _ is) =
+    ends_by src j (e + 2) 62 (omega (arith, is.next)) (stands_reads (word_text word.CommentEnd) src e 2 is.closes (omega arith)) (omega arith) (omega arith)
+misc_ends src i j item (instruction _ n e _ is) =
+    ends_by src j (e + 1) 62 (omega (arith, is.next)) (stands_reads (word_text word.PIEnd) src e 1 is.closes (omega arith)) (omega arith) (omega arith)
+
+tag_ends : (src : List ℕ) (i j : ℕ) (is_empty : Bool) → TagEnds src i is_empty j → Ends src j
+tag_ends src i j is_empty (opened _ close) = ends_by src j (spaces_end src i) 62 refl close (omega arith) (omega arith)
+tag_ends src i j is_empty (closed _ slash close) = ends_by src j (spaces_end src i + 1) 62 (omega arith) close (omega arith) (omega arith)
+
+pub element_ends : (src : List ℕ) (i j b c : ℕ) (one : Forest Item) → IsElement true no_entities src i j b c one → Ends src j
+element_ends src i j b c one (empty _ _ _ _ t tag) = tag_ends src tag.last j true tag.ends
+element_ends src i j b c one (nest _ k m p _ _ d _ t kids tag inner end) = ends_by src j (spaces_end src p) 62 end.next end.closes (omega arith) (omega arith)
+
+pub declaration_ends : (src : List ℕ) (i j : ℕ) → IsDeclaration src i j → Ends src j
+declaration_ends src i j is =
+    ends_by src j (spaces_end src is.s + 1) 62 (omega (arith, is.next)) (stands_reads (word_text word.PIEnd) src (spaces_end src is.s) 1 is.closes (omega arith)) (omega arith) (omega arith)
+
+pub bom_cut : (src : List ℕ) → IsUtf8 src → IsCharBoundary src (after_bom src)
+unfolding encode_utf8
+bom_cut src utf8 =
+    cond_both (starts_with ◌==◌ src bom) 3 0 (IsCharBoundary src)
+    (λ marked.
+    let split : src ≡ bom ++ drop (length bom) src = (starts_is Decides-eqb src bom true (sym marked)).0 refl in
+    IsCharBoundary-at_seam src bom (drop (length bom) src) split (IsUtf8-past_char src (drop (length bom) src) 0xFEFF utf8 split))
+    (λ bare. IsCharBoundary-start src utf8)
+
+-- ---- where comments and processing instructions stop
+
+pub record Stops (src : List ℕ) (i : ℕ) : Type 0 where
+  pub no_space : spaces_end src i ≡ i
+  pub no_comment : at word.CommentStart src i ≡ false
+  pub no_instruction : at word.PIStart src i ≡ false
+
+no_spaces : (src : List ℕ) (i : ℕ) → byte src i ≡ 60 → spaces_end src i ≡ i
+no_spaces src i here = run_stops is_space src i (byte_within src i (λ z. omega arith)) (omega arith) (rw here refl)
+
+-- an element is neither white space nor one of them, nor a document type declaration
+pub element_stops : (src : List ℕ) (i j b c : ℕ) (one : Forest Item) → IsElement true no_entities src i j b c one → (byte src i ≡ 60) × (at word.DoctypeStart src i ≡ false) × Stops src i
+element_stops src i j b c one is = from_tag (begins one is)
+  where
+    begins : (one : Forest Item) → IsElement true no_entities src i j b c one → (byte src i ≡ 60) × IsNameByte src (i + 1)
+    begins one (empty _ _ _ _ t tag) = (tag.begins, name_byte src (i + 1) t.name t.name_end tag.is_name)
+    begins one (nest _ k m p _ _ d _ t kids tag inner end) = (tag.begins, name_byte src (i + 1) t.name t.name_end tag.is_name)
+
+    from_tag : (byte src i ≡ 60) × IsNameByte src (i + 1) → (byte src i ≡ 60) × (at word.DoctypeStart src i ≡ false) × Stops src i
+    from_tag (here, name) = (
+      here,
+      false_from_ne_true _ (λ h. name.no_mark (doctype_bytes src i h).2),
+      record {
+        no_space = no_spaces src i here;
+        no_comment = false_from_ne_true _ (λ h. name.no_mark (comment_bytes src i h).2);
+        no_instruction = false_from_ne_true _ (λ h. name.no_question (instruction_bytes src i h).2);
+      },
+    )
+
+pub end_stops : (src : List ℕ) → Stops src (length src)
+end_stops src =
+    record {
+      no_space = run_past is_space src (length src) (omega arith);
+      no_comment = false_from_ne_true _ (λ h. let b = comment_bytes src (length src) h in omega arith);
+      no_instruction = false_from_ne_true _ (λ h. let b = instruction_bytes src (length src) h in omega arith);
+    }
+
+pub fine_at : (limit i j : ℕ) (done : Forest Item) (stack : Open) → IsFine limit (state i done stack) → IsFine limit (state j done stack)
+fine_at limit i j done stack fine = record { nodes = fine.nodes; attributes = fine.attributes; pairs = fine.pairs; named = fine.named }
+
+module _ (src : List ℕ) (agrees : Agrees src) where
+  -- ---- what is read is Misc
+
+  -- what is read of them from a place on
+  abbrev pub MiscRead : ℕ → ℕ → Forest Item → State → Type 0
+  MiscRead most i done u = (items : Forest Item) × Misc src i u.at items × (u ≡ state u.at (join done items) root) × IsFine most u × (u.at ≤ length src)
+
+  abbrev plain : Item → Type 0
+  plain item = (own_attributes item ≡ 0) × (own_pairs item ≡ []) × ((scope : List Declaration) → ItemWellNamed scope item)
+
+  misc_plain : (i j : ℕ) (item : Item) → IsMisc src i j item → plain item
+  misc_plain i j item (comment _ e _ is) = (refl, refl, λ scope. tt)
+  misc_plain i j item (instruction _ n e _ is) = (refl, refl, λ scope. tt)
+
+  -- an item, and then what follows it
+  item_then : (most i j : ℕ) (done : Forest Item) (item : Item) (u : State) → IsMisc src i j item → MiscRead most j (join done (leaf item)) u → MiscRead most i done u
+  item_then most i j done item u is (items, more, e, fine, within) =
+      (join (leaf item) items, an_item i j u.at item items is more, e ∙ ap (λ (f : Forest Item). state u.at f root) (join_assoc done (leaf item) items), fine, within)
+
+  -- white space in front
+  spaces_then : (most i : ℕ) (done : Forest Item) (u : State) → IsUtf8 src → IsCharBoundary src i → MiscRead most (spaces_end src i) done u → MiscRead most i done u
+  spaces_then most i done u utf8 cut (items, more, e, fine, within) =
+      (items, (over_spaces src (λ (k : ℕ). Misc src k u.at items) i utf8 cut (λ k is rest. space k u.at items is rest)).1 more, e, fine, within)
+
+  pub misc_sound : (n limit most i : ℕ) (done : Forest Item) (u : State) → limit ≤ most → IsUtf8 src → IsCharBoundary src i → IsFine most (state i done root) → misc limit n src (state i done root) ≡ Ok u
+      → MiscRead most i done u
+  unfolding misc comment_step instruction_step
+  misc_sound zero limit most i done u more utf8 cut fine h =
+      let e : state i done root ≡ u = cc in
+      subst (λ (u : State). MiscRead most i done u) e (Nil, no_misc i, rw join-nil refl, fine, cut.0)
+  misc_sound (suc n) limit most i done u more utf8 cut fine h =
+      let k = spaces_end src i in
+      let fine' = fine_at most i k done root fine in
+      let within = (over_spaces src (λ (k : ℕ). Unit {0}) i utf8 cut (λ k is rest. tt)).0 in
+      let go : (j : ℕ) (item : Item) (t : State) → IsMisc src k j item → with_item limit (state k done root) j item ≡ Ok t → misc limit n src t ≡ Ok u → MiscRead most i done u =
+      λ j item t is one rest.
+      let p = misc_plain k j item is in
+      let both = item_read src agrees limit most (state k done root) t j item more p.0 p.1 (p.2 _) fine' one in
+      let here : misc limit n src (state j (join done (leaf item)) root) ≡ Ok u = subst (λ (t : State). misc limit n src t ≡ Ok u) both.0 rest in
+      let next = misc_sound n limit most j (join done (leaf item)) u more utf8 (ends_cut src j utf8 (misc_ends src k j item is)) (subst (IsFine most) both.0 both.1) here in
+      spaces_then most i done u utf8 cut (item_then most k j done item u is next)
+      in
+      chosen (at word.CommentStart src k) _ _ _ h
+      (λ here h. bind_ok (comment_step limit src (state k done root)) _ _ h (λ t one rest.
+      bind_ok (comment_at src k) _ _ one (λ x read one. go x.1 (Comment k x.1 x.0) t (comment_is src agrees k x.1 x.0 here read) one rest)))
+      (λ none h. chosen (at word.PIStart src k) _ _ _ h
+      (λ here h. bind_ok (instruction_step limit src (state k done root)) _ _ h (λ t one rest.
+      bind_ok (instruction_at src k) _ _ one (λ x read one. go x.1 (PI k x.1 x.0.target x.0.value) t (instruction_is src agrees k x.1 x.0 here read) one rest)))
+      (λ none h.
+      let e : state k done root ≡ u = cc in
+      subst (λ (u : State). MiscRead most i done u) e (spaces_then most i done (state k done root) utf8 cut (Nil, no_misc k, rw join-nil refl, fine', within))))
+
+  -- ---- Misc is what is read
+
+  misc_moves : (i j : ℕ) (item : Item) → IsMisc src i j item → i < j
+  misc_moves i j item (comment _ e _ is) = (agrees.comment_sound i j _ is.opens (agrees.comment_complete i e j is)).3
+  misc_moves i j item (instruction _ n e _ is) = (agrees.instruction_sound i j _ is.opens (agrees.instruction_complete i n e j is)).4
+
+  -- one of them, with its white space taken
+  one_misc : (n limit i j : ℕ) (item : Item) (done : Forest Item) (u : State) → IsMisc src i j item → size (merge (join done (leaf item))) + 1 ≤ limit
+      → misc limit n src (state j (join done (leaf item)) root) ≡ Ok u → misc limit (suc n) src (state i done root) ≡ Ok u
+  unfolding misc comment_step instruction_step
+  one_misc n limit i j item done u (comment _ e _ is) fits rest =
+      let bytes = comment_bytes src i is.opens in
+      let counts = fits_counted limit (with_leaf (state i done root) j item) (omega arith) in
+      rw (no_spaces src i bytes.1, is.opens, agrees.comment_complete i e j is, counts) rest
+  one_misc n limit i j item done u (instruction _ t e _ is) fits rest =
+      let bytes = instruction_bytes src i is.opens in
+      let none : at word.CommentStart src i ≡ false = false_from_ne_true _ (λ h. let other = comment_bytes src i h in omega arith) in
+      let counts = fits_counted limit (with_leaf (state i done root) j item) (omega arith) in
+      rw (no_spaces src i bytes.1, none, is.opens, agrees.instruction_complete i t e j is, counts) rest
+
+  misc_within : (i j : ℕ) (item : Item) → IsMisc src i j item → i < length src
+  misc_within i j item (comment _ e _ is) = let bytes = comment_bytes src i is.opens in omega arith
+  misc_within i j item (instruction _ n e _ is) = let bytes = instruction_bytes src i is.opens in omega arith
+
+  pub misc_complete : (n limit i j : ℕ) (items done : Forest Item) → Misc src i j items → Stops src j → size (merge (join done items)) + 1 ≤ limit → length src ≤ i + n
+      → misc limit n src (state i done root) ≡ Ok (state j (join done items) root)
+  unfolding misc
+  misc_complete zero limit i j items done (no_misc _) stops fits enough = rw join-nil refl
+  misc_complete (suc n) limit i j items done (no_misc _) stops fits enough = rw (stops.no_space, stops.no_comment, stops.no_instruction, join-nil) refl
+  misc_complete zero limit i j items done (space _ _ _ is rest) stops fits enough = absurd (omega (arith, space_within src i is))
+  misc_complete (suc n) limit i j items done (space _ _ _ is rest) stops fits enough =
+      let next = misc_complete (suc n) limit (i + 1) j items done rest stops fits (omega arith) in
+      rw (spaces_on src i is) next
+  misc_complete zero limit i j items done (an_item _ k _ item more is rest) stops fits enough = absurd (omega (arith, misc_within i k item is))
+  misc_complete (suc n) limit i j items done (an_item _ k _ item more is rest) stops fits enough =
+      let e = join_assoc done (leaf item) more in
+      let all : size (merge (join (join done (leaf item)) more)) + 1 ≤ limit = rw e fits in
+      let moves = misc_moves i k item is in
+      let next = misc_complete n limit k j more (join done (leaf item)) rest stops all (omega arith) in
+      one_misc n limit i k item done (state j (join done items) root) is (omega (arith, merge-more (join done (leaf item)) more)) (next ∙ ap (λ (f : Forest Item). Ok (state j f root)) e)
+
+  -- ---- the declaration
+
+  pub prolog_sound : (i j : ℕ) → prolog src i ≡ Ok j → MayDeclare src i j
+  unfolding prolog
+  prolog_sound i j h =
+      chosen (at word.DeclarationStart src i) _ _ _ h
+      (λ here h. bind_ok (declaration_at src i) _ _ h (λ x read h. let e : x.1 ≡ j = cc in subst (MayDeclare src i) e (declared i x.1 (agrees.declaration_sound i x.1 x.0 here read))))
+      (λ none h. let e : i ≡ j = cc in subst (MayDeclare src i) e (not_declared i none))
+
+  pub prolog_complete : (i j : ℕ) → MayDeclare src i j → prolog src i ≡ Ok j
+  unfolding prolog
+  prolog_complete i j (declared _ _ is) = rw (is.opens, agrees.declaration_complete i j is) refl
+  prolog_complete i j (not_declared _ none) = rw none refl
+
+  pub prolog_cut : (i j : ℕ) → IsUtf8 src → IsCharBoundary src i → MayDeclare src i j → IsCharBoundary src j
+  prolog_cut i j utf8 cut (declared _ _ is) = ends_cut src j utf8 (declaration_ends src i j is)
+  prolog_cut i j utf8 cut (not_declared _ none) = cut

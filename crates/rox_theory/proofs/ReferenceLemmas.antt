@@ -1,0 +1,206 @@
+-- References to characters: what is read stands there, and what stands there is read.
+use Rattle.std.proofs.Common.{◌≡◌, ◌≢◌, ℕ, ◌+◌, ◌-◌, ◌*◌, ◌^◌, ◌<◌, ◌≤◌, ◌==◌, Bool, true, false, not, ◌&&◌, ◌||◌, cond, eqb, leb, ltb, List, [], ◌∷◌, ◌++◌, length, get_or, take, drop, refl, sym, ap, ◌∙◌, subst, arith, inl, inr, ◌⊎◌, length-drop, get_or-drop, add-zero}
+use Rattle.std.specs.Prelude.{Result, Ok, Err, Option, Some, None}
+use Rattle.std.specs.Char.{encode_utf8}
+use Rattle.std.specs.List.{prefix_len}
+use Rattle.std.specs.Str.{IsUtf8, IsCharBoundary}
+use Rattle.std.proofs.lemmas.Str.{IsCharBoundary-after_ascii}
+use Rattle.std.proofs.lemmas.List.Sums.{prefix_len_passes}
+use Rattle.std.proofs.lemmas.Bool.{not-true, eqb-true, eqb-false, eq-eqb, ne_eqb, leb-false, lt-leb, leb-true, and_parts, or_cases, cases_lt, cases_eq, false≢true}
+use Rattle.rox_grammar.specs.declared.fault.Fault.{Fault}
+use Rattle.rox_grammar.specs.declared.fault.Span.{Span}
+use Rattle.rox_grammar.specs.Chars.{is_name_start, is_name_char, is_char}
+use Rattle.rox_grammar.specs.Runs.{run_end, begins}
+use Rattle.rox_grammar.specs.Names.{byte, slice, IsName}
+use Rattle.rox_grammar.specs.References.{is_digit, is_hex_digit, number, bytes_end, character, predefined, IsNumber, IsReference, IsCharacter, decimal, hexadecimal, named}
+use Rattle.rox_reading.specs.Lexical.{Read, ◌>>=◌}
+use Rattle.rox_reading.specs.Values.{Reference, character_of, entity_at, named_or, number_at, name_reference_at, reference_at, expanded, expansion_at}
+use Rattle.rox_theory.proofs.Basics.{ok_same, bind_ok, chosen, within, run_end_le}
+use Rattle.rox_theory.proofs.NameLemmas.{begins_here}
+use Rattle.rox_theory.proofs.CharLemmas.{run_within}
+
+bytes_end_le : (p : ℕ → Bool) (src : List ℕ) (i : ℕ) → i ≤ bytes_end p src i
+unfolding bytes_end
+bytes_end_le p src i = omega arith
+
+bytes_pass : (p : ℕ → Bool) (src : List ℕ) (i k : ℕ) → i ≤ k → k < bytes_end p src i → p (byte src k) ≡ true
+unfolding bytes_end
+bytes_pass p src i k from below =
+    let e : i + (k - i) ≡ k = omega arith in
+    let q = prefix_len_passes p (drop i src) (k - i) 0 (omega arith) in
+    subst (λ (m : ℕ). p (get_or src m 0) ≡ true) e (rw get_or-drop at q)
+
+number_sound : (base : ℕ) (is : ℕ → Bool) (src : List ℕ) (i d : ℕ) (x : Reference × ℕ) → number_at base is src i d ≡ Ok x
+    → (c : ℕ) × IsNumber base is src d (bytes_end is src d) c x.1 × (x.0 ≡ character_of c)
+unfolding number_at
+number_sound base is src i d x h =
+    let e = bytes_end is src d in
+    let n = number base (slice src d e) in
+    chosen (eqb e d) _ _ _ h (λ none h. cc) (λ some h.
+    chosen (leb (2 ^ 32) n) _ _ _ h (λ large h. cc) (λ small h.
+    chosen (is_char (character n)) _ _ _ h (λ allowed h.
+    chosen (eqb (byte src e) 59) _ _ _ h (λ closes h.
+    let apart = eqb-false _ _ some in
+    let le = bytes_end_le is src d in (
+      character n,
+      record { end = refl; some = omega arith; closes = eqb-true _ _ closes; small = leb-false _ _ small; is_character = refl; allowed = allowed; next = sym (ap (λ p. p.1) (ok_same _ _ h)) },
+      sym (ap (λ p. p.0) (ok_same _ _ h)),
+    ))
+    (λ fails h. cc)) (λ ill h. cc)))
+
+number_complete : (base : ℕ) (is : ℕ → Bool) (src : List ℕ) (i d e c j : ℕ) → IsNumber base is src d e c j → number_at base is src i d ≡ Ok (character_of c, j)
+unfolding number_at
+number_complete base is src i d e c j m =
+    let l = m.end in let some = m.some in
+    let apart : eqb e d ≡ false = ne_eqb e d (omega arith) in
+    let small = lt-leb (2 ^ 32) (number base (slice src d e)) m.small in
+    let k = m.is_character in
+    let a = m.allowed in
+    let closes = eq-eqb _ _ m.closes in
+    let next = m.next in
+    rw (← l, apart, small, ← k, a, closes, next) refl
+
+expanded_ok : (i : ℕ) (span : Span) (o : Option ℕ) (bytes : List ℕ) → expanded i (named_or o span) ≡ Ok bytes → (c : ℕ) × (o ≡ Some c) × (bytes ≡ encode_utf8 c)
+expanded_ok i span None bytes h = cc h
+expanded_ok i span (Some c) bytes h = (c, refl, sym (ok_same _ _ h))
+
+of_character : (i : ℕ) (r : Reference) (c : ℕ) (bytes : List ℕ) → r ≡ character_of c → expanded i r ≡ Ok bytes → bytes ≡ encode_utf8 c
+of_character i r c bytes is h = sym (ok_same _ _ (rw is at h))
+
+pub expansion_sound : (src : List ℕ) (i : ℕ) (x : List ℕ × ℕ) → byte src i ≡ 38 → expansion_at src i ≡ Ok x → (c : ℕ) × IsCharacter src i c x.1 × (x.0 ≡ encode_utf8 c)
+unfolding expansion_at reference_at name_reference_at
+expansion_sound src i x amp h =
+    bind_ok (reference_at src i) _ _ h (λ r read h. bind_ok (expanded i r.0) _ _ h (λ bytes made h.
+    let value : bytes ≡ x.0 = ap (λ p. p.0) (ok_same _ _ h) in
+    let next : r.1 ≡ x.1 = ap (λ p. p.1) (ok_same _ _ h) in
+    chosen (eqb (byte src (i + 1)) 35) _ _ _ read
+    (λ hash read. chosen (eqb (byte src (i + 2)) 120) _ _ _ read
+    (λ hex read.
+    let m = number_sound 16 is_hex_digit src i (i + 3) r read in
+    let b = of_character i r.0 m.0 bytes m.2 made in (
+      m.0,
+      hexadecimal i (bytes_end is_hex_digit src (i + 3)) m.0 x.1 amp (eqb-true _ _ hash) (eqb-true _ _ hex)
+          (subst (λ (k : ℕ). IsNumber 16 is_hex_digit src (i + 3) (bytes_end is_hex_digit src (i + 3)) m.0 k) next m.1),
+      sym value ∙ b,
+    ))
+    (λ dec read.
+    let m = number_sound 10 is_digit src i (i + 2) r read in
+    let b = of_character i r.0 m.0 bytes m.2 made in (
+      m.0,
+      decimal i (bytes_end is_digit src (i + 2)) m.0 x.1 amp (eqb-true _ _ hash)
+          (subst (λ (k : ℕ). IsNumber 10 is_digit src (i + 2) (bytes_end is_digit src (i + 2)) m.0 k) next m.1),
+      sym value ∙ b,
+    )))
+    (λ name read. chosen (begins is_name_start src (i + 1)) _ _ _ read
+    (λ starts read. chosen (eqb (byte src (run_end is_name_char src (i + 1))) 59) _ _ _ read
+    (λ closes read.
+    let n = run_end is_name_char src (i + 1) in
+    let r0 : named_or (predefined (slice src (i + 1) n)) (record { start = i + 1; end = n }) ≡ r.0 = ap (λ p. p.0) (ok_same _ _ read) in
+    let r1 : n + 1 ≡ r.1 = ap (λ p. p.1) (ok_same _ _ read) in
+    let m = expanded_ok i (record { start = i + 1; end = n }) (predefined (slice src (i + 1) n)) bytes (ap (expanded i) r0 ∙ made) in
+    let ref : IsReference src i n x.1 = record { opens = amp; name = record { starts = starts; longest = refl }; closes = eqb-true _ _ closes; next = sym next ∙ sym r1 } in
+    (m.0, named i n m.0 x.1 ref m.1, sym value ∙ m.2))
+    (λ fails read. cc))
+    (λ fails read. cc))))
+
+no_hash : is_name_start 35 ≡ false
+unfolding is_name_start
+no_hash = refl
+
+name_no_hash : (src : List ℕ) (i : ℕ) → begins is_name_start src i ≡ true → byte src i ≢ 35
+name_no_hash src i starts hash =
+    let b = begins_here is_name_start src i (within src i (λ z. omega arith)) (omega arith) in
+    let f : begins is_name_start src i ≡ false = b ∙ rw hash no_hash in
+    false≢true (sym f ∙ starts)
+
+digit_range : (b : ℕ) → is_digit b ≡ true → (48 ≤ b) × (b ≤ 57)
+digit_range b h = let both = and_parts (leb 48 b) (leb b 57) h in (leb-true _ _ both.0, leb-true _ _ both.1)
+
+pub expansion_complete : (src : List ℕ) (i c j : ℕ) → IsCharacter src i c j → expansion_at src i ≡ Ok (encode_utf8 c, j)
+unfolding expansion_at reference_at name_reference_at
+expansion_complete src i c j (decimal _ e _ _ amp hash m) =
+    let t = eq-eqb _ _ hash in
+    let some = m.some in let end = m.end in
+    let digit = digit_range (byte src (i + 2)) (bytes_pass is_digit src (i + 2) (i + 2) (omega arith) (omega arith)) in
+    let dec = ne_eqb (byte src (i + 2)) 120 (λ z. omega arith) in
+    let n = number_complete 10 is_digit src i (i + 2) e c j m in
+    rw (t, dec, n) refl
+expansion_complete src i c j (hexadecimal _ e _ _ amp hash hex m) =
+    let t = eq-eqb _ _ hash in
+    let x = eq-eqb _ _ hex in
+    let n = number_complete 16 is_hex_digit src i (i + 3) e c j m in
+    rw (t, x, n) refl
+expansion_complete src i c j (named _ n _ _ r is) =
+    let starts = r.name.starts in let l = r.name.longest in
+    let t = ne_eqb (byte src (i + 1)) 35 (name_no_hash src (i + 1) starts) in
+    let closes = eq-eqb _ _ r.closes in
+    let next = r.next in
+    rw (t, starts, ← l, closes, is, next) refl
+
+pub character_opens : (src : List ℕ) (i c j : ℕ) → IsCharacter src i c j → (byte src i ≡ 38) × (i < j)
+character_opens src i c j (decimal _ e _ _ amp hash m) = let some = m.some in let next = m.next in (amp, omega arith)
+character_opens src i c j (hexadecimal _ e _ _ amp hash hex m) = let some = m.some in let next = m.next in (amp, omega arith)
+character_opens src i c j (named _ n _ _ r is) = let l = r.name.longest in let next = r.next in (r.opens, omega (arith, run_end_le is_name_char src (i + 1)))
+
+-- `<` or a quote, which ends a run or a value
+abbrev pub IsStop : ℕ → Type 0
+IsStop b = (b ≡ 60) ⊎ ((b ≡ 39) ⊎ (b ≡ 34))
+
+stop_no_name : (b : ℕ) → IsStop b → is_name_char b ≡ false
+unfolding is_name_char is_name_start
+stop_no_name b (inl h) = rw h refl
+stop_no_name b (inr (inl h)) = rw h refl
+stop_no_name b (inr (inr h)) = rw h refl
+
+stop_no_hex : (b : ℕ) → IsStop b → is_hex_digit b ≡ false
+stop_no_hex b (inl h) = rw h refl
+stop_no_hex b (inr (inl h)) = rw h refl
+stop_no_hex b (inr (inr h)) = rw h refl
+
+stop_no_digit : (b : ℕ) → IsStop b → is_digit b ≡ false
+stop_no_digit b (inl h) = rw h refl
+stop_no_digit b (inr (inl h)) = rw h refl
+stop_no_digit b (inr (inr h)) = rw h refl
+
+stop_apart : (b : ℕ) → IsStop b → (b < 128) × (b ≢ 59) × (b ≢ 35) × (b ≢ 120) × (b ≢ 38)
+stop_apart b (inl h) = (omega arith, λ z. omega arith, λ z. omega arith, λ z. omega arith, λ z. omega arith)
+stop_apart b (inr (inl h)) = (omega arith, λ z. omega arith, λ z. omega arith, λ z. omega arith, λ z. omega arith)
+stop_apart b (inr (inr h)) = (omega arith, λ z. omega arith, λ z. omega arith, λ z. omega arith, λ z. omega arith)
+
+-- digits and the `;` behind them come before a stop
+number_inside : (base : ℕ) (is : ℕ → Bool) (src : List ℕ) (d stop e c j : ℕ) → d ≤ stop → stop ≤ length src → (stop < length src → IsStop (byte src stop))
+    → ((b : ℕ) → IsStop b → is b ≡ false) → IsNumber base is src d e c j → j ≤ stop
+number_inside base is src d stop e c j from long closes none m =
+    let end = m.end in let next = m.next in let some = m.some in
+    let inside : e < length src = within src e (λ z. omega (arith, m.closes)) in
+    elim (cases_lt e stop) [
+      | inl l ↦ omega arith
+      | inr g ↦ absurd (
+          let s : IsStop (byte src stop) = closes (omega arith) in
+          elim (cases_eq stop e) [
+            | inl same ↦ (let k : byte src stop ≡ 59 = rw same m.closes in (stop_apart _ s).1 k)
+            | inr apart ↦ false≢true (sym (none _ s) ∙ bytes_pass is src d stop from (omega arith))
+          ])
+    ]
+
+-- a reference that begins before a stop ends before it
+pub character_inside : (src : List ℕ) (i stop c j : ℕ) → IsUtf8 src → i < stop → stop ≤ length src → (stop < length src → IsStop (byte src stop)) → IsCharacter src i c j → j ≤ stop
+character_inside src i stop c j utf8 from long closes (decimal _ e _ _ amp hash m) =
+    let apart : stop ≢ i + 1 = λ same. let h = rw (← same) at hash in (stop_apart _ (closes (let l = within src (i + 1) (λ z. omega arith) in omega arith))).2 h in
+    number_inside 10 is_digit src (i + 2) stop e c j (omega arith) long closes stop_no_digit m
+character_inside src i stop c j utf8 from long closes (hexadecimal _ e _ _ amp hash hex m) =
+    let apart : stop ≢ i + 1 = λ same. let h = rw (← same) at hash in (stop_apart _ (closes (let l = within src (i + 1) (λ z. omega arith) in omega arith))).2 h in
+    let apart' : stop ≢ i + 2 = λ same. let h = rw (← same) at hex in (stop_apart _ (closes (let l = within src (i + 2) (λ z. omega arith) in omega arith))).3 h in
+    number_inside 16 is_hex_digit src (i + 3) stop e c j (omega arith) long closes stop_no_hex m
+character_inside src i stop c j utf8 from long closes (named _ n _ _ r is) =
+    let l = r.name.longest in let next = r.next in let closes' = r.closes in let amp = r.opens in
+    let inside : n < length src = within src n (λ z. omega arith) in
+    let cut = IsCharBoundary-after_ascii src i utf8 (omega arith) (omega arith) in
+    elim (cases_lt n stop) [
+      | inl lt ↦ omega arith
+      | inr ge ↦ absurd (
+          let s : IsStop (byte src stop) = closes (omega arith) in
+          let le : n ≤ stop = rw (sym l) at (run_within is_name_char src (i + 1) stop utf8 cut (omega arith) (omega arith) ((stop_apart _ s).0) (stop_no_name _ s)) in
+          let same : stop ≡ n = omega arith in
+          let k : byte src stop ≡ 59 = rw same closes' in (stop_apart _ s).1 k)
+    ]

@@ -1,0 +1,91 @@
+-- What holds of a state all along: its names and its limits, and how they grow.
+use Rattle.std.proofs.Common.{◌≡◌, ℕ, ◌+◌, ◌≤◌, Bool, true, false, cond, List, [], ◌∷◌, ◌++◌, length, refl, ap, ◌∙◌, arith, append_assoc}
+use Rattle.std.proofs.lemmas.List.{append-nil, length-append}
+use Rattle.std.proofs.lemmas.Bool.{cond_both}
+use Rattle.rox_grammar.specs.Forest.{Forest, Nil, Cons, join, size}
+use Rattle.rox_grammar.specs.Written.{Tag, Item, Element, Declaration, merge}
+use Rattle.rox_grammar.specs.Tree.{scope_in, listed}
+use Rattle.rox_grammar.specs.WellNamed.{IsWellNamed, ItemWellNamed, AreWellNamed}
+use Rattle.rox_grammar.specs.Document.{own_pairs, pairs, own_attributes, attribute_count, has_pair, with_new, distinct_pairs, most_attributes, most_pairs}
+use Rattle.rox_reading.specs.State.{Open, root, inside, State, scope_of, nodes_so_far, attributes_so_far, pairs_so_far}
+use Rattle.rox_reading.proofs.Forests.{size-join, merge-item, merge-more, pairs-join, attribute_count-join, named-join, named-left, named-right}
+
+-- the names of all that is read so far
+abbrev pub AreNamed : Open → Forest Item → Type 0
+AreNamed root done = AreWellNamed [] done
+AreNamed (inside start tag before up) done =
+    AreNamed up before × IsWellNamed (listed (scope_of up) tag.declarations) tag × AreWellNamed (listed (scope_of up) tag.declarations) done
+
+-- a state that the limits allow, and whose names are in order
+pub record IsFine (limit : ℕ) (s : State) : Type 0 where
+  pub nodes : nodes_so_far s.stack s.done ≤ limit
+  pub attributes : attributes_so_far s.stack s.done ≤ most_attributes
+  pub pairs : length (distinct_pairs (pairs_so_far s.stack s.done)) ≤ most_pairs
+  pub named : AreNamed s.stack s.done
+
+-- ---- pairs
+
+in_both : {X Y : Type 0} (f : X → Y) (b : Bool) (x y : X) (v w : Y) → v ≡ f x → w ≡ f y → cond b v w ≡ f (cond b x y)
+in_both f true x y v w h k = h
+in_both f false x y v w h k = k
+
+with_new-append : (ds es fs : List Declaration) → with_new ds (es ++ fs) ≡ with_new (with_new ds es) fs
+with_new-append ds [] fs = refl
+with_new-append ds (e ∷ es) fs =
+    in_both (λ (xs : List Declaration). with_new xs fs) (has_pair ds e) (with_new ds es) (with_new (ds ++ e ∷ []) es) _ _ (with_new-append ds es fs) (with_new-append (ds ++ e ∷ []) es fs)
+
+-- more of them, one after the other
+pub distinct-append : (ds es : List Declaration) → distinct_pairs (ds ++ es) ≡ with_new (distinct_pairs ds) es
+distinct-append ds es = with_new-append [] ds es
+
+with_new-grows : (ds es : List Declaration) → length ds ≤ length (with_new ds es)
+with_new-grows ds [] = omega arith
+with_new-grows ds (e ∷ es) =
+    let more = with_new-grows (ds ++ e ∷ []) es in
+    cond_both (has_pair ds e) (with_new ds es) (with_new (ds ++ e ∷ []) es) (λ (xs : List Declaration). length ds ≤ length xs)
+    (λ there. with_new-grows ds es) (λ new. omega (arith, length-append ds (e ∷ [])))
+
+pub distinct-grows : (ds es : List Declaration) → length (distinct_pairs ds) ≤ length (distinct_pairs (ds ++ es))
+distinct-grows ds es = rw distinct-append (with_new-grows (distinct_pairs ds) es)
+
+-- ---- one more item, with what is below it
+
+pub attributes-item : (stack : Open) (done : Forest Item) (item : Item) (kids : Forest Item)
+    → attributes_so_far stack (join done (Cons item kids Nil)) ≡ attributes_so_far stack done + (own_attributes item + attribute_count kids)
+attributes-item root done item kids = omega (arith, attribute_count-join done (Cons item kids Nil))
+attributes-item (inside start tag before up) done item kids = omega (arith, attribute_count-join done (Cons item kids Nil))
+
+pub pairs-item : (stack : Open) (done : Forest Item) (item : Item) (kids : Forest Item)
+    → pairs_so_far stack (join done (Cons item kids Nil)) ≡ pairs_so_far stack done ++ (own_pairs item ++ pairs kids)
+pairs-item root done item kids = rw (pairs-join done (Cons item kids Nil)) (simp append-nil)
+pairs-item (inside start tag before up) done item kids = rw (pairs-join done (Cons item kids Nil)) (simp (append-nil, append_assoc))
+
+pub named-item : (stack : Open) (done : Forest Item) (item : Item) (kids : Forest Item)
+    → AreNamed stack done → ItemWellNamed (scope_in (scope_of stack) item) item → AreWellNamed (scope_in (scope_of stack) item) kids → AreNamed stack (join done (Cons item kids Nil))
+named-item root done item kids named own below = named-join [] done (Cons item kids Nil) named (own, below, tt)
+named-item (inside start tag before up) done item kids named own below =
+    (named.0, named.1, named-join (listed (scope_of up) tag.declarations) done (Cons item kids Nil) named.2 (own, below, tt))
+
+pub item-named : (stack : Open) (done : Forest Item) (item : Item) (kids : Forest Item)
+    → AreNamed stack (join done (Cons item kids Nil)) → AreNamed stack done × ItemWellNamed (scope_in (scope_of stack) item) item × AreWellNamed (scope_in (scope_of stack) item) kids
+item-named root done item kids named =
+    let last = named-right [] done (Cons item kids Nil) named in
+    (named-left [] done (Cons item kids Nil) named, last.0, last.1)
+item-named (inside start tag before up) done item kids named =
+    let last = named-right (listed (scope_of up) tag.declarations) done (Cons item kids Nil) named.2 in
+    ((named.0, named.1, named-left (listed (scope_of up) tag.declarations) done (Cons item kids Nil) named.2), last.0, last.1)
+
+pub nodes-element : (stack : Open) (done : Forest Item) (start end : ℕ) (tag : Tag) (kids : Forest Item)
+    → nodes_so_far stack (join done (Cons (Element start end tag) kids Nil)) ≡ nodes_so_far stack done + (1 + size kids)
+nodes-element root done start end tag kids =
+    let e : size (merge (join done (Cons (Element start end tag) kids Nil))) ≡ size (merge done) + size (Cons (Element start end tag) kids Nil) =
+    ap size (merge-item done (Element start end tag) kids refl) ∙ size-join (merge done) (Cons (Element start end tag) kids Nil) in
+    omega arith
+nodes-element (inside a b before up) done start end tag kids =
+    let e : size (merge (join done (Cons (Element start end tag) kids Nil))) ≡ size (merge done) + size (Cons (Element start end tag) kids Nil) =
+    ap size (merge-item done (Element start end tag) kids refl) ∙ size-join (merge done) (Cons (Element start end tag) kids Nil) in
+    omega arith
+
+pub nodes-grow : (stack : Open) (done more : Forest Item) → nodes_so_far stack done ≤ nodes_so_far stack (join done more)
+nodes-grow root done more = omega (arith, merge-more done more)
+nodes-grow (inside start tag before up) done more = omega (arith, merge-more done more)

@@ -1,0 +1,33 @@
+-- Rows of namespaces and of attributes, and what they name.
+use Rattle.std.proofs.Common.{◌≡◌, ℕ, zero, suc, ◌<◌, ◌≤◌, List, [], ◌∷◌, ◌++◌, length, get_or, map, ap, arith}
+use Rattle.std.specs.List.{AllByRecursion}
+use Rattle.rox_build.specs.Storage.{storage_bytes}
+use Rattle.rox_build.specs.Lines.{declaration, entry, NamespaceWithin}
+use Rattle.rox_build.specs.declared.tables.Namespace.{Namespace}
+use Rattle.rox_build.specs.declared.tables.AttributeNamespace.{AttributeNamespace}
+use Rattle.rox_build.specs.declared.tables.AttributeNamespace.TheVariants as space
+use Rattle.roxmltree.specs.Reach.{reach}
+
+-- a namespace's row is the entry of its place
+pub entry_is : (ns : List Namespace) (i : ℕ) (x : Namespace) → i < length ns → x ≡ get_or ns i x → declaration x ≡ entry (map declaration ns) i
+entry_is [] i x l e = absurd (omega arith)
+entry_is (n ∷ ns) zero x l e = ap declaration e
+entry_is (n ∷ ns) (suc i) x l e = entry_is ns i x (omega arith) e
+
+pub entry_uri : (ns : List Namespace) (i : ℕ) (x : Namespace) → i < length ns → x ≡ get_or ns i x → storage_bytes x.uri ≡ (entry (map declaration ns) i).uri
+entry_uri ns i x l e = ap (λ d. d.uri) (entry_is ns i x l e)
+
+-- what is named in a table is within its length
+pub reach_within : (n : ℕ) (s : AttributeNamespace) → NamespaceWithin n s → reach s ≤ n
+reach_within n space.None w = omega arith
+reach_within n space.Xml w = omega arith
+reach_within n (space.Listed i) w = omega (arith, w)
+
+-- what holds of all holds of the front, and of the last
+pub all_front : {X : Type 0} (P : X → Type 0) (xs ys : List X) → AllByRecursion P (xs ++ ys) → AllByRecursion P xs
+all_front P [] ys h = tt
+all_front P (x ∷ xs) ys h = (h.0, all_front P xs ys h.1)
+
+pub all_last : {X : Type 0} (P : X → Type 0) (xs : List X) (y : X) → AllByRecursion P (xs ++ y ∷ []) → P y
+all_last P [] y h = h.0
+all_last P (x ∷ xs) y h = all_last P xs y h.1

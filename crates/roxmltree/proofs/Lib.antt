@@ -1,0 +1,10 @@
+pub mod Preorder
+pub mod Siblings
+pub mod Rows
+pub mod Bare
+pub mod Tops
+pub mod Entries
+pub mod Prefixes
+pub mod Parts
+pub mod Ends
+pub mod Ranges

@@ -1,0 +1,125 @@
+-- The rows of a tree hold that tree and no other, and what a row says of its node.
+use Rattle.std.proofs.Common.{◌≡◌, ℕ, suc, ◌+◌, ◌-◌, ◌<◌, List, [], ◌∷◌, ◌++◌, Some, None, length, get_or, map, refl, sym, ap, ◌∙◌, arith}
+use Rattle.std.proofs.lemmas.List.{get_or-map, length-map, map-append}
+use Rattle.rox_grammar.specs.Forest.{Forest, Nil, Cons, size}
+use Rattle.rox_grammar.specs.Tree.{Node}
+use Rattle.rox_build.specs.Lines.{Line, line, lines, names_of, Holds}
+use Rattle.rox_build.specs.declared.tables.NodeData.{NodeData}
+use Rattle.rox_build.specs.declared.tables.Tables.{Tables}
+use Rattle.roxmltree.specs.Flat.{flat, unflat, unflat-flat}
+use Rattle.roxmltree.specs.Places.{Place, places, preorder, place, nowhere, first, parent}
+use Rattle.roxmltree.specs.Whole.{tree_in, nodes_from, IsDocument, IsWhole}
+use Rattle.roxmltree.proofs.Preorder.{length-places, place_id}
+
+-- the nearest node above, or 0
+abbrev pub top : List ℕ → ℕ
+top [] = 0
+top (q ∷ up) = q
+
+-- the row of a place
+abbrev pub place_line : Place → Line
+place_line p = record { parent = top p.above; next = p.id + p.count; depth = length p.above; node = p.item }
+
+-- the rows of a forest are those of its places
+pub lines-places : (up left : List ℕ) (b : ℕ) (f : Forest Node) → map place_line (places up left b f) ≡ lines (top up) (length up) b f
+lines-places up left b Nil = refl
+lines-places up left b (Cons x c r) =
+    let e : (b + 1) + size c ≡ b + (1 + size c) = omega arith in
+    let d : length up + 1 ≡ suc (length up) = omega arith in
+    rw (e, d) (ap (λ l. place_line (record { id = b; item = x; above = up; before = left; after = []; children = []; descendants = []; first_children = []; last_children = []; count = 1 + size c }) ∷ l)
+    (map-append place_line (places (b ∷ up) [] (b + 1) c) (places up (b ∷ left) (b + (1 + size c)) r)
+    ∙ rw (lines-places (b ∷ up) [] (b + 1) c, lines-places up (b ∷ left) (b + (1 + size c)) r) refl))
+
+-- these places have the ids from b on
+abbrev IdsFrom : ℕ → List Place → Type 0
+IdsFrom b [] = Unit {0}
+IdsFrom b (p ∷ ps) = (p.id ≡ b) × IdsFrom (b + 1) ps
+
+ids_append : (b k : ℕ) (xs ys : List Place) → IdsFrom b xs → k ≡ b + length xs → IdsFrom k ys → IdsFrom b (xs ++ ys)
+ids_append b k [] ys h e g = let same : k ≡ b = omega arith in rw same at g
+ids_append b k (x ∷ xs) ys h e g = (h.0, ids_append (b + 1) k xs ys h.1 (omega arith) g)
+
+ids_places : (up left : List ℕ) (b : ℕ) (f : Forest Node) → IdsFrom b (places up left b f)
+ids_places up left b Nil = tt
+ids_places up left b (Cons x c r) = (
+  refl,
+  ids_append (b + 1) (b + (1 + size c)) (places (b ∷ up) [] (b + 1) c) (places up (b ∷ left) (b + (1 + size c)) r)
+      (ids_places (b ∷ up) [] (b + 1) c) (omega (arith, length-places (b ∷ up) [] (b + 1) c)) (ids_places up (b ∷ left) (b + (1 + size c)) r),
+)
+
+-- how many nodes are below, and the node
+abbrev below : Place → ℕ × Node
+below p = (p.count - 1, p.item)
+
+flat_places : (up left : List ℕ) (b : ℕ) (f : Forest Node) → map below (places up left b f) ≡ flat f
+flat_places up left b Nil = refl
+flat_places up left b (Cons x c r) =
+    let e : (1 + size c) - 1 ≡ size c = omega arith in
+    rw e (ap (λ l. (size c, x) ∷ l) (map-append below (places (b ∷ up) [] (b + 1) c) (places up (b ∷ left) (b + (1 + size c)) r)
+    ∙ rw (flat_places (b ∷ up) [] (b + 1) c, flat_places up (b ∷ left) (b + (1 + size c)) r) refl))
+
+nodes_are : (b : ℕ) (ps : List Place) → IdsFrom b ps → nodes_from b (map place_line ps) ≡ map below ps
+nodes_are b [] h = refl
+nodes_are b (p ∷ ps) h =
+    let n : (p.id + p.count) - (b + 1) ≡ p.count - 1 = omega (arith, h.0) in
+    rw (n, nodes_are (b + 1) ps h.1) refl
+
+-- the tables of a tree hold no other
+pub same_tree : (t : Tables) (f : Forest Node) → Holds t f → tree_in t ≡ f
+same_tree t f h =
+    ap unflat (ap (nodes_from 0) (h.rows ∙ sym (lines-places [] [] 0 f)) ∙ nodes_are 0 (places [] [] 0 f) (ids_places [] [] 0 f) ∙ flat_places [] [] 0 f)
+    ∙ unflat-flat f
+
+-- tables of a document's tree are whole
+pub is_whole : (text : List ℕ) (t : Tables) (f : Forest Node) → Holds t f → IsDocument (length text) f → IsWhole text t
+is_whole text t f h d =
+    let e = same_tree t f h in
+    record { holds = rw e h; document = rw e d }
+
+-- there are as many rows as nodes
+pub row_count : (t : Tables) (f : Forest Node) → Holds t f → length t.nodes.items ≡ size f
+unfolding preorder
+row_count t f h =
+    sym (length-map t.nodes.items (line t.attributes.items (names_of t) t.listed.items))
+    ∙ ap length (h.rows ∙ sym (lines-places [] [] 0 f))
+    ∙ length-map (places [] [] 0 f) place_line
+    ∙ length-places [] [] 0 f
+
+-- a row is that of its node's place
+pub row_line : (t : Tables) (f : Forest Node) (i : ℕ) (x : NodeData) → Holds t f → i < length t.nodes.items → x ≡ get_or t.nodes.items i x → line t.attributes.items (names_of t) t.listed.items x ≡ place_line (place f i)
+unfolding place preorder
+row_line t f i x h l e =
+    let read = line t.attributes.items (names_of t) t.listed.items in
+    let n : i < length (places [] [] 0 f) = omega (arith, row_count t f h, length-places [] [] 0 f) in
+    ap read e
+    ∙ sym (get_or-map read t.nodes.items i x (read x) l)
+    ∙ ap (λ ls. get_or ls i (read x)) (h.rows ∙ sym (lines-places [] [] 0 f))
+    ∙ get_or-map place_line (places [] [] 0 f) i nowhere (read x) n
+
+-- an id of the tree is a row's
+pub in_rows : (t : Tables) (f : Forest Node) (i : ℕ) → Holds t f → i < size f → i < length t.nodes.items
+in_rows t f i h l = omega (arith, row_count t f h)
+
+top_some : (up : List ℕ) → 0 < length up → Some (top up) ≡ first up
+top_some [] l = absurd (omega arith)
+top_some (q ∷ up) l = refl
+
+top_none : (up : List ℕ) → length up ≡ 0 → first up ≡ None
+top_none [] e = refl
+top_none (q ∷ up) e = absurd (omega arith)
+
+-- What the row of a node says: the id past its subtree, how many nodes are above it, and its parent.
+pub row_next : (t : Tables) (f : Forest Node) (i : ℕ) (x : NodeData) → Holds t f → i < size f → x ≡ get_or t.nodes.items i x → x.next ≡ i + (place f i).count
+row_next t f i x h l e = rw (place_id f i l) at (ap (λ r. r.next) (row_line t f i x h (in_rows t f i h l) e))
+
+pub row_depth : (t : Tables) (f : Forest Node) (i : ℕ) (x : NodeData) → Holds t f → i < size f → x ≡ get_or t.nodes.items i x → x.depth ≡ length (place f i).above
+row_depth t f i x h l e = ap (λ r. r.depth) (row_line t f i x h (in_rows t f i h l) e)
+
+pub row_parent : (t : Tables) (f : Forest Node) (i : ℕ) (x : NodeData) → Holds t f → i < size f → x ≡ get_or t.nodes.items i x → 0 < x.depth → parent f i ≡ Some x.parent
+row_parent t f i x h l e d =
+    let n : 0 < length (place f i).above = omega (arith, row_depth t f i x h l e) in
+    sym (top_some (place f i).above n) ∙ ap Some (sym (ap (λ r. r.parent) (row_line t f i x h (in_rows t f i h l) e)))
+
+pub row_no_parent : (t : Tables) (f : Forest Node) (i : ℕ) (x : NodeData) → Holds t f → i < size f → x ≡ get_or t.nodes.items i x → x.depth ≡ 0 → parent f i ≡ None
+row_no_parent t f i x h l e d =
+    top_none (place f i).above (omega (arith, row_depth t f i x h l e))

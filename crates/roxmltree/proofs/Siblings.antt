@@ -1,0 +1,289 @@
+-- Rows of siblings, from both ends.
+use Rattle.std.proofs.Common.{◌≡◌, ℕ, suc, zero, ◌+◌, ◌-◌, ◌<◌, List, [], ◌∷◌, ◌++◌, Some, None, length, get_or, take, drop, refl, sym, ap, ◌∙◌, subst, arith}
+use Rattle.std.proofs.Math.Seq.{take-suc, drop-cons}
+use Rattle.std.specs.List.{range_with_len}
+use Rattle.rox_grammar.specs.Forest.{Forest, Nil, Cons, size}
+use Rattle.rox_grammar.specs.Tree.{Node}
+use Rattle.roxmltree.specs.Places.{ids, all_ids, first_line, last_line, Place, preorder, place, first, last, parent, first_child, last_child, next_sibling, prev_sibling}
+use Rattle.roxmltree.specs.Walk.{row_from, apart, run, IsRun}
+use Rattle.roxmltree.proofs.Preorder.{no_first, at, Prior, Sits, Here, here, place_is, length-preorder}
+
+-- the k-th of nodes side by side
+record Sib (T : List Place) (up left : List ℕ) (b : ℕ) (f : Forest Node) (k : ℕ) : Type 0 where
+  inside : get_or (ids b f) k 0 < length T
+  after : (at T (get_or (ids b f) k 0)).after ≡ drop (suc k) (ids b f)
+  before : length (at T (get_or (ids b f) k 0)).before ≡ k + length left
+  above : (at T (get_or (ids b f) k 0)).above ≡ up
+
+sib : (T : List Place) (up left : List ℕ) (b : ℕ) (f : Forest Node) (k : ℕ) → Sits T up left b f → k < length (ids b f) → Sib T up left b f k
+sib T up left b Nil k s l = absurd (omega arith)
+sib T up left b (Cons x c r) zero s l =
+    record { inside = s.1; after = ap (λ p. p.after) s.0; before = ap (λ p. length p.before) s.0 ∙ omega arith; above = ap (λ p. p.above) s.0 }
+sib T up left b (Cons x c r) (suc k) s l =
+    let h = sib T up (b ∷ left) (b + (1 + size c)) r k s.3 (omega arith) in
+    record { inside = h.inside; after = h.after; before = h.before ∙ omega arith; above = h.above }
+
+-- the nodes from one node on
+row_sits : (f : Forest Node) (i : ℕ) (h : Here (preorder f) i) → Sits (preorder f) h.up h.left i (Cons h.item h.below h.beside)
+row_sits f i h = (h.is, h.inside, h.under, h.next)
+
+-- the k-th of a node and its siblings after it
+record At (f : Forest Node) (i k q : ℕ) : Type 0 where
+  inside : q < size f
+  after : (place f q).after ≡ drop (suc k) (row_from f i)
+  before : length (place f q).before ≡ k + length (place f i).before
+  above : (place f q).above ≡ (place f i).above
+
+row_at : (f : Forest Node) (i k q : ℕ) → i < size f → k < length (row_from f i) → get_or (row_from f i) k 0 ≡ q → At f i k q
+unfolding place
+row_at f i k q l m e =
+    let h = here f i l in
+    let n = length-preorder f in
+    let m' : k < length (ids i (Cons h.item h.below h.beside)) = rw h.is at m in
+    let e' : get_or (ids i (Cons h.item h.below h.beside)) k 0 ≡ q = subst (λ (p : Place). get_or (i ∷ p.after) k 0 ≡ q) h.is e in
+    let s = sib (preorder f) h.up h.left i (Cons h.item h.below h.beside) k (row_sits f i h) m' in
+    record {
+      inside = rw (← e') (omega (arith, s.inside));
+      after = rw h.is (rw (← e') s.after);
+      before = rw h.is (rw (← e') s.before);
+      above = rw h.is (rw (← e') s.above);
+    }
+
+-- the next sibling has this node right before it
+next_before : (T : List Place) (up left : List ℕ) (i b : ℕ) (r : Forest Node) (j : ℕ) → Sits T up (i ∷ left) b r → first (ids b r) ≡ Some j → first (at T j).before ≡ Some i
+next_before T up left i b Nil j s e = cc
+next_before T up left i b (Cons x c r) j s e = let same : b ≡ j = cc in rw (← same) (ap (λ p. first p.before) s.0)
+
+pub next_prev : (f : Forest Node) (i j : ℕ) → i < size f → next_sibling f i ≡ Some j → prev_sibling f j ≡ Some i
+unfolding place
+next_prev f i j l =
+    let h = here f i l in
+    rw h.is (next_before (preorder f) h.up h.left i (i + (1 + size h.below)) h.beside j h.next)
+
+-- a run of one node
+pub run_same : (f : Forest Node) (i j : ℕ) → i ≡ j → run f i j ≡ i ∷ []
+unfolding run
+run_same f i j e = let k : apart f i i ≡ 0 = omega arith in rw (← e, k) refl
+
+not_zero : (i j k : ℕ) (xs : List ℕ) → get_or (i ∷ xs) k 0 ≡ j → (i ≡ j → ⊥) → 0 < k
+not_zero i j zero xs e n = absurd (n e)
+not_zero i j (suc k) xs e n = omega arith
+
+apart_pos : (f : Forest Node) (i j : ℕ) → IsRun f i j → (i ≡ j → ⊥) → 0 < apart f i j
+apart_pos f i j r n = not_zero i j (apart f i j) (place f i).after r.there n
+
+-- the second of a list
+second : (xs : List ℕ) (n : ℕ) → first xs ≡ Some n → (0 < length xs) × (get_or xs 0 0 ≡ n)
+second [] n e = cc
+second (x ∷ xs) n e = (omega arith, cc)
+
+-- the next sibling's own row is the rest of this one's
+pub next_row : (f : Forest Node) (i n : ℕ) → i < size f → next_sibling f i ≡ Some n → (n < size f) × ((place f i).after ≡ row_from f n) × (length (place f n).before ≡ length (place f i).before + 1)
+next_row f i n l e =
+    let s = second (place f i).after n e in
+    let a = row_at f i 1 n l (omega (arith, s.0)) s.1 in
+    (a.inside, drop-cons (place f i).after 0 0 s.0 ∙ rw (s.1, a.after) refl, a.before ∙ omega arith)
+
+-- from the front
+pub run_next : (f : Forest Node) (i j n : ℕ) → i < size f → IsRun f i j → (i ≡ j → ⊥) → next_sibling f i ≡ Some n → (run f i j ≡ i ∷ run f n j) × IsRun f n j
+unfolding run
+run_next f i j n l r ne e =
+    let a = next_row f i n l e in
+    let p = apart_pos f i j r ne in
+    let k : apart f i j ≡ suc (apart f n j) = omega (arith, a.2) in
+    let short : suc (apart f n j) < length (row_from f i) = rw k at r.short in
+    let there : get_or (row_from f i) (suc (apart f n j)) 0 ≡ j = rw k at r.there in (
+      rw (k, a.1) refl,
+      record {
+        le = omega (arith, a.2);
+        short = omega (arith, short, ap length a.1);
+        there = rw a.1 at there;
+      },
+    )
+
+pub run_next_none : (f : Forest Node) (i j : ℕ) → IsRun f i j → (i ≡ j → ⊥) → next_sibling f i ≡ None → ⊥
+run_next_none f i j r ne e =
+    let p = apart_pos f i j r ne in
+    let z = no_first (place f i).after e in
+    omega (arith, r.short, z)
+
+-- the node before the last one of a run
+back_at : (f : Forest Node) (i j k : ℕ) → i < size f → IsRun f i j → apart f i j ≡ suc k → (get_or (row_from f i) k 0 < size f) × (prev_sibling f j ≡ Some (get_or (row_from f i) k 0))
+back_at f i j k l r e =
+    let q = get_or (row_from f i) k 0 in
+    let a = row_at f i k q l (omega (arith, r.short)) refl in
+    let d = drop-cons (row_from f i) (suc k) 0 (omega (arith, r.short)) in
+    let t : get_or (row_from f i) (suc k) 0 ≡ j = rw e at r.there in
+    let n : next_sibling f q ≡ Some j = rw (a.after, d, t) refl in
+    (a.inside, next_prev f q j a.inside n)
+
+-- from the back
+pub run_back : (f : Forest Node) (i j p : ℕ) → i < size f → IsRun f i j → (i ≡ j → ⊥) → prev_sibling f j ≡ Some p → (run f i j ≡ run f i p ++ j ∷ []) × IsRun f i p
+unfolding run
+run_back f i j p l r ne e =
+    let b = back_at f i j (apart f i j - 1) l r (let z = apart_pos f i j r ne in omega arith) in
+    let same : get_or (row_from f i) (apart f i j - 1) 0 ≡ p = cc (b.1, e) in
+    let a = row_at f i (apart f i j - 1) p l (omega (arith, r.short)) same in
+    let k : apart f i p ≡ apart f i j - 1 = omega (arith, a.before) in
+    let z = apart_pos f i j r ne in
+    let u : suc (apart f i p) ≡ apart f i j = omega arith in (
+      take-suc (row_from f i) (apart f i j) 0 r.short ∙ rw (r.there, ← u) refl,
+      record {
+        le = omega (arith, a.before);
+        short = omega (arith, r.short);
+        there = rw k same;
+      },
+    )
+
+pub run_back_none : (f : Forest Node) (i j : ℕ) → i < size f → IsRun f i j → (i ≡ j → ⊥) → prev_sibling f j ≡ None → ⊥
+run_back_none f i j l r ne e =
+    let b = back_at f i j (apart f i j - 1) l r (let z = apart_pos f i j r ne in omega arith) in
+    cc (b.1, e)
+
+-- ---- the children
+last_at : (x : ℕ) (xs : List ℕ) (d : ℕ) → last (x ∷ xs) ≡ Some d → get_or (x ∷ xs) (length xs) 0 ≡ d
+last_at x [] d e = cc
+last_at x (y ∷ ys) d e = last_at y ys d e
+
+last_some : (x : ℕ) (xs : List ℕ) → last (x ∷ xs) ≡ None → ⊥
+last_some x [] e = cc
+last_some x (y ∷ ys) e = last_some y ys e
+
+take_whole : (xs : List ℕ) → take (length xs) xs ≡ xs
+take_whole [] = refl
+take_whole (x ∷ xs) = ap (λ l. x ∷ l) (take_whole xs)
+
+-- the first child's own row is all the children, and no sibling stands before it
+first_row : (T : List Place) (up : List ℕ) (b : ℕ) (r : Forest Node) (c : ℕ) → Sits T up [] b r → first (ids b r) ≡ Some c → (c < length T) × (ids b r ≡ c ∷ (at T c).after) × ((at T c).before ≡ [])
+first_row T up b Nil c s e = cc
+first_row T up b (Cons x k r) c s e =
+    let same : b ≡ c = cc in
+    rw (← same) (s.1, ap (λ p. b ∷ p.after) (sym s.0), ap (λ p. p.before) s.0)
+
+child_row : (f : Forest Node) (i c : ℕ) → i < size f → first_child f i ≡ Some c → (c < size f) × ((place f i).children ≡ row_from f c) × ((place f c).before ≡ [])
+unfolding place
+child_row f i c l =
+    let h = here f i l in
+    let n = length-preorder f in
+    rw h.is (λ e. let k = first_row (preorder f) (i ∷ h.up) (i + 1) h.below c h.under e in (omega (arith, k.0), k.1, k.2))
+
+pub run_children : (f : Forest Node) (i c d : ℕ) → i < size f → first_child f i ≡ Some c → last_child f i ≡ Some d → (run f c d ≡ (place f i).children) × IsRun f c d
+unfolding run
+run_children f i c d l e u =
+    let k = child_row f i c l e in
+    let xs = (place f c).after in
+    let t : get_or (row_from f c) (length xs) 0 ≡ d = last_at c xs d (ap last (sym k.1) ∙ u) in
+    let a = row_at f c (length xs) d k.0 (omega arith) t in
+    let z : length (place f c).before ≡ 0 = ap length k.2 in
+    let n : apart f c d ≡ length xs = omega (arith, a.before) in (
+      rw n (take_whole (row_from f c) ∙ sym k.1),
+      record {
+        le = omega arith;
+        short = omega arith;
+        there = rw n t;
+      },
+    )
+
+nothing : (xs : List ℕ) → first xs ≡ None → xs ≡ []
+nothing [] e = refl
+nothing (x ∷ xs) e = cc
+
+pub no_children : (f : Forest Node) (i : ℕ) → first_child f i ≡ None → (place f i).children ≡ []
+no_children f i e = nothing (place f i).children e
+
+pub last_child_there : (f : Forest Node) (i c : ℕ) → i < size f → first_child f i ≡ Some c → last_child f i ≡ None → ⊥
+last_child_there f i c l e u =
+    let k = child_row f i c l e in
+    last_some c (place f c).after (ap last (sym k.1) ∙ u)
+
+-- ---- the axes as lists
+range_append : (a m n k : ℕ) → a + m ≡ k → range_with_len a m ++ range_with_len k n ≡ range_with_len a (m + n)
+range_append a zero n k e = let same : k ≡ a = omega arith in let z : 0 + n ≡ n = omega arith in rw (same, z) refl
+range_append a (suc m) n k e =
+    let z : suc m + n ≡ suc (m + n) = omega arith in
+    rw z (ap (λ xs. a ∷ xs) (range_append (a + 1) m n k (omega arith)))
+
+all_ids_is : (b : ℕ) (f : Forest Node) → all_ids b f ≡ range_with_len b (size f)
+all_ids_is b Nil = refl
+all_ids_is b (Cons x c r) =
+    let z : (1 + size c) + size r ≡ suc (size c + size r) = omega arith in
+    rw z (ap (λ xs. b ∷ xs)
+    (rw (all_ids_is (b + 1) c, all_ids_is (b + (1 + size c)) r) (range_append (b + 1) (size c) (size r) (b + (1 + size c)) (omega arith))))
+
+pub descendants_is : (f : Forest Node) (i : ℕ) → i < size f → (place f i).descendants ≡ range_with_len i (place f i).count
+descendants_is f i l =
+    let h = here f i l in
+    let z : 1 + size h.below ≡ suc (size h.below) = omega arith in
+    rw (place_is f i h) (rw z (ap (λ xs. i ∷ xs) (all_ids_is (i + 1) h.below)))
+
+pub next_siblings_step : (f : Forest Node) (i n : ℕ) → i < size f → next_sibling f i ≡ Some n → i ∷ (place f i).after ≡ i ∷ n ∷ (place f n).after
+next_siblings_step f i n l e = ap (λ xs. i ∷ xs) (next_row f i n l e).1
+
+before_prior : (T : List Place) (i : ℕ) (up left : List ℕ) (q : ℕ) → Prior T i up left → first left ≡ Some q → (q < length T) × (left ≡ q ∷ (at T q).before)
+before_prior T i up [] q p e = cc
+before_prior T i up (k ∷ left) q p e = let same : k ≡ q = cc in rw (← same) (p.3, ap (λ xs. k ∷ xs) (sym p.4))
+
+pub prev_row : (f : Forest Node) (i q : ℕ) → i < size f → prev_sibling f i ≡ Some q → (q < size f) × ((place f i).before ≡ q ∷ (place f q).before)
+unfolding place
+prev_row f i q l =
+    let h = here f i l in
+    let n = length-preorder f in
+    rw h.is (λ e. let k = before_prior (preorder f) i h.up h.left q h.prior e in (omega (arith, k.0), k.1))
+
+first_line_is : (T : List Place) (up left : List ℕ) (b : ℕ) (r : Forest Node) (c : ℕ) → Sits T up left b r → first (ids b r) ≡ Some c → first_line b r ≡ (at T c).first_children
+first_line_is T up left b Nil c s e = cc
+first_line_is T up left b (Cons x k r) c s e = let same : b ≡ c = cc in rw (← same) (ap (λ p. p.first_children) (sym s.0))
+
+pub first_children_step : (f : Forest Node) (i c : ℕ) → i < size f → first_child f i ≡ Some c → (place f i).first_children ≡ i ∷ (place f c).first_children
+unfolding place
+first_children_step f i c l =
+    let h = here f i l in
+    rw h.is (λ e. ap (λ xs. i ∷ xs) (first_line_is (preorder f) (i ∷ h.up) [] (i + 1) h.below c h.under e))
+
+last_line_is : (T : List Place) (up left : List ℕ) (b : ℕ) (r : Forest Node) (c : ℕ) → Sits T up left b r → last (ids b r) ≡ Some c → last_line b r ≡ (at T c).last_children
+last_line_is T up left b Nil c s e = cc
+last_line_is T up left b (Cons x k Nil) c s e = let same : b ≡ c = cc in rw (← same) (ap (λ p. p.last_children) (sym s.0))
+last_line_is T up left b (Cons x k (Cons x' k' r')) c s e = last_line_is T up (b ∷ left) (b + (1 + size k)) (Cons x' k' r') c s.3 e
+
+pub last_children_step : (f : Forest Node) (i c : ℕ) → i < size f → last_child f i ≡ Some c → (place f i).last_children ≡ i ∷ (place f c).last_children
+unfolding place
+last_children_step f i c l =
+    let h = here f i l in
+    rw h.is (λ e. ap (λ xs. i ∷ xs) (last_line_is (preorder f) (i ∷ h.up) [] (i + 1) h.below c h.under e))
+
+pub no_parent : (f : Forest Node) (i : ℕ) → parent f i ≡ None → (place f i).above ≡ []
+no_parent f i e = nothing (place f i).above e
+
+pub no_next : (f : Forest Node) (i : ℕ) → next_sibling f i ≡ None → (place f i).after ≡ []
+no_next f i e = nothing (place f i).after e
+
+pub no_prev : (f : Forest Node) (i : ℕ) → prev_sibling f i ≡ None → (place f i).before ≡ []
+no_prev f i e = nothing (place f i).before e
+
+first_line_none : (b : ℕ) (f : Forest Node) → first (ids b f) ≡ None → first_line b f ≡ []
+first_line_none b Nil e = refl
+first_line_none b (Cons x c r) e = cc
+
+pub no_first_child : (f : Forest Node) (i : ℕ) → i < size f → first_child f i ≡ None → (place f i).first_children ≡ i ∷ []
+no_first_child f i l = let h = here f i l in rw (place_is f i h) (λ e. ap (λ xs. i ∷ xs) (first_line_none (i + 1) h.below e))
+
+last_line_none : (b : ℕ) (f : Forest Node) → last (ids b f) ≡ None → last_line b f ≡ []
+last_line_none b Nil e = refl
+last_line_none b (Cons x c r) e = absurd (last_some b (ids (b + (1 + size c)) r) e)
+
+pub no_last_child : (f : Forest Node) (i : ℕ) → i < size f → last_child f i ≡ None → (place f i).last_children ≡ i ∷ []
+no_last_child f i l = let h = here f i l in rw (place_is f i h) (λ e. ap (λ xs. i ∷ xs) (last_line_none (i + 1) h.below e))
+
+pub prev_next : (f : Forest Node) (i q : ℕ) → i < size f → prev_sibling f i ≡ Some q → next_sibling f q ≡ Some i
+unfolding place
+prev_next f i q l =
+    let h = here f i l in
+    rw h.is (λ e. let k = h.fit q e in rw k.1 refl)
+
+-- the children are the nodes whose parent this is
+pub child_parent : (f : Forest Node) (i k : ℕ) → i < size f → k < length (place f i).children → parent f (get_or (place f i).children k 0) ≡ Some i
+unfolding place
+child_parent f i k l =
+    let h = here f i l in
+    let n = length-preorder f in
+    rw h.is (λ m. ap first (sib (preorder f) (i ∷ h.up) [] (i + 1) h.below k h.under m).above)

@@ -1,0 +1,72 @@
+-- An element is among the top nodes of a document.
+use Rattle.std.proofs.Common.{◌≡◌, ℕ, ◌+◌, List, [], ◌∷◌, None, Some, true, false, refl, ap, subst, arith}
+use Rattle.rox_grammar.specs.Forest.{Forest, Nil, Cons, size}
+use Rattle.rox_grammar.specs.Written as written
+use Rattle.rox_grammar.specs.Written.{Declaration}
+use Rattle.rox_grammar.specs.Tree.{Node, Root, Element, Text, Comment, PI, resolved, document_tree}
+use Rattle.roxmltree.specs.Doc.{Doc}
+use Rattle.roxmltree.specs.Places.{places, preorder, place, ids, children}
+use Rattle.roxmltree.specs.Says.{says_element}
+use Rattle.roxmltree.specs.Spot.{spots}
+use Rattle.roxmltree.specs.Elements.{nearest_element}
+use Rattle.roxmltree.specs.Whole.{HasElement, IsDocument}
+use Rattle.roxmltree.proofs.Preorder.{Sits, sits, length-places}
+
+-- an element is the nearest
+nearest_here : (d : Doc) (i : ℕ) (xs : List ℕ) → says_element (place d.tree i).item ≡ true → nearest_element (spots d (i ∷ xs)) ≡ None → ⊥
+nearest_here d i xs e h =
+    let k : nearest_element (spots d (i ∷ xs)) ≡ Some (d, i) = rw e refl in
+    cc
+
+-- what is none from here on is none after
+nearest_after : (d : Doc) (i : ℕ) (xs : List ℕ) → says_element (place d.tree i).item ≡ false → nearest_element (spots d (i ∷ xs)) ≡ None → nearest_element (spots d xs) ≡ None
+nearest_after d i xs e h = rw e at h
+
+-- where an element is among nodes side by side, one is the nearest
+none_among : (d : Doc) (up left : List ℕ) (b : ℕ) (f : Forest Node) → Sits (preorder d.tree) up left b f → HasElement f → nearest_element (spots d (ids b f)) ≡ None → ⊥
+unfolding place
+none_among d up left b Nil s h e = h
+none_among d up left b (Cons (Element start end namespace local listed attributes) c r) s h e =
+    nearest_here d b (ids (b + (1 + size c)) r) (ap (λ p. says_element p.item) s.0) e
+none_among d up left b (Cons (Root end) c r) s h e =
+    none_among d up (b ∷ left) (b + (1 + size c)) r s.3 h (nearest_after d b (ids (b + (1 + size c)) r) (ap (λ p. says_element p.item) s.0) e)
+none_among d up left b (Cons (Text start end value borrowed) c r) s h e =
+    none_among d up (b ∷ left) (b + (1 + size c)) r s.3 h (nearest_after d b (ids (b + (1 + size c)) r) (ap (λ p. says_element p.item) s.0) e)
+none_among d up left b (Cons (Comment start end text) c r) s h e =
+    none_among d up (b ∷ left) (b + (1 + size c)) r s.3 h (nearest_after d b (ids (b + (1 + size c)) r) (ap (λ p. says_element p.item) s.0) e)
+none_among d up left b (Cons (PI start end target value) c r) s h e =
+    none_among d up (b ∷ left) (b + (1 + size c)) r s.3 h (nearest_after d b (ids (b + (1 + size c)) r) (ap (λ p. says_element p.item) s.0) e)
+
+-- a tree stands in its own preorder list
+whole_sits : (f : Forest Node) → Sits (preorder f) [] [] 0 f
+unfolding preorder
+whole_sits f =
+    sits (places [] [] 0 f) [] [] 0 f (λ k m. let e : 0 + k ≡ k = omega arith in rw e refl) (omega (arith, length-places [] [] 0 f))
+
+-- a document has an outermost element
+pub root_element_there : (d : Doc) (n : ℕ) → IsDocument n d.tree → nearest_element (spots d (children d.tree 0)) ≡ None → ⊥
+unfolding place
+root_element_there d n w h =
+    let s : Sits (preorder d.tree) [] [] 0 (Cons (Root n) w.tops Nil) = subst (λ f. Sits (preorder d.tree) [] [] 0 f) w.rooted (whole_sits d.tree) in
+    let c : children d.tree 0 ≡ ids 1 w.tops = ap (λ p. p.children) s.0 in
+    none_among d (0 ∷ []) [] 1 w.tops s.2 w.element (rw c at h)
+
+-- an element is among these items side by side
+abbrev pub AnyElement : Forest written.Item → Type 0
+AnyElement Nil = ⊥
+AnyElement (Cons (written.Element start end tag) children rest) = Unit {0}
+AnyElement (Cons (written.Text start end value borrowed) children rest) = AnyElement rest
+AnyElement (Cons (written.Comment start end text) children rest) = AnyElement rest
+AnyElement (Cons (written.PI start end target value) children rest) = AnyElement rest
+
+-- and is one still with the names resolved
+element_stays : (above : List Declaration) (f : Forest written.Item) → AnyElement f → HasElement (resolved above f)
+element_stays above Nil h = h
+element_stays above (Cons (written.Element start end tag) c r) h = tt
+element_stays above (Cons (written.Text start end value borrowed) c r) h = element_stays above r h
+element_stays above (Cons (written.Comment start end text) c r) h = element_stays above r h
+element_stays above (Cons (written.PI start end target value) c r) h = element_stays above r h
+
+-- top nodes with an element make a document
+pub is_document : (n : ℕ) (tops : Forest written.Item) → AnyElement tops → IsDocument n (document_tree n tops)
+is_document n tops h = record { tops = resolved [] tops; rooted = refl; element = element_stays [] tops h }

@@ -1,0 +1,23 @@
+-- A node without what other tables say of it.
+use Rattle.std.specs.Prelude.{ℕ, [], None}
+use Rattle.std.specs.Option.{option_map}
+use Rattle.rox_grammar.specs.Tree.{Node, Root, Element, Text, Comment, PI}
+use Rattle.rox_build.specs.Storage.{storage_bytes, is_borrowed}
+use Rattle.rox_build.specs.declared.tables.NodeKind.{NodeKind}
+use Rattle.rox_build.specs.declared.tables.NodeKind.TheVariants as kind
+
+-- all but the namespaces and the attributes
+abbrev pub bare : Node → Node
+bare (Root end) = Root end
+bare (Element start end namespace local listed attributes) = Element start end None local [] []
+bare (Text start end value borrowed) = Text start end value borrowed
+bare (Comment start end text) = Comment start end text
+bare (PI start end target value) = PI start end target value
+
+-- the node of a row, so far
+abbrev pub bare_row : (start end : ℕ) → NodeKind → Node
+bare_row start end kind.Root = Root end
+bare_row start end (kind.Element e) = Element start end None e.local.now [] []
+bare_row start end (kind.Text value) = Text start end (storage_bytes value) (is_borrowed value)
+bare_row start end (kind.Comment text) = Comment start end (storage_bytes text)
+bare_row start end (kind.PI pi) = PI start end pi.target.now (option_map (λ v. v.now) pi.value)

@@ -1,0 +1,36 @@
+-- What an element has, as callers and as the tables say it.
+use Rattle.std.specs.Prelude.{◌<◌, List, map, length}
+use Rattle.std.specs.Coded.{Coded, coded_list}
+use Rattle.std.specs.List.{AllByRecursion}
+use Rattle.std.specs.Slice.Iter.{iter_rest}
+use Rattle.rox_grammar.specs.Written.{Declaration}
+use Rattle.rox_grammar.specs.Tree as tree
+use Rattle.rox_build.specs.Lines.{attribute, declaration, entry, NamespaceWithin}
+use Rattle.roxmltree.specs.Flat.{attribute_code, declaration_code}
+use Rattle.roxmltree.specs.declared.elements.Attribute.{Attribute}
+use Rattle.roxmltree.specs.declared.elements.Attributes.TheInside as attributes
+use Rattle.roxmltree.specs.declared.elements.NamespaceIter.TheInside as namespaces
+
+abbrev pub attributes_code : Coded (List tree.Attribute)
+attributes_code = coded_list attribute_code
+
+abbrev pub declarations_code : Coded (List Declaration)
+declarations_code = coded_list declaration_code
+
+-- an attribute as callers see it
+abbrev pub attribute_of : Attribute → tree.Attribute
+attribute_of a = attribute (map declaration a.names.now) a.data.now
+
+-- those that are left
+abbrev pub attributes_left : attributes.Inside → List tree.Attribute
+attributes_left a = map (attribute (map declaration a.names.now)) (iter_rest a.items)
+
+-- each of them has its namespace in the table
+pub record AttributesWithin (a : attributes.Inside) : Type 0 where
+  pub each : AllByRecursion (λ d. NamespaceWithin (length a.names.now) d.namespace) (iter_rest a.items)
+
+abbrev pub namespaces_left : namespaces.Inside → List Declaration
+namespaces_left n = map (entry (map declaration n.names.now)) (iter_rest n.items)
+
+pub record NamespacesWithin (n : namespaces.Inside) : Type 0 where
+  pub each : AllByRecursion (λ i. i < length n.names.now) (iter_rest n.items)

@@ -1,0 +1,32 @@
+-- A node as callers see it: the document and the id.
+use Rattle.std.specs.Prelude.{ℕ, List, map}
+use Rattle.std.specs.Coded.{Coded, coded×, coded_ℕ, coded_list}
+use Rattle.rox_grammar.specs.Forest.{Forest}
+use Rattle.rox_grammar.specs.Tree as grammar
+use Rattle.roxmltree.specs.Doc.{Doc, doc_code}
+use Rattle.roxmltree.specs.declared.nodes.NodeId.{NodeId}
+use Rattle.roxmltree.specs.declared.nodes.Node.{Node}
+
+-- an id as a number
+abbrev pub number : NodeId → ℕ
+number id = id.0
+
+-- of a node its id, its document, and the tree of that
+abbrev pub id_of : Node → ℕ
+id_of node = number node.id
+
+abbrev pub document_of : Node → Doc
+document_of node = node.document.now
+
+abbrev pub tree_of : Node → Forest grammar.Node
+tree_of node = (document_of node).tree
+
+abbrev pub spot : Node → Doc × ℕ
+spot node = (document_of node, id_of node)
+
+-- the nodes of these ids
+abbrev pub spots : Doc → List ℕ → List (Doc × ℕ)
+spots document ids = map (λ id. (document, id)) ids
+
+abbrev pub spots_code : Coded (List (Doc × ℕ))
+spots_code = coded_list (coded× doc_code coded_ℕ)

@@ -1,0 +1,24 @@
+-- Texts and instructions as the tables hold them.
+use Rattle.std.specs.Prelude.{ℕ, Bool, List, Option, Some, None}
+use Rattle.std.specs.Option.{option_map}
+use Rattle.rox_build.specs.Storage.{storage_bytes, is_borrowed}
+use Rattle.rox_build.specs.declared.storage.StringStorage.{StringStorage}
+use Rattle.rox_build.specs.declared.tables.PI.{PI}
+use Rattle.rox_build.specs.declared.tables.NodeKind.{NodeKind}
+use Rattle.rox_build.specs.declared.tables.NodeKind.TheVariants as kind
+
+-- the bytes, and whether they are a slice of the input
+abbrev pub stored : StringStorage → List ℕ × Bool
+stored s = (storage_bytes s, is_borrowed s)
+
+-- a target and a value
+abbrev pub instruction : PI → List ℕ × Option (List ℕ)
+instruction pi = (pi.target.now, option_map (λ v. v.now) pi.value)
+
+-- the text of a text node's or a comment's row
+abbrev pub content_in : NodeKind → Option (List ℕ × Bool)
+content_in kind.Root = None
+content_in (kind.Element e) = None
+content_in (kind.Text value) = Some (stored value)
+content_in (kind.Comment text) = Some (stored text)
+content_in (kind.PI pi) = None

@@ -1,0 +1,324 @@
+//! What an element has: its attributes, and the namespaces that it lists.
+
+ghost use Rattle.std.specs.Prelude.{◌≡◌, ◌≤◌, ◌-◌, length, bytes_eq};
+ghost use Rattle.std.specs.Option.{option_map, option_eq};
+ghost use Rattle.rox_build.specs.Lines.{declaration};
+ghost use Rattle.roxmltree.specs.Reach.{reach};
+
+use crate::names::{ExpandedName, NS_XML_URI};
+use rox_build::storage::StringStorage;
+use rox_build::tables::{AttributeData, AttributeNamespace, Namespace};
+use std::marker::Model;
+use std::ops::Range;
+use std::{fmt, slice};
+
+/// An attribute of an element (XML 1.0 section 3.1).
+#[derive(Clone, Copy)]
+pub struct Attribute<'a, 'input> {
+    data: &'a AttributeData<'input>,
+    names: &'a [Namespace<'input>],
+    ghost within: { reach data.now.namespace ≤ length names.now },
+}
+
+impl<'a, 'input> Attribute<'a, 'input> {
+    ghost use Rattle.roxmltree.specs.Listed.{attribute_of};
+    ghost use Rattle.roxmltree.specs.Names.{expanded, same_name};
+    ghost use Rattle.roxmltree.specs.Stored.{stored};
+
+    /// The namespace of its name. None where the name has no prefix.
+    #[tactic(auto, using(crate::proofs::Entries::entry_uri))]
+    pub fn namespace(&self) -> Option<&'a str>
+        ensures { option_map (λ u. u.now) result ≡ (attribute_of self.now).namespace }
+    {
+        match self.data.namespace {
+            AttributeNamespace::None => None,
+            AttributeNamespace::Xml => Some(NS_XML_URI),
+            AttributeNamespace::Listed(place) => {
+                let names = self.names;
+                Some(names[place as usize].uri())
+            }
+        }
+    }
+
+    /// Its local name.
+    #[inline]
+    pub fn name(&self) -> &'input str
+        ensures { result.now ≡ (attribute_of self.now).local }
+    {
+        self.data.local
+    }
+
+    /// Whether it has this name.
+    #[inline]
+    pub(crate) fn has_name(&self, name: &ExpandedName<'_, '_>) -> bool
+        ensures { result ≡ same_name ((attribute_of self.now).namespace, (attribute_of self.now).local) (expanded name.now) }
+    {
+        self.data.local == name.name() && self.namespace() == name.namespace()
+    }
+
+    /// Its value (XML 1.0 section 3.3.3).
+    #[inline]
+    pub fn value(&self) -> &'a str
+        ensures { result.now ≡ (attribute_of self.now).value }
+    {
+        self.data.value.as_str()
+    }
+
+    /// Its value, with whether it is a slice of the input.
+    #[inline]
+    pub fn value_storage(&self) -> &StringStorage<'input>
+        ensures { stored result.now ≡ ((attribute_of self.now).value, (attribute_of self.now).borrowed) }
+    {
+        &self.data.value
+    }
+
+    /// Where it starts in its source, in bytes.
+    #[inline]
+    pub fn position(&self) -> usize
+        ensures { result ≡ (attribute_of self.now).start }
+    {
+        self.data.start
+    }
+
+    /// Where it stands in its source, in bytes: from its name to its closing quote, the quote included.
+    #[inline]
+    pub fn range(&self) -> Range<usize>
+        ensures start { result.start ≡ (attribute_of self.now).start }
+        ensures end { result.end ≡ (attribute_of self.now).end }
+    {
+        self.data.start..self.data.end
+    }
+
+    /// Where its name stands in its source, in bytes.
+    #[inline]
+    pub fn range_qname(&self) -> Range<usize>
+        ensures start { result.start ≡ (attribute_of self.now).start }
+        ensures end { result.end ≡ (attribute_of self.now).name_end }
+    {
+        self.data.start..self.data.name_end
+    }
+
+    /// Where its value stands in its source, in bytes, without the quotes.
+    #[inline]
+    pub fn range_value(&self) -> Range<usize>
+        ensures start { result.start ≡ (attribute_of self.now).value_start }
+        ensures end { result.end ≡ (attribute_of self.now).end - 1 }
+    {
+        self.data.value_start..self.data.end.saturating_sub(1)
+    }
+}
+
+impl PartialEq for Attribute<'_, '_> {
+    ghost use Rattle.std.specs.Ordering.{on, eq_of_both};
+    ghost use Rattle.std.specs.Cmp.{partial_equiv_from_equiv, and_equiv, on_equiv};
+    ghost use Rattle.std.specs.Cmp.Lexicographic.{options_equiv, nat_list_eq_equiv};
+    ghost use Rattle.roxmltree.specs.Listed.{attribute_of};
+
+    ghost eq = { eq_of_both (eq_of_both (on (λ a. (attribute_of a).local) bytes_eq) (on (λ a. (attribute_of a).namespace) (option_eq bytes_eq))) (on (λ a. (attribute_of a).value) bytes_eq) };
+
+    ghost laws = { partial_equiv_from_equiv (and_equiv (and_equiv (on_equiv (λ a. (attribute_of a).local) nat_list_eq_equiv) (on_equiv (λ a. (attribute_of a).namespace) (options_equiv nat_list_eq_equiv))) (on_equiv (λ a. (attribute_of a).value) nat_list_eq_equiv)) };
+
+    fn eq(&self, other: &Self) -> bool {
+        self.name() == other.name()
+            && self.namespace() == other.namespace()
+            && self.value() == other.value()
+    }
+}
+
+impl fmt::Debug for Attribute<'_, '_> {
+    fn fmt<W: fmt::Write>(&self, f: &mut fmt::Formatter<W>) -> fmt::Result {
+        let name = self.name();
+        let value = self.value();
+        write!(f, "Attribute {{ name: {name:?}, value: {value:?} }}")
+    }
+}
+
+/// Attributes of one element, from both ends.
+#[derive(Clone, Drop)]
+pub struct Attributes<'a, 'input> {
+    pub(crate) items: slice::Iter<'a, AttributeData<'input>>,
+    pub(crate) names: &'a [Namespace<'input>],
+}
+
+impl<'a, 'input> Model for Attributes<'a, 'input> {
+    ghost use Rattle.std.specs.Prelude.{List};
+    ghost use Rattle.rox_grammar.specs.Tree as tree;
+    ghost use Rattle.roxmltree.specs.Listed.{attributes_code, attributes_left, AttributesWithin};
+
+    ghost Value = { List tree.Attribute };
+
+    ghost coded = { attributes_code };
+
+    ghost view = { attributes_left };
+
+    ghost invariant = { AttributesWithin };
+}
+
+impl<'a, 'input> Attributes<'a, 'input> {
+    ghost use Rattle.std.specs.Prelude.{map, slice_range};
+    ghost use Rattle.std.specs.List.{AllByRecursion};
+    ghost use Rattle.rox_build.specs.Lines.{attribute, NamespaceWithin};
+
+    /// A stretch of the attributes of all elements, whose namespaces are in this table.
+    #[inline]
+    #[tactic(auto, using(crate::proofs::Parts::all_stretch))]
+    pub(crate) fn part(
+        items: &'a [AttributeData<'input>],
+        from: usize,
+        until: usize,
+        names: &'a [Namespace<'input>],
+    ) -> Attributes<'a, 'input>
+        requires ordered { from ≤ until }
+        requires within { until ≤ length items.now }
+        requires named { AllByRecursion (λ a. NamespaceWithin (length names.now) a.namespace) items.now }
+        ensures { result ≡ map (attribute (map declaration names.now)) (slice_range items.now from until) }
+    {
+        Attributes {
+            items: items[from..until].iter(),
+            names,
+        }
+    }
+}
+
+impl fmt::Debug for Attributes<'_, '_> {
+    fn fmt<W: fmt::Write>(&self, f: &mut fmt::Formatter<W>) -> fmt::Result {
+        let count = self.len();
+        write!(f, "Attributes({count})")
+    }
+}
+
+impl<'a, 'input> Iterator for Attributes<'a, 'input> {
+    type Item = Attribute<'a, 'input>;
+
+    ghost use Rattle.std.specs.Iterator.{YieldsFirstBy, item_count};
+    ghost use Rattle.roxmltree.specs.Listed.{attribute_of};
+
+    ghost next_gives = { YieldsFirstBy attribute_of (λ s. s) };
+
+    ghost remaining = { item_count (λ s. s) };
+
+    #[tactic(auto, using(crate::proofs::Entries::reach_within))]
+    fn next(&mut self) -> Option<Attribute<'a, 'input>> {
+        let names = self.names;
+        match self.items.next() {
+            Some(data) => Some(Attribute { data, names }),
+            None => None,
+        }
+    }
+}
+
+impl<'a, 'input> DoubleEndedIterator for Attributes<'a, 'input> {
+    ghost use Rattle.std.specs.Iterator.{YieldsLastBy};
+    ghost use Rattle.roxmltree.specs.Listed.{attribute_of};
+
+    ghost next_back_gives = { YieldsLastBy attribute_of (λ s. s) };
+
+    #[tactic(auto, using(crate::proofs::Entries::reach_within, crate::proofs::Entries::all_front, crate::proofs::Entries::all_last))]
+    fn next_back(&mut self) -> Option<Attribute<'a, 'input>> {
+        let names = self.names;
+        match self.items.next_back() {
+            Some(data) => Some(Attribute { data, names }),
+            None => None,
+        }
+    }
+}
+
+impl ExactSizeIterator for Attributes<'_, '_> {
+    fn len(&self) -> usize {
+        self.items.len()
+    }
+}
+
+/// Namespaces that one element lists, from both ends.
+#[derive(Clone, Drop)]
+pub struct NamespaceIter<'a, 'input> {
+    pub(crate) items: slice::Iter<'a, u16>,
+    pub(crate) names: &'a [Namespace<'input>],
+}
+
+impl<'a, 'input> Model for NamespaceIter<'a, 'input> {
+    ghost use Rattle.std.specs.Prelude.{List};
+    ghost use Rattle.rox_grammar.specs.Written.{Declaration};
+    ghost use Rattle.roxmltree.specs.Listed.{declarations_code, namespaces_left, NamespacesWithin};
+
+    ghost Value = { List Declaration };
+
+    ghost coded = { declarations_code };
+
+    ghost view = { namespaces_left };
+
+    ghost invariant = { NamespacesWithin };
+}
+
+impl<'a, 'input> NamespaceIter<'a, 'input> {
+    ghost use Rattle.std.specs.Prelude.{map, slice_range, ◌<◌};
+    ghost use Rattle.std.specs.List.{AllByRecursion};
+    ghost use Rattle.rox_build.specs.Lines.{entry};
+
+    /// A stretch of the places that all elements list, in this table of namespaces.
+    #[inline]
+    #[tactic(auto, using(crate::proofs::Parts::all_stretch))]
+    pub(crate) fn part(
+        items: &'a [u16],
+        from: usize,
+        until: usize,
+        names: &'a [Namespace<'input>],
+    ) -> NamespaceIter<'a, 'input>
+        requires ordered { from ≤ until }
+        requires within { until ≤ length items.now }
+        requires named { AllByRecursion (λ i. i < length names.now) items.now }
+        ensures { result ≡ map (entry (map declaration names.now)) (slice_range items.now from until) }
+    {
+        NamespaceIter {
+            items: items[from..until].iter(),
+            names,
+        }
+    }
+}
+
+impl fmt::Debug for NamespaceIter<'_, '_> {
+    fn fmt<W: fmt::Write>(&self, f: &mut fmt::Formatter<W>) -> fmt::Result {
+        let count = self.len();
+        write!(f, "NamespaceIter({count})")
+    }
+}
+
+impl<'a, 'input> Iterator for NamespaceIter<'a, 'input> {
+    type Item = &'a Namespace<'input>;
+
+    ghost use Rattle.std.specs.Iterator.{YieldsFirstBy, item_count};
+
+    ghost next_gives = { YieldsFirstBy (λ n. declaration n.now) (λ s. s) };
+
+    ghost remaining = { item_count (λ s. s) };
+
+    #[tactic(auto, using(crate::proofs::Entries::entry_is))]
+    fn next(&mut self) -> Option<&'a Namespace<'input>> {
+        let names = self.names;
+        let Some(place) = self.items.next() else {
+            return None;
+        };
+        Some(&names[*place as usize])
+    }
+}
+
+impl<'a, 'input> DoubleEndedIterator for NamespaceIter<'a, 'input> {
+    ghost use Rattle.std.specs.Iterator.{YieldsLastBy};
+
+    ghost next_back_gives = { YieldsLastBy (λ n. declaration n.now) (λ s. s) };
+
+    #[tactic(auto, using(crate::proofs::Entries::entry_is, crate::proofs::Entries::all_front, crate::proofs::Entries::all_last))]
+    fn next_back(&mut self) -> Option<&'a Namespace<'input>> {
+        let names = self.names;
+        let Some(place) = self.items.next_back() else {
+            return None;
+        };
+        Some(&names[*place as usize])
+    }
+}
+
+impl ExactSizeIterator for NamespaceIter<'_, '_> {
+    fn len(&self) -> usize {
+        self.items.len()
+    }
+}

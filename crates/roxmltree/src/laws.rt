@@ -1,0 +1,79 @@
+//! Laws of the calls, each a function whose contract is the law.
+
+ghost use Rattle.std.specs.Prelude.{◌≡◌, ℕ, ◌<◌, Some, None, IsTrue, length, slice_index};
+ghost use Rattle.std.specs.List.{range_with_len, last_or};
+ghost use Rattle.std.specs.Prelude.{slice_get};
+ghost use Rattle.std.specs.Ordering.{nat_cmp};
+ghost use Rattle.rox_grammar.specs.Forest.{size};
+ghost use Rattle.roxmltree.specs.Places.{place, parent, children, first_child, last_child, next_sibling, prev_sibling};
+ghost use Rattle.roxmltree.specs.Spot.{id_of, document_of};
+
+use crate::nodes::Node;
+use crate::tree::Document;
+use std::cmp::Ordering;
+
+/// The nodes from one on in its subtree are the ids from its own on, each once: as many as the subtree has.
+#[tactic(auto, using(crate::proofs::Siblings::descendants_is))]
+pub fn descendants_are_in_order(document: &Document<'_>)
+    ensures { (i : ℕ) → i < size document.now.tree → (place document.now.tree i).descendants ≡ range_with_len i (place document.now.tree i).count }
+{
+    let _ = document;
+}
+
+/// `next_sibling` and `prev_sibling` undo each other.
+#[tactic(auto, using(crate::proofs::Siblings::next_prev, crate::proofs::Siblings::prev_next))]
+pub fn siblings_undo_each_other(document: &Document<'_>)
+    ensures forth { (i j : ℕ) → i < size document.now.tree → next_sibling document.now.tree i ≡ Some j → prev_sibling document.now.tree j ≡ Some i }
+    ensures back { (i j : ℕ) → i < size document.now.tree → prev_sibling document.now.tree i ≡ Some j → next_sibling document.now.tree j ≡ Some i }
+{
+    let _ = document;
+}
+
+/// The same of the calls themselves.
+#[tactic(auto, using(crate::proofs::Siblings::next_prev))]
+pub fn next_then_prev(node: Node<'_, '_>) -> bool
+    ensures { IsTrue result }
+{
+    match node.next_sibling() {
+        None => true,
+        Some(next) => match next.prev_sibling() {
+            None => false,
+            Some(back) => back == node,
+        },
+    }
+}
+
+/// Each child has its parent.
+#[tactic(auto, using(crate::proofs::Siblings::child_parent))]
+pub fn children_have_their_parent(document: &Document<'_>)
+    ensures { (i k : ℕ) → i < size document.now.tree → k < length (children document.now.tree i) → parent document.now.tree (slice_index (children document.now.tree i) k) ≡ Some i }
+{
+    let _ = document;
+}
+
+/// The first and the last child are the ends of the children.
+pub fn ends_of_children(document: &Document<'_>)
+    ensures first { (i : ℕ) → first_child document.now.tree i ≡ slice_get (children document.now.tree i) 0 }
+    ensures last { (i : ℕ) → last_child document.now.tree i ≡ last_or None (children document.now.tree i) }
+{
+    let _ = document;
+}
+
+/// Two nodes are in no order exactly where they are equal.
+pub fn order_agrees_with_equality(a: Node<'_, '_>, b: Node<'_, '_>) -> bool
+    ensures { IsTrue result }
+{
+    let tied = match a.cmp(&b) {
+        Ordering::Equal => true,
+        _ => false,
+    };
+    tied == (a == b)
+}
+
+/// Nodes are grouped by the keys of their documents, and within one are in document order.
+pub fn order_is_by_document(a: Node<'_, '_>, b: Node<'_, '_>) -> Ordering
+    ensures grouped { (document_of a.entry).key < (document_of b.entry).key → result ≡ Ordering.Less }
+    ensures inside { (document_of a.entry).key ≡ (document_of b.entry).key → result ≡ nat_cmp (id_of a.entry) (id_of b.entry) }
+{
+    a.cmp(&b)
+}

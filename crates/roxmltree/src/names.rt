@@ -1,0 +1,77 @@
+//! Names with their namespaces (Namespaces in XML 1.0 section 2.1).
+
+ghost use Rattle.std.specs.Prelude.{◌≡◌, Some, None};
+ghost use Rattle.std.specs.Option.{option_map};
+ghost use Rattle.roxmltree.specs.Names.{expanded, same_name};
+
+/// The namespace of the prefix `xml`.
+pub const NS_XML_URI: &str = "http://www.w3.org/XML/1998/namespace";
+
+/// The namespace of the prefix `xmlns`.
+pub const NS_XMLNS_URI: &str = "http://www.w3.org/2000/xmlns/";
+
+/// A local name and, if it has one, its namespace. Two are equal where their local names are equal, and both have no
+/// namespace or both have equal URIs.
+#[derive(Clone, Copy, PartialEq, Eq, Debug)]
+pub struct ExpandedName<'a, 'b> {
+    local: &'b str,
+    uri: Option<&'a str>,
+}
+
+impl<'a, 'b> ExpandedName<'a, 'b> {
+    /// The name of these parts.
+    #[inline]
+    pub(crate) fn from_parts(uri: Option<&'a str>, local: &'b str) -> ExpandedName<'a, 'b>
+        ensures { expanded result ≡ (option_map (λ u. u.now) uri.entry, local.now) }
+    {
+        ExpandedName { local, uri }
+    }
+
+    /// Its namespace's URI.
+    #[inline]
+    pub fn namespace(&self) -> Option<&'a str>
+        ensures { option_map (λ u. u.now) result ≡ (expanded self.now).0 }
+    {
+        self.uri
+    }
+
+    /// Its local name.
+    #[inline]
+    pub fn name(&self) -> &'b str
+        ensures { result.now ≡ (expanded self.now).1 }
+    {
+        self.local
+    }
+}
+
+impl ExpandedName<'static, 'static> {
+    /// The name of these parts.
+    #[inline]
+    pub fn from_static(uri: &'static str, local: &'static str) -> ExpandedName<'static, 'static>
+        ensures { expanded result ≡ (Some uri.now, local.now) }
+    {
+        ExpandedName {
+            local,
+            uri: Some(uri),
+        }
+    }
+}
+
+impl<'a, 'b> From<&'b str> for ExpandedName<'a, 'b> {
+    ghost from_gives = { λ local n. expanded n ≡ (None, local.now) };
+
+    fn from(local: &'b str) -> ExpandedName<'a, 'b> {
+        ExpandedName { local, uri: None }
+    }
+}
+
+impl<'a, 'b> From<(&'a str, &'b str)> for ExpandedName<'a, 'b> {
+    ghost from_gives = { λ parts n. expanded n ≡ (Some parts.0.now, parts.1.now) };
+
+    fn from(parts: (&'a str, &'b str)) -> ExpandedName<'a, 'b> {
+        ExpandedName {
+            local: parts.1,
+            uri: Some(parts.0),
+        }
+    }
+}

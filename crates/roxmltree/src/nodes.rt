@@ -1,0 +1,359 @@
+//! A node of a document, its kind, and its neighbours.
+
+ghost use Rattle.std.specs.Prelude.{◌≡◌, ℕ, ◌+◌, ◌^◌, ◌<◌, ◌≤◌, length, ◌∷◌, IsTrue, ◌↔◌, ◌≢◌, ◌⊎◌, reverse};
+ghost use Rattle.std.specs.Option.{option_map};
+ghost use Rattle.rox_grammar.specs.Forest.{size};
+ghost use Rattle.roxmltree.specs.Places.{place, parent, children, first_child, last_child, next_sibling, prev_sibling, up_to};
+
+use crate::tree::Document;
+use crate::walks::{Axis, AxisIter, Children, Descendants};
+use std::fmt;
+
+/// The place of a node in document order: the root node has 0.
+#[derive(Clone, Copy, PartialEq, Eq, PartialOrd, Ord, Hash, Debug)]
+pub struct NodeId(pub(crate) u32);
+
+/// A number that is no node's id: past `u32::MAX`.
+#[derive(Clone, Copy, PartialEq, Eq, Debug)]
+pub struct NodeIdTooLarge;
+
+impl NodeId {
+    ghost use Rattle.roxmltree.specs.Spot.{number};
+
+    /// The id of this number.
+    #[inline]
+    pub fn new(id: u32) -> NodeId
+        ensures { number result ≡ id }
+    {
+        NodeId(id)
+    }
+
+    /// Its number.
+    #[inline]
+    pub fn get(self) -> u32
+        ensures { result ≡ number self }
+    {
+        self.0
+    }
+
+    /// Its number, as an index.
+    #[inline]
+    pub fn get_usize(self) -> usize
+        ensures { result ≡ number self }
+    {
+        self.0 as usize
+    }
+}
+
+impl From<u32> for NodeId {
+    ghost use Rattle.roxmltree.specs.Spot.{number};
+
+    ghost from_gives = { λ n id. number id ≡ n };
+
+    fn from(id: u32) -> NodeId {
+        NodeId(id)
+    }
+}
+
+impl TryFrom<usize> for NodeId {
+    type Error = NodeIdTooLarge;
+
+    ghost use Rattle.std.specs.Prelude.{MatchResult};
+    ghost use Rattle.roxmltree.specs.Spot.{number};
+
+    ghost try_from_gives = { λ n r. MatchResult r (λ id. number id ≡ n) (λ _. 2 ^ 32 ≤ n) };
+
+    fn try_from(id: usize) -> Result<NodeId, NodeIdTooLarge> {
+        if id > u32::MAX as usize {
+            return Err(NodeIdTooLarge);
+        }
+        Ok(NodeId(id as u32))
+    }
+}
+
+/// A node of a document.
+#[derive(Clone, Copy)]
+pub struct Node<'a, 'input> {
+    pub(crate) document: &'a Document<'input>,
+    pub(crate) id: NodeId,
+    ghost in_tree: { id.0 < size document.now.tree },
+}
+
+impl fmt::Debug for Node<'_, '_> {
+    fn fmt<W: fmt::Write>(&self, f: &mut fmt::Formatter<W>) -> fmt::Result {
+        let id = self.id.0;
+        write!(f, "Node({id})")
+    }
+}
+
+impl<'a, 'input> Node<'a, 'input> {
+    ghost use Rattle.roxmltree.specs.Words.{GivesNode};
+    ghost use Rattle.roxmltree.specs.Elements.{nearest_element};
+    ghost use Rattle.roxmltree.specs.Spot.{number, id_of, document_of, tree_of, spot, spots};
+
+    /// The document that it is in.
+    #[inline]
+    pub fn document(&self) -> &'a Document<'input>
+        ensures { result.now ≡ document_of self.now }
+    {
+        self.document
+    }
+
+    /// Its place in document order.
+    #[inline]
+    pub fn id(&self) -> NodeId
+        ensures { number result ≡ id_of self.now }
+    {
+        self.id
+    }
+
+    /// The node that it is a child of. None for the root node.
+    #[inline]
+    #[tactic(auto, using(crate::proofs::Preorder::parent_is))]
+    pub fn parent(&self) -> Option<Node<'a, 'input>>
+        ensures { GivesNode self.now (parent (tree_of self.now) (id_of self.now)) result }
+    {
+        let document = self.document;
+        let row = document.row(self.id);
+        if row.depth == 0 {
+            None
+        } else {
+            Some(Node {
+                document,
+                id: NodeId(row.parent),
+            })
+        }
+    }
+
+    /// Its first child.
+    #[inline]
+    #[tactic(auto, using(crate::proofs::Preorder::place_end, crate::proofs::Preorder::first_child_some, crate::proofs::Preorder::first_child_none))]
+    pub fn first_child(&self) -> Option<Node<'a, 'input>>
+        ensures { GivesNode self.now (first_child (tree_of self.now) (id_of self.now)) result }
+    {
+        let document = self.document;
+        let next = document.row(self.id).next;
+        if next - self.id.0 > 1 {
+            Some(Node {
+                document,
+                id: NodeId(self.id.0 + 1),
+            })
+        } else {
+            None
+        }
+    }
+
+    /// The next child of its parent.
+    #[inline]
+    #[tactic(auto, using(crate::proofs::Preorder::next_sibling_some, crate::proofs::Preorder::next_sibling_none))]
+    pub fn next_sibling(&self) -> Option<Node<'a, 'input>>
+        ensures { GivesNode self.now (next_sibling (tree_of self.now) (id_of self.now)) result }
+    {
+        let document = self.document;
+        let row = document.row(self.id);
+        let id = NodeId(row.next);
+        if (id.0 as usize) < document.count() && document.row(id).depth == row.depth {
+            Some(Node { document, id })
+        } else {
+            None
+        }
+    }
+
+    /// Of itself and the nodes above it, the one that has this many nodes above it.
+    #[tactic(auto, using(crate::proofs::Preorder::up_to_here, crate::proofs::Preorder::up_to_parent, crate::proofs::Preorder::parent_depth, crate::proofs::Preorder::parent_none))]
+    fn climb(self, depth: u32) -> Node<'a, 'input>
+        ensures id { id_of result ≡ up_to (tree_of self.entry) (id_of self.entry) depth }
+        ensures document { result.document ≡ self.entry.document }
+    {
+        let mut node = self;
+        while node.document.row(node.id).depth > depth {
+            match node.parent() {
+                Some(parent) => node = parent,
+                None => return node,
+            }
+        }
+        node
+    }
+
+    /// Its last child.
+    #[tactic(auto, using(crate::proofs::Preorder::place_end, crate::proofs::Preorder::depth_le, crate::proofs::Preorder::last_child_some, crate::proofs::Preorder::last_child_none))]
+    pub fn last_child(&self) -> Option<Node<'a, 'input>>
+        ensures { GivesNode self.now (last_child (tree_of self.now) (id_of self.now)) result }
+    {
+        let document = self.document;
+        let row = document.row(self.id);
+        if row.next - self.id.0 > 1 {
+            let last = Node {
+                document,
+                id: NodeId(row.next - 1),
+            };
+            Some(last.climb(row.depth + 1))
+        } else {
+            None
+        }
+    }
+
+    /// The child of its parent right before it.
+    #[tactic(auto, using(crate::proofs::Preorder::prev_sibling_some, crate::proofs::Preorder::prev_sibling_none, crate::proofs::Preorder::prev_sibling_root))]
+    pub fn prev_sibling(&self) -> Option<Node<'a, 'input>>
+        ensures { GivesNode self.now (prev_sibling (tree_of self.now) (id_of self.now)) result }
+    {
+        let document = self.document;
+        if self.id.0 == 0 {
+            return None;
+        }
+        let row = document.row(self.id);
+        let id = NodeId(self.id.0 - 1);
+        if row.depth > 0 && row.parent == id.0 {
+            None
+        } else {
+            let before = Node { document, id };
+            Some(before.climb(row.depth))
+        }
+    }
+
+    /// Its children, in order.
+    #[tactic(auto, using(crate::proofs::Siblings::run_children, crate::proofs::Siblings::no_children, crate::proofs::Siblings::last_child_there))]
+    pub fn children(&self) -> Children<'a, 'input>
+        ensures { result ≡ spots (document_of self.now) (children (tree_of self.now) (id_of self.now)) }
+    {
+        match self.first_child() {
+            Some(front) => match self.last_child() {
+                Some(back) => Children {
+                    ends: Some((front, back)),
+                },
+                None => Children { ends: None },
+            },
+            None => Children { ends: None },
+        }
+    }
+
+    /// Itself and all nodes below it, in document order.
+    #[inline]
+    #[tactic(auto, using(crate::proofs::Preorder::place_end, crate::proofs::Siblings::descendants_is))]
+    pub fn descendants(&self) -> Descendants<'a, 'input>
+        ensures { result ≡ spots (document_of self.now) (place (tree_of self.now) (id_of self.now)).descendants }
+    {
+        let document = self.document;
+        let until = document.row(self.id).next;
+        Descendants {
+            document,
+            from: self.id,
+            until: NodeId(until),
+        }
+    }
+
+    /// Itself and the nodes above it, nearest first.
+    #[inline]
+    #[tactic(auto, using(crate::proofs::Preorder::depth_le, crate::proofs::Ranges::length_spots))]
+    pub fn ancestors(&self) -> AxisIter<'a, 'input>
+        ensures value { result ≡ spots (document_of self.now) (id_of self.now ∷ (place (tree_of self.now) (id_of self.now)).above) }
+        ensures few { length result ≤ 2 ^ 32 }
+    {
+        let _nodes = self.document.count();
+        AxisIter {
+            node: Some(*self),
+            axis: Axis::Ancestors,
+        }
+    }
+
+    /// Itself and its siblings before it, nearest first.
+    #[inline]
+    pub fn prev_siblings(&self) -> AxisIter<'a, 'input>
+        ensures { result ≡ spots (document_of self.now) (id_of self.now ∷ (place (tree_of self.now) (id_of self.now)).before) }
+    {
+        AxisIter {
+            node: Some(*self),
+            axis: Axis::PrevSiblings,
+        }
+    }
+
+    /// Itself and its siblings after it.
+    #[inline]
+    pub fn next_siblings(&self) -> AxisIter<'a, 'input>
+        ensures { result ≡ spots (document_of self.now) (id_of self.now ∷ (place (tree_of self.now) (id_of self.now)).after) }
+    {
+        AxisIter {
+            node: Some(*self),
+            axis: Axis::NextSiblings,
+        }
+    }
+
+    /// Itself, its first child, the first child of that, and so on.
+    #[inline]
+    pub fn first_children(&self) -> AxisIter<'a, 'input>
+        ensures { result ≡ spots (document_of self.now) (place (tree_of self.now) (id_of self.now)).first_children }
+    {
+        AxisIter {
+            node: Some(*self),
+            axis: Axis::FirstChildren,
+        }
+    }
+
+    /// Itself, its last child, the last child of that, and so on.
+    #[inline]
+    pub fn last_children(&self) -> AxisIter<'a, 'input>
+        ensures { result ≡ spots (document_of self.now) (place (tree_of self.now) (id_of self.now)).last_children }
+    {
+        AxisIter {
+            node: Some(*self),
+            axis: Axis::LastChildren,
+        }
+    }
+
+    /// The nearest element above it.
+    pub fn parent_element(&self) -> Option<Node<'a, 'input>>
+        ensures { option_map spot result ≡ nearest_element (spots (document_of self.now) (place (tree_of self.now) (id_of self.now)).above) }
+    {
+        let mut nodes = self.ancestors();
+        nodes.next();
+        AxisIter::first_element(nodes)
+    }
+
+    /// The nearest element among its siblings before it.
+    pub fn prev_sibling_element(&self) -> Option<Node<'a, 'input>>
+        ensures { option_map spot result ≡ nearest_element (spots (document_of self.now) (place (tree_of self.now) (id_of self.now)).before) }
+    {
+        let mut nodes = self.prev_siblings();
+        nodes.next();
+        AxisIter::first_element(nodes)
+    }
+
+    /// The nearest element among its siblings after it.
+    pub fn next_sibling_element(&self) -> Option<Node<'a, 'input>>
+        ensures { option_map spot result ≡ nearest_element (spots (document_of self.now) (place (tree_of self.now) (id_of self.now)).after) }
+    {
+        let mut nodes = self.next_siblings();
+        nodes.next();
+        AxisIter::first_element(nodes)
+    }
+
+    /// The first element among its children.
+    pub fn first_element_child(&self) -> Option<Node<'a, 'input>>
+        ensures { option_map spot result ≡ nearest_element (spots (document_of self.now) (children (tree_of self.now) (id_of self.now))) }
+    {
+        Children::first_element(self.children())
+    }
+
+    /// The last element among its children.
+    pub fn last_element_child(&self) -> Option<Node<'a, 'input>>
+        ensures { option_map spot result ≡ nearest_element (reverse (spots (document_of self.now) (children (tree_of self.now) (id_of self.now)))) }
+    {
+        Children::last_element(self.children())
+    }
+
+    /// Whether it has a child.
+    #[inline]
+    pub fn has_children(&self) -> bool
+        ensures { IsTrue result ↔ (first_child (tree_of self.now) (id_of self.now) ≢ None) }
+    {
+        self.first_child().is_some()
+    }
+
+    /// Whether its parent has another child.
+    pub fn has_siblings(&self) -> bool
+        ensures { IsTrue result ↔ ((next_sibling (tree_of self.now) (id_of self.now) ≢ None) ⊎ (prev_sibling (tree_of self.now) (id_of self.now) ≢ None)) }
+    {
+        self.prev_sibling().is_some() || self.next_sibling().is_some()
+    }
+}

@@ -1,0 +1,207 @@
+//! A document: the tables of its nodes, seen by callers as the one tree that they hold.
+
+ghost use Rattle.std.specs.Prelude.{◌≡◌, ◌+◌, ◌^◌, ◌<◌, ◌≤◌, ℕ, length, Some, None, IfSome, IfNone};
+ghost use Rattle.std.specs.Option.{option_map};
+ghost use Rattle.rox_grammar.specs.Forest.{Forest, size};
+ghost use Rattle.roxmltree.specs.Places.{place, parent, children};
+ghost use Rattle.roxmltree.specs.Says.{node_at, content_of, namespace_of, listed_of, attributes_of};
+
+use crate::elements::{Attributes, NamespaceIter};
+use crate::nodes::{Node, NodeId};
+use crate::walks::Descendants;
+use rox_build::tables::{NodeData, NodeKind, Tables};
+use std::fmt;
+use std::marker::Model;
+
+/// An XML document as a read-only tree of nodes.
+#[derive(Drop)]
+pub struct Document<'input> {
+    text: &'input str,
+    tables: Tables<'input>,
+    key: u64,
+}
+
+impl<'input> Model for Document<'input> {
+    ghost use Rattle.roxmltree.specs.Doc.{Doc, doc_code};
+
+    ghost Value = { Doc };
+
+    ghost coded = { doc_code };
+
+    ghost use Rattle.roxmltree.specs.Whole.{doc_of, IsSound};
+
+    ghost view = { doc_of };
+
+    ghost invariant = { IsSound };
+}
+
+impl fmt::Debug for Document<'_> {
+    fn fmt<W: fmt::Write>(&self, f: &mut fmt::Formatter<W>) -> fmt::Result {
+        let count = self.count();
+        write!(f, "Document of {count} nodes")
+    }
+}
+
+impl<'input> Document<'input> {
+    ghost use Rattle.rox_grammar.specs.Tree as grammar;
+    ghost use Rattle.rox_build.specs.Lines.{Holds};
+    ghost use Rattle.roxmltree.specs.Whole.{IsDocument};
+    ghost use Rattle.roxmltree.specs.Bare.{bare, bare_row};
+    ghost use Rattle.roxmltree.specs.Stored.{content_in};
+    ghost use Rattle.roxmltree.specs.Spot.{number, spot, spots, id_of, document_of};
+    ghost use Rattle.roxmltree.specs.Elements.{nearest_element};
+
+    /// The document of a text, from the tables of its tree.
+    pub(crate) fn from_tables(
+        text: &'input str,
+        key: u64,
+        tables: Tables<'input>,
+    ) -> Document<'input>
+        ghost tree: { Forest grammar.Node }
+        requires tables { Holds tables tree }
+        requires document { IsDocument (length text.now) tree }
+        ensures tree { result.tree ≡ tree }
+        ensures text { result.text ≡ text.now }
+        ensures key { result.key ≡ key }
+    {
+        Document { text, tables, key }
+    }
+
+    /// How many nodes there are.
+    #[inline]
+    pub(crate) fn count(&self) -> usize
+        ensures value { result ≡ size self.now.tree }
+        ensures few { result < 2 ^ 32 }
+    {
+        self.tables.nodes.len()
+    }
+
+    /// The row of a node.
+    #[inline]
+    pub(crate) fn row(&self, id: NodeId) -> &NodeData<'input>
+        requires { number id < size self.now.tree }
+        ensures no_parent { result.now.depth ≡ 0 → parent self.now.tree (number id) ≡ None }
+        ensures parent { 0 < result.now.depth → parent self.now.tree (number id) ≡ Some result.now.parent }
+        ensures next { result.now.next ≡ number id + (place self.now.tree (number id)).count }
+        ensures depth { result.now.depth ≡ length (place self.now.tree (number id)).above }
+        ensures item { bare_row result.now.start result.now.end result.now.kind ≡ bare (node_at self.now.tree (number id)) }
+        ensures content { content_in result.now.kind ≡ content_of (node_at self.now.tree (number id)) }
+        ensures few { size self.now.tree < 2 ^ 32 }
+    {
+        &self.tables.nodes[id.0 as usize]
+    }
+
+    /// What the caller gave to tell this document's nodes from those of others.
+    #[inline]
+    pub(crate) fn key(&self) -> u64
+        ensures { result ≡ self.now.key }
+    {
+        self.key
+    }
+
+    /// The text that was parsed.
+    #[inline]
+    pub fn input_text(&self) -> &'input str
+        ensures { result.now ≡ self.now.text }
+    {
+        self.text
+    }
+
+    /// The root node, the parent of all top nodes. Its id is 0.
+    #[inline]
+    pub fn root(&self) -> Node<'_, 'input>
+        ensures id { id_of result ≡ 0 }
+        ensures document { document_of result ≡ self.now }
+    {
+        let _ = &self.tables;
+        Node {
+            document: self,
+            id: NodeId(0),
+        }
+    }
+
+    /// The outermost element (XML 1.0 section 2.1).
+    #[tactic(auto, using(crate::proofs::Tops::root_element_there))]
+    pub fn root_element(&self) -> Node<'_, 'input>
+        ensures { Some (spot result) ≡ nearest_element (spots self.now (children self.now.tree 0)) }
+    {
+        let _ = &self.tables;
+        let root = self.root();
+        match root.first_element_child() {
+            Some(element) => element,
+            None => root,
+        }
+    }
+
+    /// The node of an id, if the document has one.
+    #[inline]
+    pub fn get_node(&self, id: NodeId) -> Option<Node<'_, 'input>>
+        ensures some { IfSome result (λ node. (number id < size self.now.tree) × (id_of node ≡ number id) × (document_of node ≡ self.now)) }
+        ensures none { IfNone result (size self.now.tree ≤ number id) }
+    {
+        if (id.0 as usize) < self.count() {
+            Some(Node { document: self, id })
+        } else {
+            None
+        }
+    }
+
+    /// All nodes, the root node first, in document order.
+    #[inline]
+    pub fn descendants(&self) -> Descendants<'_, 'input>
+        ensures { result ≡ spots self.now (place self.now.tree 0).descendants }
+    {
+        self.root().descendants()
+    }
+
+    /// The namespace of an element's name.
+    #[inline]
+    pub(crate) fn namespace_of(&self, id: NodeId) -> Option<&str>
+        requires { number id < size self.now.tree }
+        ensures { option_map (λ u. u.now) result ≡ namespace_of (node_at self.now.tree (number id)) }
+    {
+        match &self.tables.nodes[id.0 as usize].kind {
+            NodeKind::Element(element) => match element.namespace {
+                Some(place) => Some(self.tables.namespaces[place as usize].uri()),
+                None => None,
+            },
+            _ => None,
+        }
+    }
+
+    /// The attributes of an element.
+    #[inline]
+    pub(crate) fn attributes_of(&self, id: NodeId) -> Attributes<'_, 'input>
+        requires { number id < size self.now.tree }
+        ensures { result ≡ attributes_of (node_at self.now.tree (number id)) }
+    {
+        let items = self.tables.attributes.as_slice();
+        let names = self.tables.namespaces.as_slice();
+        match &self.tables.nodes[id.0 as usize].kind {
+            NodeKind::Element(element) => {
+                let from = element.attributes_from as usize;
+                let until = element.attributes_until as usize;
+                Attributes::part(items, from, until, names)
+            }
+            _ => Attributes::part(items, 0, 0, names),
+        }
+    }
+
+    /// The namespaces that an element lists.
+    #[inline]
+    pub(crate) fn namespaces_of(&self, id: NodeId) -> NamespaceIter<'_, 'input>
+        requires { number id < size self.now.tree }
+        ensures { result ≡ listed_of (node_at self.now.tree (number id)) }
+    {
+        let items = self.tables.listed.as_slice();
+        let names = self.tables.namespaces.as_slice();
+        match &self.tables.nodes[id.0 as usize].kind {
+            NodeKind::Element(element) => {
+                let from = element.namespaces_from;
+                let until = element.namespaces_until;
+                NamespaceIter::part(items, from, until, names)
+            }
+            _ => NamespaceIter::part(items, 0, 0, names),
+        }
+    }
+}

@@ -1,0 +1,301 @@
+//! Iterators over nodes, each of which answers None again after its end.
+
+ghost use Rattle.std.specs.Prelude.{◌≡◌, ◌∷◌, [], ◌++◌};
+
+use crate::nodes::{Node, NodeId};
+use crate::tree::Document;
+use std::marker::Model;
+
+/// What to go along.
+#[derive(Clone, Copy, Debug)]
+pub(crate) enum Axis {
+    Ancestors,
+    PrevSiblings,
+    NextSiblings,
+    FirstChildren,
+    LastChildren,
+}
+
+/// A node, and those after it along an axis.
+#[derive(Clone, Debug, Drop)]
+pub struct AxisIter<'a, 'input> {
+    pub(crate) node: Option<Node<'a, 'input>>,
+    pub(crate) axis: Axis,
+}
+
+impl<'a, 'input> Model for AxisIter<'a, 'input> {
+    ghost use Rattle.std.specs.Prelude.{List, ℕ};
+    ghost use Rattle.roxmltree.specs.Doc.{Doc};
+    ghost use Rattle.roxmltree.specs.Spot.{spots_code};
+
+    ghost Value = { List (Doc × ℕ) };
+
+    ghost coded = { spots_code };
+
+    ghost use Rattle.roxmltree.specs.Axis.{rest_of_line};
+
+    ghost view = { rest_of_line };
+}
+
+impl<'a, 'input> AxisIter<'a, 'input> {
+    ghost use Rattle.roxmltree.specs.Axis.{line_from};
+    ghost use Rattle.roxmltree.specs.Spot.{spot};
+
+    #[tactic(auto, using(crate::proofs::Preorder::parent_is, crate::proofs::Siblings::no_parent, crate::proofs::Siblings::prev_row, crate::proofs::Siblings::no_prev, crate::proofs::Siblings::next_row, crate::proofs::Siblings::no_next, crate::proofs::Siblings::first_children_step, crate::proofs::Siblings::no_first_child, crate::proofs::Siblings::last_children_step, crate::proofs::Siblings::no_last_child))]
+    fn step(axis: Axis, node: Node<'a, 'input>) -> Option<Node<'a, 'input>>
+        ensures { line_from axis (Some node.entry) ≡ spot node.entry ∷ line_from axis result }
+    {
+        match axis {
+            Axis::Ancestors => node.parent(),
+            Axis::PrevSiblings => node.prev_sibling(),
+            Axis::NextSiblings => node.next_sibling(),
+            Axis::FirstChildren => node.first_child(),
+            Axis::LastChildren => node.last_child(),
+        }
+    }
+}
+
+impl<'a, 'input> AxisIter<'a, 'input> {
+    ghost use Rattle.std.specs.Option.{option_map};
+    ghost use Rattle.roxmltree.specs.Elements.{nearest_element};
+    ghost use Rattle.roxmltree.specs.Spot.{spot};
+
+    /// The first element of these nodes.
+    pub(crate) fn first_element(nodes: AxisIter<'a, 'input>) -> Option<Node<'a, 'input>>
+        ensures { option_map spot result ≡ nearest_element nodes.entry }
+    {
+        for node in nodes {
+            if node.is_element() {
+                return Some(node);
+            }
+        }
+        None
+    }
+}
+
+impl<'a, 'input> Iterator for AxisIter<'a, 'input> {
+    type Item = Node<'a, 'input>;
+
+    ghost use Rattle.std.specs.Iterator.{YieldsFirstBy, item_count};
+    ghost use Rattle.roxmltree.specs.Spot.{spot};
+
+    ghost next_gives = { YieldsFirstBy spot (λ s. s) };
+
+    ghost remaining = { item_count (λ s. s) };
+
+    fn next(&mut self) -> Option<Node<'a, 'input>> {
+        match self.node {
+            None => None,
+            Some(node) => {
+                self.node = AxisIter::step(self.axis, node);
+                Some(node)
+            }
+        }
+    }
+}
+
+/// A node and those below it in document order, from both ends.
+#[derive(Clone, Debug, Drop)]
+pub struct Descendants<'a, 'input> {
+    pub(crate) document: &'a Document<'input>,
+    pub(crate) from: NodeId,
+    pub(crate) until: NodeId,
+}
+
+impl<'a, 'input> Model for Descendants<'a, 'input> {
+    ghost use Rattle.std.specs.Prelude.{List, ℕ};
+    ghost use Rattle.roxmltree.specs.Doc.{Doc};
+    ghost use Rattle.roxmltree.specs.Spot.{spots_code};
+
+    ghost Value = { List (Doc × ℕ) };
+
+    ghost coded = { spots_code };
+
+    ghost use Rattle.roxmltree.specs.Range.{in_range, IsRange};
+
+    ghost view = { in_range };
+
+    ghost invariant = { IsRange };
+}
+
+impl<'a, 'input> Iterator for Descendants<'a, 'input> {
+    type Item = Node<'a, 'input>;
+
+    ghost use Rattle.std.specs.Iterator.{YieldsFirstBy, item_count};
+    ghost use Rattle.roxmltree.specs.Spot.{spot};
+
+    ghost next_gives = { YieldsFirstBy spot (λ s. s) };
+
+    ghost remaining = { item_count (λ s. s) };
+
+    #[tactic(auto, using(crate::proofs::Ranges::spots_first))]
+    fn next(&mut self) -> Option<Node<'a, 'input>> {
+        if self.from == self.until {
+            return None;
+        }
+        let node = Node {
+            document: self.document,
+            id: self.from,
+        };
+        self.from = NodeId(self.from.0 + 1);
+        Some(node)
+    }
+}
+
+impl<'a, 'input> DoubleEndedIterator for Descendants<'a, 'input> {
+    ghost use Rattle.std.specs.Iterator.{YieldsLastBy};
+    ghost use Rattle.roxmltree.specs.Spot.{spot};
+
+    ghost next_back_gives = { YieldsLastBy spot (λ s. s) };
+
+    #[tactic(auto, using(crate::proofs::Ranges::spots_last, crate::proofs::Ranges::spots_length))]
+    fn next_back(&mut self) -> Option<Node<'a, 'input>> {
+        if self.from == self.until {
+            return None;
+        }
+        self.until = NodeId(self.until.0 - 1);
+        Some(Node {
+            document: self.document,
+            id: self.until,
+        })
+    }
+}
+
+/// Children of one node, from both ends.
+#[derive(Clone, Debug, Drop)]
+pub struct Children<'a, 'input> {
+    pub(crate) ends: Option<(Node<'a, 'input>, Node<'a, 'input>)>,
+}
+
+impl<'a, 'input> Model for Children<'a, 'input> {
+    ghost use Rattle.std.specs.Prelude.{List, ℕ};
+    ghost use Rattle.roxmltree.specs.Doc.{Doc};
+    ghost use Rattle.roxmltree.specs.Spot.{spots_code};
+
+    ghost Value = { List (Doc × ℕ) };
+
+    ghost coded = { spots_code };
+
+    ghost use Rattle.roxmltree.specs.Left.{left, IsSound};
+
+    ghost view = { left };
+
+    ghost invariant = { IsSound };
+}
+
+impl<'a, 'input> Children<'a, 'input> {
+    ghost use Rattle.roxmltree.specs.Left.{between, AreEnds, HasEnds};
+    ghost use Rattle.roxmltree.specs.Spot.{spot};
+
+    #[tactic(auto, using(crate::proofs::Siblings::run_same, crate::proofs::Siblings::run_next, crate::proofs::Siblings::run_next_none))]
+    fn without_front(
+        front: Node<'a, 'input>,
+        back: Node<'a, 'input>,
+    ) -> Option<(Node<'a, 'input>, Node<'a, 'input>)>
+        requires { AreEnds front back }
+        ensures rest { between (Some (front.entry, back.entry)) ≡ spot front.entry ∷ between result }
+        ensures sound { HasEnds result }
+    {
+        if front.id == back.id {
+            return None;
+        }
+        match front.next_sibling() {
+            Some(next) => Some((next, back)),
+            None => None,
+        }
+    }
+
+    #[tactic(auto, using(crate::proofs::Siblings::run_same, crate::proofs::Siblings::run_back, crate::proofs::Siblings::run_back_none))]
+    fn without_back(
+        front: Node<'a, 'input>,
+        back: Node<'a, 'input>,
+    ) -> Option<(Node<'a, 'input>, Node<'a, 'input>)>
+        requires { AreEnds front back }
+        ensures rest { between (Some (front.entry, back.entry)) ≡ between result ++ spot back.entry ∷ [] }
+        ensures sound { HasEnds result }
+    {
+        if front.id == back.id {
+            return None;
+        }
+        match back.prev_sibling() {
+            Some(before) => Some((front, before)),
+            None => None,
+        }
+    }
+}
+
+impl<'a, 'input> Children<'a, 'input> {
+    ghost use Rattle.std.specs.Prelude.{reverse};
+    ghost use Rattle.std.specs.Option.{option_map};
+    ghost use Rattle.roxmltree.specs.Elements.{nearest_element};
+    ghost use Rattle.roxmltree.specs.Spot.{spot};
+
+    /// The first element of these nodes.
+    pub(crate) fn first_element(nodes: Children<'a, 'input>) -> Option<Node<'a, 'input>>
+        ensures { option_map spot result ≡ nearest_element nodes.entry }
+    {
+        for node in nodes {
+            if node.is_element() {
+                return Some(node);
+            }
+        }
+        None
+    }
+
+    /// The last element of these nodes.
+    pub(crate) fn last_element(mut nodes: Children<'a, 'input>) -> Option<Node<'a, 'input>>
+        ensures { option_map spot result ≡ nearest_element (reverse nodes.entry) }
+    {
+        while let Some(node) = nodes.next_back() {
+            if node.is_element() {
+                return Some(node);
+            }
+        }
+        None
+    }
+}
+
+impl<'a, 'input> Iterator for Children<'a, 'input> {
+    type Item = Node<'a, 'input>;
+
+    ghost use Rattle.std.specs.Iterator.{YieldsFirstBy, item_count};
+    ghost use Rattle.roxmltree.specs.Spot.{spot};
+
+    ghost next_gives = { YieldsFirstBy spot (λ s. s) };
+
+    ghost remaining = { item_count (λ s. s) };
+
+    fn next(&mut self) -> Option<Node<'a, 'input>> {
+        match self.ends {
+            None => None,
+            Some((front, back)) => {
+                self.ends = Children::without_front(front, back);
+                Some(front)
+            }
+        }
+    }
+}
+
+impl<'a, 'input> DoubleEndedIterator for Children<'a, 'input> {
+    ghost use Rattle.std.specs.Iterator.{YieldsLastBy};
+    ghost use Rattle.roxmltree.specs.Spot.{spot};
+
+    ghost next_back_gives = { YieldsLastBy spot (λ s. s) };
+
+    fn next_back(&mut self) -> Option<Node<'a, 'input>> {
+        match self.ends {
+            None => None,
+            Some((front, back)) => {
+                self.ends = Children::without_back(front, back);
+                Some(back)
+            }
+        }
+    }
+}
+
+impl ExactSizeIterator for Descendants<'_, '_> {
+    #[tactic(auto, using(crate::proofs::Ranges::spots_length))]
+    fn len(&self) -> usize {
+        (self.until.0 - self.from.0) as usize
+    }
+}
