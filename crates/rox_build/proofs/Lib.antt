@@ -6,3 +6,4 @@ pub mod Inherits
 pub mod Listing
 pub mod PartLemmas
 pub mod SectionLemmas
+pub mod Showing

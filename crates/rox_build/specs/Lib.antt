@@ -4,3 +4,4 @@ pub mod Storage
 pub mod Values
 pub mod Waiting
 pub mod Scopes
+pub mod Shown

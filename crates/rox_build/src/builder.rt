@@ -1,6 +1,8 @@
 //! The tables as they grow: the open elements, and the text that may go on.
 
-ghost use Rattle.std.specs.Prelude.{◌<◌, ◌+◌, ◌^◌, ◌≡◌, vec_len, IfOk, OnOk};
+ghost use Rattle.std.specs.Prelude.{◌<◌, ◌≤◌, ◌+◌, ◌^◌, ◌≡◌, ◌∷◌, [], vec_len, max, IfOk, IfErr, OnOk};
+ghost use Rattle.rox_build.specs.declared.tables.NodeKind.TheVariants as kind;
+ghost use Rattle.rox_scan.specs.declared.failure.Failure.TheVariants as failure;
 ghost use Rattle.rox_build.specs.Waiting.{waiting};
 
 use crate::pending::Pending;
@@ -40,12 +42,14 @@ pub struct Builder<'input> {
     pub finders: Finders,
     pub nodes_limit: u32,
     pub ghost few: { vec_len nodes + waiting pending < 2 ^ 32 },
+    pub ghost counted: { vec_len nodes + waiting pending ≤ max 1 nodes_limit },
     pub ghost shallow: { vec_len opened < vec_len nodes },
 }
 
 /// The row of the root node of a text of so many bytes, with room for more.
 fn root_row<'input>(alloc: Global, bytes: usize) -> Result<Vec<NodeData<'input>>, Failure>
-    ensures { IfOk result (λ nodes. vec_len nodes ≡ 1) }
+    ensures ok { IfOk result (λ nodes. nodes.items ≡ record { start = 0; end = bytes; parent = 0; next = 0; depth = 0; kind = kind.Root } ∷ []) }
+    ensures err { IfErr result (λ e. e ≡ failure.Memory) }
 {
     let mut nodes = Vec::with_capacity(alloc, bytes / 32 + 1)?;
     nodes.push(NodeData {
@@ -60,8 +64,23 @@ fn root_row<'input>(alloc: Global, bytes: usize) -> Result<Vec<NodeData<'input>>
 }
 
 impl<'input> Builder<'input> {
+    ghost use Rattle.std.specs.Prelude.{ℕ, List, ◌++◌, Ok, Err, length, map};
+    ghost use Rattle.std.specs.String.{string_bytes};
+    ghost use Rattle.rox_grammar.specs.Forest.{Forest, Nil, Cons, join};
+    ghost use Rattle.rox_grammar.specs.Written.{Item, Text, Element, Tag, merge, leaf};
+    ghost use Rattle.rox_grammar.specs.declared.fault.Fault.TheVariants as fault;
+    ghost use Rattle.rox_reading.specs.State.{Open, root, inside, State, scope_of, nodes_so_far};
+    ghost use Rattle.rox_reading.specs.Machine.{with_item, counted};
+    ghost use Rattle.rox_scan.specs.Gives.{Fails};
+    ghost use Rattle.rox_build.specs.Values.{piece_view};
+    ghost use Rattle.rox_build.specs.Shown.{Shows, Settled, IsNode, Adds, opened_in, last_row};
+
     /// The tables with the root node of a text of so many bytes.
-    pub fn new(alloc: Global, bytes: usize, nodes_limit: u32) -> Result<Builder<'input>, Failure> {
+    pub fn new(alloc: Global, bytes: usize, nodes_limit: u32) -> Result<Builder<'input>, Failure>
+        ensures shows { IfOk result (λ b. Shows bytes root Nil b) }
+        ensures limit { IfOk result (λ b. b.nodes_limit ≡ nodes_limit) }
+        ensures err { IfErr result (λ e. e ≡ failure.Memory) }
+    {
         Ok(Builder {
             nodes: root_row(alloc, bytes)?,
             tables: ElementTables {
@@ -89,7 +108,9 @@ impl<'input> Builder<'input> {
 
     /// The row of the innermost open element, or of the root node.
     #[inline]
-    fn parent(&self) -> u32 {
+    fn parent(&self) -> u32
+        ensures { result ≡ last_row (opened_in self.now.tables self.now.opened.items) }
+    {
         match self.opened.last() {
             Some(element) => element.row,
             None => 0,
@@ -105,74 +126,89 @@ impl<'input> Builder<'input> {
         }
     }
 
-    /// The only fault is that one more node would be too many.
+    /// How many nodes there are, the text that may go on counted.
     #[inline]
-    fn room(&self) -> Result<(), Failure>
-        ensures { OnOk result (vec_len self.now.nodes + waiting self.now.pending + 1 < 2 ^ 32) }
+    fn count(&self) -> usize
+        ensures { result ≡ vec_len self.now.nodes + waiting self.now.pending }
     {
-        let count = match self.pending {
+        match self.pending {
             Pending::None => self.nodes.len(),
             Pending::Slice(_, _, _) => self.nodes.len() + 1,
             Pending::Joined(_, _) => self.nodes.len() + 1,
-        };
-        if count >= self.nodes_limit as usize {
+        }
+    }
+
+    /// The only fault is that one more node would be too many.
+    #[inline]
+    fn room(&self) -> Result<(), Failure>
+        ensures ok { OnOk result (vec_len self.now.nodes + waiting self.now.pending < self.now.nodes_limit) }
+        ensures few { OnOk result (vec_len self.now.nodes + waiting self.now.pending + 1 < 2 ^ 32) }
+        ensures err { IfErr result (λ e. (e ≡ failure.Fault fault.NodesLimitReached) × (self.now.nodes_limit ≤ vec_len self.now.nodes + waiting self.now.pending)) }
+    {
+        if self.count() >= self.nodes_limit as usize {
             return Err(Failure::Fault(Fault::NodesLimitReached));
         }
         Ok(())
     }
 
-    /// One more row without rows below it.
+    /// A row without rows below it, behind those that there are.
     #[inline]
-    fn push(&mut self, start: usize, end: usize, kind: NodeKind<'input>) -> Result<(), Failure>
-        requires { vec_len self.old.nodes + waiting self.old.pending + 1 < 2 ^ 32 }
-        ensures pending { self.new.pending ≡ self.old.pending }
-        ensures opened { self.new.opened ≡ self.old.opened }
-        ensures more { OnOk result (vec_len self.new.nodes ≡ vec_len self.old.nodes + 1) }
+    fn row(&self, start: usize, end: usize, kind: NodeKind<'input>) -> NodeData<'input>
+        requires { vec_len self.now.nodes + 1 < 2 ^ 32 }
+        ensures { result ≡ record {
+            start = start; end = end; parent = last_row (opened_in self.now.tables self.now.opened.items);
+            next = length self.now.nodes.items + 1; depth = length self.now.opened.items + 1; kind = kind.entry } }
     {
-        let parent = self.parent();
-        let depth = self.opened.len() as u32 + 1;
-        let next = self.nodes.len() as u32 + 1;
-        self.nodes.push(NodeData {
+        NodeData {
             start,
             end,
-            parent,
-            next,
-            depth,
+            parent: self.parent(),
+            next: self.nodes.len() as u32 + 1,
+            depth: self.opened.len() as u32 + 1,
             kind,
-        })?;
-        Ok(())
+        }
     }
 
     /// Writes the text that may go on.
     #[inline]
     fn flush(&mut self, alloc: Global) -> Result<(), Failure>
-        ensures { OnOk result (waiting self.new.pending ≡ 0) }
+        ensures ok { OnOk result ((end : ℕ) (stack : Open) (done : Forest Item) → Shows end stack done self.old → Settled end stack done self.new) }
+        ensures empty { OnOk result (waiting self.new.pending ≡ 0) }
+        ensures count { OnOk result (vec_len self.new.nodes ≡ vec_len self.old.nodes + waiting self.old.pending) }
+        ensures tables { self.new.tables ≡ self.old.tables }
+        ensures opened { self.new.opened ≡ self.old.opened }
+        ensures limit { self.new.nodes_limit ≡ self.old.nodes_limit }
+        ensures err { IfErr result (λ e. e ≡ failure.Memory) }
     {
         match mem::replace(&mut self.pending, Pending::None) {
             Pending::None => Ok(()),
-            Pending::Slice(start, end, text) => self.push(
-                start,
-                end,
-                NodeKind::Text(StringStorage::Borrowed(text)),
-            ),
+            Pending::Slice(start, end, text) => {
+                let row = self.row(start, end, NodeKind::Text(StringStorage::Borrowed(text)));
+                self.nodes.push(row)?;
+                Ok(())
+            }
             Pending::Joined(start, end) => {
                 let text = StringStorage::new_owned(alloc, self.joined.as_str())?;
-                self.push(start, end, NodeKind::Text(text))
+                let row = self.row(start, end, NodeKind::Text(text));
+                self.nodes.push(row)?;
+                Ok(())
             }
         }
     }
 
-    /// A node that is no text and has no nodes below it.
-    pub fn leaf(
-        &mut self,
-        alloc: Global,
-        start: usize,
-        end: usize,
-        kind: NodeKind<'input>,
-    ) -> Result<(), Failure> {
+    /// A node that is no text and has no nodes below it. The only fault is that there are too many nodes.
+    pub fn leaf(&mut self, alloc: Global, start: usize, end: usize, kind: NodeKind<'input>) -> Result<(), Failure>
+        ensures value { (total at : ℕ) (s : State) (item : Item) → Shows total s.stack s.done self.old → IsNode self.old.tables (scope_of s.stack) start end kind.entry item
+            → Adds total result self.new (with_item self.old.nodes_limit s at item) }
+        ensures tables { self.new.tables ≡ self.old.tables }
+        ensures opened { self.new.opened ≡ self.old.opened }
+        ensures limit { self.new.nodes_limit ≡ self.old.nodes_limit }
+    {
         self.flush(alloc)?;
         self.room()?;
-        self.push(start, end, kind)
+        let row = self.row(start, end, kind);
+        self.nodes.push(row)?;
+        Ok(())
     }
 
     /// A piece of text that is a slice of the source.
@@ -236,7 +272,8 @@ impl<'input> Builder<'input> {
         self.flush(alloc)?;
         self.room()?;
         let row = self.nodes.len() as u32;
-        self.push(start, 0, NodeKind::Element(tag.element))?;
+        let opening = self.row(start, 0, NodeKind::Element(tag.element));
+        self.nodes.push(opening)?;
         self.opened.push(OpenElement {
             row,
             name: tag.name,

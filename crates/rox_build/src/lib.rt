@@ -2,6 +2,7 @@
 #![tactic(auto)]
 
 pub mod builder;
+pub mod namespaces;
 pub mod naming;
 pub mod pending;
 pub mod reader;
