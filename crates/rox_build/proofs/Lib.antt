@@ -7,3 +7,4 @@ pub mod Listing
 pub mod PartLemmas
 pub mod SectionLemmas
 pub mod Showing
+pub mod Finishing

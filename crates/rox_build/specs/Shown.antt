@@ -18,6 +18,10 @@ use Rattle.rox_build.specs.SoFar.{top, so_far}
 use Rattle.rox_build.specs.declared.tables.NodeKind.{NodeKind}
 use Rattle.rox_build.specs.declared.tables.NodeData.{NodeData}
 use Rattle.rox_build.specs.declared.naming.ElementTables.{ElementTables}
+use Rattle.rox_build.specs.declared.naming.Scope.{Scope}
+use Rattle.rox_build.specs.declared.tables.ElementData.{ElementData}
+use Rattle.rox_build.specs.declared.tables.NodeKind.TheVariants as kind
+use Rattle.rox_build.specs.declared.tag.StartTag.{StartTag}
 use Rattle.rox_build.specs.declared.pending.Pending.{Pending}
 use Rattle.rox_build.specs.declared.pending.Pending.TheVariants as pending
 use Rattle.rox_build.specs.declared.builder.OpenElement.{OpenElement}
@@ -68,7 +72,6 @@ opened_in t os = map (opened (names_in t) t.listed.items) os
 abbrev pub IsWithin : ElementTables → NodeKind → Type 0
 IsWithin t k = KindWithin (length t.attributes.items) (length t.namespaces.items) (length t.listed.items) k
 
-
 -- The builder holds these open elements, with these items in the innermost, of a text of this length.
 pub record Shows (end : ℕ) (stack : Open) (done : Forest Item) (b : Builder) : Type 0 where
   -- the rows of the innermost
@@ -91,6 +94,23 @@ pub record IsNode (t : ElementTables) (above : List Declaration) (start end : �
   pub is : node t.attributes.items (names_in t) t.listed.items start end k ≡ node_in (scope_in above item) item
   pub within : IsWithin t k
   pub no_text : is_text item ≡ false
+
+-- where the namespaces stand that an element lists
+abbrev pub scope_in_table : ElementData → Scope
+scope_in_table e = record { from = e.namespaces_from; until = e.namespaces_until }
+
+-- what the tag holds is this, below an element that lists these
+pub record IsOpening (tables : ElementTables) (above : List Declaration) (start : ℕ) (tag : StartTag) (t : Tag) : Type 0 where
+  pub node : IsNode tables above start 0 (kind.Element tag.element) (Element start 0 t)
+  pub name : name_view tag.name ≡ t.name
+  pub name_start : tag.name_start ≡ start + 1
+  pub name_end : tag.name_end ≡ t.name_end
+  pub scope : entries (names_in tables) (slice_range tables.listed.items tag.element.namespaces_from tag.element.namespaces_until) ≡ listed above t.declarations
+
+-- attributes and listed places name only what the table of namespaces has
+pub record AreSound (t : ElementTables) : Type 0 where
+  pub attributes : AllByRecursion (λ a. NamespaceWithin (length t.namespaces.items) a.namespace) t.attributes.items
+  pub listed : AllByRecursion (λ i. i < length t.namespaces.items) t.listed.items
 
 -- the builder holds what is read, unless memory ran out
 abbrev pub Adds : ℕ → Result (Unit {0}) Failure → Builder → Result State Fault → Type 0

@@ -1,12 +1,13 @@
 //! The tables as they grow: the open elements, and the text that may go on.
 
-ghost use Rattle.std.specs.Prelude.{◌<◌, ◌≤◌, ◌+◌, ◌^◌, ◌≡◌, ◌∷◌, [], vec_len, max, IfOk, IfErr, OnOk};
+ghost use Rattle.std.specs.Prelude.{◌<◌, ◌≤◌, ◌+◌, ◌^◌, ◌≡◌, ◌∷◌, [], ℕ, length, vec_len, set, get_or, max, IfOk, IfErr, OnOk};
+ghost use Rattle.rox_build.specs.declared.tables.NodeData.{NodeData};
 ghost use Rattle.rox_build.specs.declared.tables.NodeKind.TheVariants as kind;
 ghost use Rattle.rox_scan.specs.declared.failure.Failure.TheVariants as failure;
 ghost use Rattle.rox_build.specs.Waiting.{waiting};
 
-use crate::pending::Pending;
 use crate::naming::{ElementTables, Scope};
+use crate::pending::Pending;
 use crate::storage::StringStorage;
 use crate::tables::{NodeData, NodeKind, Tables};
 use crate::tag::{Buffers, StartTag};
@@ -63,17 +64,43 @@ fn root_row<'input>(alloc: Global, bytes: usize) -> Result<Vec<NodeData<'input>>
     Ok(nodes)
 }
 
+/// Writes the end of an element into its row.
+#[inline]
+fn end_row(nodes: &mut Vec<NodeData<'_>>, row: u32, end: usize)
+    requires { vec_len nodes.old < 2 ^ 32 }
+    ensures rows { (d : NodeData) → nodes.new.items ≡ set nodes.old.items row (record (get_or nodes.old.items row d) { end = end; next = length nodes.old.items }) }
+    ensures count { vec_len nodes.new ≡ vec_len nodes.old }
+{
+    let next = nodes.len() as u32;
+    if let Some(node) = nodes.get_mut(row as usize) {
+        node.end = end;
+        node.next = next;
+    }
+}
+
+/// Writes the count of all rows into that of the root node.
+fn end_root(nodes: &mut Vec<NodeData<'_>>, count: u32)
+    ensures rows { (d : NodeData) → nodes.new.items ≡ set nodes.old.items 0 (record (get_or nodes.old.items 0 d) { next = count }) }
+{
+    if let Some(node) = nodes.get_mut(0) {
+        node.next = count;
+    }
+}
+
 impl<'input> Builder<'input> {
-    ghost use Rattle.std.specs.Prelude.{ℕ, List, ◌++◌, Ok, Err, length, map};
+    ghost use Rattle.std.specs.Prelude.{List, ◌++◌, ◌-◌, false, true, take, Ok, Err, map};
     ghost use Rattle.std.specs.String.{string_bytes};
     ghost use Rattle.rox_grammar.specs.Forest.{Forest, Nil, Cons, join};
     ghost use Rattle.rox_grammar.specs.Written.{Item, Text, Element, Tag, merge, leaf};
     ghost use Rattle.rox_grammar.specs.declared.fault.Fault.TheVariants as fault;
     ghost use Rattle.rox_reading.specs.State.{Open, root, inside, State, scope_of, nodes_so_far};
-    ghost use Rattle.rox_reading.specs.Machine.{with_item, counted};
+    ghost use Rattle.rox_reading.specs.Machine.{with_item, opened_by, counted};
     ghost use Rattle.rox_scan.specs.Gives.{Fails};
     ghost use Rattle.rox_build.specs.Values.{piece_view};
-    ghost use Rattle.rox_build.specs.Shown.{Shows, Settled, IsNode, Adds, opened_in, last_row};
+    ghost use Rattle.rox_build.specs.Shown.{Shows, Settled, IsNode, IsOpening, AreSound, Adds, opened_in, last_row, scope_in_table};
+    ghost use Rattle.rox_build.specs.Lines.{Holds};
+    ghost use Rattle.rox_grammar.specs.Tree.{document_tree};
+    ghost use Rattle.rox_build.specs.declared.builder.OpenElement.{OpenElement};
 
     /// The tables with the root node of a text of so many bytes.
     pub fn new(alloc: Global, bytes: usize, nodes_limit: u32) -> Result<Builder<'input>, Failure>
@@ -156,8 +183,13 @@ impl<'input> Builder<'input> {
     fn row(&self, start: usize, end: usize, kind: NodeKind<'input>) -> NodeData<'input>
         requires { vec_len self.now.nodes + 1 < 2 ^ 32 }
         ensures { result ≡ record {
-            start = start; end = end; parent = last_row (opened_in self.now.tables self.now.opened.items);
-            next = length self.now.nodes.items + 1; depth = length self.now.opened.items + 1; kind = kind.entry } }
+          start = start;
+          end = end;
+          parent = last_row (opened_in self.now.tables self.now.opened.items);
+          next = length self.now.nodes.items + 1;
+          depth = length self.now.opened.items + 1;
+          kind = kind.entry;
+        } }
     {
         NodeData {
             start,
@@ -197,7 +229,13 @@ impl<'input> Builder<'input> {
     }
 
     /// A node that is no text and has no nodes below it. The only fault is that there are too many nodes.
-    pub fn leaf(&mut self, alloc: Global, start: usize, end: usize, kind: NodeKind<'input>) -> Result<(), Failure>
+    pub fn leaf(
+        &mut self,
+        alloc: Global,
+        start: usize,
+        end: usize,
+        kind: NodeKind<'input>,
+    ) -> Result<(), Failure>
         ensures value { (total at : ℕ) (s : State) (item : Item) → Shows total s.stack s.done self.old → IsNode self.old.tables (scope_of s.stack) start end kind.entry item
             → Adds total result self.new (with_item self.old.nodes_limit s at item) }
         ensures tables { self.new.tables ≡ self.old.tables }
@@ -211,13 +249,19 @@ impl<'input> Builder<'input> {
         Ok(())
     }
 
-    /// A piece of text that is a slice of the source.
+    /// A piece of text that is a slice of the source. The only fault is that there are too many nodes.
     pub fn slice_piece(
         &mut self,
         start: usize,
         end: usize,
         text: &'input str,
-    ) -> Result<(), Failure> {
+    ) -> Result<(), Failure>
+        ensures value { (total at : ℕ) (s : State) → Shows total s.stack s.done self.old
+            → Adds total result self.new (with_item self.old.nodes_limit s at (Text start end text.now true)) }
+        ensures tables { self.new.tables ≡ self.old.tables }
+        ensures opened { self.new.opened ≡ self.old.opened }
+        ensures limit { self.new.nodes_limit ≡ self.old.nodes_limit }
+    {
         match self.pending {
             Pending::None => {
                 self.room()?;
@@ -234,8 +278,14 @@ impl<'input> Builder<'input> {
         Ok(())
     }
 
-    /// A piece of text that stands in the buffer for values.
-    pub fn buffered_piece(&mut self, start: usize, end: usize) -> Result<(), Failure> {
+    /// A piece of text that stands in the buffer for values. The only fault is that there are too many nodes.
+    pub fn buffered_piece(&mut self, start: usize, end: usize) -> Result<(), Failure>
+        ensures value { (total at : ℕ) (s : State) → Shows total s.stack s.done self.old
+            → Adds total result self.new (with_item self.old.nodes_limit s at (Text start end (string_bytes self.old.buffers.scratch) false)) }
+        ensures tables { self.new.tables ≡ self.old.tables }
+        ensures opened { self.new.opened ≡ self.old.opened }
+        ensures limit { self.new.nodes_limit ≡ self.old.nodes_limit }
+    {
         match self.pending {
             Pending::None => {
                 self.room()?;
@@ -253,28 +303,43 @@ impl<'input> Builder<'input> {
         Ok(())
     }
 
-    /// A piece of text: a slice of the source where it is one, else what the buffer for values holds.
+    /// A piece of text: a slice of the source where it is one, else what the buffer for values holds. The only fault is that
+    /// there are too many nodes.
     #[inline]
-    pub fn piece(&mut self, start: usize, end: usize, piece: Piece<'input>) -> Result<(), Failure> {
+    pub fn piece(&mut self, start: usize, end: usize, piece: Piece<'input>) -> Result<(), Failure>
+        ensures value { (total at : ℕ) (s : State) → Shows total s.stack s.done self.old
+            → let text = piece_view piece.entry (string_bytes self.old.buffers.scratch) in
+            Adds total result self.new (with_item self.old.nodes_limit s at (Text start end text.value text.plain)) }
+        ensures tables { self.new.tables ≡ self.old.tables }
+        ensures opened { self.new.opened ≡ self.old.opened }
+        ensures limit { self.new.nodes_limit ≡ self.old.nodes_limit }
+    {
         match piece {
             Piece::Plain(text) => self.slice_piece(start, end, text),
             Piece::Changed => self.buffered_piece(start, end),
         }
     }
 
-    /// An element opens.
+    /// An element opens at `start`. The only fault is that there are too many nodes.
     pub fn open_element(
         &mut self,
         alloc: Global,
         start: usize,
         tag: &StartTag<'input>,
-    ) -> Result<(), Failure> {
+    ) -> Result<(), Failure>
+        ensures value { (total at : ℕ) (s : State) (t : Tag) → Shows total s.stack s.done self.old → s.at ≡ start → IsOpening self.old.tables (scope_of s.stack) start tag.now t
+            → Adds total result self.new (opened_by self.old.nodes_limit s t false at) }
+        ensures tables { self.new.tables ≡ self.old.tables }
+        ensures opened { OnOk result ((x : OpenElement) × (self.new.opened.items ≡ self.old.opened.items ++ x ∷ []) × (x.scope ≡ scope_in_table tag.now.element)) }
+        ensures limit { self.new.nodes_limit ≡ self.old.nodes_limit }
+    {
         self.flush(alloc)?;
         self.room()?;
         let row = self.nodes.len() as u32;
-        let opening = self.row(start, 0, NodeKind::Element(tag.element));
+        let mut opening = self.row(start, 0, NodeKind::Element(tag.element));
+        opening.next = 0;
         self.nodes.push(opening)?;
-        self.opened.push(OpenElement {
+        let element = OpenElement {
             row,
             name: tag.name,
             name_start: tag.name_start,
@@ -283,32 +348,35 @@ impl<'input> Builder<'input> {
                 from: tag.element.namespaces_from,
                 until: tag.element.namespaces_until,
             },
-        })?;
+        };
+        self.opened.push(element)?;
         Ok(())
     }
 
-    /// Writes the end of an element, or of the root node, into its row.
-    fn end_row(&mut self, row: u32, end: usize) {
-        let next = self.nodes.len() as u32;
-        if let Some(node) = self.nodes.get_mut(row as usize) {
-            node.end = end;
-            node.next = next;
+    /// The innermost open element ends. The only error is want of memory.
+    pub fn close(&mut self, alloc: Global, end: usize) -> Result<(), Failure>
+        ensures ok { OnOk result ((total start : ℕ) (t : Tag) (before : Forest Item) (up : Open) (done : Forest Item) → Shows total (inside start t before up) done self.old
+            → Shows total up (join before (Cons (Element start end t) (merge done) Nil)) self.new) }
+        ensures tables { self.new.tables ≡ self.old.tables }
+        ensures opened { OnOk result (self.new.opened.items ≡ take (length self.old.opened.items - 1) self.old.opened.items) }
+        ensures limit { self.new.nodes_limit ≡ self.old.nodes_limit }
+        ensures err { IfErr result (λ e. e ≡ failure.Memory) }
+    {
+        self.flush(alloc)?;
+        if let Some(element) = self.opened.pop() {
+            end_row(&mut self.nodes, element.row, end);
         }
-    }
-
-    /// The innermost open element, or the root node where none is open, ends.
-    pub fn close(&mut self, alloc: Global, end: usize) -> Result<(), Failure> {
-        self.flush(alloc)?;
-        let row = self.parent();
-        self.opened.pop();
-        self.end_row(row, end);
         Ok(())
     }
 
-    /// The tables of a whole text that ends here.
-    pub fn finish(mut self, alloc: Global, end: usize) -> Result<Tables<'input>, Failure> {
+    /// The tables of a whole text. The only error is want of memory.
+    pub fn finish(mut self, alloc: Global) -> Result<Tables<'input>, Failure>
+        ensures ok { IfOk result (λ t. (end : ℕ) (done : Forest Item) → Shows end root done self.entry → AreSound self.entry.tables → Holds t (document_tree end (merge done))) }
+        ensures err { IfErr result (λ e. e ≡ failure.Memory) }
+    {
         self.flush(alloc)?;
-        self.end_row(0, end);
+        let count = self.nodes.len() as u32;
+        end_root(&mut self.nodes, count);
         let Builder {
             nodes,
             tables,

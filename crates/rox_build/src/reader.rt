@@ -35,7 +35,12 @@ fn comment<'input>(
 {
     let start = cursor.pos;
     let text = cursor.comment(&builder.finders)?;
-    builder.leaf(alloc, start, cursor.pos, NodeKind::Comment(StringStorage::Borrowed(text)))
+    builder.leaf(
+        alloc,
+        start,
+        cursor.pos,
+        NodeKind::Comment(StringStorage::Borrowed(text)),
+    )
 }
 
 /// A processing instruction, from `<?`.
@@ -303,5 +308,5 @@ pub fn build<'input>(
     let mut cursor = start_of(text);
     let mut builder = Builder::new(alloc, text.len(), options.nodes_limit)?;
     document(alloc, &mut cursor, &mut builder)?;
-    builder.finish(alloc, text.len())
+    builder.finish(alloc)
 }

@@ -19,10 +19,12 @@ returns-clause-value c = λ total at s item sh is.
     let room = c.in_ok-room.ensures.ok in
     let len = f.nodes.ok.0 in
     let limit = c.flush.ensures.limit in
-    let empty = c.in_ok-flush.ensures.empty in
-    (t, counted_ok c.args.self.now.nodes_limit t (omega arith),
-     leaf_shows total s.stack s.done f _ c.args.start c.args.end c.args.kind item st k
-     (c.in_ok-push.ensures.items ∙ ap (λ (r : NodeData). f.nodes.items ++ r ∷ []) c.row-row.ensures) refl refl refl)
+    let empty = c.in_ok-flush.ensures.empty in (
+      t,
+      counted_ok c.args.self.now.nodes_limit t (omega arith),
+      leaf_shows total s.stack s.done f _ c.args.start c.args.end c.args.kind item st k
+          (c.in_ok-push.ensures.items ∙ ap (λ (r : NodeData). f.nodes.items ++ r ∷ []) c.row-row.ensures) refl refl refl,
+    )
 
 pub returns-in_err-room-clause-value : goal.returns-in_err-room-clause-value
 returns-in_err-room-clause-value c = λ total at s item sh is.
