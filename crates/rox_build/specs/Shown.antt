@@ -21,7 +21,7 @@ use Rattle.rox_build.specs.declared.naming.ElementTables.{ElementTables}
 use Rattle.rox_build.specs.declared.naming.Scope.{Scope}
 use Rattle.rox_build.specs.declared.tables.ElementData.{ElementData}
 use Rattle.rox_build.specs.declared.tables.NodeKind.TheVariants as kind
-use Rattle.rox_build.specs.declared.tag.StartTag.{StartTag}
+use Rattle.rox_build.specs.declared.tagging.StartTag.{StartTag}
 use Rattle.rox_build.specs.declared.pending.Pending.{Pending}
 use Rattle.rox_build.specs.declared.pending.Pending.TheVariants as pending
 use Rattle.rox_build.specs.declared.builder.OpenElement.{OpenElement}

@@ -10,7 +10,7 @@ use crate::naming::{ElementTables, Scope};
 use crate::pending::Pending;
 use crate::storage::StringStorage;
 use crate::tables::{NodeData, NodeKind, Tables};
-use crate::tag::{Buffers, StartTag};
+use crate::tagging::{Buffers, StartTag};
 use crate::value::Piece;
 use rox_grammar::fault::Fault;
 use rox_scan::cursor::QName;

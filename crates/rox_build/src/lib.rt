@@ -10,5 +10,5 @@ pub mod reference;
 pub mod scope;
 pub mod storage;
 pub mod tables;
-pub mod tag;
+pub mod tagging;
 pub mod value;

@@ -9,7 +9,7 @@ ghost use Rattle.rox_grammar.specs.declared.fault.Word.TheVariants as word;
 use crate::builder::Builder;
 use crate::storage::StringStorage;
 use crate::tables::{NodeKind, PI, Tables};
-use crate::tag::{local_span, start_tag};
+use crate::tagging::{local_span, start_tag};
 use crate::value::{cdata_text, run};
 use rox_grammar::fault::{Fault, Span, Word};
 use rox_scan::cursor::{Cursor, QName};
