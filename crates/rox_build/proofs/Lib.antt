@@ -8,3 +8,4 @@ pub mod PartLemmas
 pub mod SectionLemmas
 pub mod Showing
 pub mod Finishing
+pub mod Declaring

@@ -22,7 +22,7 @@ use Rattle.rox_build.specs.declared.tables.AttributeData.{AttributeData}
 use Rattle.rox_build.specs.declared.tables.NodeKind.{NodeKind}
 use Rattle.rox_build.specs.declared.tables.NodeKind.TheVariants as kind
 use Rattle.rox_build.specs.declared.tables.NodeData.{NodeData}
-use Rattle.rox_build.specs.declared.naming.ElementTables.{ElementTables}
+use Rattle.rox_build.specs.declared.tables.ElementTables.{ElementTables}
 use Rattle.rox_build.specs.declared.pending.Pending.{Pending}
 use Rattle.rox_build.specs.declared.pending.Pending.TheVariants as pending
 use Rattle.rox_build.specs.declared.builder.OpenElement.{OpenElement}

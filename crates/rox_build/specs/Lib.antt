@@ -5,3 +5,4 @@ pub mod Values
 pub mod Waiting
 pub mod Scopes
 pub mod Shown
+pub mod Tags

@@ -17,7 +17,7 @@ use Rattle.rox_build.specs.Scopes.{entries}
 use Rattle.rox_build.specs.SoFar.{top, so_far}
 use Rattle.rox_build.specs.declared.tables.NodeKind.{NodeKind}
 use Rattle.rox_build.specs.declared.tables.NodeData.{NodeData}
-use Rattle.rox_build.specs.declared.naming.ElementTables.{ElementTables}
+use Rattle.rox_build.specs.declared.tables.ElementTables.{ElementTables}
 use Rattle.rox_build.specs.declared.naming.Scope.{Scope}
 use Rattle.rox_build.specs.declared.tables.ElementData.{ElementData}
 use Rattle.rox_build.specs.declared.tables.NodeKind.TheVariants as kind

@@ -2,6 +2,7 @@
 #![tactic(auto)]
 
 pub mod builder;
+pub mod declaration;
 pub mod namespaces;
 pub mod naming;
 pub mod pending;
@@ -11,4 +12,5 @@ pub mod scope;
 pub mod storage;
 pub mod tables;
 pub mod tagging;
+pub mod taken;
 pub mod value;

@@ -1,7 +1,7 @@
 //! The namespaces that elements list (Namespaces in XML 1.0 section 6).
 
 use crate::storage::StringStorage;
-use crate::tables::{AttributeData, Namespace};
+use crate::tables::{ElementTables, Namespace};
 use crate::value::Piece;
 use rox_grammar::fault::Fault;
 use rox_scan::failure::Failure;
@@ -15,15 +15,6 @@ pub const XMLNS_URI: &str = "http://www.w3.org/2000/xmlns/";
 
 /// How many pairs of a prefix and a URI a document may have.
 const MOST_PAIRS: usize = 65535;
-
-/// What elements have: their attributes, each pair of a prefix and a URI that is declared, and the places of those that they
-/// list.
-#[derive(Debug, Drop)]
-pub struct ElementTables<'input> {
-    pub attributes: Vec<AttributeData<'input>>,
-    pub namespaces: Vec<Namespace<'input>>,
-    pub listed: Vec<u16>,
-}
 
 /// What an element lists: a stretch of the table of listed places.
 #[derive(Clone, Copy, Debug)]

@@ -16,6 +16,12 @@ use crate::tables::Namespace;
 use rox_grammar::fault::Fault;
 use rox_scan::failure::Failure;
 
+/// The URI of the prefix `xml`.
+pub const XML_URI: &str = "http://www.w3.org/XML/1998/namespace";
+
+/// The URI of the prefix `xmlns`.
+pub const XMLNS_URI: &str = "http://www.w3.org/2000/xmlns/";
+
 /// The most pairs that the table holds.
 const MOST_PAIRS: usize = 65_535;
 
@@ -107,7 +113,7 @@ pub fn is_declared(names: &[Namespace<'_>], places: &[u16], prefix: Option<&str>
 
 /// The prefix `xml`.
 #[inline]
-fn is_xml(prefix: Option<&str>) -> bool
+pub fn is_xml(prefix: Option<&str>) -> bool
     ensures { result ≡ is_xml (prefix_view prefix.entry) }
 {
     match prefix {
@@ -118,7 +124,7 @@ fn is_xml(prefix: Option<&str>) -> bool
 
 /// Whether an element that declares those behind `own`, and `xml` if the flag says so, declares this prefix.
 #[inline]
-fn is_own(names: &[Namespace<'_>], own: &[u16], xml: bool, prefix: Option<&str>) -> bool
+pub fn is_own(names: &[Namespace<'_>], own: &[u16], xml: bool, prefix: Option<&str>) -> bool
     requires { ArePlaces (length names.now) own.now }
     ensures { result ≡ (is_declared (prefix_view prefix.entry) (entries (map declaration names.now) own.now) || (xml && is_xml (prefix_view prefix.entry))) }
 {

@@ -2,8 +2,7 @@
 
 ghost use Rattle.std.specs.Prelude.{◌≡◌, ◌<◌, length, slice_index};
 
-use crate::naming::{
-    ElementTables, Scope, XML_URI, XMLNS_URI, declare, listed, lookup, piece_text, stored,
+use crate::naming::{Scope, XML_URI, XMLNS_URI, declare, listed, lookup, piece_text, stored,
 };
 use crate::tables::{AttributeData, AttributeNamespace, ElementData};
 use crate::value::{Piece, value};

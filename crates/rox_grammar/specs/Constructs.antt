@@ -1,5 +1,5 @@
 -- The constructs that hold no others.
-use Rattle.std.specs.Prelude.{◌≡◌, ◌≢◌, ℕ, ◌+◌, ◌-◌, ◌<◌, ◌≤◌, ◌⊎◌, ◌==◌, Bool, true, false, List, [], ◌∷◌, Option, length, take, nat_lt}
+use Rattle.std.specs.Prelude.{◌≡◌, ◌≢◌, ℕ, ◌+◌, ◌-◌, ◌<◌, ◌⊎◌, ◌==◌, Bool, true, false, List, [], ◌∷◌, Option, length, take, nat_lt}
 use Rattle.rox_grammar.specs.declared.fault.Word.{Word}
 use Rattle.rox_grammar.specs.declared.fault.Word.TheVariants as word
 use Rattle.rox_grammar.specs.Chars.{is_char}
@@ -20,7 +20,7 @@ first w src i = mark_from (word_text w) src i
 
 -- XML 2.2 [2]: what stands from i up to j are Chars, that is, the longest stretch of Chars reaches j
 abbrev pub AreChars : List ℕ → ℕ → ℕ → Type 0
-AreChars src i j = j ≤ run_end is_char (take j src) i
+AreChars src i j = run_end is_char (take j src) i ≡ j
 
 -- the mark stands somewhere in the text
 abbrev pub has_mark : List ℕ → List ℕ → Bool

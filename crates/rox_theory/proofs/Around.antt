@@ -22,10 +22,13 @@ use Rattle.rox_reading.specs.State.{Open, root, State}
 use Rattle.rox_reading.specs.Machine.{with_item, comment_step, instruction_step, misc, prolog}
 use Rattle.rox_reading.proofs.Forests.{join-nil, join_assoc, merge-more}
 use Rattle.rox_theory.specs.Agrees.{Agrees}
+use Rattle.rox_theory.proofs.Basics.{within as byte_within, bind_ok, chosen}
 use Rattle.rox_theory.proofs.Constructions.{name_byte, comment_bytes, instruction_bytes, doctype_bytes, IsNameByte}
-use Rattle.rox_theory.proofs.Places.{byte_within, stands_reads, run_stops, run_past, over_spaces, spaces_on, space_within}
+use Rattle.rox_theory.proofs.NameLemmas.{run_stops, run_past}
+use Rattle.rox_theory.proofs.DeclarationLemmas.{stands_reads}
+use Rattle.rox_theory.proofs.Places.{over_spaces, spaces_on, space_within}
 use Rattle.rox_theory.proofs.Standing.{IsFine}
-use Rattle.rox_theory.proofs.Steps.{bind_ok, chosen, with_leaf, fits_counted, item_read}
+use Rattle.rox_theory.proofs.Steps.{with_leaf, fits_counted, item_read}
 use Rattle.rox_theory.proofs.Chains.{state}
 use Rattle.rox_theory.proofs.Derivations.{comment_is, instruction_is}
 
@@ -35,30 +38,37 @@ use Rattle.rox_theory.proofs.Derivations.{comment_is, instruction_is}
 abbrev pub Ends : List ℕ → ℕ → Type 0
 Ends src j = (k : ℕ) × (j ≡ k + 1) × (k < length src) × (byte src k < 128)
 
+-- a character begins behind it
 pub ends_cut : (src : List ℕ) (j : ℕ) → IsUtf8 src → Ends src j → IsCharBoundary src j
 ends_cut src j utf8 (k, is, within, ascii) = subst (IsCharBoundary src) (sym is) (IsCharBoundary-after_ascii src k utf8 within ascii)
 
+-- what ends in this byte
 ends_by : (src : List ℕ) (j k b : ℕ) → j ≡ k + 1 → byte src k ≡ b → 0 < b → b < 128 → Ends src j
 ends_by src j k b is here some ascii = (k, is, byte_within src k (λ z. omega arith), omega arith)
 
+-- comments and instructions do
 misc_ends : (src : List ℕ) (i j : ℕ) (item : Item) → IsMisc src i j item → Ends src j
 misc_ends src i j item (comment _ e _ is) =
     ends_by src j (e + 2) 62 (omega (arith, is.next)) (stands_reads (word_text word.CommentEnd) src e 2 is.closes (omega arith)) (omega arith) (omega arith)
 misc_ends src i j item (instruction _ n e _ is) =
     ends_by src j (e + 1) 62 (omega (arith, is.next)) (stands_reads (word_text word.PIEnd) src e 1 is.closes (omega arith)) (omega arith) (omega arith)
 
+-- tags do
 tag_ends : (src : List ℕ) (i j : ℕ) (is_empty : Bool) → TagEnds src i is_empty j → Ends src j
 tag_ends src i j is_empty (opened _ close) = ends_by src j (spaces_end src i) 62 refl close (omega arith) (omega arith)
 tag_ends src i j is_empty (closed _ slash close) = ends_by src j (spaces_end src i + 1) 62 (omega arith) close (omega arith) (omega arith)
 
+-- elements do
 pub element_ends : (src : List ℕ) (i j b c : ℕ) (one : Forest Item) → IsElement true no_entities src i j b c one → Ends src j
 element_ends src i j b c one (empty _ _ _ _ t tag) = tag_ends src tag.last j true tag.ends
 element_ends src i j b c one (nest _ k m p _ _ d _ t kids tag inner end) = ends_by src j (spaces_end src p) 62 end.next end.closes (omega arith) (omega arith)
 
+-- the declaration does
 pub declaration_ends : (src : List ℕ) (i j : ℕ) → IsDeclaration src i j → Ends src j
 declaration_ends src i j is =
     ends_by src j (spaces_end src is.s + 1) 62 (omega (arith, is.next)) (stands_reads (word_text word.PIEnd) src (spaces_end src is.s) 1 is.closes (omega arith)) (omega arith) (omega arith)
 
+-- a character begins behind the byte order mark
 pub bom_cut : (src : List ℕ) → IsUtf8 src → IsCharBoundary src (after_bom src)
 unfolding encode_utf8
 bom_cut src utf8 =
@@ -75,6 +85,7 @@ pub record Stops (src : List ℕ) (i : ℕ) : Type 0 where
   pub no_comment : at word.CommentStart src i ≡ false
   pub no_instruction : at word.PIStart src i ≡ false
 
+-- `<` is no white space
 no_spaces : (src : List ℕ) (i : ℕ) → byte src i ≡ 60 → spaces_end src i ≡ i
 no_spaces src i here = run_stops is_space src i (byte_within src i (λ z. omega arith)) (omega arith) (rw here refl)
 
@@ -82,10 +93,12 @@ no_spaces src i here = run_stops is_space src i (byte_within src i (λ z. omega 
 pub element_stops : (src : List ℕ) (i j b c : ℕ) (one : Forest Item) → IsElement true no_entities src i j b c one → (byte src i ≡ 60) × (at word.DoctypeStart src i ≡ false) × Stops src i
 element_stops src i j b c one is = from_tag (begins one is)
   where
+    -- its first two bytes
     begins : (one : Forest Item) → IsElement true no_entities src i j b c one → (byte src i ≡ 60) × IsNameByte src (i + 1)
     begins one (empty _ _ _ _ t tag) = (tag.begins, name_byte src (i + 1) t.name t.name_end tag.is_name)
     begins one (nest _ k m p _ _ d _ t kids tag inner end) = (tag.begins, name_byte src (i + 1) t.name t.name_end tag.is_name)
 
+    -- which are those of no other construct
     from_tag : (byte src i ≡ 60) × IsNameByte src (i + 1) → (byte src i ≡ 60) × (at word.DoctypeStart src i ≡ false) × Stops src i
     from_tag (here, name) = (
       here,
@@ -97,6 +110,7 @@ element_stops src i j b c one is = from_tag (begins one is)
       },
     )
 
+-- nor does anything stand at the end
 pub end_stops : (src : List ℕ) → Stops src (length src)
 end_stops src =
     record {
@@ -105,6 +119,7 @@ end_stops src =
       no_instruction = false_from_ne_true _ (λ h. let b = instruction_bytes src (length src) h in omega arith);
     }
 
+-- a fine state is fine at any place
 pub fine_at : (limit i j : ℕ) (done : Forest Item) (stack : Open) → IsFine limit (state i done stack) → IsFine limit (state j done stack)
 fine_at limit i j done stack fine = record { nodes = fine.nodes; attributes = fine.attributes; pairs = fine.pairs; named = fine.named }
 
@@ -115,9 +130,11 @@ module _ (src : List ℕ) (agrees : Agrees src) where
   abbrev pub MiscRead : ℕ → ℕ → Forest Item → State → Type 0
   MiscRead most i done u = (items : Forest Item) × Misc src i u.at items × (u ≡ state u.at (join done items) root) × IsFine most u × (u.at ≤ length src)
 
+  -- an item that neither declares anything nor has attributes
   abbrev plain : Item → Type 0
   plain item = (own_attributes item ≡ 0) × (own_pairs item ≡ []) × ((scope : List Declaration) → ItemWellNamed scope item)
 
+  -- comments and instructions are plain
   misc_plain : (i j : ℕ) (item : Item) → IsMisc src i j item → plain item
   misc_plain i j item (comment _ e _ is) = (refl, refl, λ scope. tt)
   misc_plain i j item (instruction _ n e _ is) = (refl, refl, λ scope. tt)
@@ -132,6 +149,7 @@ module _ (src : List ℕ) (agrees : Agrees src) where
   spaces_then most i done u utf8 cut (items, more, e, fine, within) =
       (items, (over_spaces src (λ (k : ℕ). Misc src k u.at items) i utf8 cut (λ k is rest. space k u.at items is rest)).1 more, e, fine, within)
 
+  -- what is read of them stands there
   pub misc_sound : (n limit most i : ℕ) (done : Forest Item) (u : State) → limit ≤ most → IsUtf8 src → IsCharBoundary src i → IsFine most (state i done root) → misc limit n src (state i done root) ≡ Ok u
       → MiscRead most i done u
   unfolding misc comment_step instruction_step
@@ -162,6 +180,7 @@ module _ (src : List ℕ) (agrees : Agrees src) where
 
   -- ---- Misc is what is read
 
+  -- each of them moves forward
   misc_moves : (i j : ℕ) (item : Item) → IsMisc src i j item → i < j
   misc_moves i j item (comment _ e _ is) = (agrees.comment_sound i j _ is.opens (agrees.comment_complete i e j is)).3
   misc_moves i j item (instruction _ n e _ is) = (agrees.instruction_sound i j _ is.opens (agrees.instruction_complete i n e j is)).4
@@ -180,10 +199,12 @@ module _ (src : List ℕ) (agrees : Agrees src) where
       let counts = fits_counted limit (with_leaf (state i done root) j item) (omega arith) in
       rw (no_spaces src i bytes.1, none, is.opens, agrees.instruction_complete i t e j is, counts) rest
 
+  -- each begins within the source
   misc_within : (i j : ℕ) (item : Item) → IsMisc src i j item → i < length src
   misc_within i j item (comment _ e _ is) = let bytes = comment_bytes src i is.opens in omega arith
   misc_within i j item (instruction _ n e _ is) = let bytes = instruction_bytes src i is.opens in omega arith
 
+  -- what stands there of them is read
   pub misc_complete : (n limit i j : ℕ) (items done : Forest Item) → Misc src i j items → Stops src j → size (merge (join done items)) + 1 ≤ limit → length src ≤ i + n
       → misc limit n src (state i done root) ≡ Ok (state j (join done items) root)
   unfolding misc
@@ -203,6 +224,7 @@ module _ (src : List ℕ) (agrees : Agrees src) where
 
   -- ---- the declaration
 
+  -- what is read of it stands there
   pub prolog_sound : (i j : ℕ) → prolog src i ≡ Ok j → MayDeclare src i j
   unfolding prolog
   prolog_sound i j h =
@@ -210,11 +232,13 @@ module _ (src : List ℕ) (agrees : Agrees src) where
       (λ here h. bind_ok (declaration_at src i) _ _ h (λ x read h. let e : x.1 ≡ j = cc in subst (MayDeclare src i) e (declared i x.1 (agrees.declaration_sound i x.1 x.0 here read))))
       (λ none h. let e : i ≡ j = cc in subst (MayDeclare src i) e (not_declared i none))
 
+  -- what stands there is read
   pub prolog_complete : (i j : ℕ) → MayDeclare src i j → prolog src i ≡ Ok j
   unfolding prolog
   prolog_complete i j (declared _ _ is) = rw (is.opens, agrees.declaration_complete i j is) refl
   prolog_complete i j (not_declared _ none) = rw none refl
 
+  -- a character begins behind it
   pub prolog_cut : (i j : ℕ) → IsUtf8 src → IsCharBoundary src i → MayDeclare src i j → IsCharBoundary src j
   prolog_cut i j utf8 cut (declared _ _ is) = ends_cut src j utf8 (declaration_ends src i j is)
   prolog_cut i j utf8 cut (not_declared _ none) = cut

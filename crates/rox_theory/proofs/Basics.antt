@@ -1,34 +1,39 @@
 -- How a reading that succeeded went, and the smallest steps.
-use Rattle.std.proofs.Common.{◌≡◌, ◌≢◌, ℕ, ◌+◌, ◌-◌, ◌<◌, ◌≤◌, Bool, true, false, cond, eqb, ltb, leb, List, length, get_or, take, drop, refl, sym, ap, ◌∙◌, arith, length-drop, length-take, get_or-drop, get_or-take, inl, inr, ◌⊎◌}
+use Rattle.std.proofs.Common.{◌≡◌, ◌≢◌, ℕ, ◌+◌, ◌<◌, ◌≤◌, Bool, true, false, cond, eqb, ltb, leb, List, length, take, refl, sym, ap, ◌∙◌, arith, inl, inr}
 use Rattle.std.specs.Prelude.{Result, Ok, Err}
-use Rattle.std.specs.List.{position_or_len}
 use Rattle.std.proofs.lemmas.List.{get_or_past}
-use Rattle.std.proofs.lemmas.List.Sums.{prefix_len-le-length, prefix_len_is, prefix_len_passes, prefix_len_stops}
-use Rattle.std.proofs.lemmas.Bool.{not-true, not-false, eqb-true, eqb-false, leb-true, leb-false, lt-leb, eq-eqb, ltb-true, ltb-false, le-ltb, lt-ltb, cases_lt}
+use Rattle.std.proofs.lemmas.Bool.{eqb-true, leb-false, lt-leb, eq-eqb, ltb-false, le-ltb, cases_lt}
+use Rattle.std.specs.Str.{IsUtf8}
 use Rattle.rox_grammar.specs.declared.fault.Fault.{Fault}
 use Rattle.rox_grammar.specs.declared.fault.Word.{Word}
 use Rattle.rox_grammar.specs.Chars.{is_char}
 use Rattle.rox_grammar.specs.Runs.{run_end}
-use Rattle.rox_grammar.specs.Marks.{stands, mark_from, byte_from}
+use Rattle.rox_grammar.specs.Marks.{stands, mark_from}
 use Rattle.rox_grammar.specs.Words.{word_text}
 use Rattle.rox_grammar.specs.Names.{byte, slice}
 use Rattle.rox_grammar.specs.Constructs.{AreChars}
-use Rattle.rox_reading.specs.Lexical.{◌>>=◌, byte_at, quote_at, string_at, chars_up_to, text_to}
+use Rattle.rox_reading.specs.Lexical.{◌>>=◌, byte_at, string_at, chars_up_to, text_to}
+use Rattle.rox_theory.proofs.SpanLemmas.{run_end_inside}
 
+-- what two equal answers hold is equal
 pub ok_same : {A : Type 0} (x y : A) → ◌≡◌ {A = Result A Fault} (Ok x) (Ok y) → x ≡ y
 ok_same x y h = cc
 
+-- where a sequence gives a value, its first step gave one and the rest gave the value
 pub bind_ok : {A B P : Type 0} (r : Result A Fault) (f : A → Result B Fault) (y : B) → (r >>= f) ≡ Ok y → ((x : A) → r ≡ Ok x → f x ≡ Ok y → P) → P
 bind_ok (Ok x) f y h go = go x refl h
 bind_ok (Err e) f y h go = cc h
 
+-- what a choice gives comes from one of its branches
 pub chosen : {X P : Type 0} (b : Bool) (x y z : X) → cond b x y ≡ z → (b ≡ true → x ≡ z → P) → (b ≡ false → y ≡ z → P) → P
 chosen true x y z h holds fails = holds refl h
 chosen false x y z h holds fails = fails refl h
 
+-- a byte but 0 stands in the source
 pub within : (src : List ℕ) (i : ℕ) → byte src i ≢ 0 → i < length src
 within src i h = elim (cases_lt i (length src)) as (λ s. i < length src) [ inl l ↦ l | inr l ↦ absurd (h (get_or_past src i 0 l)) ]
 
+-- a byte that is read stands there
 pub byte_sound : (b : ℕ) (src : List ℕ) (i : ℕ) (x : Unit {0} × ℕ) → byte_at b src i ≡ Ok x → (byte src i ≡ b) × (x.1 ≡ i + 1) × (i < length src)
 unfolding byte_at
 byte_sound b src i x h = chosen (leb (length src) i) _ _ _ h (λ out e. cc)
@@ -36,6 +41,7 @@ byte_sound b src i x h = chosen (leb (length src) i) _ _ _ h (λ out e. cc)
     (λ holds e. (eqb-true _ _ holds, sym (ap (λ p. p.1) (ok_same _ _ e)), leb-false _ _ inside))
     (λ fails e. cc))
 
+-- a byte that stands there is read
 pub byte_complete : (b : ℕ) (src : List ℕ) (i : ℕ) → byte src i ≡ b → b ≢ 0 → byte_at b src i ≡ Ok (tt, i + 1)
 unfolding byte_at
 byte_complete b src i h nz =
@@ -43,39 +49,52 @@ byte_complete b src i h nz =
     let e = eq-eqb _ _ h in
     rw (l, e) refl
 
+-- a fixed text that is read stands there
 pub string_sound : (w : Word) (src : List ℕ) (i : ℕ) (x : Unit {0} × ℕ) → string_at w src i ≡ Ok x → (stands (word_text w) src i ≡ true) × (x.1 ≡ i + length (word_text w))
 unfolding string_at
 string_sound w src i x h = chosen (stands (word_text w) src i) _ _ _ h
     (λ holds e. (holds, sym (ap (λ p. p.1) (ok_same _ _ e))))
     (λ fails e. cc)
 
+-- a fixed text that stands there is read
 pub string_complete : (w : Word) (src : List ℕ) (i : ℕ) → stands (word_text w) src i ≡ true → string_at w src i ≡ Ok (tt, i + length (word_text w))
 unfolding string_at
 string_complete w src i h = rw h refl
 
-pub chars_sound : (end : ℕ) (src : List ℕ) (i : ℕ) (x : List ℕ × ℕ) → chars_up_to end src i ≡ Ok x → AreChars src i end × (x.0 ≡ slice src i end) × (x.1 ≡ end)
+-- what is read up to a place are Chars
+pub chars_sound : (end : ℕ) (src : List ℕ) (i : ℕ) (x : List ℕ × ℕ) → IsUtf8 src → i ≤ end → chars_up_to end src i ≡ Ok x → AreChars src i end × (x.0 ≡ slice src i end) × (x.1 ≡ end)
 unfolding chars_up_to
-chars_sound end src i x h = chosen (ltb (run_end is_char (take end src) i) end) _ _ _ h
+chars_sound end src i x utf8 from h = chosen (ltb (run_end is_char (take end src) i) end) _ _ _ h
     (λ ill e. cc)
-    (λ fine e. (ltb-false _ _ fine, sym (ap (λ p. p.0) (ok_same _ _ e)), sym (ap (λ p. p.1) (ok_same _ _ e))))
+    (λ fine e.
+    let le = ltb-false _ _ fine in
+    let ge = run_end_inside is_char src i end utf8 from in
+    (omega arith, sym (ap (λ p. p.0) (ok_same _ _ e)), sym (ap (λ p. p.1) (ok_same _ _ e))))
 
+-- Chars up to a place are read
 pub chars_complete : (end : ℕ) (src : List ℕ) (i : ℕ) → AreChars src i end → chars_up_to end src i ≡ Ok (slice src i end, end)
 unfolding chars_up_to
-chars_complete end src i h = let e = le-ltb (run_end is_char (take end src) i) end h in rw e refl
+chars_complete end src i h = let e = le-ltb (run_end is_char (take end src) i) end (omega arith) in rw e refl
+
+-- a mark is looked for forwards
+pub mark_from_le : (mark src : List ℕ) (i : ℕ) → i ≤ mark_from mark src i
+unfolding mark_from
+mark_from_le mark src i = omega arith
 
 -- from the text to a mark
-pub text_sound : (w : Word) (src : List ℕ) (i : ℕ) (x : List ℕ × ℕ) → text_to w src i ≡ Ok x
+pub text_sound : (w : Word) (src : List ℕ) (i : ℕ) (x : List ℕ × ℕ) → IsUtf8 src → text_to w src i ≡ Ok x
     → AreChars src i (mark_from (word_text w) src i) × (stands (word_text w) src (mark_from (word_text w) src i) ≡ true)
     × (x.0 ≡ slice src i (mark_from (word_text w) src i)) × (x.1 ≡ mark_from (word_text w) src i + length (word_text w))
 unfolding text_to
-text_sound w src i x h =
+text_sound w src i x utf8 h =
     let e = mark_from (word_text w) src i in
     bind_ok (chars_up_to e src i) _ _ h (λ t is h. bind_ok (string_at w src t.1) _ _ h (λ m ends h.
-    let c = chars_sound e src i t is in
+    let c = chars_sound e src i t utf8 (mark_from_le (word_text w) src i) is in
     let s = string_sound w src t.1 m ends in
     let at_end : t.1 ≡ e = c.2 in
     (c.0, rw at_end at s.0, sym (ap (λ p. p.0) (ok_same _ _ h)) ∙ c.1, sym (ap (λ p. p.1) (ok_same _ _ h)) ∙ rw at_end at s.1)))
 
+-- Chars up to a mark, and the mark, that stand there are read
 pub text_complete : (w : Word) (src : List ℕ) (i e : ℕ) → e ≡ mark_from (word_text w) src i → AreChars src i e → stands (word_text w) src e ≡ true
     → text_to w src i ≡ Ok (slice src i e, e + length (word_text w))
 unfolding text_to
@@ -84,10 +103,7 @@ text_complete w src i e is chars stands =
     let s = string_complete w src e stands in
     rw (← is, c, s) refl
 
-pub mark_from_le : (mark src : List ℕ) (i : ℕ) → i ≤ mark_from mark src i
-unfolding mark_from
-mark_from_le mark src i = omega arith
-
+-- a run goes forwards
 pub run_end_le : (p : ℕ → Bool) (src : List ℕ) (i : ℕ) → i ≤ run_end p src i
 unfolding run_end
 run_end_le p src i = omega arith

@@ -11,14 +11,14 @@ use Rattle.rox_reading.specs.State.{Open, root, inside, State, is_root}
 use Rattle.rox_reading.specs.Machine.{step, drive}
 use Rattle.rox_reading.proofs.Forests.{join-nil, join_assoc}
 use Rattle.rox_theory.specs.Agrees.{Agrees}
-use Rattle.rox_theory.specs.Single.{OneTag}
+use Rattle.rox_theory.proofs.Basics.{within as byte_within, bind_ok, chosen}
 use Rattle.rox_theory.proofs.Constructions.{Kind, a_run, a_comment, a_cdata, an_instruction, an_end, a_tag, kind_at, kind_means, name_byte, run_within, run_kind, comment_kind, comment_bytes, cdata_kind, cdata_bytes, instruction_kind, instruction_bytes, end_kind, end_bytes, tag_kind}
-use Rattle.rox_theory.proofs.Places.{byte_within}
 use Rattle.rox_theory.proofs.Standing.{IsFine}
-use Rattle.rox_theory.proofs.Steps.{bind_ok, chosen, with_leaf, after_tag, closed, By, step_sound, step_complete, by_back, by_moves, by_one}
+use Rattle.rox_theory.proofs.Steps.{OneTag, with_leaf, after_tag, closed, By, step_sound, step_complete, by_back, by_moves, by_one}
 
 -- ---- without entities a derivation takes none of its budget
 
+-- of a value
 value_free : (src : List ℕ) (j i b c : ℕ) (v : List ℕ) → Value true no_entities src j i b c v → (d : ℕ) → Value true no_entities src j i d d v
 value_free src j i b c v (value_ends _) d = value_ends d
 value_free src j i b c v (line_end _ _ _ _ more cr lf rest) d = line_end i d d v more cr lf (value_free src j (i + 1) b c v rest d)
@@ -27,6 +27,7 @@ value_free src j i b c v (other _ _ _ w more x₁ x₂ x₃ x₄ x₅ rest) d = 
 value_free src j i b c v (a_character _ n x _ _ w is within allowed rest) d = a_character i n x d d w is within allowed (value_free src j n b c w rest d)
 value_free src j i b c v (an_entity _ n k _ e _ u w is name within opens rest) d = absurd opens
 
+-- of attributes
 attributes_free : (src : List ℕ) (i k b c : ℕ) (as' : List Attribute) → Attributes true no_entities src i k b c as' → (d : ℕ) → Attributes true no_entities src i k d d as'
 attributes_free src i k b c as' (no_more _ _) d = no_more i d
 attributes_free src i k b c as' (one_more _ j _ _ e _ a rest spaces is more) d =
@@ -45,6 +46,7 @@ attributes_free src i k b c as' (one_more _ j _ _ e _ a rest spaces is more) d =
     })
     (attributes_free src j k e c rest more d)
 
+-- of a tag
 pub tag_free : (src : List ℕ) (i j b c : ℕ) (is_empty : Bool) (t : Tag) → IsTag true no_entities src i j b c is_empty t → (d : ℕ) → IsTag true no_entities src i j d d is_empty t
 tag_free src i j b c is_empty t is d =
     record {
@@ -58,6 +60,7 @@ tag_free src i j b c is_empty t is d =
       has = is.has;
     }
 
+-- a state of these parts
 abbrev pub state : ℕ → Forest Item → Open → State
 state i done stack = record { at = i; done = done; stack = stack }
 
@@ -69,6 +72,7 @@ pub data Drives (src : List ℕ) : State → State → Type 0 where
 module _ (src : List ℕ) (agrees : Agrees src) where
   -- ---- the chain is what is read
 
+  -- what is read is a chain
   pub drive_sound : (n limit most : ℕ) (s u : State) → limit ≤ most → IsFine most s → drive limit n src s ≡ Ok u → Drives src s u × IsFine most u
   unfolding drive
   drive_sound zero limit most s u more fine h =
@@ -86,10 +90,12 @@ module _ (src : List ℕ) (agrees : Agrees src) where
       (goes s t u inner l one.0 rest.0, rest.1)))
       (λ past h. cc))
 
+  -- what the limits allow at the end they allow all along
   pub drives_back : (limit : ℕ) (s u : State) → Drives src s u → IsFine limit u → IsFine limit s
   drives_back limit s u (arrives _ h) fine = fine
   drives_back limit s u (goes _ t _ inner within by rest) fine = by_back src agrees limit (kind_at src s.at) s t by (drives_back limit t u rest fine)
 
+  -- a chain is read
   pub drive_complete : (n limit : ℕ) (s u : State) → Drives src s u → IsFine limit u → length src ≤ s.at + n → drive limit n src s ≡ Ok u
   unfolding drive
   drive_complete zero limit s u (arrives _ h) fine enough = rw h refl
@@ -100,6 +106,7 @@ module _ (src : List ℕ) (agrees : Agrees src) where
       let moves = by_moves src agrees limit (kind_at src s.at) s t (kind_means src s.at) within by next in
       rw (inner, lt-ltb s.at (length src) within, step_complete src agrees limit s t by next) (drive_complete n limit t u rest fine (omega arith))
 
+  -- there is one chain at most
   pub drives_one : OneTag src → (s t u : State) → Drives src s t → Drives src s u → t ≡ u
   drives_one one s t u (arrives _ h) (arrives _ k) = refl
   drives_one one s t u (arrives _ h) (goes _ v _ inner within by rest) = absurd (true≢false (sym h ∙ inner))
@@ -110,20 +117,24 @@ module _ (src : List ℕ) (agrees : Agrees src) where
 
   -- ---- content is a chain
 
+  -- a step of a known kind in front
   goes_by : (k : Kind) (s t u : State) → is_root s.stack ≡ false → s.at < length src → kind_at src s.at ≡ k → By src k s t → Drives src t u → Drives src s u
   goes_by k s t u inner within is by rest = goes s t u inner within (subst (λ (k : Kind). By src k s t) (sym is) by) rest
 
+  -- a start tag is a step
   tag_goes : (s : State) (j b c : ℕ) (x : Tag) (is_empty : Bool) → IsTag true no_entities src s.at j b c is_empty x → (kind_at src s.at ≡ a_tag) × By src a_tag s (after_tag s j x is_empty) × (s.at < length src)
   tag_goes s j b c x is_empty tag =
       let here = tag.begins in
       (tag_kind src s.at here (name_byte src (s.at + 1) x.name x.name_end tag.is_name), (x, j, is_empty, tag_free src s.at j b c is_empty x tag, refl), byte_within src s.at (λ z. omega arith))
 
+  -- an end tag in front
   end_goes : (i n j start : ℕ) (tag : Tag) (done before : Forest Item) (up : Open) (u : State) → IsEnd src i tag.name n j → Drives src (closed j done start tag before up) u → Drives src (state i done (inside start tag before up)) u
   end_goes i n j start tag done before up u end rest =
       let bytes = end_bytes src i end.opens in
       goes_by an_end (state i done (inside start tag before up)) (closed j done start tag before up) u refl (omega arith) (end_kind src i end.opens)
       (record { name = tag.name; name_end = n }, j, agrees.end_complete i j n tag.name end, (refl, refl)) rest
 
+  -- a comment or an instruction in front
   misc_goes : (i j : ℕ) (item : Item) → IsMisc src i j item → (done : Forest Item) (start : ℕ) (tag : Tag) (before : Forest Item) (up : Open) (u : State)
       → Drives src (state j (join done (leaf item)) (inside start tag before up)) u → Drives src (state i done (inside start tag before up)) u
   misc_goes i j item (comment _ e _ is) done start tag before up u rest =
@@ -135,6 +146,7 @@ module _ (src : List ℕ) (agrees : Agrees src) where
       (record { target = slice src (i + 2) n; value = none_if_empty (slice src (spaces_end src n) e) }, j, agrees.instruction_complete i n e j is, refl) rest
 
   mutual
+    -- content in front
     pub content_drives : (i l b c : ℕ) (more : Forest Item) → Content true no_entities src i l b c more → (done : Forest Item) (start : ℕ) (tag : Tag) (before : Forest Item) (up : Open) (u : State)
         → Drives src (state l (join done more) (inside start tag before up)) u → Drives src (state i done (inside start tag before up)) u
     content_drives i l b c more (ends _ _) done start tag before up u rest = rw join-nil at rest
@@ -154,6 +166,7 @@ module _ (src : List ℕ) (agrees : Agrees src) where
     content_drives i l b c more (node _ j _ _ d _ one front is inner) done start tag before up u rest =
         element_drives i j b d one is done start tag before up u (content_drives j l d c front inner (join done one) start tag before up u (rw (← join_assoc) at rest))
 
+    -- an element in front
     element_drives : (i j b c : ℕ) (one : Forest Item) → IsElement true no_entities src i j b c one → (done : Forest Item) (start : ℕ) (tag : Tag) (before : Forest Item) (up : Open) (u : State)
         → Drives src (state j (join done one) (inside start tag before up)) u → Drives src (state i done (inside start tag before up)) u
     element_drives i j b c one (empty _ _ _ _ x is) done start tag before up u rest =

@@ -16,7 +16,10 @@ use Rattle.rox_grammar.specs.Constructs.{at}
 use Rattle.rox_grammar.specs.Content.{IsRun}
 use Rattle.rox_reading.specs.State.{State}
 use Rattle.rox_reading.specs.Machine.{step, run_step, comment_step, cdata_step, instruction_step, end_step, tag_step}
-use Rattle.rox_theory.proofs.Places.{stands_reads, stands_fits, stands_two, begins_with, begins_within, byte_within, here_is}
+use Rattle.rox_theory.proofs.Basics.{within as byte_within}
+use Rattle.rox_theory.proofs.NameLemmas.{begins_here}
+use Rattle.rox_theory.proofs.DeclarationLemmas.{stands_reads, stands_fits}
+use Rattle.rox_theory.proofs.Places.{stands_two, begins_within, here_is}
 
 pub data Kind : Type 0 where
   a_run : Kind
@@ -27,6 +30,7 @@ pub data Kind : Type 0 where
   a_tag : Kind
   nothing : Kind
 
+-- a choice among eight by the tests of a step, in order
 abbrev kind_by : {X : Type 0} → X → X → X → X → X → X → X → X → Bool → Bool → Bool → Bool → Bool → Bool → Bool → X
 kind_by run cut comment cdata other instruction end tag a b c d e g h =
     cond a run (cond b cut (cond c (cond d comment (cond e cdata other)) (cond g instruction (cond h end tag))))
@@ -47,6 +51,7 @@ step_by an_end limit src s = end_step src s
 step_by a_tag limit src s = tag_step limit src s
 step_by nothing limit src s = Err (fault.UnknownToken s.at)
 
+-- a function may be applied to each of them
 in_each : {X Y : Type 0} (f : X → Y) (x₁ x₂ x₃ x₄ x₅ x₆ x₇ x₈ : X) (a b c d e g h : Bool)
     → kind_by (f x₁) (f x₂) (f x₃) (f x₄) (f x₅) (f x₆) (f x₇) (f x₈) a b c d e g h ≡ f (kind_by x₁ x₂ x₃ x₄ x₅ x₆ x₇ x₈ a b c d e g h)
 in_each f x₁ x₂ x₃ x₄ x₅ x₆ x₇ x₈ true b c d e g h = refl
@@ -74,6 +79,7 @@ Means src i an_end = at word.EndTagStart src i ≡ true
 Means src i a_tag = byte src i ≡ 60
 Means src i nothing = Unit {0}
 
+-- the kind stands there
 pub kind_means : (src : List ℕ) (i : ℕ) → Means src i (kind_at src i)
 kind_means src i =
     let M : Kind → Type 0 = Means src i in
@@ -97,18 +103,23 @@ two mark src i a b rest is h =
     let fits = stands_fits (a ∷ b ∷ rest) src i (omega arith) h' in
     (omega arith, rw add-zero at (stands_reads (a ∷ b ∷ rest) src i 0 h' (omega arith)), stands_reads (a ∷ b ∷ rest) src i 1 h' (omega arith))
 
+-- the first two bytes of each markup, and that they are within the source
 pub comment_bytes : (src : List ℕ) (i : ℕ) → at word.CommentStart src i ≡ true → (i + 1 < length src) × (byte src i ≡ 60) × (byte src (i + 1) ≡ 33)
 comment_bytes src i h = two _ src i 60 33 _ refl h
 
+-- of a section
 pub cdata_bytes : (src : List ℕ) (i : ℕ) → at word.CDataStart src i ≡ true → (i + 1 < length src) × (byte src i ≡ 60) × (byte src (i + 1) ≡ 33)
 cdata_bytes src i h = two _ src i 60 33 _ refl h
 
+-- of an instruction
 pub instruction_bytes : (src : List ℕ) (i : ℕ) → at word.PIStart src i ≡ true → (i + 1 < length src) × (byte src i ≡ 60) × (byte src (i + 1) ≡ 63)
 instruction_bytes src i h = two _ src i 60 63 _ refl h
 
+-- of an end tag
 pub end_bytes : (src : List ℕ) (i : ℕ) → at word.EndTagStart src i ≡ true → (i + 1 < length src) × (byte src i ≡ 60) × (byte src (i + 1) ≡ 47)
 end_bytes src i h = two _ src i 60 47 _ refl h
 
+-- of a document type declaration
 pub doctype_bytes : (src : List ℕ) (i : ℕ) → at word.DoctypeStart src i ≡ true → (i + 1 < length src) × (byte src i ≡ 60) × (byte src (i + 1) ≡ 33)
 doctype_bytes src i h = two _ src i 60 33 _ refl h
 
@@ -119,18 +130,21 @@ pub record IsNameByte (src : List ℕ) (i : ℕ) : Type 0 where
   pub no_question : byte src i ≢ 63
   pub no_slash : byte src i ≢ 47
 
+-- what can begin a name is none of them
 starts_name : (src : List ℕ) (i : ℕ) → begins is_name_start src i ≡ true → IsNameByte src i
 unfolding is_name_start
 starts_name src i h =
     let within = begins_within is_name_start src i h in
     let apart : (b : ℕ) → b < 128 → is_name_start b ≡ false → byte src i ≢ b = λ b ascii fails e.
-    (let k = begins_with is_name_start src i within (omega arith) in let f : is_name_start (byte src i) ≡ false = rw e fails in cc) in
+    (let k = begins_here is_name_start src i within (omega arith) in let f : is_name_start (byte src i) ≡ false = rw e fails in cc) in
     record { within = within; no_mark = apart 33 (omega arith) refl; no_question = apart 63 (omega arith) refl; no_slash = apart 47 (omega arith) refl }
 
+-- nor is a colon
 colon_byte : (src : List ℕ) (i : ℕ) → byte src i ≡ 58 → IsNameByte src i
 colon_byte src i h =
     record { within = byte_within src i (λ z. omega arith); no_mark = λ e. omega arith; no_question = λ e. omega arith; no_slash = λ e. omega arith }
 
+-- so a name begins with none of them
 pub name_byte : (src : List ℕ) (i : ℕ) (name : Name) (n : ℕ) → IsQName src i name n → IsNameByte src i
 name_byte src i name n (unprefixed _ _ nc no_colon) = starts_name src i nc.starts
 name_byte src i name n (prefixed _ k _ nc colon local no_colon) = starts_name src i nc.starts
@@ -150,14 +164,17 @@ run_within src i j r =
       | inr l ↦ (let z : position_or_len (λ c. c == 60) (drop i src) ≡ 0 = rw (drop_all i src l) refl in absurd (omega arith))
     ]
 
+-- and no other kind: a run
 pub run_kind : (src : List ℕ) (i : ℕ) → byte src i ≢ 60 → kind_at src i ≡ a_run
 run_kind src i apart = let f = ne_eqb (byte src i) 60 apart in rw f refl
 
+-- a comment
 pub comment_kind : (src : List ℕ) (i : ℕ) → at word.CommentStart src i ≡ true → kind_at src i ≡ a_comment
 comment_kind src i h =
     let b = comment_bytes src i h in
     rw (eq-eqb _ _ b.1, lt-leb (length src) (i + 1) b.0, eq-eqb _ _ b.2, h) refl
 
+-- a section
 pub cdata_kind : (src : List ℕ) (i : ℕ) → at word.CDataStart src i ≡ true → kind_at src i ≡ a_cdata
 cdata_kind src i h =
     let b = cdata_bytes src i h in
@@ -167,12 +184,14 @@ cdata_kind src i h =
     omega arith)) in
     rw (eq-eqb _ _ b.1, lt-leb (length src) (i + 1) b.0, eq-eqb _ _ b.2, no, h) refl
 
+-- an instruction
 pub instruction_kind : (src : List ℕ) (i : ℕ) → at word.PIStart src i ≡ true → kind_at src i ≡ an_instruction
 instruction_kind src i h =
     let b = instruction_bytes src i h in
     let no : (byte src (i + 1) == 33) ≡ false = ne_eqb _ _ (λ e. omega arith) in
     rw (eq-eqb _ _ b.1, lt-leb (length src) (i + 1) b.0, no, eq-eqb _ _ b.2) refl
 
+-- an end tag
 pub end_kind : (src : List ℕ) (i : ℕ) → at word.EndTagStart src i ≡ true → kind_at src i ≡ an_end
 end_kind src i h =
     let b = end_bytes src i h in
@@ -180,6 +199,7 @@ end_kind src i h =
     let neither : (byte src (i + 1) == 63) ≡ false = ne_eqb _ _ (λ e. omega arith) in
     rw (eq-eqb _ _ b.1, lt-leb (length src) (i + 1) b.0, no, neither, eq-eqb _ _ b.2) refl
 
+-- a start tag
 pub tag_kind : (src : List ℕ) (i : ℕ) → byte src i ≡ 60 → IsNameByte src (i + 1) → kind_at src i ≡ a_tag
 tag_kind src i h name =
     rw (eq-eqb _ _ h, lt-leb (length src) (i + 1) name.within, ne_eqb _ _ name.no_mark, ne_eqb _ _ name.no_question, ne_eqb _ _ name.no_slash) refl

@@ -31,16 +31,19 @@ module _ (src : List ℕ) (agrees : Agrees src) where
   extends i j done items (inside start tag before up) u inner front (more, m, p, e, content, end, rest) =
       (join items more, m, p, e, front m more content, end, rw join_assoc at rest)
 
+  -- what is read of a comment stands there
   pub comment_is : (i j : ℕ) (text : List ℕ) → at word.CommentStart src i ≡ true → comment_at src i ≡ Ok (text, j) → IsMisc src i j (Comment i j text)
   comment_is i j text means read =
       let s = agrees.comment_sound i j text means read in
       rw s.2 (comment i s.0 j s.1)
 
+  -- and of an instruction
   pub instruction_is : (i j : ℕ) (x : Instruction) → at word.PIStart src i ≡ true → instruction_at src i ≡ Ok (x, j) → IsMisc src i j (PI i j x.target x.value)
   instruction_is i j x means read =
       let s = agrees.instruction_sound i j x means read in
       rw s.3 (instruction i s.0 s.1 j s.2)
 
+  -- one construct in front
   by_completes : (k : Kind) (s t u : State) → is_root s.stack ≡ false → s.at < length src → Means src s.at k → By src k s t → Completes t.at t.done t.stack u → Completes s.at s.done s.stack u
   by_completes a_run s t u inner within means (x, j, read, is) h =
       let r = agrees.run_sound s.at j x within means read in
@@ -58,6 +61,7 @@ module _ (src : List ℕ) (agrees : Agrees src) where
       (subst (λ (t : State). Completes t.at t.done t.stack u) is h)
   by_completes an_end s t u inner within means (x, j, read, is) h = closes s.at x.name x.name_end j s.done s.stack t u (agrees.end_sound s.at j x means read).0 is h
     where
+      -- an end tag: nothing follows in its element
       closes : (i : ℕ) (name : Name) (n j : ℕ) (done : Forest Item) (stack : Open) (t u : State) → IsEnd src i name n j → Closes name j done stack t → Completes t.at t.done t.stack u → Completes i done stack u
       closes i name n j done root t u end is h = absurd is
       closes i name n j done (inside start tag before up) t u end (same, is) h =
@@ -70,6 +74,7 @@ module _ (src : List ℕ) (agrees : Agrees src) where
       let h' : Completes j Nil (inside s.at tag s.done s.stack) u = subst (λ (t : State). Completes t.at t.done t.stack u) is h in
       nested s j tag u inner (stands 255) h'
     where
+      -- a start tag: its content follows, and its end
       nested : (s : State) (j : ℕ) (tag : Tag) (u : State) → is_root s.stack ≡ false → IsTag true no_entities src s.at j 255 255 false tag → Completes j Nil (inside s.at tag s.done s.stack) u → Completes s.at s.done s.stack u
       nested s j tag u inner stands (kids, m, p, e, content, end, rest) =
           extends s.at e s.done (Cons (Element s.at e tag) (merge kids) Nil) s.stack u inner
@@ -77,10 +82,12 @@ module _ (src : List ℕ) (agrees : Agrees src) where
           rest
   by_completes nothing s t u inner within means by h = absurd by
 
+  -- at the root nothing has to follow
   at_root : (i : ℕ) (done : Forest Item) (stack : Open) → is_root stack ≡ true → Completes i done stack (state i done stack)
   at_root i done root h = refl
   at_root i done (inside start tag before up) h = cc h
 
+  -- a chain is what completes its first state
   pub drives_completes : (s u : State) → Drives src s u → Completes s.at s.done s.stack u
   drives_completes s u (arrives _ h) = at_root s.at s.done s.stack h
   drives_completes s u (goes _ t _ inner within by rest) =
@@ -100,6 +107,7 @@ module _ (src : List ℕ) (agrees : Agrees src) where
       let h : Completes j Nil (inside i tag before root) u = subst (λ (t : State). Completes t.at t.done t.stack u) is (drives_completes t u drives) in
       nested i j before tag u (stands 255) h
     where
+      -- a start tag: its content follows, and its end
       nested : (i j : ℕ) (before : Forest Item) (tag : Tag) (u : State) → IsTag true no_entities src i j 255 255 false tag → Completes j Nil (inside i tag before root) u
           → (one : Forest Item) × IsElement true no_entities src i u.at 255 255 one × (u ≡ state u.at (join before one) root)
       nested i j before tag u stands (kids, m, p, e, content, end, rest) =

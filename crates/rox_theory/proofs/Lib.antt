@@ -1,3 +1,4 @@
+pub mod SpanLemmas
 pub mod Basics
 pub mod NameLemmas
 pub mod CharLemmas
@@ -9,6 +10,10 @@ pub mod ReferenceLemmas
 pub mod PartLemmas
 pub mod RunLemmas
 pub mod ValueLemmas
+pub mod AttributeLemmas
+pub mod DeclaredLemmas
+pub mod TagLemmas
+pub mod Constructs
 pub mod Places
 pub mod Constructions
 pub mod Standing
@@ -17,3 +22,4 @@ pub mod Chains
 pub mod Derivations
 pub mod Around
 pub mod Whole
+pub mod TagOnce

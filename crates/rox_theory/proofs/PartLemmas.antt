@@ -1,26 +1,20 @@
 -- The text of a run: what is read stands there, and what stands there is read.
-use Rattle.std.proofs.Common.{◌≡◌, ◌≢◌, ℕ, zero, suc, ◌+◌, ◌-◌, ◌<◌, ◌≤◌, ◌==◌, Bool, true, false, not, ◌&&◌, ◌||◌, cond, eqb, leb, ltb, List, [], ◌∷◌, ◌++◌, length, get_or, take, drop, refl, sym, ap, ◌∙◌, subst, arith, inl, inr, ◌⊎◌, length-drop, get_or-drop, add-zero, append_assoc}
-use Rattle.std.specs.Prelude.{Result, Ok, Err}
+use Rattle.std.proofs.Common.{◌≡◌, ◌≢◌, ℕ, zero, suc, ◌+◌, ◌-◌, ◌<◌, ◌≤◌, ◌==◌, Bool, true, false, ◌||◌, eqb, ltb, List, [], ◌∷◌, ◌++◌, length, take, refl, sym, ap, ◌∙◌, subst, arith, inl, inr}
+use Rattle.std.specs.Prelude.{Ok}
 use Rattle.std.specs.Char.{encode_utf8}
-use Rattle.std.specs.List.{list_any}
 use Rattle.std.specs.Str.{IsUtf8}
 use Rattle.std.proofs.lemmas.Str.{length-encode, len_utf8_bounds}
-use Rattle.std.proofs.lemmas.List.{length-take-le, get_or-take, get_or_past, drop_more, take_all}
-use Rattle.std.proofs.lemmas.Bool.{not-true, not-false, eqb-true, eqb-false, eq-eqb, ne_eqb, lt-ltb, le-ltb, ltb-true, ltb-false, or_parts, or_from, cases_lt, cases_eq, cases_Bool, false≢true}
-use Rattle.rox_grammar.specs.declared.fault.Fault.{Fault}
-use Rattle.rox_grammar.specs.Marks.{byte_from}
-use Rattle.rox_grammar.specs.Forest.{Forest, Nil, Cons}
-use Rattle.rox_grammar.specs.Written.{Item, Text, leaf}
+use Rattle.std.proofs.lemmas.Bool.{eqb-true, eqb-false, eq-eqb, ne_eqb, lt-ltb, le-ltb, ltb-true, ltb-false, or_parts, or_from, cases_eq, cases_Bool}
 use Rattle.rox_grammar.specs.Names.{byte, slice}
 use Rattle.rox_grammar.specs.References.{IsCharacter}
-use Rattle.rox_grammar.specs.Content.{Sign, literal, kept, is_literal, sign_byte, signs_of, line_ends_after, line_ends, is_plain, piece, Part, part_ends, as_written, from_reference}
-use Rattle.rox_reading.specs.Lexical.{◌>>=◌}
-use Rattle.rox_reading.specs.Values.{expansion_at, run_part_at, run_text}
-use Rattle.rox_theory.proofs.Basics.{ok_same, bind_ok, chosen, within}
+use Rattle.rox_grammar.specs.Content.{Sign, literal, signs_of, line_ends_after, line_ends, Part, part_ends, as_written, from_reference}
+use Rattle.rox_reading.specs.Values.{run_part_at, run_text}
+use Rattle.rox_theory.proofs.Basics.{ok_same, bind_ok, chosen}
 use Rattle.rox_theory.proofs.NameLemmas.{slice_nil}
-use Rattle.rox_theory.proofs.StretchLemmas.{slice_cons, next_at, next_bound, next_before, next_more, follows, follows_not}
+use Rattle.rox_theory.proofs.StretchLemmas.{joined, slice_cons, next_at, next_bound, next_before, next_more, follows, follows_not}
 use Rattle.rox_theory.proofs.ReferenceLemmas.{IsStop, expansion_sound, expansion_complete, character_opens, character_inside}
 
+-- a character has a byte
 pub encode_some : (c : ℕ) → 0 < length (encode_utf8 c)
 encode_some c = omega (arith, length-encode c, len_utf8_bounds c)
 
@@ -29,6 +23,7 @@ kept_ends : (bs : List ℕ) (ss : List Sign) → line_ends (signs_of true bs ++ 
 kept_ends [] ss = refl
 kept_ends (b ∷ bs) ss = ap (λ (r : List ℕ). b ∷ r) (kept_ends bs ss)
 
+-- after a CR too
 kept_after : (bs : List ℕ) (ss : List Sign) → 0 < length bs → line_ends_after true (signs_of true bs ++ ss) ≡ line_ends (signs_of true bs ++ ss)
 kept_after [] ss some = absurd (omega arith)
 kept_after (b ∷ bs) ss some = refl
@@ -42,20 +37,20 @@ literal_ends b ss no_cr =
       | inr other ↦ (let m = ne_eqb b 10 other in rw (n, m) refl)
     ]
 
+-- CR LF gives LF
 crlf_ends : (a b : ℕ) (ss : List Sign) → eqb a 13 ≡ true → b ≡ 10 → line_ends (literal a ∷ literal b ∷ ss) ≡ 10 ∷ line_ends ss
 crlf_ends a b ss cr lf = rw (cr, lf) refl
 
+-- CR gives LF
 cr_ends : (a : ℕ) (ss : List Sign) → eqb a 13 ≡ true → line_ends_after true ss ≡ line_ends ss → line_ends (literal a ∷ ss) ≡ 10 ∷ line_ends ss
 cr_ends a ss cr after = rw (cr, after) refl
-
-joined : (x r v a s : List ℕ) → x ++ r ≡ v → x ≡ a → r ≡ s → v ≡ a ++ s
-joined x r v a s h p q = cc
 
 -- a byte that is neither `&` nor CR
 abbrev pub ordinary : ℕ → Bool
 ordinary b = b == 38 || b == 13
 
 module _ (src : List ℕ) (utf8 : IsUtf8 src) (stop : ℕ) (long : stop ≤ length src) (closes : stop < length src → IsStop (byte src stop)) where
+  -- a part goes on with a byte that is no `&`
   next_part : (i : ℕ) (ss : List Sign) → i < stop → byte src i ≢ 38 → Part true src stop i ss → (rest : List Sign) × (ss ≡ literal (byte src i) ∷ rest) × Part true src stop (i + 1) rest
   next_part i ss below other part_ends = absurd (omega arith)
   next_part i ss below other (as_written _ rest lt no_amp p) = (rest, refl, p)
@@ -75,6 +70,7 @@ module _ (src : List ℕ) (utf8 : IsUtf8 src) (stop : ℕ) (long : stop ≤ leng
         literal_ends (byte src i) ih.0 (eqb-false _ _ here.1) ∙ ap (λ (r : List ℕ). byte src i ∷ r) ih.2 ∙ ap (λ (r : List ℕ). r ++ line_ends ss) (sym (slice_cons src i j (omega arith) (omega arith))),
       )
 
+  -- the signs behind a stretch of ordinary bytes
   pub stretch_off : (d i j : ℕ) (ss : List Sign) → i + d ≡ j → j ≤ stop → ((k : ℕ) → i ≤ k → k < j → ordinary (byte src k) ≡ false) → Part true src stop i ss
       → (rest : List Sign) × Part true src stop j rest × (line_ends ss ≡ slice src i j ++ line_ends rest)
   stretch_off zero i j ss to inside plain p =
@@ -96,6 +92,7 @@ module _ (src : List ℕ) (utf8 : IsUtf8 src) (stop : ℕ) (long : stop ≤ leng
   no_line_feed i ss none (as_written _ rest lt no_amp p) = let n = ne_eqb (byte src i) 10 (none lt) in rw n refl
   no_line_feed i ss none (from_reference _ n c rest r inside p) = kept_after (encode_utf8 c) rest (encode_some c)
 
+  -- the text that is read of a run is that of its signs
   pub run_text_sound : (n i : ℕ) (v : List ℕ) → i ≤ stop → stop ≤ i + n → run_text n src stop i ≡ Ok v → (ss : List Sign) × Part true src stop i ss × (v ≡ line_ends ss)
   unfolding run_text run_part_at
   run_text_sound zero i v to enough h =
@@ -149,18 +146,22 @@ module _ (src : List ℕ) (utf8 : IsUtf8 src) (stop : ℕ) (long : stop ≤ leng
       let e : stop ≡ i = omega (arith, ltb-false _ _ past) in
       ([], subst (λ (m : ℕ). Part true src stop m []) e part_ends, sym (ok_same _ _ h)))
 
+  -- CR LF is read
   cr_lf_part : (i : ℕ) → eqb (byte src i) 38 ≡ false → eqb (byte src i) 13 ≡ true → eqb (byte (take stop src) (i + 1)) 10 ≡ true → run_part_at src stop i ≡ Ok (10 ∷ [], i + 2)
   unfolding run_part_at
   cr_lf_part i amp cr lf = rw (amp, cr, lf) refl
 
+  -- CR alone is read
   cr_part : (i : ℕ) → eqb (byte src i) 38 ≡ false → eqb (byte src i) 13 ≡ true → eqb (byte (take stop src) (i + 1)) 10 ≡ false → run_part_at src stop i ≡ Ok (10 ∷ [], i + 1)
   unfolding run_part_at
   cr_part i amp cr lf = rw (amp, cr, lf) refl
 
+  -- a stretch of ordinary bytes is read
   plain_part : (i : ℕ) → eqb (byte src i) 38 ≡ false → eqb (byte src i) 13 ≡ false → run_part_at src stop i ≡ Ok (slice src i (next_at src stop ordinary i), next_at src stop ordinary i)
   unfolding run_part_at
   plain_part i amp cr = rw (amp, cr) refl
 
+  -- a reference to a character is read
   reference_part : (i c m : ℕ) → IsCharacter src i c m → run_part_at src stop i ≡ Ok (encode_utf8 c, m)
   unfolding run_part_at
   reference_part i c m r =
@@ -168,10 +169,12 @@ module _ (src : List ℕ) (utf8 : IsUtf8 src) (stop : ℕ) (long : stop ≤ leng
       let one = expansion_complete src i c m r in
       rw amp one
 
+  -- a part is read, and then the rest
   text_on : (n i m : ℕ) (bytes rest : List ℕ) → i < stop → run_part_at src stop i ≡ Ok (bytes, m) → run_text n src stop m ≡ Ok rest → run_text (suc n) src stop i ≡ Ok (bytes ++ rest)
   unfolding run_text
   text_on n i m bytes rest below part more = let here = lt-ltb i stop below in rw (here, part, more) refl
 
+  -- the text of the signs of a run is read
   pub run_text_complete : (n i : ℕ) (ss : List Sign) → i ≤ stop → stop ≤ i + n → Part true src stop i ss → run_text n src stop i ≡ Ok (line_ends ss)
   unfolding run_text run_part_at
   run_text_complete zero i ss to enough part_ends = refl

@@ -1,28 +1,27 @@
 -- References to characters: what is read stands there, and what stands there is read.
-use Rattle.std.proofs.Common.{◌≡◌, ◌≢◌, ℕ, ◌+◌, ◌-◌, ◌*◌, ◌^◌, ◌<◌, ◌≤◌, ◌==◌, Bool, true, false, not, ◌&&◌, ◌||◌, cond, eqb, leb, ltb, List, [], ◌∷◌, ◌++◌, length, get_or, take, drop, refl, sym, ap, ◌∙◌, subst, arith, inl, inr, ◌⊎◌, length-drop, get_or-drop, add-zero}
-use Rattle.std.specs.Prelude.{Result, Ok, Err, Option, Some, None}
+use Rattle.std.proofs.Common.{◌≡◌, ◌≢◌, ℕ, ◌+◌, ◌-◌, ◌^◌, ◌<◌, ◌≤◌, Bool, true, false, eqb, leb, List, length, get_or, drop, refl, sym, ap, ◌∙◌, subst, arith, inl, inr, ◌⊎◌, get_or-drop}
+use Rattle.std.specs.Prelude.{Ok, Option, Some, None}
 use Rattle.std.specs.Char.{encode_utf8}
-use Rattle.std.specs.List.{prefix_len}
-use Rattle.std.specs.Str.{IsUtf8, IsCharBoundary}
+use Rattle.std.specs.Str.{IsUtf8}
 use Rattle.std.proofs.lemmas.Str.{IsCharBoundary-after_ascii}
 use Rattle.std.proofs.lemmas.List.Sums.{prefix_len_passes}
-use Rattle.std.proofs.lemmas.Bool.{not-true, eqb-true, eqb-false, eq-eqb, ne_eqb, leb-false, lt-leb, leb-true, and_parts, or_cases, cases_lt, cases_eq, false≢true}
-use Rattle.rox_grammar.specs.declared.fault.Fault.{Fault}
+use Rattle.std.proofs.lemmas.Bool.{eqb-true, eqb-false, eq-eqb, ne_eqb, leb-false, lt-leb, leb-true, and_parts, cases_lt, cases_eq, false≢true}
 use Rattle.rox_grammar.specs.declared.fault.Span.{Span}
 use Rattle.rox_grammar.specs.Chars.{is_name_start, is_name_char, is_char}
 use Rattle.rox_grammar.specs.Runs.{run_end, begins}
-use Rattle.rox_grammar.specs.Names.{byte, slice, IsName}
+use Rattle.rox_grammar.specs.Names.{byte, slice}
 use Rattle.rox_grammar.specs.References.{is_digit, is_hex_digit, number, bytes_end, character, predefined, IsNumber, IsReference, IsCharacter, decimal, hexadecimal, named}
-use Rattle.rox_reading.specs.Lexical.{Read, ◌>>=◌}
-use Rattle.rox_reading.specs.Values.{Reference, character_of, entity_at, named_or, number_at, name_reference_at, reference_at, expanded, expansion_at}
+use Rattle.rox_reading.specs.Values.{Reference, character_of, named_or, number_at, name_reference_at, reference_at, expanded, expansion_at}
 use Rattle.rox_theory.proofs.Basics.{ok_same, bind_ok, chosen, within, run_end_le}
 use Rattle.rox_theory.proofs.NameLemmas.{begins_here}
 use Rattle.rox_theory.proofs.CharLemmas.{run_within}
 
+-- a stretch of bytes goes forwards
 bytes_end_le : (p : ℕ → Bool) (src : List ℕ) (i : ℕ) → i ≤ bytes_end p src i
 unfolding bytes_end
 bytes_end_le p src i = omega arith
 
+-- each byte of a stretch passes
 bytes_pass : (p : ℕ → Bool) (src : List ℕ) (i k : ℕ) → i ≤ k → k < bytes_end p src i → p (byte src k) ≡ true
 unfolding bytes_end
 bytes_pass p src i k from below =
@@ -30,6 +29,7 @@ bytes_pass p src i k from below =
     let q = prefix_len_passes p (drop i src) (k - i) 0 (omega arith) in
     subst (λ (m : ℕ). p (get_or src m 0) ≡ true) e (rw get_or-drop at q)
 
+-- a number that is read stands there
 number_sound : (base : ℕ) (is : ℕ → Bool) (src : List ℕ) (i d : ℕ) (x : Reference × ℕ) → number_at base is src i d ≡ Ok x
     → (c : ℕ) × IsNumber base is src d (bytes_end is src d) c x.1 × (x.0 ≡ character_of c)
 unfolding number_at
@@ -48,6 +48,7 @@ number_sound base is src i d x h =
     ))
     (λ fails h. cc)) (λ ill h. cc)))
 
+-- a number that stands there is read
 number_complete : (base : ℕ) (is : ℕ → Bool) (src : List ℕ) (i d e c j : ℕ) → IsNumber base is src d e c j → number_at base is src i d ≡ Ok (character_of c, j)
 unfolding number_at
 number_complete base is src i d e c j m =
@@ -60,13 +61,16 @@ number_complete base is src i d e c j m =
     let next = m.next in
     rw (← l, apart, small, ← k, a, closes, next) refl
 
+-- a name that stands for bytes is predefined
 expanded_ok : (i : ℕ) (span : Span) (o : Option ℕ) (bytes : List ℕ) → expanded i (named_or o span) ≡ Ok bytes → (c : ℕ) × (o ≡ Some c) × (bytes ≡ encode_utf8 c)
 expanded_ok i span None bytes h = cc h
 expanded_ok i span (Some c) bytes h = (c, refl, sym (ok_same _ _ h))
 
+-- a reference to a character stands for the bytes of it
 of_character : (i : ℕ) (r : Reference) (c : ℕ) (bytes : List ℕ) → r ≡ character_of c → expanded i r ≡ Ok bytes → bytes ≡ encode_utf8 c
 of_character i r c bytes is h = sym (ok_same _ _ (rw is at h))
 
+-- a reference that is read to bytes is one to a character
 pub expansion_sound : (src : List ℕ) (i : ℕ) (x : List ℕ × ℕ) → byte src i ≡ 38 → expansion_at src i ≡ Ok x → (c : ℕ) × IsCharacter src i c x.1 × (x.0 ≡ encode_utf8 c)
 unfolding expansion_at reference_at name_reference_at
 expansion_sound src i x amp h =
@@ -103,19 +107,23 @@ expansion_sound src i x amp h =
     (λ fails read. cc))
     (λ fails read. cc))))
 
+-- no name begins with `#`
 no_hash : is_name_start 35 ≡ false
 unfolding is_name_start
 no_hash = refl
 
+-- where a name begins, no `#` stands
 name_no_hash : (src : List ℕ) (i : ℕ) → begins is_name_start src i ≡ true → byte src i ≢ 35
 name_no_hash src i starts hash =
     let b = begins_here is_name_start src i (within src i (λ z. omega arith)) (omega arith) in
     let f : begins is_name_start src i ≡ false = b ∙ rw hash no_hash in
     false≢true (sym f ∙ starts)
 
+-- the decimal digits
 digit_range : (b : ℕ) → is_digit b ≡ true → (48 ≤ b) × (b ≤ 57)
 digit_range b h = let both = and_parts (leb 48 b) (leb b 57) h in (leb-true _ _ both.0, leb-true _ _ both.1)
 
+-- a reference to a character is read
 pub expansion_complete : (src : List ℕ) (i c j : ℕ) → IsCharacter src i c j → expansion_at src i ≡ Ok (encode_utf8 c, j)
 unfolding expansion_at reference_at name_reference_at
 expansion_complete src i c j (decimal _ e _ _ amp hash m) =
@@ -137,6 +145,7 @@ expansion_complete src i c j (named _ n _ _ r is) =
     let next = r.next in
     rw (t, starts, ← l, closes, is, next) refl
 
+-- a reference begins with `&`, and has a byte
 pub character_opens : (src : List ℕ) (i c j : ℕ) → IsCharacter src i c j → (byte src i ≡ 38) × (i < j)
 character_opens src i c j (decimal _ e _ _ amp hash m) = let some = m.some in let next = m.next in (amp, omega arith)
 character_opens src i c j (hexadecimal _ e _ _ amp hash hex m) = let some = m.some in let next = m.next in (amp, omega arith)
@@ -146,22 +155,26 @@ character_opens src i c j (named _ n _ _ r is) = let l = r.name.longest in let n
 abbrev pub IsStop : ℕ → Type 0
 IsStop b = (b ≡ 60) ⊎ ((b ≡ 39) ⊎ (b ≡ 34))
 
+-- a stop is in no name
 stop_no_name : (b : ℕ) → IsStop b → is_name_char b ≡ false
 unfolding is_name_char is_name_start
 stop_no_name b (inl h) = rw h refl
 stop_no_name b (inr (inl h)) = rw h refl
 stop_no_name b (inr (inr h)) = rw h refl
 
+-- a stop is no hexadecimal digit
 stop_no_hex : (b : ℕ) → IsStop b → is_hex_digit b ≡ false
 stop_no_hex b (inl h) = rw h refl
 stop_no_hex b (inr (inl h)) = rw h refl
 stop_no_hex b (inr (inr h)) = rw h refl
 
+-- a stop is no digit
 stop_no_digit : (b : ℕ) → IsStop b → is_digit b ≡ false
 stop_no_digit b (inl h) = rw h refl
 stop_no_digit b (inr (inl h)) = rw h refl
 stop_no_digit b (inr (inr h)) = rw h refl
 
+-- a stop is ASCII, and none of `;`, `#`, `x` and `&`
 stop_apart : (b : ℕ) → IsStop b → (b < 128) × (b ≢ 59) × (b ≢ 35) × (b ≢ 120) × (b ≢ 38)
 stop_apart b (inl h) = (omega arith, λ z. omega arith, λ z. omega arith, λ z. omega arith, λ z. omega arith)
 stop_apart b (inr (inl h)) = (omega arith, λ z. omega arith, λ z. omega arith, λ z. omega arith, λ z. omega arith)

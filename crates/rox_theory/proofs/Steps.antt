@@ -1,5 +1,5 @@
 -- One step, apart from its limits.
-use Rattle.std.proofs.Common.{◌≡◌, ℕ, ◌+◌, ◌<◌, ◌≤◌, ◌==◌, Bool, true, false, not, cond, nat_le, List, [], ◌++◌, length, Result, Ok, Err, refl, sym, ap, ◌∙◌, subst, arith, le-leb, leb-true}
+use Rattle.std.proofs.Common.{◌≡◌, ℕ, ◌+◌, ◌<◌, ◌≤◌, ◌==◌, Bool, true, false, not, nat_le, List, [], ◌++◌, length, Result, Ok, refl, sym, ap, ◌∙◌, subst, arith, le-leb, leb-true}
 use Rattle.std.specs.List.{list_any}
 use Rattle.std.proofs.lemmas.List.{append-nil}
 use Rattle.std.proofs.lemmas.Bool.{and_parts, and_from}
@@ -12,31 +12,25 @@ use Rattle.rox_grammar.specs.Names.{byte}
 use Rattle.rox_grammar.specs.Content.{IsTag, literals, line_ends}
 use Rattle.rox_grammar.specs.WellNamed.{ItemWellNamed}
 use Rattle.rox_grammar.specs.Document.{no_entities, listable, own_pairs, own_attributes, with_new, distinct_pairs, most_attributes, most_pairs}
-use Rattle.rox_reading.specs.Lexical.{◌>>=◌}
 use Rattle.rox_reading.specs.Markup.{comment_at, Instruction, instruction_at, cdata_at, EndTag, end_tag_at}
 use Rattle.rox_reading.specs.Values.{RunText, run_at}
 use Rattle.rox_reading.specs.Tags.{tag_at}
 use Rattle.rox_reading.specs.State.{Open, root, inside, State, scope_of, nodes_so_far, attributes_so_far, pairs_so_far}
 use Rattle.rox_reading.specs.Machine.{counted, with_item, run_step, comment_step, cdata_step, instruction_step, end_step, tag_step, opened_by, closed_by, cut_off, same_name, step}
 use Rattle.rox_reading.proofs.Forests.{attribute_count-merge, pairs-merge, named-merge, merge-named}
+use Rattle.rox_theory.proofs.Basics.{bind_ok, chosen}
 use Rattle.rox_theory.specs.Agrees.{Agrees}
-use Rattle.rox_theory.specs.Single.{OneTag}
 use Rattle.rox_theory.proofs.Constructions.{Kind, a_run, a_comment, a_cdata, an_instruction, an_end, a_tag, nothing, kind_at, step_by, step_is, Means, kind_means}
 use Rattle.rox_theory.proofs.Standing.{IsFine, distinct-append, distinct-grows, attributes-item, pairs-item, named-item, item-named, nodes-element, nodes-grow}
 
-pub bind_ok : {A B P : Type 0} (r : Result A Fault) (f : A → Result B Fault) (y : B) → (r >>= f) ≡ Ok y → ((x : A) → r ≡ Ok x → f x ≡ Ok y → P) → P
-bind_ok (Ok x) f y h go = go x refl h
-bind_ok (Err e) f y h go = cc h
+-- whatever the limits are, at most one tag stands at a place
+abbrev pub OneTag : List ℕ → Type 0
+OneTag src =
+    (i j k b c d e : ℕ) (s t : Tag) (x y : Bool) → IsTag true no_entities src i j b c x s → IsTag true no_entities src i k d e y t → (j ≡ k) × (s ≡ t) × (x ≡ y)
 
-pub chosen : {X P : Type 0} (b : Bool) (x y z : X) → cond b x y ≡ z → (b ≡ true → x ≡ z → P) → (b ≡ false → y ≡ z → P) → P
-chosen true x y z h holds fails = holds refl h
-chosen false x y z h holds fails = fails refl h
-
+-- a result has one value
 pub ok_one : {A : Type 0} (x y : A) (r : Result A Fault) → r ≡ Ok x → r ≡ Ok y → x ≡ y
 ok_one x y r h k = let e = sym h ∙ k in cc
-
-pub pair_one : {A B : Type 0} (x y : A) (b c : B) → ◌≡◌ {A = A × B} (x, b) (y, c) → (x ≡ y) × (b ≡ c)
-pair_one x y b c k = (ap (λ p. p.0) k, ap (λ p. p.1) k)
 
 -- ---- states
 
@@ -53,9 +47,11 @@ after_tag s j t false = record { at = j; done = Nil; stack = inside s.at t s.don
 abbrev pub closed : ℕ → Forest Item → ℕ → Tag → Forest Item → Open → State
 closed j done start tag before up = record { at = j; done = join before (Cons (Element start j tag) (merge done) Nil); stack = up }
 
+-- what is within the limit is the state itself
 pub counted_fits : (limit : ℕ) (s t : State) → counted limit s ≡ Ok t → (s ≡ t) × (nodes_so_far s.stack s.done ≤ limit)
 counted_fits limit s t h = chosen (nat_le (nodes_so_far s.stack s.done) limit) _ _ _ h (λ fits e. (cc, leb-true _ _ fits)) (λ over e. cc)
 
+-- and the state is within it if its nodes are
 pub fits_counted : (limit : ℕ) (s : State) → nodes_so_far s.stack s.done ≤ limit → counted limit s ≡ Ok s
 fits_counted limit s h = rw (le-leb _ _ h) refl
 
@@ -65,6 +61,7 @@ pub record Adds (s : State) (item : Item) : Type 0 where
   pub pairs : length (with_new (distinct_pairs (pairs_so_far s.stack s.done)) (own_pairs item)) ≤ most_pairs
   pub named : ItemWellNamed (scope_in (scope_of s.stack) item) item
 
+-- one more item keeps a state fine
 pub leaf_fine : (limit : ℕ) (s : State) (j : ℕ) (item : Item) → IsFine limit s → Adds s item → nodes_so_far s.stack (join s.done (leaf item)) ≤ limit → IsFine limit (with_leaf s j item)
 leaf_fine limit s j item fine adds nodes =
     let e : pairs_so_far s.stack (join s.done (leaf item)) ≡ pairs_so_far s.stack s.done ++ own_pairs item = pairs-item s.stack s.done item Nil ∙ ap (λ (ds : List Declaration). pairs_so_far s.stack s.done ++ ds) (append-nil (own_pairs item)) in
@@ -75,6 +72,7 @@ leaf_fine limit s j item fine adds nodes =
       named = named-item s.stack s.done item Nil fine.named adds.named tt;
     }
 
+-- and what is fine with it was fine before
 pub fine_leaf : (limit : ℕ) (s : State) (j : ℕ) (item : Item) → IsFine limit (with_leaf s j item) → IsFine limit s × Adds s item
 fine_leaf limit s j item fine =
     let e : pairs_so_far s.stack (join s.done (leaf item)) ≡ pairs_so_far s.stack s.done ++ own_pairs item = pairs-item s.stack s.done item Nil ∙ ap (λ (ds : List Declaration). pairs_so_far s.stack s.done ++ ds) (append-nil (own_pairs item)) in
@@ -95,6 +93,7 @@ plain_adds : (limit : ℕ) (s : State) (item : Item) → own_attributes item ≡
 plain_adds limit s item no_attributes no_pairs named fine =
     record { attributes = omega (arith, fine.attributes); pairs = rw no_pairs fine.pairs; named = named }
 
+-- so does a start tag
 pub opened_fine : (limit : ℕ) (s : State) (j : ℕ) (tag : Tag) (end : ℕ) → IsFine limit s → Adds s (Element s.at end tag) → nodes_so_far s.stack s.done + 1 ≤ limit → IsFine limit (after_tag s j tag false)
 opened_fine limit s j tag end fine adds nodes =
     record {
@@ -104,6 +103,7 @@ opened_fine limit s j tag end fine adds nodes =
       named = (fine.named, adds.named, tt);
     }
 
+-- and what is fine behind it was fine before
 pub fine_opened : (limit : ℕ) (s : State) (j : ℕ) (tag : Tag) (end : ℕ) → IsFine limit (after_tag s j tag false) → IsFine limit s × Adds s (Element s.at end tag)
 fine_opened limit s j tag end fine =
     let all : length (distinct_pairs (pairs_so_far s.stack s.done ++ listable tag)) ≤ most_pairs = rw (append-nil (listable tag)) at fine.pairs in (
@@ -116,10 +116,12 @@ fine_opened limit s j tag end fine =
       record { attributes = omega (arith, fine.attributes); pairs = rw distinct-append at all; named = fine.named.1 },
     )
 
+-- an end tag leaves the pairs as they are
 closed_pairs : (j : ℕ) (done : Forest Item) (start : ℕ) (tag : Tag) (before : Forest Item) (up : Open)
     → pairs_so_far up (join before (Cons (Element start j tag) (merge done) Nil)) ≡ pairs_so_far (inside start tag before up) done
 closed_pairs j done start tag before up = pairs-item up before (Element start j tag) (merge done) ∙ rw (pairs-merge done) refl
 
+-- an end tag keeps a state fine
 pub closed_fine : (limit i j : ℕ) (done : Forest Item) (start : ℕ) (tag : Tag) (before : Forest Item) (up : Open)
     → IsFine limit (record { at = i; done = done; stack = inside start tag before up }) → IsFine limit (closed j done start tag before up)
 closed_fine limit i j done start tag before up fine =
@@ -130,6 +132,7 @@ closed_fine limit i j done start tag before up fine =
       named = named-item up before (Element start j tag) (merge done) fine.named.0 fine.named.1 (named-merge (listed (scope_of up) tag.declarations) done fine.named.2);
     }
 
+-- and what is fine behind it was fine before
 pub fine_closed : (limit i j : ℕ) (done : Forest Item) (start : ℕ) (tag : Tag) (before : Forest Item) (up : Open)
     → IsFine limit (closed j done start tag before up) → IsFine limit (record { at = i; done = done; stack = inside start tag before up })
 fine_closed limit i j done start tag before up fine =
@@ -148,6 +151,7 @@ abbrev pub Closes : Name → ℕ → Forest Item → Open → State → Type 0
 Closes name j done root t = ⊥
 Closes name j done (inside start tag before up) t = (tag.name ≡ name) × (t ≡ closed j done start tag before up)
 
+-- names that agree byte by byte are one
 same_names : (m n : Name) → same_name m n ≡ true → m ≡ n
 same_names m n h =
     let both = and_parts _ _ h in
@@ -155,6 +159,7 @@ same_names m n h =
     let l : m.local ≡ n.local = (bytes_eq-Decides m.local n.local).0 both.1 in
     rw (p, l) refl
 
+-- and one name agrees with itself
 names_same : (m n : Name) → m ≡ n → same_name m n ≡ true
 names_same m n h = and_from _ _ ((bytes_eq-Decides m.prefix n.prefix).1 (ap (λ (x : Name). x.prefix) h)) ((bytes_eq-Decides m.local n.local).1 (ap (λ (x : Name). x.local) h))
 
@@ -198,6 +203,7 @@ module _ (src : List ℕ) where
         ((same_names tag.name name same, sym e), subst (IsFine limit) e (closed_fine limit i j done start tag before up fine)))
         (λ apart h. cc)
 
+    -- what the tag step reads is a tag
     pub tag_read : (limit most : ℕ) (s t : State) → limit ≤ most → byte src s.at ≡ 60 → IsFine most s → tag_step limit src s ≡ Ok t → By a_tag s t × IsFine most t
     unfolding tag_step
     tag_read limit most s t more here fine h =
@@ -208,6 +214,7 @@ module _ (src : List ℕ) where
         let both = opened_read limit most s t x.1 x.0.0 x.0.1 more fine adds h in
         ((x.0.0, x.1, x.0.1, stands.is_tag, both.0), both.1))
 
+    -- what is read of a kind is of that kind
     by_sound : (limit most : ℕ) (k : Kind) (s t : State) → limit ≤ most → Means src s.at k → s.at < length src → IsFine most s → step_by k limit src s ≡ Ok t → By k s t × IsFine most t
     unfolding run_step comment_step cdata_step instruction_step end_step
     by_sound limit most a_run s t more means within fine h =
@@ -238,15 +245,18 @@ module _ (src : List ℕ) where
     step_sound limit most s t more within fine h =
         by_sound limit most (kind_at src s.at) s t more (kind_means src s.at) within fine (sym (step_is limit src s) ∙ h)
 
+    -- a plain item is read if the limits allow it
     pub read_item : (limit : ℕ) (s t : State) (j : ℕ) (item : Item) → t ≡ with_leaf s j item → IsFine limit t → with_item limit s j item ≡ Ok t
     read_item limit s t j item is fine =
         let here : IsFine limit (with_leaf s j item) = subst (IsFine limit) is fine in
         fits_counted limit (with_leaf s j item) here.nodes ∙ ap Ok (sym is)
 
+    -- what the limits allow behind a tag they allow of the tag
     tag_adds : (limit : ℕ) (s : State) (j : ℕ) (tag : Tag) (empty : Bool) → IsFine limit (after_tag s j tag empty) → IsFine limit s × Adds s (Element s.at j tag)
     tag_adds limit s j tag true fine = fine_leaf limit s j (Element s.at j tag) fine
     tag_adds limit s j tag false fine = fine_opened limit s j tag j fine
 
+    -- the state behind the tag is within the limit
     read_opened : (limit : ℕ) (s : State) (j : ℕ) (tag : Tag) (empty : Bool) → IsFine limit (after_tag s j tag empty) → opened_by limit s tag empty j ≡ Ok (after_tag s j tag empty)
     read_opened limit s j tag true fine = fits_counted limit (with_leaf s j (Element s.at j tag)) fine.nodes
     read_opened limit s j tag false fine = fits_counted limit (after_tag s j tag false) fine.nodes
@@ -258,17 +268,20 @@ module _ (src : List ℕ) where
         let adds = (tag_adds limit s j tag empty (subst (IsFine limit) is fine)).1 in
         (agrees.tag_complete (cut_off s.stack) (scope_of s.stack) (attributes_so_far s.stack s.done) (distinct_pairs (pairs_so_far s.stack s.done)) s.at j 255 255 tag empty (stands 255) adds.named adds.attributes adds.pairs).0
 
+    -- the tag step reads a tag
     pub read_tag : (limit : ℕ) (s t : State) → By a_tag s t → IsFine limit t → tag_step limit src s ≡ Ok t
     unfolding tag_step
     read_tag limit s t (tag, j, empty, stands, is) fine =
         let read = tag_found limit s t (tag, j, empty, stands, is) fine in
         rw read (read_opened limit s j tag empty (subst (IsFine limit) is fine) ∙ ap Ok (sym is))
 
+    -- the end tag of this name is taken
     pub read_closed : (i : ℕ) (name : Name) (n j : ℕ) (done : Forest Item) (stack : Open) (t : State) → Closes name j done stack t → closed_by i name n j done stack ≡ Ok t
     unfolding closed_by
     read_closed i name n j done root t h = absurd h
     read_closed i name n j done (inside start tag before up) t h = rw (names_same tag.name name h.0) (ap Ok (sym h.1))
 
+    -- what is of a kind is read
     by_complete : (limit : ℕ) (k : Kind) (s t : State) → By k s t → IsFine limit t → step_by k limit src s ≡ Ok t
     unfolding run_step comment_step cdata_step instruction_step end_step
     by_complete limit a_run s t (x, j, read, is) fine = rw read (read_item limit s t j _ is fine)
@@ -297,10 +310,12 @@ module _ (src : List ℕ) where
     by_back limit a_tag s t (tag, j, empty, stands, is) fine = (tag_adds limit s j tag empty (subst (IsFine limit) is fine)).0
     by_back limit nothing s t by fine = absurd by
 
+    -- an end tag ends where it says
     closes_at : (name : Name) (j : ℕ) (done : Forest Item) (stack : Open) (t : State) → Closes name j done stack t → t.at ≡ j
     closes_at name j done root t h = absurd h
     closes_at name j done (inside start tag before up) t h = ap (λ (s : State). s.at) h.1
 
+    -- and so does a start tag
     tag_at_end : (s : State) (j : ℕ) (tag : Tag) (empty : Bool) → (after_tag s j tag empty).at ≡ j
     tag_at_end s j tag true = refl
     tag_at_end s j tag false = refl
@@ -320,6 +335,7 @@ module _ (src : List ℕ) where
         omega arith
     by_moves limit nothing s t means within by fine = absurd by
 
+    -- an end tag leads to one state
     closes_one : (m n : Name) (i j : ℕ) (done : Forest Item) (stack : Open) (t u : State) → i ≡ j → Closes m i done stack t → Closes n j done stack u → t ≡ u
     closes_one m n i j done root t u e h k = absurd h
     closes_one m n i j done (inside start tag before up) t u e h k = h.1 ∙ ap (λ (j : ℕ). closed j done start tag before up) e ∙ sym k.1

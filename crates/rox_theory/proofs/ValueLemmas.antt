@@ -1,29 +1,25 @@
 -- The value of an attribute: what is read stands there, and what stands there is read.
-use Rattle.std.proofs.Common.{◌≡◌, ◌≢◌, ℕ, zero, suc, ◌+◌, ◌-◌, ◌<◌, ◌≤◌, ◌==◌, Bool, true, false, not, ◌&&◌, ◌||◌, cond, eqb, leb, ltb, List, [], ◌∷◌, ◌++◌, length, take, refl, sym, ap, ◌∙◌, subst, arith, inl, inr, ◌⊎◌, append_assoc}
-use Rattle.std.specs.Prelude.{Result, Ok, Err}
+use Rattle.std.proofs.Common.{◌≡◌, ◌≢◌, ℕ, zero, suc, ◌+◌, ◌-◌, ◌<◌, ◌≤◌, true, false, ◌||◌, eqb, ltb, List, [], ◌∷◌, ◌++◌, length, take, refl, sym, ap, ◌∙◌, subst, arith, inl, inr, ◌⊎◌}
+use Rattle.std.specs.Prelude.{Ok}
 use Rattle.std.specs.Char.{encode_utf8}
 use Rattle.std.specs.Str.{IsUtf8}
 use Rattle.std.proofs.lemmas.List.{append-nil, get_or-take, get_or_past, length-take-le}
-use Rattle.std.proofs.lemmas.Bool.{not-true, not-false, eqb-true, eqb-false, eq-eqb, ne_eqb, lt-ltb, le-ltb, ltb-true, ltb-false, or_parts, or_from, or_cases, cases_lt, cases_Bool, false≢true}
-use Rattle.rox_grammar.specs.declared.fault.Fault.{Fault}
+use Rattle.std.proofs.lemmas.Bool.{not-true, eqb-true, eqb-false, eq-eqb, ne_eqb, lt-ltb, le-ltb, ltb-true, ltb-false, or_parts, or_from, or_cases, cases_lt, cases_Bool, false≢true}
 use Rattle.rox_grammar.specs.Names.{byte, slice}
 use Rattle.rox_grammar.specs.References.{IsCharacter}
-use Rattle.rox_grammar.specs.Content.{is_plain_value, value_bytes, Value, value_ends, line_end, white, other, a_character, an_entity}
+use Rattle.rox_grammar.specs.Content.{is_plain_value, Value, value_ends, line_end, white, other, a_character, an_entity}
 use Rattle.rox_grammar.specs.Document.{no_entities}
-use Rattle.rox_reading.specs.Lexical.{◌>>=◌}
-use Rattle.rox_reading.specs.Values.{RunText, is_special, expansion_at, value_part_at, value_text, value_at}
+use Rattle.rox_reading.specs.Values.{RunText, is_special, value_part_at, value_text, value_at}
 use Rattle.rox_theory.proofs.Basics.{ok_same, bind_ok, chosen}
 use Rattle.rox_theory.proofs.NameLemmas.{slice_nil}
-use Rattle.rox_theory.proofs.StretchLemmas.{slice_cons, slice_none, next_at, next_bound, next_before, next_more, follows, follows_not}
+use Rattle.rox_theory.proofs.StretchLemmas.{joined, slice_cons, slice_none, next_at, next_bound, next_before, next_more, follows, follows_not}
 use Rattle.rox_theory.proofs.ReferenceLemmas.{IsStop, expansion_sound, expansion_complete, character_opens, character_inside}
-
-joined : (x r v a s : List ℕ) → x ++ r ≡ v → x ≡ a → r ≡ s → a ++ s ≡ v
-joined x r v a s h p q = cc
 
 -- a byte that stands for itself
 abbrev Stays : ℕ → Type 0
 Stays b = (b ≢ 38) × (b ≢ 9) × (b ≢ 10) × (b ≢ 13)
 
+-- a byte that is not special stands for itself
 stays : (b : ℕ) → is_special b ≡ false → Stays b
 stays b h =
     let (amp, blank) = or_parts (eqb b 38) (eqb b 9 || (eqb b 10 || eqb b 13)) h in
@@ -31,6 +27,7 @@ stays b h =
     let (lf, cr) = or_parts (eqb b 10) (eqb b 13) more in
     (eqb-false _ _ amp, eqb-false _ _ tab, eqb-false _ _ lf, eqb-false _ _ cr)
 
+-- a byte that stands for itself is not special
 not_special : (b : ℕ) → Stays b → is_special b ≡ false
 not_special b s = or_from (eqb b 38) (eqb b 9 || (eqb b 10 || eqb b 13)) (ne_eqb _ _ s.0) (or_from (eqb b 9) (eqb b 10 || eqb b 13) (ne_eqb _ _ s.1) (or_from (eqb b 10) (eqb b 13) (ne_eqb _ _ s.2) (ne_eqb _ _ s.3)))
 
@@ -38,6 +35,7 @@ not_special b s = or_from (eqb b 38) (eqb b 9 || (eqb b 10 || eqb b 13)) (ne_eqb
 abbrev IsWhite : List ℕ → ℕ → ℕ → Type 0
 IsWhite src stop i = (byte src i ≡ 9) ⊎ ((byte src i ≡ 10) ⊎ ((byte src i ≡ 13) × ((stop ≡ i + 1) ⊎ (byte src (i + 1) ≢ 10))))
 
+-- white space but CR
 no_return : (b : ℕ) → is_special b ≡ true → eqb b 38 ≡ false → eqb b 13 ≡ false → (b ≡ 9) ⊎ (b ≡ 10)
 no_return b h amp cr =
     let w : (eqb b 9 || (eqb b 10 || false)) ≡ true = rw (amp, cr) at h in
@@ -48,9 +46,11 @@ no_return b h amp cr =
 
 module _ (src : List ℕ) (utf8 : IsUtf8 src) (start stop : ℕ) (long : stop ≤ length src) (closes : stop < length src → IsStop (byte src stop))
     (no_tag : (k : ℕ) → start ≤ k → k < stop → byte src k ≢ 60) where
+  -- the value from i up to the stop, outside replacement texts
   abbrev ValueFrom : ℕ → ℕ → ℕ → List ℕ → Type 0
   ValueFrom i b c v = Value true no_entities src stop i b c v
 
+  -- the value with a stretch of bytes in front that stand for themselves
   stretch_on : (d i j b : ℕ) (v : List ℕ) → start ≤ i → i + d ≡ j → j ≤ stop → ((k : ℕ) → i ≤ k → k < j → is_special (byte src k) ≡ false) → ValueFrom j b b v → ValueFrom i b b (slice src i j ++ v)
   stretch_on zero i j b v from to inside plain p =
       let e : j ≡ i = omega arith in
@@ -60,6 +60,7 @@ module _ (src : List ℕ) (utf8 : IsUtf8 src) (start stop : ℕ) (long : stop �
       let ih = stretch_on d (i + 1) j b v (omega arith) (omega arith) inside (λ k from below. plain k (omega arith) below) p in
       rw (slice_cons src i j (omega arith) (omega arith)) (other i b b (slice src (i + 1) j ++ v) (omega arith) s.0 s.1 s.2 s.3 (no_tag i from (omega arith)) ih)
 
+  -- the value behind a byte that stands for itself
   next_byte : (i b c : ℕ) (v : List ℕ) → i < stop → Stays (byte src i) → ValueFrom i b c v → (rest : List ℕ) × (v ≡ byte src i ∷ rest) × ValueFrom (i + 1) b c rest
   next_byte i b c v below s (value_ends _) = absurd (omega arith)
   next_byte i b c v below s (line_end _ _ _ _ lt cr lf p) = absurd (s.3 cr)
@@ -70,6 +71,7 @@ module _ (src : List ℕ) (utf8 : IsUtf8 src) (start stop : ℕ) (long : stop �
   next_byte i b c v below s (a_character _ n x _ _ rest r inside any p) = absurd (s.0 (character_opens src i x n r).0)
   next_byte i b c v below s (an_entity _ n k _ e _ w rest r none inside opens p) = absurd opens
 
+  -- the value behind a stretch of bytes that stand for themselves
   stretch_off : (d i j b c : ℕ) (v : List ℕ) → i + d ≡ j → j ≤ stop → ((k : ℕ) → i ≤ k → k < j → is_special (byte src k) ≡ false) → ValueFrom i b c v
       → (rest : List ℕ) × ValueFrom j b c rest × (v ≡ slice src i j ++ rest)
   stretch_off zero i j b c v to inside plain p =
@@ -81,6 +83,7 @@ module _ (src : List ℕ) (utf8 : IsUtf8 src) (start stop : ℕ) (long : stop �
       let ih = stretch_off d (i + 1) j b c one.0 (omega arith) inside (λ k from below. plain k (omega arith) below) one.2 in
       (ih.0, ih.1, one.1 ∙ ap (λ (r : List ℕ). byte src i ∷ r) ih.2 ∙ ap (λ (r : List ℕ). r ++ ih.0) (sym (slice_cons src i j (omega arith) (omega arith))))
 
+  -- a text that is read is the value there
   pub value_text_sound : (n i b : ℕ) (v : List ℕ) → start ≤ i → i ≤ stop → stop ≤ i + n → value_text n src stop i ≡ Ok v → ValueFrom i b b v
   unfolding value_text value_part_at
   value_text_sound zero i b v from to enough h =
@@ -95,7 +98,7 @@ module _ (src : List ℕ) (utf8 : IsUtf8 src) (start stop : ℕ) (long : stop �
       let opens = character_opens src i r.0 x.1 r.1 in
       let inside = character_inside src i stop r.0 x.1 utf8 below long closes r.1 in
       let ih = value_text_sound n x.1 b rest (omega arith) inside (omega arith) more in
-      subst (λ (w : List ℕ). ValueFrom i b b w) (joined x.0 rest v (encode_utf8 r.0) rest v_is r.2 refl) (a_character i x.1 r.0 b b rest r.1 inside (inl refl) ih))
+      subst (λ (w : List ℕ). ValueFrom i b b w) (sym (joined x.0 rest v (encode_utf8 r.0) rest v_is r.2 refl)) (a_character i x.1 r.0 b b rest r.1 inside (inl refl) ih))
       (λ no_amp part. chosen (is_special (byte src i)) _ _ _ part
       (λ special part. chosen (eqb (byte src i) 13) _ _ _ part
       (λ cr part. chosen (eqb (byte (take stop src) (i + 1)) 10) _ _ _ part
@@ -105,7 +108,7 @@ module _ (src : List ℕ) (utf8 : IsUtf8 src) (start stop : ℕ) (long : stop �
       let next : i + 1 ≡ x.1 = ap (λ p. p.1) (ok_same _ _ part) in
       let ih = value_text_sound n x.1 b rest (omega arith) (omega arith) (omega arith) more in
       let p = subst (λ (m : ℕ). ValueFrom m b b rest) (sym next) ih in
-      subst (λ (w : List ℕ). ValueFrom i b b w) (joined x.0 rest v [] rest v_is (sym bytes) refl) (line_end i b b rest f.0 (eqb-true _ _ cr) f.1 p))
+      subst (λ (w : List ℕ). ValueFrom i b b w) (sym (joined x.0 rest v [] rest v_is (sym bytes) refl)) (line_end i b b rest f.0 (eqb-true _ _ cr) f.1 p))
       (λ no_lf part.
       let bytes : 32 ∷ [] ≡ x.0 = ap (λ p. p.0) (ok_same _ _ part) in
       let next : i + 1 ≡ x.1 = ap (λ p. p.1) (ok_same _ _ part) in
@@ -113,14 +116,14 @@ module _ (src : List ℕ) (utf8 : IsUtf8 src) (start stop : ℕ) (long : stop �
       let p = subst (λ (m : ℕ). ValueFrom m b b rest) (sym next) ih in
       let alone : (stop ≡ i + 1) ⊎ (byte src (i + 1) ≢ 10) = elim (cases_lt (i + 1) stop) as (λ s. (stop ≡ i + 1) ⊎ (byte src (i + 1) ≢ 10))
       [ inl l ↦ inr (follows_not src stop long (i + 1) no_lf l) | inr g ↦ inl (omega arith) ] in
-      subst (λ (w : List ℕ). ValueFrom i b b w) (joined x.0 rest v (32 ∷ []) rest v_is (sym bytes) refl) (white i b b rest below (inr (inr (eqb-true _ _ cr, alone))) p)))
+      subst (λ (w : List ℕ). ValueFrom i b b w) (sym (joined x.0 rest v (32 ∷ []) rest v_is (sym bytes) refl)) (white i b b rest below (inr (inr (eqb-true _ _ cr, alone))) p)))
       (λ no_cr part.
       let bytes : 32 ∷ [] ≡ x.0 = ap (λ p. p.0) (ok_same _ _ part) in
       let next : i + 1 ≡ x.1 = ap (λ p. p.1) (ok_same _ _ part) in
       let ih = value_text_sound n x.1 b rest (omega arith) (omega arith) (omega arith) more in
       let p = subst (λ (m : ℕ). ValueFrom m b b rest) (sym next) ih in
       let is : IsWhite src stop i = elim (no_return (byte src i) special no_amp no_cr) as (λ s. IsWhite src stop i) [ inl t ↦ inl t | inr l ↦ inr (inl l) ] in
-      subst (λ (w : List ℕ). ValueFrom i b b w) (joined x.0 rest v (32 ∷ []) rest v_is (sym bytes) refl) (white i b b rest below is p)))
+      subst (λ (w : List ℕ). ValueFrom i b b w) (sym (joined x.0 rest v (32 ∷ []) rest v_is (sym bytes) refl)) (white i b b rest below is p)))
       (λ plain part.
       let bytes : slice src i (next_at src stop is_special i) ≡ x.0 = ap (λ p. p.0) (ok_same _ _ part) in
       let next : next_at src stop is_special i ≡ x.1 = ap (λ p. p.1) (ok_same _ _ part) in
@@ -128,22 +131,25 @@ module _ (src : List ℕ) (utf8 : IsUtf8 src) (start stop : ℕ) (long : stop �
       let progress = next_more src stop long is_special i below plain in
       let ih = value_text_sound n x.1 b rest (omega arith) (omega arith) (omega arith) more in
       let p = subst (λ (m : ℕ). ValueFrom m b b rest) (sym next) ih in
-      subst (λ (w : List ℕ). ValueFrom i b b w) (joined x.0 rest v (slice src i (next_at src stop is_special i)) rest v_is (sym bytes) refl)
+      subst (λ (w : List ℕ). ValueFrom i b b w) (sym (joined x.0 rest v (slice src i (next_at src stop is_special i)) rest v_is (sym bytes) refl))
       (stretch_on (next_at src stop is_special i - i) i (next_at src stop is_special i) b rest from (omega arith) bound (λ k from lt. next_before src stop long is_special i k to from lt) p))))))
       (λ past h.
       let e : stop ≡ i = omega (arith, ltb-false _ _ past) in
       subst (λ (m : ℕ). ValueFrom m b b v) e (subst (λ (w : List ℕ). ValueFrom stop b b w) (ok_same _ _ h) (value_ends b)))
 
+  -- a part is read, and then the rest
   text_on : (n i m : ℕ) (bytes rest : List ℕ) → i < stop → value_part_at src stop i ≡ Ok (bytes, m) → value_text n src stop m ≡ Ok rest → value_text (suc n) src stop i ≡ Ok (bytes ++ rest)
   unfolding value_text
   text_on n i m bytes rest below part more = let here = lt-ltb i stop below in rw (here, part, more) refl
 
+  -- a CR before a LF is read to nothing
   line_end_part : (i : ℕ) → i + 1 < stop → byte src i ≡ 13 → byte src (i + 1) ≡ 10 → value_part_at src stop i ≡ Ok ([], i + 1)
   unfolding value_part_at
   line_end_part i below cr lf =
       let t : byte (take stop src) (i + 1) ≡ byte src (i + 1) = get_or-take stop src (i + 1) 0 below in
       rw (t, cr, lf) refl
 
+  -- white space is read to a space
   white_part : (i : ℕ) → i < stop → IsWhite src stop i → value_part_at src stop i ≡ Ok (32 ∷ [], i + 1)
   unfolding value_part_at
   white_part i below (inl tab) = rw tab refl
@@ -156,6 +162,7 @@ module _ (src : List ℕ) (utf8 : IsUtf8 src) (start stop : ℕ) (long : stop �
       [ inl lf ↦ absurd (apart (follows src stop long (i + 1) lf).1) | inr f ↦ f ] in
       rw (t, cr) refl
 
+  -- a reference to a character is read
   reference_part : (i c m : ℕ) → IsCharacter src i c m → value_part_at src stop i ≡ Ok (encode_utf8 c, m)
   unfolding value_part_at
   reference_part i c m r =
@@ -163,6 +170,7 @@ module _ (src : List ℕ) (utf8 : IsUtf8 src) (start stop : ℕ) (long : stop �
       let one = expansion_complete src i c m r in
       rw amp one
 
+  -- a stretch of bytes that stand for themselves is read
   plain_part : (i : ℕ) → Stays (byte src i) → value_part_at src stop i ≡ Ok (slice src i (next_at src stop is_special i), next_at src stop is_special i)
   unfolding value_part_at
   plain_part i s =
@@ -170,6 +178,7 @@ module _ (src : List ℕ) (utf8 : IsUtf8 src) (start stop : ℕ) (long : stop �
       let plain = not_special (byte src i) s in
       rw (plain, amp) refl
 
+  -- the value there is read, and opens nothing
   pub value_text_complete : (n i b c : ℕ) (v : List ℕ) → i ≤ stop → stop ≤ i + n → ValueFrom i b c v → (value_text n src stop i ≡ Ok v) × (b ≡ c)
   unfolding value_text
   value_text_complete zero i b c v to enough (value_ends _) = (refl, refl)
@@ -200,13 +209,16 @@ module _ (src : List ℕ) (utf8 : IsUtf8 src) (start stop : ℕ) (long : stop �
       (text_on n i m (encode_utf8 x) rest (omega arith) (reference_part i x m r) ih.0, ih.1)
   value_text_complete (suc n) i b c v to enough (an_entity _ m k _ e _ w rest r none inside opens p) = absurd opens
 
+  -- at the stop nothing is read
   nothing : (v : List ℕ) → value_text 0 src stop stop ≡ Ok v → v ≡ []
   unfolding value_text
   nothing v h = sym (ok_same _ _ h)
 
+  -- at the stop the value is empty
   nothing_left : (b c : ℕ) (v : List ℕ) → ValueFrom stop b c v → (v ≡ []) × (b ≡ c)
   nothing_left b c v p = let r = value_text_complete 0 stop b c v (omega arith) (omega arith) p in (nothing v r.0, r.1)
 
+  -- a value that is read stands there
   pub value_sound : (x : RunText) (b : ℕ) → start ≤ stop → value_at src start stop ≡ Ok x → ValueFrom start b b x.value × (x.plain ≡ is_plain_value (slice src start stop))
   unfolding value_at
   value_sound x b le h = chosen (is_plain_value (slice src start stop)) _ _ _ h
@@ -219,6 +231,7 @@ module _ (src : List ℕ) (utf8 : IsUtf8 src) (start stop : ℕ) (long : stop �
       let s = value_text_sound (stop - start) start b v (omega arith) le (omega arith) text in
       subst (λ (y : RunText). ValueFrom start b b y.value × (y.plain ≡ is_plain_value (slice src start stop))) e (s, sym marked)))
 
+  -- a value that stands there is read, and opens nothing
   pub value_complete : (b c : ℕ) (v : List ℕ) → start ≤ stop → ValueFrom start b c v → (value_at src start stop ≡ Ok (record { value = v; plain = is_plain_value (slice src start stop) })) × (b ≡ c)
   unfolding value_at
   value_complete b c v le p =

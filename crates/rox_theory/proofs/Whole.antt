@@ -1,47 +1,55 @@
 -- Reading a whole text is its grammar.
-use Rattle.std.proofs.Common.{◌≡◌, ℕ, ◌+◌, ◌-◌, ◌≤◌, ◌==◌, Bool, true, false, nat_lt, List, [], ◌++◌, length, Ok, refl, sym, ap, ◌∙◌, subst, arith, ltb-false, le-ltb, eqb-true, eq-eqb}
+use Rattle.std.proofs.Common.{◌≡◌, ℕ, ◌+◌, ◌-◌, ◌≤◌, ◌==◌, Bool, true, false, nat_lt, List, [], ◌++◌, length, Ok, Err, refl, sym, ap, ◌∙◌, subst, arith, ltb-false, le-ltb, eqb-true, eq-eqb}
 use Rattle.std.specs.Str.{IsUtf8}
 use Rattle.rox_grammar.specs.declared.fault.Word.TheVariants as word
+use Rattle.rox_grammar.specs.declared.fault.Fault.{Fault}
 use Rattle.rox_grammar.specs.Forest.{Forest, Nil, Cons, join, size}
+use Rattle.rox_grammar.specs.Tree.{Node, document_tree}
 use Rattle.rox_grammar.specs.Written.{Item, Element, merge}
 use Rattle.rox_grammar.specs.Names.{byte}
 use Rattle.rox_grammar.specs.Constructs.{at}
 use Rattle.rox_grammar.specs.Content.{IsMisc, comment, instruction, IsElement, empty, nest}
-use Rattle.rox_grammar.specs.Document.{no_entities, after_bom, Misc, no_misc, space, an_item, ParseOf, IsWithinLimits, pairs, distinct_pairs, most_pairs}
+use Rattle.rox_grammar.specs.Document.{no_entities, after_bom, Misc, no_misc, space, an_item, ParseOf, IsWithinLimits, IsTreeOf, pairs, distinct_pairs, most_pairs}
 use Rattle.rox_reading.specs.State.{root, State}
 use Rattle.rox_reading.specs.Machine.{tag_step, drive, misc, body, finished, prolog, reading}
 use Rattle.rox_reading.proofs.Forests.{join-nil, join_assoc, size-join, merge-more, pairs-join, attribute_count-join, named-left}
 use Rattle.rox_theory.specs.Agrees.{Agrees}
-use Rattle.rox_theory.specs.Single.{OneTag}
+use Rattle.rox_theory.proofs.Basics.{bind_ok, chosen}
 use Rattle.rox_theory.proofs.Constructions.{a_tag}
 use Rattle.rox_theory.proofs.Standing.{IsFine, distinct-grows}
-use Rattle.rox_theory.proofs.Steps.{bind_ok, chosen, ok_one, tag_read, read_tag, by_one}
+use Rattle.rox_theory.proofs.Steps.{OneTag, ok_one, tag_read, read_tag, by_one}
 use Rattle.rox_theory.proofs.Chains.{state, Drives, drive_sound, drive_complete, drives_back, drives_one, root_drives}
 use Rattle.rox_theory.proofs.Derivations.{root_element}
 use Rattle.rox_theory.proofs.Around.{Stops, fine_at, element_stops, end_stops, ends_cut, element_ends, bom_cut, misc_sound, misc_complete, prolog_sound, prolog_complete, prolog_cut}
 
 -- ---- no text stands at the top
 
+-- comments and instructions in front are merged as they stand
 misc_merged : (src : List ℕ) (i j : ℕ) (items more : Forest Item) → Misc src i j items → merge more ≡ more → merge (join items more) ≡ join items more
 misc_merged src i j items more (no_misc _) h = h
 misc_merged src i j items more (space _ _ _ is rest) h = misc_merged src (i + 1) j items more rest h
 misc_merged src i j items more (an_item _ k _ item others is rest) h = item_merged item is (misc_merged src k j others more rest h)
   where
+    -- one of them
     item_merged : (item : Item) → IsMisc src i k item → merge (join others more) ≡ join others more → merge (Cons item Nil (join others more)) ≡ Cons item Nil (join others more)
     item_merged item (comment _ e _ is) h = ap (Cons item Nil) h
     item_merged item (instruction _ n e _ is) h = ap (Cons item Nil) h
 
+-- so is an element
 element_merged : (src : List ℕ) (i j b c : ℕ) (one more : Forest Item) → IsElement true no_entities src i j b c one → merge more ≡ more → merge (join one more) ≡ join one more
 element_merged src i j b c one more (empty _ _ _ _ t tag) h = ap (Cons (Element i j t) Nil) h
 element_merged src i j b c one more (nest _ k m p _ _ d _ t kids tag inner end) h = ap (Cons (Element i j t) (merge kids)) h
 
+-- an element is a node at least
 element_size : (src : List ℕ) (i j b c : ℕ) (one : Forest Item) → IsElement true no_entities src i j b c one → 1 ≤ size one
 element_size src i j b c one (empty _ _ _ _ t tag) = omega arith
 element_size src i j b c one (nest _ k m p _ _ d _ t kids tag inner end) = omega arith
 
+-- the size of a row of three
 size_three : (t a b c : Forest Item) → t ≡ join a (join b c) → size t ≡ size a + (size b + size c)
 size_three t a b c is = rw is (omega (arith, size-join a (join b c), size-join b c))
 
+-- a document is merged as it stands
 top_merged : (src : List ℕ) (i j k l b c : ℕ) (before one after : Forest Item) → Misc src i j before → IsElement true no_entities src j k b c one → Misc src k l after
     → merge (join before (join one after)) ≡ join before (join one after)
 top_merged src i j k l b c before one after first element last =
@@ -60,14 +68,17 @@ module _ (src : List ℕ) (agrees : Agrees src) where
     pub is_tree : t ≡ join (join before one) after
     pub fine : IsFine most (state (length src) t root)
 
+  -- a text that is read has come to its end
   finished_is : (v : State) (t : Forest Item) → finished src (v, true) ≡ Ok t → (length src ≤ v.at) × (v.done ≡ t)
   unfolding finished
   finished_is v t h = chosen (nat_lt v.at (length src)) _ _ _ h (λ more h. cc) (λ all h. (ltb-false _ _ all, cc))
 
+  -- with no element none is read
   unfinished : (v : State) (t : Forest Item) → finished src (v, false) ≡ Ok t → ⊥
   unfolding finished
   unfinished v t h = chosen (nat_lt v.at (length src)) _ _ _ h (λ more h. cc) (λ all h. cc)
 
+  -- what is read from the root element on stands there
   body_sound : (limit most i : ℕ) (before t : Forest Item) (x : State × Bool) → limit ≤ most → IsUtf8 src → IsFine most (state i before root) → body limit src (state i before root) ≡ Ok x → finished src x ≡ Ok t
       → Found most i before t
   unfolding body
@@ -97,6 +108,7 @@ module _ (src : List ℕ) (agrees : Agrees src) where
       }))))
       (λ none h. let e : (s, false) ≡ x = cc in absurd (unfinished s t (rw (← e) at last)))
 
+  -- what is read is a parse within the limits
   pub read_is_parse : (limit : ℕ) (t : Forest Item) → IsUtf8 src → reading limit src ≡ Ok t → ParseOf src t × IsWithinLimits limit t
   unfolding reading
   read_is_parse limit t utf8 h =
@@ -143,10 +155,12 @@ module _ (src : List ℕ) (agrees : Agrees src) where
         named = named-left [] front back fine.named;
       }
 
+  -- at the end the text is read
   finishes : (done : Forest Item) → finished src (state (length src) done root, true) ≡ Ok done
   unfolding finished
   finishes done = rw (le-ltb (length src) (length src) (omega arith)) refl
 
+  -- what stands there from the root element on is read
   body_complete : (limit i j b c : ℕ) (before one after : Forest Item) → IsElement true no_entities src i j b c one → Misc src j (length src) after → IsFine limit (state (length src) (join (join before one) after) root)
       → body limit src (state i before root) ≡ Ok (state (length src) (join (join before one) after) root, true)
   unfolding body
@@ -159,6 +173,7 @@ module _ (src : List ℕ) (agrees : Agrees src) where
       let rest = misc_complete src agrees (length src) limit j (length src) after (join before one) last (end_stops src) (omega (arith, fine.nodes)) (omega arith) in
       rw (eq-eqb _ _ (element_stops src i j b c one element).0, read, driven, rest) refl
 
+  -- a parse within the limits is read
   pub parse_is_read : (limit : ℕ) (t : Forest Item) → ParseOf src t → IsWithinLimits limit t → reading limit src ≡ Ok t
   unfolding reading
   parse_is_read limit t p within =
@@ -174,6 +189,7 @@ module _ (src : List ℕ) (agrees : Agrees src) where
       let main = body_complete limit p.start p.end 255 p.left p.before p.one p.after p.element p.misc_after fine in
       rw (declared, first, stops.1, main, finishes (join (join p.before p.one) p.after)) (ap Ok (sym tree))
 
+  -- comments and instructions up to a stop are read in one way
   one_misc : (h i j k : ℕ) (xs ys : Forest Item) → h ≡ i → Misc src h j xs → Stops src j → Misc src i k ys → Stops src k → (j ≡ k) × (xs ≡ ys)
   one_misc h i j k xs ys same m stops n stops' =
       let limit = (size (merge xs) + 1) + (size (merge ys) + 1) in
@@ -183,6 +199,7 @@ module _ (src : List ℕ) (agrees : Agrees src) where
       let e = ok_one (state j xs root) (state k ys root) _ x y in
       (ap (λ (s : State). s.at) e, ap (λ (s : State). s.done) e)
 
+  -- an element is read in one way
   one_element : OneTag src → (h i j k b c d e : ℕ) (xs ys : Forest Item) → h ≡ i → IsElement true no_entities src h j b c xs → IsElement true no_entities src i k d e ys → (j ≡ k) × (xs ≡ ys)
   one_element one h i j k b c d e xs ys same x y =
       let x' : IsElement true no_entities src i j b c xs = subst (λ (i : ℕ). IsElement true no_entities src i j b c xs) same x in
@@ -192,6 +209,7 @@ module _ (src : List ℕ) (agrees : Agrees src) where
       let u = drives_one src agrees one first.0 (state j xs root) (state k ys root) first.2 (subst (λ (t : State). Drives src t (state k ys root)) t second.2) in
       (ap (λ (s : State). s.at) u, ap (λ (s : State). s.done) u)
 
+  -- a text has at most one parse
   pub one_parse : OneTag src → (s t : Forest Item) → ParseOf src s → ParseOf src t → s ≡ t
   one_parse one s t p q =
       let declared = ok_one p.declared_to q.declared_to (prolog src (after_bom src)) (prolog_complete src agrees (after_bom src) p.declared_to p.declaration) (prolog_complete src agrees (after_bom src) q.declared_to q.declaration) in
@@ -200,3 +218,11 @@ module _ (src : List ℕ) (agrees : Agrees src) where
       let element = one_element one p.start q.start p.end q.end 255 p.left 255 q.left p.one q.one before.0 p.element q.element in
       let after = one_misc p.end q.end (length src) (length src) p.after q.after element.0 p.misc_after (end_stops src) q.misc_after (end_stops src) in
       p.is_tree ∙ rw (before.1, element.1, after.1) refl ∙ sym q.is_tree
+
+  -- a text that is refused has no parse within the limits
+  pub refused_has_none : (limit : ℕ) (f : Fault) (t : Forest Item) → reading limit src ≡ Err f → ParseOf src t → IsWithinLimits limit t → ⊥
+  refused_has_none limit f t h p within = let read = parse_is_read limit t p within in cc (sym h ∙ read)
+
+  -- and its readers see one tree
+  pub one_tree : OneTag src → (limit most : ℕ) (s t : Forest Node) → IsTreeOf src limit s → IsTreeOf src most t → s ≡ t
+  one_tree one limit most s t p q = p.shown ∙ ap (document_tree (length src)) (one_parse one p.written q.written p.parse q.parse) ∙ sym q.shown

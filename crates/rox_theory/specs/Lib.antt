@@ -1,2 +1,1 @@
 pub mod Agrees
-pub mod Single

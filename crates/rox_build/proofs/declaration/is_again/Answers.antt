@@ -1,0 +1,14 @@
+use Rattle.std.proofs.Common.{◌≡◌, ◌&&◌, ◌||◌, sym, ap, ◌∙◌, map, List}
+use Rattle.rox_grammar.specs.Written.{Declaration}
+use Rattle.rox_grammar.specs.Tree.{is_declared}
+use Rattle.rox_grammar.specs.WellNamed.{is_xml}
+use Rattle.rox_build.specs.Lines.{declaration}
+use Rattle.rox_reading.specs.Tags.{listable_of}
+use Rattle.rox_build.specs.Scopes.{prefix_view}
+use Rattle.rox_build.proofs.Listing.{is_declared-own}
+use Rattle.rox_build.proofs.declaration.is_again.Goals as goal
+
+pub returns : goal.returns
+returns c = λ ds xml_is own_is.
+    let p = prefix_view c.args.prefix in
+    c.is_own.ensures ∙ ap (λ xs. is_declared p xs || (c.args.xml && is_xml p)) own_is ∙ ap (λ b. is_declared p (listable_of ds) || (b && is_xml p)) xml_is ∙ sym (is_declared-own ds p)

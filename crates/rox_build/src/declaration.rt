@@ -1,0 +1,137 @@
+//! The declarations of a start tag, one by one (XML 1.0 section 3.1, Namespaces in XML 1.0 section 3).
+
+ghost use Rattle.std.specs.Prelude.{◌≡◌, ◌<◌, ◌≤◌, ◌+◌, ◌-◌, ◌^◌, List, ℕ, length, map, Ok, Err};
+ghost use Rattle.rox_grammar.specs.declared.fault.Span.{Span as SpecSpan};
+ghost use Rattle.rox_grammar.specs.Written.{Attribute, Declaration, Name, declares, local_span, prefix_span};
+ghost use Rattle.rox_grammar.specs.Document.{most_pairs};
+ghost use Rattle.rox_reading.specs.Tags as spec;
+ghost use Rattle.rox_scan.specs.Gives.{name_view};
+ghost use Rattle.rox_build.specs.Lines.{declaration};
+ghost use Rattle.rox_build.specs.Scopes.{ArePlaces, entries, prefix_view};
+ghost use Rattle.rox_build.specs.Tags.{taken_view, declares_xml, Declares, Declared};
+ghost use Rattle.rox_grammar.specs.Tree.{is_declared};
+ghost use Rattle.rox_reading.specs.Tags.{Held};
+
+use crate::scope::{XML_URI, XMLNS_URI, is_own, is_xml, place_pair};
+use crate::tables::Namespace;
+use crate::taken::Taken;
+use rox_grammar::fault::{Fault, Span};
+use rox_scan::cursor::QName;
+use rox_scan::failure::Failure;
+
+/// Where the local part of a name stands that ends at `end`.
+#[inline]
+pub fn local_span(local: &str, end: usize) -> Span
+    ensures { (n : Name) → n.local ≡ local.now → result ≡ local_span n end }
+{
+    Span { start: end.saturating_sub(local.len()), end }
+}
+
+/// Where the prefix of a name stands that begins at `start`.
+#[inline]
+pub fn prefix_span(prefix: &str, start: usize) -> Span
+    requires { start < 2 ^ 63 }
+    ensures { (n : Name) → n.prefix ≡ prefix.now → result ≡ prefix_span n start }
+{
+    Span { start, end: start + prefix.len() }
+}
+
+/// Whether the name declares a prefix or the default.
+#[inline]
+pub fn declares(name: QName<'_>) -> bool
+    ensures { result ≡ declares (name_view name.entry) }
+{
+    name.prefix == "xmlns" || name.local == "xmlns"
+}
+
+/// What may not be declared with a prefix.
+fn test_prefix_uri(local: &str, uri: &str, at: usize) -> Result<(), Fault>
+    ensures { (a : Attribute) → a.name.local ≡ local.now → a.value ≡ uri.now → a.start ≡ at → result ≡ spec.prefix_tested a }
+{
+    if uri == XMLNS_URI {
+        return Err(Fault::UnexpectedXmlnsUri(at));
+    }
+    let is_xml = uri == XML_URI;
+    if local == "xml" {
+        return if is_xml { Ok(()) } else { Err(Fault::InvalidXmlPrefixUri(at)) };
+    }
+    if is_xml { Err(Fault::UnexpectedXmlUri(at)) } else { Ok(()) }
+}
+
+/// The same of the default.
+fn test_default_uri(uri: &str, at: usize) -> Result<(), Fault>
+    ensures { (a : Attribute) → a.value ≡ uri.now → a.start ≡ at → result ≡ spec.default_tested a }
+{
+    if uri == XML_URI {
+        return Err(Fault::UnexpectedXmlUri(at));
+    }
+    if uri == XMLNS_URI {
+        return Err(Fault::UnexpectedXmlnsUri(at));
+    }
+    Ok(())
+}
+
+impl<'input> Taken<'input> {
+    ghost use Rattle.rox_build.specs.Tags.{taken_view};
+    ghost use Rattle.rox_grammar.specs.Written.{declaration_of};
+    ghost use Rattle.rox_build.specs.Scopes.{prefix_view};
+
+    /// What may not be declared.
+    fn test_uri(&self) -> Result<(), Fault>
+        ensures { result ≡ spec.uri_tested (taken_view self.now) }
+    {
+        let uri = self.value.as_str();
+        if self.name.prefix == "xmlns" {
+            return test_prefix_uri(self.name.local, uri, self.start);
+        }
+        test_default_uri(uri, self.start)
+    }
+
+    /// The prefix that it declares, or none for the default.
+    #[inline]
+    fn declared_prefix(&self) -> Option<&'input str>
+        ensures { prefix_view result ≡ (declaration_of (taken_view self.now)).prefix }
+    {
+        if self.name.prefix == "xmlns" { Some(self.name.local) } else { None }
+    }
+}
+
+/// Whether the tag, whose own declarations are these listed places and `xml` if the flag says so, declares this prefix, or
+/// the default, already.
+#[inline]
+fn is_again(names: &[Namespace<'_>], own: &[u16], xml: bool, prefix: Option<&str>) -> bool
+    requires { ArePlaces (length names.now) own.now }
+    ensures { (ds : List Declaration) → xml ≡ declares_xml ds → entries (map declaration names.now) own.now ≡ spec.listable_of ds
+        → result ≡ is_declared (prefix_view prefix.entry) ds }
+{
+    is_own(names, own, xml, prefix)
+}
+
+/// A declaration, which is listed unless it is that of `xml`; `own` is where the listed places of the tag begin. Answers
+/// whether the tag declares `xml` now.
+pub fn take_declaration<'input>(
+    names: &mut Vec<Namespace<'input>>,
+    listed: &mut Vec<u16>,
+    own: usize,
+    xml: bool,
+    taken: Taken<'input>,
+) -> Result<bool, Failure>
+    requires places { ArePlaces (length names.old.items) listed.old.items }
+    requires own { own ≤ length listed.old.items }
+    requires few { length names.old.items ≤ most_pairs }
+    ensures { (known : List Declaration) (before : List ℕ) (h : Held) → own ≡ length before
+        → Declares known before (map declaration names.old.items) listed.old.items xml h.own
+        → Declared known before (map declaration names.new.items) listed.new.items result h (spec.declared known (taken_view taken.entry) h) }
+{
+    taken.test_uri()?;
+    let prefix = taken.declared_prefix();
+    if is_again(names.as_slice(), &listed[own..], xml, prefix) {
+        return Err(Failure::Fault(Fault::DuplicatedNamespace(local_span(taken.name.local, taken.name_end), taken.start)));
+    }
+    if is_xml(prefix) {
+        return Ok(true);
+    }
+    let place = place_pair(names, prefix, taken.value)?;
+    listed.push(place)?;
+    Ok(xml)
+}

@@ -1,0 +1,228 @@
+-- Attributes and the end of a start tag: what is read stands there, and what stands there is read.
+use Rattle.std.proofs.Common.{◌≡◌, ◌≢◌, ℕ, ◌+◌, ◌<◌, Bool, true, false, cond, eqb, leb, List, length, refl, sym, ap, ◌∙◌, subst, arith, inl, inr, ◌⊎◌}
+use Rattle.std.specs.Prelude.{Ok}
+use Rattle.std.specs.Str.{IsUtf8}
+use Rattle.std.proofs.lemmas.Bool.{eqb-true, eqb-false, ne_eqb, leb-false, lt-leb, false≢true}
+use Rattle.rox_grammar.specs.Chars.{is_space, is_name_start}
+use Rattle.rox_grammar.specs.Runs.{begins}
+use Rattle.rox_grammar.specs.Written.{Name, Attribute}
+use Rattle.rox_grammar.specs.Names.{byte, spaces_end, IsQName, unprefixed, prefixed, colon_first}
+use Rattle.rox_grammar.specs.Constructs.{IsEq, IsLiteral}
+use Rattle.rox_grammar.specs.Content.{is_plain_value, Value, IsAttribute, TagEnds}
+use Rattle.rox_grammar.specs.Content as content
+use Rattle.rox_grammar.specs.Document.{no_entities}
+use Rattle.rox_reading.specs.Lexical.{byte_at, quote_at, qname_at}
+use Rattle.rox_reading.specs.Markup.{RawAttribute, raw_value_at, attribute_at, Turn, more, opened, closed, turn_at}
+use Rattle.rox_reading.specs.Values.{RunText, value_at}
+use Rattle.rox_reading.specs.Tags.{attribute_with}
+use Rattle.rox_theory.proofs.Basics.{ok_same, bind_ok, chosen, within, run_end_le, byte_sound, byte_complete, chars_sound, chars_complete}
+use Rattle.rox_theory.proofs.NameLemmas.{qname_sound, qname_complete, qname_le, begins_here}
+use Rattle.rox_theory.proofs.LiteralLemmas.{value_stop, value_stop_le, quote_sound, quote_complete, quote_ascii, literal_sound, literal_complete, literal_closes, literal_plain, literal_le}
+use Rattle.rox_theory.proofs.ReferenceLemmas.{IsStop}
+use Rattle.rox_theory.proofs.ValueLemmas.{value_sound, value_complete}
+
+-- an attribute stands there, its value not looked at
+pub record RawStands (src : List ℕ) (i j : ℕ) (raw : RawAttribute) : Type 0 where
+  pub starts : raw.start ≡ i
+  pub is_name : IsQName src i raw.name raw.name_end
+  pub v : ℕ
+  pub eq : IsEq src raw.name_end v
+  pub value_start : raw.value_start ≡ v + 1
+  pub literal : IsLiteral src v raw.value_end j
+
+-- an attribute that is read stands there, its value apart
+pub raw_sound : (src : List ℕ) → IsUtf8 src → (i : ℕ) (x : RawAttribute × ℕ) → attribute_at src i ≡ Ok x → RawStands src i x.1 x.0
+unfolding attribute_at raw_value_at
+raw_sound src utf8 i x h =
+    bind_ok (qname_at src i) _ _ h (λ n named h.
+    bind_ok (byte_at 61 src (spaces_end src n.1)) _ _ h (λ s equals h.
+    bind_ok (quote_at src (spaces_end src s.1)) _ _ h (λ q quoted h.
+    bind_ok (raw_value_at q.0 src q.1) _ _ h (λ t text h.
+    bind_ok (byte_at q.0 src t.1) _ _ h (λ d last h.
+    let eq = byte_sound 61 src (spaces_end src n.1) s equals in
+    let v = spaces_end src s.1 in
+    let quote = quote_sound src v q quoted in
+    let q0 : q.0 ≡ byte src v = quote.1 in
+    let q1 : q.1 ≡ v + 1 = quote.2 in
+    let read = rw (q0, q1) at text in
+    let last = rw q0 at last in
+    let e = value_stop src v in
+    chosen (leb (length src) e) _ _ _ read (λ out z. cc) (λ some read.
+    let c = chars_sound e src (v + 1) t utf8 (value_stop_le src v) read in
+    let t1 : t.1 ≡ e = c.2 in
+    let b = byte_sound (byte src v) src t.1 d last in
+    let same : byte src e ≡ byte src v = rw t1 at b.0 in
+    let l = literal_sound src v quote.0 c.0 same (leb-false _ _ some) in
+    let next : d.1 ≡ e + 1 = rw t1 at b.1 in
+    let x0 : ◌≡◌ {A = RawAttribute × ℕ} (record { start = i; name = n.0; name_end = n.1; value_start = q.1; value_end = t.1 }, d.1) x = ok_same _ _ h in
+    let l' : IsLiteral src v t.1 d.1 = subst (λ (m : ℕ). IsLiteral src v m d.1) (sym t1) (subst (λ (m : ℕ). IsLiteral src v e m) (sym next) l) in
+    subst (λ (y : RawAttribute × ℕ). RawStands src i y.1 y.0) x0
+    (record { starts = refl; is_name = qname_sound src i n named; v = v; eq = record { equals = eq.0; next = ap (spaces_end src) eq.1 }; value_start = q1; literal = l' })))))))
+
+-- an attribute that stands there is read, its value apart
+pub raw_complete : (src : List ℕ) (i j : ℕ) (raw : RawAttribute) → RawStands src i j raw → attribute_at src i ≡ Ok (raw, j)
+unfolding attribute_at raw_value_at
+raw_complete src i j raw r =
+    let n = qname_complete src i raw.name raw.name_end r.is_name in
+    let s = byte_complete 61 src (spaces_end src raw.name_end) r.eq.equals (λ z. omega arith) in
+    let v = r.eq.next in
+    let q = quote_complete src r.v r.literal.quote in
+    let e = literal_complete src r.v raw.value_end j r.literal in
+    let more = lt-leb (length src) raw.value_end r.literal.closes in
+    let c = chars_complete raw.value_end src (r.v + 1) r.literal.chars in
+    let nz = quote_ascii (byte src r.v) r.literal.quote in
+    let b = byte_complete (byte src r.v) src raw.value_end (literal_closes src r.v raw.value_end j r.literal) (λ z. omega arith) in
+    let next = r.literal.next in
+    let start = r.value_start in
+    let i' = r.starts in
+    rw (n, s, ← v, q, e, more, c, b, next, ← start, ← i') refl
+
+-- it has a byte
+raw_le : (src : List ℕ) (i j : ℕ) (raw : RawAttribute) → RawStands src i j raw → i < j
+raw_le src i j raw r =
+    let name_le = qname_le src i raw.name raw.name_end r.is_name in
+    let le = run_end_le is_space src raw.name_end in
+    let le' = run_end_le is_space src (spaces_end src raw.name_end + 1) in
+    let v = r.eq.next in
+    let value = literal_le src r.v raw.value_end j r.literal in
+    let next = r.literal.next in
+    omega arith
+
+-- no name begins with a slash
+no_slash : is_name_start 47 ≡ false
+unfolding is_name_start
+no_slash = refl
+
+-- no name begins with `>`
+no_greater : is_name_start 62 ≡ false
+unfolding is_name_start
+no_greater = refl
+
+-- where a name begins, no byte stands that begins none
+not_start : (src : List ℕ) (i c : ℕ) → 0 < c → c < 128 → is_name_start c ≡ false → begins is_name_start src i ≡ true → byte src i ≢ c
+not_start src i c some ascii none starts is =
+    let b = begins_here is_name_start src i (within src i (λ z. omega arith)) (omega arith) in
+    let f : begins is_name_start src i ≡ false = b ∙ rw is none in
+    false≢true (sym f ∙ starts)
+
+-- no name begins with a slash or `>`
+name_first : (src : List ℕ) (i : ℕ) (name : Name) (j : ℕ) → IsQName src i name j → (byte src i ≢ 47) × (byte src i ≢ 62)
+name_first src i name j (unprefixed _ _ n last) = (not_start src i 47 (omega arith) (omega arith) no_slash n.starts, not_start src i 62 (omega arith) (omega arith) no_greater n.starts)
+name_first src i name j (prefixed _ k _ n colon m last) = (not_start src i 47 (omega arith) (omega arith) no_slash n.starts, not_start src i 62 (omega arith) (omega arith) no_greater n.starts)
+name_first src i name j (colon_first _ _ colon m last) = (λ z. omega arith, λ z. omega arith)
+
+-- what a turn says
+abbrev pub TurnStands : List ℕ → ℕ → Turn → ℕ → Type 0
+TurnStands src i (more raw) j = (i < spaces_end src i) × RawStands src (spaces_end src i) j raw
+TurnStands src i opened j = TagEnds src i false j
+TurnStands src i closed j = TagEnds src i true j
+
+-- what a turn reads stands there
+pub turn_sound : (src : List ℕ) → IsUtf8 src → (i : ℕ) (x : Turn × ℕ) → turn_at src i ≡ Ok x → TurnStands src i x.0 x.1
+unfolding turn_at
+turn_sound src utf8 i x h =
+    let j = spaces_end src i in
+    chosen (leb (length src) j) _ _ _ h (λ out e. cc)
+    (λ inside h. chosen (eqb (byte src j) 47) _ _ _ h
+    (λ slash h. bind_ok (byte_at 62 src (j + 1)) _ _ h (λ b greater h.
+    let c = byte_sound 62 src (j + 1) b greater in
+    let next : b.1 ≡ j + 2 = omega (arith, c.1) in
+    let up_to : ℕ → Turn × ℕ = λ m. (closed, m) in
+    let e : ◌≡◌ {A = Turn × ℕ} (closed, j + 2) x = ap up_to (sym next) ∙ ok_same _ _ h in
+    subst (λ (y : Turn × ℕ). TurnStands src i y.0 y.1) e (content.closed i (eqb-true _ _ slash) c.0)))
+    (λ other h. chosen (eqb (byte src j) 62) _ _ _ h
+    (λ greater e. subst (λ (y : Turn × ℕ). TurnStands src i y.0 y.1) (ok_same _ _ e) (content.opened i (eqb-true _ _ greater)))
+    (λ name h. chosen (eqb j i) _ _ _ h (λ none h. cc)
+    (λ some h. bind_ok (attribute_at src j) _ _ h (λ a read h.
+    let apart = eqb-false _ _ some in
+    let le = run_end_le is_space src i in
+    subst (λ (y : Turn × ℕ). TurnStands src i y.0 y.1) (ok_same _ _ h) (omega arith, raw_sound src utf8 j a read))))))
+
+-- the end of a tag is read
+pub end_complete : (src : List ℕ) (i : ℕ) (empty : Bool) (j : ℕ) → TagEnds src i empty j → turn_at src i ≡ Ok (cond empty closed opened, j)
+unfolding turn_at
+end_complete src i empty j (content.opened _ greater) =
+    let inside = lt-leb (length src) (spaces_end src i) (within src (spaces_end src i) (λ z. omega arith)) in
+    rw (inside, greater) refl
+end_complete src i empty j (content.closed _ slash greater) =
+    let inside = lt-leb (length src) (spaces_end src i) (within src (spaces_end src i) (λ z. omega arith)) in
+    let b = byte_complete 62 src (spaces_end src i + 1) greater (λ z. omega arith) in
+    let next : spaces_end src i + 1 + 1 ≡ spaces_end src i + 2 = omega arith in
+    rw (inside, slash, b, next) refl
+
+-- one more attribute is read
+pub more_complete : (src : List ℕ) (i j : ℕ) (raw : RawAttribute) → i < spaces_end src i → RawStands src (spaces_end src i) j raw → turn_at src i ≡ Ok (more raw, j)
+unfolding turn_at
+more_complete src i j raw some r =
+    let le = raw_le src (spaces_end src i) j raw r in
+    let v = literal_le src r.v raw.value_end j r.literal in
+    let first = name_first src (spaces_end src i) raw.name raw.name_end r.is_name in
+    let name_le = qname_le src (spaces_end src i) raw.name raw.name_end r.is_name in
+    let le' = run_end_le is_space src raw.name_end in
+    let le'' = run_end_le is_space src (spaces_end src raw.name_end + 1) in
+    let v' = r.eq.next in
+    let closes = r.literal.closes in
+    let inside = lt-leb (length src) (spaces_end src i) (omega arith) in
+    let slash = ne_eqb (byte src (spaces_end src i)) 47 first.0 in
+    let greater = ne_eqb (byte src (spaces_end src i)) 62 first.1 in
+    let apart = ne_eqb (spaces_end src i) i (λ z. omega arith) in
+    let one = raw_complete src (spaces_end src i) j raw r in
+    rw (inside, slash, greater, apart, one) refl
+
+-- a quote stops a value
+quote_stop : (b : ℕ) → (b ≡ 39) ⊎ (b ≡ 34) → IsStop b
+quote_stop b (inl h) = inr (inl h)
+quote_stop b (inr h) = inr (inr h)
+
+-- a literal ends where a quote stops it
+literal_stop : (src : List ℕ) (v e j : ℕ) → IsLiteral src v e j → IsStop (byte src e)
+literal_stop src v e j l = rw (literal_closes src v e j l) (quote_stop (byte src v) l.quote)
+
+-- an attribute whose value is read stands there
+pub attribute_sound : (src : List ℕ) → IsUtf8 src → (i j : ℕ) (raw : RawAttribute) (x : RunText) → RawStands src i j raw → value_at src raw.value_start raw.value_end ≡ Ok x
+    → (b : ℕ) → IsAttribute true no_entities src i j b b (attribute_with raw x)
+attribute_sound src utf8 i j raw x r h b =
+    let closes = r.literal.closes in
+    let value = value_sound src utf8 (r.v + 1) raw.value_end (omega arith) (λ z. literal_stop src r.v raw.value_end j r.literal)
+    (literal_plain src r.v raw.value_end j r.literal) x b (literal_le src r.v raw.value_end j r.literal) (rw r.value_start at h) in
+    record {
+      starts = r.starts;
+      is_name = r.is_name;
+      v = r.v;
+      eq = r.eq;
+      e = raw.value_end;
+      literal = r.literal;
+      value_start = r.value_start;
+      end = sym r.literal.next;
+      value = value.0;
+      borrowed = value.1;
+    }
+
+-- the attribute is read from i up to j, and then its value
+abbrev pub AttributeReads : List ℕ → ℕ → ℕ → Attribute → Type 0
+AttributeReads src i j a =
+    (raw : RawAttribute) × (x : RunText) × RawStands src i j raw × (value_at src raw.value_start raw.value_end ≡ Ok x) × (a ≡ attribute_with raw x)
+
+-- an attribute that stands there is read, and opens nothing
+pub attribute_complete : (src : List ℕ) → IsUtf8 src → (i j b c : ℕ) (a : Attribute) → IsAttribute true no_entities src i j b c a → AttributeReads src i j a × (b ≡ c)
+attribute_complete src utf8 i j b c a h =
+    let closes = h.literal.closes in
+    let value = value_complete src utf8 (h.v + 1) h.e (omega arith) (λ z. literal_stop src h.v h.e j h.literal)
+    (literal_plain src h.v h.e j h.literal) b c a.value (literal_le src h.v h.e j h.literal) h.value in
+    let start = h.value_start in
+    let borrowed = h.borrowed in
+    let read : value_at src a.value_start h.e ≡ Ok (record { value = a.value; plain = a.borrowed }) = rw (start, borrowed) value.0 in
+    let end : a.end ≡ h.e + 1 = h.end ∙ h.literal.next in (
+      (
+        record { start = a.start; name = a.name; name_end = a.name_end; value_start = a.value_start; value_end = h.e },
+        record { value = a.value; plain = a.borrowed },
+        record { starts = h.starts; is_name = h.is_name; v = h.v; eq = h.eq; value_start = start; literal = h.literal },
+        read,
+        ap (λ (k : ℕ). record { start = a.start; name_end = a.name_end; value_start = a.value_start; end = k; name = a.name; value = a.value; borrowed = a.borrowed }) end,
+      ),
+      value.1,
+    )
+
+-- an attribute has a byte
+pub attribute_le : (src : List ℕ) → IsUtf8 src → (i j b c : ℕ) (a : Attribute) → IsAttribute true no_entities src i j b c a → i < j
+attribute_le src utf8 i j b c a h = let r = (attribute_complete src utf8 i j b c a h).0 in raw_le src i j r.0 r.2
