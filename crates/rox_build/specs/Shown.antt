@@ -18,7 +18,7 @@ use Rattle.rox_build.specs.SoFar.{top, so_far}
 use Rattle.rox_build.specs.declared.tables.NodeKind.{NodeKind}
 use Rattle.rox_build.specs.declared.tables.NodeData.{NodeData}
 use Rattle.rox_build.specs.declared.tables.ElementTables.{ElementTables}
-use Rattle.rox_build.specs.declared.naming.Scope.{Scope}
+use Rattle.rox_build.specs.declared.tables.Scope.{Scope}
 use Rattle.rox_build.specs.declared.tables.ElementData.{ElementData}
 use Rattle.rox_build.specs.declared.tables.NodeKind.TheVariants as kind
 use Rattle.rox_build.specs.declared.tagging.StartTag.{StartTag}

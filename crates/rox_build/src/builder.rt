@@ -6,10 +6,9 @@ ghost use Rattle.rox_build.specs.declared.tables.NodeKind.TheVariants as kind;
 ghost use Rattle.rox_scan.specs.declared.failure.Failure.TheVariants as failure;
 ghost use Rattle.rox_build.specs.Waiting.{waiting};
 
-use crate::naming::Scope;
 use crate::pending::Pending;
 use crate::storage::StringStorage;
-use crate::tables::{NodeData, NodeKind, Tables};
+use crate::tables::{ElementTables, NodeData, NodeKind, Scope, Tables};
 use crate::tagging::{Buffers, StartTag};
 use crate::value::Piece;
 use rox_grammar::fault::Fault;

@@ -1,7 +1,7 @@
 //! The namespaces that elements list (Namespaces in XML 1.0 section 6).
 
 use crate::storage::StringStorage;
-use crate::tables::{ElementTables, Namespace};
+use crate::tables::{ElementTables, Namespace, Scope};
 use crate::value::Piece;
 use rox_grammar::fault::Fault;
 use rox_scan::failure::Failure;
@@ -15,13 +15,6 @@ pub const XMLNS_URI: &str = "http://www.w3.org/2000/xmlns/";
 
 /// How many pairs of a prefix and a URI a document may have.
 const MOST_PAIRS: usize = 65535;
-
-/// What an element lists: a stretch of the table of listed places.
-#[derive(Clone, Copy, Debug)]
-pub struct Scope {
-    pub from: usize,
-    pub until: usize,
-}
 
 /// Whether two prefixes are the same; `None` is the default.
 #[inline]

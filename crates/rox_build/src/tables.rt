@@ -81,3 +81,18 @@ pub struct Tables<'input> {
     pub namespaces: Vec<Namespace<'input>>,
     pub listed: Vec<u16>,
 }
+
+/// The tables beside the rows, while they grow.
+#[derive(Debug, Drop)]
+pub struct ElementTables<'input> {
+    pub attributes: Vec<AttributeData<'input>>,
+    pub namespaces: Vec<Namespace<'input>>,
+    pub listed: Vec<u16>,
+}
+
+/// What an element lists: a stretch of the listed places.
+#[derive(Clone, Copy, Debug)]
+pub struct Scope {
+    pub from: usize,
+    pub until: usize,
+}

@@ -2,9 +2,8 @@
 
 ghost use Rattle.std.specs.Prelude.{◌≡◌, ◌<◌, length, slice_index};
 
-use crate::naming::{Scope, XML_URI, XMLNS_URI, declare, listed, lookup, piece_text, stored,
-};
-use crate::tables::{AttributeData, AttributeNamespace, ElementData};
+use crate::naming::{XML_URI, XMLNS_URI, declare, listed, lookup, piece_text, stored};
+use crate::tables::{AttributeData, AttributeNamespace, ElementData, ElementTables, Scope};
 use crate::value::{Piece, value};
 use rox_grammar::fault::{Fault, Span};
 use rox_scan::cursor::{Cursor, QName};

@@ -4,7 +4,7 @@ use Rattle.rox_grammar.specs.Forest.{Nil}
 use Rattle.rox_grammar.specs.Tree.{listed}
 use Rattle.rox_reading.specs.State.{State, inside, scope_of}
 use Rattle.rox_build.specs.Shown.{IsOpening, OpenLine, opened, names_in}
-use Rattle.rox_build.specs.declared.naming.Scope.{Scope}
+use Rattle.rox_build.specs.declared.tables.Scope.{Scope}
 use Rattle.rox_build.specs.declared.builder.OpenElement.{OpenElement}
 use Rattle.rox_build.specs.declared.tables.NodeKind.{NodeKind}
 use Rattle.rox_build.specs.declared.tables.NodeKind.TheVariants as kind
