@@ -9,3 +9,5 @@ pub mod SectionLemmas
 pub mod Showing
 pub mod Finishing
 pub mod Declaring
+pub mod Growing
+pub mod Stepping

@@ -6,7 +6,9 @@ use Rattle.rox_grammar.specs.declared.fault.Fault.{Fault}
 use Rattle.rox_grammar.specs.Forest.{Forest, Nil, Cons, join, size}
 use Rattle.rox_grammar.specs.Written.{Name, Declaration, Tag, Item, Element, Text, Comment, PI, merge, leaf}
 use Rattle.rox_grammar.specs.Tree.{listed, scope_in, node_in}
-use Rattle.rox_grammar.specs.Document.{distinct_pairs, most_pairs, most_attributes}
+use Rattle.rox_grammar.specs.Document.{distinct_pairs, with_new, listable, most_pairs, most_attributes}
+use Rattle.rox_reading.specs.Lexical.{Read, ◌>>=◌}
+use Rattle.rox_reading.specs.Machine.{prolog}
 use Rattle.rox_reading.specs.State.{Open, root, inside, State, scope_of, pairs_so_far, attributes_so_far}
 use Rattle.rox_reading.proofs.Forests.{Clean, is_text}
 use Rattle.rox_scan.specs.Gives.{Fails, name_view}
@@ -16,6 +18,7 @@ use Rattle.rox_build.specs.Lines.{Line, line, node, declaration, NamespaceWithin
 use Rattle.rox_build.specs.Scopes.{entries}
 use Rattle.rox_build.specs.SoFar.{top, so_far}
 use Rattle.rox_build.specs.declared.tables.NodeKind.{NodeKind}
+use Rattle.rox_build.specs.declared.tables.AttributeData.{AttributeData}
 use Rattle.rox_build.specs.declared.tables.NodeData.{NodeData}
 use Rattle.rox_build.specs.declared.tables.ElementTables.{ElementTables}
 use Rattle.rox_build.specs.declared.tables.Scope.{Scope}
@@ -116,3 +119,70 @@ pub record AreSound (t : ElementTables) : Type 0 where
 abbrev pub Adds : ℕ → Result (Unit {0}) Failure → Builder → Result State Fault → Type 0
 Adds end (Ok x) b read = (s : State) × (read ≡ Ok s) × Shows end s.stack s.done b
 Adds end (Err e) b read = Fails e read
+
+-- what an open element lists is in the table
+abbrev pub IsOpenWithin : ElementTables → OpenElement → Type 0
+IsOpenWithin t o = (o.scope.from ≤ o.scope.until) × (o.scope.until ≤ length t.listed.items)
+
+-- what is so between two constructs, whatever the text
+pub record Fine (t : ElementTables) (opened : List OpenElement) : Type 0 where
+  pub sound : AreSound t
+  pub elements : AllByRecursion (IsOpenWithin t) opened
+  pub few_names : length t.namespaces.items ≤ most_pairs
+  pub few_attributes : length t.attributes.items ≤ most_attributes
+
+-- The cursor and the builder stand where reading does, in a text of this length.
+pub record Sees (limit end : ℕ) (s : State) (c : Cursor) (b : Builder) : Type 0 where
+  pub here : c.pos ≡ s.at
+  pub limit_is : b.nodes_limit ≡ limit
+  pub shows : Shows end s.stack s.done b
+  pub names : names_in b.tables ≡ distinct_pairs (pairs_so_far s.stack s.done)
+  pub attributes : length b.tables.attributes.items ≡ attributes_so_far s.stack s.done
+
+-- the same after a step, unless memory ran out
+abbrev pub Stepped : ℕ → ℕ → Result (Unit {0}) Failure → Cursor → Builder → Result State Fault → Type 0
+Stepped limit end (Ok x) c b read = (s : State) × (read ≡ Ok s) × Sees limit end s c b
+Stepped limit end (Err e) c b read = Fails e read
+
+-- the same of the root element, with whether it stands there
+abbrev pub SteppedWith : ℕ → ℕ → Result Bool Failure → Cursor → Builder → Result (State × Bool) Fault → Type 0
+SteppedWith limit end (Ok x) c b read = (s : State) × (read ≡ Ok (s, x)) × Sees limit end s c b
+SteppedWith limit end (Err e) c b read = Fails e read
+
+-- the place behind the declaration, if it stands here
+abbrev pub prolog_at : List ℕ → ℕ → Read (Unit {0})
+prolog_at src i = prolog src i >>= λ j. Ok (tt, j)
+
+-- a whole text was read
+abbrev pub Completed : ℕ → Result (Unit {0}) Failure → Builder → Result (Forest Item) Fault → Type 0
+Completed end (Ok x) b read = (tops : Forest Item) × (read ≡ Ok tops) × Shows end root tops b
+Completed end (Err e) b read = Fails e read
+
+-- tables that have grown
+pub record Grown (old new : ElementTables) : Type 0 where
+  pub more_attributes : List AttributeData
+  pub attributes : new.attributes.items ≡ old.attributes.items ++ more_attributes
+  pub more_names : List Declaration
+  pub names : names_in new ≡ names_in old ++ more_names
+  pub more_listed : List ℕ
+  pub listed_are : new.listed.items ≡ old.listed.items ++ more_listed
+
+-- The tables hold what the tag has, of an element whose parent lists `above`.
+pub record Tagged (old new : ElementTables) (above : List Declaration) (start : ℕ) (tag : StartTag) (t : Tag) : Type 0 where
+  pub grown : Grown old new
+  pub names : names_in new ≡ with_new (names_in old) (listable t)
+  pub count : length new.attributes.items ≡ length old.attributes.items + length t.attributes
+  pub sound : AreSound new
+  pub few_names : length new.namespaces.items ≤ most_pairs
+  pub few_attributes : length new.attributes.items ≤ most_attributes
+  pub node_is : (e : ℕ) → node new.attributes.items (names_in new) new.listed.items start e (kind.Element tag.element) ≡ node_in (listed above t.declarations) (Element start e t)
+  pub within : IsWithin new (kind.Element tag.element)
+  pub scope : entries (names_in new) (slice_range new.listed.items tag.element.namespaces_from tag.element.namespaces_until) ≡ listed above t.declarations
+  pub name : name_view tag.name ≡ t.name
+  pub name_start : tag.name_start ≡ start + 1
+  pub name_end : tag.name_end ≡ t.name_end
+
+-- a start tag, unless memory ran out
+abbrev pub GivesTag : (old new : ElementTables) → List Declaration → ℕ → Cursor → Result StartTag Failure → Read (Tag × Bool) → Type 0
+GivesTag old new above start c (Ok tag) read = (t : Tag) × (read ≡ Ok ((t, tag.empty), c.pos)) × Tagged old new above start tag t
+GivesTag old new above start c (Err e) read = Fails e read

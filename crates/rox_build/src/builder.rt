@@ -87,22 +87,25 @@ fn end_root(nodes: &mut Vec<NodeData<'_>>, count: u32)
 }
 
 impl<'input> Builder<'input> {
-    ghost use Rattle.std.specs.Prelude.{List, ◌++◌, ◌-◌, false, true, take, Ok, Err, map};
+    ghost use Rattle.std.specs.Prelude.{List, ◌++◌, ◌-◌, false, true, take, slice_range, Ok, Err, map};
     ghost use Rattle.std.specs.String.{string_bytes};
     ghost use Rattle.rox_grammar.specs.Forest.{Forest, Nil, Cons, join};
     ghost use Rattle.rox_grammar.specs.Written.{Item, Text, Element, Tag, merge, leaf};
     ghost use Rattle.rox_grammar.specs.declared.fault.Fault.TheVariants as fault;
-    ghost use Rattle.rox_reading.specs.State.{Open, root, inside, State, scope_of, nodes_so_far};
+    ghost use Rattle.rox_reading.specs.State.{Open, root, inside, State, is_root, scope_of, nodes_so_far};
     ghost use Rattle.rox_reading.specs.Machine.{with_item, opened_by, counted};
     ghost use Rattle.rox_scan.specs.Gives.{Fails};
     ghost use Rattle.rox_build.specs.Values.{piece_view};
-    ghost use Rattle.rox_build.specs.Shown.{Shows, Settled, IsNode, IsOpening, AreSound, Adds, opened_in, last_row, scope_in_table};
+    ghost use Rattle.rox_build.specs.Shown.{Shows, Settled, IsNode, IsOpening, AreSound, Adds, Fine, names_in, opened_in, last_row, scope_in_table};
+    ghost use Rattle.rox_build.specs.Scopes.{entries};
     ghost use Rattle.rox_build.specs.Lines.{Holds};
     ghost use Rattle.rox_grammar.specs.Tree.{document_tree};
     ghost use Rattle.rox_build.specs.declared.builder.OpenElement.{OpenElement};
 
     /// The tables with the root node of a text of so many bytes.
     pub fn new(alloc: Global, bytes: usize, nodes_limit: u32) -> Result<Builder<'input>, Failure>
+        ensures empty { IfOk result (λ b. (names_in b.tables ≡ []) × (length b.tables.attributes.items ≡ 0)) }
+        ensures fine { IfOk result (λ b. Fine b.tables b.opened.items) }
         ensures shows { IfOk result (λ b. Shows bytes root Nil b) }
         ensures limit { IfOk result (λ b. b.nodes_limit ≡ nodes_limit) }
         ensures err { IfErr result (λ e. e ≡ failure.Memory) }
@@ -128,7 +131,9 @@ impl<'input> Builder<'input> {
 
     /// No element is open.
     #[inline]
-    pub fn is_at_root(&self) -> bool {
+    pub fn is_at_root(&self) -> bool
+        ensures { (end : ℕ) (stack : Open) (done : Forest Item) → Shows end stack done self.now → result ≡ is_root stack }
+    {
         self.opened.is_empty()
     }
 
@@ -145,7 +150,11 @@ impl<'input> Builder<'input> {
 
     /// What the innermost open element lists.
     #[inline]
-    pub fn scope(&self) -> Scope {
+    pub fn scope(&self) -> Scope
+        ensures value { (end : ℕ) (stack : Open) (done : Forest Item) → Shows end stack done self.now
+            → entries (names_in self.now.tables) (slice_range self.now.tables.listed.items result.from result.until) ≡ scope_of stack }
+        ensures within { Fine self.now.tables self.now.opened.items → (result.from ≤ result.until) × (result.until ≤ length self.now.tables.listed.items) }
+    {
         match self.opened.last() {
             Some(element) => element.scope,
             None => Scope { from: 0, until: 0 },

@@ -1,15 +1,27 @@
 //! Reading of a text from its start to its end, one construct after another (XML 1.0 sections 2.1, 2.8, 3.1).
 
-ghost use Rattle.std.specs.Prelude.{◌≡◌, ◌<◌, length, slice_index, true};
+ghost use Rattle.std.specs.Prelude.{◌≡◌, ◌<◌, ◌≤◌, ◌+◌, ℕ, Ok, Err, Bool, OnOk, IfOk, IfErr, length, slice_index, slice_range, true, nat_le};
 ghost use Rattle.std.specs.Str.{IsCharBoundary};
 ghost use Rattle.rox_grammar.specs.Marks.{stands};
 ghost use Rattle.rox_grammar.specs.Words.{word_text};
+ghost use Rattle.rox_grammar.specs.declared.fault.Fault.{Fault};
 ghost use Rattle.rox_grammar.specs.declared.fault.Word.TheVariants as word;
+ghost use Rattle.rox_reading.specs.State.{State};
+ghost use Rattle.rox_reading.specs.Machine as machine;
+ghost use Rattle.rox_scan.specs.Gives.{name_view};
+ghost use Rattle.rox_grammar.specs.Forest.{Forest, Nil};
+ghost use Rattle.rox_grammar.specs.Written.{Item, local_span};
+ghost use Rattle.rox_grammar.specs.Document.{after_bom};
+ghost use Rattle.rox_grammar.specs.Tree.{document_tree};
+ghost use Rattle.rox_reading.specs.State.{Open, root};
+ghost use Rattle.rox_scan.specs.Gives.{GivesFrom};
+ghost use Rattle.rox_build.specs.Lines.{Holds};
+ghost use Rattle.rox_build.specs.Shown.{Fine, Sees, Stepped, SteppedWith, Completed, Shows, prolog_at};
 
 use crate::builder::Builder;
 use crate::storage::StringStorage;
 use crate::tables::{NodeKind, PI, Tables};
-use crate::tagging::{local_span, start_tag};
+use crate::tagging::start_tag;
 use crate::value::{cdata_text, run};
 use rox_grammar::fault::{Fault, Span, Word};
 use rox_scan::cursor::{Cursor, QName};
@@ -31,7 +43,12 @@ fn comment<'input>(
     cursor: &mut Cursor<'input>,
     builder: &mut Builder<'input>,
 ) -> Result<(), Failure>
-    requires { stands (word_text word.CommentStart) cursor.old.text.now cursor.old.pos ≡ true }
+    requires here { stands (word_text word.CommentStart) cursor.old.text.now cursor.old.pos ≡ true }
+    requires fine { Fine builder.old.tables builder.old.opened.items }
+    ensures value { (limit end : ℕ) (s : State) → Sees limit end s cursor.old builder.old
+        → Stepped limit end result cursor.new builder.new (machine.comment_step limit cursor.old.text.now s) }
+    ensures fine { OnOk result (Fine builder.new.tables builder.new.opened.items) }
+    ensures source { cursor.new.text ≡ cursor.old.text }
 {
     let start = cursor.pos;
     let text = cursor.comment(&builder.finders)?;
@@ -49,7 +66,12 @@ fn instruction<'input>(
     cursor: &mut Cursor<'input>,
     builder: &mut Builder<'input>,
 ) -> Result<(), Failure>
-    requires { stands (word_text word.PIStart) cursor.old.text.now cursor.old.pos ≡ true }
+    requires here { stands (word_text word.PIStart) cursor.old.text.now cursor.old.pos ≡ true }
+    requires fine { Fine builder.old.tables builder.old.opened.items }
+    ensures value { (limit end : ℕ) (s : State) → Sees limit end s cursor.old builder.old
+        → Stepped limit end result cursor.new builder.new (machine.instruction_step limit cursor.old.text.now s) }
+    ensures fine { OnOk result (Fine builder.new.tables builder.new.opened.items) }
+    ensures source { cursor.new.text ≡ cursor.old.text }
 {
     let start = cursor.pos;
     let pi = cursor.instruction(&builder.finders)?;
@@ -66,7 +88,12 @@ fn instruction<'input>(
 
 /// A CDATA section, from `<![CDATA[`.
 fn cdata<'input>(cursor: &mut Cursor<'input>, builder: &mut Builder<'input>) -> Result<(), Failure>
-    requires { stands (word_text word.CDataStart) cursor.old.text.now cursor.old.pos ≡ true }
+    requires here { stands (word_text word.CDataStart) cursor.old.text.now cursor.old.pos ≡ true }
+    requires fine { Fine builder.old.tables builder.old.opened.items }
+    ensures value { (limit end : ℕ) (s : State) → Sees limit end s cursor.old builder.old
+        → Stepped limit end result cursor.new builder.new (machine.cdata_step limit cursor.old.text.now s) }
+    ensures fine { OnOk result (Fine builder.new.tables builder.new.opened.items) }
+    ensures source { cursor.new.text ≡ cursor.old.text }
 {
     let start = cursor.pos;
     let raw = cursor.cdata(&builder.finders)?;
@@ -78,14 +105,22 @@ fn cdata<'input>(cursor: &mut Cursor<'input>, builder: &mut Builder<'input>) -> 
 fn character_data<'input>(
     cursor: &mut Cursor<'input>,
     builder: &mut Builder<'input>,
-) -> Result<(), Failure> {
+) -> Result<(), Failure>
+    requires fine { Fine builder.old.tables builder.old.opened.items }
+    ensures value { (limit end : ℕ) (s : State) → Sees limit end s cursor.old builder.old
+        → Stepped limit end result cursor.new builder.new (machine.run_step limit cursor.old.text.now s) }
+    ensures fine { OnOk result (Fine builder.new.tables builder.new.opened.items) }
+    ensures source { cursor.new.text ≡ cursor.old.text }
+{
     let start = cursor.pos;
     let piece = run(cursor, &mut builder.buffers.scratch)?;
     builder.piece(start, cursor.pos, piece)
 }
 
 /// The fault of a start tag that is cut off by the end of the text.
-fn cut_off(builder: &Builder<'_>) -> Fault {
+fn cut_off(builder: &Builder<'_>) -> Fault
+    ensures { (end : ℕ) (stack : Open) (done : Forest Item) → Shows end stack done builder.now → result ≡ machine.cut_off stack }
+{
     if builder.is_at_root() {
         Fault::NoRootNode
     } else {
@@ -101,6 +136,11 @@ fn element<'input>(
 ) -> Result<(), Failure>
     requires there { cursor.old.pos < length cursor.old.text.now }
     requires here { slice_index cursor.old.text.now cursor.old.pos ≡ 60 }
+    requires fine { Fine builder.old.tables builder.old.opened.items }
+    ensures value { (limit end : ℕ) (s : State) → Sees limit end s cursor.old builder.old
+        → Stepped limit end result cursor.new builder.new (machine.tag_step limit cursor.old.text.now s) }
+    ensures fine { OnOk result (Fine builder.new.tables builder.new.opened.items) }
+    ensures source { cursor.new.text ≡ cursor.old.text }
 {
     let start = cursor.pos;
     let cut = cut_off(builder);
@@ -120,14 +160,33 @@ fn element<'input>(
     }
 }
 
+/// Where the local part of a name stands that ends at `end`.
+fn local_span(name: QName<'_>, end: usize) -> Span
+    ensures { result ≡ local_span (name_view name.entry) end }
+{
+    Span {
+        start: end.saturating_sub(name.local.len()),
+        end,
+    }
+}
+
 /// Where a name is written, which ends at `end` in a tag whose name may begin at `start`: without the colon if there is no
 /// prefix.
-fn name_span(name: QName<'_>, start: usize, end: usize) -> Span {
+fn name_span(name: QName<'_>, start: usize, end: usize) -> Span
+    ensures { result ≡ machine.name_span (name_view name.entry) start end }
+{
     if name.prefix.is_empty() {
-        local_span(name.local, end)
+        local_span(name, end)
     } else {
         Span { start, end }
     }
+}
+
+/// Whether two names are written alike.
+fn same_name(one: QName<'_>, other: QName<'_>) -> bool
+    ensures { result ≡ machine.same_name (name_view one.entry) (name_view other.entry) }
+{
+    one.prefix == other.prefix && one.local == other.local
 }
 
 /// An end tag, from `</`.
@@ -136,39 +195,44 @@ fn end_tag<'input>(
     cursor: &mut Cursor<'input>,
     builder: &mut Builder<'input>,
 ) -> Result<(), Failure>
-    requires { stands (word_text word.EndTagStart) cursor.old.text.now cursor.old.pos ≡ true }
+    requires here { stands (word_text word.EndTagStart) cursor.old.text.now cursor.old.pos ≡ true }
+    requires fine { Fine builder.old.tables builder.old.opened.items }
+    ensures value { (limit end : ℕ) (s : State) → Sees limit end s cursor.old builder.old
+        → Stepped limit end result cursor.new builder.new (machine.end_step cursor.old.text.now s) }
+    ensures fine { OnOk result (Fine builder.new.tables builder.new.opened.items) }
+    ensures source { cursor.new.text ≡ cursor.old.text }
 {
     let start = cursor.pos;
     let tag = cursor.end_tag()?;
     let Some(open) = builder.opened.last() else {
         return Err(Failure::Fault(Fault::UnexpectedEntityCloseTag(start)));
     };
-    if open.name.local != tag.name.local || open.name.prefix != tag.name.prefix {
+    if !same_name(open.name, tag.name) {
         let expected = name_span(open.name, open.name_start, open.name_end);
-        let found = name_span(tag.name, start.saturating_add(2), tag.name_end);
-        return Err(Failure::Fault(Fault::UnexpectedCloseTag(expected, found, start)));
+        let found = name_span(tag.name, start + 2, tag.name_end);
+        return Err(Failure::Fault(Fault::UnexpectedCloseTag(
+            expected, found, start,
+        )));
     }
     builder.close(alloc, cursor.pos)
 }
 
-/// What `<?` begins.
-fn instruction_here<'input>(
-    alloc: Global,
-    cursor: &mut Cursor<'input>,
-    builder: &mut Builder<'input>,
-) -> Result<(), Failure> {
-    if cursor.starts(Word::PIStart) {
-        return instruction(alloc, cursor, builder);
-    }
-    Err(Failure::Fault(Fault::UnknownToken(cursor.pos)))
-}
-
 /// What `<!` begins.
-fn declaration_like<'input>(
+#[tactic(auto, unfolding(rox_reading::specs::Machine::step))]
+fn comment_or_section<'input>(
     alloc: Global,
     cursor: &mut Cursor<'input>,
     builder: &mut Builder<'input>,
-) -> Result<(), Failure> {
+) -> Result<(), Failure>
+    requires there { cursor.old.pos + 1 < length cursor.old.text.now }
+    requires here { slice_index cursor.old.text.now cursor.old.pos ≡ 60 }
+    requires next { slice_index cursor.old.text.now (cursor.old.pos + 1) ≡ 33 }
+    requires fine { Fine builder.old.tables builder.old.opened.items }
+    ensures value { (limit end : ℕ) (s : State) → Sees limit end s cursor.old builder.old
+        → Stepped limit end result cursor.new builder.new (machine.step limit cursor.old.text.now s) }
+    ensures fine { OnOk result (Fine builder.new.tables builder.new.opened.items) }
+    ensures source { cursor.new.text ≡ cursor.old.text }
+{
     if cursor.starts(Word::CommentStart) {
         return comment(alloc, cursor, builder);
     }
@@ -179,12 +243,18 @@ fn declaration_like<'input>(
 }
 
 /// One construct of content.
+#[tactic(auto, unfolding(rox_reading::specs::Machine::step))]
 fn step<'input>(
     alloc: Global,
     cursor: &mut Cursor<'input>,
     builder: &mut Builder<'input>,
 ) -> Result<(), Failure>
-    requires { cursor.old.pos < length cursor.old.text.now }
+    requires there { cursor.old.pos < length cursor.old.text.now }
+    requires fine { Fine builder.old.tables builder.old.opened.items }
+    ensures value { (limit end : ℕ) (s : State) → Sees limit end s cursor.old builder.old
+        → Stepped limit end result cursor.new builder.new (machine.step limit cursor.old.text.now s) }
+    ensures fine { OnOk result (Fine builder.new.tables builder.new.opened.items) }
+    ensures source { cursor.new.text ≡ cursor.old.text }
 {
     let bytes = cursor.text.as_bytes();
     if bytes[cursor.pos] != b'<' {
@@ -193,14 +263,17 @@ fn step<'input>(
     if cursor.pos + 1 >= bytes.len() {
         return Err(Failure::Fault(Fault::UnknownToken(cursor.pos)));
     }
-    if cursor.starts(Word::EndTagStart) {
+    let next = bytes[cursor.pos + 1];
+    if next == b'!' {
+        return comment_or_section(alloc, cursor, builder);
+    }
+    if next == b'?' {
+        return instruction(alloc, cursor, builder);
+    }
+    if next == b'/' {
         return end_tag(alloc, cursor, builder);
     }
-    match bytes[cursor.pos + 1] {
-        b'!' => declaration_like(alloc, cursor, builder),
-        b'?' => instruction_here(alloc, cursor, builder),
-        _ => element(alloc, cursor, builder),
-    }
+    element(alloc, cursor, builder)
 }
 
 /// Content up to the end tag of the root element.
@@ -208,7 +281,13 @@ fn content<'input>(
     alloc: Global,
     cursor: &mut Cursor<'input>,
     builder: &mut Builder<'input>,
-) -> Result<(), Failure> {
+) -> Result<(), Failure>
+    requires fine { Fine builder.old.tables builder.old.opened.items }
+    ensures value { (limit end : ℕ) (s : State) → Sees limit end s cursor.old builder.old
+        → Stepped limit end result cursor.new builder.new (machine.drive limit (length cursor.old.text.now) cursor.old.text.now s) }
+    ensures fine { OnOk result (Fine builder.new.tables builder.new.opened.items) }
+    ensures source { cursor.new.text ≡ cursor.old.text }
+{
     for _turn in 0..cursor.text.len() {
         if builder.is_at_root() {
             return Ok(());
@@ -230,7 +309,13 @@ fn misc<'input>(
     alloc: Global,
     cursor: &mut Cursor<'input>,
     builder: &mut Builder<'input>,
-) -> Result<(), Failure> {
+) -> Result<(), Failure>
+    requires fine { Fine builder.old.tables builder.old.opened.items }
+    ensures value { (limit end : ℕ) (s : State) → Sees limit end s cursor.old builder.old
+        → Stepped limit end result cursor.new builder.new (machine.misc limit (length cursor.old.text.now) cursor.old.text.now s) }
+    ensures fine { OnOk result (Fine builder.new.tables builder.new.opened.items) }
+    ensures source { cursor.new.text ≡ cursor.old.text }
+{
     for _turn in 0..cursor.text.len() {
         cursor.spaces();
         if cursor.starts(Word::CommentStart) {
@@ -249,7 +334,13 @@ fn body<'input>(
     alloc: Global,
     cursor: &mut Cursor<'input>,
     builder: &mut Builder<'input>,
-) -> Result<bool, Failure> {
+) -> Result<bool, Failure>
+    requires fine { Fine builder.old.tables builder.old.opened.items }
+    ensures value { (limit end : ℕ) (s : State) → Sees limit end s cursor.old builder.old
+        → SteppedWith limit end result cursor.new builder.new (machine.body limit cursor.old.text.now s) }
+    ensures fine { OnOk result (Fine builder.new.tables builder.new.opened.items) }
+    ensures source { cursor.new.text ≡ cursor.old.text }
+{
     if cursor.is_at_end() || cursor.text.as_bytes()[cursor.pos] != b'<' {
         return Ok(false);
     }
@@ -259,15 +350,31 @@ fn body<'input>(
     Ok(true)
 }
 
-/// A whole text, up to its end.
+/// The XML declaration, if it stands here.
+#[tactic(auto, unfolding(rox_reading::specs::Machine::prolog))]
+fn prolog(cursor: &mut Cursor<'_>) -> Result<(), Failure>
+    ensures value { GivesFrom (λ x. x) cursor.new result (prolog_at cursor.old.text.now cursor.old.pos) }
+    ensures source { cursor.new.text ≡ cursor.old.text }
+{
+    if cursor.starts(Word::DeclarationStart) {
+        cursor.declaration()?;
+    }
+    Ok(())
+}
+
+/// A whole text, from behind its byte order mark to its end.
 fn document<'input>(
     alloc: Global,
     cursor: &mut Cursor<'input>,
     builder: &mut Builder<'input>,
-) -> Result<(), Failure> {
-    if cursor.starts(Word::DeclarationStart) {
-        cursor.declaration()?;
-    }
+) -> Result<(), Failure>
+    requires fine { Fine builder.old.tables builder.old.opened.items }
+    ensures value { (limit end : ℕ) → Sees limit end (record { at = cursor.old.pos; done = Nil; stack = root }) cursor.old builder.old → cursor.old.pos ≡ after_bom cursor.old.text.now
+        → Completed end result builder.new (machine.reading limit cursor.old.text.now) }
+    ensures fine { OnOk result (Fine builder.new.tables builder.new.opened.items) }
+    ensures source { cursor.new.text ≡ cursor.old.text }
+{
+    prolog(cursor)?;
     misc(alloc, cursor, builder)?;
     if cursor.starts(Word::DoctypeStart) {
         return Err(Failure::Fault(Fault::DtdDetected));
@@ -291,7 +398,10 @@ fn has_byte_order_mark(text: &str) -> bool
 }
 
 /// The start of a text, behind its byte order mark if it has one.
-fn start_of(text: &str) -> Cursor<'_> {
+fn start_of(text: &str) -> Cursor<'_>
+    ensures place { result.pos ≡ after_bom text.entry.now }
+    ensures source { result.text.now ≡ text.entry.now }
+{
     if has_byte_order_mark(text) {
         Cursor::within(text, 3, text.len())
     } else {
@@ -299,12 +409,15 @@ fn start_of(text: &str) -> Cursor<'_> {
     }
 }
 
-/// The tables of the tree of a text.
+/// The tables of the tree of a text. The nodes that it may have are given by the options.
 pub fn build<'input>(
     alloc: Global,
     text: &'input str,
     options: Options,
-) -> Result<Tables<'input>, Failure> {
+) -> Result<Tables<'input>, Failure>
+    ensures ok { IfOk result (λ t. (tops : Forest Item) × (machine.reading options.nodes_limit text.entry.now ≡ Ok tops) × Holds t (document_tree (length text.entry.now) tops)) }
+    ensures fault { (f : Fault) → result ≡ Err (Failure.Fault f) → machine.reading options.nodes_limit text.entry.now ≡ Err f }
+{
     let mut cursor = start_of(text);
     let mut builder = Builder::new(alloc, text.len(), options.nodes_limit)?;
     document(alloc, &mut cursor, &mut builder)?;

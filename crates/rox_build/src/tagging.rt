@@ -1,6 +1,10 @@
 //! Start tags: attributes and declarations, each tested in order (XML 1.0 section 3.1, Namespaces in XML 1.0).
 
-ghost use Rattle.std.specs.Prelude.{◌≡◌, ◌<◌, length, slice_index};
+ghost use Rattle.std.specs.Prelude.{◌≡◌, ◌<◌, ◌≤◌, length, slice_index, slice_range};
+ghost use Rattle.rox_grammar.specs.Document.{most_pairs, most_attributes};
+ghost use Rattle.rox_reading.specs.Tags.{tag_at};
+ghost use Rattle.rox_build.specs.Scopes.{entries};
+ghost use Rattle.rox_build.specs.Shown.{AreSound, GivesTag, names_in};
 
 use crate::naming::{XML_URI, XMLNS_URI, declare, listed, lookup, piece_text, stored};
 use crate::tables::{AttributeData, AttributeNamespace, ElementData, ElementTables, Scope};
@@ -323,6 +327,14 @@ pub fn start_tag<'input>(
 ) -> Result<StartTag<'input>, Failure>
     requires there { cursor.old.pos < length cursor.old.text.now }
     requires here { slice_index cursor.old.text.now cursor.old.pos ≡ 60 }
+    requires sound { AreSound tables.old }
+    requires ordered { above.from ≤ above.until }
+    requires within { above.until ≤ length tables.old.listed.items }
+    requires names { length tables.old.namespaces.items ≤ most_pairs }
+    requires few { length tables.old.attributes.items ≤ most_attributes }
+    ensures value { GivesTag tables.old tables.new (entries (names_in tables.old) (slice_range tables.old.listed.items above.from above.until)) cursor.old.pos cursor.new result
+        (tag_at cut (entries (names_in tables.old) (slice_range tables.old.listed.items above.from above.until)) (length tables.old.attributes.items) (names_in tables.old) cursor.old.text.now cursor.old.pos) }
+    ensures source { cursor.new.text ≡ cursor.old.text }
 {
     cursor.advance();
     let name_start = cursor.pos;
