@@ -1,13 +1,13 @@
 -- A declaration of a start tag, step by step.
 use Rattle.std.proofs.Common.{◌≡◌, ℕ, ◌+◌, ◌<◌, ◌≤◌, ◌||◌, ◌&&◌, not, Bool, true, false, List, [], ◌∷◌, ◌++◌, length, map, drop, filter, refl, sym, ap, ◌∙◌, subst, arith, Result, Ok, Err, length-append, append_assoc, le-ltb, lt-ltb}
 use Rattle.std.specs.List.{list_any, slice_range}
-use Rattle.std.proofs.lemmas.List.{append-nil}
+use Rattle.std.proofs.lemmas.List.{append-nil, map-append}
 use Rattle.std.proofs.lemmas.List.Elements.{filter-append}
 use Rattle.std.proofs.lemmas.List.Folds.{list_any-append}
 use Rattle.rox_grammar.specs.declared.fault.Fault.{Fault}
 use Rattle.rox_grammar.specs.declared.fault.Fault.TheVariants as fault
 use Rattle.rox_grammar.specs.Written.{Attribute, Declaration, declaration_of, local_span}
-use Rattle.rox_grammar.specs.Tree.{is_declared}
+use Rattle.rox_grammar.specs.Tree.{is_declared, listed}
 use Rattle.rox_grammar.specs.WellNamed.{is_xml}
 use Rattle.rox_grammar.specs.Document.{with_new, most_pairs}
 use Rattle.rox_reading.specs.Lexical.{◌>>=◌}
@@ -16,9 +16,9 @@ use Rattle.rox_scan.specs.Gives.{Fails}
 use Rattle.rox_scan.specs.declared.failure.Failure.{Failure}
 use Rattle.rox_scan.specs.declared.failure.Failure.TheVariants as failure
 use Rattle.rox_build.specs.Lines.{entry}
-use Rattle.rox_build.specs.Scopes.{entries, ArePlaces}
+use Rattle.rox_build.specs.Scopes.{entries, ArePlaces, others}
 use Rattle.rox_build.specs.Tags.{declares_xml, Declares, Declared}
-use Rattle.rox_build.proofs.Listing.{with_new-append, with_new-front}
+use Rattle.rox_build.proofs.Listing.{with_new-append, with_new-front, declares_nothing, listed-none, listed-others}
 use Rattle.rox_build.proofs.Inherits.{slice-rest}
 use Rattle.rox_build.proofs.Stable.{all_append, all_weaker, map_same, entry-append}
 
@@ -76,10 +76,19 @@ pub declares_prefix_xml : (known : List Declaration) (before : List ℕ) (names 
 declares_prefix_xml known before names listed xml a h d uri new is =
     let one = declaration_of a in
     let same : listable_of (h.own ++ one ∷ []) ≡ listable_of h.own = listable-push h.own one ∙ ap (λ xs. listable_of h.own ++ xs) (listable-xml one is) ∙ append-nil (listable_of h.own) in
-    let pairs : with_new known (listable_of (h.own ++ one ∷ [])) ≡ names = ap (with_new known) same ∙ sym d.names_are in
-    (h.own ++ one ∷ [], declared_new known a h uri new (rw pairs d.few), record {
-        names_are = sym pairs; few = d.few; xml_is = or_yes (declares_xml h.own) ∙ sym (xml-push h.own one true is);
-        mine = d.mine; listed_are = d.listed_are; places = d.places; same = d.same ∙ sym same })
+    let pairs : with_new known (listable_of (h.own ++ one ∷ [])) ≡ names = ap (with_new known) same ∙ sym d.names_are in (
+      h.own ++ one ∷ [],
+      declared_new known a h uri new (rw pairs d.few),
+      record {
+        names_are = sym pairs;
+        few = d.few;
+        xml_is = or_yes (declares_xml h.own) ∙ sym (xml-push h.own one true is);
+        mine = d.mine;
+        listed_are = d.listed_are;
+        places = d.places;
+        same = d.same ∙ sym same;
+      },
+    )
 
 -- another one, whose place is pushed onto the listed places
 pub declares_other : (known : List Declaration) (before : List ℕ) (names next : List Declaration) (listed after : List ℕ) (xml : Bool) (a : Attribute) (h : Held) (place : ℕ)
@@ -90,18 +99,24 @@ declares_other known before names next listed after xml a h place d uri new is g
     let one = declaration_of a in
     let more : listable_of (h.own ++ one ∷ []) ≡ listable_of h.own ++ one ∷ [] = listable-push h.own one ∙ ap (λ xs. listable_of h.own ++ xs) (listable-other one is) in
     let pairs : with_new known (listable_of (h.own ++ one ∷ [])) ≡ next =
-        ap (with_new known) more ∙ with_new-append known (listable_of h.own) (one ∷ []) ∙ ap (λ ns. with_new ns (one ∷ [])) (sym d.names_are) ∙ sym grown in
+    ap (with_new known) more ∙ with_new-append known (listable_of h.own) (one ∷ []) ∙ ap (λ ns. with_new ns (one ∷ [])) (sym d.names_are) ∙ sym grown in
     let front = with_new-front names (one ∷ []) in
     let next_is : next ≡ names ++ front.0 = grown ∙ front.1 in
     let long : length next ≡ length names + length front.0 = ap length next_is ∙ length-append names front.0 in
     let stays : entries next d.mine ≡ entries names d.mine =
-        ap (λ ns. entries ns d.mine) next_is ∙ map_same (entry (names ++ front.0)) (entry names) (λ i. i < length names) d.mine (entry-append names front.0) d.places in
-    (h.own ++ one ∷ [], declared_new known a h uri new (rw pairs few), record {
-        names_are = sym pairs; few = few; xml_is = d.xml_is ∙ or_same (declares_xml h.own) ∙ sym (xml-push h.own one false is);
+    ap (λ ns. entries ns d.mine) next_is ∙ map_same (entry (names ++ front.0)) (entry names) (λ i. i < length names) d.mine (entry-append names front.0) d.places in (
+      h.own ++ one ∷ [],
+      declared_new known a h uri new (rw pairs few),
+      record {
+        names_are = sym pairs;
+        few = few;
+        xml_is = d.xml_is ∙ or_same (declares_xml h.own) ∙ sym (xml-push h.own one false is);
         mine = d.mine ++ place ∷ [];
         listed_are = push ∙ ap (λ xs. xs ++ place ∷ []) d.listed_are ∙ append_assoc before d.mine (place ∷ []);
         places = all_append (λ i. i < length next) d.mine (place ∷ []) (all_weaker (λ i. i < length names) (λ i. i < length next) d.mine (λ i h. omega arith) d.places) (here, tt);
-        same = entries-push next d.mine place ∙ ap (λ xs. xs ++ entry next place ∷ []) (stays ∙ d.same) ∙ ap (λ x. listable_of h.own ++ x ∷ []) at ∙ sym more })
+        same = entries-push next d.mine place ∙ ap (λ xs. xs ++ entry next place ∷ []) (stays ∙ d.same) ∙ ap (λ x. listable_of h.own ++ x ∷ []) at ∙ sym more;
+      },
+    )
   where
     entries-push : (names : List Declaration) (places : List ℕ) (p : ℕ) → entries names (places ++ p ∷ []) ≡ entries names places ++ entry names p ∷ []
     entries-push names [] p = refl
@@ -135,5 +150,34 @@ many_pairs known before names listed xml a h d is many =
     let one = declaration_of a in
     let more : listable_of (h.own ++ one ∷ []) ≡ listable_of h.own ++ one ∷ [] = listable-push h.own one ∙ ap (λ xs. listable_of h.own ++ xs) (listable-other one is) in
     let pairs : with_new known (listable_of (h.own ++ one ∷ [])) ≡ with_new names (one ∷ []) =
-        ap (with_new known) more ∙ with_new-append known (listable_of h.own) (one ∷ []) ∙ ap (λ ns. with_new ns (one ∷ [])) (sym d.names_are) in
+    ap (with_new known) more ∙ with_new-append known (listable_of h.own) (one ∷ []) ∙ ap (λ ns. with_new ns (one ∷ [])) (sym d.names_are) in
     rw pairs many
+
+-- the tag declares nothing
+pub nothing_declared : (known : List Declaration) (before : List ℕ) (names : List Declaration) (listed : List ℕ) (xml : Bool) (ds : List Declaration) (own : ℕ) → own ≡ length before
+    → length listed ≤ own → xml ≡ false → Declares known before names listed xml ds → ds ≡ []
+nothing_declared known before names listed xml ds own o short off d =
+    let n : length listed ≡ length before + length d.mine = ap length d.listed_are ∙ length-append before d.mine in
+    let none : d.mine ≡ [] = empty d.mine (omega arith) in
+    declares_nothing ds (sym d.same ∙ ap (entries names) none) (sym d.xml_is ∙ off)
+  where
+    empty : (xs : List ℕ) → length xs ≤ 0 → xs ≡ []
+    empty [] h = refl
+    empty (x ∷ xs) h = absurd (omega arith)
+
+pub lists_above : (above ds : List Declaration) → ds ≡ [] → above ≡ listed above ds
+lists_above above ds e = sym (ap (listed above) e ∙ listed-none above)
+
+-- what it declares, and what it inherits
+pub lists_both : (known : List Declaration) (before : List ℕ) (names seen : List Declaration) (old new more : List ℕ) (xml : Bool) (ds : List Declaration) (own from until end : ℕ) → own ≡ length before → seen ≡ names
+    → end ≡ length new → Declares known before names old xml ds → new ≡ old ++ more
+    → entries seen more ≡ others (entries seen (drop own old)) xml (entries seen (slice_range old from until))
+    → entries names (slice_range new own end) ≡ listed (entries names (slice_range old from until)) ds
+lists_both known before names seen old new more xml ds own from until end o s e d grown inherits =
+    let above = entries names (slice_range old from until) in
+    let mine : drop own old ≡ d.mine = own_places before old d.mine own o d.listed_are in
+    let new_is : new ≡ before ++ (d.mine ++ more) = grown ∙ ap (λ xs. xs ++ more) d.listed_are ∙ append_assoc before d.mine more in
+    let rest : slice_range new own end ≡ d.mine ++ more = ap (slice_range new own) e ∙ slice-rest new own ∙ own_places before new (d.mine ++ more) own o new_is in
+    let gets : entries names more ≡ others (listable_of ds) (declares_xml ds) above =
+    rw s at inherits ∙ ap (λ xs. others (entries names xs) xml above) mine ∙ ap (λ xs. others xs xml above) d.same ∙ ap (λ b. others (listable_of ds) b above) d.xml_is in
+    ap (entries names) rest ∙ map-append (entry names) d.mine more ∙ ap (λ xs. xs ++ entries names more) d.same ∙ ap (λ xs. listable_of ds ++ xs) gets ∙ sym (listed-others above ds)

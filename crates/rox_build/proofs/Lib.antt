@@ -4,6 +4,8 @@ pub mod Stable
 pub mod Pairs
 pub mod Inherits
 pub mod Listing
+pub mod NameTests
+pub mod Resolving
 pub mod PartLemmas
 pub mod SectionLemmas
 pub mod Showing
@@ -11,3 +13,5 @@ pub mod Finishing
 pub mod Declaring
 pub mod Growing
 pub mod Stepping
+pub mod Taking
+pub mod Starting

@@ -121,3 +121,12 @@ with_new-front ds (x ∷ xs) = by_cases (has_pair ds x) (with_new-front ds xs) (
         → (more : List Declaration) × (cond b (with_new ds xs) (with_new (ds ++ x ∷ []) xs) ≡ ds ++ more)
     by_cases true h k = h
     by_cases false h (more, k) = (x ∷ more, k ∙ assoc ds more)
+
+-- an element that lists none of its own and does not declare `xml` declares nothing
+pub declares_nothing : (ds : List Declaration) → listable_of ds ≡ [] → declares_xml ds ≡ false → ds ≡ []
+declares_nothing [] none no_xml = refl
+declares_nothing (d ∷ ds) none no_xml = by_cases (is_xml d.prefix) refl
+  where
+    by_cases : (b : Bool) → is_xml d.prefix ≡ b → d ∷ ds ≡ []
+    by_cases true e = let k : true ≡ false = sym (ap (λ b. b || declares_xml ds) e) ∙ no_xml in cc k
+    by_cases false e = let k : d ∷ listable_of ds ≡ [] = sym (ap (λ b. cond (not b) (d ∷ listable_of ds) (listable_of ds)) e) ∙ none in cc k

@@ -6,3 +6,5 @@ pub mod Waiting
 pub mod Scopes
 pub mod Shown
 pub mod Tags
+pub mod Tagged
+pub mod Resolved

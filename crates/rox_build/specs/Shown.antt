@@ -6,7 +6,7 @@ use Rattle.rox_grammar.specs.declared.fault.Fault.{Fault}
 use Rattle.rox_grammar.specs.Forest.{Forest, Nil, Cons, join, size}
 use Rattle.rox_grammar.specs.Written.{Name, Declaration, Tag, Item, Element, Text, Comment, PI, merge, leaf}
 use Rattle.rox_grammar.specs.Tree.{listed, scope_in, node_in}
-use Rattle.rox_grammar.specs.Document.{distinct_pairs, with_new, listable, most_pairs, most_attributes}
+use Rattle.rox_grammar.specs.Document.{distinct_pairs, most_pairs, most_attributes}
 use Rattle.rox_reading.specs.Lexical.{Read, ◌>>=◌}
 use Rattle.rox_reading.specs.Machine.{prolog}
 use Rattle.rox_reading.specs.State.{Open, root, inside, State, scope_of, pairs_so_far, attributes_so_far}
@@ -24,7 +24,7 @@ use Rattle.rox_build.specs.declared.tables.ElementTables.{ElementTables}
 use Rattle.rox_build.specs.declared.tables.Scope.{Scope}
 use Rattle.rox_build.specs.declared.tables.ElementData.{ElementData}
 use Rattle.rox_build.specs.declared.tables.NodeKind.TheVariants as kind
-use Rattle.rox_build.specs.declared.tagging.StartTag.{StartTag}
+use Rattle.rox_build.specs.declared.tag.StartTag.{StartTag}
 use Rattle.rox_build.specs.declared.pending.Pending.{Pending}
 use Rattle.rox_build.specs.declared.pending.Pending.TheVariants as pending
 use Rattle.rox_build.specs.declared.builder.OpenElement.{OpenElement}
@@ -166,23 +166,3 @@ pub record Grown (old new : ElementTables) : Type 0 where
   pub names : names_in new ≡ names_in old ++ more_names
   pub more_listed : List ℕ
   pub listed_are : new.listed.items ≡ old.listed.items ++ more_listed
-
--- The tables hold what the tag has, of an element whose parent lists `above`.
-pub record Tagged (old new : ElementTables) (above : List Declaration) (start : ℕ) (tag : StartTag) (t : Tag) : Type 0 where
-  pub grown : Grown old new
-  pub names : names_in new ≡ with_new (names_in old) (listable t)
-  pub count : length new.attributes.items ≡ length old.attributes.items + length t.attributes
-  pub sound : AreSound new
-  pub few_names : length new.namespaces.items ≤ most_pairs
-  pub few_attributes : length new.attributes.items ≤ most_attributes
-  pub node_is : (e : ℕ) → node new.attributes.items (names_in new) new.listed.items start e (kind.Element tag.element) ≡ node_in (listed above t.declarations) (Element start e t)
-  pub within : IsWithin new (kind.Element tag.element)
-  pub scope : entries (names_in new) (slice_range new.listed.items tag.element.namespaces_from tag.element.namespaces_until) ≡ listed above t.declarations
-  pub name : name_view tag.name ≡ t.name
-  pub name_start : tag.name_start ≡ start + 1
-  pub name_end : tag.name_end ≡ t.name_end
-
--- a start tag, unless memory ran out
-abbrev pub GivesTag : (old new : ElementTables) → List Declaration → ℕ → Cursor → Result StartTag Failure → Read (Tag × Bool) → Type 0
-GivesTag old new above start c (Ok tag) read = (t : Tag) × (read ≡ Ok ((t, tag.empty), c.pos)) × Tagged old new above start tag t
-GivesTag old new above start c (Err e) read = Fails e read

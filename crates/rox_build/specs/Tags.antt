@@ -5,8 +5,12 @@ use Rattle.rox_grammar.specs.declared.fault.Fault.{Fault}
 use Rattle.rox_grammar.specs.Written.{Attribute, Declaration, Tag}
 use Rattle.rox_grammar.specs.WellNamed.{is_xml}
 use Rattle.rox_grammar.specs.Document.{with_new, most_pairs}
-use Rattle.rox_reading.specs.Tags.{Held, listable_of}
+use Rattle.rox_reading.specs.Tags.{Held, listable_of, taken, attribute_with}
 use Rattle.rox_scan.specs.Gives.{Fails, name_view}
+use Rattle.rox_reading.specs.Lexical.{Read, ◌>>=◌}
+use Rattle.rox_reading.specs.Markup.{RawAttribute}
+use Rattle.rox_reading.specs.Values.{value_at}
+use Rattle.rox_scan.specs.declared.cursor.Cursor.{Cursor}
 use Rattle.rox_scan.specs.declared.failure.Failure.{Failure}
 use Rattle.rox_build.specs.Storage.{storage_bytes, is_borrowed}
 use Rattle.rox_build.specs.Scopes.{entries, ArePlaces}
@@ -19,8 +23,14 @@ declares_xml own = list_any (λ d. is_xml d.prefix) own
 -- an attribute of the tag that is being read, as written
 abbrev pub taken_view : Taken → Attribute
 taken_view t = record {
-    start = t.start; name_end = t.name_end; value_start = t.value_start; end = t.end; name = name_view t.name;
-    value = storage_bytes t.value; borrowed = is_borrowed t.value }
+  start = t.start;
+  name_end = t.name_end;
+  value_start = t.value_start;
+  end = t.end;
+  name = name_view t.name;
+  value = storage_bytes t.value;
+  borrowed = is_borrowed t.value;
+}
 
 -- The table of pairs, the listed places and the flag for `xml` are those of these declarations, where the table was
 -- `known` and the places `before` when the tag began.
@@ -37,3 +47,22 @@ pub record Declares (known : List Declaration) (before : List ℕ) (names : List
 abbrev pub Declared : (known : List Declaration) (before : List ℕ) (names : List Declaration) (listed : List ℕ) → Result Bool Failure → Held → Result Held Fault → Type 0
 Declared known before names listed (Ok xml) h read = (own : List Declaration) × (read ≡ Ok (record { own = own; attributes = h.attributes })) × Declares known before names listed xml own
 Declared known before names listed (Err e) h read = Fails e read
+
+-- the same of the whole tag so far: its attributes wait in a buffer
+pub record Holding (known : List Declaration) (before : List ℕ) (names : List Declaration) (listed : List ℕ) (xml : Bool) (taken : List Taken) (h : Held) : Type 0 where
+  pub declares : Declares known before names listed xml h.own
+  pub attributes : map taken_view taken ≡ h.attributes
+
+-- what one more attribute or declaration makes of that
+abbrev pub Took : (known : List Declaration) (before : List ℕ) (names : List Declaration) (listed : List ℕ) (taken : List Taken) → Result Bool Failure → Result Held Fault → Type 0
+Took known before names listed taken (Ok xml) read = (h : Held) × (read ≡ Ok h) × Holding known before names listed xml taken h
+Took known before names listed taken (Err e) read = Fails e read
+
+-- and all of them, up to the end of the tag: whether `xml` is declared, and whether the tag is empty
+abbrev pub TookAll : (known : List Declaration) (before : List ℕ) (names : List Declaration) (listed : List ℕ) (taken : List Taken) → Cursor → Result (Bool × Bool) Failure → Read (Held × Bool) → Type 0
+TookAll known before names listed taken after (Ok x) read = (h : Held) × (read ≡ Ok ((h, x.1), after.pos)) × Holding known before names listed x.0 taken h
+TookAll known before names listed taken after (Err e) read = Fails e read
+
+-- what is read of one more attribute or declaration, with its value
+abbrev pub one_more : List Declaration → List ℕ → RawAttribute → Held → Result Held Fault
+one_more known src raw h = value_at src raw.value_start raw.value_end >>= λ v. taken known (attribute_with raw v) h

@@ -9,7 +9,7 @@ ghost use Rattle.rox_build.specs.Waiting.{waiting};
 use crate::pending::Pending;
 use crate::storage::StringStorage;
 use crate::tables::{ElementTables, NodeData, NodeKind, Scope, Tables};
-use crate::tagging::{Buffers, StartTag};
+use crate::tag::{Buffers, StartTag};
 use crate::value::Piece;
 use rox_grammar::fault::Fault;
 use rox_scan::cursor::QName;
@@ -122,7 +122,7 @@ impl<'input> Builder<'input> {
             joined: String::new(alloc),
             buffers: Buffers {
                 scratch: String::new(alloc),
-                prefixes: Vec::new(alloc),
+                taken: Vec::new(alloc),
             },
             finders: Finders::new(),
             nodes_limit,

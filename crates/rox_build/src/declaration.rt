@@ -1,6 +1,6 @@
 //! The declarations of a start tag, one by one (XML 1.0 section 3.1, Namespaces in XML 1.0 section 3).
 
-ghost use Rattle.std.specs.Prelude.{◌≡◌, ◌<◌, ◌≤◌, ◌+◌, ◌-◌, ◌^◌, List, ℕ, length, map, Ok, Err};
+ghost use Rattle.std.specs.Prelude.{◌≡◌, ◌<◌, ◌≤◌, ◌+◌, ◌-◌, ◌^◌, List, ℕ, length, map, Ok, Err, OnOk};
 ghost use Rattle.rox_grammar.specs.declared.fault.Span.{Span as SpecSpan};
 ghost use Rattle.rox_grammar.specs.Written.{Attribute, Declaration, Name, declares, local_span, prefix_span};
 ghost use Rattle.rox_grammar.specs.Document.{most_pairs};
@@ -24,7 +24,10 @@ use rox_scan::failure::Failure;
 pub fn local_span(local: &str, end: usize) -> Span
     ensures { (n : Name) → n.local ≡ local.now → result ≡ local_span n end }
 {
-    Span { start: end.saturating_sub(local.len()), end }
+    Span {
+        start: end.saturating_sub(local.len()),
+        end,
+    }
 }
 
 /// Where the prefix of a name stands that begins at `start`.
@@ -33,7 +36,10 @@ pub fn prefix_span(prefix: &str, start: usize) -> Span
     requires { start < 2 ^ 63 }
     ensures { (n : Name) → n.prefix ≡ prefix.now → result ≡ prefix_span n start }
 {
-    Span { start, end: start + prefix.len() }
+    Span {
+        start,
+        end: start + prefix.len(),
+    }
 }
 
 /// Whether the name declares a prefix or the default.
@@ -53,9 +59,17 @@ fn test_prefix_uri(local: &str, uri: &str, at: usize) -> Result<(), Fault>
     }
     let is_xml = uri == XML_URI;
     if local == "xml" {
-        return if is_xml { Ok(()) } else { Err(Fault::InvalidXmlPrefixUri(at)) };
+        return if is_xml {
+            Ok(())
+        } else {
+            Err(Fault::InvalidXmlPrefixUri(at))
+        };
     }
-    if is_xml { Err(Fault::UnexpectedXmlUri(at)) } else { Ok(()) }
+    if is_xml {
+        Err(Fault::UnexpectedXmlUri(at))
+    } else {
+        Ok(())
+    }
 }
 
 /// The same of the default.
@@ -92,7 +106,11 @@ impl<'input> Taken<'input> {
     fn declared_prefix(&self) -> Option<&'input str>
         ensures { prefix_view result ≡ (declaration_of (taken_view self.now)).prefix }
     {
-        if self.name.prefix == "xmlns" { Some(self.name.local) } else { None }
+        if self.name.prefix == "xmlns" {
+            Some(self.name.local)
+        } else {
+            None
+        }
     }
 }
 
@@ -119,14 +137,20 @@ pub fn take_declaration<'input>(
     requires places { ArePlaces (length names.old.items) listed.old.items }
     requires own { own ≤ length listed.old.items }
     requires few { length names.old.items ≤ most_pairs }
-    ensures { (known : List Declaration) (before : List ℕ) (h : Held) → own ≡ length before
+    ensures places { OnOk result (ArePlaces (length names.new.items) listed.new.items) }
+    ensures own { OnOk result (own ≤ length listed.new.items) }
+    ensures few { OnOk result (length names.new.items ≤ most_pairs) }
+    ensures value { (known : List Declaration) (before : List ℕ) (h : Held) → own ≡ length before
         → Declares known before (map declaration names.old.items) listed.old.items xml h.own
         → Declared known before (map declaration names.new.items) listed.new.items result h (spec.declared known (taken_view taken.entry) h) }
 {
     taken.test_uri()?;
     let prefix = taken.declared_prefix();
     if is_again(names.as_slice(), &listed[own..], xml, prefix) {
-        return Err(Failure::Fault(Fault::DuplicatedNamespace(local_span(taken.name.local, taken.name_end), taken.start)));
+        return Err(Failure::Fault(Fault::DuplicatedNamespace(
+            local_span(taken.name.local, taken.name_end),
+            taken.start,
+        )));
     }
     if is_xml(prefix) {
         return Ok(true);

@@ -4,13 +4,13 @@
 pub mod builder;
 pub mod declaration;
 pub mod namespaces;
-pub mod naming;
 pub mod pending;
 pub mod reader;
 pub mod reference;
+pub mod resolve;
 pub mod scope;
 pub mod storage;
 pub mod tables;
-pub mod tagging;
+pub mod tag;
 pub mod taken;
 pub mod value;

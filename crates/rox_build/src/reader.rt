@@ -21,7 +21,7 @@ ghost use Rattle.rox_build.specs.Shown.{Fine, Sees, Stepped, SteppedWith, Comple
 use crate::builder::Builder;
 use crate::storage::StringStorage;
 use crate::tables::{NodeKind, PI, Tables};
-use crate::tagging::start_tag;
+use crate::tag::start_tag;
 use crate::value::{cdata_text, run};
 use rox_grammar::fault::{Fault, Span, Word};
 use rox_scan::cursor::{Cursor, QName};

@@ -1,0 +1,129 @@
+-- The loop that resolves the names of a tag.
+use Rattle.std.proofs.Common.{◌≡◌, ℕ, ◌+◌, ◌<◌, ◌≤◌, List, [], ◌∷◌, ◌++◌, length, map, take, drop, get_or, add-one, drop-cons, refl, sym, ap, ◌∙◌, arith, subst, set, length-set, Option, Ok, Err}
+use Rattle.std.proofs.Math.ListN.{drop_of_length-le}
+use Rattle.std.proofs.Math.Seq.{drop-append_seam}
+use Rattle.std.specs.List.{AllByRecursion, slice_range}
+use Rattle.std.proofs.lemmas.List.{take_more, take_all, get_or_read, drop-set-lt, append_assoc, map-append}
+use Rattle.rox_grammar.specs.declared.fault.Fault.{Fault}
+use Rattle.rox_grammar.specs.Written.{Attribute, Declaration}
+use Rattle.rox_grammar.specs.Tree as tree
+use Rattle.rox_grammar.specs.Tree.{attribute_namespace, attribute_in}
+use Rattle.rox_reading.specs.Tags.{names_tested}
+use Rattle.rox_build.specs.declared.tables.AttributeNamespace.{AttributeNamespace}
+use Rattle.rox_build.specs.declared.tables.AttributeData.{AttributeData}
+use Rattle.rox_build.specs.declared.taken.Taken.{Taken}
+use Rattle.rox_scan.specs.Gives.{name_view}
+use Rattle.rox_build.specs.Storage.{storage_bytes, is_borrowed}
+use Rattle.rox_build.specs.Lines.{attribute, namespace_of, NamespaceWithin}
+use Rattle.rox_build.specs.Tags.{taken_view}
+use Rattle.rox_build.specs.Resolved.{row_of}
+use Rattle.rox_build.proofs.Stable.{all_append}
+use Rattle.rox_build.proofs.Inherits.{slice-rest}
+
+-- The first k of these attributes have rows at the end of the table, and those from k on are still to be tested and moved.
+pub record Resolving (n : ℕ) (names scope : List Declaration) (initial : List Taken) (old : List AttributeData) (k : ℕ) (now : List Taken) (table : List AttributeData) : Type 0 where
+  pub done : List AttributeData
+  pub table_is : table ≡ old ++ done
+  pub shown : map (attribute names) done ≡ map (attribute_in scope) (map taken_view (take k initial))
+  pub within : AllByRecursion (λ a. NamespaceWithin n a.namespace) done
+  pub tested : names_tested scope [] (map taken_view initial) ≡ names_tested scope (map taken_view (take k initial)) (map taken_view (drop k initial))
+  pub left : drop k now ≡ drop k initial
+  pub long : length now ≡ length initial
+
+-- no name is left to be tested
+nothing_left : (scope : List Declaration) (before : List Attribute) → names_tested scope before [] ≡ Ok tt
+unfolding names_tested
+nothing_left scope before = refl
+
+-- where all are moved
+pub ends : (n : ℕ) (names scope : List Declaration) (initial : List Taken) (old : List AttributeData) (k : ℕ) (now : List Taken) (table : List AttributeData)
+    → Resolving n names scope initial old k now table → length initial ≤ k
+    → (names_tested scope [] (map taken_view initial) ≡ Ok tt)
+    × ((more : List AttributeData) × (table ≡ old ++ more)
+    × (map (attribute names) more ≡ map (attribute_in scope) (map taken_view initial))
+    × AllByRecursion (λ a. NamespaceWithin n a.namespace) more)
+ends n names scope initial old k now table h le =
+    let all : take k initial ≡ initial = take_all k initial le in
+    let none : drop k initial ≡ [] = drop_of_length-le initial le in (
+      h.tested ∙ ap (λ xs. names_tested scope (map taken_view (take k initial)) (map taken_view xs)) none ∙ nothing_left scope (map taken_view (take k initial)),
+      (h.done, h.table_is, h.shown ∙ ap (λ xs. map (attribute_in scope) (map taken_view xs)) all, h.within),
+    )
+
+-- the rows that are done show the attributes that are done
+front_shown : (n : ℕ) (names scope : List Declaration) (initial : List Taken) (old : List AttributeData) (k : ℕ) (now : List Taken) (table : List AttributeData)
+    → Resolving n names scope initial old k now table
+    → map (attribute names) (drop (length old) table) ≡ map (attribute_in scope) (map taken_view (take k initial))
+front_shown n names scope initial old k now table h = ap (map (attribute names)) (ap (drop (length old)) h.table_is ∙ drop-append_seam old h.done) ∙ h.shown
+
+-- the attribute that stands at k
+record Stands (initial now : List Taken) (k : ℕ) (t : Taken) : Type 0 where
+  pub rest : drop k initial ≡ t ∷ drop (k + 1) initial
+  pub left : drop (k + 1) now ≡ drop (k + 1) initial
+  pub front : take (k + 1) initial ≡ take k initial ++ t ∷ []
+
+-- what the code looks at is that attribute
+stands_at : (initial now : List Taken) (k : ℕ) (t : Taken) → drop k now ≡ drop k initial → length now ≡ length initial → k < length now → t ≡ get_or now k t → Stands initial now k t
+stands_at initial now k t left long lt is =
+    let within : k < length initial = omega arith in
+    let dn : drop k now ≡ get_or now k t ∷ drop (k + 1) now = rw (add-one, drop-cons now k t) refl in
+    let di : drop k initial ≡ get_or initial k t ∷ drop (k + 1) initial = rw (add-one, drop-cons initial k t) refl in
+    let both : get_or now k t ∷ drop (k + 1) now ≡ get_or initial k t ∷ drop (k + 1) initial = sym dn ∙ left ∙ di in
+    let here : t ≡ get_or initial k t = is ∙ cc both in
+    record {
+      rest = di ∙ ap (λ y. y ∷ drop (k + 1) initial) (sym here);
+      left = cc both;
+      front = take_more initial k t within ∙ ap (λ y. take k initial ++ y ∷ []) (sym here);
+    }
+
+-- a name that is refused is that of the fault of all
+pub refuses : (n : ℕ) (names scope : List Declaration) (initial : List Taken) (old : List AttributeData) (k : ℕ) (now : List Taken) (table : List AttributeData) (t : Taken) (f : Fault)
+    → Resolving n names scope initial old k now table → k < length now → t ≡ get_or now k t
+    → ((before rest : List Attribute) → map (attribute names) (drop (length old) table) ≡ map (attribute_in scope) before → names_tested scope before (taken_view t ∷ rest) ≡ Err f)
+    → names_tested scope [] (map taken_view initial) ≡ Err f
+refuses n names scope initial old k now table t f h lt is step =
+    let st = stands_at initial now k t h.left h.long lt is in
+    h.tested ∙ ap (λ ys. names_tested scope (map taken_view (take k initial)) (map taken_view ys)) st.rest
+    ∙ step (map taken_view (take k initial)) (map taken_view (drop (k + 1) initial)) (front_shown n names scope initial old k now table h)
+
+-- the row of an attribute shows it
+row_shown : (names scope : List Declaration) (t : Taken) (s : AttributeNamespace) → namespace_of names s ≡ attribute_namespace scope (name_view t.name)
+    → attribute names (row_of t s) ≡ attribute_in scope (taken_view t)
+row_shown names scope t s h = ap (λ (o : Option (List ℕ)).
+    let r : tree.Attribute = record { start = t.start; name_end = t.name_end; value_start = t.value_start; end = t.end; namespace = o; local = t.name.local.now; value = storage_bytes t.value; borrowed = is_borrowed t.value } in r) h
+
+-- one more attribute that is moved
+pub moves : (n : ℕ) (names scope : List Declaration) (initial : List Taken) (old : List AttributeData) (k : ℕ) (now : List Taken) (table : List AttributeData)
+    (t u x : Taken) (s : AttributeNamespace) (row : AttributeData) (more : List AttributeData)
+    → Resolving n names scope initial old k now table → k < length now → t ≡ get_or now k t
+    → ((before rest : List Attribute) → map (attribute names) (drop (length old) table) ≡ map (attribute_in scope) before
+    → names_tested scope before (taken_view t ∷ rest) ≡ names_tested scope (before ++ taken_view t ∷ []) rest)
+    → NamespaceWithin n s → namespace_of names s ≡ attribute_namespace scope (name_view t.name)
+    → u ≡ get_or now k u → row ≡ row_of u s → more ≡ table ++ row ∷ []
+    → Resolving n names scope initial old (k + 1) (set now k x) more
+moves n names scope initial old k now table t u x s row more h lt is step within space looked made grown =
+    let st = stands_at initial now k t h.left h.long lt is in
+    let before = map taken_view (take k initial) in
+    let rest = map taken_view (drop (k + 1) initial) in
+    let same : u ≡ t = looked ∙ sym (get_or_read now k t lt is u) in
+    let made_of : row ≡ row_of t s = made ∙ ap (λ (v : Taken). row_of v s) same in
+    let views : map taken_view (take (k + 1) initial) ≡ before ++ taken_view t ∷ [] =
+    ap (map taken_view) st.front ∙ map-append taken_view (take k initial) (t ∷ []) in
+    record {
+      done = h.done ++ row ∷ [];
+      table_is = grown ∙ ap (λ xs. xs ++ row ∷ []) h.table_is ∙ append_assoc old h.done (row ∷ []);
+      shown = map-append (attribute names) h.done (row ∷ []) ∙ ap (λ xs. xs ++ attribute names row ∷ []) h.shown
+          ∙ ap (λ (r : tree.Attribute). map (attribute_in scope) before ++ r ∷ []) (ap (attribute names) made_of ∙ row_shown names scope t s space)
+          ∙ sym (map-append (attribute_in scope) before (taken_view t ∷ [])) ∙ ap (map (attribute_in scope)) (sym views);
+      within = all_append (λ a. NamespaceWithin n a.namespace) h.done (row ∷ []) h.within (subst (λ (r : AttributeData). NamespaceWithin n r.namespace) (sym made_of) within, tt);
+      tested = h.tested ∙ ap (λ ys. names_tested scope before (map taken_view ys)) st.rest
+          ∙ step before rest (front_shown n names scope initial old k now table h)
+          ∙ ap (λ ys. names_tested scope ys rest) (sym views);
+      left = drop-set-lt (k + 1) now k x (omega arith) ∙ st.left;
+      long = length-set now k x ∙ h.long;
+    }
+
+-- the rows behind the first of the table, as a slice of it
+pub rows_behind : (table seen : List AttributeData) (old : List AttributeData) (from : ℕ) → seen ≡ table → from ≡ length old
+    → slice_range seen from (length seen) ≡ drop (length old) table
+rows_behind table seen old from same at =
+    ap (λ xs. slice_range xs from (length xs)) same ∙ slice-rest table from ∙ ap (λ i. drop i table) at

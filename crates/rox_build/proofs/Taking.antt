@@ -1,0 +1,178 @@
+-- One attribute or declaration of a start tag, and the loop over them.
+use Rattle.std.proofs.Common.{◌≡◌, ℕ, zero, suc, ◌+◌, ◌<◌, ◌≤◌, Bool, true, false, cond, eqb, nat_le, if◌then◌else◌, List, [], ◌∷◌, ◌++◌, map, length, get_or, refl, sym, ap, ◌∙◌, subst, arith, Result, Ok, Err, le-leb}
+use Rattle.std.proofs.lemmas.List.{map-append}
+use Rattle.std.proofs.lemmas.Bool.{leb-false, lt-leb}
+use Rattle.rox_grammar.specs.declared.fault.Fault.{Fault}
+use Rattle.rox_grammar.specs.Written.{Attribute, Declaration, declares}
+use Rattle.rox_grammar.specs.Names.{spaces_end}
+use Rattle.rox_reading.specs.Lexical.{Read, ◌>>=◌, byte_at, quote_at, qname_at}
+use Rattle.rox_reading.specs.Markup.{RawAttribute, Turn, more, opened, closed, turn_at, attribute_at, raw_value_at}
+use Rattle.rox_reading.specs.Values.{RunText, value_at}
+use Rattle.rox_reading.specs.Tags as tags
+use Rattle.rox_reading.specs.Tags.{Held, declared, attribute_with, after_turn, attributes_at}
+use Rattle.rox_scan.specs.Gives.{Fails, name_view}
+use Rattle.rox_scan.specs.Parts.{attribute_view}
+use Rattle.rox_scan.specs.declared.failure.Failure.{Failure}
+use Rattle.rox_scan.specs.declared.failure.Failure.TheVariants as failure
+use Rattle.rox_scan.specs.declared.markup.RawAttribute.{RawAttribute as CodeRaw}
+use Rattle.rox_build.specs.Storage.{storage_bytes, is_borrowed}
+use Rattle.rox_build.specs.declared.storage.StringStorage.{StringStorage}
+use Rattle.rox_build.specs.declared.taken.Taken.{Taken}
+use Rattle.rox_build.specs.Tags.{taken_view, Declares, Declared, Holding, Took, one_more}
+
+-- an attribute with its value is the one that the code makes of it
+pub view_is : (raw : CodeRaw) (v : RunText) (t : Taken) → t.start ≡ raw.start → t.name_end ≡ raw.name_end → t.value_start ≡ raw.value_start → t.end ≡ raw.value_end + 1
+    → t.name ≡ raw.name → storage_bytes t.value ≡ v.value → is_borrowed t.value ≡ v.plain → attribute_with (attribute_view raw) v ≡ taken_view t
+view_is raw v t a b c d e f g = rw (a, b, c, d, e, f, g) refl
+
+one_is : (known : List Declaration) (src : List ℕ) (raw : RawAttribute) (h : Held) (v : RunText) (a : Attribute) → value_at src raw.value_start raw.value_end ≡ Ok v → attribute_with raw v ≡ a
+    → one_more known src raw h ≡ tags.taken known a h
+one_is known src raw h v a is view =
+    ap (λ (r : Result RunText Fault). r >>= λ v. tags.taken known (attribute_with raw v) h) is ∙ ap (λ (a : Attribute). tags.taken known a h) view
+
+pub took_declaration : (known : List Declaration) (before : List ℕ) (names : List Declaration) (listed : List ℕ) (taken : List Taken) (r : Result Bool Failure) (src : List ℕ) (raw : RawAttribute) (h : Held)
+    (v : RunText) (a : Attribute) → value_at src raw.value_start raw.value_end ≡ Ok v → attribute_with raw v ≡ a → declares a.name ≡ true → map taken_view taken ≡ h.attributes
+    → Declared known before names listed r h (declared known a h) → Took known before names listed taken r (one_more known src raw h)
+took_declaration known before names listed taken (Ok xml) src raw h v a is view dec same (own, read, d) =
+    (record { own = own; attributes = h.attributes }, one_is known src raw h v a is view ∙ rw dec read, record { declares = d; attributes = same })
+took_declaration known before names listed taken (Err e) src raw h v a is view dec same fails =
+    let k : declared known a h ≡ one_more known src raw h = sym (one_is known src raw h v a is view ∙ rw dec refl) in
+    subst (λ (r : Result Held Fault). Fails e r) k fails
+
+pub took_attribute : (known : List Declaration) (before : List ℕ) (names : List Declaration) (listed : List ℕ) (xml : Bool) (taken kept : List Taken) (src : List ℕ) (raw : CodeRaw) (h : Held)
+    (v : RunText) (t : Taken) → kept ≡ taken ++ t ∷ [] → value_at src raw.value_start raw.value_end ≡ Ok v → t.start ≡ raw.start → t.name_end ≡ raw.name_end → t.value_start ≡ raw.value_start
+    → t.end ≡ raw.value_end + 1 → t.name ≡ raw.name → storage_bytes t.value ≡ v.value → is_borrowed t.value ≡ v.plain → declares (name_view raw.name) ≡ false
+    → Holding known before names listed xml taken h
+    → (x : Held) × (one_more known src (attribute_view raw) h ≡ Ok x) × Holding known before names listed xml kept x
+took_attribute known before names listed xml taken kept src raw h v t push is a b d e n f g dec hold =
+    let view = view_is raw v t a b d e n f g in
+    let other : declares (taken_view t).name ≡ false = ap (λ n. declares (name_view n)) n ∙ dec in (
+      record { own = h.own; attributes = h.attributes ++ taken_view t ∷ [] },
+      one_is known src (attribute_view raw) h v (taken_view t) is view ∙ rw other refl,
+      record { declares = hold.declares; attributes = ap (map taken_view) push ∙ map-append taken_view taken (t ∷ []) ∙ ap (λ xs. xs ++ taken_view t ∷ []) hold.attributes },
+    )
+
+-- ---- what a turn gives
+
+bind_ok : {A B P : Type 0} (r : Result A Fault) (f : A → Result B Fault) (y : B) → (r >>= f) ≡ Ok y → ((x : A) → r ≡ Ok x → f x ≡ Ok y → P) → P
+bind_ok (Ok x) f y h go = go x refl h
+bind_ok (Err e) f y h go = cc h
+
+chosen : {X P : Type 0} (b : Bool) (x y z : X) → cond b x y ≡ z → (b ≡ true → x ≡ z → P) → (b ≡ false → y ≡ z → P) → P
+chosen true x y z h holds fails = holds refl h
+chosen false x y z h holds fails = fails refl h
+
+-- an attribute that a turn gives begins within the text, and the turn ends behind its closing quote
+pub record TurnGives (src : List ℕ) (raw : RawAttribute) (j : ℕ) : Type 0 where
+  pub within : raw.start < length src
+  pub end : j ≡ raw.value_end + 1
+
+byte_next : (b : ℕ) (src : List ℕ) (i : ℕ) (x : Unit {0}) (j : ℕ) → byte_at b src i ≡ Ok (x, j) → j ≡ i + 1
+unfolding byte_at
+byte_next b src i x j h = chosen (nat_le (length src) i) _ _ _ h (λ t h. cc h) (λ f h. chosen (eqb (get_or src i 0) b) _ _ _ h
+    (λ t h. let e : ◌≡◌ {A = Result (Unit {0} × ℕ) Fault} (Ok (tt, i + 1)) (Ok (x, j)) = h in sym (second (tt, i + 1) (x, j) e)) (λ f h. cc h))
+  where
+    second : (p q : Unit {0} × ℕ) → ◌≡◌ {A = Result (Unit {0} × ℕ) Fault} (Ok p) (Ok q) → p.1 ≡ q.1
+    second p q h = let k : p ≡ q = cc h in ap (λ p. p.1) k
+
+attribute_gives : (src : List ℕ) (i : ℕ) (raw : RawAttribute) (j : ℕ) → attribute_at src i ≡ Ok (raw, j) → (raw.start ≡ i) × (j ≡ raw.value_end + 1)
+unfolding attribute_at
+attribute_gives src i raw j h =
+    bind_ok (qname_at src i) _ _ h (λ name _ h. bind_ok (byte_at 61 src (spaces_end src name.1)) _ _ h (λ equals _ h. bind_ok (quote_at src (spaces_end src equals.1)) _ _ h (λ quote _ h.
+    bind_ok (raw_value_at quote.0 src quote.1) _ _ h (λ value _ h. bind_ok (byte_at quote.0 src value.1) _ _ h (λ done is h.
+    let made : RawAttribute = record { start = i; name = name.0; name_end = name.1; value_start = quote.1; value_end = value.1 } in
+    let k : ◌≡◌ {A = RawAttribute × ℕ} (made, done.1) (raw, j) = same_ok (made, done.1) (raw, j) h in
+    let r : made ≡ raw = ap (λ p. p.0) k in
+    let e : done.1 ≡ j = ap (λ p. p.1) k in
+    (sym (ap (λ r. r.start) r), sym e ∙ byte_next quote.0 src value.1 done.0 done.1 is ∙ ap (λ r. r.value_end + 1) r))))))
+  where
+    same_ok : (p q : RawAttribute × ℕ) → ◌≡◌ {A = Result (RawAttribute × ℕ) Fault} (Ok p) (Ok q) → p ≡ q
+    same_ok p q h = cc h
+
+same_turn : (p q : Turn × ℕ) → ◌≡◌ {A = Result (Turn × ℕ) Fault} (Ok p) (Ok q) → p ≡ q
+same_turn p q h = cc h
+
+closed_no : (raw : RawAttribute) (j k : ℕ) → ◌≡◌ {A = Result (Turn × ℕ) Fault} (Ok (closed, k)) (Ok (more raw, j)) → ⊥
+closed_no raw j k h = let e : ◌≡◌ {A = Turn} closed (more raw) = ap (λ p. p.0) (same_turn (closed, k) (more raw, j) h) in cc e
+
+opened_no : (raw : RawAttribute) (j k : ℕ) → ◌≡◌ {A = Result (Turn × ℕ) Fault} (Ok (opened, k)) (Ok (more raw, j)) → ⊥
+opened_no raw j k h = let e : ◌≡◌ {A = Turn} opened (more raw) = ap (λ p. p.0) (same_turn (opened, k) (more raw, j) h) in cc e
+
+fault_no : (f : Fault) (x : Turn × ℕ) → ◌≡◌ {A = Result (Turn × ℕ) Fault} (Err f) (Ok x) → ⊥
+fault_no f x h = cc h
+
+pub turn_gives : (src : List ℕ) (i : ℕ) (raw : RawAttribute) (j : ℕ) → turn_at src i ≡ Ok (more raw, j) → TurnGives src raw j
+unfolding turn_at
+turn_gives src i raw j h =
+    let k = spaces_end src i in
+    chosen (nat_le (length src) k) _ _ _ h (λ t h. absurd (fault_no _ _ h)) (λ inside h.
+    chosen (eqb (get_or src k 0) 47) _ _ _ h (λ t h. bind_ok (byte_at 62 src (k + 1)) _ _ h (λ x _ h. absurd (closed_no raw j x.1 h))) (λ f h.
+    chosen (eqb (get_or src k 0) 62) _ _ _ h (λ t h. absurd (opened_no raw j (k + 1) h)) (λ f h.
+    chosen (eqb k i) _ _ _ h (λ t h. absurd (fault_no _ _ h)) (λ f h.
+    bind_ok (attribute_at src k) _ _ h (λ x is h.
+    let e : ◌≡◌ {A = Turn × ℕ} (more x.0, x.1) (more raw, j) = same_turn (more x.0, x.1) (more raw, j) h in
+    let r : x.0 ≡ raw = same_more x.0 raw (ap (λ p. p.0) e) in
+    let n : x.1 ≡ j = ap (λ p. p.1) e in
+    let g = attribute_gives src k x.0 x.1 is in
+    record { within = subst (λ (m : ℕ). m < length src) (sym g.0 ∙ ap (λ r. r.start) r) (leb-false _ _ inside); end = sym n ∙ g.1 ∙ ap (λ r. r.value_end + 1) r })))))
+  where
+    same_more : (a b : RawAttribute) → ◌≡◌ {A = Turn} (more a) (more b) → a ≡ b
+    same_more a b h = cc h
+
+-- ---- the loop
+
+pub record Going (known : List Declaration) (before : List ℕ) (cut : Fault) (src : List ℕ) (whole : Read (Held × Bool)) (n i : ℕ) (names : List Declaration) (listed : List ℕ) (xml : Bool) (taken : List Taken) : Type 0 where
+  pub h : Held
+  pub holding : Holding known before names listed xml taken h
+  pub same : attributes_at n cut known src i h ≡ whole
+
+-- the text ends
+pub going_cut : (known : List Declaration) (before : List ℕ) (cut : Fault) (src : List ℕ) (whole : Read (Held × Bool)) (n i : ℕ) (names : List Declaration) (listed : List ℕ) (xml : Bool) (taken : List Taken)
+    → Going known before cut src whole n i names listed xml taken → length src ≤ i → whole ≡ Err cut
+unfolding attributes_at
+going_cut known before cut src whole zero i names listed xml taken g past = sym g.same
+going_cut known before cut src whole (suc n) i names listed xml taken g past = let k = le-leb _ _ past in sym g.same ∙ rw k refl
+
+-- the turns are used up
+pub going_none : (known : List Declaration) (before : List ℕ) (cut : Fault) (src : List ℕ) (whole : Read (Held × Bool)) (n i : ℕ) (names : List Declaration) (listed : List ℕ) (xml : Bool) (taken : List Taken)
+    → Going known before cut src whole n i names listed xml taken → n ≡ 0 → whole ≡ Err cut
+unfolding attributes_at
+going_none known before cut src whole n i names listed xml taken g none = sym g.same ∙ rw none refl
+
+turned : (cut : Fault) (known : List Declaration) (src : List ℕ) (n m i : ℕ) (h : Held) → n ≡ suc m → i < length src
+    → attributes_at n cut known src i h ≡ (turn_at src i >>= λ x. after_turn (λ j held. attributes_at m cut known src j held) known src h x.0 x.1)
+unfolding attributes_at
+turned cut known src n m i h one inside = let k = lt-leb _ _ inside in rw (one, k) refl
+
+pub going_fails : (known : List Declaration) (before : List ℕ) (cut : Fault) (src : List ℕ) (whole : Read (Held × Bool)) (n m i : ℕ) (names : List Declaration) (listed : List ℕ) (xml : Bool) (taken : List Taken) (f : Fault)
+    → Going known before cut src whole n i names listed xml taken → n ≡ suc m → i < length src → turn_at src i ≡ Err f → whole ≡ Err f
+going_fails known before cut src whole n m i names listed xml taken f g one inside is = sym g.same ∙ turned cut known src n m i g.h one inside ∙ rw is refl
+
+pub going_ends : (known : List Declaration) (before : List ℕ) (cut : Fault) (src : List ℕ) (whole : Read (Held × Bool)) (n m i j : ℕ) (names : List Declaration) (listed : List ℕ) (xml empty : Bool) (taken : List Taken) (t : Turn)
+    → Going known before cut src whole n i names listed xml taken → n ≡ suc m → i < length src → turn_at src i ≡ Ok (t, j) → (t ≡ (if empty then closed else opened))
+    → (h : Held) × (whole ≡ Ok ((h, empty), j)) × Holding known before names listed xml taken h
+going_ends known before cut src whole n m i j names listed xml true taken t g one inside is kind = (g.h, sym g.same ∙ turned cut known src n m i g.h one inside ∙ rw (is, kind) refl, g.holding)
+going_ends known before cut src whole n m i j names listed xml false taken t g one inside is kind = (g.h, sym g.same ∙ turned cut known src n m i g.h one inside ∙ rw (is, kind) refl, g.holding)
+
+-- an attribute or a declaration, and then the others
+bind_assoc : {A B C : Type 0} (r : Result A Fault) (f : A → Result B Fault) (g : B → Result C Fault) → ((r >>= f) >>= g) ≡ (r >>= λ x. f x >>= g)
+bind_assoc (Ok x) f g = refl
+bind_assoc (Err e) f g = refl
+
+more_turn : (cut : Fault) (known : List Declaration) (src : List ℕ) (n m i j : ℕ) (h : Held) (raw : RawAttribute) → n ≡ suc m → i < length src → turn_at src i ≡ Ok (more raw, j)
+    → attributes_at n cut known src i h ≡ (one_more known src raw h >>= λ held. attributes_at m cut known src j held)
+more_turn cut known src n m i j h raw one inside is = turned cut known src n m i h one inside ∙ rw is refl
+    ∙ sym (bind_assoc (value_at src raw.value_start raw.value_end) (λ v. tags.taken known (attribute_with raw v) h) (λ held. attributes_at m cut known src j held))
+
+pub going_on : (known : List Declaration) (before : List ℕ) (cut : Fault) (src : List ℕ) (whole : Read (Held × Bool)) (n m i j : ℕ) (names next : List Declaration) (listed after : List ℕ) (xml now : Bool) (taken kept : List Taken) (raw : RawAttribute)
+    → (g : Going known before cut src whole n i names listed xml taken) → n ≡ suc m → i < length src → turn_at src i ≡ Ok (more raw, j)
+    → Took known before next after kept (Ok now) (one_more known src raw g.h) → Going known before cut src whole m j next after now kept
+going_on known before cut src whole n m i j names next listed after xml now taken kept raw g one inside is (h, read, hold) =
+    record { h = h; holding = hold; same = sym (more_turn cut known src n m i j g.h raw one inside is ∙ rw read refl) ∙ g.same }
+
+pub going_stops : (known : List Declaration) (before : List ℕ) (cut : Fault) (src : List ℕ) (whole : Read (Held × Bool)) (n m i j : ℕ) (names : List Declaration) (listed : List ℕ) (xml : Bool) (taken : List Taken) (raw : RawAttribute) (e : Failure)
+    → (g : Going known before cut src whole n i names listed xml taken) → n ≡ suc m → i < length src → turn_at src i ≡ Ok (more raw, j)
+    → Fails e (one_more known src raw g.h) → Fails e whole
+going_stops known before cut src whole n m i j names listed xml taken raw failure.Memory g one inside is h = tt
+going_stops known before cut src whole n m i j names listed xml taken raw (failure.Fault f) g one inside is h =
+    sym g.same ∙ more_turn cut known src n m i j g.h raw one inside is ∙ rw h refl

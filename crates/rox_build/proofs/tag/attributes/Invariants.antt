@@ -1,0 +1,22 @@
+use Rattle.std.proofs.Common.{◌≡◌, ◌≤◌, ◌-◌, ℕ, List, length, map, false}
+use Rattle.rox_grammar.specs.Written.{Declaration}
+use Rattle.rox_grammar.specs.Document.{most_pairs}
+use Rattle.rox_reading.specs.Tags.{Held, attributes_at}
+use Rattle.rox_build.specs.Lines.{declaration}
+use Rattle.rox_build.specs.Scopes.{ArePlaces}
+use Rattle.rox_build.specs.Tags.{Holding}
+use Rattle.rox_build.proofs.Taking.{Going}
+use Rattle.rox_build.proofs.tag.attributes.Given as goal
+
+abbrev pub invariant-attributes : goal.invariant-attributes
+invariant-attributes l = record {
+  source : l.cursor.text ≡ l.fn.cursor.text;
+  attributes : l.elements.attributes ≡ l.fn.elements.attributes;
+  places : ArePlaces (length l.elements.namespaces.items) l.elements.listed.items;
+  own : l.own ≤ length l.elements.listed.items;
+  few : length l.elements.namespaces.items ≤ most_pairs;
+  reads : (known : List Declaration) (before : List ℕ) (h : Held) → l.own ≡ length before
+      → Holding known before (map declaration l.fn.elements.namespaces.items) l.fn.elements.listed.items false l.fn.buffers.taken.items h
+      → Going known before l.cut l.fn.cursor.text.now (attributes_at (length l.fn.cursor.text.now) l.cut known l.fn.cursor.text.now l.fn.cursor.pos h)
+      (length l.fn.cursor.text.now - l._turn) l.cursor.pos (map declaration l.elements.namespaces.items) l.elements.listed.items l.xml l.buffers.taken.items;
+}

@@ -1,0 +1,105 @@
+use Rattle.std.proofs.Common.{◌≡◌, ◌≤◌, ◌+◌, ℕ, List, [], false, length, map, bytes_eq, refl, sym, ap, ◌∙◌, arith, Ok}
+use Rattle.std.proofs.lemmas.List.{length-map}
+use Rattle.std.proofs.lemmas.Result.{err_from_is_err_and}
+use Rattle.rox_grammar.specs.declared.fault.Word.TheVariants.{Xmlns}
+use Rattle.rox_grammar.specs.Words.{word_text}
+use Rattle.rox_grammar.specs.Tree.{listed}
+use Rattle.rox_grammar.specs.Document.{most_pairs}
+use Rattle.rox_reading.specs.Lexical.{qname_at}
+use Rattle.rox_reading.specs.Tags.{Held, attributes_at, tag_tested}
+use Rattle.rox_scan.specs.Gives.{Fails, name_view}
+use Rattle.rox_build.specs.Lines.{declaration}
+use Rattle.rox_build.specs.Tags.{taken_view, TookAll}
+use Rattle.rox_build.specs.Tagged.{scope_in_tables}
+use Rattle.rox_build.proofs.Starting.{holds_nothing, tag_unread, tag_untested, tag_made, tagged, scope_stays}
+use Rattle.rox_build.proofs.tag.start_tag.Goals as goal
+
+pub returns-in_err-xml-clause-value : goal.returns-in_err-xml-clause-value
+returns-in_err-xml-clause-value c =
+    let old = c.args.elements.now in
+    let src = c.args.cursor.now.text.now in
+    let i = c.args.cursor.now.pos in
+    let known = map declaration old.namespaces.items in
+    let above = scope_in_tables old c.args.above in
+    let s = ap (λ t. t.now) c.advance.ensures.source in
+    let s2 = ap (λ t. t.now) c.qname.ensures.source ∙ s in
+    let name = name_view c.in_ok-name.name in
+    let n = c.qname.new.self.pos in
+    let is : qname_at src (i + 1) ≡ Ok (name, n) = rw (s, c.advance.ensures.place) at c.in_ok-name.ensures.value in
+    let other : bytes_eq name.prefix (word_text Xmlns) ≡ false = sym c.eq.ensures ∙ c.if-eq.false in
+    let k = old.listed.ok.0 in
+    let own : c.len-own.result ≡ length old.listed.items = omega arith in
+    let few : length known ≤ most_pairs = rw (length-map old.namespaces.items declaration) c.requires.few in
+    let start : Held = record { own = []; attributes = [] } in
+    let nothing = holds_nothing known old.listed.items _ few c.clear.ensures.items in
+    let took = c.in_err-xml.ensures.took known old.listed.items start own nothing in
+    let p = err_from_is_err_and c.from_residual-in_err-xml.result c.from_residual-in_err-xml.ensures.1 in
+    rw (p.1, p.2) (tag_unread c.args.cut above (length old.attributes.items) known src i name n c.in_err-xml.field-0.0 is other (rw s2 at took))
+
+pub returns-in_err-element-clause-value : goal.returns-in_err-element-clause-value
+returns-in_err-element-clause-value c =
+    let old = c.args.elements.now in
+    let src = c.args.cursor.now.text.now in
+    let i = c.args.cursor.now.pos in
+    let known = map declaration old.namespaces.items in
+    let above = scope_in_tables old c.args.above in
+    let s = ap (λ t. t.now) c.advance.ensures.source in
+    let s2 = ap (λ t. t.now) c.qname.ensures.source ∙ s in
+    let name = name_view c.in_ok-name.name in
+    let n = c.qname.new.self.pos in
+    let is : qname_at src (i + 1) ≡ Ok (name, n) = rw (s, c.advance.ensures.place) at c.in_ok-name.ensures.value in
+    let other : bytes_eq name.prefix (word_text Xmlns) ≡ false = sym c.eq.ensures ∙ c.if-eq.false in
+    let k = old.listed.ok.0 in
+    let own : c.len-own.result ≡ length old.listed.items = omega arith in
+    let few : length known ≤ most_pairs = rw (length-map old.namespaces.items declaration) c.requires.few in
+    let start : Held = record { own = []; attributes = [] } in
+    let nothing = holds_nothing known old.listed.items _ few c.clear.ensures.items in
+    let took = c.in_ok-xml.ensures.took known old.listed.items start own nothing in
+    let h = took.0 in
+    let read : attributes_at (length src) c.args.cut known src n start ≡ Ok ((h, c.in_ok-xml.empty), c.attributes.new.cursor.pos) = rw s2 at took.1 in
+    let scopes : scope_in_tables c.scope_of_tag.new.elements c.in_ok-scope.scope ≡ listed above h.own =
+    c.in_ok-scope.ensures.lists known old.listed.items h.own own took.2.declares
+    ∙ ap (λ xs. listed xs h.own) (scope_stays old c.attributes.new.elements c.args.above c.in_ok-xml.xml _ h took.2 c.requires.places c.requires.above) in
+    let written = took.2.attributes in
+    let count : length c.scope_of_tag.new.elements.attributes.items ≡ length old.attributes.items =
+    ap (λ v. length v.items) (c.in_ok-scope.ensures.attributes ∙ c.in_ok-xml.ensures.attributes) in
+    let p = err_from_is_err_and c.from_residual-in_err-element.result c.from_residual-in_err-element.ensures.1 in
+    let fails : Fails c.in_err-element.field-0.0 (tag_tested (listed above h.own) (length old.attributes.items) i name h.attributes) =
+    rw (scopes, count, written) at (c.in_err-element.ensures.err i c.advance.ensures.place) in
+    rw (p.1, p.2) (tag_untested c.args.cut above (length old.attributes.items) known src i name n c.attributes.new.cursor.pos h c.in_ok-xml.empty c.in_err-element.field-0.0 is other read fails)
+
+pub returns-clause-value : goal.returns-clause-value
+returns-clause-value c =
+    let old = c.args.elements.now in
+    let src = c.args.cursor.now.text.now in
+    let i = c.args.cursor.now.pos in
+    let known = map declaration old.namespaces.items in
+    let above = scope_in_tables old c.args.above in
+    let s = ap (λ t. t.now) c.advance.ensures.source in
+    let s2 = ap (λ t. t.now) c.qname.ensures.source ∙ s in
+    let name = name_view c.in_ok-name.name in
+    let n = c.qname.new.self.pos in
+    let is : qname_at src (i + 1) ≡ Ok (name, n) = rw (s, c.advance.ensures.place) at c.in_ok-name.ensures.value in
+    let other : bytes_eq name.prefix (word_text Xmlns) ≡ false = sym c.eq.ensures ∙ c.if-eq.false in
+    let k = old.listed.ok.0 in
+    let own : c.len-own.result ≡ length old.listed.items = omega arith in
+    let few : length known ≤ most_pairs = rw (length-map old.namespaces.items declaration) c.requires.few in
+    let start : Held = record { own = []; attributes = [] } in
+    let nothing = holds_nothing known old.listed.items _ few c.clear.ensures.items in
+    let took = c.in_ok-xml.ensures.took known old.listed.items start own nothing in
+    let h = took.0 in
+    let read : attributes_at (length src) c.args.cut known src n start ≡ Ok ((h, c.in_ok-xml.empty), c.attributes.new.cursor.pos) = rw s2 at took.1 in
+    let scopes : scope_in_tables c.scope_of_tag.new.elements c.in_ok-scope.scope ≡ listed above h.own =
+    c.in_ok-scope.ensures.lists known old.listed.items h.own own took.2.declares
+    ∙ ap (λ xs. listed xs h.own) (scope_stays old c.attributes.new.elements c.args.above c.in_ok-xml.xml _ h took.2 c.requires.places c.requires.above) in
+    let written = took.2.attributes in
+    let count : length c.scope_of_tag.new.elements.attributes.items ≡ length old.attributes.items =
+    ap (λ v. length v.items) (c.in_ok-scope.ensures.attributes ∙ c.in_ok-xml.ensures.attributes) in
+    let fine : tag_tested (listed above h.own) (length old.attributes.items) i name h.attributes ≡ Ok tt =
+    rw (scopes, count, written) at (c.in_ok-element.ensures.tested i c.advance.ensures.place) in (
+      record { name = name; name_end = n; declarations = h.own; attributes = h.attributes },
+      tag_made c.args.cut above (length old.attributes.items) known src i name n c.attributes.new.cursor.pos h c.in_ok-xml.empty is other read fine,
+      tagged old c.attributes.new.elements c.scope_of_tag.new.elements c.element_data.new.elements _ above name n h c.in_ok-xml.xml _ c.in_ok-scope.scope refl refl
+          c.in_ok-xml.ensures.attributes took.2 c.in_ok-xml.ensures.few c.in_ok-scope.ensures.names c.in_ok-scope.ensures.attributes c.in_ok-scope.ensures.more c.in_ok-scope.ensures.places
+          scopes c.in_ok-element.ensures.names c.in_ok-element.ensures.listed c.in_ok-element.ensures.element,
+    )

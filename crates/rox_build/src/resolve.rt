@@ -1,0 +1,197 @@
+//! The names of a start tag in their namespaces (Namespaces in XML 1.0, sections 5, 6.2 and 6.3). They are resolved at the
+//! end of the tag, since a declaration holds for the whole of it.
+
+ghost use Rattle.std.specs.Prelude.{◌≡◌, ◌<◌, ◌^◌, ◌++◌, [], List, length, map, true, false, IfOk, OnOk, IfErr, IfSome, IfNone, Ok};
+ghost use Rattle.std.specs.List.{AllByRecursion, list_any};
+ghost use Rattle.std.specs.Option.{option_map};
+ghost use Rattle.rox_grammar.specs.declared.fault.Fault.TheVariants as fault;
+ghost use Rattle.rox_grammar.specs.Written.{Attribute, prefix_span};
+ghost use Rattle.rox_grammar.specs.Tree as tree;
+ghost use Rattle.rox_grammar.specs.Tree.{attribute_in};
+ghost use Rattle.rox_grammar.specs.WellNamed.{is_known, may_name};
+ghost use Rattle.rox_reading.specs.Tags.{names_tested};
+ghost use Rattle.rox_scan.specs.Gives.{Fails, name_view};
+ghost use Rattle.rox_build.specs.declared.tables.AttributeData.{AttributeData as SpecAttributeData};
+ghost use Rattle.rox_build.specs.Lines.{declaration, entry, attribute, namespace_of, NamespaceWithin, OptionWithin};
+ghost use Rattle.rox_build.specs.Scopes.{entries, prefix_view, ArePlaces};
+ghost use Rattle.rox_build.specs.Tags.{taken_view};
+ghost use Rattle.rox_build.specs.Resolved.{row_of, has_expanded, Tested};
+
+use crate::declaration::{local_span, prefix_span};
+use crate::scope::{XML_URI, place_of, same_prefix};
+use crate::storage::StringStorage;
+use crate::tables::{AttributeData, AttributeNamespace, Namespace};
+use crate::taken::Taken;
+use rox_grammar::fault::Fault;
+use rox_scan::cursor::QName;
+use rox_scan::failure::Failure;
+
+/// The namespace of an attribute's name in this scope: none without a prefix, and its own for `xml`. Answers `None` where
+/// the prefix is not known.
+#[inline]
+fn attribute_namespace(
+    names: &[Namespace<'_>],
+    places: &[u16],
+    name: QName<'_>,
+) -> Option<AttributeNamespace>
+    requires { ArePlaces (length names.now) places.now }
+    ensures within { IfSome result (λ s. NamespaceWithin (length names.now) s) }
+    ensures there { IfSome result (λ s. namespace_of (map declaration names.now) s ≡ tree.attribute_namespace (entries (map declaration names.now) places.now) (name_view name.entry)) }
+    ensures known { IfSome result (λ _. is_known (entries (map declaration names.now) places.now) (name_view name.entry) ≡ true) }
+    ensures unknown { IfNone result (is_known (entries (map declaration names.now) places.now) (name_view name.entry) ≡ false) }
+{
+    if name.prefix.is_empty() {
+        return Some(AttributeNamespace::None);
+    }
+    if name.prefix == "xml" {
+        return Some(AttributeNamespace::Xml);
+    }
+    match place_of(names, places, Some(name.prefix)) {
+        Some(place) => Some(AttributeNamespace::Listed(place)),
+        None => None,
+    }
+}
+
+/// The URI of an attribute's namespace.
+#[inline]
+fn namespace_uri<'a>(names: &'a [Namespace<'_>], namespace: AttributeNamespace) -> Option<&'a str>
+    requires { NamespaceWithin (length names.now) namespace }
+    ensures { prefix_view result ≡ namespace_of (map declaration names.now) namespace }
+{
+    match namespace {
+        AttributeNamespace::None => None,
+        AttributeNamespace::Xml => Some(XML_URI),
+        AttributeNamespace::Listed(place) => Some(names[place as usize].uri.as_str()),
+    }
+}
+
+/// Whether an attribute has this expanded name. Namespaces are equal where their URIs are.
+#[inline]
+fn has_expanded(
+    names: &[Namespace<'_>],
+    attribute: &AttributeData<'_>,
+    namespace: AttributeNamespace,
+    local: &str,
+) -> bool
+    requires one { NamespaceWithin (length names.now) attribute.now.namespace }
+    requires other { NamespaceWithin (length names.now) namespace }
+    ensures { result ≡ has_expanded (map declaration names.now) namespace local.now attribute.now }
+{
+    attribute.local == local
+        && same_prefix(
+            namespace_uri(names, attribute.namespace),
+            namespace_uri(names, namespace),
+        )
+}
+
+/// Whether one of these attributes has this expanded name.
+fn is_repeated(
+    names: &[Namespace<'_>],
+    done: &[AttributeData<'_>],
+    namespace: AttributeNamespace,
+    local: &str,
+) -> bool
+    requires done { AllByRecursion (λ a. NamespaceWithin (length names.now) a.namespace) done.now }
+    requires other { NamespaceWithin (length names.now) namespace }
+    ensures { result ≡ list_any (has_expanded (map declaration names.now) namespace local.now) done.now }
+{
+    for attribute in done {
+        if has_expanded(names, attribute, namespace, local) {
+            return true;
+        }
+    }
+    false
+}
+
+/// The namespace of an attribute behind these of its tag: its prefix must be known, and its expanded name be none of theirs.
+fn tested_namespace(
+    names: &[Namespace<'_>],
+    places: &[u16],
+    done: &[AttributeData<'_>],
+    taken: &Taken<'_>,
+) -> Result<AttributeNamespace, Fault>
+    requires places { ArePlaces (length names.now) places.now }
+    requires done { AllByRecursion (λ a. NamespaceWithin (length names.now) a.namespace) done.now }
+    ensures within { IfOk result (λ s. NamespaceWithin (length names.now) s) }
+    ensures there { IfOk result (λ s. namespace_of (map declaration names.now) s ≡ tree.attribute_namespace (entries (map declaration names.now) places.now) (name_view taken.now.name)) }
+    ensures tested { (before rest : List Attribute) → map (attribute (map declaration names.now)) done.now ≡ map (attribute_in (entries (map declaration names.now) places.now)) before
+        → Tested (entries (map declaration names.now) places.now) before (taken_view taken.now) rest result }
+{
+    let name = taken.name;
+    let Some(namespace) = attribute_namespace(names, places, name) else {
+        return Err(Fault::UnknownNamespace(prefix_span(name.prefix, taken.start), taken.start));
+    };
+    if is_repeated(names, done, namespace, name.local) {
+        return Err(Fault::DuplicatedAttribute(local_span(name.local, taken.name_end), taken.start));
+    }
+    Ok(namespace)
+}
+
+/// The row of an attribute with this namespace. Its value moves into the row.
+#[inline]
+fn move_row<'input>(
+    taken: &mut Taken<'input>,
+    namespace: AttributeNamespace,
+) -> AttributeData<'input>
+    ensures { result ≡ row_of taken.old namespace }
+{
+    let value = std::mem::replace(&mut taken.value, StringStorage::Borrowed(""));
+    AttributeData {
+        start: taken.start,
+        name_end: taken.name_end,
+        value_start: taken.value_start,
+        end: taken.end,
+        local: taken.name.local,
+        value,
+        namespace,
+    }
+}
+
+/// Moves the attributes of a tag into the table, each with its namespace in this scope. A prefix that is not known, or an
+/// expanded name that comes twice, is refused.
+pub fn resolve<'input>(
+    names: &[Namespace<'input>],
+    places: &[u16],
+    taken: &mut Vec<Taken<'input>>,
+    attributes: &mut Vec<AttributeData<'input>>,
+) -> Result<(), Failure>
+    requires { ArePlaces (length names.now) places.now }
+    ensures ok { OnOk result ((names_tested (entries (map declaration names.now) places.now) [] (map taken_view taken.old.items) ≡ Ok tt)
+        × ((more : List SpecAttributeData) × (attributes.new.items ≡ attributes.old.items ++ more)
+        × (map (attribute (map declaration names.now)) more ≡ map (attribute_in (entries (map declaration names.now) places.now)) (map taken_view taken.old.items))
+        × AllByRecursion (λ a. NamespaceWithin (length names.now) a.namespace) more)) }
+    ensures err { IfErr result (λ e. Fails e (names_tested (entries (map declaration names.now) places.now) [] (map taken_view taken.old.items))) }
+{
+    let from = attributes.len();
+    for turn in 0..taken.len() {
+        let namespace = tested_namespace(names, places, &attributes[from..], &taken[turn])?;
+        let row = move_row(&mut taken[turn], namespace);
+        attributes.push(row)?;
+    }
+    Ok(())
+}
+
+/// The namespace of an element's name, which stands at `at`, in this scope: without a prefix the default. A prefix that is
+/// not known is refused.
+pub fn element_namespace(
+    names: &[Namespace<'_>],
+    places: &[u16],
+    name: QName<'_>,
+    at: usize,
+) -> Result<Option<u16>, Fault>
+    requires places { ArePlaces (length names.now) places.now }
+    requires small { at < 2 ^ 63 }
+    ensures ok { IfOk result (λ o. OptionWithin (length names.now) o
+        × (option_map (λ i. (entry (map declaration names.now) i).uri) o ≡ tree.element_namespace (entries (map declaration names.now) places.now) (name_view name.entry))
+        × (may_name (entries (map declaration names.now) places.now) (name_view name.entry) ≡ true)) }
+    ensures err { IfErr result (λ f. (f ≡ fault.UnknownNamespace (prefix_span (name_view name.entry) at) at)
+        × (may_name (entries (map declaration names.now) places.now) (name_view name.entry) ≡ false)) }
+{
+    if name.prefix.is_empty() {
+        return Ok(place_of(names, places, None));
+    }
+    match place_of(names, places, Some(name.prefix)) {
+        Some(place) => Ok(Some(place)),
+        None => Err(Fault::UnknownNamespace(prefix_span(name.prefix, at), at)),
+    }
+}

@@ -1,0 +1,310 @@
+//! Start tags: attributes and declarations, each tested in order (XML 1.0 section 3.1, Namespaces in XML 1.0).
+
+ghost use Rattle.std.specs.Prelude.{◌≡◌, ◌<◌, ◌≤◌, ◌+◌, ◌-◌, ◌^◌, ◌∷◌, [], Bool, false, true, List, ℕ, length, map, Ok, Err, OnOk, IfOk, slice_index, slice_range, IfErr, ◌++◌};
+ghost use Rattle.rox_grammar.specs.Written.{Declaration};
+ghost use Rattle.rox_grammar.specs.Document.{most_pairs, most_attributes};
+ghost use Rattle.rox_reading.specs.Tags.{Held, attributes_at, tag_tested, tag_at};
+ghost use Rattle.rox_scan.specs.Gives.{Fails, name_view};
+ghost use Rattle.rox_build.specs.Tagged.{IsElement, GivesTag, scope_in_tables};
+ghost use Rattle.rox_scan.specs.Parts.{HasValue, attribute_view};
+ghost use Rattle.rox_build.specs.Values.{piece_view};
+ghost use Rattle.rox_build.specs.Storage.{storage_bytes, is_borrowed};
+ghost use Rattle.rox_build.specs.Lines.{declaration};
+ghost use Rattle.rox_build.specs.Scopes.{ArePlaces, entries};
+ghost use Rattle.rox_build.specs.Tags.{Declares, Holding, Took, TookAll, one_more, taken_view};
+ghost use Rattle.rox_grammar.specs.Tree.{listed};
+
+use crate::declaration::{declares, take_declaration};
+use crate::resolve::{element_namespace, resolve};
+use crate::scope::inherit;
+use crate::storage::StringStorage;
+use crate::tables::{ElementData, ElementTables, Scope};
+use crate::taken::Taken;
+use crate::value::{Piece, value};
+use rox_grammar::fault::Fault;
+use rox_scan::cursor::{Cursor, QName};
+use rox_scan::failure::Failure;
+use rox_scan::markup::{RawAttribute, Turn};
+use std::alloc::Global;
+
+/// A start tag that was read: its name, from `name_start` up to `name_end`, and what its element has.
+#[derive(Clone, Copy, Debug)]
+pub struct StartTag<'input> {
+    pub name: QName<'input>,
+    pub name_start: usize,
+    pub name_end: usize,
+    pub element: ElementData<'input>,
+    /// It ends with `/>`.
+    pub empty: bool,
+}
+
+/// What is used again for each start tag.
+#[derive(Drop)]
+pub struct Buffers<'input> {
+    /// The text that is read, where it is no slice of the source.
+    pub scratch: String,
+    /// The attributes of the tag.
+    pub taken: Vec<Taken<'input>>,
+}
+
+/// A text to keep: a slice of the source where it is one, else a copy of the buffer.
+#[inline]
+pub fn stored<'input>(
+    alloc: Global,
+    piece: Piece<'input>,
+    scratch: &str,
+) -> Result<StringStorage<'input>, Failure>
+    ensures bytes { IfOk result (λ s. storage_bytes s ≡ (piece_view piece.entry scratch.now).value) }
+    ensures kind { IfOk result (λ s. is_borrowed s ≡ (piece_view piece.entry scratch.now).plain) }
+    ensures err { IfErr result (λ e. e ≡ Failure.Memory) }
+{
+    match piece {
+        Piece::Plain(text) => Ok(StringStorage::Borrowed(text)),
+        Piece::Changed => {
+            let text = StringStorage::new_owned(alloc, scratch)?;
+            Ok(text)
+        }
+    }
+}
+
+/// One attribute or declaration as written, which ends at `end`; `own` is where the listed places of the tag begin. Answers
+/// whether the tag declares `xml` now.
+fn take<'input>(
+    alloc: Global,
+    text: &'input str,
+    raw: &RawAttribute<'input>,
+    end: usize,
+    elements: &mut ElementTables<'input>,
+    buffers: &mut Buffers<'input>,
+    own: usize,
+    xml: bool,
+) -> Result<bool, Failure>
+    requires value { HasValue text.now raw.now }
+    requires placed { raw.now.start < 2 ^ 63 }
+    requires end { end ≡ raw.now.value_end + 1 }
+    requires places { ArePlaces (length elements.old.namespaces.items) elements.old.listed.items }
+    requires own { own ≤ length elements.old.listed.items }
+    requires few { length elements.old.namespaces.items ≤ most_pairs }
+    ensures places { OnOk result (ArePlaces (length elements.new.namespaces.items) elements.new.listed.items) }
+    ensures own { OnOk result (own ≤ length elements.new.listed.items) }
+    ensures few { OnOk result (length elements.new.namespaces.items ≤ most_pairs) }
+    ensures attributes { elements.new.attributes ≡ elements.old.attributes }
+    ensures took { (known : List Declaration) (before : List ℕ) (h : Held) → own ≡ length before
+        → Holding known before (map declaration elements.old.namespaces.items) elements.old.listed.items xml buffers.old.taken.items h
+        → Took known before (map declaration elements.new.namespaces.items) elements.new.listed.items buffers.new.taken.items result (one_more known text.now (attribute_view raw.now) h) }
+{
+    let piece = value(text, raw, &mut buffers.scratch)?;
+    let value = stored(alloc, piece, buffers.scratch.as_str())?;
+    let one = Taken {
+        start: raw.start,
+        name_end: raw.name_end,
+        value_start: raw.value_start,
+        end,
+        name: raw.name,
+        value,
+    };
+    if declares(raw.name) {
+        return take_declaration(
+            &mut elements.namespaces,
+            &mut elements.listed,
+            own,
+            xml,
+            one,
+        );
+    }
+    buffers.taken.push(one)?;
+    Ok(xml)
+}
+
+/// How many bytes a text has, which is always less than 2^63.
+#[inline]
+pub fn byte_count(text: &str) -> usize
+    ensures value { result ≡ length text.now }
+    ensures small { length text.now < 2 ^ 63 }
+{
+    let bytes = text.as_bytes();
+    bytes.len()
+}
+
+/// Attributes and declarations, up to the end of the tag; `own` is where the listed places of the tag begin. Answers whether
+/// the tag declares `xml`, and whether it is empty. A tag that is cut off right behind its name or an attribute is refused as
+/// `cut`.
+#[tactic(auto, unfolding(rox_reading::specs::Tags::attributes_at))]
+fn attributes<'input>(
+    alloc: Global,
+    cursor: &mut Cursor<'input>,
+    elements: &mut ElementTables<'input>,
+    buffers: &mut Buffers<'input>,
+    own: usize,
+    cut: Fault,
+) -> Result<(bool, bool), Failure>
+    requires places { ArePlaces (length elements.old.namespaces.items) elements.old.listed.items }
+    requires own { own ≤ length elements.old.listed.items }
+    requires few { length elements.old.namespaces.items ≤ most_pairs }
+    ensures places { OnOk result (ArePlaces (length elements.new.namespaces.items) elements.new.listed.items) }
+    ensures own { OnOk result (own ≤ length elements.new.listed.items) }
+    ensures few { OnOk result (length elements.new.namespaces.items ≤ most_pairs) }
+    ensures attributes { elements.new.attributes ≡ elements.old.attributes }
+    ensures source { cursor.new.text ≡ cursor.old.text }
+    ensures took { (known : List Declaration) (before : List ℕ) (h : Held) → own ≡ length before
+        → Holding known before (map declaration elements.old.namespaces.items) elements.old.listed.items false buffers.old.taken.items h
+        → TookAll known before (map declaration elements.new.namespaces.items) elements.new.listed.items buffers.new.taken.items cursor.new result
+        (attributes_at (length cursor.old.text.now) cut known cursor.old.text.now cursor.old.pos h) }
+{
+    let mut xml = false;
+    let count = byte_count(cursor.text);
+    'attributes: for _turn in 0..count {
+        if cursor.is_at_end() {
+            return Err(Failure::Fault(cut));
+        }
+        match cursor.turn()? {
+            Turn::More(raw) => {
+                xml = take(
+                    alloc,
+                    cursor.text,
+                    &raw,
+                    cursor.pos,
+                    elements,
+                    buffers,
+                    own,
+                    xml,
+                )?;
+            }
+            Turn::Open => return Ok((xml, false)),
+            Turn::Empty => return Ok((xml, true)),
+        }
+    }
+    Err(Failure::Fault(cut))
+}
+
+/// What an element lists whose own declarations are those behind `own`, and `xml` if the flag says so, below one that lists
+/// `above`: a stretch of its own, or its parent's where it declares nothing.
+fn scope_of_tag(
+    elements: &mut ElementTables<'_>,
+    above: Scope,
+    own: usize,
+    xml: bool,
+) -> Result<Scope, Failure>
+    requires places { ArePlaces (length elements.old.namespaces.items) elements.old.listed.items }
+    requires own { own ≤ length elements.old.listed.items }
+    requires above { (above.from ≤ above.until) × (above.until ≤ own) }
+    ensures names { elements.new.namespaces ≡ elements.old.namespaces }
+    ensures attributes { elements.new.attributes ≡ elements.old.attributes }
+    ensures more { OnOk result ((more : List ℕ) × (elements.new.listed.items ≡ elements.old.listed.items ++ more)) }
+    ensures places { OnOk result (ArePlaces (length elements.new.namespaces.items) elements.new.listed.items) }
+    ensures within { IfOk result (λ s. (s.from ≤ s.until) × (s.until ≤ length elements.new.listed.items)) }
+    ensures lists { (known : List Declaration) (before : List ℕ) (ds : List Declaration) → own ≡ length before
+        → Declares known before (map declaration elements.old.namespaces.items) elements.old.listed.items xml ds
+        → IfOk result (λ s. entries (map declaration elements.new.namespaces.items) (slice_range elements.new.listed.items s.from s.until)
+        ≡ listed (entries (map declaration elements.old.namespaces.items) (slice_range elements.old.listed.items above.from above.until)) ds) }
+    ensures err { IfErr result (λ e. e ≡ Failure.Memory) }
+{
+    if own >= elements.listed.len() && !xml {
+        return Ok(above);
+    }
+    inherit(
+        elements.namespaces.as_slice(),
+        &mut elements.listed,
+        own,
+        xml,
+        above.from,
+        above.until,
+    )?;
+    Ok(Scope {
+        from: own,
+        until: elements.listed.len(),
+    })
+}
+
+/// How many attributes a document may have.
+const MOST_ATTRIBUTES: usize = 4294967294;
+
+/// What an element has that lists this scope, with its names tested: its attributes go into the table. The name stands at
+/// `at`.
+#[tactic(auto, unfolding(rox_reading::specs::Tags::tag_tested))]
+fn element_data<'input>(
+    elements: &mut ElementTables<'input>,
+    taken: &mut Vec<Taken<'input>>,
+    name: QName<'input>,
+    at: usize,
+    scope: Scope,
+) -> Result<ElementData<'input>, Failure>
+    requires places { ArePlaces (length elements.old.namespaces.items) elements.old.listed.items }
+    requires within { (scope.from ≤ scope.until) × (scope.until ≤ length elements.old.listed.items) }
+    requires few { length elements.old.attributes.items ≤ most_attributes }
+    requires small { at < 2 ^ 63 }
+    ensures names { elements.new.namespaces ≡ elements.old.namespaces }
+    ensures listed { elements.new.listed ≡ elements.old.listed }
+    ensures tested { (i : ℕ) → at ≡ i + 1 → OnOk result (tag_tested (scope_in_tables elements.old scope) (length elements.old.attributes.items) i (name_view name.entry) (map taken_view taken.old.items) ≡ Ok tt) }
+    ensures element { IfOk result (λ e. IsElement elements.old elements.new e (scope_in_tables elements.old scope) (name_view name.entry) (map taken_view taken.old.items)) }
+    ensures err { (i : ℕ) → at ≡ i + 1 → IfErr result (λ e. Fails e (tag_tested (scope_in_tables elements.old scope) (length elements.old.attributes.items) i (name_view name.entry) (map taken_view taken.old.items))) }
+{
+    let from = elements.attributes.len();
+    if taken.len() > MOST_ATTRIBUTES - from {
+        return Err(Failure::Fault(Fault::AttributesLimitReached));
+    }
+    resolve(
+        elements.namespaces.as_slice(),
+        &elements.listed[scope.from..scope.until],
+        taken,
+        &mut elements.attributes,
+    )?;
+    let namespace = element_namespace(
+        elements.namespaces.as_slice(),
+        &elements.listed[scope.from..scope.until],
+        name,
+        at,
+    )?;
+    Ok(ElementData {
+        local: name.local,
+        namespaces_from: scope.from,
+        namespaces_until: scope.until,
+        attributes_from: from as u32,
+        attributes_until: elements.attributes.len() as u32,
+        namespace,
+    })
+}
+
+/// A start tag, from its `<`, of an element whose parent lists `above`. A tag that is cut off by the end of the text right
+/// behind its name or an attribute is refused as `cut`.
+#[tactic(auto, unfolding(rox_reading::specs::Tags::tag_at))]
+pub fn start_tag<'input>(
+    alloc: Global,
+    cursor: &mut Cursor<'input>,
+    elements: &mut ElementTables<'input>,
+    buffers: &mut Buffers<'input>,
+    above: Scope,
+    cut: Fault,
+) -> Result<StartTag<'input>, Failure>
+    requires there { cursor.old.pos < length cursor.old.text.now }
+    requires here { slice_index cursor.old.text.now cursor.old.pos ≡ 60 }
+    requires places { ArePlaces (length elements.old.namespaces.items) elements.old.listed.items }
+    requires few { length elements.old.namespaces.items ≤ most_pairs }
+    requires few_attributes { length elements.old.attributes.items ≤ most_attributes }
+    requires above { (above.from ≤ above.until) × (above.until ≤ length elements.old.listed.items) }
+    ensures source { cursor.new.text ≡ cursor.old.text }
+    ensures starts { IfOk result (λ t. t.name_start ≡ cursor.old.pos + 1) }
+    ensures value { GivesTag elements.old elements.new cursor.new result (scope_in_tables elements.old above)
+        (tag_at cut (scope_in_tables elements.old above) (length elements.old.attributes.items) (map declaration elements.old.namespaces.items) cursor.old.text.now cursor.old.pos) }
+{
+    let small = byte_count(cursor.text);
+    cursor.advance();
+    let name_start = cursor.pos;
+    let name = cursor.qname()?;
+    let name_end = cursor.pos;
+    if name.prefix == "xmlns" {
+        return Err(Failure::Fault(Fault::InvalidElementNamePrefix(name_start)));
+    }
+    let own = elements.listed.len();
+    buffers.taken.clear();
+    let (xml, empty) = attributes(alloc, cursor, elements, buffers, own, cut)?;
+    let scope = scope_of_tag(elements, above, own, xml)?;
+    let element = element_data(elements, &mut buffers.taken, name, name_start, scope)?;
+    Ok(StartTag {
+        name,
+        name_start,
+        name_end,
+        element,
+        empty,
+    })
+}
