@@ -55,9 +55,14 @@ grown_shows end o done b u h sound elements g nodes opens waits joined =
     let all_rows : AllByRecursion (λ (r : NodeData). KindWithin (length t.attributes.items) (length (names_in t)) (length t.listed.items) r.kind) b.nodes.items =
     subst (λ (n : ℕ). AllByRecursion (λ (r : NodeData). KindWithin (length t.attributes.items) n (length t.listed.items) r.kind) b.nodes.items) (sym n) h.within in
     let rows : map (line_in u.tables) b.nodes.items ≡ map (line_in t) b.nodes.items =
-    rw (g.attributes, g.names, g.listed_are) (lines-append t.attributes.items g.more_attributes (names_in t) g.more_names t.listed.items g.more_listed b.nodes.items all_attributes all_listed all_rows) in
+    ap (λ (xs : List AttributeData). map (line xs (names_in u.tables) u.tables.listed.items) b.nodes.items) g.attributes
+    ∙ ap (λ (ns : List Declaration). map (line (t.attributes.items ++ g.more_attributes) ns u.tables.listed.items) b.nodes.items) g.names
+    ∙ ap (λ (ls : List ℕ). map (line (t.attributes.items ++ g.more_attributes) (names_in t ++ g.more_names) ls) b.nodes.items) g.listed_are
+    ∙ lines-append t.attributes.items g.more_attributes (names_in t) g.more_names t.listed.items g.more_listed b.nodes.items all_attributes all_listed all_rows in
     let os : opened_in u.tables b.opened.items ≡ opened_in t b.opened.items =
-    rw (g.names, g.listed_are) (map_same (opened (names_in t ++ g.more_names) (t.listed.items ++ g.more_listed)) (opened (names_in t) t.listed.items) (IsOpenWithin t) b.opened.items
+    ap (λ (ns : List Declaration). map (opened ns u.tables.listed.items) b.opened.items) g.names
+    ∙ ap (λ (ls : List ℕ). map (opened (names_in t ++ g.more_names) ls) b.opened.items) g.listed_are
+    ∙ (map_same (opened (names_in t ++ g.more_names) (t.listed.items ++ g.more_listed)) (opened (names_in t) t.listed.items) (IsOpenWithin t) b.opened.items
     (λ o x. opened-append (names_in t) g.more_names t.listed.items g.more_listed o all_listed x) elements) in
     let k = grown_counts t u.tables g in
     let w = all_weaker (λ (r : NodeData). IsWithin t r.kind) (λ (r : NodeData). IsWithin u.tables r.kind) b.nodes.items

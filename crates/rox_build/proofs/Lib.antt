@@ -15,3 +15,5 @@ pub mod Growing
 pub mod Stepping
 pub mod Taking
 pub mod Starting
+pub mod Opening
+pub mod Looping

@@ -214,7 +214,8 @@ fn end_tag<'input>(
             expected, found, start,
         )));
     }
-    builder.close(alloc, cursor.pos)
+    builder.close(alloc, cursor.pos)?;
+    Ok(())
 }
 
 /// What `<!` begins.
