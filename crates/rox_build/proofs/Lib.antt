@@ -9,7 +9,15 @@ pub mod Resolving
 pub mod PartLemmas
 pub mod PlainLemmas
 pub mod SectionLemmas
+pub mod Showing
+pub mod Finishing
 pub mod Declaring
+pub mod Growing
+pub mod Stepping
 pub mod Taking
 pub mod Starting
 pub mod ShortLemmas
+pub mod Opening
+pub mod Looping
+pub mod Marking
+pub mod Wholes

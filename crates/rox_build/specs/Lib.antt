@@ -2,7 +2,9 @@ pub mod Lines
 pub mod SoFar
 pub mod Storage
 pub mod Values
+pub mod Waiting
 pub mod Scopes
+pub mod Shown
 pub mod Tags
 pub mod Tagged
 pub mod Resolved

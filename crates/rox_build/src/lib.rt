@@ -1,8 +1,11 @@
 //! From a text to the tables of its tree.
 #![tactic(auto)]
 
+pub mod builder;
 pub mod declaration;
 pub mod namespaces;
+pub mod pending;
+pub mod reader;
 pub mod reference;
 pub mod resolve;
 pub mod scope;

@@ -1,0 +1,54 @@
+-- The tables at the end of a text.
+use Rattle.std.proofs.Common.{◌≡◌, ℕ, zero, suc, ◌+◌, ◌<◌, ◌^◌, List, [], ◌∷◌, ◌++◌, length, map, set, get_or, refl, sym, ap, ◌∙◌, arith, Vec, Global}
+use Rattle.std.specs.List.{AllByRecursion}
+use Rattle.std.proofs.Math.ListN.{get_or-map}
+use Rattle.std.proofs.lemmas.List.{append-nil, map-set, length-set}
+use Rattle.rox_grammar.specs.Forest.{Forest, Nil, Cons, size}
+use Rattle.rox_grammar.specs.Written.{Item, merge}
+use Rattle.rox_grammar.specs.Tree as tree
+use Rattle.rox_grammar.specs.Tree.{Node, resolved, document_tree}
+use Rattle.rox_reading.specs.State.{Open, root}
+use Rattle.rox_reading.proofs.Forests.{size-resolved}
+use Rattle.rox_build.specs.Lines.{Line, line, lines, node, Holds, Sound}
+use Rattle.rox_build.specs.SoFar.{root_line, so_far}
+use Rattle.rox_build.specs.Shown.{IsWithin, AreSound, Settled, line_in}
+use Rattle.rox_build.specs.declared.tables.NodeData.{NodeData}
+use Rattle.rox_build.specs.declared.tables.Tables.{Tables}
+use Rattle.rox_build.specs.declared.builder.Builder.{Builder}
+use Rattle.rox_build.proofs.Showing.{rows_count, within_set, within_at, some_row, first_within}
+
+root_closed : (end : ℕ) (f : Forest Item) (n : ℕ) → n ≡ 0 + 1 + size f
+    → set (so_far end root f) 0 (record (root_line end) { next = n }) ≡ lines 0 0 0 (document_tree end f)
+root_closed end f n h =
+    let k : n ≡ 1 + size (resolved [] f) = h ∙ ap (λ (m : ℕ). 1 + m) (sym (size-resolved [] f)) in
+    ap (λ (m : ℕ). record (root_line end) { next = m } ∷ lines 0 1 1 (resolved [] f)) k
+    ∙ ap (λ xs. record (root_line end) { next = 1 + size (resolved [] f) } ∷ xs) (sym (append-nil (lines 0 1 1 (resolved [] f))))
+
+finish_with : (end : ℕ) (done : Forest Item) (b : Builder) (u : Tables) (d : NodeData) → Settled end root done b → AreSound b.tables → length b.nodes.items < 2 ^ 32
+    → u.nodes.items ≡ set b.nodes.items 0 (record (get_or b.nodes.items 0 d) { next = length b.nodes.items }) → u.attributes ≡ b.tables.attributes → u.namespaces ≡ b.tables.namespaces
+    → u.listed ≡ b.tables.listed → IsWithin b.tables d.kind → Holds u (document_tree end (merge done))
+finish_with end done b u d h sound few change attributes namespaces listed fine =
+    let t = b.tables in
+    let n = rows_count t end root (merge done) b.nodes.items h.rows in
+    let found : line_in t (get_or b.nodes.items 0 d) ≡ root_line end = sym (get_or-map (line_in t) b.nodes.items 0 d) ∙ ap (λ xs. get_or xs 0 (line_in t d)) h.rows in
+    let new : NodeData = record (get_or b.nodes.items 0 d) { next = length b.nodes.items } in
+    let is_closed : line_in t new ≡ record (root_line end) { next = length b.nodes.items } = ap (λ (l : Line). record l { next = length b.nodes.items }) found in
+    let g = map-set (line_in t) b.nodes.items 0 new ∙ ap (λ xs. set xs 0 (line_in t new)) h.rows ∙ ap (λ y. set (so_far end root (merge done)) 0 y) is_closed
+    ∙ root_closed end (merge done) (length b.nodes.items) n in
+    let w = within_set t b.nodes.items 0 new h.within (within_at t b.nodes.items 0 d h.within fine) in
+    let l : length u.nodes.items ≡ length b.nodes.items = ap length change ∙ length-set b.nodes.items 0 new in
+    let s : Sound u = record {
+      nodes = rw (change, attributes, namespaces, listed) w;
+      attributes = rw (attributes, namespaces) sound.attributes;
+      listed = rw (listed, namespaces) sound.listed;
+    } in
+    record { rows = rw (change, attributes, namespaces, listed) g; sound = s; few = rw l few }
+
+pub finish_holds : (end : ℕ) (done : Forest Item) (b : Builder) (u : Tables) → Settled end root done b → AreSound b.tables → length b.nodes.items < 2 ^ 32
+    → ((d : NodeData) → u.nodes.items ≡ set b.nodes.items 0 (record (get_or b.nodes.items 0 d) { next = length b.nodes.items })) → u.attributes ≡ b.tables.attributes
+    → u.namespaces ≡ b.tables.namespaces → u.listed ≡ b.tables.listed → Holds u (document_tree end (merge done))
+finish_holds end done b u h sound few change attributes namespaces listed =
+    let n = rows_count b.tables end root (merge done) b.nodes.items h.rows in
+    let some : 0 < length b.nodes.items = omega arith in
+    let d = some_row b.nodes.items some in
+    finish_with end done b u d h sound few (change d) attributes namespaces listed (first_within b.tables b.nodes.items some h.within)

@@ -1,0 +1,185 @@
+-- The row of an element whose start tag was read.
+use Rattle.std.proofs.Common.{◌≡◌, ℕ, zero, suc, ◌+◌, ◌-◌, ◌<◌, ◌≤◌, List, [], ◌∷◌, ◌++◌, length, map, take, drop, refl, sym, ap, subst, ◌∙◌, arith, length-append, Option, Bool, true, false, Result, Ok, Err}
+use Rattle.std.specs.List.{AllByRecursion, slice_range}
+use Rattle.std.specs.Option.{option_map}
+use Rattle.std.proofs.lemmas.List.{length-map}
+use Rattle.rox_grammar.specs.declared.fault.Fault.{Fault}
+use Rattle.rox_grammar.specs.Forest.{Forest, Nil, join}
+use Rattle.rox_grammar.specs.Written.{Declaration, Tag, Item, Element, leaf}
+use Rattle.rox_grammar.specs.Tree as tree
+use Rattle.rox_grammar.specs.Tree.{listed, attribute_in, element_namespace, node_in}
+use Rattle.rox_grammar.specs.Document.{listable, with_new, distinct_pairs}
+use Rattle.rox_reading.specs.Lexical.{◌>>=◌}
+use Rattle.rox_reading.specs.Tags.{tag_at}
+use Rattle.rox_reading.specs.State.{Open, root, inside, State, scope_of, pairs_so_far, attributes_so_far}
+use Rattle.rox_reading.specs.Machine.{tag_step, cut_off, opened_by, counted, with_item}
+use Rattle.rox_scan.specs.Gives.{Fails, name_view}
+use Rattle.rox_scan.specs.declared.cursor.Cursor.{Cursor}
+use Rattle.rox_scan.specs.declared.failure.Failure.{Failure}
+use Rattle.rox_scan.specs.declared.failure.Failure.TheVariants as failure
+use Rattle.rox_build.specs.Lines.{node, declaration, attribute, entry, NamespaceWithin}
+use Rattle.rox_build.specs.Scopes.{entries}
+use Rattle.rox_build.specs.Tagged.{HasAttributes, IsElement, Tagged}
+use Rattle.rox_build.specs.Shown.{names_in, IsWithin, AreSound, IsOpenWithin, Fine, Grown, IsNode, IsOpening, Shows, Adds, Sees, Stepped, scope_in_table}
+use Rattle.std.specs.Result.{OnOk}
+use Rattle.rox_build.specs.declared.tables.Scope.{Scope}
+use Rattle.rox_build.specs.declared.tables.AttributeData.{AttributeData}
+use Rattle.rox_build.specs.declared.tables.NodeKind.TheVariants as kind
+use Rattle.rox_build.specs.declared.tables.ElementTables.{ElementTables}
+use Rattle.rox_build.specs.declared.builder.OpenElement.{OpenElement}
+use Rattle.rox_build.specs.declared.builder.Builder.{Builder}
+use Rattle.rox_build.specs.declared.tag.StartTag.{StartTag}
+use Rattle.rox_build.proofs.Stable.{all_append, all_weaker, namespace_more}
+use Rattle.rox_build.proofs.Listing.{with_new-front, with_new-append}
+use Rattle.rox_build.proofs.Inherits.{slice-rest}
+use Rattle.rox_build.proofs.Growing.{grown_counts, grown_elements}
+use Rattle.rox_build.proofs.Stepping.{pairs_more, attributes_more, adds_stepped}
+
+pub grown_by : (old new : ElementTables) (t : StartTag) (above : List Declaration) (tag : Tag) → Tagged old new t above tag → Grown old new
+grown_by old new t above tag h =
+    let w = with_new-front (names_in old) (listable tag) in
+    record {
+      more_attributes = h.element.attributes.more;
+      attributes = h.element.attributes.grown;
+      more_names = w.0;
+      names = h.names ∙ w.1;
+      more_listed = h.more;
+      listed_are = h.listed_more;
+    }
+
+pub sound_by : (old new : ElementTables) (t : StartTag) (above : List Declaration) (tag : Tag) → Tagged old new t above tag → AreSound old → AreSound new
+sound_by old new t above tag h s =
+    let k = grown_counts old new (grown_by old new t above tag h) in
+    let n : length (names_in new) ≡ length new.namespaces.items = length-map new.namespaces.items declaration in
+    let a = all_weaker (λ (a : AttributeData). NamespaceWithin (length old.namespaces.items) a.namespace) (λ (a : AttributeData). NamespaceWithin (length new.namespaces.items) a.namespace) old.attributes.items
+    (λ a x. namespace_more (length old.namespaces.items) (length new.namespaces.items) a.namespace k.1 x) s.attributes in
+    let m = subst (λ (n : ℕ). AllByRecursion (λ (a : AttributeData). NamespaceWithin n a.namespace) h.element.attributes.more) n h.element.attributes.within in
+    record {
+      attributes = rw h.element.attributes.grown (all_append (λ (a : AttributeData). NamespaceWithin (length new.namespaces.items) a.namespace) old.attributes.items h.element.attributes.more a m);
+      listed = h.places;
+    }
+
+drop_front : {A : Type 0} (xs ys : List A) → drop (length xs) (xs ++ ys) ≡ ys
+drop_front [] ys = refl
+drop_front (x ∷ xs) ys = drop_front xs ys
+
+own_slice : (old new more : List AttributeData) (i j : ℕ) → new ≡ old ++ more → i ≡ length old → j ≡ length new → slice_range new i j ≡ more
+own_slice old new more i j grown from until = rw (from, until) (slice-rest new (length old) ∙ ap (drop (length old)) grown ∙ drop_front old more)
+
+pub node_by : (old new : ElementTables) (t : StartTag) (above : List Declaration) (tag : Tag) (s e : ℕ) → Tagged old new t above tag
+    → node new.attributes.items (names_in new) new.listed.items s e (kind.Element t.element) ≡ node_in (listed above tag.declarations) (Element s e tag)
+node_by old new t above tag s e h =
+    let scope = listed above tag.declarations in
+    let x = h.element in
+    let a : map (attribute (names_in new)) (slice_range new.attributes.items t.element.attributes_from t.element.attributes_until) ≡ map (attribute_in scope) tag.attributes =
+    ap (map (attribute (names_in new))) (own_slice old.attributes.items new.attributes.items x.attributes.more t.element.attributes_from t.element.attributes_until x.attributes.grown x.attributes_from x.attributes_until) ∙ x.attributes.same in
+    ap (λ (u : Option (List ℕ)). tree.Element s e u t.element.local.now (entries (names_in new) (slice_range new.listed.items t.element.namespaces_from t.element.namespaces_until)) (map (attribute (names_in new)) (slice_range new.attributes.items t.element.attributes_from t.element.attributes_until))) x.namespace
+    ∙ ap (λ (l : List ℕ). tree.Element s e (element_namespace scope tag.name) l (entries (names_in new) (slice_range new.listed.items t.element.namespaces_from t.element.namespaces_until)) (map (attribute (names_in new)) (slice_range new.attributes.items t.element.attributes_from t.element.attributes_until))) x.local
+    ∙ ap (λ (l : List Declaration). tree.Element s e (element_namespace scope tag.name) tag.name.local l (map (attribute (names_in new)) (slice_range new.attributes.items t.element.attributes_from t.element.attributes_until))) x.lists
+    ∙ ap (λ (l : List tree.Attribute). tree.Element s e (element_namespace scope tag.name) tag.name.local scope l) a
+
+pub within_by : (old new : ElementTables) (t : StartTag) (above : List Declaration) (tag : Tag) → Tagged old new t above tag → IsWithin new (kind.Element t.element)
+within_by old new t above tag h =
+    let x = h.element in
+    let n = ap length x.attributes.grown ∙ length-append old.attributes.items x.attributes.more in
+    let a = x.attributes_from in let b = x.attributes_until in
+    (omega arith, omega arith, x.listed_within.0, x.listed_within.1, x.namespace_within)
+
+pub is_node : (old new : ElementTables) (t : StartTag) (above : List Declaration) (tag : Tag) (s e : ℕ) → Tagged old new t above tag → IsNode new above s e (kind.Element t.element) (Element s e tag)
+is_node old new t above tag s e h = record { is = node_by old new t above tag s e h; within = within_by old new t above tag h; no_text = refl }
+
+pub is_opening : (old new : ElementTables) (t : StartTag) (above : List Declaration) (tag : Tag) (s : ℕ) → Tagged old new t above tag → t.name_start ≡ s + 1 → IsOpening new above s t tag
+is_opening old new t above tag s h starts =
+    record { node = is_node old new t above tag s 0 h; name = h.name; name_start = starts; name_end = h.name_end; scope = h.element.lists }
+
+-- what stays so
+pub fine_by : (old new : ElementTables) (t : StartTag) (above : List Declaration) (tag : Tag) (os : List OpenElement) → Tagged old new t above tag → Fine old os → Fine new os
+fine_by old new t above tag os h f =
+    record {
+      sound = sound_by old new t above tag h f.sound;
+      elements = grown_elements old new os (grown_by old new t above tag h) f.elements;
+      few_names = h.few;
+      few_attributes = h.element.few;
+    }
+
+pub fine_opened : (t : ElementTables) (os qs : List OpenElement) (x : OpenElement) → Fine t os → qs ≡ os ++ x ∷ [] → (x.scope.from ≤ x.scope.until) × (x.scope.until ≤ length t.listed.items) → Fine t qs
+fine_opened t os qs x f is within =
+    record { sound = f.sound; elements = rw is (all_append (IsOpenWithin t) os (x ∷ []) f.elements (within, tt)); few_names = f.few_names; few_attributes = f.few_attributes }
+
+-- the counts after a tag
+pub names_by : (old new : ElementTables) (t : StartTag) (above : List Declaration) (tag : Tag) (ps : List Declaration) → Tagged old new t above tag → names_in old ≡ distinct_pairs ps → names_in new ≡ distinct_pairs (ps ++ listable tag)
+names_by old new t above tag ps h e = h.names ∙ ap (λ ds. with_new ds (listable tag)) e ∙ sym (with_new-append [] ps (listable tag))
+
+pub attributes_by : (old new : ElementTables) (t : StartTag) (above : List Declaration) (tag : Tag) → Tagged old new t above tag → length new.attributes.items ≡ length old.attributes.items + length tag.attributes
+attributes_by old new t above tag h =
+    let x = h.element.attributes in
+    let n = ap length x.grown ∙ length-append old.attributes.items x.more in
+    let m : length x.more ≡ length tag.attributes = sym (length-map x.more (attribute (names_in new))) ∙ ap length x.same ∙ length-map tag.attributes (attribute_in (listed above tag.declarations)) in
+    omega arith
+
+-- ---- one start tag, read and kept
+
+pub tag_fails : (limit : ℕ) (src : List ℕ) (s : State) (i : ℕ) (cut : Fault) (above : List Declaration) (count : ℕ) (known : List Declaration) (e : Failure) → i ≡ s.at → cut ≡ cut_off s.stack → above ≡ scope_of s.stack
+    → count ≡ attributes_so_far s.stack s.done → known ≡ distinct_pairs (pairs_so_far s.stack s.done) → Fails e (tag_at cut above count known src i) → Fails e (tag_step limit src s)
+unfolding tag_step
+tag_fails limit src s i cut above count known failure.Memory here c a n k h = tt
+tag_fails limit src s i cut above count known (failure.Fault f) here c a n k h =
+    let t : tag_at (cut_off s.stack) (scope_of s.stack) (attributes_so_far s.stack s.done) (distinct_pairs (pairs_so_far s.stack s.done)) src s.at ≡ Err f = rw (← here, ← c, ← a, ← n, ← k) h in
+    rw t refl
+
+pub tag_is : (limit : ℕ) (src : List ℕ) (s : State) (i : ℕ) (cut : Fault) (above : List Declaration) (count : ℕ) (known : List Declaration) (tag : Tag) (empty : Bool) (j : ℕ) → i ≡ s.at → cut ≡ cut_off s.stack
+    → above ≡ scope_of s.stack → count ≡ attributes_so_far s.stack s.done → known ≡ distinct_pairs (pairs_so_far s.stack s.done) → tag_at cut above count known src i ≡ Ok ((tag, empty), j)
+    → tag_step limit src s ≡ opened_by limit s tag empty j
+unfolding tag_step
+tag_is limit src s i cut above count known tag empty j here c a n k h =
+    let t : tag_at (cut_off s.stack) (scope_of s.stack) (attributes_so_far s.stack s.done) (distinct_pairs (pairs_so_far s.stack s.done)) src s.at ≡ Ok ((tag, empty), j) = rw (← here, ← c, ← a, ← n, ← k) h in
+    rw t refl
+
+-- an element without content
+pub empty_stepped : (limit end : ℕ) (s : State) (d : Cursor) (old new : ElementTables) (m : ℕ) (u : Builder) (r : Result (Unit {0}) Failure) (t : StartTag) (above : List Declaration) (tag : Tag)
+    → Tagged old new t above tag → names_in old ≡ distinct_pairs (pairs_so_far s.stack s.done) → length old.attributes.items ≡ attributes_so_far s.stack s.done → m ≡ limit
+    → u.tables ≡ new → u.nodes_limit ≡ m → Adds end r u (with_item m s d.pos (Element s.at d.pos tag)) → Stepped limit end r d u (opened_by limit s tag true d.pos)
+empty_stepped limit end s d old new m u r t above tag h names attributes limit_is tables same adds =
+    let i : Item = Element s.at d.pos tag in
+    let next : State = record { at = d.pos; done = join s.done (leaf i); stack = s.stack } in
+    let a : Adds end r u (counted limit next) = subst (λ (n : ℕ). Adds end r u (counted n next)) limit_is adds in
+    let p : pairs_so_far s.stack (join s.done (leaf i)) ≡ pairs_so_far s.stack s.done ++ listable tag = pairs_more s.stack s.done i Nil ∙ ap (λ xs. pairs_so_far s.stack s.done ++ xs) (nil_right (listable tag)) in
+    let n = attributes_more s.stack s.done i Nil in
+    let m = attributes_by old new t above tag h in
+    let q : attributes_so_far s.stack (join s.done (leaf i)) ≡ length new.attributes.items = omega arith in
+    adds_stepped limit end next d u r a refl (same ∙ limit_is) (ap names_in tables ∙ names_by old new t above tag (pairs_so_far s.stack s.done) h names ∙ sym (ap distinct_pairs p)) (ap (λ (t : ElementTables). length t.attributes.items) tables ∙ sym q)
+  where
+    nil_right : {A : Type 0} (xs : List A) → xs ++ [] ≡ xs
+    nil_right [] = refl
+    nil_right (x ∷ xs) = ap (λ ys. x ∷ ys) (nil_right xs)
+
+-- one that opens
+pub open_stepped : (limit end : ℕ) (s : State) (d : Cursor) (old new : ElementTables) (m : ℕ) (u : Builder) (r : Result (Unit {0}) Failure) (t : StartTag) (above : List Declaration) (tag : Tag)
+    → Tagged old new t above tag → names_in old ≡ distinct_pairs (pairs_so_far s.stack s.done) → length old.attributes.items ≡ attributes_so_far s.stack s.done → m ≡ limit
+    → u.tables ≡ new → u.nodes_limit ≡ m → Adds end r u (opened_by m s tag false d.pos) → Stepped limit end r d u (opened_by limit s tag false d.pos)
+open_stepped limit end s d old new m u r t above tag h names attributes limit_is tables same adds =
+    let next : State = record { at = d.pos; done = Nil; stack = inside s.at tag s.done s.stack } in
+    let a : Adds end r u (counted limit next) = subst (λ (n : ℕ). Adds end r u (counted n next)) limit_is adds in
+    let p : pairs_so_far s.stack s.done ++ (listable tag ++ []) ≡ pairs_so_far s.stack s.done ++ listable tag = ap (λ xs. pairs_so_far s.stack s.done ++ xs) (nil_right (listable tag)) in
+    let m = attributes_by old new t above tag h in
+    let q : attributes_so_far s.stack s.done + (length tag.attributes + 0) ≡ length new.attributes.items = omega arith in
+    adds_stepped limit end next d u r a refl (same ∙ limit_is) (ap names_in tables ∙ names_by old new t above tag (pairs_so_far s.stack s.done) h names ∙ sym (ap distinct_pairs p)) (ap (λ (t : ElementTables). length t.attributes.items) tables ∙ sym q)
+  where
+    nil_right : {A : Type 0} (xs : List A) → xs ++ [] ≡ xs
+    nil_right [] = refl
+    nil_right (x ∷ xs) = ap (λ ys. x ∷ ys) (nil_right xs)
+
+always : (r : Result (Unit {0}) Failure) (P : Type 0) → P → OnOk r P
+always (Ok x) P h = h
+always (Err e) P h = tt
+
+pub fine_kept : (r : Result (Unit {0}) Failure) (t : ElementTables) (os : List OpenElement) (u : Builder) → Fine t os → u.tables ≡ t → u.opened.items ≡ os → OnOk r (Fine u.tables u.opened.items)
+fine_kept r t os u f tables opens = always r (Fine u.tables u.opened.items) (subst (λ (qs : List OpenElement). Fine u.tables qs) (sym opens) (subst (λ (t : ElementTables). Fine t os) (sym tables) f))
+
+pub fine_more : (r : Result (Unit {0}) Failure) (t : ElementTables) (os : List OpenElement) (u : Builder) (tag : StartTag) → Fine t os → u.tables ≡ t
+    → OnOk r ((x : OpenElement) × (u.opened.items ≡ os ++ x ∷ []) × (x.scope ≡ scope_in_table tag.element))
+    → (tag.element.namespaces_from ≤ tag.element.namespaces_until) × (tag.element.namespaces_until ≤ length t.listed.items) → OnOk r (Fine u.tables u.opened.items)
+fine_more (Ok x) t os u tag f tables (o, is, scope) within =
+    let w : (o.scope.from ≤ o.scope.until) × (o.scope.until ≤ length t.listed.items) = subst (λ (s : Scope). (s.from ≤ s.until) × (s.until ≤ length t.listed.items)) (sym scope) within in
+    subst (λ (t : ElementTables). Fine t u.opened.items) (sym tables) (fine_opened t os u.opened.items o f is w)
+fine_more (Err e) t os u tag f tables h within = tt

@@ -1,0 +1,333 @@
+-- What each change of the builder does to the items that it shows.
+use Rattle.std.proofs.Common.{◌≡◌, ℕ, zero, suc, ◌+◌, ◌-◌, ◌<◌, ◌≤◌, Bool, true, false, List, [], ◌∷◌, ◌++◌, length, map, set, get_or, take, leb, refl, sym, ap, subst, ◌∙◌, arith, Result, Ok, Err, append_assoc}
+use Rattle.std.specs.List.{AllByRecursion}
+use Rattle.std.proofs.Math.ListN.{get_or-map}
+use Rattle.std.proofs.lemmas.Bool.{le-leb, lt-leb}
+use Rattle.std.proofs.lemmas.List.{map-append, length-map, length_push, map-set, same_from_push, get_or_at, take_all, take_more}
+use Rattle.std.specs.String.{string_bytes}
+use Rattle.rox_grammar.specs.declared.fault.Fault.{Fault}
+use Rattle.rox_grammar.specs.declared.fault.Fault.TheVariants as fault
+use Rattle.rox_grammar.specs.Forest.{Forest, Nil, Cons, join, size}
+use Rattle.rox_grammar.specs.Written.{Tag, Item, Element, Text, Declaration, merge, leaf}
+use Rattle.rox_grammar.specs.Tree as tree
+use Rattle.rox_grammar.specs.Tree.{Node, listed, node_in, scope_in, resolved}
+use Rattle.rox_reading.specs.State.{Open, root, inside, State, scope_of, nodes_so_far}
+use Rattle.rox_reading.specs.Machine.{counted, with_item}
+use Rattle.rox_reading.proofs.Forests.{Clean, is_text, add, join-nil, size-join, merge-piece, add-text, add_clean, merge-item, clean-item}
+use Rattle.rox_build.specs.Lines.{Line, line, lines, node}
+use Rattle.rox_build.specs.SoFar.{top, depth_of, open_line, rows_to, so_far}
+use Rattle.rox_build.specs.Waiting.{waiting}
+use Rattle.rox_build.specs.Shown.{OpenLine, opened, open_lines, last_row, pending_text, names_in, line_in, opened_in, IsWithin, Shows, Settled, IsNode}
+use Rattle.rox_build.specs.declared.tables.AttributeData.{AttributeData}
+use Rattle.rox_build.specs.declared.tables.NodeKind.{NodeKind}
+use Rattle.rox_build.specs.declared.tables.NodeKind.TheVariants as kind
+use Rattle.rox_build.specs.declared.tables.NodeData.{NodeData}
+use Rattle.rox_build.specs.declared.tables.ElementTables.{ElementTables}
+use Rattle.rox_build.specs.declared.pending.Pending.{Pending}
+use Rattle.rox_build.specs.declared.pending.Pending.TheVariants as pending
+use Rattle.rox_build.specs.declared.builder.OpenElement.{OpenElement}
+use Rattle.rox_build.specs.declared.builder.Builder.{Builder}
+use Rattle.rox_build.proofs.Rows.{length-so_far, nodes_are, so_far-join, so_far-open, so_far-closed, closed_line}
+use Rattle.rox_build.proofs.Stable.{all_append}
+
+-- ---- the open elements
+
+last_row-push : (xs : List OpenLine) (y : OpenLine) → last_row (xs ++ y ∷ []) ≡ y.row
+last_row-push [] y = refl
+last_row-push (x ∷ []) y = refl
+last_row-push (x ∷ z ∷ xs) y = last_row-push (z ∷ xs) y
+
+pub last_row-open_lines : (o : Open) → last_row (open_lines o) ≡ top o
+last_row-open_lines root = refl
+last_row-open_lines (inside start tag before up) = last_row-push (open_lines up) _
+
+pub length-open_lines : (o : Open) → length (open_lines o) ≡ depth_of o
+length-open_lines root = refl
+length-open_lines (inside start tag before up) = length_push (open_lines up) _ ∙ ap (λ n. n + 1) (length-open_lines up)
+
+pub depth_is : (t : ElementTables) (o : Open) (os : List OpenElement) → opened_in t os ≡ open_lines o → length os ≡ depth_of o
+depth_is t o os h = sym (length-map os _) ∙ ap length h ∙ length-open_lines o
+
+parent_is : (t : ElementTables) (o : Open) (os : List OpenElement) → opened_in t os ≡ open_lines o → last_row (opened_in t os) ≡ top o
+parent_is t o os h = ap last_row h ∙ last_row-open_lines o
+
+-- ---- how many rows
+
+pub rows_count : (t : ElementTables) (end : ℕ) (o : Open) (front : Forest Item) (rows : List NodeData) → map (line_in t) rows ≡ so_far end o front → length rows ≡ top o + 1 + size front
+rows_count t end o front rows h = sym (length-map rows (line_in t)) ∙ ap length h ∙ length-so_far end o front
+
+size-pending : (p : Pending) (joined : List ℕ) → size (pending_text p joined) ≡ waiting p
+size-pending pending.None joined = refl
+size-pending (pending.Slice s e t) joined = refl
+size-pending (pending.Joined s e) joined = refl
+
+pub count_is : (end : ℕ) (o : Open) (done : Forest Item) (b : Builder) → Shows end o done b → length b.nodes.items + waiting b.pending ≡ nodes_so_far o done
+count_is end o done b h =
+    let n = rows_count b.tables end o h.front b.nodes.items h.rows in
+    let m = ap size h.merged ∙ size-join h.front (pending_text b.pending (string_bytes b.joined)) in
+    let p = size-pending b.pending (string_bytes b.joined) in
+    omega (arith, n, m, p, nodes_are o done)
+
+pub counted_ok : (limit : ℕ) (s : State) → nodes_so_far s.stack s.done ≤ limit → counted limit s ≡ Ok s
+counted_ok limit s h = let k = le-leb (nodes_so_far s.stack s.done) limit h in rw k refl
+
+pub counted_err : (limit : ℕ) (s : State) → limit < nodes_so_far s.stack s.done → counted limit s ≡ Err fault.NodesLimitReached
+counted_err limit s h = let k = lt-leb (nodes_so_far s.stack s.done) limit h in rw k refl
+
+-- ---- one more row
+
+leaf_line : (p d at : ℕ) (scope : List Declaration) (i : Item)
+    → lines p d at (resolved scope (leaf i)) ≡ record { parent = p; next = at + 1; depth = d; node = node_in (scope_in scope i) i } ∷ []
+leaf_line p d at scope i = let e : at + 1 + 0 ≡ at + 1 = omega arith in rw e refl
+
+abbrev pub row_of : ElementTables → List NodeData → List OpenElement → ℕ → ℕ → NodeKind → NodeData
+row_of t rows os s e k = record { start = s; end = e; parent = last_row (opened_in t os); next = length rows + 1; depth = length os + 1; kind = k }
+
+-- the row of an element that opens
+abbrev pub row_open : ElementTables → ℕ → List OpenElement → ℕ → NodeKind → NodeData
+row_open t next os s k = record { start = s; end = 0; parent = last_row (opened_in t os); next = next; depth = length os + 1; kind = k }
+
+row_shows : (t : ElementTables) (end : ℕ) (o : Open) (front : Forest Item) (i : Item) (rows : List NodeData) (os : List OpenElement) (s e : ℕ) (k : NodeKind)
+    → map (line_in t) rows ≡ so_far end o front → opened_in t os ≡ open_lines o
+    → node t.attributes.items (names_in t) t.listed.items s e k ≡ node_in (scope_in (scope_of o) i) i
+    → map (line_in t) (rows ++ row_of t rows os s e k ∷ []) ≡ so_far end o (join front (leaf i))
+row_shows t end o front i rows os s e k h opens is =
+    let n = rows_count t end o front rows h in
+    let r = row_of t rows os s e k in
+    let row : line_in t r ≡ record { parent = top o; next = top o + 1 + size front + 1; depth = depth_of o + 1; node = node_in (scope_in (scope_of o) i) i } =
+    rw (parent_is t o os opens, depth_is t o os opens, n, is) refl in
+    map-append (line_in t) rows (r ∷ []) ∙ ap (λ xs. xs ++ line_in t r ∷ []) h ∙ ap (λ x. so_far end o front ++ x ∷ []) row
+    ∙ ap (λ xs. so_far end o front ++ xs) (sym (leaf_line (top o) (depth_of o + 1) (top o + 1 + size front) (scope_of o) i)) ∙ sym (so_far-join end o front (leaf i))
+
+-- ---- the text that may go on
+
+pub settled_none : (end : ℕ) (o : Open) (done : Forest Item) (b u : Builder) → Shows end o done b → b.pending ≡ pending.None → u.nodes ≡ b.nodes → u.tables ≡ b.tables → u.opened ≡ b.opened
+    → u.pending ≡ pending.None → Settled end o done u
+settled_none end o done b u h was nodes tables opens empty =
+    let m : h.front ≡ merge done = sym (h.merged ∙ ap (λ (p : Pending). join h.front (pending_text p (string_bytes b.joined))) was ∙ join-nil h.front) in
+    record {
+      rows = rw (nodes, tables) (h.rows ∙ ap (so_far end o) m);
+      open_rows = rw (tables, opens) h.open_rows;
+      within = rw (nodes, tables) h.within;
+      empty = empty;
+    }
+
+pub settled_some : (end : ℕ) (o : Open) (done : Forest Item) (b u : Builder) (s e : ℕ) (v : List ℕ) (p : Bool) (k : NodeKind) → Shows end o done b
+    → pending_text b.pending (string_bytes b.joined) ≡ leaf (Text s e v p) → node b.tables.attributes.items (names_in b.tables) b.tables.listed.items s e k ≡ node_in (scope_of o) (Text s e v p)
+    → IsWithin b.tables k → u.nodes.items ≡ b.nodes.items ++ row_of b.tables b.nodes.items b.opened.items s e k ∷ [] → u.tables ≡ b.tables → u.opened ≡ b.opened
+    → u.pending ≡ pending.None → Settled end o done u
+settled_some end o done b u s e v p k h was is within nodes tables opens empty =
+    let m : join h.front (leaf (Text s e v p)) ≡ merge done = sym (h.merged ∙ ap (join h.front) was) in
+    let r = row_shows b.tables end o h.front (Text s e v p) b.nodes.items b.opened.items s e k h.rows h.open_rows is in
+    let w = all_append (λ (r : NodeData). IsWithin b.tables r.kind) b.nodes.items (row_of b.tables b.nodes.items b.opened.items s e k ∷ []) h.within (within, tt) in
+    record {
+      rows = rw (nodes, tables) (r ∙ ap (so_far end o) m);
+      open_rows = rw (tables, opens) h.open_rows;
+      within = rw (nodes, tables) w;
+      empty = empty;
+    }
+
+-- ---- items
+
+pub leaf_shows : (end : ℕ) (o : Open) (done : Forest Item) (b u : Builder) (s e : ℕ) (k : NodeKind) (i : Item) → Settled end o done b → IsNode b.tables (scope_of o) s e k i
+    → u.nodes.items ≡ b.nodes.items ++ row_of b.tables b.nodes.items b.opened.items s e k ∷ [] → u.tables ≡ b.tables → u.opened ≡ b.opened → u.pending ≡ b.pending
+    → Shows end o (join done (leaf i)) u
+leaf_shows end o done b u s e k i h is nodes tables opens same =
+    let r = row_shows b.tables end o (merge done) i b.nodes.items b.opened.items s e k h.rows h.open_rows is.is in
+    let w = all_append (λ (r : NodeData). IsWithin b.tables r.kind) b.nodes.items (row_of b.tables b.nodes.items b.opened.items s e k ∷ []) h.within (is.within, tt) in
+    let z : u.pending ≡ pending.None = same ∙ h.empty in
+    record {
+      front = join (merge done) (leaf i);
+      merged = merge-item done i Nil is.no_text ∙ sym (ap (λ (p : Pending). join (join (merge done) (leaf i)) (pending_text p (string_bytes u.joined))) z ∙ join-nil (join (merge done) (leaf i)));
+      clean = clean-item (merge done) i Nil is.no_text;
+      rows = rw (nodes, tables) r;
+      open_rows = rw (tables, opens) h.open_rows;
+      within = rw (nodes, tables) w;
+    }
+
+-- one node more
+pub leaf_count : (o : Open) (done : Forest Item) (i : Item) → is_text i ≡ false → nodes_so_far o (join done (leaf i)) ≡ nodes_so_far o done + 1
+leaf_count o done i no_text =
+    let m = ap size (merge-item done i Nil no_text) ∙ size-join (merge done) (leaf i) in
+    omega (arith, m, nodes_are o done, nodes_are o (join done (leaf i)))
+
+pub settled_count : (end : ℕ) (o : Open) (done : Forest Item) (b : Builder) → Settled end o done b → length b.nodes.items ≡ nodes_so_far o done
+settled_count end o done b h = omega (arith, rows_count b.tables end o (merge done) b.nodes.items h.rows, nodes_are o done)
+
+-- ---- text
+
+pub piece_first : (end : ℕ) (o : Open) (done : Forest Item) (b u : Builder) (s e : ℕ) (v : List ℕ) (p : Bool) → Shows end o done b → b.pending ≡ pending.None
+    → u.nodes ≡ b.nodes → u.tables ≡ b.tables → u.opened ≡ b.opened → pending_text u.pending (string_bytes u.joined) ≡ leaf (Text s e v p) → Shows end o (join done (leaf (Text s e v p))) u
+piece_first end o done b u s e v p h was nodes tables opens is =
+    let m : merge done ≡ h.front = h.merged ∙ ap (λ (p : Pending). join h.front (pending_text p (string_bytes b.joined))) was ∙ join-nil h.front in
+    record {
+      front = h.front;
+      merged = merge-piece done s e v p ∙ ap (add s e v p) m ∙ add_clean h.front s e v p h.clean ∙ sym (ap (join h.front) is);
+      clean = h.clean;
+      rows = rw (nodes, tables) h.rows;
+      open_rows = rw (tables, opens) h.open_rows;
+      within = rw (nodes, tables) h.within;
+    }
+
+pub piece_more : (end : ℕ) (o : Open) (done : Forest Item) (b u : Builder) (x y : ℕ) (w : List ℕ) (q : Bool) (s e : ℕ) (v : List ℕ) (p : Bool) → Shows end o done b
+    → pending_text b.pending (string_bytes b.joined) ≡ leaf (Text x y w q) → u.nodes ≡ b.nodes → u.tables ≡ b.tables → u.opened ≡ b.opened
+    → pending_text u.pending (string_bytes u.joined) ≡ leaf (Text x y (w ++ v) false) → Shows end o (join done (leaf (Text s e v p))) u
+piece_more end o done b u x y w q s e v p h was nodes tables opens is =
+    let m : merge done ≡ join h.front (leaf (Text x y w q)) = h.merged ∙ ap (join h.front) was in
+    record {
+      front = h.front;
+      merged = merge-piece done s e v p ∙ ap (add s e v p) m ∙ add-text h.front x y w q s e v p ∙ sym (ap (join h.front) is);
+      clean = h.clean;
+      rows = rw (nodes, tables) h.rows;
+      open_rows = rw (tables, opens) h.open_rows;
+      within = rw (nodes, tables) h.within;
+    }
+
+pub first_count : (end : ℕ) (o : Open) (done : Forest Item) (b : Builder) (s e : ℕ) (v : List ℕ) (p : Bool) → Shows end o done b → b.pending ≡ pending.None
+    → nodes_so_far o (join done (leaf (Text s e v p))) ≡ length b.nodes.items + 1
+first_count end o done b s e v p h was =
+    let m : merge done ≡ h.front = h.merged ∙ ap (λ (p : Pending). join h.front (pending_text p (string_bytes b.joined))) was ∙ join-nil h.front in
+    let k = ap size (merge-piece done s e v p ∙ ap (add s e v p) m ∙ add_clean h.front s e v p h.clean) ∙ size-join h.front (leaf (Text s e v p)) in
+    omega (arith, k, nodes_are o (join done (leaf (Text s e v p))), rows_count b.tables end o h.front b.nodes.items h.rows)
+
+pub more_count : (end : ℕ) (o : Open) (done : Forest Item) (b : Builder) (x y : ℕ) (w : List ℕ) (q : Bool) (s e : ℕ) (v : List ℕ) (p : Bool) → Shows end o done b
+    → pending_text b.pending (string_bytes b.joined) ≡ leaf (Text x y w q) → nodes_so_far o (join done (leaf (Text s e v p))) ≡ length b.nodes.items + 1
+more_count end o done b x y w q s e v p h was =
+    let m : merge done ≡ join h.front (leaf (Text x y w q)) = h.merged ∙ ap (join h.front) was in
+    let k = ap size (merge-piece done s e v p ∙ ap (add s e v p) m ∙ add-text h.front x y w q s e v p) ∙ size-join h.front (leaf (Text x y (w ++ v) false)) in
+    omega (arith, k, nodes_are o (join done (leaf (Text s e v p))), rows_count b.tables end o h.front b.nodes.items h.rows)
+
+-- ---- elements
+
+pub open_shows : (end : ℕ) (o : Open) (done : Forest Item) (b u : Builder) (s : ℕ) (k : NodeKind) (t : Tag) (x : OpenElement) → Settled end o done b
+    → node b.tables.attributes.items (names_in b.tables) b.tables.listed.items s 0 k ≡ node_in (listed (scope_of o) t.declarations) (Element s 0 t) → IsWithin b.tables k
+    → x.row ≡ length b.nodes.items → opened (names_in b.tables) b.tables.listed.items x ≡ record { row = x.row; name = t.name; name_start = s + 1; name_end = t.name_end; scope = listed (scope_of o) t.declarations }
+    → u.nodes.items ≡ b.nodes.items ++ row_open b.tables 0 b.opened.items s k ∷ [] → u.tables ≡ b.tables → u.opened.items ≡ b.opened.items ++ x ∷ [] → u.pending ≡ b.pending
+    → Shows end (inside s t done o) Nil u
+open_shows end o done b u s k t x h is within place view nodes tables opens same =
+    let r = row_open b.tables 0 b.opened.items s k in
+    let row : line_in b.tables r ≡ open_line s t o = rw (parent_is b.tables o b.opened.items h.open_rows, depth_is b.tables o b.opened.items h.open_rows, is) refl in
+    let n = rows_count b.tables end o (merge done) b.nodes.items h.rows in
+    let w = all_append (λ (r : NodeData). IsWithin b.tables r.kind) b.nodes.items (r ∷ []) h.within (within, tt) in
+    let z : u.pending ≡ pending.None = same ∙ h.empty in
+    let g = map-append (line_in b.tables) b.nodes.items (r ∷ []) ∙ ap (λ xs. xs ++ line_in b.tables r ∷ []) h.rows ∙ ap (λ x. so_far end o (merge done) ++ x ∷ []) row ∙ sym (so_far-open end o s t done) in
+    let v : opened (names_in b.tables) b.tables.listed.items x ≡ record { row = top o + 1 + size (merge done); name = t.name; name_start = s + 1; name_end = t.name_end; scope = listed (scope_of o) t.declarations } =
+    view ∙ ap (λ (n : ℕ). let l : OpenLine = record { row = n; name = t.name; name_start = s + 1; name_end = t.name_end; scope = listed (scope_of o) t.declarations } in l) (place ∙ n) in
+    let os = map-append (opened (names_in b.tables) b.tables.listed.items) b.opened.items (x ∷ []) ∙ ap (λ xs. xs ++ opened (names_in b.tables) b.tables.listed.items x ∷ []) h.open_rows
+    ∙ ap (λ l. open_lines o ++ l ∷ []) v in
+    record {
+      front = Nil;
+      merged = sym (ap (λ (p : Pending). pending_text p (string_bytes u.joined)) z);
+      clean = tt;
+      rows = rw (nodes, tables) g;
+      open_rows = rw (tables, opens) os;
+      within = rw (nodes, tables) w;
+    }
+
+-- one node more
+pub open_count : (o : Open) (s : ℕ) (t : Tag) (done : Forest Item) → nodes_so_far (inside s t done o) Nil ≡ nodes_so_far o done + 1
+open_count o s t done = omega arith
+
+pub last_split : (os : List OpenElement) (o : OpenElement) → 0 < length os → o ≡ get_or os (length os - 1) o → os ≡ take (length os - 1) os ++ o ∷ []
+last_split os o some is =
+    let n = length os - 1 in
+    sym (take_all (n + 1) os (omega arith)) ∙ take_more os n o (omega arith) ∙ ap (λ x. take n os ++ x ∷ []) (sym is)
+
+pub some_row : (rows : List NodeData) → 0 < length rows → NodeData
+some_row [] h = absurd (omega arith)
+some_row (r ∷ rows) h = r
+
+-- the row of an element, closed
+pub within_set : (t : ElementTables) (rows : List NodeData) (i : ℕ) (r : NodeData) → AllByRecursion (λ (r : NodeData). IsWithin t r.kind) rows → IsWithin t r.kind
+    → AllByRecursion (λ (r : NodeData). IsWithin t r.kind) (set rows i r)
+within_set t [] i r h k = tt
+within_set t (x ∷ xs) zero r (p, h) k = (k, h)
+within_set t (x ∷ xs) (suc i) r (p, h) k = (p, within_set t xs i r h k)
+
+pub within_at : (t : ElementTables) (rows : List NodeData) (i : ℕ) (d : NodeData) → AllByRecursion (λ (r : NodeData). IsWithin t r.kind) rows → IsWithin t d.kind → IsWithin t (get_or rows i d).kind
+within_at t [] i d h k = k
+within_at t (x ∷ xs) zero d (p, h) k = p
+within_at t (x ∷ xs) (suc i) d (p, h) k = within_at t xs i d h k
+
+pub first_within : (t : ElementTables) (rows : List NodeData) (h : 0 < length rows) → AllByRecursion (λ (r : NodeData). IsWithin t r.kind) rows → IsWithin t (some_row rows h).kind
+unfolding some_row
+first_within t [] h k = absurd (omega arith)
+first_within t (r ∷ rows) h (p, k) = p
+
+-- a node with another end
+with_end : ℕ → Node → Node
+with_end e (tree.Root x) = tree.Root e
+with_end e (tree.Element s x n l ds as') = tree.Element s e n l ds as'
+with_end e (tree.Text s x v b) = tree.Text s e v b
+with_end e (tree.Comment s x t) = tree.Comment s e t
+with_end e (tree.PI s x t v) = tree.PI s e t v
+
+node_end : (as' : List AttributeData) (names : List Declaration) (ls : List ℕ) (s x e : ℕ) (k : NodeKind) → node as' names ls s e k ≡ with_end e (node as' names ls s x k)
+unfolding with_end
+node_end as' names ls s x e kind.Root = refl
+node_end as' names ls s x e (kind.Element d) = refl
+node_end as' names ls s x e (kind.Text v) = refl
+node_end as' names ls s x e (kind.Comment t) = refl
+node_end as' names ls s x e (kind.PI p) = refl
+
+so_far-inside : (end : ℕ) (up : Open) (start : ℕ) (tag : Tag) (before front : Forest Item)
+    → so_far end (inside start tag before up) front
+    ≡ so_far end up (merge before) ++ open_line start tag up ∷ lines (top (inside start tag before up)) (depth_of up + 1 + 1) (top (inside start tag before up) + 1) (resolved (listed (scope_of up) tag.declarations) front)
+so_far-inside end up start tag before front =
+    let inner = lines (top (inside start tag before up)) (depth_of up + 1 + 1) (top (inside start tag before up) + 1) (resolved (listed (scope_of up) tag.declarations) front) in
+    let below = lines (top up) (depth_of up + 1) (top up + 1) (resolved (scope_of up) (merge before)) in
+    append_assoc (rows_to end up) (below ++ open_line start tag up ∷ []) inner
+    ∙ ap (λ xs. rows_to end up ++ xs) (append_assoc below (open_line start tag up ∷ []) inner)
+    ∙ sym (append_assoc (rows_to end up) below (open_line start tag up ∷ inner))
+
+closed_is : (as' : List AttributeData) (names : List Declaration) (ls : List ℕ) (r : NodeData) (s e next : ℕ) (tag : Tag) (up : Open) → line as' names ls r ≡ open_line s tag up
+    → line as' names ls (record r { end = e; next = next }) ≡ closed_line s e tag up next
+unfolding with_end
+closed_is as' names ls r s e next tag up h =
+    let n : node as' names ls r.start e r.kind ≡ with_end e (node as' names ls r.start r.end r.kind) = node_end as' names ls r.start r.end e r.kind in
+    ap (λ (n : Node). let l : Line = record { parent = r.parent; next = next; depth = r.depth; node = n } in l) n
+    ∙ ap (λ (l : Line). record l { next = next; node = with_end e l.node }) h
+
+close_with : (end s e : ℕ) (t : Tag) (before : Forest Item) (up : Open) (done : Forest Item) (b u : Builder) (outer : List OpenElement) (x : OpenElement) (d : NodeData)
+    → Settled end (inside s t before up) done b → b.opened.items ≡ outer ++ x ∷ [] → u.opened.items ≡ outer → u.tables ≡ b.tables → u.pending ≡ b.pending
+    → u.nodes.items ≡ set b.nodes.items x.row (record (get_or b.nodes.items x.row d) { end = e; next = length b.nodes.items }) → IsWithin b.tables d.kind
+    → Shows end up (join before (Cons (Element s e t) (merge done) Nil)) u
+close_with end s e t before up done b u outer x d h was opens tables same change fine =
+    let tt' = b.tables in
+    let view = opened (names_in tt') tt'.listed.items in
+    let k = top (inside s t before up) in
+    let l : OpenLine = record { row = k; name = t.name; name_start = s + 1; name_end = t.name_end; scope = listed (scope_of up) t.declarations } in
+    let both = same_from_push (map view outer) (open_lines up) (view x) l (sym (map-append view outer (x ∷ [])) ∙ ap (map view) (sym was) ∙ h.open_rows) in
+    let row : x.row ≡ k = ap (λ (x : OpenLine). x.row) both.1 in
+    let n = rows_count tt' end (inside s t before up) (merge done) b.nodes.items h.rows in
+    let rest = lines k (depth_of up + 1 + 1) (k + 1) (resolved (listed (scope_of up) t.declarations) (merge done)) in
+    let found : line_in tt' (get_or b.nodes.items k d) ≡ open_line s t up =
+    sym (get_or-map (line_in tt') b.nodes.items k d) ∙ ap (λ xs. get_or xs k (line_in tt' d)) (h.rows ∙ so_far-inside end up s t before (merge done))
+    ∙ get_or_at (so_far end up (merge before)) (open_line s t up) rest (line_in tt' d) k (length-so_far end up (merge before)) in
+    let new : NodeData = record (get_or b.nodes.items k d) { end = e; next = length b.nodes.items } in
+    let is_closed : line_in tt' new ≡ closed_line s e t up (k + 1 + size (merge done)) =
+    closed_is tt'.attributes.items (names_in tt') tt'.listed.items (get_or b.nodes.items k d) s e (length b.nodes.items) t up found ∙ ap (closed_line s e t up) n in
+    let one = Cons (Element s e t) (merge done) Nil in
+    let z : u.pending ≡ pending.None = same ∙ h.empty in
+    let set_is : u.nodes.items ≡ set b.nodes.items k new = subst (λ (i : ℕ). u.nodes.items ≡ set b.nodes.items i (record (get_or b.nodes.items i d) { end = e; next = length b.nodes.items })) row change in
+    let g = map-set (line_in tt') b.nodes.items k new ∙ ap (λ xs. set xs k (line_in tt' new)) h.rows ∙ ap (λ y. set (so_far end (inside s t before up) (merge done)) k y) is_closed
+    ∙ sym (so_far-closed end up s e t before (merge done)) in
+    let w = within_set tt' b.nodes.items k new h.within (within_at tt' b.nodes.items k d h.within fine) in
+    record {
+      front = join (merge before) one;
+      merged = merge-item before (Element s e t) (merge done) refl ∙ sym (ap (λ (p : Pending). join (join (merge before) one) (pending_text p (string_bytes u.joined))) z ∙ join-nil (join (merge before) one));
+      clean = clean-item (merge before) (Element s e t) (merge done) refl;
+      rows = rw (set_is, tables) g;
+      open_rows = rw (opens, tables) both.0;
+      within = rw (set_is, tables) w;
+    }
+
+pub close_shows : (end s e : ℕ) (t : Tag) (before : Forest Item) (up : Open) (done : Forest Item) (b u : Builder) (outer : List OpenElement) (x : OpenElement)
+    → Settled end (inside s t before up) done b → b.opened.items ≡ outer ++ x ∷ [] → u.opened.items ≡ outer → u.tables ≡ b.tables → u.pending ≡ b.pending
+    → ((d : NodeData) → u.nodes.items ≡ set b.nodes.items x.row (record (get_or b.nodes.items x.row d) { end = e; next = length b.nodes.items }))
+    → Shows end up (join before (Cons (Element s e t) (merge done) Nil)) u
+close_shows end s e t before up done b u outer x h was opens tables same change =
+    let n = rows_count b.tables end (inside s t before up) (merge done) b.nodes.items h.rows in
+    let some : 0 < length b.nodes.items = omega arith in
+    let d = some_row b.nodes.items some in
+    close_with end s e t before up done b u outer x d h was opens tables same (change d) (first_within b.tables b.nodes.items some h.within)

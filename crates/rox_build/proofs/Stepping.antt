@@ -1,0 +1,229 @@
+-- What one construct does to the builder, against what is read.
+use Rattle.std.proofs.lemmas.Bool.{le-leb, lt-leb}
+use Rattle.rox_grammar.specs.Marks.{stands}
+use Rattle.std.specs.List.{starts_with}
+use Rattle.rox_grammar.specs.Constructs.{at}
+use Rattle.rox_grammar.specs.declared.fault.Word.TheVariants as word
+use Rattle.rox_build.specs.Scopes.{entries}
+use Rattle.std.proofs.Common.{eqb, eq-eqb, ne_eqb, if◌then◌else◌, slice_index, slice_range, ◌≡◌, ℕ, zero, suc, ◌+◌, ◌-◌, ◌<◌, ◌≤◌, Bool, true, false, List, [], ◌∷◌, ◌++◌, length, map, leb, refl, sym, ap, subst, ◌∙◌, arith, Result, Ok, Err, append_assoc}
+use Rattle.std.proofs.lemmas.List.{append-nil, map-append, same_from_push}
+use Rattle.rox_grammar.specs.declared.fault.Fault.{Fault}
+use Rattle.rox_grammar.specs.declared.fault.Span.{Span}
+use Rattle.rox_grammar.specs.declared.fault.Fault.TheVariants as fault
+use Rattle.rox_grammar.specs.Forest.{Forest, Nil, Cons, join, size}
+use Rattle.rox_grammar.specs.Written.{Name, Tag, Item, Element, Text, Comment, PI, Declaration, merge, leaf}
+use Rattle.rox_grammar.specs.Document.{own_pairs, own_attributes, pairs, attribute_count, distinct_pairs, listable, with_new}
+use Rattle.rox_reading.specs.State.{Open, root, inside, State, scope_of, nodes_so_far, pairs_so_far, attributes_so_far}
+use Rattle.rox_reading.specs.Lexical.{◌>>=◌}
+use Rattle.rox_reading.specs.Machine.{counted, with_item, opened_by, comment_step, instruction_step, cdata_step, run_step, end_step, tag_step, step, closed_by, same_name, name_span}
+use Rattle.rox_reading.specs.Markup.{Instruction, EndTag, comment_at, instruction_at, cdata_at, end_tag_at}
+use Rattle.rox_reading.specs.Values.{RunText, run_at}
+use Rattle.rox_reading.proofs.Forests.{pairs-join, attribute_count-join, pairs-merge, attribute_count-merge}
+use Rattle.rox_scan.specs.Gives.{Fails, name_view}
+use Rattle.rox_scan.specs.declared.failure.Failure.TheVariants as failure
+use Rattle.rox_build.specs.Values.{section_text}
+use Rattle.rox_build.specs.SoFar.{top}
+use Rattle.rox_build.specs.declared.tables.ElementTables.{ElementTables}
+use Rattle.rox_build.specs.declared.builder.OpenElement.{OpenElement}
+use Rattle.rox_grammar.specs.Tree.{listed}
+use Rattle.rox_scan.specs.declared.cursor.Cursor.{Cursor}
+use Rattle.rox_scan.specs.declared.failure.Failure.{Failure}
+use Rattle.rox_build.specs.Shown.{OpenLine, opened, opened_in, open_lines, names_in, Shows, Adds, Sees, Stepped}
+use Rattle.rox_build.specs.declared.builder.Builder.{Builder}
+
+pairs_last : (done : Forest Item) (i : Item) (c : Forest Item) → pairs (join done (Cons i c Nil)) ≡ pairs done ++ (own_pairs i ++ pairs c)
+pairs_last done i c = pairs-join done (Cons i c Nil) ∙ ap (λ xs. pairs done ++ (own_pairs i ++ xs)) (append-nil (pairs c))
+
+pub pairs_more : (o : Open) (done : Forest Item) (i : Item) (c : Forest Item) → pairs_so_far o (join done (Cons i c Nil)) ≡ pairs_so_far o done ++ (own_pairs i ++ pairs c)
+pairs_more root done i c = pairs_last done i c
+pairs_more (inside start tag before up) done i c =
+    ap (λ xs. pairs_so_far up before ++ (listable tag ++ xs)) (pairs_last done i c)
+    ∙ ap (λ xs. pairs_so_far up before ++ xs) (sym (append_assoc (listable tag) (pairs done) (own_pairs i ++ pairs c)))
+    ∙ sym (append_assoc (pairs_so_far up before) (listable tag ++ pairs done) (own_pairs i ++ pairs c))
+
+pub attributes_more : (o : Open) (done : Forest Item) (i : Item) (c : Forest Item) → attributes_so_far o (join done (Cons i c Nil)) ≡ attributes_so_far o done + (own_attributes i + attribute_count c)
+attributes_more root done i c = omega (arith, attribute_count-join done (Cons i c Nil))
+attributes_more (inside start tag before up) done i c = omega (arith, attribute_count-join done (Cons i c Nil))
+
+-- the state, if it is counted
+pub counted_is : (limit : ℕ) (t s : State) → counted limit t ≡ Ok s → s ≡ t
+counted_is limit t s h = by_cases (leb (nodes_so_far t.stack t.done) limit) refl
+  where
+    by_cases : (b : Bool) → b ≡ leb (nodes_so_far t.stack t.done) limit → s ≡ t
+    by_cases true e = let k : Ok t ≡ Ok s = rw (sym e) at h in cc k
+    by_cases false e = cc h
+
+-- what a builder adds is what is read
+pub adds_stepped : (limit end : ℕ) (t : State) (c : Cursor) (u : Builder) (r : Result (Unit {0}) Failure) → Adds end r u (counted limit t) → c.pos ≡ t.at → u.nodes_limit ≡ limit
+    → names_in u.tables ≡ distinct_pairs (pairs_so_far t.stack t.done) → length u.tables.attributes.items ≡ attributes_so_far t.stack t.done → Stepped limit end r c u (counted limit t)
+adds_stepped limit end t c u (Ok x) (s, is, shows) here l names attributes =
+    let e = counted_is limit t s is in
+    (t, is ∙ ap (λ (s : State). Ok s) e, record { here = here; limit_is = l; shows = subst (λ (s : State). Shows end s.stack s.done u) e shows; names = names; attributes = attributes })
+adds_stepped limit end t c u (Err e) h here l names attributes = h
+
+-- an item with nothing below it that declares nothing
+pub item_stepped : (limit end : ℕ) (s : State) (c d : Cursor) (b u : Builder) (r : Result (Unit {0}) Failure) (i : Item) → Sees limit end s c b → own_pairs i ≡ [] → own_attributes i ≡ 0
+    → u.tables ≡ b.tables → u.nodes_limit ≡ b.nodes_limit → Adds end r u (with_item b.nodes_limit s d.pos i) → Stepped limit end r d u (with_item limit s d.pos i)
+item_stepped limit end s c d b u r i h no_pairs no_attributes tables same adds =
+    let t : State = record { at = d.pos; done = join s.done (leaf i); stack = s.stack } in
+    let a : Adds end r u (counted limit t) = subst (λ (n : ℕ). Adds end r u (counted n t)) h.limit_is adds in
+    let p : pairs_so_far s.stack (join s.done (leaf i)) ≡ pairs_so_far s.stack s.done = pairs_more s.stack s.done i Nil ∙ ap (λ (xs : List Declaration). pairs_so_far s.stack s.done ++ (xs ++ [])) no_pairs ∙ append-nil (pairs_so_far s.stack s.done) in
+    let n : attributes_so_far s.stack (join s.done (leaf i)) ≡ attributes_so_far s.stack s.done = omega (arith, attributes_more s.stack s.done i Nil) in
+    adds_stepped limit end t d u r a refl (same ∙ h.limit_is) (rw (tables, p) h.names) (rw (tables, n) h.attributes)
+
+-- ---- what one construct is read as
+
+pub comment_is : (limit : ℕ) (src : List ℕ) (s : State) (i j : ℕ) (text : List ℕ) → i ≡ s.at → comment_at src i ≡ Ok (text, j) → comment_step limit src s ≡ with_item limit s j (Comment s.at j text)
+unfolding comment_step
+comment_is limit src s i j text e h = let k : comment_at src s.at ≡ Ok (text, j) = subst (λ (n : ℕ). comment_at src n ≡ Ok (text, j)) e h in rw k refl
+
+pub comment_fails : (limit : ℕ) (src : List ℕ) (s : State) (i : ℕ) (f : Fault) → i ≡ s.at → comment_at src i ≡ Err f → comment_step limit src s ≡ Err f
+unfolding comment_step
+comment_fails limit src s i f e h = let k : comment_at src s.at ≡ Err f = subst (λ (n : ℕ). comment_at src n ≡ Err f) e h in rw k refl
+
+pub instruction_is : (limit : ℕ) (src : List ℕ) (s : State) (i j : ℕ) (p : Instruction) → i ≡ s.at → instruction_at src i ≡ Ok (p, j)
+    → instruction_step limit src s ≡ with_item limit s j (PI s.at j p.target p.value)
+unfolding instruction_step
+instruction_is limit src s i j p e h = let k : instruction_at src s.at ≡ Ok (p, j) = subst (λ (n : ℕ). instruction_at src n ≡ Ok (p, j)) e h in rw k refl
+
+pub instruction_fails : (limit : ℕ) (src : List ℕ) (s : State) (i : ℕ) (f : Fault) → i ≡ s.at → instruction_at src i ≡ Err f → instruction_step limit src s ≡ Err f
+unfolding instruction_step
+instruction_fails limit src s i f e h = let k : instruction_at src s.at ≡ Err f = subst (λ (n : ℕ). instruction_at src n ≡ Err f) e h in rw k refl
+
+pub cdata_is : (limit : ℕ) (src : List ℕ) (s : State) (i j : ℕ) (raw : List ℕ) (t : RunText) → i ≡ s.at → cdata_at src i ≡ Ok (raw, j) → section_text raw ≡ t
+    → cdata_step limit src s ≡ with_item limit s j (Text s.at j t.value t.plain)
+unfolding cdata_step
+cdata_is limit src s i j raw t e h is =
+    let k : cdata_at src s.at ≡ Ok (raw, j) = subst (λ (n : ℕ). cdata_at src n ≡ Ok (raw, j)) e h in
+    rw k (ap (λ (t : RunText). with_item limit s j (Text s.at j t.value t.plain)) is)
+
+pub cdata_fails : (limit : ℕ) (src : List ℕ) (s : State) (i : ℕ) (f : Fault) → i ≡ s.at → cdata_at src i ≡ Err f → cdata_step limit src s ≡ Err f
+unfolding cdata_step
+cdata_fails limit src s i f e h = let k : cdata_at src s.at ≡ Err f = subst (λ (n : ℕ). cdata_at src n ≡ Err f) e h in rw k refl
+
+pub run_is : (limit : ℕ) (src : List ℕ) (s : State) (i j : ℕ) (t : RunText) → i ≡ s.at → run_at src i ≡ Ok (t, j) → run_step limit src s ≡ with_item limit s j (Text s.at j t.value t.plain)
+unfolding run_step
+run_is limit src s i j t e h = let k : run_at src s.at ≡ Ok (t, j) = subst (λ (n : ℕ). run_at src n ≡ Ok (t, j)) e h in rw k refl
+
+pub run_fails : (limit : ℕ) (src : List ℕ) (s : State) (i : ℕ) (e : Failure) → i ≡ s.at → Fails e (run_at src i) → Fails e (run_step limit src s)
+unfolding run_step
+run_fails limit src s i failure.Memory e h = tt
+run_fails limit src s i (failure.Fault f) e h = failed limit src s f (subst (λ (n : ℕ). run_at src n ≡ Err f) e h)
+  where
+    failed : (limit : ℕ) (src : List ℕ) (s : State) (f : Fault) → run_at src s.at ≡ Err f → run_step limit src s ≡ Err f
+    failed limit src s f k = rw k refl
+
+pub same_shows : (end : ℕ) (o : Open) (done : Forest Item) (b u : Builder) → Shows end o done b → u.nodes ≡ b.nodes → u.tables ≡ b.tables → u.opened ≡ b.opened → u.pending ≡ b.pending → u.joined ≡ b.joined
+    → Shows end o done u
+same_shows end o done b u h nodes tables opens waits joined =
+    record {
+      front = h.front;
+      merged = rw (waits, joined) h.merged;
+      clean = h.clean;
+      rows = rw (nodes, tables) h.rows;
+      open_rows = rw (tables, opens) h.open_rows;
+      within = rw (nodes, tables) h.within;
+    }
+
+-- ---- end tags
+
+pub end_fails : (src : List ℕ) (s : State) (i : ℕ) (f : Fault) → i ≡ s.at → end_tag_at src i ≡ Err f → end_step src s ≡ Err f
+unfolding end_step
+end_fails src s i f e h = let k : end_tag_at src s.at ≡ Err f = subst (λ (n : ℕ). end_tag_at src n ≡ Err f) e h in rw k refl
+
+pub end_is : (src : List ℕ) (s : State) (i j : ℕ) (t : EndTag) → i ≡ s.at → end_tag_at src i ≡ Ok (t, j) → end_step src s ≡ closed_by i t.name t.name_end j s.done s.stack
+unfolding end_step
+end_is src s i j t e h =
+    let k : end_tag_at src s.at ≡ Ok (t, j) = subst (λ (n : ℕ). end_tag_at src n ≡ Ok (t, j)) e h in
+    rw k (ap (λ (n : ℕ). closed_by n t.name t.name_end j s.done s.stack) (sym e))
+
+-- no element is open
+pub closed_at_root : (t : ElementTables) (o : Open) (i n j : ℕ) (name : Name) (done : Forest Item) → opened_in t [] ≡ open_lines o → closed_by i name n j done o ≡ Err (fault.UnexpectedEntityCloseTag i)
+unfolding closed_by
+closed_at_root t root i n j name done h = refl
+closed_at_root t (inside start tag before up) i n j name done h = absurd (push_not_nil (open_lines up) _ (sym h))
+  where
+    push_not_nil : {A : Type 0} (xs : List A) (y : A) → xs ++ y ∷ [] ≡ [] → ⊥
+    push_not_nil [] y h = cc h
+    push_not_nil (x ∷ xs) y h = cc h
+
+-- the name of the innermost open element, and where it stands
+top_view : (t : ElementTables) (start : ℕ) (tag : Tag) (before : Forest Item) (up : Open) (outer : List OpenElement) (x : OpenElement) → opened_in t (outer ++ x ∷ []) ≡ open_lines (inside start tag before up)
+    → opened (names_in t) t.listed.items x ≡ record { row = top up + 1 + size (merge before); name = tag.name; name_start = start + 1; name_end = tag.name_end; scope = listed (scope_of up) tag.declarations }
+top_view t start tag before up outer x h =
+    (same_from_push (map (opened (names_in t) t.listed.items) outer) (open_lines up) (opened (names_in t) t.listed.items x) _ (sym (map-append (opened (names_in t) t.listed.items) outer (x ∷ [])) ∙ h)).1
+
+outer_not_nil : (t : ElementTables) (outer : List OpenElement) (x : OpenElement) → opened_in t (outer ++ x ∷ []) ≡ [] → ⊥
+outer_not_nil t [] x h = cc h
+outer_not_nil t (y ∷ outer) x h = cc h
+
+pub closed_other : (t : ElementTables) (o : Open) (outer : List OpenElement) (x : OpenElement) (i n j : ℕ) (name : Name) (done : Forest Item) → opened_in t (outer ++ x ∷ []) ≡ open_lines o
+    → same_name (name_view x.name) name ≡ false
+    → closed_by i name n j done o ≡ Err (fault.UnexpectedCloseTag (name_span (name_view x.name) x.name_start x.name_end) (name_span name (i + 2) n) i)
+unfolding closed_by
+closed_other t root outer x i n j name done h other = absurd (outer_not_nil t outer x h)
+closed_other t (inside start tag before up) outer x i n j name done h other =
+    let v = top_view t start tag before up outer x h in
+    let a : name_view x.name ≡ tag.name = ap (λ (l : OpenLine). l.name) v in
+    let g : name_span (name_view x.name) x.name_start x.name_end ≡ name_span tag.name (start + 1) tag.name_end = ap (λ (l : OpenLine). name_span l.name l.name_start l.name_end) v in
+    let d : same_name tag.name name ≡ false = subst (λ (m : Name). same_name m name ≡ false) a other in
+    rw d (ap (λ (sp : Span). Err (fault.UnexpectedCloseTag sp (name_span name (i + 2) n) i)) (sym g))
+
+pub closed_stepped : (limit end : ℕ) (s : State) (c d : Cursor) (b u : Builder) (outer : List OpenElement) (x : OpenElement) (i n : ℕ) (name : Name) → Sees limit end s c b → b.opened.items ≡ outer ++ x ∷ []
+    → same_name (name_view x.name) name ≡ true → u.tables ≡ b.tables → u.nodes_limit ≡ b.nodes_limit
+    → ((total start : ℕ) (t : Tag) (before : Forest Item) (up : Open) (done : Forest Item) → Shows total (inside start t before up) done b → Shows total up (join before (Cons (Element start d.pos t) (merge done) Nil)) u)
+    → (r : State) × (closed_by i name n d.pos s.done s.stack ≡ Ok r) × Sees limit end r d u
+unfolding closed_by
+closed_stepped limit end s c d b u outer x i n name h os same tables limits close = by_stack s.stack refl
+  where
+    by_stack : (o : Open) → o ≡ s.stack → (r : State) × (closed_by i name n d.pos s.done o ≡ Ok r) × Sees limit end r d u
+    by_stack root e = absurd (outer_not_nil b.tables outer x (sym (ap (opened_in b.tables) os) ∙ h.shows.open_rows ∙ ap open_lines (sym e)))
+    by_stack (inside start tag before up) e =
+        let v = top_view b.tables start tag before up outer x (sym (ap (opened_in b.tables) os) ∙ h.shows.open_rows ∙ ap open_lines (sym e)) in
+        let a : name_view x.name ≡ tag.name = ap (λ (l : OpenLine). l.name) v in
+        let k : same_name tag.name name ≡ true = subst (λ (m : Name). same_name m name ≡ true) a same in
+        let sh = close end start tag before up s.done (subst (λ (o : Open). Shows end o s.done b) (sym e) h.shows) in
+        let done = join before (Cons (Element start d.pos tag) (merge s.done) Nil) in
+        let p : pairs_so_far up done ≡ pairs_so_far s.stack s.done =
+        pairs_more up before (Element start d.pos tag) (merge s.done) ∙ ap (λ xs. pairs_so_far up before ++ (listable tag ++ xs)) (pairs-merge s.done) ∙ ap (λ (o : Open). pairs_so_far o s.done) e in
+        let q = attributes_more up before (Element start d.pos tag) (merge s.done) in
+        let q2 = attribute_count-merge s.done in
+        let q3 : attributes_so_far (inside start tag before up) s.done ≡ attributes_so_far s.stack s.done = ap (λ (o : Open). attributes_so_far o s.done) e in
+        let m : attributes_so_far up done ≡ attributes_so_far s.stack s.done = omega arith in
+        (record { at = d.pos; done = done; stack = up }, rw k refl,
+         record { here = refl; limit_is = limits ∙ h.limit_is; shows = sh; names = rw (tables, p) h.names; attributes = rw (tables, m) h.attributes })
+
+abbrev pub text_or : Result RunText Fault → RunText
+text_or (Ok t) = t
+text_or (Err f) = record { value = []; plain = true }
+
+pub text_stepped : (limit end : ℕ) (s : State) (c d : Cursor) (b u : Builder) (r : Result (Unit {0}) Failure) (t : RunText) → Sees limit end s c b
+    → u.tables ≡ b.tables → u.nodes_limit ≡ b.nodes_limit → Adds end r u (with_item b.nodes_limit s d.pos (Text c.pos d.pos t.value t.plain)) → Stepped limit end r d u (with_item limit s d.pos (Text s.at d.pos t.value t.plain))
+text_stepped limit end s c d b u r t h tables limits adds =
+    subst (λ (n : ℕ). Stepped limit end r d u (with_item limit s d.pos (Text n d.pos t.value t.plain))) h.here
+    (item_stepped limit end s c d b u r (Text c.pos d.pos t.value t.plain) h refl refl tables limits adds)
+
+-- ---- what the innermost open element lists
+
+pub top_scope : (t : ElementTables) (o : Open) (outer : List OpenElement) (x : OpenElement) → opened_in t (outer ++ x ∷ []) ≡ open_lines o
+    → entries (names_in t) (slice_range t.listed.items x.scope.from x.scope.until) ≡ scope_of o
+top_scope t root outer x h = absurd (outer_not_nil t outer x h)
+top_scope t (inside start tag before up) outer x h = ap (λ (l : OpenLine). l.scope) (top_view t start tag before up outer x h)
+
+pub no_scope : (t : ElementTables) (o : Open) → opened_in t [] ≡ open_lines o → (let ds : List Declaration = [] in ds) ≡ scope_of o
+no_scope t root h = refl
+no_scope t (inside start tag before up) h = absurd (push_not_nil (open_lines up) _ (sym h))
+  where
+    push_not_nil : {A : Type 0} (xs : List A) (y : A) → xs ++ y ∷ [] ≡ [] → ⊥
+    push_not_nil [] y h = cc h
+    push_not_nil (x ∷ xs) y h = cc h
+
+-- two bytes that stand
+pub two_stand : (src : List ℕ) (i a b : ℕ) → i + 1 < length src → slice_index src i ≡ a → slice_index src (i + 1) ≡ b → stands (a ∷ b ∷ []) src i ≡ true
+unfolding stands
+two_stand [] i a b h x y = absurd (omega arith)
+two_stand (c ∷ []) i a b h x y = absurd (omega arith)
+two_stand (c ∷ d ∷ src) zero a b h x y = let k : eqb a c ≡ true = eq-eqb a c (sym x) in let l : eqb b d ≡ true = eq-eqb b d (sym y) in let g : starts_with eqb (c ∷ d ∷ src) (a ∷ b ∷ []) ≡ true = rw (k, l) refl in g
+two_stand (c ∷ d ∷ src) (suc i) a b h x y =
+    let e : suc i + 1 ≡ suc (i + 1) = omega arith in
+    two_stand (d ∷ src) i a b (omega arith) x (ap (slice_index (c ∷ d ∷ src)) (sym e) ∙ y)

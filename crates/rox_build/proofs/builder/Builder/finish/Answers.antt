@@ -1,0 +1,16 @@
+use Rattle.std.proofs.Common.{◌≡◌, ◌<◌, ◌^◌, ◌+◌, refl, sym, ap, ◌∙◌, arith, length, set, get_or, vec_len, ℕ}
+use Rattle.rox_build.specs.Shown.{AreSound}
+use Rattle.rox_build.specs.declared.tables.NodeData.{NodeData}
+use Rattle.rox_build.proofs.Finishing.{finish_holds}
+use Rattle.rox_build.proofs.builder.Builder.finish.Goals as goal
+
+pub returns-clause-ok : goal.returns-clause-ok
+returns-clause-ok c = λ end done sh sound.
+    let b = c.flush.new.self in
+    let st = c.in_ok-flush.ensures.ok end _ done sh in
+    let fine : AreSound b.tables = rw c.flush.ensures.tables sound in
+    let len = b.nodes.ok.0 in
+    let few = b.few in
+    let count : c.len-count.result ≡ length b.nodes.items = omega (arith, c.len-count.ensures) in
+    finish_holds end done b _ st fine (omega arith)
+    (λ d. c.end_root.ensures.rows d ∙ ap (λ (n : ℕ). set b.nodes.items 0 (record (get_or b.nodes.items 0 d) { next = n })) count) refl refl refl

@@ -1,0 +1,42 @@
+use Rattle.std.proofs.Common.{◌≡◌, ◌++◌, ◌∷◌, [], ◌+◌, ◌≤◌, ◌<◌, refl, sym, ap, ◌∙◌, List, ℕ, arith, length, vec_len}
+use Rattle.std.proofs.lemmas.Result.{err_from_is_err_and}
+use Rattle.rox_grammar.specs.Forest.{join}
+use Rattle.rox_grammar.specs.Written.{leaf}
+use Rattle.rox_build.specs.Shown.{IsNode}
+use Rattle.rox_reading.specs.State.{State, scope_of}
+use Rattle.rox_build.specs.declared.tables.NodeData.{NodeData}
+use Rattle.rox_build.proofs.Showing.{leaf_shows, leaf_count, settled_count, counted_ok, counted_err}
+use Rattle.rox_build.proofs.builder.Builder.leaf.Goals as goal
+
+pub returns-clause-value : goal.returns-clause-value
+returns-clause-value c = λ total at s item sh is.
+    let f = c.flush.new.self in
+    let st = c.in_ok-flush.ensures.ok total s.stack s.done sh in
+    let k : IsNode f.tables (scope_of s.stack) c.args.start c.args.end c.args.kind item = rw c.flush.ensures.tables is in
+    let t : State = record { at = at; done = join s.done (leaf item); stack = s.stack } in
+    let n = settled_count total s.stack s.done f st in
+    let m = leaf_count s.stack s.done item is.no_text in
+    let room = c.in_ok-room.ensures.ok in
+    let len = f.nodes.ok.0 in
+    let limit = c.flush.ensures.limit in
+    let empty = c.in_ok-flush.ensures.empty in (
+      t,
+      counted_ok c.args.self.now.nodes_limit t (omega arith),
+      leaf_shows total s.stack s.done f _ c.args.start c.args.end c.args.kind item st k
+          (c.in_ok-push.ensures.items ∙ ap (λ (r : NodeData). f.nodes.items ++ r ∷ []) c.row-row.ensures) refl refl refl,
+    )
+
+pub returns-in_err-room-clause-value : goal.returns-in_err-room-clause-value
+returns-in_err-room-clause-value c = λ total at s item sh is.
+    let p = err_from_is_err_and c.from_residual-in_err-room.result c.from_residual-in_err-room.ensures.1 in
+    let f = c.flush.new.self in
+    let st = c.in_ok-flush.ensures.ok total s.stack s.done sh in
+    let t : State = record { at = at; done = join s.done (leaf item); stack = s.stack } in
+    let n = settled_count total s.stack s.done f st in
+    let m = leaf_count s.stack s.done item is.no_text in
+    let e = c.in_err-room.ensures.err in
+    let over = e.1 in
+    let len = f.nodes.ok.0 in
+    let limit = c.flush.ensures.limit in
+    let empty = c.in_ok-flush.ensures.empty in
+    rw (p.1, p.2, e.0) (counted_err c.args.self.now.nodes_limit t (omega arith))

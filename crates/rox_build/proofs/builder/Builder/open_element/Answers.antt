@@ -1,0 +1,54 @@
+use Rattle.std.proofs.Common.{◌≡◌, ◌++◌, ◌∷◌, [], ◌+◌, ◌≤◌, ◌<◌, refl, sym, ap, ◌∙◌, List, ℕ, arith, length, vec_len}
+use Rattle.std.proofs.lemmas.Result.{err_from_is_err_and}
+use Rattle.rox_grammar.specs.Forest.{Nil}
+use Rattle.rox_grammar.specs.Tree.{listed}
+use Rattle.rox_reading.specs.State.{State, inside, scope_of}
+use Rattle.rox_build.specs.Shown.{IsOpening, OpenLine, opened, names_in}
+use Rattle.rox_build.specs.declared.tables.Scope.{Scope}
+use Rattle.rox_build.specs.declared.builder.OpenElement.{OpenElement}
+use Rattle.rox_build.specs.declared.tables.NodeKind.{NodeKind}
+use Rattle.rox_build.specs.declared.tables.NodeKind.TheVariants as kind
+use Rattle.rox_build.specs.declared.tables.NodeData.{NodeData}
+use Rattle.rox_build.proofs.Showing.{row_open, open_shows, open_count, settled_count, counted_ok, counted_err}
+use Rattle.rox_build.proofs.builder.Builder.open_element.Goals as goal
+
+pub returns-clause-value : goal.returns-clause-value
+returns-clause-value c = λ total at s t sh here is.
+    let f = c.flush.new.self in
+    let tag = c.args.tag.now in
+    let st = c.in_ok-flush.ensures.ok total s.stack s.done sh in
+    let op : IsOpening f.tables (scope_of s.stack) s.at tag t = rw (c.flush.ensures.tables, here) is in
+    let next : State = record { at = at; done = Nil; stack = inside s.at t s.done s.stack } in
+    let n = settled_count total s.stack s.done f st in
+    let m = open_count s.stack s.at t s.done in
+    let room = c.in_ok-room.ensures.ok in
+    let len = f.nodes.ok.0 in
+    let limit = c.flush.ensures.limit in
+    let empty = c.in_ok-flush.ensures.empty in
+    let k : NodeKind = kind.Element tag.element in
+    let scope : Scope = record { from = tag.element.namespaces_from; until = tag.element.namespaces_until } in
+    let x : OpenElement = record { row = c.len-row.result; name = tag.name; name_start = tag.name_start; name_end = tag.name_end; scope = scope } in
+    let place : c.len-row.result ≡ length f.nodes.items = omega (arith, c.len-row.ensures) in
+    let view : opened (names_in f.tables) f.tables.listed.items x ≡ record { row = x.row; name = t.name; name_start = s.at + 1; name_end = t.name_end; scope = listed (scope_of s.stack) t.declarations } =
+    rw (op.name, op.name_start, op.name_end, op.scope) refl in
+    let rows : c.push.new.self.items ≡ f.nodes.items ++ row_open f.tables 0 f.opened.items s.at k ∷ [] =
+    rw here (c.in_ok-push.ensures.items ∙ ap (λ (r : NodeData). f.nodes.items ++ record r { next = 0 } ∷ []) c.row-opening.ensures) in (
+      next,
+      counted_ok c.args.self.now.nodes_limit next (omega arith),
+      open_shows total s.stack s.done f _ s.at k t x st op.node.is op.node.within place view rows refl c.in_ok-push-2.ensures.items refl,
+    )
+
+pub returns-in_err-room-clause-value : goal.returns-in_err-room-clause-value
+returns-in_err-room-clause-value c = λ total at s t sh here is.
+    let p = err_from_is_err_and c.from_residual-in_err-room.result c.from_residual-in_err-room.ensures.1 in
+    let f = c.flush.new.self in
+    let st = c.in_ok-flush.ensures.ok total s.stack s.done sh in
+    let next : State = record { at = at; done = Nil; stack = inside s.at t s.done s.stack } in
+    let n = settled_count total s.stack s.done f st in
+    let m = open_count s.stack s.at t s.done in
+    let e = c.in_err-room.ensures.err in
+    let over = e.1 in
+    let len = f.nodes.ok.0 in
+    let limit = c.flush.ensures.limit in
+    let empty = c.in_ok-flush.ensures.empty in
+    rw (p.1, p.2, e.0) (counted_err c.args.self.now.nodes_limit next (omega arith))

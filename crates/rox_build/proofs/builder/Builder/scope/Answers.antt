@@ -1,0 +1,28 @@
+use Rattle.std.proofs.Common.{◌≡◌, ◌-◌, ◌++◌, ◌∷◌, [], List, length, take, refl, sym, ap, ◌∙◌, arith, slice_get, None, inl, inr}
+use Rattle.std.proofs.lemmas.Option.{slice_get_cases}
+use Rattle.rox_build.specs.Shown.{opened_in}
+use Rattle.rox_build.specs.declared.builder.OpenElement.{OpenElement}
+use Rattle.rox_build.proofs.Showing.{last_split}
+use Rattle.rox_build.proofs.Stepping.{top_scope, no_scope}
+use Rattle.rox_build.proofs.builder.Builder.scope.Goals as goal
+
+nothing_last : (os : List OpenElement) → slice_get os (length os - 1) ≡ None → os ≡ []
+nothing_last [] h = refl
+nothing_last (x ∷ xs) h = elim (slice_get_cases (x ∷ xs) (length (x ∷ xs) - 1)).1 [ inl w ↦ let k = w.2 in cc h | inr w ↦ absurd (omega (arith, w.0)) ]
+
+pub returns-in-Some-clause-value : goal.returns-in-Some-clause-value
+returns-in-Some-clause-value c = λ end o done sh.
+    let b = c.args.self.now in
+    let k = c.in-Some.ensures.item in
+    let os = c.deref.result.now in
+    let x = c.in-Some.element.now in
+    let outer = take (length os - 1) os in
+    let split : b.opened.items ≡ outer ++ x ∷ [] = sym c.deref.ensures.value ∙ last_split os x k.3.0 (k.3.1 x) in
+    top_scope b.tables o outer x (sym (ap (opened_in b.tables) split) ∙ sh.open_rows)
+
+pub returns-in-None-clause-value : goal.returns-in-None-clause-value
+returns-in-None-clause-value c = λ end o done sh.
+    let b = c.args.self.now in
+    let os = c.deref.result.now in
+    let e : b.opened.items ≡ [] = sym c.deref.ensures.value ∙ nothing_last os (sym c.in-None.ensures.value) in
+    no_scope b.tables o (sym (ap (opened_in b.tables) e) ∙ sh.open_rows)

@@ -1,0 +1,78 @@
+use Rattle.std.proofs.Common.{◌≡◌, ◌++◌, ◌∷◌, [], ◌+◌, ◌-◌, ◌≤◌, ◌<◌, Bool, not, true, false, refl, sym, ap, subst, ◌∙◌, List, ℕ, arith, length, take, Result, Ok, Err}
+use Rattle.std.proofs.lemmas.Result.{err_from_is_err_and}
+use Rattle.std.proofs.Common.{slice_get, None, inl, inr}
+use Rattle.std.proofs.lemmas.Option.{slice_get_cases}
+use Rattle.rox_grammar.specs.Tree as tree
+use Rattle.rox_grammar.specs.Written.{Item, Text, Comment, PI}
+use Rattle.rox_reading.specs.State.{State, scope_of}
+use Rattle.rox_reading.specs.Values.{RunText}
+use Rattle.std.specs.String.{string_bytes}
+use Rattle.rox_build.specs.Values.{piece_view, section_text}
+use Rattle.rox_build.specs.Shown.{IsNode, Shows}
+use Rattle.rox_build.specs.declared.builder.Builder.{Builder}
+use Rattle.rox_scan.specs.Parts.{end_tag_view}
+use Rattle.rox_scan.specs.Gives.{name_view}
+use Rattle.rox_reading.specs.Machine.{name_span}
+use Rattle.rox_build.specs.Shown.{opened_in, open_lines}
+use Rattle.rox_build.specs.declared.builder.OpenElement.{OpenElement}
+use Rattle.rox_grammar.specs.declared.fault.Span.{Span}
+use Rattle.rox_grammar.specs.declared.fault.Fault.TheVariants as fault
+use Rattle.rox_build.proofs.Showing.{last_split}
+use Rattle.rox_build.proofs.Stepping.{end_is, end_fails, closed_at_root, closed_other, closed_stepped}
+use Rattle.rox_build.proofs.reader.end_tag.Goals as goal
+
+pub returns-in_err-tag-clause-value : goal.returns-in_err-tag-clause-value
+returns-in_err-tag-clause-value c = λ limit end s h.
+    let p = err_from_is_err_and c.from_residual.result c.from_residual.ensures.1 in
+    rw (p.1, p.2) (end_fails c.args.cursor.now.text.now s c.args.cursor.now.pos c.in_err-tag.field-0.0 h.here c.in_err-tag.ensures.value)
+
+nothing_last : (os : List OpenElement) → slice_get os (length os - 1) ≡ None → os ≡ []
+nothing_last [] h = refl
+nothing_last (x ∷ xs) h = elim (slice_get_cases (x ∷ xs) (length (x ∷ xs) - 1)).1 [ inl w ↦ let k = w.2 in cc h | inr w ↦ absurd (omega (arith, w.0)) ]
+
+pub returns-in_default-clause-value : goal.returns-in_default-clause-value
+returns-in_default-clause-value c = λ limit end s h.
+    let src = c.args.cursor.now.text.now in
+    let b = c.args.builder.now in
+    let pos = c.args.cursor.now.pos in
+    let j = c.end_tag.new.self.pos in
+    let t = end_tag_view c.in_ok-tag.tag in
+    let os = c.deref.result.now in
+    let e : b.opened.items ≡ [] = sym c.deref.ensures.value ∙ nothing_last os (sym c.in_default.ensures.value) in
+    end_is src s pos j t h.here c.in_ok-tag.ensures.value
+    ∙ closed_at_root b.tables s.stack pos t.name_end j t.name s.done (sym (ap (opened_in b.tables) e) ∙ h.shows.open_rows)
+
+pub returns-then-not-same_name-clause-value : goal.returns-then-not-same_name-clause-value
+returns-then-not-same_name-clause-value c = λ limit end s h.
+    let src = c.args.cursor.now.text.now in
+    let b = c.args.builder.now in
+    let pos = c.args.cursor.now.pos in
+    let j = c.end_tag.new.self.pos in
+    let t = end_tag_view c.in_ok-tag.tag in
+    let k = c.in-Some.ensures.item in
+    let os = c.deref.result.now in
+    let o = c.in-Some.open.now in
+    let outer = take (length os - 1) os in
+    let split : b.opened.items ≡ outer ++ o ∷ [] = sym c.deref.ensures.value ∙ last_split os o k.3.0 (k.3.1 o) in
+    let other = sym c.same_name.ensures ∙ c.if-not-same_name.true in
+    let x = c.name_span-expected.ensures in
+    let y = c.name_span-found.ensures in
+    end_is src s pos j t h.here c.in_ok-tag.ensures.value
+    ∙ closed_other b.tables s.stack outer o pos t.name_end j t.name s.done (sym (ap (opened_in b.tables) split) ∙ h.shows.open_rows) other
+    ∙ sym (ap (λ (sp : Span). Err (fault.UnexpectedCloseTag sp c.name_span-found.result pos)) x ∙ ap (λ (sp : Span). Err (fault.UnexpectedCloseTag (name_span (name_view o.name) o.name_start o.name_end) sp pos)) y)
+
+pub returns-clause-value : goal.returns-clause-value
+returns-clause-value c = λ limit end s h.
+    let src = c.args.cursor.now.text.now in
+    let b = c.args.builder.now in
+    let pos = c.args.cursor.now.pos in
+    let d = c.end_tag.new.self in
+    let t = end_tag_view c.in_ok-tag.tag in
+    let k = c.in-Some.ensures.item in
+    let os = c.deref.result.now in
+    let o = c.in-Some.open.now in
+    let outer = take (length os - 1) os in
+    let split : b.opened.items ≡ outer ++ o ∷ [] = sym c.deref.ensures.value ∙ last_split os o k.3.0 (k.3.1 o) in
+    let same = sym c.same_name.ensures ∙ c.if-not-same_name.false in
+    rw (end_is src s pos d.pos t h.here c.in_ok-tag.ensures.value)
+    (closed_stepped limit end s c.args.cursor.now d b c.close.new.self outer o pos t.name_end t.name h split same c.close.ensures.tables c.close.ensures.limit c.in_ok-close.ensures.ok)

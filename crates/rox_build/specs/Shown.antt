@@ -1,0 +1,168 @@
+-- What the builder holds, against where reading stands.
+use Rattle.std.specs.Prelude.{◌≡◌, ℕ, zero, suc, ◌+◌, ◌<◌, ◌≤◌, Bool, true, false, List, [], ◌∷◌, ◌++◌, Result, Ok, Err, length, map, slice_range}
+use Rattle.std.specs.String.{string_bytes}
+use Rattle.std.specs.List.{AllByRecursion}
+use Rattle.rox_grammar.specs.declared.fault.Fault.{Fault}
+use Rattle.rox_grammar.specs.Forest.{Forest, Nil, Cons, join, size}
+use Rattle.rox_grammar.specs.Written.{Name, Declaration, Tag, Item, Element, Text, Comment, PI, merge, leaf}
+use Rattle.rox_grammar.specs.Tree.{listed, scope_in, node_in}
+use Rattle.rox_grammar.specs.Document.{distinct_pairs, most_pairs, most_attributes}
+use Rattle.rox_reading.specs.Lexical.{Read, ◌>>=◌}
+use Rattle.rox_reading.specs.Machine.{prolog}
+use Rattle.rox_reading.specs.State.{Open, root, inside, State, scope_of, pairs_so_far, attributes_so_far}
+use Rattle.rox_reading.proofs.Forests.{Clean, is_text}
+use Rattle.rox_scan.specs.Gives.{Fails, name_view}
+use Rattle.rox_scan.specs.declared.cursor.Cursor.{Cursor}
+use Rattle.rox_scan.specs.declared.failure.Failure.{Failure}
+use Rattle.rox_build.specs.Lines.{Line, line, node, declaration, NamespaceWithin, KindWithin}
+use Rattle.rox_build.specs.Scopes.{entries}
+use Rattle.rox_build.specs.SoFar.{top, so_far}
+use Rattle.rox_build.specs.declared.tables.NodeKind.{NodeKind}
+use Rattle.rox_build.specs.declared.tables.AttributeData.{AttributeData}
+use Rattle.rox_build.specs.declared.tables.NodeData.{NodeData}
+use Rattle.rox_build.specs.declared.tables.ElementTables.{ElementTables}
+use Rattle.rox_build.specs.declared.tables.Scope.{Scope}
+use Rattle.rox_build.specs.declared.tables.ElementData.{ElementData}
+use Rattle.rox_build.specs.declared.tables.NodeKind.TheVariants as kind
+use Rattle.rox_build.specs.declared.tag.StartTag.{StartTag}
+use Rattle.rox_build.specs.declared.pending.Pending.{Pending}
+use Rattle.rox_build.specs.declared.pending.Pending.TheVariants as pending
+use Rattle.rox_build.specs.declared.builder.OpenElement.{OpenElement}
+use Rattle.rox_build.specs.declared.builder.Builder.{Builder}
+
+-- what is kept of an open element
+pub record OpenLine : Type 0 where
+  pub row : ℕ
+  pub name : Name
+  pub name_start : ℕ
+  pub name_end : ℕ
+  pub scope : List Declaration
+
+abbrev pub opened : List Declaration → List ℕ → OpenElement → OpenLine
+opened names places o =
+    record { row = o.row; name = name_view o.name; name_start = o.name_start; name_end = o.name_end; scope = entries names (slice_range places o.scope.from o.scope.until) }
+
+-- the open elements, outermost first
+abbrev pub open_lines : Open → List OpenLine
+open_lines root = []
+open_lines (inside start tag before up) =
+    open_lines up
+    ++ record { row = top up + 1 + size (merge before); name = tag.name; name_start = start + 1; name_end = tag.name_end; scope = listed (scope_of up) tag.declarations }
+    ∷ []
+
+-- the row of the last, or that of the root node
+abbrev pub last_row : List OpenLine → ℕ
+last_row [] = 0
+last_row (o ∷ []) = o.row
+last_row (o ∷ p ∷ ps) = last_row (p ∷ ps)
+
+-- the text that may go on, where the buffer holds this
+abbrev pub pending_text : Pending → List ℕ → Forest Item
+pending_text pending.None joined = Nil
+pending_text (pending.Slice start end text) joined = leaf (Text start end text.now true)
+pending_text (pending.Joined start end) joined = leaf (Text start end joined false)
+
+abbrev pub names_in : ElementTables → List Declaration
+names_in t = map declaration t.namespaces.items
+
+abbrev pub line_in : ElementTables → NodeData → Line
+line_in t row = line t.attributes.items (names_in t) t.listed.items row
+
+abbrev pub opened_in : ElementTables → List OpenElement → List OpenLine
+opened_in t os = map (opened (names_in t) t.listed.items) os
+
+-- what a row names is in the tables
+abbrev pub IsWithin : ElementTables → NodeKind → Type 0
+IsWithin t k = KindWithin (length t.attributes.items) (length t.namespaces.items) (length t.listed.items) k
+
+-- The builder holds these open elements, with these items in the innermost, of a text of this length.
+pub record Shows (end : ℕ) (stack : Open) (done : Forest Item) (b : Builder) : Type 0 where
+  -- the rows of the innermost
+  pub front : Forest Item
+  pub merged : merge done ≡ join front (pending_text b.pending (string_bytes b.joined))
+  pub clean : Clean front
+  pub rows : map (line_in b.tables) b.nodes.items ≡ so_far end stack front
+  pub open_rows : opened_in b.tables b.opened.items ≡ open_lines stack
+  pub within : AllByRecursion (λ r. IsWithin b.tables r.kind) b.nodes.items
+
+-- the same with no text that may go on
+pub record Settled (end : ℕ) (stack : Open) (done : Forest Item) (b : Builder) : Type 0 where
+  pub rows : map (line_in b.tables) b.nodes.items ≡ so_far end stack (merge done)
+  pub open_rows : opened_in b.tables b.opened.items ≡ open_lines stack
+  pub within : AllByRecursion (λ r. IsWithin b.tables r.kind) b.nodes.items
+  pub empty : b.pending ≡ pending.None
+
+-- a row shows an item with nothing below it, below an element that lists these
+pub record IsNode (t : ElementTables) (above : List Declaration) (start end : ℕ) (k : NodeKind) (item : Item) : Type 0 where
+  pub is : node t.attributes.items (names_in t) t.listed.items start end k ≡ node_in (scope_in above item) item
+  pub within : IsWithin t k
+  pub no_text : is_text item ≡ false
+
+-- where the namespaces stand that an element lists
+abbrev pub scope_in_table : ElementData → Scope
+scope_in_table e = record { from = e.namespaces_from; until = e.namespaces_until }
+
+-- what the tag holds is this, below an element that lists these
+pub record IsOpening (tables : ElementTables) (above : List Declaration) (start : ℕ) (tag : StartTag) (t : Tag) : Type 0 where
+  pub node : IsNode tables above start 0 (kind.Element tag.element) (Element start 0 t)
+  pub name : name_view tag.name ≡ t.name
+  pub name_start : tag.name_start ≡ start + 1
+  pub name_end : tag.name_end ≡ t.name_end
+  pub scope : entries (names_in tables) (slice_range tables.listed.items tag.element.namespaces_from tag.element.namespaces_until) ≡ listed above t.declarations
+
+-- attributes and listed places name only what the table of namespaces has
+pub record AreSound (t : ElementTables) : Type 0 where
+  pub attributes : AllByRecursion (λ a. NamespaceWithin (length t.namespaces.items) a.namespace) t.attributes.items
+  pub listed : AllByRecursion (λ i. i < length t.namespaces.items) t.listed.items
+
+-- the builder holds what is read, unless memory ran out
+abbrev pub Adds : ℕ → Result (Unit {0}) Failure → Builder → Result State Fault → Type 0
+Adds end (Ok x) b read = (s : State) × (read ≡ Ok s) × Shows end s.stack s.done b
+Adds end (Err e) b read = Fails e read
+
+-- what an open element lists is in the table
+abbrev pub IsOpenWithin : ElementTables → OpenElement → Type 0
+IsOpenWithin t o = (o.scope.from ≤ o.scope.until) × (o.scope.until ≤ length t.listed.items)
+
+-- what is so between two constructs, whatever the text
+pub record Fine (t : ElementTables) (opened : List OpenElement) : Type 0 where
+  pub sound : AreSound t
+  pub elements : AllByRecursion (IsOpenWithin t) opened
+  pub few_names : length t.namespaces.items ≤ most_pairs
+  pub few_attributes : length t.attributes.items ≤ most_attributes
+
+-- The cursor and the builder stand where reading does, in a text of this length.
+pub record Sees (limit end : ℕ) (s : State) (c : Cursor) (b : Builder) : Type 0 where
+  pub here : c.pos ≡ s.at
+  pub limit_is : b.nodes_limit ≡ limit
+  pub shows : Shows end s.stack s.done b
+  pub names : names_in b.tables ≡ distinct_pairs (pairs_so_far s.stack s.done)
+  pub attributes : length b.tables.attributes.items ≡ attributes_so_far s.stack s.done
+
+-- the same after a step, unless memory ran out
+abbrev pub Stepped : ℕ → ℕ → Result (Unit {0}) Failure → Cursor → Builder → Result State Fault → Type 0
+Stepped limit end (Ok x) c b read = (s : State) × (read ≡ Ok s) × Sees limit end s c b
+Stepped limit end (Err e) c b read = Fails e read
+
+-- the same of the root element, with whether it stands there
+abbrev pub SteppedWith : ℕ → ℕ → Result Bool Failure → Cursor → Builder → Result (State × Bool) Fault → Type 0
+SteppedWith limit end (Ok x) c b read = (s : State) × (read ≡ Ok (s, x)) × Sees limit end s c b
+SteppedWith limit end (Err e) c b read = Fails e read
+
+-- the place behind the declaration, if it stands here
+abbrev pub prolog_at : List ℕ → ℕ → Read (Unit {0})
+prolog_at src i = prolog src i >>= λ j. Ok (tt, j)
+
+-- a whole text was read
+abbrev pub Completed : ℕ → Result (Unit {0}) Failure → Builder → Result (Forest Item) Fault → Type 0
+Completed end (Ok x) b read = (tops : Forest Item) × (read ≡ Ok tops) × Shows end root tops b
+Completed end (Err e) b read = Fails e read
+
+-- tables that have grown
+pub record Grown (old new : ElementTables) : Type 0 where
+  pub more_attributes : List AttributeData
+  pub attributes : new.attributes.items ≡ old.attributes.items ++ more_attributes
+  pub more_names : List Declaration
+  pub names : names_in new ≡ names_in old ++ more_names
+  pub more_listed : List ℕ
+  pub listed_are : new.listed.items ≡ old.listed.items ++ more_listed

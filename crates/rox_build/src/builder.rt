@@ -1,0 +1,410 @@
+//! The tables as they grow: the open elements, and the text that may go on.
+
+ghost use Rattle.std.specs.Prelude.{◌<◌, ◌≤◌, ◌+◌, ◌^◌, ◌≡◌, ◌∷◌, [], ℕ, length, vec_len, set, get_or, max, IfOk, IfErr, OnOk};
+ghost use Rattle.rox_build.specs.declared.tables.NodeData.{NodeData};
+ghost use Rattle.rox_build.specs.declared.tables.NodeKind.TheVariants as kind;
+ghost use Rattle.rox_scan.specs.declared.failure.Failure.TheVariants as failure;
+ghost use Rattle.rox_build.specs.Waiting.{waiting};
+
+use crate::pending::Pending;
+use crate::storage::StringStorage;
+use crate::tables::{ElementTables, NodeData, NodeKind, Scope, Tables};
+use crate::tag::{Buffers, StartTag};
+use crate::value::Piece;
+use rox_grammar::fault::Fault;
+use rox_scan::cursor::QName;
+use rox_scan::failure::Failure;
+use rox_scan::marks::Finders;
+use std::alloc::Global;
+use std::mem;
+
+/// An element that is open: its row, its name, which stands from `name_start` up to `name_end`, and what it lists.
+#[derive(Clone, Copy, Debug)]
+pub struct OpenElement<'input> {
+    pub row: u32,
+    pub name: QName<'input>,
+    pub name_start: usize,
+    pub name_end: usize,
+    pub scope: Scope,
+}
+
+/// The tables of what is read so far. The root node has row 0.
+#[derive(Drop)]
+pub struct Builder<'input> {
+    pub nodes: Vec<NodeData<'input>>,
+    pub tables: ElementTables<'input>,
+    /// Outermost first.
+    pub opened: Vec<OpenElement<'input>>,
+    pub pending: Pending<'input>,
+    /// The text of `Pending::Joined`.
+    pub joined: String,
+    pub buffers: Buffers<'input>,
+    pub finders: Finders,
+    pub nodes_limit: u32,
+    pub ghost few: { vec_len nodes + waiting pending < 2 ^ 32 },
+    pub ghost counted: { vec_len nodes + waiting pending ≤ max 1 nodes_limit },
+    pub ghost shallow: { vec_len opened < vec_len nodes },
+}
+
+/// The row of the root node of a text of so many bytes, with room for more.
+fn root_row<'input>(alloc: Global, bytes: usize) -> Result<Vec<NodeData<'input>>, Failure>
+    ensures ok { IfOk result (λ nodes. nodes.items ≡ record { start = 0; end = bytes; parent = 0; next = 0; depth = 0; kind = kind.Root } ∷ []) }
+    ensures err { IfErr result (λ e. e ≡ failure.Memory) }
+{
+    let mut nodes = Vec::with_capacity(alloc, bytes / 32 + 1)?;
+    nodes.push(NodeData {
+        start: 0,
+        end: bytes,
+        parent: 0,
+        next: 0,
+        depth: 0,
+        kind: NodeKind::Root,
+    })?;
+    Ok(nodes)
+}
+
+/// Writes the end of an element into its row.
+#[inline]
+fn end_row(nodes: &mut Vec<NodeData<'_>>, row: u32, end: usize)
+    requires { vec_len nodes.old < 2 ^ 32 }
+    ensures rows { (d : NodeData) → nodes.new.items ≡ set nodes.old.items row (record (get_or nodes.old.items row d) { end = end; next = length nodes.old.items }) }
+    ensures count { vec_len nodes.new ≡ vec_len nodes.old }
+{
+    let next = nodes.len() as u32;
+    if let Some(node) = nodes.get_mut(row as usize) {
+        node.end = end;
+        node.next = next;
+    }
+}
+
+/// Writes the count of all rows into that of the root node.
+fn end_root(nodes: &mut Vec<NodeData<'_>>, count: u32)
+    ensures rows { (d : NodeData) → nodes.new.items ≡ set nodes.old.items 0 (record (get_or nodes.old.items 0 d) { next = count }) }
+{
+    if let Some(node) = nodes.get_mut(0) {
+        node.next = count;
+    }
+}
+
+impl<'input> Builder<'input> {
+    ghost use Rattle.std.specs.Prelude.{List, ◌++◌, ◌-◌, false, true, take, slice_range, Ok, Err, map};
+    ghost use Rattle.std.specs.String.{string_bytes};
+    ghost use Rattle.rox_grammar.specs.Forest.{Forest, Nil, Cons, join};
+    ghost use Rattle.rox_grammar.specs.Written.{Item, Text, Element, Tag, merge, leaf};
+    ghost use Rattle.rox_grammar.specs.declared.fault.Fault.TheVariants as fault;
+    ghost use Rattle.rox_reading.specs.State.{Open, root, inside, State, is_root, scope_of, nodes_so_far};
+    ghost use Rattle.rox_reading.specs.Machine.{with_item, opened_by, counted};
+    ghost use Rattle.rox_scan.specs.Gives.{Fails};
+    ghost use Rattle.rox_build.specs.Values.{piece_view};
+    ghost use Rattle.rox_build.specs.Shown.{Shows, Settled, IsNode, IsOpening, AreSound, Adds, Fine, names_in, opened_in, last_row, scope_in_table};
+    ghost use Rattle.rox_build.specs.Scopes.{entries};
+    ghost use Rattle.rox_build.specs.Lines.{Holds};
+    ghost use Rattle.rox_grammar.specs.Tree.{document_tree};
+    ghost use Rattle.rox_build.specs.declared.builder.OpenElement.{OpenElement};
+
+    /// The tables with the root node of a text of so many bytes.
+    pub fn new(alloc: Global, bytes: usize, nodes_limit: u32) -> Result<Builder<'input>, Failure>
+        ensures empty { IfOk result (λ b. (names_in b.tables ≡ []) × (length b.tables.attributes.items ≡ 0)) }
+        ensures fine { IfOk result (λ b. Fine b.tables b.opened.items) }
+        ensures shows { IfOk result (λ b. Shows bytes root Nil b) }
+        ensures limit { IfOk result (λ b. b.nodes_limit ≡ nodes_limit) }
+        ensures err { IfErr result (λ e. e ≡ failure.Memory) }
+    {
+        Ok(Builder {
+            nodes: root_row(alloc, bytes)?,
+            tables: ElementTables {
+                attributes: Vec::with_capacity(alloc, bytes / 64)?,
+                namespaces: Vec::new(alloc),
+                listed: Vec::new(alloc),
+            },
+            opened: Vec::new(alloc),
+            pending: Pending::None,
+            joined: String::new(alloc),
+            buffers: Buffers {
+                scratch: String::new(alloc),
+                taken: Vec::new(alloc),
+            },
+            finders: Finders::new(),
+            nodes_limit,
+        })
+    }
+
+    /// No element is open.
+    #[inline]
+    pub fn is_at_root(&self) -> bool
+        ensures { (end : ℕ) (stack : Open) (done : Forest Item) → Shows end stack done self.now → result ≡ is_root stack }
+    {
+        self.opened.is_empty()
+    }
+
+    /// The row of the innermost open element, or of the root node.
+    #[inline]
+    fn parent(&self) -> u32
+        ensures { result ≡ last_row (opened_in self.now.tables self.now.opened.items) }
+    {
+        match self.opened.last() {
+            Some(element) => element.row,
+            None => 0,
+        }
+    }
+
+    /// What the innermost open element lists.
+    #[inline]
+    pub fn scope(&self) -> Scope
+        ensures value { (end : ℕ) (stack : Open) (done : Forest Item) → Shows end stack done self.now
+            → entries (names_in self.now.tables) (slice_range self.now.tables.listed.items result.from result.until) ≡ scope_of stack }
+        ensures within { Fine self.now.tables self.now.opened.items → (result.from ≤ result.until) × (result.until ≤ length self.now.tables.listed.items) }
+    {
+        match self.opened.last() {
+            Some(element) => element.scope,
+            None => Scope { from: 0, until: 0 },
+        }
+    }
+
+    /// How many nodes there are, the text that may go on counted.
+    #[inline]
+    fn count(&self) -> usize
+        ensures { result ≡ vec_len self.now.nodes + waiting self.now.pending }
+    {
+        match self.pending {
+            Pending::None => self.nodes.len(),
+            Pending::Slice(_, _, _) => self.nodes.len() + 1,
+            Pending::Joined(_, _) => self.nodes.len() + 1,
+        }
+    }
+
+    /// The only fault is that one more node would be too many.
+    #[inline]
+    fn room(&self) -> Result<(), Failure>
+        ensures ok { OnOk result (vec_len self.now.nodes + waiting self.now.pending < self.now.nodes_limit) }
+        ensures few { OnOk result (vec_len self.now.nodes + waiting self.now.pending + 1 < 2 ^ 32) }
+        ensures err { IfErr result (λ e. (e ≡ failure.Fault fault.NodesLimitReached) × (self.now.nodes_limit ≤ vec_len self.now.nodes + waiting self.now.pending)) }
+    {
+        if self.count() >= self.nodes_limit as usize {
+            return Err(Failure::Fault(Fault::NodesLimitReached));
+        }
+        Ok(())
+    }
+
+    /// A row without rows below it, behind those that there are.
+    #[inline]
+    fn row(&self, start: usize, end: usize, kind: NodeKind<'input>) -> NodeData<'input>
+        requires { vec_len self.now.nodes + 1 < 2 ^ 32 }
+        ensures { result ≡ record {
+          start = start;
+          end = end;
+          parent = last_row (opened_in self.now.tables self.now.opened.items);
+          next = length self.now.nodes.items + 1;
+          depth = length self.now.opened.items + 1;
+          kind = kind.entry;
+        } }
+    {
+        NodeData {
+            start,
+            end,
+            parent: self.parent(),
+            next: self.nodes.len() as u32 + 1,
+            depth: self.opened.len() as u32 + 1,
+            kind,
+        }
+    }
+
+    /// Writes the text that may go on.
+    #[inline]
+    fn flush(&mut self, alloc: Global) -> Result<(), Failure>
+        ensures ok { OnOk result ((end : ℕ) (stack : Open) (done : Forest Item) → Shows end stack done self.old → Settled end stack done self.new) }
+        ensures empty { OnOk result (waiting self.new.pending ≡ 0) }
+        ensures count { OnOk result (vec_len self.new.nodes ≡ vec_len self.old.nodes + waiting self.old.pending) }
+        ensures tables { self.new.tables ≡ self.old.tables }
+        ensures opened { self.new.opened ≡ self.old.opened }
+        ensures limit { self.new.nodes_limit ≡ self.old.nodes_limit }
+        ensures err { IfErr result (λ e. e ≡ failure.Memory) }
+    {
+        match mem::replace(&mut self.pending, Pending::None) {
+            Pending::None => Ok(()),
+            Pending::Slice(start, end, text) => {
+                let row = self.row(start, end, NodeKind::Text(StringStorage::Borrowed(text)));
+                self.nodes.push(row)?;
+                Ok(())
+            }
+            Pending::Joined(start, end) => {
+                let text = StringStorage::new_owned(alloc, self.joined.as_str())?;
+                let row = self.row(start, end, NodeKind::Text(text));
+                self.nodes.push(row)?;
+                Ok(())
+            }
+        }
+    }
+
+    /// A node that is no text and has no nodes below it. The only fault is that there are too many nodes.
+    pub fn leaf(
+        &mut self,
+        alloc: Global,
+        start: usize,
+        end: usize,
+        kind: NodeKind<'input>,
+    ) -> Result<(), Failure>
+        ensures value { (total at : ℕ) (s : State) (item : Item) → Shows total s.stack s.done self.old → IsNode self.old.tables (scope_of s.stack) start end kind.entry item
+            → Adds total result self.new (with_item self.old.nodes_limit s at item) }
+        ensures tables { self.new.tables ≡ self.old.tables }
+        ensures opened { self.new.opened ≡ self.old.opened }
+        ensures limit { self.new.nodes_limit ≡ self.old.nodes_limit }
+    {
+        self.flush(alloc)?;
+        self.room()?;
+        let row = self.row(start, end, kind);
+        self.nodes.push(row)?;
+        Ok(())
+    }
+
+    /// A piece of text that is a slice of the source. The only fault is that there are too many nodes.
+    pub fn slice_piece(
+        &mut self,
+        start: usize,
+        end: usize,
+        text: &'input str,
+    ) -> Result<(), Failure>
+        ensures value { (total at : ℕ) (s : State) → Shows total s.stack s.done self.old
+            → Adds total result self.new (with_item self.old.nodes_limit s at (Text start end text.now true)) }
+        ensures tables { self.new.tables ≡ self.old.tables }
+        ensures opened { self.new.opened ≡ self.old.opened }
+        ensures limit { self.new.nodes_limit ≡ self.old.nodes_limit }
+    {
+        match self.pending {
+            Pending::None => {
+                self.room()?;
+                self.pending = Pending::Slice(start, end, text);
+            }
+            Pending::Slice(first, until, before) => {
+                self.joined.clear();
+                self.joined.push_str(before)?;
+                self.joined.push_str(text)?;
+                self.pending = Pending::Joined(first, until);
+            }
+            Pending::Joined(_, _) => self.joined.push_str(text)?,
+        }
+        Ok(())
+    }
+
+    /// A piece of text that stands in the buffer for values. The only fault is that there are too many nodes.
+    pub fn buffered_piece(&mut self, start: usize, end: usize) -> Result<(), Failure>
+        ensures value { (total at : ℕ) (s : State) → Shows total s.stack s.done self.old
+            → Adds total result self.new (with_item self.old.nodes_limit s at (Text start end (string_bytes self.old.buffers.scratch) false)) }
+        ensures tables { self.new.tables ≡ self.old.tables }
+        ensures opened { self.new.opened ≡ self.old.opened }
+        ensures limit { self.new.nodes_limit ≡ self.old.nodes_limit }
+    {
+        match self.pending {
+            Pending::None => {
+                self.room()?;
+                mem::swap(&mut self.joined, &mut self.buffers.scratch);
+                self.pending = Pending::Joined(start, end);
+            }
+            Pending::Slice(first, until, before) => {
+                self.joined.clear();
+                self.joined.push_str(before)?;
+                self.joined.push_str(self.buffers.scratch.as_str())?;
+                self.pending = Pending::Joined(first, until);
+            }
+            Pending::Joined(_, _) => self.joined.push_str(self.buffers.scratch.as_str())?,
+        }
+        Ok(())
+    }
+
+    /// A piece of text: a slice of the source where it is one, else what the buffer for values holds. The only fault is that
+    /// there are too many nodes.
+    #[inline]
+    pub fn piece(&mut self, start: usize, end: usize, piece: Piece<'input>) -> Result<(), Failure>
+        ensures value { (total at : ℕ) (s : State) → Shows total s.stack s.done self.old
+            → let text = piece_view piece.entry (string_bytes self.old.buffers.scratch) in
+            Adds total result self.new (with_item self.old.nodes_limit s at (Text start end text.value text.plain)) }
+        ensures tables { self.new.tables ≡ self.old.tables }
+        ensures opened { self.new.opened ≡ self.old.opened }
+        ensures limit { self.new.nodes_limit ≡ self.old.nodes_limit }
+    {
+        match piece {
+            Piece::Plain(text) => self.slice_piece(start, end, text),
+            Piece::Changed => self.buffered_piece(start, end),
+        }
+    }
+
+    /// An element opens at `start`. The only fault is that there are too many nodes.
+    pub fn open_element(
+        &mut self,
+        alloc: Global,
+        start: usize,
+        tag: &StartTag<'input>,
+    ) -> Result<(), Failure>
+        ensures value { (total at : ℕ) (s : State) (t : Tag) → Shows total s.stack s.done self.old → s.at ≡ start → IsOpening self.old.tables (scope_of s.stack) start tag.now t
+            → Adds total result self.new (opened_by self.old.nodes_limit s t false at) }
+        ensures tables { self.new.tables ≡ self.old.tables }
+        ensures opened { OnOk result ((x : OpenElement) × (self.new.opened.items ≡ self.old.opened.items ++ x ∷ []) × (x.scope ≡ scope_in_table tag.now.element)) }
+        ensures limit { self.new.nodes_limit ≡ self.old.nodes_limit }
+    {
+        self.flush(alloc)?;
+        self.room()?;
+        let row = self.nodes.len() as u32;
+        let mut opening = self.row(start, 0, NodeKind::Element(tag.element));
+        opening.next = 0;
+        self.nodes.push(opening)?;
+        let element = OpenElement {
+            row,
+            name: tag.name,
+            name_start: tag.name_start,
+            name_end: tag.name_end,
+            scope: Scope {
+                from: tag.element.namespaces_from,
+                until: tag.element.namespaces_until,
+            },
+        };
+        self.opened.push(element)?;
+        Ok(())
+    }
+
+    /// The innermost open element ends. The only error is want of memory.
+    pub fn close(&mut self, alloc: Global, end: usize) -> Result<(), Failure>
+        ensures ok { OnOk result ((total start : ℕ) (t : Tag) (before : Forest Item) (up : Open) (done : Forest Item) → Shows total (inside start t before up) done self.old
+            → Shows total up (join before (Cons (Element start end t) (merge done) Nil)) self.new) }
+        ensures tables { self.new.tables ≡ self.old.tables }
+        ensures opened { OnOk result (self.new.opened.items ≡ take (length self.old.opened.items - 1) self.old.opened.items) }
+        ensures limit { self.new.nodes_limit ≡ self.old.nodes_limit }
+        ensures err { IfErr result (λ e. e ≡ failure.Memory) }
+    {
+        self.flush(alloc)?;
+        if let Some(element) = self.opened.pop() {
+            end_row(&mut self.nodes, element.row, end);
+        }
+        Ok(())
+    }
+
+    /// The tables of a whole text. The only error is want of memory.
+    pub fn finish(mut self, alloc: Global) -> Result<Tables<'input>, Failure>
+        ensures ok { IfOk result (λ t. (end : ℕ) (done : Forest Item) → Shows end root done self.entry → AreSound self.entry.tables → Holds t (document_tree end (merge done))) }
+        ensures err { IfErr result (λ e. e ≡ failure.Memory) }
+    {
+        self.flush(alloc)?;
+        let count = self.nodes.len() as u32;
+        end_root(&mut self.nodes, count);
+        let Builder {
+            nodes,
+            tables,
+            opened: _,
+            pending: _,
+            joined: _,
+            buffers: _,
+            finders: _,
+            nodes_limit: _,
+        } = self;
+        let ElementTables {
+            attributes,
+            namespaces,
+            listed,
+        } = tables;
+        Ok(Tables {
+            nodes,
+            attributes,
+            namespaces,
+            listed,
+        })
+    }
+}

@@ -1,0 +1,11 @@
+//! Text that may go on.
+
+/// The text at the end of what is read, which touching pieces join.
+#[derive(Clone, Copy, Debug)]
+pub enum Pending<'input> {
+    None,
+    /// One piece, a slice of the source.
+    Slice(usize, usize, &'input str),
+    /// Pieces in a buffer, with the range of the first.
+    Joined(usize, usize),
+}
