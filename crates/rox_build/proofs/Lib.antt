@@ -7,6 +7,7 @@ pub mod Listing
 pub mod NameTests
 pub mod Resolving
 pub mod PartLemmas
+pub mod PlainLemmas
 pub mod SectionLemmas
 pub mod Showing
 pub mod Finishing
@@ -15,5 +16,8 @@ pub mod Growing
 pub mod Stepping
 pub mod Taking
 pub mod Starting
+pub mod ShortLemmas
 pub mod Opening
 pub mod Looping
+pub mod Marking
+pub mod Wholes

@@ -1,7 +1,7 @@
 //! Reading of a text from its start to its end, one construct after another (XML 1.0 sections 2.1, 2.8, 3.1).
 
-ghost use Rattle.std.specs.Prelude.{◌≡◌, ◌<◌, ◌≤◌, ◌+◌, ℕ, Ok, Err, Bool, OnOk, IfOk, IfErr, length, slice_index, slice_range, true, nat_le};
-ghost use Rattle.std.specs.Str.{IsCharBoundary};
+ghost use Rattle.std.specs.Prelude.{◌≡◌, ◌==◌, ◌<◌, ◌≤◌, ◌+◌, ℕ, Ok, Err, Bool, OnOk, IfOk, IfErr, length, slice_index, slice_range, true, nat_le};
+ghost use Rattle.std.specs.List.{starts_with};
 ghost use Rattle.rox_grammar.specs.Marks.{stands};
 ghost use Rattle.rox_grammar.specs.Words.{word_text};
 ghost use Rattle.rox_grammar.specs.declared.fault.Fault.{Fault};
@@ -10,8 +10,8 @@ ghost use Rattle.rox_reading.specs.State.{State};
 ghost use Rattle.rox_reading.specs.Machine as machine;
 ghost use Rattle.rox_scan.specs.Gives.{name_view};
 ghost use Rattle.rox_grammar.specs.Forest.{Forest, Nil};
-ghost use Rattle.rox_grammar.specs.Written.{Item, local_span};
-ghost use Rattle.rox_grammar.specs.Document.{after_bom};
+ghost use Rattle.rox_grammar.specs.Written.{Item, local_span, merge};
+ghost use Rattle.rox_grammar.specs.Document.{after_bom, bom};
 ghost use Rattle.rox_grammar.specs.Tree.{document_tree};
 ghost use Rattle.rox_reading.specs.State.{Open, root};
 ghost use Rattle.rox_scan.specs.Gives.{GivesFrom};
@@ -393,9 +393,9 @@ fn document<'input>(
 
 /// Whether a byte order mark stands at the start.
 fn has_byte_order_mark(text: &str) -> bool
-    ensures { result ≡ true → IsCharBoundary text.now 3 }
+    ensures { result ≡ starts_with ◌==◌ text.now bom }
 {
-    text.as_bytes().starts_with(b"\xEF\xBB\xBF") && text.is_char_boundary(3)
+    text.as_bytes().starts_with(b"\xEF\xBB\xBF")
 }
 
 /// The start of a text, behind its byte order mark if it has one.
@@ -416,7 +416,7 @@ pub fn build<'input>(
     text: &'input str,
     options: Options,
 ) -> Result<Tables<'input>, Failure>
-    ensures ok { IfOk result (λ t. (tops : Forest Item) × (machine.reading options.nodes_limit text.entry.now ≡ Ok tops) × Holds t (document_tree (length text.entry.now) tops)) }
+    ensures ok { IfOk result (λ t. (tops : Forest Item) × (machine.reading options.nodes_limit text.entry.now ≡ Ok tops) × Holds t (document_tree (length text.entry.now) (merge tops))) }
     ensures fault { (f : Fault) → result ≡ Err (Failure.Fault f) → machine.reading options.nodes_limit text.entry.now ≡ Err f }
 {
     let mut cursor = start_of(text);

@@ -16,9 +16,9 @@ use crate::reference::{Reference, read_reference};
 use rox_grammar::fault::Fault;
 use rox_scan::cursor::Cursor;
 use rox_scan::failure::Failure;
-use rox_scan::marks::{before_byte, byte_from, either_from, has_mark};
+use rox_scan::marks::{before_byte, before_either, byte_from, either_from, has_mark};
 use rox_scan::markup::RawAttribute;
-use rox_scan::runs::{after_byte, is_at};
+use rox_scan::runs::{TextByte, after_byte, is_at, near_end};
 use std::alloc::AllocError;
 
 /// A text: a slice of the source, or what the caller's buffer holds.
@@ -50,11 +50,7 @@ fn expand(cursor: &mut Cursor<'_>, out: &mut String) -> Result<(), Failure>
 fn is_plain(bytes: &[u8]) -> bool
     ensures { result ≡ content.is_plain bytes.now }
 {
-    let mut special = false;
-    for byte in bytes {
-        special |= (*byte == b'&') | (*byte == b'\r');
-    }
-    !special
+    before_either(bytes, b'&', b'\r') == bytes.len()
 }
 
 /// Whether the bytes are a value as they stand: they have no `&`, and no white space but space.
@@ -62,11 +58,9 @@ fn is_plain(bytes: &[u8]) -> bool
 fn is_plain_value(bytes: &[u8]) -> bool
     ensures { result ≡ content.is_plain_value bytes.now }
 {
-    let mut special = false;
-    for byte in bytes {
-        special |= is_special(*byte);
-    }
-    !special
+    let one = before_either(bytes, b'&', b'\r') == bytes.len();
+    let other = before_either(bytes, b'\t', b'\n') == bytes.len();
+    one & other
 }
 
 /// `&`, or white space that is no space.
@@ -214,11 +208,40 @@ fn value_text(cursor: &mut Cursor<'_>, stop: usize, out: &mut String) -> Result<
     Ok(())
 }
 
+/// Whether a run ends at `at`: a `<` stands there, or the text ends.
+#[inline(always)]
+fn is_run_end(text: &str, at: usize) -> bool
+    requires { at ≤ length text.now }
+    ensures { result ≡ true → at < length text.now → slice_index text.now at ≡ 60 }
+{
+    at == text.len() || text.as_bytes()[at] == b'<'
+}
+
 /// A run of character data, up to the next `<` or the end (XML 1.0 section 2.4): a slice of the source where it has no
 /// reference and no CR, and else what it stands for, in `scratch`, which is cleared first. `]]>` in it is a fault at its end.
 #[inline]
-#[tactic(auto, unfolding(rox_reading::specs::Values::run_at))]
+#[tactic(auto, using(crate::proofs::ShortLemmas::short_run))]
 pub fn run<'input>(
+    cursor: &mut Cursor<'input>,
+    scratch: &mut String,
+) -> Result<Piece<'input>, Failure>
+    ensures value { GivesFrom (λ p. piece_view p (string_bytes scratch.new)) cursor.new result (spec.run_at cursor.old.text.now cursor.old.pos) }
+    ensures source { cursor.new.text ≡ cursor.old.text }
+    ensures onward { cursor.old.pos ≤ cursor.new.pos }
+{
+    let start = cursor.pos;
+    let text = cursor.text;
+    let near = near_end::<TextByte>(text, start);
+    if is_run_end(text, near) {
+        cursor.pos = near;
+        return Ok(Piece::Plain(&text[start..near]));
+    }
+    far_run(cursor, scratch)
+}
+
+/// The same of a long run, and of one that holds more than plain ASCII.
+#[tactic(auto, unfolding(rox_reading::specs::Values::run_at))]
+fn far_run<'input>(
     cursor: &mut Cursor<'input>,
     scratch: &mut String,
 ) -> Result<Piece<'input>, Failure>
@@ -254,7 +277,7 @@ pub fn value<'input>(
     requires { HasValue text.now raw.now }
     ensures { Gives (λ p. piece_view p (string_bytes scratch.new)) result (spec.value_at text.now raw.now.value_start raw.now.value_end) }
 {
-    if is_plain_value(raw.value.as_bytes()) {
+    if raw.plain || is_plain_value(raw.value.as_bytes()) {
         return Ok(Piece::Plain(raw.value));
     }
     scratch.clear();

@@ -1,3 +1,5 @@
 pub mod MarkLemmas
+pub mod NearLemmas
 pub mod PlainLemmas
 pub mod RunLemmas
+pub mod TableLemmas

@@ -3,7 +3,7 @@ use Rattle.std.proofs.Common.{◌≡◌, ◌⊎◌, ℕ, zero, suc, ◌+◌, ◌
 use Rattle.std.specs.List.{starts_with, position_or_len}
 use Rattle.std.specs.Str.{IsUtf8, IsCharBoundary}
 use Rattle.std.proofs.lemmas.Str.{IsCharBoundary-after_ascii}
-use Rattle.std.proofs.lemmas.Bool.{cases_lt}
+use Rattle.std.proofs.lemmas.Bool.{cases_lt, le-ltb}
 use Rattle.std.proofs.lemmas.Bool.Decides.{Decides-eqb}
 use Rattle.std.proofs.lemmas.List.{length-drop}
 use Rattle.std.proofs.lemmas.List.Sums.{position_or_len_is}
@@ -12,6 +12,7 @@ use Rattle.std.proofs.lemmas.Slice.Eq.{starts_is}
 use Rattle.memchr.specs.Find.{IsFirstByte, FindsNeedle, OccursAt}
 use Rattle.memchr.proofs.lemmas.MatchLemmas.{OccursAt-split}
 use Rattle.rox_grammar.specs.Marks.{stands, before_mark}
+use Rattle.rox_grammar.specs.Constructs.{has_mark}
 
 bool_cases : (b : Bool) → (b ≡ true) ⊎ (b ≡ false)
 bool_cases true = inl refl
@@ -54,7 +55,7 @@ before_mark_is mark (b ∷ bs) (suc k) within none here =
     rw first (omega arith)
 
 -- no mark stands where its first byte doesn't
-not_from_first : (mark hay : List ℕ) (j : ℕ) → 0 < length mark → (get_or hay j 0 ≡ get_or mark 0 0 → ⊥) → starts_with ◌==◌ (drop j hay) mark ≡ false
+pub not_from_first : (mark hay : List ℕ) (j : ℕ) → 0 < length mark → (get_or hay j 0 ≡ get_or mark 0 0 → ⊥) → starts_with ◌==◌ (drop j hay) mark ≡ false
 not_from_first mark hay j some apart =
     fails (starts_with ◌==◌ (drop j hay) mark) (λ h.
     apart (rw add-zero at (at_reads 0 hay mark j _ ((starts_is Decides-eqb (drop j hay) mark true (sym h)).0 refl) 0 some)))
@@ -113,3 +114,9 @@ stands_front_cut mark src i n within utf8 ascii h =
     let fits = stands_fits mark src i (omega arith) h in
     let read = stands_reads mark src i n h within in
     rw (← add_assoc i n 1) (IsCharBoundary-after_ascii src (i + n) utf8 (omega arith) (omega arith))
+
+-- where the first byte of the mark does not stand, no mark does
+pub no_mark : (mark hay : List ℕ) → 0 < length mark → ((j : ℕ) → j < length hay → get_or hay j 0 ≡ get_or mark 0 0 → ⊥) → has_mark mark hay ≡ false
+no_mark mark hay some apart =
+    let all = before_mark_is mark hay (length hay) (omega arith) (λ j below. not_from_first mark hay j some (apart j below)) (λ more. absurd (omega arith)) in
+    rw all (le-ltb (length hay) (length hay) (omega arith))

@@ -1,6 +1,7 @@
 //! Classes of characters (XML 1.0 sections 2.2 and 2.3, Namespaces in XML section 3).
 ghost use Rattle.std.specs.Prelude.{◌≡◌, ◌<◌};
 ghost use Rattle.rox_grammar.specs.Chars as spec;
+ghost use Rattle.rox_scan.specs.Near as near;
 
 /// A character that may stand in XML (XML 1.0 [2] Char).
 #[inline]
@@ -78,4 +79,62 @@ pub fn is_plain_byte(b: u8) -> bool
     ensures { result ≡ spec.is_plain b }
 {
     ((b >= 32) & (b != 239)) | (b == 9) | (b == 10) | (b == 13)
+}
+
+// A `#` at the place of each byte of an attribute's value that stands for itself: ASCII but for controls, quotes, `&` and `<`.
+static VALUE_BYTES: [u8; 256] = *b"\
+    ................................\
+    ##.###..####################.###\
+    ################################\
+    ################################\
+    ................................\
+    ................................\
+    ................................\
+    ................................";
+
+/// An ASCII byte of an attribute's value that stands for itself and ends no value: no control, no quote, no `&` and no `<`.
+#[inline(always)]
+pub fn is_value_byte(byte: u8) -> bool
+    ensures { result ≡ near.is_value_byte byte }
+{
+    VALUE_BYTES[byte as usize] == b'#'
+}
+
+// A `#` at the place of each byte of character data that stands for itself: ASCII but for `&`, `<`, `]` and the controls
+// except TAB and LF.
+static TEXT_BYTES: [u8; 256] = *b"\
+    .........##.....................\
+    ######.#####################.###\
+    #############################.##\
+    ################################\
+    ................................\
+    ................................\
+    ................................\
+    ................................";
+
+/// An ASCII byte of character data that stands for itself: no `&`, `<` or `]`, and no control but TAB and LF.
+#[inline(always)]
+pub fn is_text_byte(byte: u8) -> bool
+    ensures { result ≡ near.is_text_byte byte }
+{
+    TEXT_BYTES[byte as usize] == b'#'
+}
+
+// A `#` at the place of each byte of a comment that stands for itself: ASCII but for `-` and the controls except TAB, LF and CR.
+static COMMENT_BYTES: [u8; 256] = *b"\
+    .........##..#..................\
+    #############.##################\
+    ################################\
+    ################################\
+    ................................\
+    ................................\
+    ................................\
+    ................................";
+
+/// An ASCII byte of a comment that stands for itself: no `-`, and no control but TAB, LF and CR.
+#[inline(always)]
+pub fn is_comment_byte(byte: u8) -> bool
+    ensures { result ≡ near.is_comment_byte byte }
+{
+    COMMENT_BYTES[byte as usize] == b'#'
 }

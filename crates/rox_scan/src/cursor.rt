@@ -1,6 +1,6 @@
 //! A place in a source, and the small steps that read from it.
 
-ghost use Rattle.std.specs.Prelude.{◌≡◌, IfOk, ◌+◌, ◌<◌, ◌≤◌, true, length, take, slice_index, slice_range, nat_le};
+ghost use Rattle.std.specs.Prelude.{◌≡◌, ◌==◌, ◌||◌, IfOk, ◌+◌, ◌<◌, ◌≤◌, true, length, take, slice_index, slice_range, nat_le};
 ghost use Rattle.std.specs.Str.{IsCharBoundary, IsUtf8};
 ghost use Rattle.std.proofs.Props.{props};
 
@@ -141,6 +141,7 @@ impl<'input> Cursor<'input> {
     #[tactic(auto, unfolding(rox_reading::specs::Lexical::quote_at))]
     pub fn quote(&mut self) -> Result<u8, Fault>
         ensures ascii { IfOk result (λ quote. quote < 128) }
+        ensures quote { IfOk result (λ quote. (quote == 39 || quote == 34) ≡ true) }
         ensures value { Reads (λ x. x) self.new result (spec.quote_at self.old.text.now self.old.pos) }
         ensures source { self.new.text ≡ self.old.text }
         ensures onward { self.old.pos ≤ self.new.pos }

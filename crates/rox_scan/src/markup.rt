@@ -1,9 +1,10 @@
 //! Comments, processing instructions, CDATA sections, end tags, the parts of a start tag, and the XML declaration.
 
-ghost use Rattle.std.specs.Prelude.{◌≡◌, ◌<◌, ◌≤◌, ◌+◌, IfOk, length, slice_index, slice_range, true};
+ghost use Rattle.std.specs.Prelude.{◌≡◌, ◌==◌, ◌||◌, ◌<◌, ◌≤◌, ◌+◌, IfOk, length, slice_index, slice_range, true};
 ghost use Rattle.rox_grammar.specs.Marks.{stands};
 ghost use Rattle.rox_grammar.specs.Words.{word_text};
 ghost use Rattle.rox_grammar.specs.Tree.{none_if_empty};
+ghost use Rattle.rox_grammar.specs.Content.{is_plain_value};
 ghost use Rattle.rox_grammar.specs.declared.fault.Word.TheVariants as word;
 ghost use Rattle.rox_reading.specs.Lexical as lexical;
 ghost use Rattle.rox_reading.specs.Markup as spec;
@@ -13,6 +14,7 @@ ghost use Rattle.rox_scan.specs.Parts.{HasValue, TurnHasValue, attribute_view, e
 use crate::chars::is_space;
 use crate::cursor::{Cursor, QName};
 use crate::marks::{Finders, either_from, has_mark, mark_from};
+use crate::runs::{CommentByte, ValueByte, is_at, near_end};
 use memchr::memmem::Finder;
 use rox_grammar::fault::{Due, Fault, Word};
 
@@ -31,7 +33,8 @@ pub struct EndTag<'input> {
 }
 
 /// An attribute before its value is looked at. Its name stands from `start` up to `name_end`, and its value from
-/// `value_start` up to `value_end`, where the closing quote stands.
+/// `value_start` up to `value_end`, where the closing quote stands. Where `plain` is set the value is known to have no
+/// reference and no white space but spaces.
 #[derive(Clone, Copy, Debug)]
 pub struct RawAttribute<'input> {
     pub start: usize,
@@ -40,6 +43,14 @@ pub struct RawAttribute<'input> {
     pub value_start: usize,
     pub value_end: usize,
     pub value: &'input str,
+    pub plain: bool,
+}
+
+/// An attribute's value as it is written. Where `plain` is set it has no reference and no white space but spaces.
+#[derive(Clone, Copy)]
+struct RawValue<'input> {
+    text: &'input str,
+    plain: bool,
 }
 
 /// What a start tag holds next: an attribute, or its end `>` or `/>`.
@@ -79,7 +90,6 @@ impl<'input> Cursor<'input> {
     /// A comment, from `<!--` to its end `-->` (XML 1.0 section 2.5). It answers the text between these. Two dashes within
     /// the text, or one at its end, are a fault at the comment's start.
     #[inline]
-    #[tactic(auto, unfolding(rox_reading::specs::Markup::comment_at))]
     pub fn comment(&mut self, finders: &Finders) -> Result<&'input str, Fault>
         requires { stands (word_text word.CommentStart) self.old.text.now self.old.pos ≡ true }
         ensures value { Reads (λ x. x.now) self.new result (spec.comment_at self.old.text.now self.old.pos) }
@@ -88,6 +98,26 @@ impl<'input> Cursor<'input> {
     {
         let start = self.pos;
         self.skip(Word::CommentStart);
+        let text = self.text;
+        let from = self.pos;
+        let near = near_end::<CommentByte>(text, from);
+        let mut behind = Cursor::at(text, near);
+        if !behind.starts(Word::CommentEnd) {
+            return self.far_comment(start, finders);
+        }
+        behind.skip(Word::CommentEnd);
+        self.pos = behind.pos;
+        Ok(&text[from..near])
+    }
+
+    /// The same, behind its `<!--`, of a long comment and of one that holds more than plain ASCII.
+    #[tactic(auto, unfolding(rox_reading::specs::Markup::comment_at))]
+    fn far_comment(&mut self, start: usize, finders: &Finders) -> Result<&'input str, Fault>
+        requires { self.old.pos ≡ start + 4 }
+        ensures value { Reads (λ x. x.now) self.new result (spec.comment_at self.old.text.now start) }
+        ensures source { self.new.text ≡ self.old.text }
+        ensures onward { self.old.pos ≤ self.new.pos }
+    {
         let text = self.text_to(Word::CommentEnd, &finders.comment_end)?;
         let bytes = text.as_bytes();
         if has_mark(bytes, b"--") || bytes.last() == Some(&b'-') {
@@ -150,19 +180,31 @@ impl<'input> Cursor<'input> {
 
     /// The text up to the quote or a `<`, one of which has to follow.
     #[inline]
-    #[tactic(auto, unfolding(rox_reading::specs::Markup::raw_value_at))]
-    fn raw_value(&mut self, quote: u8) -> Result<&'input str, Fault>
-        requires { quote < 128 }
-        ensures value { Reads (λ x. x.now) self.new result (spec.raw_value_at quote self.old.text.now self.old.pos) }
+    #[tactic(auto, using(crate::proofs::NearLemmas::near_plain), unfolding(rox_reading::specs::Markup::raw_value_at))]
+    fn raw_value(&mut self, quote: u8) -> Result<RawValue<'input>, Fault>
+        requires ascii { quote < 128 }
+        requires quote { (quote == 39 || quote == 34) ≡ true }
+        ensures value { Reads (λ x. x.text.now) self.new result (spec.raw_value_at quote self.old.text.now self.old.pos) }
         ensures source { self.new.text ≡ self.old.text }
         ensures onward { self.old.pos ≤ self.new.pos }
-        ensures text { IfOk result (λ x. x.now ≡ slice_range self.old.text.now self.old.pos self.new.pos) }
+        ensures text { IfOk result (λ x. x.text.now ≡ slice_range self.old.text.now self.old.pos self.new.pos) }
+        ensures plain { IfOk result (λ x. x.plain ≡ true → is_plain_value x.text.now ≡ true) }
     {
-        let end = either_from(self.text, self.pos, quote, b'<');
+        let start = self.pos;
+        let near = near_end::<ValueByte>(self.text, start);
+        if is_at(self.text, near, quote) {
+            self.pos = near;
+            return Ok(RawValue {
+                text: &self.text[start..near],
+                plain: true,
+            });
+        }
+        let end = either_from(self.text, start, quote, b'<');
         if end >= self.text.len() {
             return Err(Fault::UnexpectedEndOfStream);
         }
-        self.chars_up_to(end)
+        let text = self.chars_up_to(end)?;
+        Ok(RawValue { text, plain: false })
     }
 
     /// An attribute as it is written: a name, `=`, and a value in quotes (XML 1.0 [41] Attribute). A `<` in the value is a
@@ -192,7 +234,8 @@ impl<'input> Cursor<'input> {
             name_end,
             value_start,
             value_end,
-            value,
+            value: value.text,
+            plain: value.plain,
         })
     }
 

@@ -23,3 +23,4 @@ pub mod Derivations
 pub mod Around
 pub mod Whole
 pub mod TagOnce
+pub mod Tops

@@ -3,8 +3,11 @@ pub mod Siblings
 pub mod Rows
 pub mod Bare
 pub mod Tops
+pub mod Parsed
+pub mod Apart
+pub mod Once
 pub mod Entries
 pub mod Prefixes
 pub mod Parts
-pub mod Ends
+pub mod Stretches
 pub mod Ranges

@@ -117,7 +117,7 @@ follow_children T up left e d Nil s h l m = let z : e + 0 ≡ e = omega arith in
 follow_children T up left e d (Cons x c r) s h l m = rw s.0 l
 
 -- from the last node of a first node's subtree one comes up to it
-prior_rest : (T : List Place) (up left : List ℕ) (b : ℕ) (x : Node) (c r : Forest Node) → Sits T up left b (Cons x c r) → Prior T (b + (1 + size c)) up (b ∷ left)
+pub prior_rest : (T : List Place) (up left : List ℕ) (b : ℕ) (x : Node) (c r : Forest Node) → Sits T up left b (Cons x c r) → Prior T (b + (1 + size c)) up (b ∷ left)
 prior_rest T up left b x Nil r s =
     (b, omega arith, record { inside = s.1; through = []; is = ap (λ p. b ∷ p.above) s.0 }, s.1, ap (λ p. p.before) s.0)
 prior_rest T up left b x (Cons x' c' r') r s =
@@ -258,7 +258,7 @@ up_to_parent f i d q l m e =
     let s : length (place f i).above - d ≡ suc (length (place f q).above - d) = omega arith in
     rw (s, k.1) refl
 
-up_to_leads : (f : Forest Node) (j q : ℕ) (up : List ℕ) → Leads (preorder f) j q up → up_to f j (length up) ≡ q
+pub up_to_leads : (f : Forest Node) (j q : ℕ) (up : List ℕ) → Leads (preorder f) j q up → up_to f j (length up) ≡ q
 unfolding up_to place
 up_to_leads f j q up g =
     let n : suc (length (at (preorder f) j).above) ≡ length (g.through ++ q ∷ up) = ap length g.is in

@@ -8,7 +8,7 @@ use Rattle.rox_build.specs.declared.tables.NodeData.{NodeData}
 use Rattle.rox_build.specs.declared.tables.Tables.{Tables}
 use Rattle.roxmltree.specs.Flat.{flat, unflat, unflat-flat}
 use Rattle.roxmltree.specs.Places.{Place, places, preorder, place, nowhere, first, parent}
-use Rattle.roxmltree.specs.Whole.{tree_in, nodes_from, IsDocument, IsWhole}
+use Rattle.roxmltree.specs.Whole.{tree_in, nodes_from, HoldsDocument, IsWhole}
 use Rattle.roxmltree.proofs.Preorder.{length-places, place_id}
 
 -- the nearest node above, or 0
@@ -70,11 +70,11 @@ same_tree t f h =
     ap unflat (ap (nodes_from 0) (h.rows ∙ sym (lines-places [] [] 0 f)) ∙ nodes_are 0 (places [] [] 0 f) (ids_places [] [] 0 f) ∙ flat_places [] [] 0 f)
     ∙ unflat-flat f
 
--- tables of a document's tree are whole
-pub is_whole : (text : List ℕ) (t : Tables) (f : Forest Node) → Holds t f → IsDocument (length text) f → IsWhole text t
-is_whole text t f h d =
-    let e = same_tree t f h in
-    record { holds = rw e h; document = rw e d }
+-- tables of a text's tree are whole
+pub is_whole : (text : List ℕ) (t : Tables) → HoldsDocument text t → IsWhole text t
+is_whole text t h =
+    let e = same_tree t h.tree h.holds in
+    record { holds = rw e h.holds; parsed = rw e h.parsed; utf8 = h.utf8 }
 
 -- there are as many rows as nodes
 pub row_count : (t : Tables) (f : Forest Node) → Holds t f → length t.nodes.items ≡ size f

@@ -1,5 +1,6 @@
 -- Rows of siblings, from both ends.
-use Rattle.std.proofs.Common.{◌≡◌, ℕ, suc, zero, ◌+◌, ◌-◌, ◌<◌, List, [], ◌∷◌, ◌++◌, Some, None, length, get_or, take, drop, refl, sym, ap, ◌∙◌, subst, arith}
+use Rattle.std.proofs.Common.{◌≡◌, ℕ, suc, zero, ◌+◌, ◌-◌, ◌<◌, ◌≤◌, List, [], ◌∷◌, ◌++◌, Some, None, length, get_or, take, drop, refl, sym, ap, ◌∙◌, subst, arith, append_assoc, ⊎_elim}
+use Rattle.std.proofs.lemmas.Bool.{cases_lt, cases_eq}
 use Rattle.std.proofs.Math.Seq.{take-suc, drop-cons}
 use Rattle.std.specs.List.{range_with_len}
 use Rattle.rox_grammar.specs.Forest.{Forest, Nil, Cons, size}
@@ -24,17 +25,17 @@ sib T up left b (Cons x c r) (suc k) s l =
     record { inside = h.inside; after = h.after; before = h.before ∙ omega arith; above = h.above }
 
 -- the nodes from one node on
-row_sits : (f : Forest Node) (i : ℕ) (h : Here (preorder f) i) → Sits (preorder f) h.up h.left i (Cons h.item h.below h.beside)
+pub row_sits : (f : Forest Node) (i : ℕ) (h : Here (preorder f) i) → Sits (preorder f) h.up h.left i (Cons h.item h.below h.beside)
 row_sits f i h = (h.is, h.inside, h.under, h.next)
 
 -- the k-th of a node and its siblings after it
-record At (f : Forest Node) (i k q : ℕ) : Type 0 where
-  inside : q < size f
-  after : (place f q).after ≡ drop (suc k) (row_from f i)
-  before : length (place f q).before ≡ k + length (place f i).before
-  above : (place f q).above ≡ (place f i).above
+pub record At (f : Forest Node) (i k q : ℕ) : Type 0 where
+  pub inside : q < size f
+  pub after : (place f q).after ≡ drop (suc k) (row_from f i)
+  pub before : length (place f q).before ≡ k + length (place f i).before
+  pub above : (place f q).above ≡ (place f i).above
 
-row_at : (f : Forest Node) (i k q : ℕ) → i < size f → k < length (row_from f i) → get_or (row_from f i) k 0 ≡ q → At f i k q
+pub row_at : (f : Forest Node) (i k q : ℕ) → i < size f → k < length (row_from f i) → get_or (row_from f i) k 0 ≡ q → At f i k q
 unfolding place
 row_at f i k q l m e =
     let h = here f i l in
@@ -73,7 +74,7 @@ apart_pos : (f : Forest Node) (i j : ℕ) → IsRun f i j → (i ≡ j → ⊥) 
 apart_pos f i j r n = not_zero i j (apart f i j) (place f i).after r.there n
 
 -- the second of a list
-second : (xs : List ℕ) (n : ℕ) → first xs ≡ Some n → (0 < length xs) × (get_or xs 0 0 ≡ n)
+pub second : (xs : List ℕ) (n : ℕ) → first xs ≡ Some n → (0 < length xs) × (get_or xs 0 0 ≡ n)
 second [] n e = cc
 second (x ∷ xs) n e = (omega arith, cc)
 
@@ -287,3 +288,24 @@ child_parent f i k l =
     let h = here f i l in
     let n = length-preorder f in
     rw h.is (λ m. ap first (sib (preorder f) (i ∷ h.up) [] (i + 1) h.below k h.under m).above)
+
+-- above each node of a forest are those above the forest, last
+above_ends : (T : List Place) (up left : List ℕ) (b : ℕ) (f : Forest Node) → Sits T up left b f → (j : ℕ) → b ≤ j → j < b + size f → (xs : List ℕ) × ((at T j).above ≡ xs ++ up)
+above_ends T up left b Nil s j l m = absurd (omega arith)
+above_ends T up left b (Cons x c r) s j l m =
+    ⊎_elim
+    (λ same. ([], rw same (ap (λ p. p.above) s.0)))
+    (λ other. ⊎_elim
+    (λ low.
+    let k = above_ends T (b ∷ up) [] (b + 1) c s.2 j (omega arith) (omega arith) in
+    (k.0 ++ b ∷ [], k.1 ∙ sym (append_assoc k.0 (b ∷ []) up)))
+    (λ high. above_ends T up (b ∷ left) (b + (1 + size c)) r s.3 j high (omega arith))
+    (cases_lt j (b + (1 + size c))))
+    (cases_eq j b)
+
+-- from each node below one comes up to it
+pub below_leads : (f : Forest Node) (i j : ℕ) → i < size f → i < j → j < i + (place f i).count → (xs : List ℕ) × ((place f j).above ≡ xs ++ i ∷ (place f i).above)
+unfolding place
+below_leads f i j l m =
+    let h = here f i l in
+    rw h.is (λ n. above_ends (preorder f) (i ∷ h.up) [] (i + 1) h.below h.under j (omega arith) (omega arith))

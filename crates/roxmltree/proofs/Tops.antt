@@ -1,16 +1,32 @@
 -- An element is among the top nodes of a document.
-use Rattle.std.proofs.Common.{◌≡◌, ℕ, ◌+◌, List, [], ◌∷◌, None, Some, true, false, refl, ap, subst, arith}
-use Rattle.rox_grammar.specs.Forest.{Forest, Nil, Cons, size}
+use Rattle.std.proofs.Common.{◌≡◌, ℕ, ◌+◌, List, [], ◌∷◌, length, None, Some, true, false, refl, ap, subst, arith}
+use Rattle.rox_grammar.specs.Forest.{Forest, Nil, Cons, join, size}
 use Rattle.rox_grammar.specs.Written as written
 use Rattle.rox_grammar.specs.Written.{Declaration}
-use Rattle.rox_grammar.specs.Tree.{Node, Root, Element, Text, Comment, PI, resolved, document_tree}
+use Rattle.rox_grammar.specs.Tree.{Node, Root, Element, Text, Comment, PI, resolved}
+use Rattle.rox_grammar.specs.Content.{IsElement, empty, nest}
+use Rattle.rox_grammar.specs.Document.{no_entities, ParseOf, IsTreeOf}
 use Rattle.roxmltree.specs.Doc.{Doc}
 use Rattle.roxmltree.specs.Places.{places, preorder, place, ids, children}
 use Rattle.roxmltree.specs.Says.{says_element}
 use Rattle.roxmltree.specs.Spot.{spots}
 use Rattle.roxmltree.specs.Elements.{nearest_element}
-use Rattle.roxmltree.specs.Whole.{HasElement, IsDocument}
 use Rattle.roxmltree.proofs.Preorder.{Sits, sits, length-places}
+
+-- there is an element among these nodes side by side
+abbrev pub HasElement : Forest Node → Type 0
+HasElement Nil = ⊥
+HasElement (Cons (Element start end namespace local listed attributes) children rest) = Unit {0}
+HasElement (Cons (Root end) children rest) = HasElement rest
+HasElement (Cons (Text start end value borrowed) children rest) = HasElement rest
+HasElement (Cons (Comment start end text) children rest) = HasElement rest
+HasElement (Cons (PI start end target value) children rest) = HasElement rest
+
+-- a document is one node, the root node, whose range is a text of this length, and an element is among the nodes below it
+pub record IsDocument (end : ℕ) (tree : Forest Node) : Type 0 where
+  pub tops : Forest Node
+  pub rooted : tree ≡ Cons (Root end) tops Nil
+  pub element : HasElement tops
 
 -- an element is the nearest
 nearest_here : (d : Doc) (i : ℕ) (xs : List ℕ) → says_element (place d.tree i).item ≡ true → nearest_element (spots d (i ∷ xs)) ≡ None → ⊥
@@ -67,6 +83,26 @@ element_stays above (Cons (written.Text start end value borrowed) c r) h = eleme
 element_stays above (Cons (written.Comment start end text) c r) h = element_stays above r h
 element_stays above (Cons (written.PI start end target value) c r) h = element_stays above r h
 
--- top nodes with an element make a document
-pub is_document : (n : ℕ) (tops : Forest written.Item) → AnyElement tops → IsDocument n (document_tree n tops)
-is_document n tops h = record { tops = resolved [] tops; rooted = refl; element = element_stays [] tops h }
+-- each element is one
+element_is : (src : List ℕ) (i j b c : ℕ) (one back : Forest written.Item) → IsElement true no_entities src i j b c one → AnyElement (join one back)
+element_is src i j b c one back (empty _ _ _ _ t tag) = tt
+element_is src i j b c one back (nest _ k m p _ _ d _ t kids tag inner end) = tt
+
+-- what stands behind stays there
+any_behind : (front back : Forest written.Item) → AnyElement back → AnyElement (join front back)
+any_behind Nil back h = h
+any_behind (Cons (written.Element start end tag) c r) back h = tt
+any_behind (Cons (written.Text start end value borrowed) c r) back h = any_behind r back h
+any_behind (Cons (written.Comment start end text) c r) back h = any_behind r back h
+any_behind (Cons (written.PI start end target value) c r) back h = any_behind r back h
+
+-- a parse has an element at its top
+parse_has : (src : List ℕ) (tops : Forest written.Item) → ParseOf src tops → AnyElement tops
+parse_has src tops p =
+    let h = any_behind p.before (join p.one p.after) (element_is src p.start p.end 255 p.left p.one p.after p.element) in
+    rw p.is_tree h
+
+-- the tree of a text is a document
+pub is_document : (src : List ℕ) (limit : ℕ) (tree : Forest Node) → IsTreeOf src limit tree → IsDocument (length src) tree
+is_document src limit tree h =
+    record { tops = resolved [] h.written; rooted = h.shown; element = element_stays [] h.written (parse_has src h.written h.parse) }

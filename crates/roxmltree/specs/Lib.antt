@@ -6,6 +6,7 @@ pub mod Stored
 pub mod Flat
 pub mod Doc
 pub mod Whole
+pub mod Lawful
 pub mod Names
 pub mod Reach
 pub mod Listed

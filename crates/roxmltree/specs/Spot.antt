@@ -3,6 +3,7 @@ use Rattle.std.specs.Prelude.{ℕ, List, map}
 use Rattle.std.specs.Coded.{Coded, coded×, coded_ℕ, coded_list}
 use Rattle.rox_grammar.specs.Forest.{Forest}
 use Rattle.rox_grammar.specs.Tree as grammar
+use Rattle.roxmltree.specs.Says.{node_at}
 use Rattle.roxmltree.specs.Doc.{Doc, doc_code}
 use Rattle.roxmltree.specs.declared.nodes.NodeId.{NodeId}
 use Rattle.roxmltree.specs.declared.nodes.Node.{Node}
@@ -11,7 +12,7 @@ use Rattle.roxmltree.specs.declared.nodes.Node.{Node}
 abbrev pub number : NodeId → ℕ
 number id = id.0
 
--- of a node its id, its document, and the tree of that
+-- of a node its id, its document, the tree of that, and what it is there
 abbrev pub id_of : Node → ℕ
 id_of node = number node.id
 
@@ -20,6 +21,9 @@ document_of node = node.document.now
 
 abbrev pub tree_of : Node → Forest grammar.Node
 tree_of node = (document_of node).tree
+
+abbrev pub item_of : Node → grammar.Node
+item_of node = node_at (tree_of node) (id_of node)
 
 abbrev pub spot : Node → Doc × ℕ
 spot node = (document_of node, id_of node)

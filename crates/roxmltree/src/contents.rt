@@ -2,10 +2,10 @@
 
 ghost use Rattle.std.specs.Prelude.{◌≡◌};
 ghost use Rattle.std.specs.Option.{option_map};
-ghost use Rattle.roxmltree.specs.Says.{node_at, says_root, says_element, says_text, says_comment, says_pi, start_of, end_of, text, tail, stored_text, stored_tail, text_content, pi_of};
+ghost use Rattle.roxmltree.specs.Says.{says_root, says_element, says_text, says_comment, says_pi, start_of, end_of, text, tail, stored_text, stored_tail, text_content, pi_of};
 ghost use Rattle.roxmltree.specs.Kinds.{type_of};
 ghost use Rattle.roxmltree.specs.Stored.{stored, instruction};
-ghost use Rattle.roxmltree.specs.Spot.{id_of, tree_of};
+ghost use Rattle.roxmltree.specs.Spot.{id_of, tree_of, item_of};
 
 use crate::nodes::Node;
 use rox_build::storage::StringStorage;
@@ -28,7 +28,7 @@ impl<'a, 'input> Node<'a, 'input> {
     #[inline]
     #[tactic(auto, using(crate::proofs::Bare::type_of_bare))]
     pub fn node_type(&self) -> NodeType
-        ensures { result ≡ type_of (node_at (tree_of self.now) (id_of self.now)) }
+        ensures { result ≡ type_of (item_of self.now) }
     {
         match self.document.row(self.id).kind {
             NodeKind::Root => NodeType::Root,
@@ -43,7 +43,7 @@ impl<'a, 'input> Node<'a, 'input> {
     #[inline]
     #[tactic(auto, using(crate::proofs::Bare::says_root_bare))]
     pub fn is_root(&self) -> bool
-        ensures { result ≡ says_root (node_at (tree_of self.now) (id_of self.now)) }
+        ensures { result ≡ says_root (item_of self.now) }
     {
         match self.document.row(self.id).kind {
             NodeKind::Root => true,
@@ -55,7 +55,7 @@ impl<'a, 'input> Node<'a, 'input> {
     #[inline]
     #[tactic(auto, using(crate::proofs::Bare::says_element_bare))]
     pub fn is_element(&self) -> bool
-        ensures { result ≡ says_element (node_at (tree_of self.now) (id_of self.now)) }
+        ensures { result ≡ says_element (item_of self.now) }
     {
         match self.document.row(self.id).kind {
             NodeKind::Element(_) => true,
@@ -67,7 +67,7 @@ impl<'a, 'input> Node<'a, 'input> {
     #[inline]
     #[tactic(auto, using(crate::proofs::Bare::says_pi_bare))]
     pub fn is_pi(&self) -> bool
-        ensures { result ≡ says_pi (node_at (tree_of self.now) (id_of self.now)) }
+        ensures { result ≡ says_pi (item_of self.now) }
     {
         match self.document.row(self.id).kind {
             NodeKind::PI(_) => true,
@@ -79,7 +79,7 @@ impl<'a, 'input> Node<'a, 'input> {
     #[inline]
     #[tactic(auto, using(crate::proofs::Bare::says_comment_bare))]
     pub fn is_comment(&self) -> bool
-        ensures { result ≡ says_comment (node_at (tree_of self.now) (id_of self.now)) }
+        ensures { result ≡ says_comment (item_of self.now) }
     {
         match self.document.row(self.id).kind {
             NodeKind::Comment(_) => true,
@@ -91,7 +91,7 @@ impl<'a, 'input> Node<'a, 'input> {
     #[inline]
     #[tactic(auto, using(crate::proofs::Bare::says_text_bare))]
     pub fn is_text(&self) -> bool
-        ensures { result ≡ says_text (node_at (tree_of self.now) (id_of self.now)) }
+        ensures { result ≡ says_text (item_of self.now) }
     {
         match self.document.row(self.id).kind {
             NodeKind::Text(_) => true,
@@ -103,8 +103,8 @@ impl<'a, 'input> Node<'a, 'input> {
     #[inline]
     #[tactic(auto, using(crate::proofs::Bare::start_of_bare, crate::proofs::Bare::end_of_bare))]
     pub fn range(&self) -> Range<usize>
-        ensures start { result.start ≡ start_of (node_at (tree_of self.now) (id_of self.now)) }
-        ensures end { result.end ≡ end_of (node_at (tree_of self.now) (id_of self.now)) }
+        ensures start { result.start ≡ start_of (item_of self.now) }
+        ensures end { result.end ≡ end_of (item_of self.now) }
     {
         let row = self.document.row(self.id);
         match row.kind {
@@ -117,7 +117,7 @@ impl<'a, 'input> Node<'a, 'input> {
     #[inline]
     #[tactic(auto, using(crate::proofs::Bare::pi_of_bare))]
     pub fn pi(&self) -> Option<PI<'input>>
-        ensures { option_map instruction result ≡ pi_of (node_at (tree_of self.now) (id_of self.now)) }
+        ensures { option_map instruction result ≡ pi_of (item_of self.now) }
     {
         match self.document.row(self.id).kind {
             NodeKind::PI(pi) => Some(pi),
@@ -180,7 +180,7 @@ impl<'a, 'input> Node<'a, 'input> {
     #[inline]
     #[tactic(auto, using(crate::proofs::Bare::text_content_bare))]
     fn own_text_storage(&self) -> Option<&'a StringStorage<'input>>
-        ensures { option_map (λ s. stored s.now) result ≡ text_content (node_at (tree_of self.now) (id_of self.now)) }
+        ensures { option_map (λ s. stored s.now) result ≡ text_content (item_of self.now) }
     {
         match &self.document.row(self.id).kind {
             NodeKind::Text(text) => Some(text),

@@ -53,7 +53,7 @@ impl<'a, 'input> Attribute<'a, 'input> {
     pub(crate) fn has_name(&self, name: &ExpandedName<'_, '_>) -> bool
         ensures { result ≡ same_name ((attribute_of self.now).namespace, (attribute_of self.now).local) (expanded name.now) }
     {
-        self.data.local == name.name() && self.namespace() == name.namespace()
+        self.name() == name.name() && self.namespace() == name.namespace()
     }
 
     /// Its value (XML 1.0 section 3.3.3).

@@ -1,8 +1,7 @@
 //! Laws of the calls, each a function whose contract is the law.
 
-ghost use Rattle.std.specs.Prelude.{◌≡◌, ℕ, ◌<◌, Some, None, IsTrue, length, slice_index};
+ghost use Rattle.std.specs.Prelude.{◌≡◌, ℕ, ◌+◌, ◌<◌, ◌≤◌, ◌∷◌, ◌++◌, List, Some, None, IsTrue, length, slice_index, slice_get};
 ghost use Rattle.std.specs.List.{range_with_len, last_or};
-ghost use Rattle.std.specs.Prelude.{slice_get};
 ghost use Rattle.std.specs.Ordering.{nat_cmp};
 ghost use Rattle.rox_grammar.specs.Forest.{size};
 ghost use Rattle.roxmltree.specs.Places.{place, parent, children, first_child, last_child, next_sibling, prev_sibling};
@@ -12,10 +11,35 @@ use crate::nodes::Node;
 use crate::tree::Document;
 use std::cmp::Ordering;
 
+/// A node's id is its place in document order, and its subtree ends within the document.
+#[tactic(auto, using(crate::proofs::Preorder::place_id, crate::proofs::Preorder::place_end))]
+pub fn ids_are_places(document: &Document<'_>)
+    ensures place { (i : ℕ) → i < size document.now.tree → (place document.now.tree i).id ≡ i }
+    ensures within { (i : ℕ) → i < size document.now.tree → i + (place document.now.tree i).count ≤ size document.now.tree }
+{
+    let _ = document;
+}
+
+/// The nodes above a node are its parent and the nodes above that.
+#[tactic(auto, using(crate::proofs::Preorder::parent_is))]
+pub fn parents_are_the_nearest_above(document: &Document<'_>)
+    ensures inside { (i q : ℕ) → i < size document.now.tree → parent document.now.tree i ≡ Some q → q < size document.now.tree }
+    ensures above { (i q : ℕ) → i < size document.now.tree → parent document.now.tree i ≡ Some q → (place document.now.tree i).above ≡ q ∷ (place document.now.tree q).above }
+{
+    let _ = document;
+}
+
 /// The nodes from one on in its subtree are the ids from its own on, each once: as many as the subtree has.
 #[tactic(auto, using(crate::proofs::Siblings::descendants_is))]
 pub fn descendants_are_in_order(document: &Document<'_>)
     ensures { (i : ℕ) → i < size document.now.tree → (place document.now.tree i).descendants ≡ range_with_len i (place document.now.tree i).count }
+{
+    let _ = document;
+}
+
+/// From each node of a subtree but its top one comes up to the top: above it are some nodes, the top, and those above that.
+pub fn descendants_are_below(document: &Document<'_>)
+    ensures { (i j : ℕ) → i < size document.now.tree → i < j → j < i + (place document.now.tree i).count → (between : List ℕ) × ((place document.now.tree j).above ≡ between ++ i ∷ (place document.now.tree i).above) }
 {
     let _ = document;
 }

@@ -4,10 +4,10 @@ ghost use Rattle.std.specs.Prelude.{◌≡◌, ◌&&◌, bytes_eq};
 ghost use Rattle.std.specs.Option.{option_map, is_some};
 ghost use Rattle.rox_grammar.specs.Tree.{uri_of};
 ghost use Rattle.rox_build.specs.Lines.{declaration};
-ghost use Rattle.roxmltree.specs.Says.{node_at, says_element, local_of, namespace_of, listed_of, attributes_of};
+ghost use Rattle.roxmltree.specs.Says.{says_element, local_of, namespace_of, listed_of, attributes_of};
 ghost use Rattle.roxmltree.specs.Names.{expanded, same_name, named, named_locally, prefix_of, first_prefix};
 ghost use Rattle.roxmltree.specs.Listed.{attribute_of};
-ghost use Rattle.roxmltree.specs.Spot.{id_of, tree_of};
+ghost use Rattle.roxmltree.specs.Spot.{item_of};
 
 use crate::elements::{Attribute, Attributes, NamespaceIter};
 use crate::names::{ExpandedName, NS_XML_URI};
@@ -18,7 +18,7 @@ impl<'a, 'input> Node<'a, 'input> {
     /// The name of an element. The empty name without namespace for other nodes.
     #[inline]
     pub fn tag_name(&self) -> ExpandedName<'a, 'input>
-        ensures { expanded result ≡ (namespace_of (node_at (tree_of self.now) (id_of self.now)), local_of (node_at (tree_of self.now) (id_of self.now))) }
+        ensures { expanded result ≡ (namespace_of (item_of self.now), local_of (item_of self.now)) }
     {
         ExpandedName::from_parts(self.document.namespace_of(self.id), self.local_name())
     }
@@ -27,7 +27,7 @@ impl<'a, 'input> Node<'a, 'input> {
     #[inline]
     #[tactic(auto, using(crate::proofs::Bare::local_of_bare))]
     fn local_name(&self) -> &'input str
-        ensures { result.now ≡ local_of (node_at (tree_of self.now) (id_of self.now)) }
+        ensures { result.now ≡ local_of (item_of self.now) }
     {
         match &self.document.row(self.id).kind {
             NodeKind::Element(element) => element.local,
@@ -37,7 +37,7 @@ impl<'a, 'input> Node<'a, 'input> {
 
     /// Whether it is an element of this name.
     pub fn has_tag_name(&self, name: ExpandedName<'_, '_>) -> bool
-        ensures { result ≡ (says_element (node_at (tree_of self.now) (id_of self.now)) && same_name (namespace_of (node_at (tree_of self.now) (id_of self.now)), local_of (node_at (tree_of self.now) (id_of self.now))) (expanded name.entry)) }
+        ensures { result ≡ (says_element (item_of self.now) && same_name (namespace_of (item_of self.now), local_of (item_of self.now)) (expanded name.entry)) }
     {
         self.is_element()
             && self.local_name() == name.name()
@@ -46,7 +46,7 @@ impl<'a, 'input> Node<'a, 'input> {
 
     /// Whether it is an element of this local name, whatever its namespace.
     pub fn has_local_name(&self, local: &str) -> bool
-        ensures { result ≡ (says_element (node_at (tree_of self.now) (id_of self.now)) && bytes_eq (local_of (node_at (tree_of self.now) (id_of self.now))) local.now) }
+        ensures { result ≡ (says_element (item_of self.now) && bytes_eq (local_of (item_of self.now)) local.now) }
     {
         self.is_element() && self.local_name() == local
     }
@@ -54,7 +54,7 @@ impl<'a, 'input> Node<'a, 'input> {
     /// The attributes of an element, as written. None for other nodes.
     #[inline]
     pub fn attributes(&self) -> Attributes<'a, 'input>
-        ensures { result ≡ attributes_of (node_at (tree_of self.now) (id_of self.now)) }
+        ensures { result ≡ attributes_of (item_of self.now) }
     {
         self.document.attributes_of(self.id)
     }
@@ -63,14 +63,14 @@ impl<'a, 'input> Node<'a, 'input> {
     /// declare (Namespaces in XML 1.0 section 6). None for other nodes.
     #[inline]
     pub fn namespaces(&self) -> NamespaceIter<'a, 'input>
-        ensures { result ≡ listed_of (node_at (tree_of self.now) (id_of self.now)) }
+        ensures { result ≡ listed_of (item_of self.now) }
     {
         self.document.namespaces_of(self.id)
     }
 
     /// The attribute of this name.
     pub fn attribute_node(&self, name: ExpandedName<'_, '_>) -> Option<Attribute<'a, 'input>>
-        ensures { option_map attribute_of result ≡ named (expanded name.entry) (attributes_of (node_at (tree_of self.now) (id_of self.now))) }
+        ensures { option_map attribute_of result ≡ named (expanded name.entry) (attributes_of (item_of self.now)) }
     {
         for attribute in self.attributes() {
             if attribute.has_name(&name) {
@@ -82,7 +82,7 @@ impl<'a, 'input> Node<'a, 'input> {
 
     /// The value of the attribute of this name.
     pub fn attribute(&self, name: ExpandedName<'_, '_>) -> Option<&'a str>
-        ensures { option_map (λ s. s.now) result ≡ option_map (λ a. a.value) (named (expanded name.entry) (attributes_of (node_at (tree_of self.now) (id_of self.now)))) }
+        ensures { option_map (λ s. s.now) result ≡ option_map (λ a. a.value) (named (expanded name.entry) (attributes_of (item_of self.now))) }
     {
         match self.attribute_node(name) {
             Some(attribute) => Some(attribute.value()),
@@ -92,14 +92,14 @@ impl<'a, 'input> Node<'a, 'input> {
 
     /// Whether there is an attribute of this name.
     pub fn has_attribute(&self, name: ExpandedName<'_, '_>) -> bool
-        ensures { result ≡ is_some (named (expanded name.entry) (attributes_of (node_at (tree_of self.now) (id_of self.now)))) }
+        ensures { result ≡ is_some (named (expanded name.entry) (attributes_of (item_of self.now))) }
     {
         self.attribute_node(name).is_some()
     }
 
     /// The first attribute of this local name, whatever its namespace.
     pub fn attribute_local(&self, local: &str) -> Option<Attribute<'a, 'input>>
-        ensures { option_map attribute_of result ≡ named_locally local.now (attributes_of (node_at (tree_of self.now) (id_of self.now))) }
+        ensures { option_map attribute_of result ≡ named_locally local.now (attributes_of (item_of self.now)) }
     {
         for attribute in self.attributes() {
             if attribute.name() == local {
@@ -111,7 +111,7 @@ impl<'a, 'input> Node<'a, 'input> {
 
     /// The URI that is listed for the default namespace.
     pub fn default_namespace(&self) -> Option<&'a str>
-        ensures { option_map (λ s. s.now) result ≡ uri_of (listed_of (node_at (tree_of self.now) (id_of self.now))) None }
+        ensures { option_map (λ s. s.now) result ≡ uri_of (listed_of (item_of self.now)) None }
     {
         self.lookup_namespace_uri(None)
     }
@@ -119,7 +119,7 @@ impl<'a, 'input> Node<'a, 'input> {
     /// The URI that is listed for this prefix, or for the default namespace.
     #[tactic(auto, using(crate::proofs::Prefixes::option_eq_same))]
     pub fn lookup_namespace_uri(&self, prefix: Option<&str>) -> Option<&'a str>
-        ensures { option_map (λ s. s.now) result ≡ uri_of (listed_of (node_at (tree_of self.now) (id_of self.now))) (option_map (λ s. s.now) prefix.entry) }
+        ensures { option_map (λ s. s.now) result ≡ uri_of (listed_of (item_of self.now)) (option_map (λ s. s.now) prefix.entry) }
     {
         for namespace in self.namespaces() {
             if namespace.name() == prefix {
@@ -132,7 +132,7 @@ impl<'a, 'input> Node<'a, 'input> {
     /// The prefix of the first listed namespace of this URI. `xml` for its own, on every node (Namespaces in XML 1.0
     /// section 3).
     pub fn lookup_prefix(&self, uri: &str) -> Option<&'input str>
-        ensures { option_map (λ s. s.now) result ≡ prefix_of uri.now (listed_of (node_at (tree_of self.now) (id_of self.now))) }
+        ensures { option_map (λ s. s.now) result ≡ prefix_of uri.now (listed_of (item_of self.now)) }
     {
         if uri == NS_XML_URI {
             return Some("xml");

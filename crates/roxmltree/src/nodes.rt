@@ -41,7 +41,7 @@ impl NodeId {
     pub fn get_usize(self) -> usize
         ensures { result ≡ number self }
     {
-        self.0 as usize
+        self.get() as usize
     }
 }
 
@@ -51,7 +51,7 @@ impl From<u32> for NodeId {
     ghost from_gives = { λ n id. number id ≡ n };
 
     fn from(id: u32) -> NodeId {
-        NodeId(id)
+        NodeId::new(id)
     }
 }
 
@@ -161,7 +161,7 @@ impl<'a, 'input> Node<'a, 'input> {
 
     /// Of itself and the nodes above it, the one that has this many nodes above it.
     #[tactic(auto, using(crate::proofs::Preorder::up_to_here, crate::proofs::Preorder::up_to_parent, crate::proofs::Preorder::parent_depth, crate::proofs::Preorder::parent_none))]
-    fn climb(self, depth: u32) -> Node<'a, 'input>
+    pub(crate) fn climb(self, depth: u32) -> Node<'a, 'input>
         ensures id { id_of result ≡ up_to (tree_of self.entry) (id_of self.entry) depth }
         ensures document { result.document ≡ self.entry.document }
     {
@@ -213,18 +213,18 @@ impl<'a, 'input> Node<'a, 'input> {
     }
 
     /// Its children, in order.
-    #[tactic(auto, using(crate::proofs::Siblings::run_children, crate::proofs::Siblings::no_children, crate::proofs::Siblings::last_child_there))]
+    #[inline]
+    #[tactic(auto, using(crate::proofs::Preorder::place_end, crate::proofs::Preorder::depth_le, crate::proofs::Stretches::children_left, crate::proofs::Stretches::children_stretch))]
     pub fn children(&self) -> Children<'a, 'input>
         ensures { result ≡ spots (document_of self.now) (children (tree_of self.now) (id_of self.now)) }
     {
-        match self.first_child() {
-            Some(front) => match self.last_child() {
-                Some(back) => Children {
-                    ends: Some((front, back)),
-                },
-                None => Children { ends: None },
-            },
-            None => Children { ends: None },
+        let document = self.document;
+        let row = document.row(self.id);
+        Children {
+            document,
+            from: NodeId(self.id.0 + 1),
+            until: NodeId(row.next),
+            depth: row.depth + 1,
         }
     }
 

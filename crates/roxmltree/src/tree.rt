@@ -44,8 +44,10 @@ impl fmt::Debug for Document<'_> {
 
 impl<'input> Document<'input> {
     ghost use Rattle.rox_grammar.specs.Tree as grammar;
+    ghost use Rattle.rox_grammar.specs.Document.{IsTreeOf};
+    ghost use Rattle.std.specs.Prelude.{IsUtf8};
     ghost use Rattle.rox_build.specs.Lines.{Holds};
-    ghost use Rattle.roxmltree.specs.Whole.{IsDocument};
+    ghost use Rattle.roxmltree.specs.Whole.{HoldsDocument};
     ghost use Rattle.roxmltree.specs.Bare.{bare, bare_row};
     ghost use Rattle.roxmltree.specs.Stored.{content_in};
     ghost use Rattle.roxmltree.specs.Spot.{number, spot, spots, id_of, document_of};
@@ -57,14 +59,20 @@ impl<'input> Document<'input> {
         key: u64,
         tables: Tables<'input>,
     ) -> Document<'input>
-        ghost tree: { Forest grammar.Node }
-        requires tables { Holds tables tree }
-        requires document { IsDocument (length text.now) tree }
-        ensures tree { result.tree ≡ tree }
+        requires { HoldsDocument text.now tables }
+        ensures tree { (tree : Forest grammar.Node) → Holds tables.entry tree → result.tree ≡ tree }
         ensures text { result.text ≡ text.now }
         ensures key { result.key ≡ key }
     {
         Document { text, tables, key }
+    }
+
+    /// What is true of every document.
+    pub(crate) fn whole(&self)
+        ensures parsed { IsTreeOf self.now.text 4294967295 self.now.tree }
+        ensures utf8 { IsUtf8 self.now.text }
+    {
+        let _ = &self.text;
     }
 
     /// How many nodes there are.

@@ -161,10 +161,13 @@ impl<'a, 'input> DoubleEndedIterator for Descendants<'a, 'input> {
     }
 }
 
-/// Children of one node, from both ends.
+/// Children of one node, from both ends: those from one on that end before an id, each with this many nodes above it.
 #[derive(Clone, Debug, Drop)]
 pub struct Children<'a, 'input> {
-    pub(crate) ends: Option<(Node<'a, 'input>, Node<'a, 'input>)>,
+    pub(crate) document: &'a Document<'input>,
+    pub(crate) from: NodeId,
+    pub(crate) until: NodeId,
+    pub(crate) depth: u32,
 }
 
 impl<'a, 'input> Model for Children<'a, 'input> {
@@ -181,47 +184,6 @@ impl<'a, 'input> Model for Children<'a, 'input> {
     ghost view = { left };
 
     ghost invariant = { IsSound };
-}
-
-impl<'a, 'input> Children<'a, 'input> {
-    ghost use Rattle.roxmltree.specs.Left.{between, AreEnds, HasEnds};
-    ghost use Rattle.roxmltree.specs.Spot.{spot};
-
-    #[tactic(auto, using(crate::proofs::Siblings::run_same, crate::proofs::Siblings::run_next, crate::proofs::Siblings::run_next_none))]
-    fn without_front(
-        front: Node<'a, 'input>,
-        back: Node<'a, 'input>,
-    ) -> Option<(Node<'a, 'input>, Node<'a, 'input>)>
-        requires { AreEnds front back }
-        ensures rest { between (Some (front.entry, back.entry)) ≡ spot front.entry ∷ between result }
-        ensures sound { HasEnds result }
-    {
-        if front.id == back.id {
-            return None;
-        }
-        match front.next_sibling() {
-            Some(next) => Some((next, back)),
-            None => None,
-        }
-    }
-
-    #[tactic(auto, using(crate::proofs::Siblings::run_same, crate::proofs::Siblings::run_back, crate::proofs::Siblings::run_back_none))]
-    fn without_back(
-        front: Node<'a, 'input>,
-        back: Node<'a, 'input>,
-    ) -> Option<(Node<'a, 'input>, Node<'a, 'input>)>
-        requires { AreEnds front back }
-        ensures rest { between (Some (front.entry, back.entry)) ≡ between result ++ spot back.entry ∷ [] }
-        ensures sound { HasEnds result }
-    {
-        if front.id == back.id {
-            return None;
-        }
-        match back.prev_sibling() {
-            Some(before) => Some((front, before)),
-            None => None,
-        }
-    }
 }
 
 impl<'a, 'input> Children<'a, 'input> {
@@ -265,14 +227,18 @@ impl<'a, 'input> Iterator for Children<'a, 'input> {
 
     ghost remaining = { item_count (λ s. s) };
 
+    #[tactic(auto, using(crate::proofs::Stretches::front_left, crate::proofs::Stretches::front_rest, crate::proofs::Stretches::front_none))]
     fn next(&mut self) -> Option<Node<'a, 'input>> {
-        match self.ends {
-            None => None,
-            Some((front, back)) => {
-                self.ends = Children::without_front(front, back);
-                Some(front)
-            }
+        if self.from.0 >= self.until.0 {
+            return None;
         }
+        let document = self.document;
+        let front = Node {
+            document,
+            id: self.from,
+        };
+        self.from = NodeId(document.row(front.id).next);
+        Some(front)
     }
 }
 
@@ -282,14 +248,19 @@ impl<'a, 'input> DoubleEndedIterator for Children<'a, 'input> {
 
     ghost next_back_gives = { YieldsLastBy spot (λ s. s) };
 
+    #[tactic(auto, using(crate::proofs::Stretches::back_left, crate::proofs::Stretches::back_rest, crate::proofs::Stretches::back_fewer, crate::proofs::Stretches::front_none))]
     fn next_back(&mut self) -> Option<Node<'a, 'input>> {
-        match self.ends {
-            None => None,
-            Some((front, back)) => {
-                self.ends = Children::without_back(front, back);
-                Some(back)
-            }
+        if self.from.0 >= self.until.0 {
+            return None;
         }
+        let document = self.document;
+        let below = Node {
+            document,
+            id: NodeId(self.until.0 - 1),
+        };
+        let back = below.climb(self.depth);
+        self.until = back.id;
+        Some(back)
     }
 }
 

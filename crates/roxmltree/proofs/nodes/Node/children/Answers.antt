@@ -1,5 +1,12 @@
-use Rattle.roxmltree.proofs.Ends.{ends_children}
+use Rattle.std.proofs.Common.{◌+◌, refl, ap}
+use Rattle.roxmltree.proofs.Preorder.{place_end}
+use Rattle.roxmltree.proofs.Stretches.{children_stretch}
 use Rattle.roxmltree.proofs.nodes.Node.children.Goals as goal
 
-pub invariant_of-t-7 : goal.invariant_of-t-7
-invariant_of-t-7 c = ends_children c.args.self.now c.in-Some.front c.in-Some-last_child.back c.in-Some.ensures c.in-Some-last_child.ensures
+pub invariant_of-result : goal.invariant_of-result
+invariant_of-result c =
+    let node = c.args.self.now in
+    record {
+      stretch = children_stretch node.document.now.tree node.id.0 _ _ _ node.in_tree refl c.row-row.ensures.next (ap (λ d. d + 1) c.row-row.ensures.depth);
+      fits = rw c.row-row.ensures.next (place_end node.document.now.tree node.id.0 node.in_tree);
+    }

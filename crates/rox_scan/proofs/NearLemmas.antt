@@ -1,0 +1,149 @@
+-- What a look at a short text tells of it.
+use Rattle.std.proofs.Common.{◌≡◌, ℕ, zero, suc, ◌+◌, ◌-◌, ◌<◌, ◌≤◌, ◌==◌, ◌||◌, Bool, true, false, not, List, Ok, length, get_or, take, drop, slice_range, refl, sym, ap, ◌∙◌, arith, inl, inr, get_or-drop, length-drop}
+use Rattle.std.specs.List.{list_any}
+use Rattle.std.specs.Str.{IsUtf8, IsCharBoundary}
+use Rattle.std.proofs.lemmas.Bool.{cases_lt, eqb-true, le-ltb, lt-leb, ne_eqb}
+use Rattle.std.proofs.lemmas.Bool.Decides.{nat_tests}
+use Rattle.std.proofs.lemmas.List.{length-take, get_or-take, drop_more, drop-drop, get_or_past}
+use Rattle.std.proofs.lemmas.List.Sums.{position_or_len_is}
+use Rattle.std.proofs.lemmas.Str.{IsUtf8-take}
+use Rattle.rox_grammar.specs.Chars.{is_char}
+use Rattle.rox_grammar.specs.Content.{is_plain_value}
+use Rattle.rox_grammar.specs.Runs.{run_end}
+use Rattle.rox_grammar.specs.Marks.{byte_from, mark_from, stands}
+use Rattle.rox_grammar.specs.declared.fault.Word.TheVariants as word
+use Rattle.rox_grammar.specs.Words.{word_text}
+use Rattle.rox_grammar.specs.Constructs.{double_dash}
+use Rattle.rox_reading.specs.Lexical.{chars_up_to, string_at, text_to}
+use Rattle.rox_reading.specs.Markup.{comment_at, raw_value_at}
+use Rattle.rox_scan.specs.Near.{AllPass, is_value_byte, is_text_byte, is_comment_byte}
+use Rattle.rox_scan.proofs.MarkLemmas.{before_mark_is, not_from_first, no_mark}
+use Rattle.rox_scan.proofs.RunLemmas.{run_on_ascii, run_at_end}
+
+pub value_is_char : (b : ℕ) → is_value_byte b ≡ true → is_char b ≡ true
+unfolding is_value_byte
+value_is_char b h = grind (arith, nat_tests)
+
+pub value_ascii : (b : ℕ) → is_value_byte b ≡ true → b < 128
+unfolding is_value_byte
+value_ascii b h = grind (arith, nat_tests)
+
+pub text_ascii : (b : ℕ) → is_text_byte b ≡ true → b < 128
+unfolding is_text_byte
+text_ascii b h = grind (arith, nat_tests)
+
+pub text_is_char : (b : ℕ) → is_text_byte b ≡ true → is_char b ≡ true
+unfolding is_text_byte
+text_is_char b h = grind (arith, nat_tests)
+
+-- bytes of a set of Chars are Chars
+chars_from : (p : ℕ → Bool) (src : List ℕ) (i e n : ℕ) → i + n ≡ e → e ≤ length src → IsUtf8 (take e src) → AllPass p src i e → ((b : ℕ) → p b ≡ true → is_char b ≡ true) → run_end is_char (take e src) i ≡ e
+chars_from p src i e zero same within utf8 all are =
+    let long = length-take e src in
+    run_at_end is_char (take e src) i (omega (arith, long)) ∙ omega arith
+chars_from p src i e (suc n) same within utf8 all are =
+    let here = all i (omega arith) (omega arith) in
+    let long = length-take e src in
+    let read : get_or (take e src) i 0 ≡ get_or src i 0 = get_or-take e src i 0 (omega arith) in
+    sym (run_on_ascii is_char (take e src) i utf8 (omega (arith, long)) (omega (arith, read, here.0)) (rw read (are _ here.1)))
+    ∙ chars_from p src (i + 1) e n (omega arith) within utf8 (λ k low high. all k (omega arith) high) are
+
+pub near_chars : (p : ℕ → Bool) (src : List ℕ) (i e : ℕ) → i ≤ e → IsUtf8 src → IsCharBoundary src e → AllPass p src i e → ((b : ℕ) → p b ≡ true → is_char b ≡ true) → run_end is_char (take e src) i ≡ e
+near_chars p src i e le utf8 cut all are = chars_from p src i e (e - i) (omega arith) cut.0 (IsUtf8-take src e utf8 cut) all are
+
+-- a search for a byte that is not in the set ends where the set does, if one stands there
+pub near_found : (p q : ℕ → Bool) (src : List ℕ) (i e : ℕ) → i ≤ e → e ≤ length src → AllPass p src i e → ((b : ℕ) → p b ≡ true → q b ≡ false) → (e < length src → q (get_or src e 0) ≡ true) → byte_from q src i ≡ e
+unfolding byte_from
+near_found p q src i e le within all apart here =
+    let found = position_or_len_is q (drop i src) (e - i) 0
+    (omega (arith, length-drop i src))
+    (λ k below. rw (get_or-drop i src k 0) (apart _ (all (i + k) (omega arith) (omega arith)).1))
+    (λ more. let at : i + (e - i) ≡ e = omega arith in rw (get_or-drop i src (e - i) 0, at) (here (omega (arith, length-drop i src)))) in
+    omega (arith, found)
+
+-- none of a set of bytes is in a slice of the others
+pub none_among : (p q : ℕ → Bool) (src : List ℕ) (i e n : ℕ) → i + n ≡ e → e ≤ length src → AllPass p src i e → ((b : ℕ) → p b ≡ true → q b ≡ false) → list_any q (slice_range src i e) ≡ false
+none_among p q src i e zero same within all apart = let none : e - i ≡ 0 = omega arith in rw none refl
+none_among p q src i e (suc n) same within all apart =
+    let first : e - i ≡ suc (e - (i + 1)) = omega arith in
+    rw (first, drop_more src i 0 (omega arith), apart _ (all i (omega arith) (omega arith)).1) (none_among p q src (i + 1) e n (omega arith) within (λ k low high. all k (omega arith) high) apart)
+
+either_first : (q : ℕ) → (q == q || q == 60) ≡ true
+either_first q = grind (arith, nat_tests)
+
+value_apart : (quote b : ℕ) → (quote == 39 || quote == 34) ≡ true → is_value_byte b ≡ true → (b == quote || b == 60) ≡ false
+unfolding is_value_byte
+value_apart quote b q h = grind (arith, nat_tests)
+
+value_plain : (b : ℕ) → is_value_byte b ≡ true → (b == 38 || (b == 9 || (b == 10 || b == 13))) ≡ false
+unfolding is_value_byte
+value_plain b h = grind (arith, nat_tests)
+
+-- a value ends at the quote that stands behind its plain bytes
+near_value : (src : List ℕ) (i e quote : ℕ) → (quote == 39 || quote == 34) ≡ true → i ≤ e → e < length src → get_or src e 0 ≡ quote → AllPass is_value_byte src i e → byte_from (λ c. c == quote || c == 60) src i ≡ e
+near_value src i e quote q le within here all =
+    near_found is_value_byte (λ c. c == quote || c == 60) src i e le (omega arith) all (λ b h. value_apart quote b q h) (λ more. rw here (either_first quote))
+
+not_zero : (quote : ℕ) → (quote == 39 || quote == 34) ≡ true → 0 < quote
+not_zero quote q = grind (arith, nat_tests)
+
+-- what it is read as
+pub short_value : (src : List ℕ) (i e quote : ℕ) → IsUtf8 src → (quote == 39 || quote == 34) ≡ true → i ≤ e → IsCharBoundary src e → AllPass is_value_byte src i e → (get_or src e 0 == quote) ≡ true → raw_value_at quote src i ≡ Ok (slice_range src i e, e)
+unfolding raw_value_at chars_up_to
+short_value src i e quote utf8 q le cut all here =
+    let at : get_or src e 0 ≡ quote = eqb-true _ _ here in
+    let within : e < length src = elim (cases_lt e (length src)) [ inl more ↦ more | inr past ↦ absurd (omega (arith, get_or_past src e 0 past, not_zero quote q)) ] in
+    rw (near_value src i e quote q le within at all, lt-leb (length src) e within, near_chars is_value_byte src i e le utf8 cut all value_is_char, le-ltb e e (omega arith)) refl
+
+-- and has nothing to change
+pub near_plain : (src : List ℕ) (i e : ℕ) → i ≤ e → e ≤ length src → AllPass is_value_byte src i e → is_plain_value (slice_range src i e) ≡ true
+near_plain src i e le within all =
+    ap not (none_among is_value_byte (λ b. b == 38 || (b == 9 || (b == 10 || b == 13))) src i e (e - i) (omega arith) within all value_plain)
+
+-- a byte of such a slice passes
+pub read_among : (p : ℕ → Bool) (src : List ℕ) (i e j : ℕ) → e ≤ length src → AllPass p src i e → j < length (slice_range src i e) → p (get_or (slice_range src i e) j 0) ≡ true
+read_among p src i e j within all below =
+    let long = length-take (e - i) (drop i src) in
+    let at : get_or (slice_range src i e) j 0 ≡ get_or src (i + j) 0 = get_or-take (e - i) (drop i src) j 0 (omega (arith, long)) ∙ get_or-drop i src j 0 in
+    rw at (all (i + j) (omega arith) (omega (arith, long))).1
+
+pub comment_ascii : (b : ℕ) → is_comment_byte b ≡ true → b < 128
+unfolding is_comment_byte
+comment_ascii b h = grind (arith, nat_tests)
+
+comment_is_char : (b : ℕ) → is_comment_byte b ≡ true → is_char b ≡ true
+unfolding is_comment_byte
+comment_is_char b h = grind (arith, nat_tests)
+
+comment_no_dash : (b : ℕ) → is_comment_byte b ≡ true → b ≡ 45 → ⊥
+unfolding is_comment_byte
+comment_no_dash b h is = grind (arith, nat_tests)
+
+-- no dash is the last of such a slice
+no_last_dash : (src : List ℕ) (i e : ℕ) → e ≤ length src → AllPass is_comment_byte src i e → (get_or (slice_range src i e) (length (slice_range src i e) - 1) 0 == 45) ≡ false
+no_last_dash src i e within all =
+    let text = slice_range src i e in
+    elim (cases_lt 0 (length text)) [
+      | inl some ↦ ne_eqb _ 45 (comment_no_dash _ (read_among is_comment_byte src i e (length text - 1) within all (omega arith)))
+      | inr empty ↦ ne_eqb _ 45 (λ h. absurd (omega (arith, h, get_or_past text (length text - 1) 0 (omega arith))))
+    ]
+
+-- the first mark of a text whose bytes before it are not that of the mark
+near_mark : (mark src : List ℕ) (i e : ℕ) → 0 < length mark → i ≤ e → e ≤ length src → ((k : ℕ) → i ≤ k → k < e → get_or src k 0 ≡ get_or mark 0 0 → ⊥) → stands mark src e ≡ true → mark_from mark src i ≡ e
+unfolding mark_from stands
+near_mark mark src i e some le within apart here =
+    let at : i + (e - i) ≡ e = omega arith in
+    let long = length-drop i src in
+    let found = before_mark_is mark (drop i src) (e - i) (omega (arith, long))
+    (λ j below. not_from_first mark (drop i src) j some (λ h. apart (i + j) (omega arith) (omega arith) (sym (get_or-drop i src j 0) ∙ h)))
+    (λ more. rw (drop-drop (e - i) i src, at) here) in
+    omega (arith, found)
+
+-- a comment whose text has no dash
+pub short_comment : (src : List ℕ) (i s e : ℕ) → s ≡ i + 4 → IsUtf8 src → s ≤ e → IsCharBoundary src e → AllPass is_comment_byte src s e → stands (word_text word.CommentEnd) src e ≡ true → comment_at src i ≡ Ok (slice_range src s e, e + 3)
+unfolding comment_at text_to chars_up_to string_at
+short_comment src i s e start utf8 le cut all here =
+    let end = near_mark (word_text word.CommentEnd) src s e (omega arith) le cut.0 (λ k low high. comment_no_dash _ (all k low high).1) here in
+    let chars = near_chars is_comment_byte src s e le utf8 cut all comment_is_char in
+    let clear = no_mark double_dash (slice_range src s e) (omega arith) (λ j below. comment_no_dash _ (read_among is_comment_byte src s e j cut.0 all below)) in
+    rw (← start, end, chars, le-ltb e e (omega arith), here, clear, no_last_dash src s e cut.0 all) refl

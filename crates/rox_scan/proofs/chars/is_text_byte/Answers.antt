@@ -1,0 +1,10 @@
+-- The table is held against the definition at each of the 256 bytes, by computing.
+use Rattle.std.proofs.Common.{get_or, nat_eq, refl, arith}
+use Rattle.rox_scan.specs.declared.chars.TheConstants.{TEXT_BYTES}
+use Rattle.rox_scan.specs.Near.{is_text_byte}
+use Rattle.rox_scan.proofs.TableLemmas.{agree_below, agree_at}
+use Rattle.rox_scan.proofs.chars.is_text_byte.Goals as goal
+
+pub returns : goal.returns
+unfolding agree_below is_text_byte
+returns c = agree_at (λ b. nat_eq (get_or TEXT_BYTES b 0) 35) is_text_byte 256 refl c.args.byte (omega arith)

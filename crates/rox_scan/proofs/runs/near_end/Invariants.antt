@@ -1,0 +1,14 @@
+use Rattle.std.proofs.Common.{◌≤◌, ◌-◌}
+use Rattle.std.specs.Str.{IsCharBoundary}
+use Rattle.rox_scan.specs.Near.{AllPass}
+use Rattle.rox_scan.proofs.runs.near_end.Given as goal
+
+abbrev pub invariant-loop-end : goal.invariant-loop-end
+invariant-loop-end g l = record {
+  onward : l.at ≤ l.end;
+  cut : IsCharBoundary l.text l.end;
+  passes : AllPass g.C.Near.test l.text l.at l.end;
+}
+
+abbrev pub decreases-loop-end : goal.decreases-loop-end
+decreases-loop-end g l = l.stop - l.end

@@ -1,0 +1,18 @@
+-- Bytes that stand for themselves, for a look at short texts.
+use Rattle.std.specs.Prelude.{◌≡◌, ◌≤◌, ◌<◌, ℕ, Bool, true, not, ◌&&◌, ◌||◌, ◌==◌, nat_le, nat_lt, List, slice_index}
+
+-- ASCII, and no control, no quote, no `&` and no `<`
+unfoldable pub is_value_byte : ℕ → Bool
+is_value_byte b = (nat_le 32 b && nat_lt b 128) && not ((b == 34 || b == 39) || (b == 38 || b == 60))
+
+-- ASCII, and no control but TAB and LF, no `&`, no `<` and no `]`
+unfoldable pub is_text_byte : ℕ → Bool
+is_text_byte b = (((b == 9 || b == 10) || nat_le 32 b) && nat_lt b 128) && not ((b == 38 || b == 60) || b == 93)
+
+-- ASCII, and no control but TAB, LF and CR, and no `-`
+unfoldable pub is_comment_byte : ℕ → Bool
+is_comment_byte b = ((((b == 9 || b == 10) || b == 13) || nat_le 32 b) && nat_lt b 128) && not (b == 45)
+
+-- each byte from i up to j passes, and is ASCII
+abbrev pub AllPass : (ℕ → Bool) → List ℕ → ℕ → ℕ → Type 0
+AllPass p src i j = (k : ℕ) → i ≤ k → k < j → (slice_index src k < 128) × (p (slice_index src k) ≡ true)

@@ -1,0 +1,59 @@
+//! The attributes and namespaces of an element, as they are listed.
+
+use roxmltree::Node;
+use std::alloc::{AllocError, Global};
+use std::borrow::CowStr;
+
+/// A name and its value.
+#[derive(Drop)]
+pub struct Entry<'a> {
+    pub name: CowStr<'a>,
+    pub value: &'a str,
+}
+
+/// The attributes of a node by their names, a local name and, where there is a namespace, `@` and its URI.
+pub fn attribute_entries<'a>(
+    alloc: Global,
+    node: Node<'a, '_>,
+) -> Result<Vec<Entry<'a>>, AllocError> {
+    let mut entries = Vec::new(alloc);
+    for attribute in node.attributes() {
+        let name = full_name(alloc, attribute.name(), attribute.namespace())?;
+        let value = attribute.value();
+        entries.push(Entry { name, value })?;
+    }
+    sort(&mut entries)?;
+    Ok(entries)
+}
+
+/// The namespaces that a node lists by their prefixes, `None` for the default. An empty URI is shown as `""`.
+pub fn namespace_entries<'a>(
+    alloc: Global,
+    node: Node<'a, '_>,
+) -> Result<Vec<Entry<'a>>, AllocError> {
+    let mut entries = Vec::new(alloc);
+    for namespace in node.namespaces() {
+        let name = CowStr::Borrowed(namespace.name().unwrap_or("None"));
+        let uri = namespace.uri();
+        let value = if uri.is_empty() { "\"\"" } else { uri };
+        entries.push(Entry { name, value })?;
+    }
+    sort(&mut entries)?;
+    Ok(entries)
+}
+
+fn full_name<'a>(
+    alloc: Global,
+    local: &'a str,
+    uri: Option<&str>,
+) -> Result<CowStr<'a>, AllocError> {
+    match uri {
+        None => Ok(CowStr::Borrowed(local)),
+        Some(uri) => Ok(CowStr::Owned(format!(in alloc; "{local}@{uri}")?)),
+    }
+}
+
+// By the bytes of the names. Entries of one name keep their order.
+fn sort(entries: &mut Vec<Entry<'_>>) -> Result<(), AllocError> {
+    entries.sort_by(|a, b| a.name.as_str().cmp(&b.name.as_str()))
+}

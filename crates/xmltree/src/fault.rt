@@ -1,0 +1,73 @@
+//! Why the program prints no listing.
+
+ghost use Rattle.std.specs.Prelude.{◌≡◌};
+ghost use Rattle.xmltree.specs.declared.fault.Fault.TheVariants.{CannotWrite, OutOfMemory};
+
+use std::alloc::{AllocError, AllocFailed};
+use std::{fmt, io};
+
+/// Why the program could not do what it was asked.
+#[derive(Debug, Drop)]
+pub enum Fault {
+    /// The input could not be opened or read to its end.
+    CannotRead,
+    /// The input is not UTF-8.
+    NotUtf8,
+    /// The input is refused.
+    Refused(roxmltree::Error),
+    /// The output could not be written to its end.
+    CannotWrite,
+    /// There is no memory.
+    OutOfMemory,
+}
+
+impl fmt::Display for Fault {
+    fn fmt<W: fmt::Write>(&self, f: &mut fmt::Formatter<W>) -> fmt::Result {
+        match self {
+            Fault::CannotRead => write!(f, "cannot read input"),
+            Fault::NotUtf8 => write!(f, "input is not UTF-8"),
+            Fault::Refused(error) => write!(f, "{error}"),
+            Fault::CannotWrite => write!(f, "cannot write output"),
+            Fault::OutOfMemory => write!(f, "out of memory"),
+        }
+    }
+}
+
+impl From<AllocError> for Fault {
+    ghost from_gives = { λ _ fault. fault ≡ OutOfMemory };
+
+    fn from(_error: AllocError) -> Fault {
+        Fault::OutOfMemory
+    }
+}
+
+impl<T: Drop> From<AllocFailed<T>> for Fault {
+    ghost from_gives = { λ _ fault. fault ≡ OutOfMemory };
+
+    fn from(_error: AllocFailed<T>) -> Fault {
+        Fault::OutOfMemory
+    }
+}
+
+/// Of a writer.
+impl From<io::Error> for Fault {
+    ghost from_gives = { λ _ fault. fault ≡ CannotWrite };
+
+    fn from(_error: io::Error) -> Fault {
+        Fault::CannotWrite
+    }
+}
+
+impl Fault {
+    ghost use Rattle.xmltree.specs.Fault.{status_of};
+
+    /// The exit status: 2 for faults of input and output, 1 for a text that is refused and for want of memory.
+    pub fn status(&self) -> u8
+        ensures { result ≡ status_of self.now }
+    {
+        match self {
+            Fault::Refused(_) | Fault::OutOfMemory => 1,
+            Fault::CannotRead | Fault::NotUtf8 | Fault::CannotWrite => 2,
+        }
+    }
+}

@@ -1,0 +1,10 @@
+//! What the program is asked to do.
+
+/// What the words after the program's name ask for.
+#[derive(Debug, Drop)]
+pub struct Command {
+    /// Whether a document with a DOCTYPE is read.
+    pub allow_dtd: bool,
+    /// The file that is read, or None for standard input.
+    pub file: Option<String>,
+}

@@ -1,0 +1,243 @@
+//! What the program prints, over readers and writers in memory.
+
+use crate::arguments::command;
+use crate::options::Command;
+use crate::run::run;
+use std::alloc::{AllocError, Global};
+use std::io;
+use std::io::{ErrorKind, Read, Write};
+use std::process::Abort;
+use std::test::Fail;
+
+/// Gives its bytes, and then fails.
+#[derive(Drop)]
+struct Cut<'a> {
+    bytes: &'a [u8],
+}
+
+impl Read for Cut<'_> {
+    fn read(&mut self, buf: &mut [u8]) -> io::Result<usize> {
+        if self.bytes.is_empty() {
+            return Err(io::Error::from(ErrorKind::ConnectionReset));
+        }
+        self.bytes.read(buf)
+    }
+}
+
+/// Takes some writes, refuses the next, and would take all that follow.
+#[derive(Drop)]
+struct Refusing {
+    taken: Vec<u8>,
+    writes: u32,
+}
+
+impl Write for Refusing {
+    fn write(&mut self, buf: &[u8]) -> io::Result<usize> {
+        let left = self.writes;
+        self.writes = left.wrapping_sub(1);
+        if left == 0 {
+            return Err(io::Error::from(ErrorKind::StorageFull));
+        }
+        self.taken.extend_from_slice(buf)?;
+        Ok(buf.len())
+    }
+
+    fn flush(&mut self) -> io::Result<()> {
+        Ok(())
+    }
+}
+
+fn words(alloc: Global, line: &str) -> Result<Vec<String>, AllocError> {
+    line.split(' ')
+        .filter(|word| !word.is_empty())
+        .map(|word| String::from_str(alloc, word))
+        .try_collect(alloc)
+}
+
+fn no_options() -> Command {
+    Command {
+        allow_dtd: false,
+        file: None,
+    }
+}
+
+/// Runs on a text, and wants this status, and these texts on standard output and standard error.
+fn wants(rt: &impl Abort, alloc: Global, text: &[u8], status: u8, out: &str, err: &str) {
+    let (mut got_out, mut got_err) = (Vec::new(alloc), Vec::new(alloc));
+    let got = run(alloc, &no_options(), Some(text), &mut got_out, &mut got_err);
+    assert_eq!(rt; str::from_utf8(&got_err).unwrap_or("?"), err);
+    assert_eq!(rt; str::from_utf8(&got_out).unwrap_or("?"), out);
+    assert_eq!(rt; got, status);
+}
+
+#[test]
+fn reads_arguments(rt: HostRuntime) -> Result<(), Fail> {
+    let alloc = rt.alloc();
+    for (line, allow_dtd, file) in [
+        ("", false, None),
+        ("--allow-dtd", true, None),
+        ("a.xml", false, Some("a.xml")),
+        ("--allow-dtd ./-", true, Some("./-")),
+    ] {
+        let asked = command(alloc, &words(alloc, line)?)?.ok_or("a wrong argument")?;
+        assert_eq!(rt; asked.allow_dtd, allow_dtd, "{line}");
+        assert_eq!(rt;
+            asked.file.as_ref().map(|name| name.as_str()),
+            file,
+            "{line}"
+        );
+    }
+    for line in [
+        "-",
+        "-x",
+        "--path",
+        "--path /r",
+        "a.xml --allow-dtd",
+        "a.xml b.xml",
+        "--allow-dtd --allow-dtd",
+        "--allow-dtd a.xml b.xml",
+        "-- a.xml",
+    ] {
+        assert!(rt; command(alloc, &words(alloc, line)?)?.is_none(), "{line}");
+    }
+    Ok(())
+}
+
+#[test]
+fn lists_a_tree(rt: HostRuntime) {
+    let listing = "Document:
+  - Element:
+      tag_name: r
+      attributes:
+        a: \"1\"
+      children:
+        - Text: \"x\"
+        - Element:
+            tag_name: b
+";
+    wants(&rt, rt.alloc(), b"<r a=\"1\">x<b/></r>", 0, listing, "");
+}
+
+#[test]
+fn lists_each_kind_of_node(rt: HostRuntime) {
+    let text = "<?top?><!--a\n--><r><?one?><?two x \"y\"?><!--\u{e9}\u{301}\u{200b}--></r><?end?>";
+    let listing = "Document:
+  - Comment: \"a\\n\"
+  - Element:
+      tag_name: r
+      children:
+        - PI:
+            target: \"one\"
+        - PI:
+            target: \"two\"
+            value: \"x \\\"y\\\"\"
+        - Comment: \"\u{e9}\\u{301}\\u{200b}\"
+";
+    wants(&rt, rt.alloc(), text.as_bytes(), 0, listing, "");
+}
+
+#[test]
+fn sorts_attributes_and_namespaces(rt: HostRuntime) {
+    let text = "<p:r xmlns:p=\"u\" xmlns=\"\" p:b=\"1\" c=\"'\" p:a=\"2\" b=\"&amp;\"><s/></p:r>";
+    let listing = "Document:
+  - Element:
+      tag_name: r@u
+      attributes:
+        a@u: \"2\"
+        b: \"&\"
+        b@u: \"1\"
+        c: \"'\"
+      namespaces:
+        None: \"\"
+        p: u
+      children:
+        - Element:
+            tag_name: s
+            namespaces:
+              None: \"\"
+              p: u
+";
+    wants(&rt, rt.alloc(), text.as_bytes(), 0, listing, "");
+}
+
+#[test]
+fn tells_faults_of_the_text(rt: HostRuntime) {
+    for (text, message) in [
+        ("<a>", "error: the root node was opened but never closed\n"),
+        ("<!DOCTYPE r><r/>", "error: XML with DTD detected\n"),
+        ("", "error: the document does not have a root node\n"),
+    ] {
+        wants(&rt, rt.alloc(), text.as_bytes(), 1, "", message);
+    }
+    let message = "error: input is not UTF-8\n";
+    wants(&rt, rt.alloc(), b"<r>\xff", 2, "", message);
+}
+
+#[test]
+fn tells_faults_of_input(rt: HostRuntime) {
+    let alloc = rt.alloc();
+    for bytes in [None, Some(b"<r>".as_slice()), Some(b"\xff".as_slice())] {
+        let (mut out, mut err) = (Vec::new(alloc), Vec::new(alloc));
+        let input = bytes.map(|bytes| Cut { bytes });
+        let status = run(alloc, &no_options(), input, &mut out, &mut err);
+        assert_eq!(rt; status, 2);
+        assert_eq!(rt; err.as_slice(), b"error: cannot read input\n".as_slice());
+        assert!(rt; out.is_empty());
+    }
+}
+
+#[test]
+fn tells_faults_of_output(rt: HostRuntime) -> Result<(), Fail> {
+    let alloc = rt.alloc();
+    for (writes, kept) in [(0, 0), (1, 65_000)] {
+        let mut out = Refusing {
+            taken: Vec::new(alloc),
+            writes,
+        };
+        let mut err = Vec::new(alloc);
+        let text = nested(alloc, 300)?;
+        let input = Some(text.as_bytes());
+        let status = run(alloc, &no_options(), input, &mut out, &mut err);
+        assert_eq!(rt; status, 2);
+        assert_eq!(rt; err.as_slice(), b"error: cannot write output\n".as_slice());
+        assert!(rt; out.taken.len() >= kept && out.taken.len() <= 65_536);
+    }
+    Ok(())
+}
+
+#[test]
+fn passes_over_faults_of_standard_error(rt: HostRuntime) {
+    let alloc = rt.alloc();
+    let mut out = Vec::new(alloc);
+    let mut err = Refusing {
+        taken: Vec::new(alloc),
+        writes: 0,
+    };
+    let input = Some(b"<a>".as_slice());
+    assert_eq!(rt; run(alloc, &no_options(), input, &mut out, &mut err), 1);
+    assert!(rt; out.is_empty());
+}
+
+/// So many elements, each in the one before it.
+fn nested(alloc: Global, count: usize) -> Result<String, AllocError> {
+    let mut text = String::new(alloc);
+    for _ in 0..count {
+        text.push_str("<a>")?;
+    }
+    for _ in 0..count {
+        text.push_str("</a>")?;
+    }
+    Ok(text)
+}
+
+#[test]
+fn lists_nested_elements(rt: HostRuntime) -> Result<(), Fail> {
+    let alloc = rt.alloc();
+    let (mut out, mut err) = (Vec::new(alloc), Vec::new(alloc));
+    let text = nested(alloc, 300)?;
+    let input = Some(text.as_bytes());
+    let status = run(alloc, &no_options(), input, &mut out, &mut err);
+    assert_eq!(rt; status, 0);
+    assert_eq!(rt; out.iter().filter(|byte| **byte == b'\n').count(), 900);
+    Ok(())
+}
