@@ -189,9 +189,11 @@ closed_stepped limit end s c d b u outer x i n name h os same tables limits clos
         let q = attributes_more up before (Element start d.pos tag) (merge s.done) in
         let q2 = attribute_count-merge s.done in
         let q3 : attributes_so_far (inside start tag before up) s.done ≡ attributes_so_far s.stack s.done = ap (λ (o : Open). attributes_so_far o s.done) e in
-        let m : attributes_so_far up done ≡ attributes_so_far s.stack s.done = omega arith in
-        (record { at = d.pos; done = done; stack = up }, rw k refl,
-         record { here = refl; limit_is = limits ∙ h.limit_is; shows = sh; names = rw (tables, p) h.names; attributes = rw (tables, m) h.attributes })
+        let m : attributes_so_far up done ≡ attributes_so_far s.stack s.done = omega arith in (
+          record { at = d.pos; done = done; stack = up },
+          rw k refl,
+          record { here = refl; limit_is = limits ∙ h.limit_is; shows = sh; names = rw (tables, p) h.names; attributes = rw (tables, m) h.attributes },
+        )
 
 abbrev pub text_or : Result RunText Fault → RunText
 text_or (Ok t) = t

@@ -210,9 +210,7 @@ fn end_tag<'input>(
     if !same_name(open.name, tag.name) {
         let expected = name_span(open.name, open.name_start, open.name_end);
         let found = name_span(tag.name, start + 2, tag.name_end);
-        return Err(Failure::Fault(Fault::UnexpectedCloseTag(
-            expected, found, start,
-        )));
+        return Err(Failure::Fault(Fault::UnexpectedCloseTag(expected, found, start)));
     }
     builder.close(alloc, cursor.pos)?;
     Ok(())

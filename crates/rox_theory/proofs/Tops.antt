@@ -39,5 +39,5 @@ no_text_merge (Cons (PI x y t o) c r) (a, h) = ap (Cons (PI x y t o) c) (no_text
 pub parse_merged : (src : List ℕ) (t : Forest Item) → ParseOf src t → merge t ≡ t
 parse_merged src t p =
     let tops = no_text-join p.before (join p.one p.after) (all_misc_no_text src _ _ p.before p.misc_before)
-        (no_text-join p.one p.after (element_no_text src _ _ _ _ p.one p.element) (all_misc_no_text src _ _ p.after p.misc_after)) in
+    (no_text-join p.one p.after (element_no_text src _ _ _ _ p.one p.element) (all_misc_no_text src _ _ p.after p.misc_after)) in
     ap merge p.is_tree ∙ no_text_merge (join p.before (join p.one p.after)) tops ∙ sym p.is_tree

@@ -14,8 +14,9 @@ pub returns-then-is_at_end-clause-value : goal.returns-then-is_at_end-clause-val
 returns-then-is_at_end-clause-value c = λ limit end s sees.
     let src = c.args.cursor.now.text.now in
     let other : slice_index src s.at ≡ 60 → ⊥ = elim c.then-is_at_end.branch [
-        then-is_at_end-via-then-is_at_end w ↦ nothing src s.at (rw sees.here at (leb-true _ _ (sym c.is_at_end.ensures ∙ w.if-is_at_end.true)))
-      | then-is_at_end-via-else-is_at_end+then-as_bytes-cursor-ne60 w ↦ λ is. w.if-as_bytes-cursor-ne60.true (ap (λ (xs : List ℕ). slice_index xs c.args.cursor.now.pos) w.as_bytes.ensures.value ∙ ap (λ (i : ℕ). slice_index src i) sees.here ∙ is) ] in
+      | then-is_at_end-via-then-is_at_end w ↦ nothing src s.at (rw sees.here at (leb-true _ _ (sym c.is_at_end.ensures ∙ w.if-is_at_end.true)))
+      | then-is_at_end-via-else-is_at_end+then-as_bytes-cursor-ne60 w ↦ λ is. w.if-as_bytes-cursor-ne60.true (ap (λ (xs : List ℕ). slice_index xs c.args.cursor.now.pos) w.as_bytes.ensures.value ∙ ap (λ (i : ℕ). slice_index src i) sees.here ∙ is)
+    ] in
     (s, no_body limit src s other, sees)
 
 pub returns-in_err-element-clause-value : goal.returns-in_err-element-clause-value

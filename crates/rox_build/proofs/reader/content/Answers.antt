@@ -36,9 +36,9 @@ returns-in_err-step-clause-value c = λ limit end s sees.
 
 pub loop-turn-preserved : goal.loop-turn-preserved
 loop-turn-preserved c = record {
-    source = c.in_ok-step.ensures.source ∙ c.loop-turn.invariant.source;
-    fine = c.in_ok-step.ensures.fine;
-    reads = λ limit end s sees.
+  source = c.in_ok-step.ensures.source ∙ c.loop-turn.invariant.source;
+  fine = c.in_ok-step.ensures.fine;
+  reads = λ limit end s sees.
       let src = c.args.cursor.now.text.now in
       let n = length src - c.loop-turn._turn in
       let one : n ≡ suc (length src - (c.loop-turn._turn + 1)) = omega arith in
@@ -48,7 +48,7 @@ loop-turn-preserved c = record {
       let inside : g.s.at < length src = rw (s0, g.sees.here) at (leb-false _ _ (sym c.is_at_end.ensures ∙ c.if-is_at_end.false)) in
       let stepped = rw s0 at (c.in_ok-step.ensures.value limit end g.s g.sees) in
       drives_on limit end src _ n (length src - (c.loop-turn._turn + 1)) c.loop-turn.cursor _ c.loop-turn.builder _ _ g one inner inside stepped;
-  }
+}
 
 pub returns-then-is_at_root-2-clause-value : goal.returns-then-is_at_root-2-clause-value
 returns-then-is_at_root-2-clause-value c = λ limit end s sees.

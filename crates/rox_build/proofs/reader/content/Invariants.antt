@@ -10,5 +10,5 @@ invariant-loop-turn l = record {
   source : l.cursor.text ≡ l.fn.cursor.text;
   fine : Fine l.builder.tables l.builder.opened.items;
   reads : (limit end : ℕ) (s : State) → Sees limit end s l.fn.cursor l.fn.builder
-    → Driving limit end l.fn.cursor.text.now (drive limit (length l.fn.cursor.text.now) l.fn.cursor.text.now s) (length l.fn.cursor.text.now - l._turn) l.cursor l.builder;
+      → Driving limit end l.fn.cursor.text.now (drive limit (length l.fn.cursor.text.now) l.fn.cursor.text.now s) (length l.fn.cursor.text.now - l._turn) l.cursor l.builder;
 }

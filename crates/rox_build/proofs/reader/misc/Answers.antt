@@ -59,10 +59,10 @@ returns-else-starts-2-clause-value c = λ limit end s sees.
 
 pub loop-turn-preserved : goal.loop-turn-preserved
 loop-turn-preserved c = elim c.if-starts.branch [
-    then-starts+in_ok-comment w ↦ record {
-      source = ap (λ (x : Cursor). x.text) w.cursor-is ∙ w.in_ok-comment.ensures.source ∙ c.spaces.ensures.source ∙ c.loop-turn.invariant.source;
-      fine = rw w.builder-is w.in_ok-comment.ensures.fine;
-      reads = λ limit end s sees.
+  | then-starts+in_ok-comment w ↦ record {
+    source = ap (λ (x : Cursor). x.text) w.cursor-is ∙ w.in_ok-comment.ensures.source ∙ c.spaces.ensures.source ∙ c.loop-turn.invariant.source;
+    fine = rw w.builder-is w.in_ok-comment.ensures.fine;
+    reads = λ limit end s sees.
         let src = c.args.cursor.now.text.now in
         let n = length src - c.loop-turn._turn in
         let one : n ≡ suc (length src - (c.loop-turn._turn + 1)) = omega arith in
@@ -74,11 +74,12 @@ loop-turn-preserved c = elim c.if-starts.branch [
         let p : c.spaces.new.self.pos ≡ spaces_end src g.s.at = next ∙ ap (spaces_end src) g.sees.here in
         let is : at word.CommentStart src (spaces_end src g.s.at) ≡ true = rw (sp, p) at (sym c.starts.ensures ∙ w.if-starts.true) in
         let stepped = rw sp at (w.in_ok-comment.ensures.value limit end (spaced src g.s) seen) in
-        rw (w.cursor-is, w.builder-is) (comment_on limit end src _ n (length src - (c.loop-turn._turn + 1)) c.loop-turn.cursor _ c.loop-turn.builder _ _ g one is stepped) }
+        rw (w.cursor-is, w.builder-is) (comment_on limit end src _ n (length src - (c.loop-turn._turn + 1)) c.loop-turn.cursor _ c.loop-turn.builder _ _ g one is stepped);
+  }
   | else-starts+then-starts-2+in_ok-instruction w ↦ record {
-      source = ap (λ (x : Cursor). x.text) w.cursor-is ∙ w.in_ok-instruction.ensures.source ∙ c.spaces.ensures.source ∙ c.loop-turn.invariant.source;
-      fine = rw w.builder-is w.in_ok-instruction.ensures.fine;
-      reads = λ limit end s sees.
+    source = ap (λ (x : Cursor). x.text) w.cursor-is ∙ w.in_ok-instruction.ensures.source ∙ c.spaces.ensures.source ∙ c.loop-turn.invariant.source;
+    fine = rw w.builder-is w.in_ok-instruction.ensures.fine;
+    reads = λ limit end s sees.
         let src = c.args.cursor.now.text.now in
         let n = length src - c.loop-turn._turn in
         let one : n ≡ suc (length src - (c.loop-turn._turn + 1)) = omega arith in
@@ -91,7 +92,9 @@ loop-turn-preserved c = elim c.if-starts.branch [
         let other : at word.CommentStart src (spaces_end src g.s.at) ≡ false = rw (sp, p) at (sym c.starts.ensures ∙ w.if-starts.false) in
         let is : at word.PIStart src (spaces_end src g.s.at) ≡ true = rw (sp, p) at (sym w.starts-else-starts.ensures ∙ w.if-starts-2.true) in
         let stepped = rw sp at (w.in_ok-instruction.ensures.value limit end (spaced src g.s) seen) in
-        rw (w.cursor-is, w.builder-is) (instruction_on limit end src _ n (length src - (c.loop-turn._turn + 1)) c.loop-turn.cursor _ c.loop-turn.builder _ _ g one other is stepped) } ]
+        rw (w.cursor-is, w.builder-is) (instruction_on limit end src _ n (length src - (c.loop-turn._turn + 1)) c.loop-turn.cursor _ c.loop-turn.builder _ _ g one other is stepped);
+  }
+]
 
 pub returns-clause-value : goal.returns-clause-value
 returns-clause-value c = λ limit end s sees.
