@@ -12,7 +12,7 @@ word_text word.CommentEnd = 45 ∷ 45 ∷ 62 ∷ []
 word_text word.PIStart = 60 ∷ 63 ∷ []
 -- ?>
 word_text word.PIEnd = 63 ∷ 62 ∷ []
--- <?xml
+-- <?xml and a space
 word_text word.DeclarationStart = 60 ∷ 63 ∷ 120 ∷ 109 ∷ 108 ∷ 32 ∷ []
 -- <![CDATA[
 word_text word.CDataStart = 60 ∷ 33 ∷ 91 ∷ 67 ∷ 68 ∷ 65 ∷ 84 ∷ 65 ∷ 91 ∷ []
