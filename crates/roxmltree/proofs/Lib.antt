@@ -11,3 +11,7 @@ pub mod Prefixes
 pub mod Parts
 pub mod Stretches
 pub mod Ranges
+pub mod Everywhere
+pub mod Scopes
+pub mod Nearest
+pub mod OnlyOne

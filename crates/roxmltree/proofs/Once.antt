@@ -26,7 +26,7 @@ both : (p : Option (List ℕ)) (b : List Declaration) (d : Declaration) → is_d
 both p b d x y = list_any-append (λ (d : Declaration). same_prefix d.prefix p) b (d ∷ []) ∙ (ap (λ (z : Bool). z || is_declared p (d ∷ [])) x ∙ y)
 
 -- nor among some of these
-some_none : (p : Option (List ℕ)) (q : Declaration → Bool) (ds : List Declaration) → is_declared p ds ≡ false → is_declared p (filter q ds) ≡ false
+pub some_none : (p : Option (List ℕ)) (q : Declaration → Bool) (ds : List Declaration) → is_declared p ds ≡ false → is_declared p (filter q ds) ≡ false
 some_none p q [] h = h
 some_none p q (d ∷ ds) h =
     let n = neither (same_prefix d.prefix p) (is_declared p ds) h in

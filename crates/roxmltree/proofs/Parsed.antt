@@ -1,11 +1,11 @@
 -- What is read of a text is its tree, and what is refused has none.
-use Rattle.std.proofs.Common.{◌≡◌, ℕ, ◌+◌, ◌≤◌, List, [], length, refl, arith}
+use Rattle.std.proofs.Common.{◌≡◌, ℕ, ◌+◌, ◌≤◌, List, [], length, refl, ap, ◌∙◌, arith}
 use Rattle.std.specs.Prelude.{IsUtf8, Ok, Err}
 use Rattle.rox_grammar.specs.declared.fault.Fault.{Fault}
 use Rattle.rox_grammar.specs.Forest.{Forest, size}
 use Rattle.rox_grammar.specs.Written.{Item}
 use Rattle.rox_grammar.specs.Tree.{Node, document_tree}
-use Rattle.rox_grammar.specs.Document.{IsTreeOf}
+use Rattle.rox_grammar.specs.Document.{ParseOf, IsTreeOf}
 use Rattle.rox_reading.specs.Machine.{reading}
 use Rattle.rox_theory.proofs.Constructs.{agrees}
 use Rattle.rox_theory.proofs.Whole.{read_is_parse, refused_has_none}
@@ -48,3 +48,7 @@ refused_tree limit src f tree utf8 h p = refused_has_none src (agrees src utf8) 
 -- a text has one tree
 pub one_tree : (src : List ℕ) (limit most : ℕ) (s t : Forest Node) → IsUtf8 src → IsTreeOf src limit s → IsTreeOf src most t → s ≡ t
 one_tree src limit most s t utf8 = theory.one_tree src (agrees src utf8) (one_tag src utf8) limit most s t
+
+-- which is that of its one parse
+pub parse_shown : (src : List ℕ) (limit : ℕ) (tree : Forest Node) (tops : Forest Item) → IsUtf8 src → IsTreeOf src limit tree → ParseOf src tops → tree ≡ document_tree (length src) tops
+parse_shown src limit tree tops utf8 h p = h.shown ∙ ap (document_tree (length src)) (theory.one_parse src (agrees src utf8) (one_tag src utf8) h.written tops h.parse p)

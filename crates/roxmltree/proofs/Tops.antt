@@ -54,7 +54,7 @@ none_among d up left b (Cons (PI start end target value) c r) s h e =
     none_among d up (b ∷ left) (b + (1 + size c)) r s.3 h (nearest_after d b (ids (b + (1 + size c)) r) (ap (λ p. says_element p.item) s.0) e)
 
 -- a tree stands in its own preorder list
-whole_sits : (f : Forest Node) → Sits (preorder f) [] [] 0 f
+pub whole_sits : (f : Forest Node) → Sits (preorder f) [] [] 0 f
 unfolding preorder
 whole_sits f =
     sits (places [] [] 0 f) [] [] 0 f (λ k m. let e : 0 + k ≡ k = omega arith in rw e refl) (omega (arith, length-places [] [] 0 f))

@@ -7,6 +7,7 @@ pub mod Flat
 pub mod Doc
 pub mod Whole
 pub mod Lawful
+pub mod Nearest
 pub mod Names
 pub mod Reach
 pub mod Listed

@@ -1,5 +1,5 @@
 -- Names with their namespaces (Namespaces in XML 1.0 section 2.1).
-use Rattle.std.specs.Prelude.{ℕ, Bool, ◌&&◌, List, [], ◌∷◌, Option, Some, None, bytes_eq, if◌then◌else◌}
+use Rattle.std.specs.Prelude.{ℕ, Bool, ◌&&◌, List, [], ◌∷◌, Option, Some, None, IsTrue, IsSomeAnd, bytes_eq, slice_get, if◌then◌else◌}
 use Rattle.std.specs.Option.{option_map, option_eq}
 use Rattle.rox_grammar.specs.declared.fault.Word.TheVariants.{Xml}
 use Rattle.rox_grammar.specs.Words.{word_text}
@@ -19,6 +19,10 @@ same_name a b = bytes_eq a.1 b.1 && option_eq bytes_eq a.0 b.0
 abbrev pub named : Option (List ℕ) × List ℕ → List Attribute → Option Attribute
 named name [] = None
 named name (a ∷ others) = if same_name (a.namespace, a.local) name then Some a else named name others
+
+-- the attribute at this place has this name
+abbrev pub IsNamedAt : Option (List ℕ) × List ℕ → List Attribute → ℕ → Type 0
+IsNamedAt name attributes place = IsSomeAnd (slice_get attributes place) (λ a. IsTrue (same_name (a.namespace, a.local) name))
 
 -- the first attribute with this local name
 abbrev pub named_locally : List ℕ → List Attribute → Option Attribute

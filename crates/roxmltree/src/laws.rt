@@ -1,12 +1,21 @@
 //! Laws of the calls, each a function whose contract is the law.
 
-ghost use Rattle.std.specs.Prelude.{◌≡◌, ℕ, ◌+◌, ◌<◌, ◌≤◌, ◌∷◌, ◌++◌, List, Some, None, IsTrue, length, slice_index, slice_get};
+ghost use Rattle.std.specs.Prelude.{◌≡◌, ◌≢◌, ◌↔◌, ℕ, ◌+◌, ◌<◌, ◌≤◌, ◌∷◌, ◌++◌, List, Some, None, IsTrue, IfSome, IsUtf8, length, slice_index, slice_get};
 ghost use Rattle.std.specs.List.{range_with_len, last_or};
+ghost use Rattle.std.specs.Option.{option_map};
 ghost use Rattle.std.specs.Ordering.{nat_cmp};
-ghost use Rattle.rox_grammar.specs.Forest.{size};
+ghost use Rattle.rox_grammar.specs.Forest.{Forest, size};
+ghost use Rattle.rox_grammar.specs.Written.{Item};
+ghost use Rattle.rox_grammar.specs.Document.{ParseOf, IsTreeOf};
 ghost use Rattle.roxmltree.specs.Places.{place, parent, children, first_child, last_child, next_sibling, prev_sibling};
-ghost use Rattle.roxmltree.specs.Spot.{id_of, document_of};
+ghost use Rattle.roxmltree.specs.Spot.{id_of, document_of, tree_of, item_of};
+ghost use Rattle.roxmltree.specs.Says.{attributes_of};
+ghost use Rattle.roxmltree.specs.Names.{expanded, IsNamedAt};
+ghost use Rattle.roxmltree.specs.Listed.{attribute_of};
+ghost use Rattle.roxmltree.specs.Nearest.{upwards, NoneDeclares, IsNearest, IsElementAt, xml};
 
+use crate::elements::Attribute;
+use crate::names::ExpandedName;
 use crate::nodes::Node;
 use crate::tree::Document;
 use std::cmp::Ordering;
@@ -100,4 +109,54 @@ pub fn order_is_by_document(a: Node<'_, '_>, b: Node<'_, '_>) -> Ordering
     ensures inside { (document_of a.entry).key ≡ (document_of b.entry).key → result ≡ nat_cmp (id_of a.entry) (id_of b.entry) }
 {
     a.cmp(&b)
+}
+
+/// What is true of the document that a node is in.
+fn whole(node: Node<'_, '_>)
+    ensures parsed { IsTreeOf (document_of node.entry).text 4294967295 (tree_of node.entry) }
+    ensures utf8 { IsUtf8 (document_of node.entry).text }
+{
+    node.document().whole();
+}
+
+/// The one attribute of this name: what `attribute_node` answers has the name, and no other attribute has it.
+pub fn the_only_attribute<'a, 'input>(
+    node: Node<'a, 'input>,
+    name: ExpandedName<'_, '_>,
+) -> Option<Attribute<'a, 'input>>
+    ensures named { IfSome result (λ a. (i : ℕ) × IsNamedAt (expanded name.entry) (attributes_of (item_of node.entry)) i × (slice_get (attributes_of (item_of node.entry)) i ≡ Some (attribute_of a))) }
+    ensures only { (i : ℕ) → IsNamedAt (expanded name.entry) (attributes_of (item_of node.entry)) i → slice_get (attributes_of (item_of node.entry)) i ≡ option_map attribute_of result }
+{
+    whole(node);
+    node.attribute_node(name)
+}
+
+/// The same of the calls themselves: of all attributes one has the name if `has_attribute` says so, and else none.
+pub fn one_attribute_or_none(node: Node<'_, '_>, name: ExpandedName<'_, '_>) -> bool
+    ensures { IsTrue result }
+{
+    whole(node);
+    let mut count: usize = 0;
+    for attribute in node.attributes() {
+        if attribute.has_name(&name) {
+            count += 1;
+        }
+    }
+    if node.has_attribute(name) {
+        count == 1
+    } else {
+        count == 0
+    }
+}
+
+/// What `lookup_namespace_uri` answers on an element is the URI of the nearest declaration in the text as written, by the
+/// element itself or by one above it. It answers None where none of them declares the prefix, for `xml`, and on other nodes.
+pub fn the_nearest_declaration<'a>(node: Node<'a, '_>, prefix: Option<&str>) -> Option<&'a str>
+    ensures found { (tops : Forest Item) → ParseOf (document_of node.entry).text tops → (uri : List ℕ) → IsElementAt (tree_of node.entry) (id_of node.entry) → option_map (λ s. s.now) prefix.entry ≢ xml → (option_map (λ s. s.now) result ≡ Some uri) ↔ IsNearest tops (tree_of node.entry) (id_of node.entry) (option_map (λ s. s.now) prefix.entry) uri }
+    ensures none { (tops : Forest Item) → ParseOf (document_of node.entry).text tops → IsElementAt (tree_of node.entry) (id_of node.entry) → option_map (λ s. s.now) prefix.entry ≢ xml → (option_map (λ s. s.now) result ≡ None) ↔ NoneDeclares tops (option_map (λ s. s.now) prefix.entry) (upwards (tree_of node.entry) (id_of node.entry)) }
+    ensures never_xml { option_map (λ s. s.now) prefix.entry ≡ xml → option_map (λ s. s.now) result ≡ None }
+    ensures others { ¬ IsElementAt (tree_of node.entry) (id_of node.entry) → option_map (λ s. s.now) result ≡ None }
+{
+    whole(node);
+    node.lookup_namespace_uri(prefix)
 }
