@@ -11,3 +11,5 @@ pub mod Prefixes
 pub mod Parts
 pub mod Stretches
 pub mod Ranges
+pub mod CharTexts
+pub mod CharRuns
