@@ -13,3 +13,5 @@ pub mod Stretches
 pub mod Ranges
 pub mod CharTexts
 pub mod CharRuns
+pub mod CharItems
+pub mod CharNodes

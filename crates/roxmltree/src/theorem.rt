@@ -4,7 +4,7 @@ ghost use Rattle.std.specs.Prelude.{◌≡◌, ℕ, List, IsUtf8};
 ghost use Rattle.rox_grammar.specs.Forest.{Forest};
 ghost use Rattle.rox_grammar.specs.Tree as grammar;
 ghost use Rattle.rox_grammar.specs.Document.{IsTreeOf};
-ghost use Rattle.roxmltree.specs.Lawful.{TextsApart, NamesDistinct};
+ghost use Rattle.roxmltree.specs.Lawful.{TextsApart, NamesDistinct, AllChars};
 
 use crate::tree::Document;
 
@@ -39,6 +39,14 @@ pub fn texts_are_apart(document: &Document<'_>)
 /// sections 5 and 6.3).
 pub fn names_are_distinct(document: &Document<'_>)
     ensures { NamesDistinct document.now.tree }
+{
+    document.whole();
+}
+
+/// Each name, prefix, namespace, attribute value, text, comment and processing instruction of a document is a text in
+/// UTF-8 whose characters are all Chars (XML 1.0 section 2.2).
+pub fn characters_are_chars(document: &Document<'_>)
+    ensures { AllChars document.now.tree }
 {
     document.whole();
 }
