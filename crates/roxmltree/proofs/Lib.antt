@@ -11,3 +11,6 @@ pub mod Prefixes
 pub mod Parts
 pub mod Stretches
 pub mod Ranges
+pub mod Forward
+pub mod Nested
+pub mod RangeSteps

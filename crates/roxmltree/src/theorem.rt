@@ -1,10 +1,13 @@
 //! What users of a document rest on, each a function whose contract is the law.
 
-ghost use Rattle.std.specs.Prelude.{◌≡◌, ℕ, List, IsUtf8};
-ghost use Rattle.rox_grammar.specs.Forest.{Forest};
+ghost use Rattle.std.specs.Prelude.{◌≡◌, ℕ, ◌<◌, ◌≤◌, List, Some, IsUtf8, length};
+ghost use Rattle.rox_grammar.specs.Forest.{Forest, size};
 ghost use Rattle.rox_grammar.specs.Tree as grammar;
 ghost use Rattle.rox_grammar.specs.Document.{IsTreeOf};
 ghost use Rattle.roxmltree.specs.Lawful.{TextsApart, NamesDistinct};
+ghost use Rattle.roxmltree.specs.Located.{RangesNested};
+ghost use Rattle.roxmltree.specs.Places.{parent, next_sibling};
+ghost use Rattle.roxmltree.specs.Says.{node_at, start_of, end_of};
 
 use crate::tree::Document;
 
@@ -39,6 +42,16 @@ pub fn texts_are_apart(document: &Document<'_>)
 /// sections 5 and 6.3).
 pub fn names_are_distinct(document: &Document<'_>)
     ensures { NamesDistinct document.now.tree }
+{
+    document.whole();
+}
+
+/// A node's range lies in its parent's, and those of siblings are in order and disjoint: each ends where the next starts, or
+/// before. A text that was merged has the range of its first piece.
+pub fn ranges_are_nested(document: &Document<'_>)
+    ensures nested { RangesNested 0 (length document.now.text) document.now.tree }
+    ensures in_parent { (i q : ℕ) → i < size document.now.tree → parent document.now.tree i ≡ Some q → (start_of (node_at document.now.tree q) ≤ start_of (node_at document.now.tree i)) × (end_of (node_at document.now.tree i) ≤ end_of (node_at document.now.tree q)) }
+    ensures before_next { (i j : ℕ) → i < size document.now.tree → next_sibling document.now.tree i ≡ Some j → end_of (node_at document.now.tree i) ≤ start_of (node_at document.now.tree j) }
 {
     document.whole();
 }
