@@ -14,3 +14,5 @@ pub mod Ranges
 pub mod Forward
 pub mod Nested
 pub mod RangeSteps
+pub mod Each
+pub mod Selected

@@ -5,7 +5,7 @@ ghost use Rattle.rox_grammar.specs.Forest.{Forest, size};
 ghost use Rattle.rox_grammar.specs.Tree as grammar;
 ghost use Rattle.rox_grammar.specs.Document.{IsTreeOf};
 ghost use Rattle.roxmltree.specs.Lawful.{TextsApart, NamesDistinct};
-ghost use Rattle.roxmltree.specs.Located.{RangesNested};
+ghost use Rattle.roxmltree.specs.Located.{RangesNested, AttributesInOrder, AttributesWritten, RangesSelect};
 ghost use Rattle.roxmltree.specs.Places.{parent, next_sibling};
 ghost use Rattle.roxmltree.specs.Says.{node_at, start_of, end_of};
 
@@ -52,6 +52,16 @@ pub fn ranges_are_nested(document: &Document<'_>)
     ensures nested { RangesNested 0 (length document.now.text) document.now.tree }
     ensures in_parent { (i q : ℕ) → i < size document.now.tree → parent document.now.tree i ≡ Some q → (start_of (node_at document.now.tree q) ≤ start_of (node_at document.now.tree i)) × (end_of (node_at document.now.tree i) ≤ end_of (node_at document.now.tree q)) }
     ensures before_next { (i j : ℕ) → i < size document.now.tree → next_sibling document.now.tree i ≡ Some j → end_of (node_at document.now.tree i) ≤ start_of (node_at document.now.tree j) }
+{
+    document.whole();
+}
+
+/// The ranges of an attribute select its name as it is written and the raw value between its quotes (XML 1.0 section 3.1).
+/// Attributes are in order within their element.
+pub fn attributes_are_written(document: &Document<'_>)
+    ensures selected { RangesSelect document.now.text document.now.tree }
+    ensures grammar { AttributesWritten document.now.text document.now.tree }
+    ensures ordered { AttributesInOrder document.now.tree }
 {
     document.whole();
 }
