@@ -16,3 +16,4 @@ pub mod Nested
 pub mod RangeSteps
 pub mod Each
 pub mod Selected
+pub mod Sections

@@ -9,6 +9,7 @@ pub mod Whole
 pub mod Lawful
 pub mod Each
 pub mod Located
+pub mod Sections
 pub mod Names
 pub mod Reach
 pub mod Listed

@@ -6,6 +6,7 @@ ghost use Rattle.rox_grammar.specs.Tree as grammar;
 ghost use Rattle.rox_grammar.specs.Document.{IsTreeOf};
 ghost use Rattle.roxmltree.specs.Lawful.{TextsApart, NamesDistinct};
 ghost use Rattle.roxmltree.specs.Located.{RangesNested, AttributesInOrder, AttributesWritten, RangesSelect};
+ghost use Rattle.roxmltree.specs.Sections.{EmptyTextsAreSections};
 ghost use Rattle.roxmltree.specs.Places.{parent, next_sibling};
 ghost use Rattle.roxmltree.specs.Says.{node_at, start_of, end_of};
 
@@ -42,6 +43,14 @@ pub fn texts_are_apart(document: &Document<'_>)
 /// sections 5 and 6.3).
 pub fn names_are_distinct(document: &Document<'_>)
     ensures { NamesDistinct document.now.tree }
+{
+    document.whole();
+}
+
+/// A text is empty only where all its pieces are empty CDATA sections: from its start on such sections stand, one at least,
+/// and then markup that is none.
+pub fn empty_texts_are_sections(document: &Document<'_>)
+    ensures { EmptyTextsAreSections document.now.text document.now.tree }
 {
     document.whole();
 }
