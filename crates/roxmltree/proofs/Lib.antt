@@ -15,3 +15,9 @@ pub mod CharTexts
 pub mod CharRuns
 pub mod CharItems
 pub mod CharNodes
+pub mod Forward
+pub mod Nested
+pub mod RangeSteps
+pub mod Each
+pub mod Selected
+pub mod Sections

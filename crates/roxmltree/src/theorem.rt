@@ -1,10 +1,14 @@
 //! What users of a document rest on, each a function whose contract is the law.
 
-ghost use Rattle.std.specs.Prelude.{◌≡◌, ℕ, List, IsUtf8};
-ghost use Rattle.rox_grammar.specs.Forest.{Forest};
+ghost use Rattle.std.specs.Prelude.{◌≡◌, ℕ, ◌<◌, ◌≤◌, List, Some, IsUtf8, length};
+ghost use Rattle.rox_grammar.specs.Forest.{Forest, size};
 ghost use Rattle.rox_grammar.specs.Tree as grammar;
 ghost use Rattle.rox_grammar.specs.Document.{IsTreeOf};
 ghost use Rattle.roxmltree.specs.Lawful.{TextsApart, NamesDistinct, AllChars};
+ghost use Rattle.roxmltree.specs.Located.{RangesNested, AttributesInOrder, AttributesWritten, RangesSelect};
+ghost use Rattle.roxmltree.specs.Sections.{EmptyTextsAreSections};
+ghost use Rattle.roxmltree.specs.Places.{parent, next_sibling};
+ghost use Rattle.roxmltree.specs.Says.{node_at, start_of, end_of};
 
 use crate::tree::Document;
 
@@ -47,6 +51,34 @@ pub fn names_are_distinct(document: &Document<'_>)
 /// UTF-8 whose characters are all Chars (XML 1.0 section 2.2).
 pub fn characters_are_chars(document: &Document<'_>)
     ensures { AllChars document.now.tree }
+{
+    document.whole();
+}
+
+/// A text is empty only where all its pieces are empty CDATA sections: from its start on such sections stand, one at least,
+/// and then markup that is none.
+pub fn empty_texts_are_sections(document: &Document<'_>)
+    ensures { EmptyTextsAreSections document.now.text document.now.tree }
+{
+    document.whole();
+}
+
+/// A node's range lies in its parent's, and those of siblings are in order and disjoint: each ends where the next starts, or
+/// before. A text that was merged has the range of its first piece.
+pub fn ranges_are_nested(document: &Document<'_>)
+    ensures nested { RangesNested 0 (length document.now.text) document.now.tree }
+    ensures in_parent { (i q : ℕ) → i < size document.now.tree → parent document.now.tree i ≡ Some q → (start_of (node_at document.now.tree q) ≤ start_of (node_at document.now.tree i)) × (end_of (node_at document.now.tree i) ≤ end_of (node_at document.now.tree q)) }
+    ensures before_next { (i j : ℕ) → i < size document.now.tree → next_sibling document.now.tree i ≡ Some j → end_of (node_at document.now.tree i) ≤ start_of (node_at document.now.tree j) }
+{
+    document.whole();
+}
+
+/// The ranges of an attribute select its name as it is written and the raw value between its quotes (XML 1.0 section 3.1).
+/// Attributes are in order within their element.
+pub fn attributes_are_written(document: &Document<'_>)
+    ensures selected { RangesSelect document.now.text document.now.tree }
+    ensures grammar { AttributesWritten document.now.text document.now.tree }
+    ensures ordered { AttributesInOrder document.now.tree }
 {
     document.whole();
 }
