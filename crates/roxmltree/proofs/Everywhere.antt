@@ -8,13 +8,9 @@ use Rattle.rox_grammar.specs.Forest.{Forest, Nil, Cons, size}
 use Rattle.rox_grammar.specs.Tree.{Node, Root}
 use Rattle.roxmltree.specs.Places.{Place, place_at, places, nowhere, preorder, place}
 use Rattle.roxmltree.specs.Says.{node_at}
+use Rattle.roxmltree.specs.Each.{Each}
 
--- it is true of each node, at any depth
-abbrev pub AllNodes : (Node → Type 0) → Forest Node → Type 0
-AllNodes P Nil = Unit {0}
-AllNodes P (Cons node children rest) = P node × AllNodes P children × AllNodes P rest
-
-all_places : (P : Node → Type 0) (up left : List ℕ) (b : ℕ) (f : Forest Node) → AllNodes P f → All (λ (p : Place). P p.item) (places up left b f)
+all_places : (P : Node → Type 0) (up left : List ℕ) (b : ℕ) (f : Forest Node) → Each P f → All (λ (p : Place). P p.item) (places up left b f)
 all_places P up left b Nil h = All-nil (λ (p : Place). P p.item)
 all_places P up left b (Cons x c r) h =
     All-cons (λ (p : Place). P p.item) (place_at up left b x c r) (places (b ∷ up) [] (b + 1) c ++ places up (b ∷ left) (b + (1 + size c)) r) h.0
@@ -22,7 +18,7 @@ all_places P up left b (Cons x c r) h =
     (all_places P (b ∷ up) [] (b + 1) c h.1) (all_places P up (b ∷ left) (b + (1 + size c)) r h.2))
 
 -- an id that no node has stands for a root node
-pub at_each : (P : Node → Type 0) (f : Forest Node) → AllNodes P f → P (Root 0) → (id : ℕ) → P (node_at f id)
+pub at_each : (P : Node → Type 0) (f : Forest Node) → Each P f → P (Root 0) → (id : ℕ) → P (node_at f id)
 unfolding place preorder
 at_each P f h none id =
     ⊎_elim

@@ -11,6 +11,16 @@ pub mod Prefixes
 pub mod Parts
 pub mod Stretches
 pub mod Ranges
+pub mod CharTexts
+pub mod CharRuns
+pub mod CharItems
+pub mod CharNodes
+pub mod Forward
+pub mod Nested
+pub mod RangeSteps
+pub mod Each
+pub mod Selected
+pub mod Sections
 pub mod Everywhere
 pub mod Scopes
 pub mod Nearest

@@ -16,7 +16,8 @@ use Rattle.roxmltree.specs.Says.{says_element, listed_of}
 use Rattle.roxmltree.specs.Nearest.{declared_at, declared_in, upwards, NoneDeclares, IsNearest, IsElementAt, xml, listed_uri}
 use Rattle.roxmltree.proofs.Preorder.{at, Sits, length-preorder}
 use Rattle.roxmltree.proofs.Tops.{whole_sits}
-use Rattle.roxmltree.proofs.Everywhere.{AllNodes, at_each}
+use Rattle.roxmltree.specs.Each.{Each}
+use Rattle.roxmltree.proofs.Everywhere.{at_each}
 use Rattle.roxmltree.proofs.Scopes.{undeclared, declared, declared_if_some, says_declared, declared_says, item_declares, nearest, Agree, agree_more, HasNoXml, scope_no_xml}
 
 -- ---- what is declared at each id
@@ -199,7 +200,7 @@ node_no_xml scope (Text start end value borrowed) h = refl
 node_no_xml scope (Comment start end text) h = refl
 node_no_xml scope (PI start end target value) h = refl
 
-all_no_xml : (above : List Declaration) (f : Forest Item) → HasNoXml above → AllNodes (λ node. HasNoXml (listed_of node)) (resolved above f)
+all_no_xml : (above : List Declaration) (f : Forest Item) → HasNoXml above → Each (λ node. HasNoXml (listed_of node)) (resolved above f)
 all_no_xml above Nil h = tt
 all_no_xml above (Cons item c r) h =
     let inner = scope_no_xml above item h in

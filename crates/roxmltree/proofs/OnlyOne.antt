@@ -12,7 +12,8 @@ use Rattle.roxmltree.specs.Names.{same_name, named, IsNamedAt}
 use Rattle.roxmltree.specs.Lawful.{PrefixesOnce, same_expanded, NamesOnce, NamesDistinct}
 use Rattle.roxmltree.proofs.Prefixes.{option_eq_same}
 use Rattle.rox_build.proofs.Pairs.{same_prefix-true, same_prefix-refl}
-use Rattle.roxmltree.proofs.Everywhere.{AllNodes, at_each}
+use Rattle.roxmltree.specs.Each.{Each}
+use Rattle.roxmltree.proofs.Everywhere.{at_each}
 
 -- two attributes of one name have one expanded name
 both_named : (name : Option (List ℕ) × List ℕ) (a b : Attribute) → same_name (a.namespace, a.local) name ≡ true → same_name (b.namespace, b.local) name ≡ true → same_expanded a b ≡ true
@@ -66,7 +67,7 @@ one_place name before (a ∷ as') (suc i) (suc j) h m n = ap suc (one_place name
 abbrev Distinct : Node → Type 0
 Distinct node = PrefixesOnce [] (listed_of node) × NamesOnce [] (attributes_of node)
 
-all_distinct : (f : Forest Node) → NamesDistinct f → AllNodes Distinct f
+all_distinct : (f : Forest Node) → NamesDistinct f → Each Distinct f
 all_distinct Nil h = tt
 all_distinct (Cons node c r) h = (h.0, all_distinct c h.1, all_distinct r h.2)
 

@@ -1,9 +1,10 @@
 -- What is true of the tree of every document.
-use Rattle.std.specs.Prelude.{◌≡◌, Bool, false, ◌&&◌, List, [], ◌∷◌, ◌++◌, bytes_eq}
-use Rattle.std.specs.List.{list_any}
+use Rattle.std.specs.Prelude.{◌≡◌, ℕ, Bool, true, false, ◌&&◌, List, [], ◌∷◌, ◌++◌, bytes_eq, All, IfSome, IsUtf8, chars}
+use Rattle.std.specs.List.{list_any, list_all}
+use Rattle.rox_grammar.specs.Chars.{is_char}
 use Rattle.rox_grammar.specs.Forest.{Forest, Nil, Cons}
 use Rattle.rox_grammar.specs.Written.{Declaration}
-use Rattle.rox_grammar.specs.Tree.{Node, Attribute, same_prefix, is_declared}
+use Rattle.rox_grammar.specs.Tree.{Node, Attribute, Root, Element, Text, Comment, PI, same_prefix, is_declared}
 use Rattle.roxmltree.specs.Says.{says_text, listed_of, attributes_of}
 
 abbrev pub begins_with_text : Forest Node → Bool
@@ -34,3 +35,33 @@ abbrev pub NamesDistinct : Forest Node → Type 0
 NamesDistinct Nil = Unit {0}
 NamesDistinct (Cons node children rest) =
     (PrefixesOnce [] (listed_of node) × NamesOnce [] (attributes_of node)) × NamesDistinct children × NamesDistinct rest
+
+-- XML 2.2 [2]: a text in UTF-8, which has no surrogates, and each of its characters is a Char
+pub record IsCharText (bytes : List ℕ) : Type 0 where
+  pub utf8 : IsUtf8 bytes
+  pub all : list_all is_char (chars bytes) ≡ true
+
+-- so are a prefix, if there is one, and the URI that it stands for
+pub record DeclarationChars (d : Declaration) : Type 0 where
+  pub prefix : IfSome d.prefix IsCharText
+  pub uri : IsCharText d.uri
+
+-- and the namespace of an attribute, if it has one, its local name and its value
+pub record AttributeChars (a : Attribute) : Type 0 where
+  pub namespace : IfSome a.namespace IsCharText
+  pub local : IsCharText a.local
+  pub value : IsCharText a.value
+
+-- and all that a node says
+abbrev pub NodeChars : Node → Type 0
+NodeChars (Root end) = Unit {0}
+NodeChars (Element start end namespace local listed attributes) =
+    IfSome namespace IsCharText × IsCharText local × All DeclarationChars listed × All AttributeChars attributes
+NodeChars (Text start end value borrowed) = IsCharText value
+NodeChars (Comment start end text) = IsCharText text
+NodeChars (PI start end target value) = IsCharText target × IfSome value IsCharText
+
+-- and all that these nodes say, at any depth
+abbrev pub AllChars : Forest Node → Type 0
+AllChars Nil = Unit {0}
+AllChars (Cons node children rest) = NodeChars node × AllChars children × AllChars rest

@@ -7,6 +7,9 @@ pub mod Flat
 pub mod Doc
 pub mod Whole
 pub mod Lawful
+pub mod Each
+pub mod Located
+pub mod Sections
 pub mod Nearest
 pub mod Names
 pub mod Reach

@@ -1,13 +1,16 @@
 //! What users of a document rest on, each a function whose contract is the law.
 
-ghost use Rattle.std.specs.Prelude.{◌≡◌, ◌≢◌, ◌↔◌, ℕ, List, Option, IsUtf8, length};
-ghost use Rattle.rox_grammar.specs.Forest.{Forest};
+ghost use Rattle.std.specs.Prelude.{◌≡◌, ◌≢◌, ◌↔◌, ℕ, ◌<◌, ◌≤◌, List, Option, Some, None, IsUtf8, length};
+ghost use Rattle.rox_grammar.specs.Forest.{Forest, size};
 ghost use Rattle.rox_grammar.specs.Written.{Item};
 ghost use Rattle.rox_grammar.specs.Tree as grammar;
 ghost use Rattle.rox_grammar.specs.Tree.{document_tree};
 ghost use Rattle.rox_grammar.specs.Document.{ParseOf, IsTreeOf};
-ghost use Rattle.roxmltree.specs.Lawful.{TextsApart, NamesDistinct};
-ghost use Rattle.roxmltree.specs.Says.{node_at, attributes_of};
+ghost use Rattle.roxmltree.specs.Lawful.{TextsApart, NamesDistinct, AllChars};
+ghost use Rattle.roxmltree.specs.Located.{RangesNested, AttributesInOrder, AttributesWritten, RangesSelect};
+ghost use Rattle.roxmltree.specs.Sections.{EmptyTextsAreSections};
+ghost use Rattle.roxmltree.specs.Places.{parent, next_sibling};
+ghost use Rattle.roxmltree.specs.Says.{node_at, start_of, end_of, attributes_of};
 ghost use Rattle.roxmltree.specs.Names.{IsNamedAt};
 ghost use Rattle.roxmltree.specs.Nearest.{upwards, NoneDeclares, IsNearest, IsElementAt, xml, listed_uri};
 
@@ -64,6 +67,42 @@ pub fn nearest_declaration_is_listed(document: &Document<'_>)
     ensures none { (tops : Forest Item) → ParseOf document.now.text tops → (id : ℕ) (prefix : Option (List ℕ)) → IsElementAt document.now.tree id → prefix ≢ xml → (listed_uri document.now.tree id prefix ≡ None) ↔ NoneDeclares tops prefix (upwards document.now.tree id) }
     ensures never_xml { (id : ℕ) → listed_uri document.now.tree id xml ≡ None }
     ensures others { (id : ℕ) (prefix : Option (List ℕ)) → ¬ IsElementAt document.now.tree id → listed_uri document.now.tree id prefix ≡ None }
+{
+    document.whole();
+}
+
+/// Each name, prefix, namespace, attribute value, text, comment and processing instruction of a document is a text in
+/// UTF-8 whose characters are all Chars (XML 1.0 section 2.2).
+pub fn characters_are_chars(document: &Document<'_>)
+    ensures { AllChars document.now.tree }
+{
+    document.whole();
+}
+
+/// A text is empty only where all its pieces are empty CDATA sections: from its start on such sections stand, one at least,
+/// and then markup that is none.
+pub fn empty_texts_are_sections(document: &Document<'_>)
+    ensures { EmptyTextsAreSections document.now.text document.now.tree }
+{
+    document.whole();
+}
+
+/// A node's range lies in its parent's, and those of siblings are in order and disjoint: each ends where the next starts, or
+/// before. A text that was merged has the range of its first piece.
+pub fn ranges_are_nested(document: &Document<'_>)
+    ensures nested { RangesNested 0 (length document.now.text) document.now.tree }
+    ensures in_parent { (i q : ℕ) → i < size document.now.tree → parent document.now.tree i ≡ Some q → (start_of (node_at document.now.tree q) ≤ start_of (node_at document.now.tree i)) × (end_of (node_at document.now.tree i) ≤ end_of (node_at document.now.tree q)) }
+    ensures before_next { (i j : ℕ) → i < size document.now.tree → next_sibling document.now.tree i ≡ Some j → end_of (node_at document.now.tree i) ≤ start_of (node_at document.now.tree j) }
+{
+    document.whole();
+}
+
+/// The ranges of an attribute select its name as it is written and the raw value between its quotes (XML 1.0 section 3.1).
+/// Attributes are in order within their element.
+pub fn attributes_are_written(document: &Document<'_>)
+    ensures selected { RangesSelect document.now.text document.now.tree }
+    ensures grammar { AttributesWritten document.now.text document.now.tree }
+    ensures ordered { AttributesInOrder document.now.tree }
 {
     document.whole();
 }

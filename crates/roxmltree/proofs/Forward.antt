@@ -1,0 +1,68 @@
+-- Each construct ends behind the place where it begins.
+use Rattle.std.proofs.Common.{ℕ, ◌+◌, ◌<◌, ◌≤◌, Bool, true, List, arith}
+use Rattle.rox_grammar.specs.declared.fault.Word.TheVariants as word
+use Rattle.rox_grammar.specs.Words.{word_text}
+use Rattle.rox_grammar.specs.Chars.{is_space, is_name_char}
+use Rattle.rox_grammar.specs.Written.{Name, Attribute, Tag, Item}
+use Rattle.rox_grammar.specs.Names.{spaces_end}
+use Rattle.rox_grammar.specs.Constructs.{IsCData, IsEnd}
+use Rattle.rox_grammar.specs.Content.{IsAttribute, Attributes, no_more, one_more, TagEnds, opened, closed, IsTag, IsMisc, comment, instruction}
+use Rattle.rox_grammar.specs.Document.{no_entities}
+use Rattle.rox_theory.proofs.Basics.{mark_from_le, run_end_le}
+use Rattle.rox_theory.proofs.NameLemmas.{qname_le}
+use Rattle.rox_theory.proofs.LiteralLemmas.{literal_le}
+
+-- a comment or an instruction
+pub misc_forward : (src : List ℕ) (i j : ℕ) (item : Item) → IsMisc src i j item → i < j
+misc_forward src i j item (comment _ e _ is) =
+    omega (arith, is.end, is.next, mark_from_le (word_text word.CommentEnd) src (i + 4))
+misc_forward src i j item (instruction _ n e _ is) =
+    omega (
+      arith,
+      is.target.longest,
+      is.end,
+      is.next,
+      run_end_le is_name_char src (i + 2),
+      run_end_le is_space src n,
+      mark_from_le (word_text word.PIEnd) src (spaces_end src n),
+    )
+
+-- a section
+pub cdata_forward : (src : List ℕ) (i e j : ℕ) → IsCData src i e j → i < j
+cdata_forward src i e j is = omega (arith, is.end, is.next, mark_from_le (word_text word.CDataEnd) src (i + 9))
+
+-- an end tag
+pub end_forward : (src : List ℕ) (i : ℕ) (name : Name) (n j : ℕ) → IsEnd src i name n j → i < j
+end_forward src i name n j is = omega (arith, is.next, qname_le src (i + 2) name n is.is_name, run_end_le is_space src n)
+
+-- an attribute, and attributes in a row
+pub attribute_forward : (src : List ℕ) (i j b c : ℕ) (a : Attribute) → IsAttribute true no_entities src i j b c a → i < j
+attribute_forward src i j b c a is =
+    omega (
+      arith,
+      qname_le src i a.name a.name_end is.is_name,
+      is.eq.next,
+      run_end_le is_space src a.name_end,
+      run_end_le is_space src (spaces_end src a.name_end + 1),
+      literal_le src is.v is.e j is.literal,
+      is.literal.next,
+    )
+
+pub attributes_forward : (src : List ℕ) (i j b c : ℕ) (as' : List Attribute) → Attributes true no_entities src i j b c as' → i ≤ j
+attributes_forward src i j b c as' (no_more _ _) = omega arith
+attributes_forward src i j b c as' (one_more _ k _ _ d _ a rest some first more) =
+    omega (arith, attribute_forward src (spaces_end src i) k b d a first, attributes_forward src k j d c rest more)
+
+pub ends_forward : (src : List ℕ) (i j : ℕ) (empty : Bool) → TagEnds src i empty j → i < j
+ends_forward src i j empty (opened _ greater) = omega (arith, run_end_le is_space src i)
+ends_forward src i j empty (closed _ slash greater) = omega (arith, run_end_le is_space src i)
+
+-- a start tag
+pub tag_forward : (src : List ℕ) (i j b c : ℕ) (empty : Bool) (t : Tag) → IsTag true no_entities src i j b c empty t → i < j
+tag_forward src i j b c empty t is =
+    omega (
+      arith,
+      qname_le src (i + 1) t.name t.name_end is.is_name,
+      attributes_forward src t.name_end is.last b c is.written is.attributes,
+      ends_forward src is.last j empty is.ends,
+    )
