@@ -174,7 +174,7 @@ impl<'input> Builder<'input> {
     }
 
     /// The only fault is that one more node would be too many.
-    #[inline]
+    #[inline(always)]
     fn room(&self) -> Result<(), Failure>
         ensures ok { OnOk result (vec_len self.now.nodes + waiting self.now.pending < self.now.nodes_limit) }
         ensures few { OnOk result (vec_len self.now.nodes + waiting self.now.pending + 1 < 2 ^ 32) }
@@ -187,7 +187,7 @@ impl<'input> Builder<'input> {
     }
 
     /// A row without rows below it, behind those that there are.
-    #[inline]
+    #[inline(always)]
     fn row(&self, start: usize, end: usize, kind: NodeKind<'input>) -> NodeData<'input>
         requires { vec_len self.now.nodes + 1 < 2 ^ 32 }
         ensures { result ≡ record {
@@ -210,7 +210,7 @@ impl<'input> Builder<'input> {
     }
 
     /// Writes the text that may go on.
-    #[inline]
+    #[inline(always)]
     fn flush(&mut self, alloc: Global) -> Result<(), Failure>
         ensures ok { OnOk result ((end : ℕ) (stack : Open) (done : Forest Item) → Shows end stack done self.old → Settled end stack done self.new) }
         ensures empty { OnOk result (waiting self.new.pending ≡ 0) }
@@ -237,6 +237,7 @@ impl<'input> Builder<'input> {
     }
 
     /// A node that is no text and has no nodes below it. The only fault is that there are too many nodes.
+    #[inline(always)]
     pub fn leaf(
         &mut self,
         alloc: Global,
@@ -258,6 +259,7 @@ impl<'input> Builder<'input> {
     }
 
     /// A piece of text that is a slice of the source. The only fault is that there are too many nodes.
+    #[inline(always)]
     pub fn slice_piece(
         &mut self,
         start: usize,
@@ -313,7 +315,7 @@ impl<'input> Builder<'input> {
 
     /// A piece of text: a slice of the source where it is one, else what the buffer for values holds. The only fault is that
     /// there are too many nodes.
-    #[inline]
+    #[inline(always)]
     pub fn piece(&mut self, start: usize, end: usize, piece: Piece<'input>) -> Result<(), Failure>
         ensures value { (total at : ℕ) (s : State) → Shows total s.stack s.done self.old
             → let text = piece_view piece.entry (string_bytes self.old.buffers.scratch) in
@@ -329,6 +331,7 @@ impl<'input> Builder<'input> {
     }
 
     /// An element opens at `start`. The only fault is that there are too many nodes.
+    #[inline(always)]
     pub fn open_element(
         &mut self,
         alloc: Global,
@@ -362,6 +365,7 @@ impl<'input> Builder<'input> {
     }
 
     /// The innermost open element ends. The only error is want of memory.
+    #[inline(always)]
     pub fn close(&mut self, alloc: Global, end: usize) -> Result<(), Failure>
         ensures ok { OnOk result ((total start : ℕ) (t : Tag) (before : Forest Item) (up : Open) (done : Forest Item) → Shows total (inside start t before up) done self.old
             → Shows total up (join before (Cons (Element start end t) (merge done) Nil)) self.new) }

@@ -114,7 +114,8 @@ fn character_data<'input>(
 {
     let start = cursor.pos;
     let piece = run(cursor, &mut builder.buffers.scratch)?;
-    builder.piece(start, cursor.pos, piece)
+    builder.piece(start, cursor.pos, piece)?;
+    Ok(())
 }
 
 /// The fault of a start tag that is cut off by the end of the text.
@@ -154,10 +155,11 @@ fn element<'input>(
         cut,
     )?;
     if tag.empty {
-        builder.leaf(alloc, start, cursor.pos, NodeKind::Element(tag.element))
+        builder.leaf(alloc, start, cursor.pos, NodeKind::Element(tag.element))?;
     } else {
-        builder.open_element(alloc, start, &tag)
+        builder.open_element(alloc, start, &tag)?;
     }
+    Ok(())
 }
 
 /// Where the local part of a name stands that ends at `end`.

@@ -18,7 +18,8 @@ use rox_scan::cursor::Cursor;
 use rox_scan::failure::Failure;
 use rox_scan::marks::{before_byte, before_either, byte_from, either_from, has_mark};
 use rox_scan::markup::RawAttribute;
-use rox_scan::runs::{TextByte, after_byte, is_at, near_end};
+use rox_scan::near::{TextByte, ValueByte, near_end};
+use rox_scan::runs::{after_byte, is_at};
 use std::alloc::AllocError;
 
 /// A text: a slice of the source, or what the caller's buffer holds.
@@ -141,14 +142,15 @@ fn before_special(bytes: &[u8]) -> usize
 }
 
 /// The first place from `at` on of a special byte of a value, or the end.
-#[tactic(auto, unfolding(rox_grammar::specs::Marks::byte_from))]
+#[tactic(auto, using(rox_scan::proofs::NearLemmas::special_goes_on), unfolding(rox_grammar::specs::Marks::byte_from))]
 fn special_from(text: &str, at: usize) -> usize
     requires { IsCharBoundary text.now at }
     ensures place { result ≡ byte_from spec.is_special text.now at }
     ensures onward { at ≤ result }
     ensures cut { IsCharBoundary text.now result }
 {
-    at + before_special(text[at..].as_bytes())
+    let near = near_end::<ValueByte>(text, at);
+    near + before_special(text[near..].as_bytes())
 }
 
 /// Appends a space for the white space byte that stands here, and nothing for a CR right before a LF.

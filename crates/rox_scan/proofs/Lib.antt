@@ -1,3 +1,4 @@
+pub mod LaneLemmas
 pub mod MarkLemmas
 pub mod NearLemmas
 pub mod PlainLemmas

@@ -1,13 +1,13 @@
 -- What a look at a short text tells of it.
-use Rattle.std.proofs.Common.{◌≡◌, ℕ, zero, suc, ◌+◌, ◌-◌, ◌<◌, ◌≤◌, ◌==◌, ◌||◌, Bool, true, false, not, List, Ok, length, get_or, take, drop, slice_range, refl, sym, ap, ◌∙◌, arith, inl, inr, get_or-drop, length-drop}
+use Rattle.std.proofs.Common.{◌≡◌, ℕ, zero, suc, ◌+◌, ◌-◌, ◌<◌, ◌≤◌, ◌==◌, ◌||◌, Bool, true, false, not, List, Ok, length, get_or, take, drop, slice_range, refl, sym, ap, subst, ◌∙◌, arith, inl, inr, get_or-drop, length-drop}
 use Rattle.std.specs.List.{list_any}
 use Rattle.std.specs.Str.{IsUtf8, IsCharBoundary}
-use Rattle.std.proofs.lemmas.Bool.{cases_lt, eqb-true, le-ltb, lt-leb, ne_eqb}
+use Rattle.std.proofs.lemmas.Bool.{cases_eq, cases_lt, eqb-true, le-ltb, lt-leb, ne_eqb}
 use Rattle.std.proofs.lemmas.Bool.Decides.{nat_tests}
 use Rattle.std.proofs.lemmas.List.{length-take, get_or-take, drop_more, drop-drop, get_or_past}
 use Rattle.std.proofs.lemmas.List.Sums.{position_or_len_is}
-use Rattle.std.proofs.lemmas.Str.{IsUtf8-take}
-use Rattle.rox_grammar.specs.Chars.{is_char}
+use Rattle.std.proofs.lemmas.Str.{IsUtf8-take, IsCharBoundary-after_ascii}
+use Rattle.rox_grammar.specs.Chars.{is_char, is_part_char}
 use Rattle.rox_grammar.specs.Content.{is_plain_value}
 use Rattle.rox_grammar.specs.Runs.{run_end}
 use Rattle.rox_grammar.specs.Marks.{byte_from, mark_from, stands}
@@ -16,7 +16,7 @@ use Rattle.rox_grammar.specs.Words.{word_text}
 use Rattle.rox_grammar.specs.Constructs.{double_dash}
 use Rattle.rox_reading.specs.Lexical.{chars_up_to, string_at, text_to}
 use Rattle.rox_reading.specs.Markup.{comment_at, raw_value_at}
-use Rattle.rox_scan.specs.Near.{AllPass, is_value_byte, is_text_byte, is_comment_byte}
+use Rattle.rox_scan.specs.Near.{AllPass, is_value_byte, is_text_byte, is_comment_byte, is_part_byte}
 use Rattle.rox_scan.proofs.MarkLemmas.{before_mark_is, not_from_first, no_mark}
 use Rattle.rox_scan.proofs.RunLemmas.{run_on_ascii, run_at_end}
 
@@ -32,9 +32,36 @@ pub text_ascii : (b : ℕ) → is_text_byte b ≡ true → b < 128
 unfolding is_text_byte
 text_ascii b h = grind (arith, nat_tests)
 
+pub part_ascii : (b : ℕ) → is_part_byte b ≡ true → b < 128
+unfolding is_part_byte
+part_ascii b h = grind (arith, nat_tests)
+
 pub text_is_char : (b : ℕ) → is_text_byte b ≡ true → is_char b ≡ true
 unfolding is_text_byte
 text_is_char b h = grind (arith, nat_tests)
+
+part_is_part : (b : ℕ) → is_part_byte b ≡ true → is_part_char b ≡ true
+unfolding is_part_byte
+part_is_part b h = grind (arith, nat_tests)
+
+-- a place behind ASCII bytes is one between characters
+pub cut_behind : (p : ℕ → Bool) (src : List ℕ) (i e : ℕ) → IsUtf8 src → IsCharBoundary src i → i ≤ e → e ≤ length src → AllPass p src i e → IsCharBoundary src e
+cut_behind p src i e utf8 cut le within all =
+    elim (cases_eq e i) [
+      | inl same ↦ rw same cut
+      | inr more ↦ subst (λ k. IsCharBoundary src k) (omega arith) (IsCharBoundary-after_ascii src (e - 1) utf8 (omega arith) (all (e - 1) (omega arith) (omega arith)).0)
+    ]
+
+-- a run goes on behind bytes of a set that it takes
+run_from : (p q : ℕ → Bool) (src : List ℕ) (i e n : ℕ) → i + n ≡ e → e ≤ length src → IsUtf8 src → AllPass p src i e → ((b : ℕ) → p b ≡ true → q b ≡ true) → run_end q src e ≡ run_end q src i
+run_from p q src i e zero same within utf8 all are = let at : e ≡ i = omega arith in rw at refl
+run_from p q src i e (suc n) same within utf8 all are =
+    let here = all i (omega arith) (omega arith) in
+    run_from p q src (i + 1) e n (omega arith) within utf8 (λ k low high. all k (omega arith) high) are
+    ∙ run_on_ascii q src i utf8 (omega arith) here.0 (are _ here.1)
+
+pub part_goes_on : (src : List ℕ) (i e : ℕ) → IsUtf8 src → i ≤ e → e ≤ length src → AllPass is_part_byte src i e → run_end is_part_char src e ≡ run_end is_part_char src i
+part_goes_on src i e utf8 le within all = run_from is_part_byte is_part_char src i e (e - i) (omega arith) within utf8 all part_is_part
 
 -- bytes of a set of Chars are Chars
 chars_from : (p : ℕ → Bool) (src : List ℕ) (i e n : ℕ) → i + n ≡ e → e ≤ length src → IsUtf8 (take e src) → AllPass p src i e → ((b : ℕ) → p b ≡ true → is_char b ≡ true) → run_end is_char (take e src) i ≡ e
@@ -61,6 +88,17 @@ near_found p q src i e le within all apart here =
     (λ more. let at : i + (e - i) ≡ e = omega arith in rw (get_or-drop i src (e - i) 0, at) (here (omega (arith, length-drop i src)))) in
     omega (arith, found)
 
+-- a search goes on behind a byte that it does not look for
+byte_on : (q : ℕ → Bool) (src : List ℕ) (i : ℕ) → i < length src → q (get_or src i 0) ≡ false → byte_from q src (i + 1) ≡ byte_from q src i
+unfolding byte_from
+byte_on q src i within other = rw (drop_more src i 0 within, other) (omega arith)
+
+byte_goes_on : (p q : ℕ → Bool) (src : List ℕ) (i e n : ℕ) → i + n ≡ e → e ≤ length src → AllPass p src i e → ((b : ℕ) → p b ≡ true → q b ≡ false) → byte_from q src e ≡ byte_from q src i
+byte_goes_on p q src i e zero same within all apart = let at : e ≡ i = omega arith in rw at refl
+byte_goes_on p q src i e (suc n) same within all apart =
+    byte_goes_on p q src (i + 1) e n (omega arith) within (λ k low high. all k (omega arith) high) apart
+    ∙ byte_on q src i (omega arith) (apart _ (all i (omega arith) (omega arith)).1)
+
 -- none of a set of bytes is in a slice of the others
 pub none_among : (p q : ℕ → Bool) (src : List ℕ) (i e n : ℕ) → i + n ≡ e → e ≤ length src → AllPass p src i e → ((b : ℕ) → p b ≡ true → q b ≡ false) → list_any q (slice_range src i e) ≡ false
 none_among p q src i e zero same within all apart = let none : e - i ≡ 0 = omega arith in rw none refl
@@ -78,6 +116,10 @@ value_apart quote b q h = grind (arith, nat_tests)
 value_plain : (b : ℕ) → is_value_byte b ≡ true → (b == 38 || (b == 9 || (b == 10 || b == 13))) ≡ false
 unfolding is_value_byte
 value_plain b h = grind (arith, nat_tests)
+
+-- a search for a special byte goes on behind those that stand for themselves
+pub special_goes_on : (src : List ℕ) (i e : ℕ) → i ≤ e → e ≤ length src → AllPass is_value_byte src i e → byte_from (λ b. b == 38 || (b == 9 || (b == 10 || b == 13))) src e ≡ byte_from (λ b. b == 38 || (b == 9 || (b == 10 || b == 13))) src i
+special_goes_on src i e le within all = byte_goes_on is_value_byte _ src i e (e - i) (omega arith) within all value_plain
 
 -- a value ends at the quote that stands behind its plain bytes
 near_value : (src : List ℕ) (i e quote : ℕ) → (quote == 39 || quote == 34) ≡ true → i ≤ e → e < length src → get_or src e 0 ≡ quote → AllPass is_value_byte src i e → byte_from (λ c. c == quote || c == 60) src i ≡ e

@@ -1,4 +1,5 @@
 -- Bytes that stand for themselves, for a look at short texts.
+use Rattle.rox_grammar.specs.Chars.{is_part_char}
 use Rattle.std.specs.Prelude.{◌≡◌, ◌≤◌, ◌<◌, ℕ, Bool, true, not, ◌&&◌, ◌||◌, ◌==◌, nat_le, nat_lt, List, slice_index}
 
 -- ASCII, and no control, no quote, no `&` and no `<`
@@ -12,6 +13,10 @@ is_text_byte b = (((b == 9 || b == 10) || nat_le 32 b) && nat_lt b 128) && not (
 -- ASCII, and no control but TAB, LF and CR, and no `-`
 unfoldable pub is_comment_byte : ℕ → Bool
 is_comment_byte b = ((((b == 9 || b == 10) || b == 13) || nat_le 32 b) && nat_lt b 128) && not (b == 45)
+
+-- ASCII, and in a part of a name
+unfoldable pub is_part_byte : ℕ → Bool
+is_part_byte b = nat_lt b 128 && is_part_char b
 
 -- each byte from i up to j passes, and is ASCII
 abbrev pub AllPass : (ℕ → Bool) → List ℕ → ℕ → ℕ → Type 0

@@ -5,8 +5,9 @@ ghost use Rattle.std.specs.Str.{IsCharBoundary, IsUtf8};
 ghost use Rattle.std.proofs.Props.{props};
 
 use crate::chars::is_space;
+use crate::near::part_end;
 use crate::runs::{
-    NameChar, NameStart, PartChar, Space, after_byte, begins, char_at, chars_end, is_at, run_end,
+    NameChar, NameStart, Space, after_byte, begins, char_at, chars_end, is_at, run_end,
 };
 use rox_grammar::fault::{Due, Fault, Word};
 
@@ -209,7 +210,7 @@ impl<'input> Cursor<'input> {
 
     /// The longest run of name characters, split at its colon (Namespaces in XML section 4). A second colon, an empty local
     /// part and a part that does not begin as a name are faults at the start of the run.
-    #[inline]
+    #[inline(always)]
     #[tactic(auto, unfolding(rox_reading::specs::Lexical::qname_at))]
     pub fn qname(&mut self) -> Result<QName<'input>, Fault>
         ensures value { Reads name_view self.new result (spec.qname_at self.old.text.now self.old.pos) }
@@ -218,7 +219,7 @@ impl<'input> Cursor<'input> {
     {
         let start = self.pos;
         let text = self.text;
-        let colon = run_end::<PartChar>(text, start);
+        let colon = part_end(text, start);
         if !is_at(text, colon, b':') {
             if !begins::<NameStart>(text, start) {
                 return Err(Fault::InvalidName(start));
@@ -233,7 +234,7 @@ impl<'input> Cursor<'input> {
             return Err(Fault::InvalidName(start));
         }
         let local = after_byte(text, colon, b':');
-        let end = run_end::<PartChar>(text, local);
+        let end = part_end(text, local);
         if !begins::<NameStart>(text, local) || is_at(text, local, b':') || is_at(text, end, b':') {
             return Err(Fault::InvalidName(start));
         }

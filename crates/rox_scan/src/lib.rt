@@ -7,4 +7,5 @@ pub mod cursor;
 pub mod failure;
 pub mod marks;
 pub mod markup;
+pub mod near;
 pub mod runs;

@@ -14,7 +14,8 @@ ghost use Rattle.rox_scan.specs.Parts.{HasValue, TurnHasValue, attribute_view, e
 use crate::chars::is_space;
 use crate::cursor::{Cursor, QName};
 use crate::marks::{Finders, either_from, has_mark, mark_from};
-use crate::runs::{CommentByte, ValueByte, is_at, near_end};
+use crate::near::{CommentByte, ValueByte, near_end};
+use crate::runs::is_at;
 use memchr::memmem::Finder;
 use rox_grammar::fault::{Due, Fault, Word};
 

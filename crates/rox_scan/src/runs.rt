@@ -5,8 +5,6 @@ ghost use Rattle.std.specs.List.{list_all};
 ghost use Rattle.std.specs.Str.{IsCharBoundary, chars};
 ghost use Rattle.rox_grammar.specs.Chars as spec;
 ghost use Rattle.rox_grammar.specs.Runs.{run_end, begins, StandsAt};
-ghost use Rattle.rox_scan.specs.Near as near;
-ghost use Rattle.rox_scan.specs.Near.{AllPass};
 
 use crate::chars;
 
@@ -214,69 +212,4 @@ pub fn chars_end(text: &str, at: usize) -> usize
         return text.len();
     }
     run_end::<XmlChar>(text, at)
-}
-
-/// A set of ASCII bytes, to find a short run of them.
-pub trait Near {
-    ghost test: { ℕ → Bool };
-
-    fn has(byte: u8) -> bool
-        ensures value { result ≡ test byte }
-        ensures ascii { result ≡ true → byte < 128 };
-}
-
-/// The bytes of an attribute's value that stand for themselves.
-pub struct ValueByte;
-
-impl Near for ValueByte {
-    ghost test = { near.is_value_byte };
-
-    #[inline(always)]
-    fn has(byte: u8) -> bool {
-        chars::is_value_byte(byte)
-    }
-}
-
-/// The bytes of character data that stand for themselves.
-pub struct TextByte;
-
-impl Near for TextByte {
-    ghost test = { near.is_text_byte };
-
-    #[inline(always)]
-    fn has(byte: u8) -> bool {
-        chars::is_text_byte(byte)
-    }
-}
-
-/// The bytes of a comment that stand for themselves.
-pub struct CommentByte;
-
-impl Near for CommentByte {
-    ghost test = { near.is_comment_byte };
-
-    #[inline(always)]
-    fn has(byte: u8) -> bool {
-        chars::is_comment_byte(byte)
-    }
-}
-
-/// How far a look for the end of a short text goes, in bytes. A search of a longer one is faster by vectors.
-const NEAR: usize = 64;
-
-/// Where the bytes of the set from `at` on end, or a place before that, if it is far.
-#[inline(always)]
-pub fn near_end<C: Near>(text: &str, at: usize) -> usize
-    requires { IsCharBoundary text.now at }
-    ensures onward { at ≤ result }
-    ensures cut { IsCharBoundary text.now result }
-    ensures passes { AllPass C.test text.now at result }
-{
-    let bytes = text.as_bytes();
-    let stop = at + NEAR.min(bytes.len() - at);
-    let mut end = at;
-    while end < stop && C::has(bytes[end]) {
-        end += 1;
-    }
-    end
 }

@@ -1,7 +1,7 @@
-use Rattle.std.proofs.Common.{◌≤◌, ◌-◌}
+use Rattle.std.proofs.Common.{◌≤◌, ◌-◌, length}
 use Rattle.std.specs.Str.{IsCharBoundary}
 use Rattle.rox_scan.specs.Near.{AllPass}
-use Rattle.rox_scan.proofs.runs.near_end.Given as goal
+use Rattle.rox_scan.proofs.near.near_end.Given as goal
 
 abbrev pub invariant-loop-end : goal.invariant-loop-end
 invariant-loop-end g l = record {
@@ -11,4 +11,4 @@ invariant-loop-end g l = record {
 }
 
 abbrev pub decreases-loop-end : goal.decreases-loop-end
-decreases-loop-end g l = l.stop - l.end
+decreases-loop-end g l = length l.text - l.end

@@ -1,7 +1,18 @@
 use Rattle.std.proofs.Common.{sym, ◌∙◌, arith, inl, inr}
 use Rattle.std.proofs.lemmas.Bool.{cases_eq}
 use Rattle.std.proofs.lemmas.Str.{IsCharBoundary-after_ascii}
-use Rattle.rox_scan.proofs.runs.near_end.Goals as goal
+use Rattle.rox_scan.proofs.NearLemmas.{cut_behind}
+use Rattle.rox_scan.proofs.near.near_end.Goals as goal
+
+pub loop-end-init : goal.loop-end-init
+loop-end-init g c =
+    let same = c.as_bytes-bytes.ensures.value in
+    let block = c.blocks_end-end.ensures in
+    record {
+      onward = block.onward;
+      cut = cut_behind g.C.Near.test c.args.text.now c.args.at _ c.utf8.text c.requires block.onward (omega (arith, block.within, same)) (rw same at block.passes);
+      passes = rw same at block.passes;
+    }
 
 pub loop-end-preserved : goal.loop-end-preserved
 loop-end-preserved g c =

@@ -1,0 +1,71 @@
+-- Blocks of bytes, seen through a mask that has a bit for each byte that is not in a set.
+use Rattle.std.proofs.Common.{◌≡◌, ℕ, ◌+◌, ◌-◌, ◌%◌, ◌^◌, ◌<◌, ◌≤◌, Bool, true, false, not, cond, eqb, ltb, leb, List, [], ◌∷◌, map, length, get_or, replicate, refl, sym, ap, ap₂, ◌∙◌, arith, w8, Fits}
+use Rattle.std.specs.List.{prefix_len}
+use Rattle.std.specs.Simd.Lanes.{mask_l, top, zip2, chunk, Each1}
+use Rattle.std.proofs.lemmas.Simd.{zip2_splat, zip2-map, zip2_of_maps, map-map, mask_l-mod, length-chunk, leading_from_mask_l, trailing_mask_l, run_in_chunk_fails}
+use Rattle.std.proofs.lemmas.List.{length-map}
+use Rattle.std.proofs.lemmas.Bool.{not-false}
+use Rattle.rox_scan.specs.Near.{AllPass}
+use Rattle.rox_scan.proofs.TableLemmas.{agree_below, agree_at}
+use lib.Count.{count_trailing_zeros}
+use lib.Bits.{bit_or}
+
+-- the lanes of a comparison
+abbrev pub equals : ℕ → ℕ → ℕ
+equals a b = cond (eqb a b) 255 0
+
+abbrev pub below : ℕ → ℕ → ℕ
+below a b = cond (ltb a b) 255 0
+
+abbrev pub at_most : ℕ → ℕ → ℕ
+at_most a b = cond (leb a b) 255 0
+
+-- and of a difference
+abbrev pub less : ℕ → ℕ → ℕ
+less a b = (a + (256 - b)) % 256
+
+each_byte : (f : ℕ → ℕ) (q : ℕ → Bool) → agree_below (λ x. top 7 (f x)) q 256 ≡ true → (v : List ℕ) → Each1 (Fits w8) v → map (top 7) (map f v) ≡ map q v
+each_byte f q all [] fits = refl
+each_byte f q all (x ∷ xs) fits =
+    ap₂ (λ a b. a ∷ b) (agree_at (λ y. top 7 (f y)) q 256 all x fits.0.fits) (each_byte f q all xs fits.1)
+
+-- a mask that is computed lane by lane, where the test agrees at each of the 256 bytes
+pub masked : (f : ℕ → ℕ) (q : ℕ → Bool) (v z : List ℕ) → length v ≤ 64 → Each1 (Fits w8) v → z ≡ map f v → agree_below (λ x. top 7 (f x)) q 256 ≡ true → mask_l (map (top 7) z) % 2 ^ 64 ≡ mask_l (map q v)
+masked f q v z short fits e all =
+    ap (λ l. mask_l l % 2 ^ 64) (ap (map (top 7)) e ∙ each_byte f q all v fits) ∙ mask_l-mod (map q v) 64 (omega (arith, length-map v q))
+
+pub either : (f g : ℕ → ℕ) (v : List ℕ) {a b : List ℕ} → a ≡ map f v → b ≡ map g v → zip2 bit_or a b ≡ map (λ x. bit_or (f x) (g x)) v
+either f g v p q = zip2_of_maps bit_or f g v p q
+
+-- a comparison of computed lanes with one number, which stands on the right
+pub against : (h : ℕ → ℕ → ℕ) (f : ℕ → ℕ) (y n : ℕ) (v : List ℕ) {a : List ℕ} → length v ≡ n → a ≡ map f v → zip2 h a (replicate n y) ≡ map (λ x. h (f x) y) v
+against h f y n v long p =
+    ap (λ a. zip2 h a (replicate n y)) p ∙ zip2_splat h (map f v) n y (length-map v f ∙ long) ∙ map-map (λ x. h x y) f v
+
+splat_left : (h : ℕ → ℕ → ℕ) (y : ℕ) (xs : List ℕ) → zip2 h (replicate (length xs) y) xs ≡ map (h y) xs
+splat_left h y [] = refl
+splat_left h y (x ∷ xs) = ap (λ r. h y x ∷ r) (splat_left h y xs)
+
+-- or on the left
+pub from : (h : ℕ → ℕ → ℕ) (f : ℕ → ℕ) (y n : ℕ) (v : List ℕ) {a : List ℕ} → length v ≡ n → a ≡ map f v → zip2 h (replicate n y) a ≡ map (λ x. h y (f x)) v
+from h f y n v long p =
+    ap (zip2 h (replicate n y)) p ∙ ap (λ k. zip2 h (replicate k y) (map f v)) (sym (length-map v f ∙ long)) ∙ splat_left h y (map f v) ∙ map-map (h y) f v
+
+-- where no bit is set, all of the block passes
+pub counted_none : (q : ℕ → Bool) (src : List ℕ) (i n : ℕ) → i + n ≤ length src → mask_l (map q (chunk i n src)) ≡ 0 → n ≡ prefix_len (λ b. not (q b)) (chunk i n src)
+counted_none q src i n room none = sym (leading_from_mask_l q (chunk i n src) none ∙ length-chunk i n src room)
+
+-- where one is set, what stands before the lowest
+pub counted_some : (q : ℕ → Bool) (src : List ℕ) (i n : ℕ) → i + n ≤ length src → n ≤ 64 → 0 < mask_l (map q (chunk i n src))
+    → count_trailing_zeros 64 (mask_l (map q (chunk i n src))) ≡ prefix_len (λ b. not (q b)) (chunk i n src)
+counted_some q src i n room few some = trailing_mask_l q 64 (chunk i n src) (omega (arith, length-chunk i n src room)) some
+
+pub block_passes : (p : ℕ → Bool) (src : List ℕ) (i n r : ℕ) → ((b : ℕ) → p b ≡ true → b < 128) → i + n ≤ length src → r ≡ prefix_len (λ b. not (not (p b))) (chunk i n src) → AllPass p src i (i + r)
+block_passes p src i n r ascii room counted k low high =
+    let passes = not-false _ (run_in_chunk_fails (λ b. not (p b)) src i n r 0 room counted k low high) in
+    (ascii _ passes, passes)
+
+-- the lanes as they are
+pub map_same : (v : List ℕ) → v ≡ map (λ x. x) v
+map_same [] = refl
+map_same (x ∷ xs) = ap (λ r. x ∷ r) (map_same xs)

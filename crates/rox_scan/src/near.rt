@@ -1,0 +1,174 @@
+//! Runs of plain ASCII bytes, sixteen bytes at a time: a first look at names, values, character data and comments.
+
+ghost use Rattle.std.specs.Prelude.{◌≡◌, ◌+◌, ◌<◌, ◌≤◌, ℕ, Bool, true, not, map, length};
+ghost use Rattle.std.specs.Str.{IsCharBoundary};
+ghost use Rattle.std.specs.Simd.Lanes.{mask_l};
+ghost use Rattle.rox_grammar.specs.Chars as spec;
+ghost use Rattle.rox_grammar.specs.Runs.{run_end};
+ghost use Rattle.rox_scan.specs.Near as near;
+ghost use Rattle.rox_scan.specs.Near.{AllPass};
+
+use crate::chars;
+use crate::runs::{PartChar, run_end};
+use std::simd::prelude::*;
+
+/// A set of ASCII bytes, to find a run of them.
+pub trait Near {
+    ghost test: { ℕ → Bool };
+
+    fn has(byte: u8) -> bool
+        ensures value { result ≡ test byte }
+        ensures ascii { result ≡ true → byte < 128 };
+
+    /// A bit for each of these bytes that is not in the set, the lowest for the first.
+    fn others(block: u8x16) -> u64
+        ensures bits { result ≡ mask_l (map (λ b. not (test b)) block) }
+        ensures ascii { (b : ℕ) → test b ≡ true → b < 128 };
+}
+
+/// The bytes of an attribute's value that stand for themselves.
+pub struct ValueByte;
+
+impl Near for ValueByte {
+    ghost test = { near.is_value_byte };
+
+    #[inline(always)]
+    fn has(byte: u8) -> bool {
+        chars::is_value_byte(byte)
+    }
+
+    #[inline(always)]
+    fn others(block: u8x16) -> u64 {
+        ((block - u8x16::splat(32)).simd_ge(u8x16::splat(96))
+            | block.simd_eq(u8x16::splat(b'"'))
+            | block.simd_eq(u8x16::splat(b'&'))
+            | block.simd_eq(u8x16::splat(b'\''))
+            | block.simd_eq(u8x16::splat(b'<'))).to_bitmask()
+    }
+}
+
+/// The bytes of character data that stand for themselves.
+pub struct TextByte;
+
+impl Near for TextByte {
+    ghost test = { near.is_text_byte };
+
+    #[inline(always)]
+    fn has(byte: u8) -> bool {
+        chars::is_text_byte(byte)
+    }
+
+    #[inline(always)]
+    fn others(block: u8x16) -> u64 {
+        (block.simd_lt(u8x16::splat(9))
+            | (block - u8x16::splat(11)).simd_lt(u8x16::splat(21))
+            | block.simd_ge(u8x16::splat(128))
+            | block.simd_eq(u8x16::splat(b'&'))
+            | block.simd_eq(u8x16::splat(b'<'))
+            | block.simd_eq(u8x16::splat(b']'))).to_bitmask()
+    }
+}
+
+/// The bytes of a comment that stand for themselves.
+pub struct CommentByte;
+
+impl Near for CommentByte {
+    ghost test = { near.is_comment_byte };
+
+    #[inline(always)]
+    fn has(byte: u8) -> bool {
+        chars::is_comment_byte(byte)
+    }
+
+    #[inline(always)]
+    fn others(block: u8x16) -> u64 {
+        (block.simd_lt(u8x16::splat(9))
+            | (block - u8x16::splat(11)).simd_lt(u8x16::splat(2))
+            | (block - u8x16::splat(14)).simd_lt(u8x16::splat(18))
+            | block.simd_ge(u8x16::splat(128))
+            | block.simd_eq(u8x16::splat(b'-'))).to_bitmask()
+    }
+}
+
+/// The ASCII bytes of a part of a name.
+pub struct PartByte;
+
+impl Near for PartByte {
+    ghost test = { near.is_part_byte };
+
+    #[inline(always)]
+    fn has(byte: u8) -> bool {
+        byte < 128 && chars::is_part_byte(byte)
+    }
+
+    #[inline(always)]
+    fn others(block: u8x16) -> u64 {
+        (block.simd_lt(u8x16::splat(b'-'))
+            | block.simd_eq(u8x16::splat(b'/'))
+            | (block - u8x16::splat(b':')).simd_lt(u8x16::splat(7))
+            | (block - u8x16::splat(b'[')).simd_lt(u8x16::splat(4))
+            | block.simd_eq(u8x16::splat(b'`'))
+            | block.simd_ge(u8x16::splat(b'{'))).to_bitmask()
+    }
+}
+
+/// How many of the sixteen bytes from `at` on come before the first that is not in the set.
+#[inline(always)]
+fn run_in_block<C: Near>(bytes: &[u8], at: usize) -> usize
+    requires { at + 16 ≤ length bytes.now }
+    ensures within { result ≤ 16 }
+    ensures passes { AllPass C.test bytes.now at (at + result) }
+{
+    let others = C::others(u8x16::from_slice(&bytes[at..]));
+    if others == 0 {
+        16
+    } else {
+        others.trailing_zeros() as usize
+    }
+}
+
+/// Where the bytes of the set from `at` on end, or a place before that where fewer than sixteen bytes are left.
+#[inline(always)]
+fn blocks_end<C: Near>(bytes: &[u8], at: usize) -> usize
+    requires { at ≤ length bytes.now }
+    ensures onward { at ≤ result }
+    ensures within { result ≤ length bytes.now }
+    ensures passes { AllPass C.test bytes.now at result }
+{
+    let mut end = at;
+    while bytes.len() - end >= 16 {
+        let count = run_in_block::<C>(bytes, end);
+        end += count;
+        if count < 16 {
+            return end;
+        }
+    }
+    end
+}
+
+/// Where the bytes of the set from `at` on end.
+#[inline(always)]
+pub fn near_end<C: Near>(text: &str, at: usize) -> usize
+    requires { IsCharBoundary text.now at }
+    ensures onward { at ≤ result }
+    ensures cut { IsCharBoundary text.now result }
+    ensures passes { AllPass C.test text.now at result }
+{
+    let bytes = text.as_bytes();
+    let mut end = blocks_end::<C>(bytes, at);
+    while end < bytes.len() && C::has(bytes[end]) {
+        end += 1;
+    }
+    end
+}
+
+/// Where the part of a name that begins at `at` ends.
+#[inline(always)]
+pub fn part_end(text: &str, at: usize) -> usize
+    requires { IsCharBoundary text.now at }
+    ensures end { result ≡ run_end spec.is_part_char text.now at }
+    ensures onward { at ≤ result }
+    ensures cut { IsCharBoundary text.now result }
+{
+    run_end::<PartChar>(text, near_end::<PartByte>(text, at))
+}
