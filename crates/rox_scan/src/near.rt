@@ -40,9 +40,10 @@ impl Near for ValueByte {
         (block.simd_lt(u8x16::splat(32))
             | block.simd_eq(u8x16::splat(239))
             | block.simd_eq(u8x16::splat(b'"'))
-            | block.simd_eq(u8x16::splat(b'&'))
-            | block.simd_eq(u8x16::splat(b'\''))
-            | block.simd_eq(u8x16::splat(b'<'))).to_bitmask()
+            // `&` and `'` differ in the lowest bit alone.
+            | (block | u8x16::splat(1)).simd_eq(u8x16::splat(b'\''))
+            | block.simd_eq(u8x16::splat(b'<')))
+            .to_bitmask()
     }
 }
 
