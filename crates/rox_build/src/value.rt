@@ -30,6 +30,7 @@ pub enum Piece<'input> {
 }
 
 /// Appends the character of the reference that stands here. One to an entity is a fault at its start.
+#[inline(always)]
 #[tactic(auto, unfolding(rox_reading::specs::Values::expansion_at))]
 fn expand(cursor: &mut Cursor<'_>, out: &mut String) -> Result<(), Failure>
     requires { slice_index cursor.old.text.now cursor.old.pos ≡ 38 }
