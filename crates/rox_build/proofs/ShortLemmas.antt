@@ -1,4 +1,4 @@
--- A short run of plain ASCII.
+-- A run of plain bytes.
 use Rattle.std.proofs.Common.{◌≡◌, ◌≢◌, ℕ, ◌-◌, ◌<◌, ◌≤◌, ◌==◌, ◌||◌, true, false, not, List, Ok, length, get_or, slice_range, refl, ap, arith}
 use Rattle.std.specs.Str.{IsUtf8, IsCharBoundary}
 use Rattle.std.proofs.lemmas.Bool.{le-ltb, eq-eqb}
@@ -11,7 +11,7 @@ use Rattle.rox_grammar.specs.Marks.{byte_from}
 use Rattle.rox_reading.specs.Lexical.{chars_up_to}
 use Rattle.rox_reading.specs.Values.{run_at}
 use Rattle.rox_scan.specs.Near.{AllPass, is_text_byte}
-use Rattle.rox_scan.proofs.NearLemmas.{near_found, near_chars, text_is_char, none_among, read_among}
+use Rattle.rox_scan.proofs.NearLemmas.{near_found, near_chars, text_is_plain, none_among, read_among}
 use Rattle.rox_scan.proofs.MarkLemmas.{no_mark}
 
 text_apart : (b : ℕ) → is_text_byte b ≡ true → (b == 60) ≡ false
@@ -27,17 +27,17 @@ unfolding is_text_byte
 text_plain b h = grind (arith, nat_tests)
 
 -- its Chars
-short_chars : (src : List ℕ) (i e : ℕ) → IsUtf8 src → i ≤ e → IsCharBoundary src e → AllPass is_text_byte src i e → chars_up_to e src i ≡ Ok (slice_range src i e, e)
+short_chars : (src : List ℕ) (i e : ℕ) → IsUtf8 src → IsCharBoundary src i → i ≤ e → IsCharBoundary src e → AllPass is_text_byte src i e → chars_up_to e src i ≡ Ok (slice_range src i e, e)
 unfolding chars_up_to
-short_chars src i e utf8 le cut all =
-    rw (near_chars is_text_byte src i e le utf8 cut all text_is_char, le-ltb e e (omega arith)) refl
+short_chars src i e utf8 start le cut all =
+    rw (near_chars is_text_byte src i e utf8 start le cut all text_is_plain, le-ltb e e (omega arith)) refl
 
 -- what it is read as
-pub short_run : (src : List ℕ) (i e : ℕ) → IsUtf8 src → i ≤ e → IsCharBoundary src e → AllPass is_text_byte src i e → (e < length src → get_or src e 0 ≡ 60) → run_at src i ≡ Ok (record { value = slice_range src i e; plain = true }, e)
+pub short_run : (src : List ℕ) (i e : ℕ) → IsUtf8 src → IsCharBoundary src i → i ≤ e → IsCharBoundary src e → AllPass is_text_byte src i e → (e < length src → get_or src e 0 ≡ 60) → run_at src i ≡ Ok (record { value = slice_range src i e; plain = true }, e)
 unfolding run_at
-short_run src i e utf8 le cut all here =
+short_run src i e utf8 start le cut all here =
     let end : byte_from (λ c. c == 60) src i ≡ e = near_found is_text_byte (λ c. c == 60) src i e le cut.0 all text_apart (λ more. eq-eqb _ _ (here more)) in
     let clear : has_mark (word_text word.CDataEnd) (slice_range src i e) ≡ false =
     no_mark (word_text word.CDataEnd) (slice_range src i e) (omega arith) (λ j below. text_no_bracket _ (read_among is_text_byte src i e j cut.0 all below)) in
     let plain : is_plain (slice_range src i e) ≡ true = ap not (none_among is_text_byte (λ b. b == 38 || b == 13) src i e (e - i) (omega arith) cut.0 all text_plain) in
-    rw (end, short_chars src i e utf8 le cut all, clear, plain) refl
+    rw (end, short_chars src i e utf8 start le cut all, clear, plain) refl

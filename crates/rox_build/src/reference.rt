@@ -1,7 +1,6 @@
 //! References to characters and to entities (XML 1.0 sections 4.1 and 4.6).
 
-ghost use Rattle.std.specs.Prelude.{◌≡◌, ◌+◌, ◌^◌, ◌≤◌, ◌<◌, length, slice_index, slice_range, option_map, MatchOption};
-ghost use Rattle.std.specs.Str.{IsCharBoundary};
+ghost use Rattle.std.specs.Prelude.{◌≡◌, ◌^◌, ◌≤◌, ◌<◌, min, length, slice_index, slice_range};
 ghost use Rattle.rox_grammar.specs.References as spec;
 ghost use Rattle.rox_reading.specs.Values as reading;
 ghost use Rattle.rox_scan.specs.Gives.{Reads};
@@ -19,8 +18,17 @@ pub enum Reference {
     Entity(Span),
 }
 
+/// The least number that is too large for a reference.
+const TOO_LARGE: u64 = 1 << 32;
+
+/// Digits: where they end, and the number that they stand for, or `TOO_LARGE` if that is less.
+struct Digits {
+    end: usize,
+    number: u64,
+}
+
 /// Whether the byte is a digit, of base 16 or of base 10.
-#[inline]
+#[inline(always)]
 fn is_digit(byte: u8, hexadecimal: bool) -> bool
     ensures { result ≡ is_digit_of hexadecimal byte }
 {
@@ -48,38 +56,25 @@ fn digit_value(byte: u8) -> u64
     value as u64
 }
 
-/// Where the digits end that begin at `at`.
-#[inline]
-#[tactic(auto, using(crate::proofs::DigitLemmas::digit_steps))]
-fn digits_end(text: &str, at: usize, hexadecimal: bool) -> usize
+/// The digits that begin at `at`, perhaps none.
+#[inline(always)]
+#[tactic(auto, using(crate::proofs::DigitLemmas::digit_steps, crate::proofs::DigitLemmas::one_more_digit))]
+fn read_digits(text: &str, at: usize, hexadecimal: bool) -> Digits
     requires { at ≤ length text.now }
-    ensures place { result ≡ spec.bytes_end (is_digit_of hexadecimal) text.now at }
-    ensures onward { at ≤ result }
-    ensures within { result ≤ length text.now }
-{
-    let bytes = text.as_bytes();
-    let mut end = at;
-    while end < bytes.len() && is_digit(bytes[end], hexadecimal) {
-        end += 1;
-    }
-    end
-}
-
-/// The number that digits stand for, if it is below 2^32.
-#[inline]
-#[tactic(auto, using(crate::proofs::DigitLemmas::number_step, crate::proofs::DigitLemmas::number_grows))]
-fn number_of(digits: &[u8], hexadecimal: bool) -> Option<u32>
-    ensures { MatchOption result (2 ^ 32 ≤ spec.number (base_of hexadecimal) digits.now) (λ n. spec.number (base_of hexadecimal) digits.now ≡ n) }
+    ensures place { result.end ≡ spec.bytes_end (is_digit_of hexadecimal) text.now at }
+    ensures number { result.number ≡ min (spec.number (base_of hexadecimal) (slice_range text.now at result.end)) (2 ^ 32) }
+    ensures onward { at ≤ result.end }
+    ensures within { result.end ≤ length text.now }
 {
     let base: u64 = if hexadecimal { 16 } else { 10 };
+    let bytes = text.as_bytes();
+    let mut end = at;
     let mut number: u64 = 0;
-    for digit in digits {
-        number = number * base + digit_value(*digit);
-        if number > 0xFFFF_FFFF {
-            return None;
-        }
+    while end < bytes.len() && is_digit(bytes[end], hexadecimal) {
+        number = (number * base + digit_value(bytes[end])).min(TOO_LARGE);
+        end += 1;
     }
-    Some(number as u32)
+    Digits { end, number }
 }
 
 /// The character of a number. A number that is no character gives U+FFFD.
@@ -92,6 +87,7 @@ fn character(number: u32) -> char
 
 /// The digits from `digits` on and the `;` of a reference that stands here. It is a fault where there is no digit, where the
 /// number is 2^32 or more, and where it is that of no Char.
+#[inline(always)]
 #[tactic(auto, unfolding(rox_reading::specs::Values::number_at))]
 fn number(cursor: &mut Cursor<'_>, digits: usize, hexadecimal: bool) -> Result<Reference, Fault>
     requires onward { cursor.old.pos ≤ digits }
@@ -102,14 +98,11 @@ fn number(cursor: &mut Cursor<'_>, digits: usize, hexadecimal: bool) -> Result<R
 {
     let start = cursor.pos;
     let text = cursor.text;
-    let end = digits_end(text, digits, hexadecimal);
-    if end == digits {
+    let Digits { end, number } = read_digits(text, digits, hexadecimal);
+    if end == digits || number == TOO_LARGE {
         return Err(Fault::MalformedEntityReference(start));
     }
-    let Some(number) = number_of(&text.as_bytes()[digits..end], hexadecimal) else {
-        return Err(Fault::MalformedEntityReference(start));
-    };
-    let character = character(number);
+    let character = character(number as u32);
     if !is_char(character) || !is_at(text, end, b';') {
         return Err(Fault::MalformedEntityReference(start));
     }
@@ -138,6 +131,7 @@ fn predefined(name: &str) -> Option<char>
 }
 
 /// The name and the `;` of a reference that stands here, with its `&`.
+#[inline(always)]
 #[tactic(auto, unfolding(rox_reading::specs::Values::name_reference_at))]
 fn name_reference(cursor: &mut Cursor<'_>) -> Result<Reference, Fault>
     requires { slice_index cursor.old.text.now cursor.old.pos ≡ 38 }
@@ -164,6 +158,7 @@ fn name_reference(cursor: &mut Cursor<'_>) -> Result<Reference, Fault>
 
 /// The reference that stands here, from its `&` to its `;` (XML 1.0 [66] CharRef, [68] EntityRef). One that is not well
 /// formed is a fault at its start.
+#[inline(always)]
 #[tactic(auto, unfolding(rox_reading::specs::Values::reference_at))]
 pub fn read_reference(cursor: &mut Cursor<'_>) -> Result<Reference, Fault>
     requires { slice_index cursor.old.text.now cursor.old.pos ≡ 38 }

@@ -30,6 +30,7 @@ pub enum Piece<'input> {
 }
 
 /// Appends the character of the reference that stands here. One to an entity is a fault at its start.
+#[inline(always)]
 #[tactic(auto, unfolding(rox_reading::specs::Values::expansion_at))]
 fn expand(cursor: &mut Cursor<'_>, out: &mut String) -> Result<(), Failure>
     requires { slice_index cursor.old.text.now cursor.old.pos ≡ 38 }
@@ -142,7 +143,7 @@ fn before_special(bytes: &[u8]) -> usize
 }
 
 /// The first place from `at` on of a special byte of a value, or the end.
-#[tactic(auto, using(rox_scan::proofs::NearLemmas::special_goes_on), unfolding(rox_grammar::specs::Marks::byte_from))]
+#[tactic(auto, using(rox_scan::proofs::NearLemmas::special_goes_on, rox_scan::proofs::NearLemmas::value_cut), unfolding(rox_grammar::specs::Marks::byte_from))]
 fn special_from(text: &str, at: usize) -> usize
     requires { IsCharBoundary text.now at }
     ensures place { result ≡ byte_from spec.is_special text.now at }
@@ -222,7 +223,7 @@ fn is_run_end(text: &str, at: usize) -> bool
 /// A run of character data, up to the next `<` or the end (XML 1.0 section 2.4): a slice of the source where it has no
 /// reference and no CR, and else what it stands for, in `scratch`, which is cleared first. `]]>` in it is a fault at its end.
 #[inline]
-#[tactic(auto, using(crate::proofs::ShortLemmas::short_run))]
+#[tactic(auto, using(crate::proofs::ShortLemmas::short_run, rox_scan::proofs::NearLemmas::text_cut))]
 pub fn run<'input>(
     cursor: &mut Cursor<'input>,
     scratch: &mut String,
@@ -241,7 +242,7 @@ pub fn run<'input>(
     far_run(cursor, scratch)
 }
 
-/// The same of a long run, and of one that holds more than plain ASCII.
+/// The same of a run with a reference, a CR, a `]`, or a byte that may begin what is no Char.
 #[tactic(auto, unfolding(rox_reading::specs::Values::run_at))]
 fn far_run<'input>(
     cursor: &mut Cursor<'input>,

@@ -60,10 +60,8 @@ pub counted_some : (q : ℕ → Bool) (src : List ℕ) (i n : ℕ) → i + n ≤
     → count_trailing_zeros 64 (mask_l (map q (chunk i n src))) ≡ prefix_len (λ b. not (q b)) (chunk i n src)
 counted_some q src i n room few some = trailing_mask_l q 64 (chunk i n src) (omega (arith, length-chunk i n src room)) some
 
-pub block_passes : (p : ℕ → Bool) (src : List ℕ) (i n r : ℕ) → ((b : ℕ) → p b ≡ true → b < 128) → i + n ≤ length src → r ≡ prefix_len (λ b. not (not (p b))) (chunk i n src) → AllPass p src i (i + r)
-block_passes p src i n r ascii room counted k low high =
-    let passes = not-false _ (run_in_chunk_fails (λ b. not (p b)) src i n r 0 room counted k low high) in
-    (ascii _ passes, passes)
+pub block_passes : (p : ℕ → Bool) (src : List ℕ) (i n r : ℕ) → i + n ≤ length src → r ≡ prefix_len (λ b. not (not (p b))) (chunk i n src) → AllPass p src i (i + r)
+block_passes p src i n r room counted k low high = not-false _ (run_in_chunk_fails (λ b. not (p b)) src i n r 0 room counted k low high)
 
 -- the lanes as they are
 pub map_same : (v : List ℕ) → v ≡ map (λ x. x) v

@@ -1,13 +1,13 @@
--- What a look at a short text tells of it.
+-- What a first look at plain bytes tells of a text.
 use Rattle.std.proofs.Common.{◌≡◌, ℕ, zero, suc, ◌+◌, ◌-◌, ◌<◌, ◌≤◌, ◌==◌, ◌||◌, Bool, true, false, not, List, Ok, length, get_or, take, drop, slice_range, refl, sym, ap, subst, ◌∙◌, arith, inl, inr, get_or-drop, length-drop}
-use Rattle.std.specs.List.{list_any}
+use Rattle.std.specs.List.{list_any, list_all}
 use Rattle.std.specs.Str.{IsUtf8, IsCharBoundary}
 use Rattle.std.proofs.lemmas.Bool.{cases_eq, cases_lt, eqb-true, le-ltb, lt-leb, ne_eqb}
 use Rattle.std.proofs.lemmas.Bool.Decides.{nat_tests}
-use Rattle.std.proofs.lemmas.List.{length-take, get_or-take, drop_more, drop-drop, get_or_past}
+use Rattle.std.proofs.lemmas.List.{length-take, get_or-take, drop_more, drop_all, drop-drop, get_or_past}
 use Rattle.std.proofs.lemmas.List.Sums.{position_or_len_is}
 use Rattle.std.proofs.lemmas.Str.{IsUtf8-take, IsCharBoundary-after_ascii}
-use Rattle.rox_grammar.specs.Chars.{is_char, is_part_char}
+use Rattle.rox_grammar.specs.Chars.{is_char, is_part_char, is_plain}
 use Rattle.rox_grammar.specs.Content.{is_plain_value}
 use Rattle.rox_grammar.specs.Runs.{run_end}
 use Rattle.rox_grammar.specs.Marks.{byte_from, mark_from, stands}
@@ -18,65 +18,90 @@ use Rattle.rox_reading.specs.Lexical.{chars_up_to, string_at, text_to}
 use Rattle.rox_reading.specs.Markup.{comment_at, raw_value_at}
 use Rattle.rox_scan.specs.Near.{AllPass, is_value_byte, is_text_byte, is_comment_byte, is_part_byte}
 use Rattle.rox_scan.proofs.MarkLemmas.{before_mark_is, not_from_first, no_mark}
-use Rattle.rox_scan.proofs.RunLemmas.{run_on_ascii, run_at_end}
+use Rattle.rox_scan.proofs.RunLemmas.{run_on_ascii}
+use Rattle.rox_scan.proofs.PlainLemmas.{plain_run}
 
-pub value_is_char : (b : ℕ) → is_value_byte b ≡ true → is_char b ≡ true
+value_is_plain : (b : ℕ) → is_value_byte b ≡ true → is_plain b ≡ true
 unfolding is_value_byte
-value_is_char b h = grind (arith, nat_tests)
+value_is_plain b h = grind (arith, nat_tests)
 
-pub value_ascii : (b : ℕ) → is_value_byte b ≡ true → b < 128
-unfolding is_value_byte
-value_ascii b h = grind (arith, nat_tests)
-
-pub text_ascii : (b : ℕ) → is_text_byte b ≡ true → b < 128
+pub text_is_plain : (b : ℕ) → is_text_byte b ≡ true → is_plain b ≡ true
 unfolding is_text_byte
-text_ascii b h = grind (arith, nat_tests)
+text_is_plain b h = grind (arith, nat_tests)
 
-pub part_ascii : (b : ℕ) → is_part_byte b ≡ true → b < 128
+comment_is_plain : (b : ℕ) → is_comment_byte b ≡ true → is_plain b ≡ true
+unfolding is_comment_byte
+comment_is_plain b h = grind (arith, nat_tests)
+
+part_ascii : (b : ℕ) → is_part_byte b ≡ true → b < 128
 unfolding is_part_byte
 part_ascii b h = grind (arith, nat_tests)
 
-pub text_is_char : (b : ℕ) → is_text_byte b ≡ true → is_char b ≡ true
+-- a byte past ASCII that is not in the set begins a character
+value_leads : (b : ℕ) → is_value_byte b ≡ false → 128 ≤ b → 192 ≤ b
+unfolding is_value_byte
+value_leads b h wide = grind (arith, nat_tests)
+
+text_leads : (b : ℕ) → is_text_byte b ≡ false → 128 ≤ b → 192 ≤ b
 unfolding is_text_byte
-text_is_char b h = grind (arith, nat_tests)
+text_leads b h wide = grind (arith, nat_tests)
+
+comment_leads : (b : ℕ) → is_comment_byte b ≡ false → 128 ≤ b → 192 ≤ b
+unfolding is_comment_byte
+comment_leads b h wide = grind (arith, nat_tests)
+
+-- so the first such byte is where one ends
+pub value_cut : (src : List ℕ) (e : ℕ) → e ≤ length src → (e < length src → is_value_byte (get_or src e 0) ≡ false) → IsCharBoundary src e
+value_cut src e within stops = (within, λ more wide. value_leads _ (stops more) wide)
+
+pub text_cut : (src : List ℕ) (e : ℕ) → e ≤ length src → (e < length src → is_text_byte (get_or src e 0) ≡ false) → IsCharBoundary src e
+text_cut src e within stops = (within, λ more wide. text_leads _ (stops more) wide)
+
+pub comment_cut : (src : List ℕ) (e : ℕ) → e ≤ length src → (e < length src → is_comment_byte (get_or src e 0) ≡ false) → IsCharBoundary src e
+comment_cut src e within stops = (within, λ more wide. comment_leads _ (stops more) wide)
 
 part_is_part : (b : ℕ) → is_part_byte b ≡ true → is_part_char b ≡ true
 unfolding is_part_byte
 part_is_part b h = grind (arith, nat_tests)
 
 -- a place behind ASCII bytes is one between characters
-pub cut_behind : (p : ℕ → Bool) (src : List ℕ) (i e : ℕ) → IsUtf8 src → IsCharBoundary src i → i ≤ e → e ≤ length src → AllPass p src i e → IsCharBoundary src e
-cut_behind p src i e utf8 cut le within all =
+pub part_cut : (src : List ℕ) (i e : ℕ) → IsUtf8 src → IsCharBoundary src i → i ≤ e → e ≤ length src → AllPass is_part_byte src i e → IsCharBoundary src e
+part_cut src i e utf8 cut le within all =
     elim (cases_eq e i) [
       | inl same ↦ rw same cut
-      | inr more ↦ subst (λ k. IsCharBoundary src k) (omega arith) (IsCharBoundary-after_ascii src (e - 1) utf8 (omega arith) (all (e - 1) (omega arith) (omega arith)).0)
+      | inr more ↦ subst (λ k. IsCharBoundary src k) (omega arith) (IsCharBoundary-after_ascii src (e - 1) utf8 (omega arith) (part_ascii _ (all (e - 1) (omega arith) (omega arith))))
     ]
 
--- a run goes on behind bytes of a set that it takes
-run_from : (p q : ℕ → Bool) (src : List ℕ) (i e n : ℕ) → i + n ≡ e → e ≤ length src → IsUtf8 src → AllPass p src i e → ((b : ℕ) → p b ≡ true → q b ≡ true) → run_end q src e ≡ run_end q src i
-run_from p q src i e zero same within utf8 all are = let at : e ≡ i = omega arith in rw at refl
-run_from p q src i e (suc n) same within utf8 all are =
+-- a run of name characters goes on behind them
+run_from : (src : List ℕ) (i e n : ℕ) → i + n ≡ e → e ≤ length src → IsUtf8 src → AllPass is_part_byte src i e → run_end is_part_char src e ≡ run_end is_part_char src i
+run_from src i e zero same within utf8 all = let at : e ≡ i = omega arith in rw at refl
+run_from src i e (suc n) same within utf8 all =
     let here = all i (omega arith) (omega arith) in
-    run_from p q src (i + 1) e n (omega arith) within utf8 (λ k low high. all k (omega arith) high) are
-    ∙ run_on_ascii q src i utf8 (omega arith) here.0 (are _ here.1)
+    run_from src (i + 1) e n (omega arith) within utf8 (λ k low high. all k (omega arith) high)
+    ∙ run_on_ascii is_part_char src i utf8 (omega arith) (part_ascii _ here) (part_is_part _ here)
 
 pub part_goes_on : (src : List ℕ) (i e : ℕ) → IsUtf8 src → i ≤ e → e ≤ length src → AllPass is_part_byte src i e → run_end is_part_char src e ≡ run_end is_part_char src i
-part_goes_on src i e utf8 le within all = run_from is_part_byte is_part_char src i e (e - i) (omega arith) within utf8 all part_is_part
+part_goes_on src i e utf8 le within all = run_from src i e (e - i) (omega arith) within utf8 all
 
--- bytes of a set of Chars are Chars
-chars_from : (p : ℕ → Bool) (src : List ℕ) (i e n : ℕ) → i + n ≡ e → e ≤ length src → IsUtf8 (take e src) → AllPass p src i e → ((b : ℕ) → p b ≡ true → is_char b ≡ true) → run_end is_char (take e src) i ≡ e
-chars_from p src i e zero same within utf8 all are =
+-- all of a stretch of such bytes
+all_plain : (p : ℕ → Bool) (src : List ℕ) (i e n : ℕ) → i + n ≡ e → e ≤ length src → AllPass p src i e → ((b : ℕ) → p b ≡ true → is_plain b ≡ true) → list_all is_plain (drop i (take e src)) ≡ true
+all_plain p src i e zero same within all are = let long = length-take e src in rw (drop_all i (take e src) (omega (arith, long))) refl
+all_plain p src i e (suc n) same within all are =
     let long = length-take e src in
-    run_at_end is_char (take e src) i (omega (arith, long)) ∙ omega arith
-chars_from p src i e (suc n) same within utf8 all are =
-    let here = all i (omega arith) (omega arith) in
-    let long = length-take e src in
-    let read : get_or (take e src) i 0 ≡ get_or src i 0 = get_or-take e src i 0 (omega arith) in
-    sym (run_on_ascii is_char (take e src) i utf8 (omega (arith, long)) (omega (arith, read, here.0)) (rw read (are _ here.1)))
-    ∙ chars_from p src (i + 1) e n (omega arith) within utf8 (λ k low high. all k (omega arith) high) are
+    let read : get_or (take e src) i 0 ≡ get_or src i 0 = get_or-take e src i 0 (omega (arith, long)) in
+    rw (drop_more (take e src) i 0 (omega (arith, long)), read, are _ (all i (omega arith) (omega arith))) (all_plain p src (i + 1) e n (omega arith) within (λ k low high. all k (omega arith) high) are)
 
-pub near_chars : (p : ℕ → Bool) (src : List ℕ) (i e : ℕ) → i ≤ e → IsUtf8 src → IsCharBoundary src e → AllPass p src i e → ((b : ℕ) → p b ≡ true → is_char b ≡ true) → run_end is_char (take e src) i ≡ e
-near_chars p src i e le utf8 cut all are = chars_from p src i e (e - i) (omega arith) cut.0 (IsUtf8-take src e utf8 cut) all are
+cut_before : (src : List ℕ) (i e : ℕ) → i ≤ e → e ≤ length src → IsCharBoundary src i → IsCharBoundary (take e src) i
+cut_before src i e le within cut =
+    let long = length-take e src in
+    (omega (arith, long), λ more wide. let read = get_or-take e src i 0 (omega (arith, long)) in rw read (cut.1 (omega (arith, long)) (rw read at wide)))
+
+-- plain bytes are of Chars
+pub near_chars : (p : ℕ → Bool) (src : List ℕ) (i e : ℕ) → IsUtf8 src → IsCharBoundary src i → i ≤ e → IsCharBoundary src e → AllPass p src i e → ((b : ℕ) → p b ≡ true → is_plain b ≡ true) → run_end is_char (take e src) i ≡ e
+near_chars p src i e utf8 start le cut all are =
+    let long = length-take e src in
+    let whole = plain_run (take e src) i (IsUtf8-take src e utf8 cut) (cut_before src i e le cut.0 start) (all_plain p src i e (e - i) (omega arith) cut.0 all are) in
+    omega (arith, whole, long)
 
 -- a search for a byte that is not in the set ends where the set does, if one stands there
 pub near_found : (p q : ℕ → Bool) (src : List ℕ) (i e : ℕ) → i ≤ e → e ≤ length src → AllPass p src i e → ((b : ℕ) → p b ≡ true → q b ≡ false) → (e < length src → q (get_or src e 0) ≡ true) → byte_from q src i ≡ e
@@ -84,7 +109,7 @@ unfolding byte_from
 near_found p q src i e le within all apart here =
     let found = position_or_len_is q (drop i src) (e - i) 0
     (omega (arith, length-drop i src))
-    (λ k below. rw (get_or-drop i src k 0) (apart _ (all (i + k) (omega arith) (omega arith)).1))
+    (λ k below. rw (get_or-drop i src k 0) (apart _ (all (i + k) (omega arith) (omega arith))))
     (λ more. let at : i + (e - i) ≡ e = omega arith in rw (get_or-drop i src (e - i) 0, at) (here (omega (arith, length-drop i src)))) in
     omega (arith, found)
 
@@ -97,14 +122,14 @@ byte_goes_on : (p q : ℕ → Bool) (src : List ℕ) (i e n : ℕ) → i + n ≡
 byte_goes_on p q src i e zero same within all apart = let at : e ≡ i = omega arith in rw at refl
 byte_goes_on p q src i e (suc n) same within all apart =
     byte_goes_on p q src (i + 1) e n (omega arith) within (λ k low high. all k (omega arith) high) apart
-    ∙ byte_on q src i (omega arith) (apart _ (all i (omega arith) (omega arith)).1)
+    ∙ byte_on q src i (omega arith) (apart _ (all i (omega arith) (omega arith)))
 
 -- none of a set of bytes is in a slice of the others
 pub none_among : (p q : ℕ → Bool) (src : List ℕ) (i e n : ℕ) → i + n ≡ e → e ≤ length src → AllPass p src i e → ((b : ℕ) → p b ≡ true → q b ≡ false) → list_any q (slice_range src i e) ≡ false
 none_among p q src i e zero same within all apart = let none : e - i ≡ 0 = omega arith in rw none refl
 none_among p q src i e (suc n) same within all apart =
     let first : e - i ≡ suc (e - (i + 1)) = omega arith in
-    rw (first, drop_more src i 0 (omega arith), apart _ (all i (omega arith) (omega arith)).1) (none_among p q src (i + 1) e n (omega arith) within (λ k low high. all k (omega arith) high) apart)
+    rw (first, drop_more src i 0 (omega arith), apart _ (all i (omega arith) (omega arith))) (none_among p q src (i + 1) e n (omega arith) within (λ k low high. all k (omega arith) high) apart)
 
 either_first : (q : ℕ) → (q == q || q == 60) ≡ true
 either_first q = grind (arith, nat_tests)
@@ -130,12 +155,12 @@ not_zero : (quote : ℕ) → (quote == 39 || quote == 34) ≡ true → 0 < quote
 not_zero quote q = grind (arith, nat_tests)
 
 -- what it is read as
-pub short_value : (src : List ℕ) (i e quote : ℕ) → IsUtf8 src → (quote == 39 || quote == 34) ≡ true → i ≤ e → IsCharBoundary src e → AllPass is_value_byte src i e → (get_or src e 0 == quote) ≡ true → raw_value_at quote src i ≡ Ok (slice_range src i e, e)
+pub short_value : (src : List ℕ) (i e quote : ℕ) → IsUtf8 src → IsCharBoundary src i → (quote == 39 || quote == 34) ≡ true → i ≤ e → IsCharBoundary src e → AllPass is_value_byte src i e → (get_or src e 0 == quote) ≡ true → raw_value_at quote src i ≡ Ok (slice_range src i e, e)
 unfolding raw_value_at chars_up_to
-short_value src i e quote utf8 q le cut all here =
+short_value src i e quote utf8 start q le cut all here =
     let at : get_or src e 0 ≡ quote = eqb-true _ _ here in
     let within : e < length src = elim (cases_lt e (length src)) [ inl more ↦ more | inr past ↦ absurd (omega (arith, get_or_past src e 0 past, not_zero quote q)) ] in
-    rw (near_value src i e quote q le within at all, lt-leb (length src) e within, near_chars is_value_byte src i e le utf8 cut all value_is_char, le-ltb e e (omega arith)) refl
+    rw (near_value src i e quote q le within at all, lt-leb (length src) e within, near_chars is_value_byte src i e utf8 start le cut all value_is_plain, le-ltb e e (omega arith)) refl
 
 -- and has nothing to change
 pub near_plain : (src : List ℕ) (i e : ℕ) → i ≤ e → e ≤ length src → AllPass is_value_byte src i e → is_plain_value (slice_range src i e) ≡ true
@@ -147,15 +172,7 @@ pub read_among : (p : ℕ → Bool) (src : List ℕ) (i e j : ℕ) → e ≤ len
 read_among p src i e j within all below =
     let long = length-take (e - i) (drop i src) in
     let at : get_or (slice_range src i e) j 0 ≡ get_or src (i + j) 0 = get_or-take (e - i) (drop i src) j 0 (omega (arith, long)) ∙ get_or-drop i src j 0 in
-    rw at (all (i + j) (omega arith) (omega (arith, long))).1
-
-pub comment_ascii : (b : ℕ) → is_comment_byte b ≡ true → b < 128
-unfolding is_comment_byte
-comment_ascii b h = grind (arith, nat_tests)
-
-comment_is_char : (b : ℕ) → is_comment_byte b ≡ true → is_char b ≡ true
-unfolding is_comment_byte
-comment_is_char b h = grind (arith, nat_tests)
+    rw at (all (i + j) (omega arith) (omega (arith, long)))
 
 comment_no_dash : (b : ℕ) → is_comment_byte b ≡ true → b ≡ 45 → ⊥
 unfolding is_comment_byte
@@ -182,10 +199,10 @@ near_mark mark src i e some le within apart here =
     omega (arith, found)
 
 -- a comment whose text has no dash
-pub short_comment : (src : List ℕ) (i s e : ℕ) → s ≡ i + 4 → IsUtf8 src → s ≤ e → IsCharBoundary src e → AllPass is_comment_byte src s e → stands (word_text word.CommentEnd) src e ≡ true → comment_at src i ≡ Ok (slice_range src s e, e + 3)
+pub short_comment : (src : List ℕ) (i s e : ℕ) → s ≡ i + 4 → IsUtf8 src → IsCharBoundary src s → s ≤ e → IsCharBoundary src e → AllPass is_comment_byte src s e → stands (word_text word.CommentEnd) src e ≡ true → comment_at src i ≡ Ok (slice_range src s e, e + 3)
 unfolding comment_at text_to chars_up_to string_at
-short_comment src i s e start utf8 le cut all here =
-    let end = near_mark (word_text word.CommentEnd) src s e (omega arith) le cut.0 (λ k low high. comment_no_dash _ (all k low high).1) here in
-    let chars = near_chars is_comment_byte src s e le utf8 cut all comment_is_char in
+short_comment src i s e start utf8 first le cut all here =
+    let end = near_mark (word_text word.CommentEnd) src s e (omega arith) le cut.0 (λ k low high. comment_no_dash _ (all k low high)) here in
+    let chars = near_chars is_comment_byte src s e utf8 first le cut all comment_is_plain in
     let clear = no_mark double_dash (slice_range src s e) (omega arith) (λ j below. comment_no_dash _ (read_among is_comment_byte src s e j cut.0 all below)) in
     rw (← start, end, chars, le-ltb e e (omega arith), here, clear, no_last_dash src s e cut.0 all) refl

@@ -1,23 +1,24 @@
--- Bytes that stand for themselves, for a look at short texts.
+-- Bytes that stand for themselves, whichever character they are of, for a first look. 239 is none of them, since it begins the
+-- two characters past ASCII that are no Chars.
 use Rattle.rox_grammar.specs.Chars.{is_part_char}
 use Rattle.std.specs.Prelude.{◌≡◌, ◌≤◌, ◌<◌, ℕ, Bool, true, not, ◌&&◌, ◌||◌, ◌==◌, nat_le, nat_lt, List, slice_index}
 
--- ASCII, and no control, no quote, no `&` and no `<`
+-- no control, no quote, no `&` and no `<`
 unfoldable pub is_value_byte : ℕ → Bool
-is_value_byte b = (nat_le 32 b && nat_lt b 128) && not ((b == 34 || b == 39) || (b == 38 || b == 60))
+is_value_byte b = (nat_le 32 b && not (b == 239)) && not ((b == 34 || b == 39) || (b == 38 || b == 60))
 
--- ASCII, and no control but TAB and LF, no `&`, no `<` and no `]`
+-- no control but TAB and LF, no `&`, no `<` and no `]`
 unfoldable pub is_text_byte : ℕ → Bool
-is_text_byte b = (((b == 9 || b == 10) || nat_le 32 b) && nat_lt b 128) && not ((b == 38 || b == 60) || b == 93)
+is_text_byte b = (((b == 9 || b == 10) || nat_le 32 b) && not (b == 239)) && not ((b == 38 || b == 60) || b == 93)
 
--- ASCII, and no control but TAB, LF and CR, and no `-`
+-- no control but TAB, LF and CR, and no `-`
 unfoldable pub is_comment_byte : ℕ → Bool
-is_comment_byte b = ((((b == 9 || b == 10) || b == 13) || nat_le 32 b) && nat_lt b 128) && not (b == 45)
+is_comment_byte b = ((((b == 9 || b == 10) || b == 13) || nat_le 32 b) && not (b == 239)) && not (b == 45)
 
 -- ASCII, and in a part of a name
 unfoldable pub is_part_byte : ℕ → Bool
 is_part_byte b = nat_lt b 128 && is_part_char b
 
--- each byte from i up to j passes, and is ASCII
+-- each byte from i up to j passes
 abbrev pub AllPass : (ℕ → Bool) → List ℕ → ℕ → ℕ → Type 0
-AllPass p src i j = (k : ℕ) → i ≤ k → k < j → (slice_index src k < 128) × (p (slice_index src k) ≡ true)
+AllPass p src i j = (k : ℕ) → i ≤ k → k < j → p (slice_index src k) ≡ true

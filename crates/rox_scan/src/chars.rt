@@ -81,18 +81,19 @@ pub fn is_plain_byte(b: u8) -> bool
     ((b >= 32) & (b != 239)) | (b == 9) | (b == 10) | (b == 13)
 }
 
-// A `#` at the place of each byte of an attribute's value that stands for itself: ASCII but for controls, quotes, `&` and `<`.
+// A `#` at the place of each byte of an attribute's value that stands for itself: all but controls, quotes, `&`, `<` and 239.
 static VALUE_BYTES: [u8; 256] = *b"\
     ................................\
     ##.###..####################.###\
     ################################\
     ################################\
-    ................................\
-    ................................\
-    ................................\
-    ................................";
+    ################################\
+    ################################\
+    ################################\
+    ###############.################";
 
-/// An ASCII byte of an attribute's value that stands for itself and ends no value: no control, no quote, no `&` and no `<`.
+/// A byte of an attribute's value that stands for itself and ends no value: no control, no quote, no `&` and no `<`, and not
+/// 239, which begins characters that are no Chars.
 #[inline(always)]
 pub fn is_value_byte(byte: u8) -> bool
     ensures { result ≡ near.is_value_byte byte }
@@ -100,19 +101,19 @@ pub fn is_value_byte(byte: u8) -> bool
     VALUE_BYTES[byte as usize] == b'#'
 }
 
-// A `#` at the place of each byte of character data that stands for itself: ASCII but for `&`, `<`, `]` and the controls
-// except TAB and LF.
+// A `#` at the place of each byte of character data that stands for itself: all but `&`, `<`, `]`, 239 and the controls except
+// TAB and LF.
 static TEXT_BYTES: [u8; 256] = *b"\
     .........##.....................\
     ######.#####################.###\
     #############################.##\
     ################################\
-    ................................\
-    ................................\
-    ................................\
-    ................................";
+    ################################\
+    ################################\
+    ################################\
+    ###############.################";
 
-/// An ASCII byte of character data that stands for itself: no `&`, `<` or `]`, and no control but TAB and LF.
+/// A byte of character data that stands for itself: no `&`, `<` or `]`, not 239, and no control but TAB and LF.
 #[inline(always)]
 pub fn is_text_byte(byte: u8) -> bool
     ensures { result ≡ near.is_text_byte byte }
@@ -120,18 +121,18 @@ pub fn is_text_byte(byte: u8) -> bool
     TEXT_BYTES[byte as usize] == b'#'
 }
 
-// A `#` at the place of each byte of a comment that stands for itself: ASCII but for `-` and the controls except TAB, LF and CR.
+// A `#` at the place of each byte of a comment that stands for itself: all but `-`, 239 and the controls except TAB, LF and CR.
 static COMMENT_BYTES: [u8; 256] = *b"\
     .........##..#..................\
     #############.##################\
     ################################\
     ################################\
-    ................................\
-    ................................\
-    ................................\
-    ................................";
+    ################################\
+    ################################\
+    ################################\
+    ###############.################";
 
-/// An ASCII byte of a comment that stands for itself: no `-`, and no control but TAB, LF and CR.
+/// A byte of a comment that stands for itself: no `-`, not 239, and no control but TAB, LF and CR.
 #[inline(always)]
 pub fn is_comment_byte(byte: u8) -> bool
     ensures { result ≡ near.is_comment_byte byte }

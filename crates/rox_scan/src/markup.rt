@@ -91,6 +91,7 @@ impl<'input> Cursor<'input> {
     /// A comment, from `<!--` to its end `-->` (XML 1.0 section 2.5). It answers the text between these. Two dashes within
     /// the text, or one at its end, are a fault at the comment's start.
     #[inline]
+    #[tactic(auto, using(crate::proofs::NearLemmas::comment_cut))]
     pub fn comment(&mut self, finders: &Finders) -> Result<&'input str, Fault>
         requires { stands (word_text word.CommentStart) self.old.text.now self.old.pos ≡ true }
         ensures value { Reads (λ x. x.now) self.new result (spec.comment_at self.old.text.now self.old.pos) }
@@ -111,7 +112,7 @@ impl<'input> Cursor<'input> {
         Ok(&text[from..near])
     }
 
-    /// The same, behind its `<!--`, of a long comment and of one that holds more than plain ASCII.
+    /// The same, behind its `<!--`, of a comment with a dash, or a byte that may begin what is no Char.
     #[tactic(auto, unfolding(rox_reading::specs::Markup::comment_at))]
     fn far_comment(&mut self, start: usize, finders: &Finders) -> Result<&'input str, Fault>
         requires { self.old.pos ≡ start + 4 }
@@ -181,7 +182,7 @@ impl<'input> Cursor<'input> {
 
     /// The text up to the quote or a `<`, one of which has to follow.
     #[inline]
-    #[tactic(auto, using(crate::proofs::NearLemmas::near_plain), unfolding(rox_reading::specs::Markup::raw_value_at))]
+    #[tactic(auto, using(crate::proofs::NearLemmas::near_plain, crate::proofs::NearLemmas::value_cut), unfolding(rox_reading::specs::Markup::raw_value_at))]
     fn raw_value(&mut self, quote: u8) -> Result<RawValue<'input>, Fault>
         requires ascii { quote < 128 }
         requires quote { (quote == 39 || quote == 34) ≡ true }

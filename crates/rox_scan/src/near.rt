@@ -1,6 +1,6 @@
-//! Runs of plain ASCII bytes, sixteen bytes at a time: a first look at names, values, character data and comments.
+//! Runs of plain bytes, sixteen at a time: a first look at names, values, character data and comments.
 
-ghost use Rattle.std.specs.Prelude.{◌≡◌, ◌+◌, ◌<◌, ◌≤◌, ℕ, Bool, true, not, map, length};
+ghost use Rattle.std.specs.Prelude.{◌≡◌, ◌+◌, ◌<◌, ◌≤◌, ℕ, Bool, false, not, map, length, slice_index};
 ghost use Rattle.std.specs.Str.{IsCharBoundary};
 ghost use Rattle.std.specs.Simd.Lanes.{mask_l};
 ghost use Rattle.rox_grammar.specs.Chars as spec;
@@ -12,18 +12,16 @@ use crate::chars;
 use crate::runs::{PartChar, run_end};
 use std::simd::prelude::*;
 
-/// A set of ASCII bytes, to find a run of them.
+/// A set of bytes, to find a run of them.
 pub trait Near {
     ghost test: { ℕ → Bool };
 
     fn has(byte: u8) -> bool
-        ensures value { result ≡ test byte }
-        ensures ascii { result ≡ true → byte < 128 };
+        ensures { result ≡ test byte };
 
     /// A bit for each of these bytes that is not in the set, the lowest for the first.
     fn others(block: u8x16) -> u64
-        ensures bits { result ≡ mask_l (map (λ b. not (test b)) block) }
-        ensures ascii { (b : ℕ) → test b ≡ true → b < 128 };
+        ensures { result ≡ mask_l (map (λ b. not (test b)) block) };
 }
 
 /// The bytes of an attribute's value that stand for themselves.
@@ -39,11 +37,13 @@ impl Near for ValueByte {
 
     #[inline(always)]
     fn others(block: u8x16) -> u64 {
-        ((block - u8x16::splat(32)).simd_ge(u8x16::splat(96))
+        (block.simd_lt(u8x16::splat(32))
+            | block.simd_eq(u8x16::splat(239))
             | block.simd_eq(u8x16::splat(b'"'))
-            | block.simd_eq(u8x16::splat(b'&'))
-            | block.simd_eq(u8x16::splat(b'\''))
-            | block.simd_eq(u8x16::splat(b'<'))).to_bitmask()
+            // `&` and `'` differ in the lowest bit alone.
+            | (block | u8x16::splat(1)).simd_eq(u8x16::splat(b'\''))
+            | block.simd_eq(u8x16::splat(b'<')))
+            .to_bitmask()
     }
 }
 
@@ -62,7 +62,7 @@ impl Near for TextByte {
     fn others(block: u8x16) -> u64 {
         (block.simd_lt(u8x16::splat(9))
             | (block - u8x16::splat(11)).simd_lt(u8x16::splat(21))
-            | block.simd_ge(u8x16::splat(128))
+            | block.simd_eq(u8x16::splat(239))
             | block.simd_eq(u8x16::splat(b'&'))
             | block.simd_eq(u8x16::splat(b'<'))
             | block.simd_eq(u8x16::splat(b']'))).to_bitmask()
@@ -85,7 +85,7 @@ impl Near for CommentByte {
         (block.simd_lt(u8x16::splat(9))
             | (block - u8x16::splat(11)).simd_lt(u8x16::splat(2))
             | (block - u8x16::splat(14)).simd_lt(u8x16::splat(18))
-            | block.simd_ge(u8x16::splat(128))
+            | block.simd_eq(u8x16::splat(239))
             | block.simd_eq(u8x16::splat(b'-'))).to_bitmask()
     }
 }
@@ -149,10 +149,11 @@ fn blocks_end<C: Near>(bytes: &[u8], at: usize) -> usize
 /// Where the bytes of the set from `at` on end.
 #[inline(always)]
 pub fn near_end<C: Near>(text: &str, at: usize) -> usize
-    requires { IsCharBoundary text.now at }
+    requires { at ≤ length text.now }
     ensures onward { at ≤ result }
-    ensures cut { IsCharBoundary text.now result }
+    ensures within { result ≤ length text.now }
     ensures passes { AllPass C.test text.now at result }
+    ensures stops { result < length text.now → C.test (slice_index text.now result) ≡ false }
 {
     let bytes = text.as_bytes();
     let mut end = blocks_end::<C>(bytes, at);

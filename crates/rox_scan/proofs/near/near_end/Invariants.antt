@@ -1,12 +1,11 @@
 use Rattle.std.proofs.Common.{◌≤◌, ◌-◌, length}
-use Rattle.std.specs.Str.{IsCharBoundary}
 use Rattle.rox_scan.specs.Near.{AllPass}
 use Rattle.rox_scan.proofs.near.near_end.Given as goal
 
 abbrev pub invariant-loop-end : goal.invariant-loop-end
 invariant-loop-end g l = record {
   onward : l.at ≤ l.end;
-  cut : IsCharBoundary l.text l.end;
+  within : l.end ≤ length l.text;
   passes : AllPass g.C.Near.test l.text l.at l.end;
 }
 

@@ -1,8 +1,13 @@
 use Rattle.std.proofs.Common.{◌∙◌}
-use Rattle.rox_scan.proofs.NearLemmas.{part_goes_on}
+use Rattle.rox_scan.proofs.NearLemmas.{part_cut, part_goes_on}
 use Rattle.rox_scan.proofs.near.part_end.Goals as goal
+
+pub run_end-requires : goal.run_end-requires
+run_end-requires c =
+    let near = c.near_end.ensures in
+    part_cut c.args.text.now c.args.at _ c.utf8.text c.requires near.onward near.within near.passes
 
 pub returns-clause-end : goal.returns-clause-end
 returns-clause-end c =
     let near = c.near_end.ensures in
-    c.run_end.ensures.end ∙ part_goes_on c.args.text.now c.args.at _ c.utf8.text near.onward near.cut.0 near.passes
+    c.run_end.ensures.end ∙ part_goes_on c.args.text.now c.args.at _ c.utf8.text near.onward near.within near.passes

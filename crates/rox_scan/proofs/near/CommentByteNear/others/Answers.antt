@@ -3,22 +3,18 @@ use Rattle.std.proofs.Common.{ℕ, not, refl, arith}
 use Rattle.std.proofs.lemmas.Simd.{zip2_splat}
 use Rattle.rox_scan.specs.Near.{is_comment_byte}
 use Rattle.rox_scan.proofs.TableLemmas.{agree_below}
-use Rattle.rox_scan.proofs.LaneLemmas.{masked, either, from, against, at_most, below, less, equals, map_same}
-use Rattle.rox_scan.proofs.NearLemmas.{comment_ascii}
+use Rattle.rox_scan.proofs.LaneLemmas.{masked, either, against, below, less, equals}
 use Rattle.rox_scan.proofs.near.CommentByteNear.others.Goals as goal
 
-pub returns-clause-bits : goal.returns-clause-bits
-unfolding agree_below is_comment_byte 
-returns-clause-bits c =
+pub returns : goal.returns
+unfolding agree_below is_comment_byte
+returns c =
     let v = c.args.block in
     let long = c.fits-block.0 in
     masked _ (λ b. not (is_comment_byte b)) v _ (omega (arith, long)) c.fits-block.1 (
     (either _ _ v (either _ _ v (either _ _ v (either _ _ v
-        (zip2_splat below v 16 9 long)
-        (against below _ 2 16 v long (zip2_splat less v 16 11 long)))
-        (against below _ 18 16 v long (zip2_splat less v 16 14 long)))
-        (from at_most (λ x. x) 128 16 v long (map_same v)))
-        (zip2_splat equals v 16 45 long))) refl
-
-pub returns-clause-ascii : goal.returns-clause-ascii
-returns-clause-ascii c = comment_ascii
+    (zip2_splat below v 16 9 long)
+    (against below _ 2 16 v long (zip2_splat less v 16 11 long)))
+    (against below _ 18 16 v long (zip2_splat less v 16 14 long)))
+    (zip2_splat equals v 16 239 long))
+    (zip2_splat equals v 16 45 long))) refl

@@ -1,12 +1,12 @@
-use Rattle.std.proofs.Common.{◌∙◌, sym, refl, arith}
+use Rattle.std.proofs.Common.{arith}
 use Rattle.std.proofs.lemmas.Bool.Decides.{nat_tests}
 use Rattle.rox_scan.specs.Near.{is_part_byte}
 use Rattle.rox_scan.proofs.near.PartByteNear.has.Goals as goal
 
-pub returns-then-byte-lt128-clause-value : goal.returns-then-byte-lt128-clause-value
+pub returns-then-byte-lt128 : goal.returns-then-byte-lt128
 unfolding is_part_byte
-returns-then-byte-lt128-clause-value c = grind (arith, nat_tests, c.is_part_byte.ensures)
+returns-then-byte-lt128 c = grind (arith, nat_tests, c.is_part_byte.ensures)
 
-pub returns-else-byte-lt128-clause-value : goal.returns-else-byte-lt128-clause-value
+pub returns-else-byte-lt128 : goal.returns-else-byte-lt128
 unfolding is_part_byte
-returns-else-byte-lt128-clause-value c = grind (arith, nat_tests)
+returns-else-byte-lt128 c = grind (arith, nat_tests)

@@ -3,23 +3,19 @@ use Rattle.std.proofs.Common.{ℕ, not, refl, arith}
 use Rattle.std.proofs.lemmas.Simd.{zip2_splat}
 use Rattle.rox_scan.specs.Near.{is_text_byte}
 use Rattle.rox_scan.proofs.TableLemmas.{agree_below}
-use Rattle.rox_scan.proofs.LaneLemmas.{masked, either, from, against, at_most, below, less, equals, map_same}
-use Rattle.rox_scan.proofs.NearLemmas.{text_ascii}
+use Rattle.rox_scan.proofs.LaneLemmas.{masked, either, against, below, less, equals}
 use Rattle.rox_scan.proofs.near.TextByteNear.others.Goals as goal
 
-pub returns-clause-bits : goal.returns-clause-bits
-unfolding agree_below is_text_byte 
-returns-clause-bits c =
+pub returns : goal.returns
+unfolding agree_below is_text_byte
+returns c =
     let v = c.args.block in
     let long = c.fits-block.0 in
     masked _ (λ b. not (is_text_byte b)) v _ (omega (arith, long)) c.fits-block.1 (
     (either _ _ v (either _ _ v (either _ _ v (either _ _ v (either _ _ v
-        (zip2_splat below v 16 9 long)
-        (against below _ 21 16 v long (zip2_splat less v 16 11 long)))
-        (from at_most (λ x. x) 128 16 v long (map_same v)))
-        (zip2_splat equals v 16 38 long))
-        (zip2_splat equals v 16 60 long))
-        (zip2_splat equals v 16 93 long))) refl
-
-pub returns-clause-ascii : goal.returns-clause-ascii
-returns-clause-ascii c = text_ascii
+    (zip2_splat below v 16 9 long)
+    (against below _ 21 16 v long (zip2_splat less v 16 11 long)))
+    (zip2_splat equals v 16 239 long))
+    (zip2_splat equals v 16 38 long))
+    (zip2_splat equals v 16 60 long))
+    (zip2_splat equals v 16 93 long))) refl

@@ -3,22 +3,19 @@ use Rattle.std.proofs.Common.{ℕ, not, refl, arith}
 use Rattle.std.proofs.lemmas.Simd.{zip2_splat}
 use Rattle.rox_scan.specs.Near.{is_value_byte}
 use Rattle.rox_scan.proofs.TableLemmas.{agree_below}
-use Rattle.rox_scan.proofs.LaneLemmas.{masked, either, from, at_most, less, equals}
-use Rattle.rox_scan.proofs.NearLemmas.{value_ascii}
+use Rattle.rox_scan.proofs.LaneLemmas.{masked, either, against, below, equals}
+use lib.Bits.{bit_or}
 use Rattle.rox_scan.proofs.near.ValueByteNear.others.Goals as goal
 
-pub returns-clause-bits : goal.returns-clause-bits
-unfolding agree_below is_value_byte 
-returns-clause-bits c =
+pub returns : goal.returns
+unfolding agree_below is_value_byte
+returns c =
     let v = c.args.block in
     let long = c.fits-block.0 in
     masked _ (λ b. not (is_value_byte b)) v _ (omega (arith, long)) c.fits-block.1 (
     (either _ _ v (either _ _ v (either _ _ v (either _ _ v
-        (from at_most _ 96 16 v long (zip2_splat less v 16 32 long))
-        (zip2_splat equals v 16 34 long))
-        (zip2_splat equals v 16 38 long))
-        (zip2_splat equals v 16 39 long))
-        (zip2_splat equals v 16 60 long))) refl
-
-pub returns-clause-ascii : goal.returns-clause-ascii
-returns-clause-ascii c = value_ascii
+    (zip2_splat below v 16 32 long)
+    (zip2_splat equals v 16 239 long))
+    (zip2_splat equals v 16 34 long))
+    (against equals _ 39 16 v long (zip2_splat bit_or v 16 1 long)))
+    (zip2_splat equals v 16 60 long))) refl
