@@ -1,4 +1,4 @@
-use Rattle.std.specs.Prelude.{ℕ, Bool, true, false, ◌≡◌, ◌<◌, ◌^◌, List, [], ◌∷◌, ◌==◌, Option, Some, None, string_bytes, if◌then◌else◌, MatchOption}
+use Rattle.std.specs.Prelude.{ℕ, Bool, false, ◌≡◌, ◌<◌, ◌^◌, List, [], ◌∷◌, ◌==◌, Option, Some, None, string_bytes, if◌then◌else◌, MatchOption}
 use Rattle.std.specs.Str.Parse.{IsNumeral, digits_value, without_leading_plus}
 use Rattle.benchmark.specs.declared.arguments.Command.{Command}
 
