@@ -1,0 +1,61 @@
+//! Measures the library on one document: `benchmark FILE [SECONDS]`.
+#![tactic(auto)]
+
+mod arguments;
+mod clock;
+mod fault;
+mod figures;
+mod input;
+mod memory;
+mod report;
+mod run;
+#[cfg(test)]
+mod tests;
+mod turns;
+mod walk;
+mod work;
+
+use crate::arguments::{Command, read};
+use crate::fault::Fault;
+use std::env;
+use std::io::{ErrorKind, Write};
+use std::process::ExitCode;
+
+const USAGE: &str = "usage: benchmark FILE [SECONDS]";
+
+fn main(rt: HostRuntime) -> ExitCode {
+    let status = match asked_for(&rt) {
+        Ok(Some(command)) => measure(&rt, &command),
+        Ok(None) => {
+            let _ = writeln!(rt.stderr(), "{USAGE}");
+            2
+        }
+        Err(fault) => tell(&rt, &fault),
+    };
+    ExitCode::from(status)
+}
+
+// The command of the program's arguments. One that is not UTF-8 is a wrong argument.
+fn asked_for(rt: &HostRuntime) -> Result<Option<Command>, Fault> {
+    match env::args(rt) {
+        Ok(words) => {
+            let words: Vec<String> = words.skip(1).collect(rt.alloc())?;
+            Ok(read(&words)?)
+        }
+        Err(error) if error.kind() == ErrorKind::OutOfMemory => Err(Fault::OutOfMemory),
+        Err(_) => Ok(None),
+    }
+}
+
+fn measure(rt: &HostRuntime, command: &Command) -> u8 {
+    match run::run(rt, command, &mut rt.stdout()) {
+        Ok(()) => 0,
+        Err(fault) => tell(rt, &fault),
+    }
+}
+
+// Writes a fault on standard error. The answer is the exit status.
+fn tell(rt: &HostRuntime, fault: &Fault) -> u8 {
+    let _ = writeln!(rt.stderr(), "error: {fault}");
+    fault.status()
+}

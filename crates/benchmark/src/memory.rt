@@ -1,0 +1,50 @@
+//! How many bytes of memory a document holds.
+
+use crate::fault::Fault;
+use roxmltree::Document;
+use std::alloc::Global;
+use std::fs;
+use std::rt::Files;
+
+/// How many bytes of text are parsed, about, where one text is shorter: the system counts memory in pages.
+const SAMPLE: usize = 4_000_000;
+
+/// How many documents are parsed at most.
+const MOST_COPIES: usize = 10_000;
+
+/// The bytes that a document of this text holds, or None where the system does not tell. A short text is parsed many times,
+/// all documents are kept, and the anonymous memory that the process has in use is read before and after. So what the
+/// allocator keeps for itself is counted, and pages of a table that were never written to are not. This has to be the first
+/// parse of the process: memory that was freed before would be used again, and not be counted.
+pub fn held<R: Files + AllocGlobal>(rt: &R, text: &str) -> Result<Option<u64>, Fault> {
+    let copies = (SAMPLE / text.len().max(1)).clamp(1, MOST_COPIES);
+    let mut documents = Vec::with_capacity(rt.alloc(), copies)?;
+    let before = in_use(rt);
+    for _ in 0..copies {
+        documents.push(Document::parse(rt.alloc(), text)?)?;
+    }
+    let after = in_use(rt);
+    match (before, after) {
+        (Some(before), Some(after)) => {
+            Ok(Some(after.saturating_sub(before) / documents.len().max(1) as u64))
+        }
+        _ => Ok(None),
+    }
+}
+
+// The bytes of anonymous memory that the process has in use.
+fn in_use<R: Files + AllocGlobal>(rt: &R) -> Option<u64> {
+    let table = fs::read_to_string(rt, "/proc/self/smaps_rollup").ok()?;
+    kibibytes(table.as_str(), "Anonymous:")?.checked_mul(1024)
+}
+
+/// The number in the line of such a table that begins with this word, as in `Anonymous:   148 kB`.
+pub fn kibibytes(table: &str, word: &str) -> Option<u64> {
+    for line in table.lines() {
+        let mut words = line.split_ascii_whitespace();
+        if words.next() == Some(word) {
+            return words.next()?.parse().ok();
+        }
+    }
+    None
+}

@@ -1,0 +1,84 @@
+//! What is printed.
+
+use crate::fault::Fault;
+use crate::figures::{Tenths, best, median, megabytes_per_second, share};
+use crate::turns::Turns;
+use std::alloc::Global;
+use std::io::Write;
+
+/// The times of a work's turns, in short.
+#[derive(Clone, Copy)]
+struct Summary {
+    best: u64,
+    median: u64,
+    repeats: u32,
+    turns: usize,
+}
+
+fn summed_up(turns: &mut Turns) -> Summary {
+    Summary {
+        best: best(&turns.times).unwrap_or(0),
+        median: median(&mut turns.times).unwrap_or(0),
+        repeats: turns.repeats,
+        turns: turns.times.len(),
+    }
+}
+
+/// Writes the line of a work over a text of so many bytes, with its speed in megabytes a second.
+pub fn write_parse<W: Write>(
+    alloc: Global,
+    out: &mut W,
+    name: &str,
+    bytes: u64,
+    mut turns: Turns,
+) -> Result<(), Fault> {
+    let told = summed_up(&mut turns);
+    let best = megabytes_per_second(bytes, told.repeats, told.best);
+    let median = megabytes_per_second(bytes, told.repeats, told.median);
+    write_line(alloc, out, name, told, [best, median], "MB/s")
+}
+
+/// Writes the line of a work over so many nodes, with its time for a node.
+pub fn write_walk<W: Write>(
+    alloc: Global,
+    out: &mut W,
+    name: &str,
+    nodes: u64,
+    mut turns: Turns,
+) -> Result<(), Fault> {
+    let told = summed_up(&mut turns);
+    let visits = nodes.saturating_mul(told.repeats as u64);
+    let (best, median) = (share(told.best, visits), share(told.median, visits));
+    write_line(alloc, out, name, told, [best, median], "ns a node")
+}
+
+fn write_line<W: Write>(
+    alloc: Global,
+    out: &mut W,
+    name: &str,
+    told: Summary,
+    rates: [Tenths; 2],
+    unit: &str,
+) -> Result<(), Fault> {
+    let (turns, repeats) = (told.turns, told.repeats);
+    let best = format!(in alloc; "{}", share(told.best, repeats as u64))?;
+    let median = format!(in alloc; "{}", share(told.median, repeats as u64))?;
+    let best_rate = format!(in alloc; "{}", rates[0])?;
+    let median_rate = format!(in alloc; "{}", rates[1])?;
+    write!(out, "{name:<14} best {best:>13} ns {best_rate:>8} {unit}, ")?;
+    write!(out, "median {median:>13} ns {median_rate:>8} {unit}, ")?;
+    writeln!(out, "{turns} turns of {repeats}")?;
+    Ok(())
+}
+
+/// Writes how many bytes a document of so many bytes of text holds.
+pub fn write_held<W: Write>(out: &mut W, bytes: u64, held: Option<u64>) -> Result<(), Fault> {
+    match held {
+        Some(held) => {
+            let rate = share(held, bytes);
+            writeln!(out, "{:<14} {held} bytes, {rate} a byte of text", "held")?;
+        }
+        None => writeln!(out, "{:<14} unknown", "held")?,
+    }
+    Ok(())
+}

@@ -1,0 +1,82 @@
+//! What the program does.
+
+use crate::arguments::Command;
+use crate::fault::Fault;
+use crate::report::{write_held, write_parse, write_walk};
+use crate::turns::measure;
+use crate::walk::{Census, count, walk, walk_links};
+use crate::work::{Parse, ParseAndDrop, Walk, WalkLinks};
+use crate::{input, memory};
+use roxmltree::Document;
+use std::alloc::Global;
+use std::io::Write;
+use std::rt::Files;
+use std::time::CpuClock;
+
+/// Reads the file, measures the parse of its text and walks over its document, and prints the figures.
+pub fn run<R: Files + AllocGlobal + CpuClock, O: Write>(
+    rt: &R,
+    command: &Command,
+    out: &mut O,
+) -> Result<(), Fault> {
+    let bytes = input::read(rt, command.file.as_str())?;
+    let text = input::decode(&bytes)?;
+    // before anything else is parsed
+    let held = memory::held(rt, text)?;
+    let document = Document::parse(rt.alloc(), text)?;
+    let length = text.len() as u64;
+    let found = count(&document);
+    write_contents(out, command.file.as_str(), length, found)?;
+    // a quarter of the time for each work
+    let budget = command.seconds as u64 * 250_000_000;
+    measure_parses(rt.alloc(), rt, text, budget, out)?;
+    measure_walks(rt.alloc(), rt, &document, found.nodes, budget, out)?;
+    write_held(out, length, held)
+}
+
+fn write_contents<O: Write>(
+    out: &mut O,
+    file: &str,
+    bytes: u64,
+    found: Census,
+) -> Result<(), Fault> {
+    let Census {
+        nodes,
+        elements,
+        attributes,
+    } = found;
+    write!(out, "{file}: {bytes} bytes, {nodes} nodes, ")?;
+    writeln!(out, "{elements} elements, {attributes} attributes")?;
+    Ok(())
+}
+
+fn measure_parses<R: CpuClock, O: Write>(
+    alloc: Global,
+    clock: &R,
+    text: &str,
+    budget: u64,
+    out: &mut O,
+) -> Result<(), Fault> {
+    let length = text.len() as u64;
+    let turns = measure(alloc, clock, &ParseAndDrop { alloc, text }, budget)?;
+    write_parse(alloc, out, "parse and drop", length, turns)?;
+    let turns = measure(alloc, clock, &Parse { alloc, text }, budget)?;
+    write_parse(alloc, out, "parse", length, turns)
+}
+
+fn measure_walks<R: CpuClock, O: Write>(
+    alloc: Global,
+    clock: &R,
+    document: &Document<'_>,
+    nodes: u64,
+    budget: u64,
+    out: &mut O,
+) -> Result<(), Fault> {
+    let sum = walk(document, 0);
+    let turns = measure(alloc, clock, &Walk { document, sum }, budget)?;
+    write_walk(alloc, out, "walk", nodes, turns)?;
+    let turns = measure(alloc, clock, &WalkLinks { document, nodes }, budget)?;
+    write_walk(alloc, out, "walk by links", nodes, turns)?;
+    writeln!(out, "{:<14} {sum}", "sum of a walk")?;
+    Ok(())
+}

@@ -1,0 +1,99 @@
+//! Walks over a document.
+
+use roxmltree::{Document, Node};
+
+/// Goes over each node: its tag name and all its attributes, with names, namespaces and values, or its text. The answer is
+/// `start` and, for each node, one more and the bytes of these strings. Sums wrap.
+#[inline(never)]
+pub fn walk(document: &Document<'_>, start: u64) -> u64 {
+    let mut sum = start;
+    for node in document.descendants() {
+        sum = sum.wrapping_add(1).wrapping_add(weight(node));
+    }
+    sum
+}
+
+#[inline]
+fn weight(node: Node<'_, '_>) -> u64 {
+    if node.is_element() {
+        let name = node.tag_name();
+        tag_weight(name.name(), name.namespace()).wrapping_add(attributes_weight(node))
+    } else if node.is_text() {
+        node.text().map_or(0, |text| text.len() as u64)
+    } else {
+        0
+    }
+}
+
+#[inline]
+fn attributes_weight(node: Node<'_, '_>) -> u64 {
+    let mut sum = 0u64;
+    for attribute in node.attributes() {
+        let name = tag_weight(attribute.name(), attribute.namespace());
+        sum = sum
+            .wrapping_add(name)
+            .wrapping_add(attribute.value().len() as u64);
+    }
+    sum
+}
+
+#[inline]
+fn tag_weight(local: &str, uri: Option<&str>) -> u64 {
+    let uri = uri.map_or(0, |uri| uri.len() as u64);
+    uri.wrapping_add(local.len() as u64)
+}
+
+/// Goes over each node in document order by `first_child`, `next_sibling` and `parent`. The answer is `start` and one more
+/// for each node. Sums wrap.
+#[inline(never)]
+pub fn walk_links(document: &Document<'_>, start: u64) -> u64 {
+    let mut count = start;
+    let mut next = Some(document.root());
+    for _ in 0..u64::MAX {
+        let Some(node) = next else {
+            break;
+        };
+        count = count.wrapping_add(1);
+        next = node.first_child().or_else(|| next_beside(node));
+    }
+    count
+}
+
+// The next node in document order that is not below this one.
+#[inline]
+fn next_beside<'a, 'input>(node: Node<'a, 'input>) -> Option<Node<'a, 'input>> {
+    let mut last = node;
+    for _ in 0..u64::MAX {
+        if let Some(sibling) = last.next_sibling() {
+            return Some(sibling);
+        }
+        last = last.parent()?;
+    }
+    None
+}
+
+/// How many of each there are in a document.
+#[derive(Clone, Copy, Debug, PartialEq, Eq)]
+pub struct Census {
+    pub nodes: u64,
+    pub elements: u64,
+    pub attributes: u64,
+}
+
+/// Counts the nodes, the elements among them, and the attributes of all elements.
+pub fn count(document: &Document<'_>) -> Census {
+    let mut found = Census {
+        nodes: 0,
+        elements: 0,
+        attributes: 0,
+    };
+    for node in document.descendants() {
+        found.nodes = found.nodes.wrapping_add(1);
+        if node.is_element() {
+            found.elements = found.elements.wrapping_add(1);
+        }
+        let attributes = node.attributes().len() as u64;
+        found.attributes = found.attributes.wrapping_add(attributes);
+    }
+    found
+}
