@@ -54,7 +54,10 @@ pub fn walk_links(document: &Document<'_>, start: u64) -> u64 {
             break;
         };
         count = count.wrapping_add(1);
-        next = node.first_child().or_else(|| next_beside(node));
+        next = match node.first_child() {
+            Some(child) => Some(child),
+            None => next_beside(node),
+        };
     }
     count
 }
