@@ -127,8 +127,8 @@ impl PartialEq for Attribute<'_, '_> {
 
 impl fmt::Debug for Attribute<'_, '_> {
     fn fmt<W: fmt::Write>(&self, f: &mut fmt::Formatter<W>) -> fmt::Result {
-        let name = self.name();
-        let value = self.value();
+        let name = ExpandedName::from_parts(self.namespace(), self.name());
+        let value = self.value_storage();
         write!(f, "Attribute {{ name: {name:?}, value: {value:?} }}")
     }
 }
@@ -182,8 +182,9 @@ impl<'a, 'input> Attributes<'a, 'input> {
 
 impl fmt::Debug for Attributes<'_, '_> {
     fn fmt<W: fmt::Write>(&self, f: &mut fmt::Formatter<W>) -> fmt::Result {
-        let count = self.len();
-        write!(f, "Attributes({count})")
+        f.write_str("Attributes(")?;
+        f.debug_list().entries(self.clone()?).finish()?;
+        f.write_str(")")
     }
 }
 
@@ -278,8 +279,9 @@ impl<'a, 'input> NamespaceIter<'a, 'input> {
 
 impl fmt::Debug for NamespaceIter<'_, '_> {
     fn fmt<W: fmt::Write>(&self, f: &mut fmt::Formatter<W>) -> fmt::Result {
-        let count = self.len();
-        write!(f, "NamespaceIter({count})")
+        f.write_str("NamespaceIter(")?;
+        f.debug_list().entries(self.clone()?).finish()?;
+        f.write_str(")")
     }
 }
 

@@ -2,6 +2,7 @@
 #![tactic(auto)]
 
 pub mod contents;
+mod debug;
 pub mod elements;
 pub mod laws;
 mod lookups;

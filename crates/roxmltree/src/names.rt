@@ -4,6 +4,8 @@ ghost use Rattle.std.specs.Prelude.{◌≡◌, Some, None};
 ghost use Rattle.std.specs.Option.{option_map};
 ghost use Rattle.roxmltree.specs.Names.{expanded, same_name};
 
+use std::fmt;
+
 /// The namespace of the prefix `xml`.
 pub const NS_XML_URI: &str = "http://www.w3.org/XML/1998/namespace";
 
@@ -12,7 +14,7 @@ pub const NS_XMLNS_URI: &str = "http://www.w3.org/2000/xmlns/";
 
 /// A local name and, if it has one, its namespace. Two are equal where their local names are equal, and both have no
 /// namespace or both have equal URIs.
-#[derive(Clone, Copy, PartialEq, Eq, Debug)]
+#[derive(Clone, Copy, PartialEq, Eq)]
 pub struct ExpandedName<'a, 'b> {
     local: &'b str,
     uri: Option<&'a str>,
@@ -53,6 +55,17 @@ impl ExpandedName<'static, 'static> {
         ExpandedName {
             local,
             uri: Some(uri),
+        }
+    }
+}
+
+/// Prints `{uri}local`, or the local name alone where there is no namespace.
+impl fmt::Debug for ExpandedName<'_, '_> {
+    fn fmt<W: fmt::Write>(&self, f: &mut fmt::Formatter<W>) -> fmt::Result {
+        let local = self.local;
+        match self.uri {
+            Some(uri) => write!(f, "{{{uri}}}{local}"),
+            None => write!(f, "{local}"),
         }
     }
 }

@@ -7,7 +7,6 @@ ghost use Rattle.roxmltree.specs.Places.{place, parent, children, first_child, l
 
 use crate::tree::Document;
 use crate::walks::{Axis, AxisIter, Children, Descendants};
-use std::fmt;
 
 /// The place of a node in document order: the root node has 0.
 #[derive(Clone, Copy, PartialEq, Eq, PartialOrd, Ord, Hash, Debug)]
@@ -77,13 +76,6 @@ pub struct Node<'a, 'input> {
     pub(crate) document: &'a Document<'input>,
     pub(crate) id: NodeId,
     ghost in_tree: { id.0 < size document.now.tree },
-}
-
-impl fmt::Debug for Node<'_, '_> {
-    fn fmt<W: fmt::Write>(&self, f: &mut fmt::Formatter<W>) -> fmt::Result {
-        let id = self.id.0;
-        write!(f, "Node({id})")
-    }
 }
 
 impl<'a, 'input> Node<'a, 'input> {

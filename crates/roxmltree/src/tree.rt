@@ -10,7 +10,6 @@ use crate::elements::{Attributes, NamespaceIter};
 use crate::nodes::{Node, NodeId};
 use crate::walks::Descendants;
 use rox_build::tables::{NodeData, NodeKind, Tables};
-use std::fmt;
 use std::marker::Model;
 
 /// An XML document as a read-only tree of nodes.
@@ -33,13 +32,6 @@ impl<'input> Model for Document<'input> {
     ghost view = { doc_of };
 
     ghost invariant = { IsSound };
-}
-
-impl fmt::Debug for Document<'_> {
-    fn fmt<W: fmt::Write>(&self, f: &mut fmt::Formatter<W>) -> fmt::Result {
-        let count = self.count();
-        write!(f, "Document of {count} nodes")
-    }
 }
 
 impl<'input> Document<'input> {

@@ -4,6 +4,7 @@ ghost use Rattle.std.specs.Prelude.{◌≡◌, ◌∷◌, [], ◌++◌};
 
 use crate::nodes::{Node, NodeId};
 use crate::tree::Document;
+use std::fmt;
 use std::marker::Model;
 
 /// What to go along.
@@ -95,7 +96,7 @@ impl<'a, 'input> Iterator for AxisIter<'a, 'input> {
 }
 
 /// A node and those below it in document order, from both ends.
-#[derive(Clone, Debug, Drop)]
+#[derive(Clone, Drop)]
 pub struct Descendants<'a, 'input> {
     pub(crate) document: &'a Document<'input>,
     pub(crate) from: NodeId,
@@ -116,6 +117,18 @@ impl<'a, 'input> Model for Descendants<'a, 'input> {
     ghost view = { in_range };
 
     ghost invariant = { IsRange };
+}
+
+/// Prints the first and the last node that are left.
+impl fmt::Debug for Descendants<'_, '_> {
+    fn fmt<W: fmt::Write>(&self, f: &mut fmt::Formatter<W>) -> fmt::Result {
+        let front = self.clone()?.next();
+        let back = self.clone()?.next_back();
+        f.debug_struct("Descendants")
+            .field("front", &front)
+            .field("back", &back)
+            .finish()
+    }
 }
 
 impl<'a, 'input> Iterator for Descendants<'a, 'input> {
@@ -162,7 +175,7 @@ impl<'a, 'input> DoubleEndedIterator for Descendants<'a, 'input> {
 }
 
 /// Children of one node, from both ends: those from one on that end before an id, each with this many nodes above it.
-#[derive(Clone, Debug, Drop)]
+#[derive(Clone, Drop)]
 pub struct Children<'a, 'input> {
     pub(crate) document: &'a Document<'input>,
     pub(crate) from: NodeId,
@@ -214,6 +227,18 @@ impl<'a, 'input> Children<'a, 'input> {
             }
         }
         None
+    }
+}
+
+/// Prints the first and the last node that are left.
+impl fmt::Debug for Children<'_, '_> {
+    fn fmt<W: fmt::Write>(&self, f: &mut fmt::Formatter<W>) -> fmt::Result {
+        let front = self.clone()?.next();
+        let back = self.clone()?.next_back();
+        f.debug_struct("Children")
+            .field("front", &front)
+            .field("back", &back)
+            .finish()
     }
 }
 

@@ -1,0 +1,117 @@
+//! The debug text of a document and of its nodes.
+
+ghost use Rattle.std.specs.Iterator.{IsFinite};
+
+use crate::nodes::Node;
+use crate::tree::Document;
+use rox_build::tables::NodeKind;
+use std::fmt;
+
+/// Prints the tree, a node after the other, by a loop: however deep it is, no stack is used up.
+impl fmt::Debug for Document<'_> {
+    fn fmt<W: fmt::Write>(&self, f: &mut fmt::Formatter<W>) -> fmt::Result {
+        writeln!(f, "Document [")?;
+        let mut nodes = self.descendants();
+        nodes.next();
+        // how many elements are open: their ends are yet to be printed
+        let mut open = 0;
+        for node in nodes {
+            let depth = node.document.row(node.id).depth;
+            let around = depth.saturating_sub(1);
+            close_elements(f, around, open)?;
+            write_node(f, node, around)?;
+            open = if node.has_children() { depth } else { around };
+        }
+        close_elements(f, 0, open)?;
+        writeln!(f, "]")
+    }
+}
+
+/// Prints its kind, with its names or its text; the nodes below it are not printed.
+impl fmt::Debug for Node<'_, '_> {
+    fn fmt<W: fmt::Write>(&self, f: &mut fmt::Formatter<W>) -> fmt::Result {
+        match &self.document.row(self.id).kind {
+            NodeKind::Root => write!(f, "Root"),
+            NodeKind::Element(_) => {
+                let name = self.tag_name();
+                let attributes = self.attributes();
+                let namespaces = self.namespaces();
+                write!(
+                    f,
+                    "Element {{ tag_name: {name:?}, attributes: {attributes:?}, namespaces: {namespaces:?} }}"
+                )
+            }
+            NodeKind::Text(text) => {
+                let text = text.as_str();
+                write!(f, "Text({text:?})")
+            }
+            NodeKind::Comment(text) => {
+                let text = text.as_str();
+                write!(f, "Comment({text:?})")
+            }
+            NodeKind::PI(pi) => write!(f, "{pi:?}"),
+        }
+    }
+}
+
+// A node, and how many elements are around it. An element with children is left open.
+fn write_node<W: fmt::Write>(
+    f: &mut fmt::Formatter<W>,
+    node: Node<'_, '_>,
+    around: u32,
+) -> fmt::Result {
+    if !node.is_element() {
+        return write_line(f, around, 1, format_args!("{node:?}"));
+    }
+    let name = node.tag_name();
+    write_line(f, around, 1, "Element {")?;
+    write_line(f, around, 2, format_args!("tag_name: {name:?}"))?;
+    write_list(f, around, "attributes", node.attributes())?;
+    write_list(f, around, "namespaces", node.namespaces())?;
+    if node.has_children() {
+        write_line(f, around, 2, "children: [")
+    } else {
+        write_line(f, around, 1, "}")
+    }
+}
+
+// Ends the open elements, the innermost first, but for so many of the outermost.
+fn close_elements<W: fmt::Write>(f: &mut fmt::Formatter<W>, kept: u32, open: u32) -> fmt::Result {
+    for around in (kept..open).rev() {
+        write_line(f, around, 2, "]")?;
+        write_line(f, around, 1, "}")?;
+    }
+    Ok(())
+}
+
+// What an element has of a kind, each on a line of its own, or nothing where it has none.
+fn write_list<T: fmt::Debug + Drop, I: ExactSizeIterator<Item = T>, W: fmt::Write>(
+    f: &mut fmt::Formatter<W>,
+    around: u32,
+    name: &str,
+    items: I,
+) -> fmt::Result
+    requires can { I.can_next items }
+    requires finite { IsFinite (I.remaining items) }
+{
+    if items.len() == 0 {
+        return Ok(());
+    }
+    write_line(f, around, 2, format_args!("{name}: ["))?;
+    for item in items {
+        write_line(f, around, 3, format_args!("{item:?}"))?;
+    }
+    write_line(f, around, 2, "]")
+}
+
+// A line, behind eight spaces for each element around it and four for each of these steps.
+fn write_line<D: fmt::Display + Drop, W: fmt::Write>(
+    f: &mut fmt::Formatter<W>,
+    around: u32,
+    steps: usize,
+    text: D,
+) -> fmt::Result {
+    f.write_repeated("        ", around as usize)?;
+    f.write_repeated("    ", steps)?;
+    writeln!(f, "{text}")
+}
