@@ -1,0 +1,5 @@
+pub mod Batch
+pub mod Command
+pub mod Escaped
+pub mod Fault
+pub mod Numbers

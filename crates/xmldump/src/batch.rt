@@ -1,0 +1,49 @@
+//! The dumps of a batch of texts.
+
+ghost use Rattle.std.specs.Prelude.{◌≡◌};
+
+use crate::cases::first_case;
+use crate::dump::write_dump;
+use crate::fault::Fault;
+use crate::options::Options;
+use std::alloc::Global;
+use std::io::Write;
+
+/// Writes the dump of each text of a batch, each below a line with its number, from 0, and its length, and at last how many
+/// there were.
+pub fn write_batch<W: Write>(
+    alloc: Global,
+    batch: &[u8],
+    options: Options,
+    out: &mut W,
+) -> Result<(), Fault> {
+    let mut count: usize = 0;
+    let mut rest = batch;
+    while !rest.is_empty() {
+        let Some(case) = first_case(rest) else {
+            return Err(Fault::NoBatch);
+        };
+        let length = case.text.len();
+        writeln!(out, "CASE {count} {length}")?;
+        write_case(alloc, case.text, options, out)?;
+        count += 1;
+        rest = case.rest;
+    }
+    writeln!(out, "END {count}")?;
+    Ok(())
+}
+
+fn write_case<W: Write>(
+    alloc: Global,
+    text: &[u8],
+    options: Options,
+    out: &mut W,
+) -> Result<(), Fault> {
+    match str::from_utf8(text) {
+        Ok(text) => write_dump(alloc, text, options, out),
+        Err(_) => {
+            out.write_all(b"NOTUTF8\n")?;
+            Ok(())
+        }
+    }
+}

@@ -1,0 +1,67 @@
+//! Writes what the library answers of XML texts: `xmldump [--allow-dtd] [--nodes-limit N] [--axes] [--batch] FILE`.
+#![tactic(auto)]
+
+mod arguments;
+mod axes;
+mod batch;
+mod cases;
+mod dump;
+mod escape;
+mod fault;
+mod node;
+mod numbers;
+mod options;
+mod refusal;
+mod run;
+#[cfg(test)]
+mod tests;
+
+use crate::arguments::command;
+use crate::fault::Fault;
+use crate::options::Command;
+use std::env;
+use std::fs::File;
+use std::io::{ErrorKind, Write};
+use std::process::ExitCode;
+
+const USAGE: &str = "usage: xmldump [--allow-dtd] [--nodes-limit N] [--axes] [--batch] FILE";
+
+fn main(rt: HostRuntime) -> ExitCode {
+    let status = match asked_for(&rt) {
+        Ok(Some(command)) => run_with_files(&rt, &command),
+        Ok(None) => refuse(&rt),
+        Err(fault) => {
+            let _ = writeln!(rt.stderr(), "error: {fault}");
+            fault.status()
+        }
+    };
+    ExitCode::from(status)
+}
+
+// The command of the program's arguments. One that is not UTF-8 is a wrong argument.
+fn asked_for(rt: &HostRuntime) -> Result<Option<Command>, Fault> {
+    match env::args(rt) {
+        Ok(words) => {
+            let words: Vec<String> = words.skip(1).collect(rt.alloc())?;
+            Ok(command(rt.alloc(), &words)?)
+        }
+        Err(error) if error.kind() == ErrorKind::OutOfMemory => Err(Fault::OutOfMemory),
+        Err(_) => Ok(None),
+    }
+}
+
+fn refuse(rt: &HostRuntime) -> u8 {
+    let _ = writeln!(rt.stderr(), "{USAGE}");
+    2
+}
+
+fn run_with_files(rt: &HostRuntime, command: &Command) -> u8 {
+    let (mut out, mut err) = (rt.stdout(), rt.stderr());
+    match &command.file {
+        Some(path) => {
+            let input = File::open(rt, path.as_str()).ok();
+            run::run(rt.alloc(), command, input, &mut out, &mut err)
+        }
+        None => run::run(rt.alloc(), command, Some(rt.stdin()), &mut out, &mut err),
+    }
+}

@@ -1,0 +1,99 @@
+//! What the program does, from its input to its status.
+
+ghost use Rattle.std.specs.Prelude.{◌≡◌, ◌≤◌, IfOk, IfSome, IsNone, IsErrOf};
+
+use crate::batch::write_batch;
+use crate::dump::write_dump;
+use crate::fault::Fault;
+use crate::options::{Command, Options};
+use std::alloc::Global;
+use std::io::{BufWriter, ErrorKind, Read, Write};
+
+/// How many bytes are gathered before they are written.
+const BUFFER: usize = 65536;
+
+/// Reads the input and writes the dump of its text, or of each text of a batch. The answer is the exit status. A fault is a
+/// line on `err`: status 1 for want of memory, 2 for input that cannot be read, that is not UTF-8 or no batch, and for output
+/// that cannot be written. An `input` of None is a file that could not be opened.
+pub fn run<I: Read + Drop, O: Write, E: Write>(
+    alloc: Global,
+    command: &Command,
+    input: Option<I>,
+    out: &mut O,
+    err: &mut E,
+) -> u8
+    ensures status { result ≤ 2 }
+    ensures none { IsNone input → result ≡ 2 }
+{
+    match write_input(alloc, command.options, input, out) {
+        Ok(()) => 0,
+        Err(fault) => {
+            let status = fault.status();
+            // A fault of `err` itself can be told nowhere.
+            let _ = writeln!(err, "error: {fault}");
+            status
+        }
+    }
+}
+
+fn write_input<I: Read + Drop, O: Write>(
+    alloc: Global,
+    options: Options,
+    input: Option<I>,
+    out: &mut O,
+) -> Result<(), Fault>
+    ensures { IsNone input → IsErrOf result Fault.CannotRead }
+{
+    let bytes = read_all(alloc, input)?;
+    write_buffered(alloc, &bytes, options, out)
+}
+
+/// The bytes of the input, to its end.
+fn read_all<I: Read + Drop>(alloc: Global, input: Option<I>) -> Result<Vec<u8>, Fault>
+    ensures none { IsNone input → IsErrOf result Fault.CannotRead }
+    ensures bytes { IfSome input (λ reader. IfOk result (λ bytes. IfSome (I.remaining reader) (λ left. bytes.items ≡ left))) }
+{
+    let Some(mut input) = input else {
+        return Err(Fault::CannotRead);
+    };
+    let mut bytes = Vec::new(alloc);
+    match input.read_to_end(&mut bytes) {
+        Ok(_) => Ok(bytes),
+        Err(error) if error.kind() == ErrorKind::OutOfMemory => Err(Fault::OutOfMemory),
+        Err(_) => Err(Fault::CannotRead),
+    }
+}
+
+// After a fault nothing more is written: what is still in the buffer is let go.
+fn write_buffered<O: Write>(
+    alloc: Global,
+    bytes: &[u8],
+    options: Options,
+    out: &mut O,
+) -> Result<(), Fault> {
+    let mut buffered = match BufWriter::with_capacity(alloc, BUFFER, out) {
+        Ok(buffered) => buffered,
+        Err(_) => return Err(Fault::OutOfMemory),
+    };
+    let written = match write_dumps(alloc, bytes, options, &mut buffered) {
+        Ok(()) => buffered.flush().map_err(|_| Fault::CannotWrite),
+        Err(fault) => Err(fault),
+    };
+    let (_out, _unwritten) = buffered.into_parts();
+    written
+}
+
+fn write_dumps<W: Write>(
+    alloc: Global,
+    bytes: &[u8],
+    options: Options,
+    out: &mut W,
+) -> Result<(), Fault> {
+    if options.batch {
+        return write_batch(alloc, bytes, options, out);
+    }
+    match str::from_utf8(bytes) {
+        Ok(text) => write_dump(alloc, text, options, out),
+        Err(_) => Err(Fault::NotUtf8),
+    }
+}
