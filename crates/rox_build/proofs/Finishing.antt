@@ -1,15 +1,13 @@
 -- The tables at the end of a text.
-use Rattle.std.proofs.Common.{◌≡◌, ℕ, zero, suc, ◌+◌, ◌<◌, ◌^◌, List, [], ◌∷◌, ◌++◌, length, map, set, get_or, refl, sym, ap, ◌∙◌, arith, Vec, Global}
-use Rattle.std.specs.List.{AllByRecursion}
+use Rattle.std.proofs.Common.{◌≡◌, ℕ, ◌+◌, ◌<◌, ◌^◌, [], ◌∷◌, length, set, get_or, sym, ap, ◌∙◌, arith}
 use Rattle.std.proofs.Math.ListN.{get_or-map}
 use Rattle.std.proofs.lemmas.List.{append-nil, map-set, length-set}
-use Rattle.rox_grammar.specs.Forest.{Forest, Nil, Cons, size}
+use Rattle.rox_grammar.specs.Forest.{Forest, size}
 use Rattle.rox_grammar.specs.Written.{Item, merge}
-use Rattle.rox_grammar.specs.Tree as tree
-use Rattle.rox_grammar.specs.Tree.{Node, resolved, document_tree}
-use Rattle.rox_reading.specs.State.{Open, root}
+use Rattle.rox_grammar.specs.Tree.{resolved, document_tree}
+use Rattle.rox_reading.specs.State.{root}
 use Rattle.rox_reading.proofs.Forests.{size-resolved}
-use Rattle.rox_build.specs.Lines.{Line, line, lines, node, Holds, Sound}
+use Rattle.rox_build.specs.Lines.{Line, lines, Holds, Sound}
 use Rattle.rox_build.specs.SoFar.{root_line, so_far}
 use Rattle.rox_build.specs.Shown.{IsWithin, AreSound, Settled, line_in}
 use Rattle.rox_build.specs.declared.tables.NodeData.{NodeData}
@@ -25,7 +23,7 @@ root_closed end f n h =
     ∙ ap (λ xs. record (root_line end) { next = 1 + size (resolved [] f) } ∷ xs) (sym (append-nil (lines 0 1 1 (resolved [] f))))
 
 finish_with : (end : ℕ) (done : Forest Item) (b : Builder) (u : Tables) (d : NodeData) → Settled end root done b → AreSound b.tables → length b.nodes.items < 2 ^ 32
-    → u.nodes.items ≡ set b.nodes.items 0 (record (get_or b.nodes.items 0 d) { next = length b.nodes.items }) → u.attributes ≡ b.tables.attributes → u.namespaces ≡ b.tables.namespaces
+    → u.nodes.items ≡ set b.nodes.items 0 (record (get_or b.nodes.items 0 d) { next = length b.nodes.items }) → u.attributes ≡ b.tables.attributes → u.namespaces ≡ b.tables.namespaces.items
     → u.listed ≡ b.tables.listed → IsWithin b.tables d.kind → Holds u (document_tree end (merge done))
 finish_with end done b u d h sound few change attributes namespaces listed fine =
     let t = b.tables in
@@ -46,7 +44,7 @@ finish_with end done b u d h sound few change attributes namespaces listed fine 
 
 pub finish_holds : (end : ℕ) (done : Forest Item) (b : Builder) (u : Tables) → Settled end root done b → AreSound b.tables → length b.nodes.items < 2 ^ 32
     → ((d : NodeData) → u.nodes.items ≡ set b.nodes.items 0 (record (get_or b.nodes.items 0 d) { next = length b.nodes.items })) → u.attributes ≡ b.tables.attributes
-    → u.namespaces ≡ b.tables.namespaces → u.listed ≡ b.tables.listed → Holds u (document_tree end (merge done))
+    → u.namespaces ≡ b.tables.namespaces.items → u.listed ≡ b.tables.listed → Holds u (document_tree end (merge done))
 finish_holds end done b u h sound few change attributes namespaces listed =
     let n = rows_count b.tables end root (merge done) b.nodes.items h.rows in
     let some : 0 < length b.nodes.items = omega arith in

@@ -1,13 +1,12 @@
 -- What the builder shows stays as its tables grow.
-use Rattle.std.proofs.Common.{◌≡◌, ℕ, ◌+◌, ◌<◌, ◌≤◌, List, [], ◌∷◌, ◌++◌, length, map, refl, sym, ap, subst, ◌∙◌, arith, length-append}
+use Rattle.std.proofs.Common.{◌≡◌, ℕ, ◌<◌, ◌≤◌, List, ◌++◌, length, map, sym, ap, subst, ◌∙◌, arith, length-append}
 use Rattle.std.specs.List.{AllByRecursion, slice_range}
 use Rattle.std.proofs.lemmas.List.{length-map}
 use Rattle.rox_grammar.specs.Forest.{Forest}
 use Rattle.rox_grammar.specs.Written.{Item, Declaration}
 use Rattle.rox_reading.specs.State.{Open}
-use Rattle.rox_build.specs.Lines.{Line, line, entry, NamespaceWithin, KindWithin, declaration}
-use Rattle.rox_build.specs.SoFar.{so_far}
-use Rattle.rox_build.specs.Shown.{OpenLine, opened, opened_in, open_lines, names_in, line_in, IsWithin, IsOpenWithin, AreSound, Shows, Grown}
+use Rattle.rox_build.specs.Lines.{line, entry, NamespaceWithin, KindWithin, declaration}
+use Rattle.rox_build.specs.Shown.{opened, opened_in, names_in, line_in, IsWithin, IsOpenWithin, AreSound, Shows, Grown}
 use Rattle.rox_build.specs.declared.tables.AttributeData.{AttributeData}
 use Rattle.rox_build.specs.declared.tables.NodeData.{NodeData}
 use Rattle.rox_build.specs.declared.tables.ElementTables.{ElementTables}
@@ -24,11 +23,11 @@ opened-append names more ls moreL o all (ordered, within) =
     (all_slice (λ i. i < length names) ls o.scope.from o.scope.until all) in
     ap (λ (l : List Declaration). record (opened names ls o) { scope = l }) k
 
-names_count : (t : ElementTables) → length (names_in t) ≡ length t.namespaces.items
-names_count t = length-map t.namespaces.items declaration
+names_count : (t : ElementTables) → length (names_in t) ≡ length t.namespaces.items.items
+names_count t = length-map t.namespaces.items.items declaration
 
 pub grown_counts : (old new : ElementTables) → Grown old new
-    → (length old.attributes.items ≤ length new.attributes.items) × (length old.namespaces.items ≤ length new.namespaces.items) × (length old.listed.items ≤ length new.listed.items)
+    → (length old.attributes.items ≤ length new.attributes.items) × (length old.namespaces.items.items ≤ length new.namespaces.items.items) × (length old.listed.items ≤ length new.listed.items)
 grown_counts old new g =
     let a = ap length g.attributes ∙ length-append old.attributes.items g.more_attributes in
     let n = ap length g.names ∙ length-append (names_in old) g.more_names in
@@ -66,7 +65,7 @@ grown_shows end o done b u h sound elements g nodes opens waits joined =
     (λ o x. opened-append (names_in t) g.more_names t.listed.items g.more_listed o all_listed x) elements) in
     let k = grown_counts t u.tables g in
     let w = all_weaker (λ (r : NodeData). IsWithin t r.kind) (λ (r : NodeData). IsWithin u.tables r.kind) b.nodes.items
-    (λ r x. kind_more (length t.attributes.items) (length t.namespaces.items) (length t.listed.items) (length u.tables.attributes.items) (length u.tables.namespaces.items) (length u.tables.listed.items) r.kind k.0 k.1 k.2 x) h.within in
+    (λ r x. kind_more (length t.attributes.items) (length t.namespaces.items.items) (length t.listed.items) (length u.tables.attributes.items) (length u.tables.namespaces.items.items) (length u.tables.listed.items) r.kind k.0 k.1 k.2 x) h.within in
     record {
       front = h.front;
       merged = rw (waits, joined) h.merged;

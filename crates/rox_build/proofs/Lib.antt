@@ -2,6 +2,7 @@ pub mod DigitLemmas
 pub mod Rows
 pub mod Stable
 pub mod Pairs
+pub mod Indexing
 pub mod Inherits
 pub mod Listing
 pub mod NameTests

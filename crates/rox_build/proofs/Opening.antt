@@ -1,26 +1,24 @@
 -- The row of an element whose start tag was read.
-use Rattle.std.proofs.Common.{◌≡◌, ℕ, zero, suc, ◌+◌, ◌-◌, ◌<◌, ◌≤◌, List, [], ◌∷◌, ◌++◌, length, map, take, drop, refl, sym, ap, subst, ◌∙◌, arith, length-append, Option, Bool, true, false, Result, Ok, Err}
+use Rattle.std.proofs.Common.{◌≡◌, ℕ, ◌+◌, ◌≤◌, List, [], ◌∷◌, ◌++◌, length, map, drop, refl, sym, ap, subst, ◌∙◌, arith, length-append, Option, Bool, true, false, Result, Ok, Err}
 use Rattle.std.specs.List.{AllByRecursion, slice_range}
-use Rattle.std.specs.Option.{option_map}
 use Rattle.std.proofs.lemmas.List.{length-map}
 use Rattle.rox_grammar.specs.declared.fault.Fault.{Fault}
-use Rattle.rox_grammar.specs.Forest.{Forest, Nil, join}
+use Rattle.rox_grammar.specs.Forest.{Nil, join}
 use Rattle.rox_grammar.specs.Written.{Declaration, Tag, Item, Element, leaf}
 use Rattle.rox_grammar.specs.Tree as tree
 use Rattle.rox_grammar.specs.Tree.{listed, attribute_in, element_namespace, node_in}
 use Rattle.rox_grammar.specs.Document.{listable, with_new, distinct_pairs}
-use Rattle.rox_reading.specs.Lexical.{◌>>=◌}
 use Rattle.rox_reading.specs.Tags.{tag_at}
-use Rattle.rox_reading.specs.State.{Open, root, inside, State, scope_of, pairs_so_far, attributes_so_far}
+use Rattle.rox_reading.specs.State.{inside, State, scope_of, pairs_so_far, attributes_so_far}
 use Rattle.rox_reading.specs.Machine.{tag_step, cut_off, opened_by, counted, with_item}
-use Rattle.rox_scan.specs.Gives.{Fails, name_view}
+use Rattle.rox_scan.specs.Gives.{Fails}
 use Rattle.rox_scan.specs.declared.cursor.Cursor.{Cursor}
 use Rattle.rox_scan.specs.declared.failure.Failure.{Failure}
 use Rattle.rox_scan.specs.declared.failure.Failure.TheVariants as failure
-use Rattle.rox_build.specs.Lines.{node, declaration, attribute, entry, NamespaceWithin}
+use Rattle.rox_build.specs.Lines.{node, declaration, attribute, NamespaceWithin}
 use Rattle.rox_build.specs.Scopes.{entries}
-use Rattle.rox_build.specs.Tagged.{HasAttributes, IsElement, Tagged}
-use Rattle.rox_build.specs.Shown.{names_in, IsWithin, AreSound, IsOpenWithin, Fine, Grown, IsNode, IsOpening, Shows, Adds, Sees, Stepped, scope_in_table}
+use Rattle.rox_build.specs.Tagged.{Tagged}
+use Rattle.rox_build.specs.Shown.{names_in, IsWithin, AreSound, IsOpenWithin, Fine, Grown, IsNode, IsOpening, Adds, Stepped, scope_in_table}
 use Rattle.std.specs.Result.{OnOk}
 use Rattle.rox_build.specs.declared.tables.Scope.{Scope}
 use Rattle.rox_build.specs.declared.tables.AttributeData.{AttributeData}
@@ -50,12 +48,12 @@ grown_by old new t above tag h =
 pub sound_by : (old new : ElementTables) (t : StartTag) (above : List Declaration) (tag : Tag) → Tagged old new t above tag → AreSound old → AreSound new
 sound_by old new t above tag h s =
     let k = grown_counts old new (grown_by old new t above tag h) in
-    let n : length (names_in new) ≡ length new.namespaces.items = length-map new.namespaces.items declaration in
-    let a = all_weaker (λ (a : AttributeData). NamespaceWithin (length old.namespaces.items) a.namespace) (λ (a : AttributeData). NamespaceWithin (length new.namespaces.items) a.namespace) old.attributes.items
-    (λ a x. namespace_more (length old.namespaces.items) (length new.namespaces.items) a.namespace k.1 x) s.attributes in
+    let n : length (names_in new) ≡ length new.namespaces.items.items = length-map new.namespaces.items.items declaration in
+    let a = all_weaker (λ (a : AttributeData). NamespaceWithin (length old.namespaces.items.items) a.namespace) (λ (a : AttributeData). NamespaceWithin (length new.namespaces.items.items) a.namespace) old.attributes.items
+    (λ a x. namespace_more (length old.namespaces.items.items) (length new.namespaces.items.items) a.namespace k.1 x) s.attributes in
     let m = subst (λ (n : ℕ). AllByRecursion (λ (a : AttributeData). NamespaceWithin n a.namespace) h.element.attributes.more) n h.element.attributes.within in
     record {
-      attributes = rw h.element.attributes.grown (all_append (λ (a : AttributeData). NamespaceWithin (length new.namespaces.items) a.namespace) old.attributes.items h.element.attributes.more a m);
+      attributes = rw h.element.attributes.grown (all_append (λ (a : AttributeData). NamespaceWithin (length new.namespaces.items.items) a.namespace) old.attributes.items h.element.attributes.more a m);
       listed = h.places;
     }
 

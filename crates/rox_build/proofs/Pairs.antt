@@ -1,13 +1,11 @@
 -- The table of pairs.
-use Rattle.std.proofs.Common.{◌≡◌, ℕ, zero, suc, ◌+◌, ◌<◌, ◌≤◌, ◌&&◌, ◌||◌, not, Bool, true, false, cond, List, [], ◌∷◌, ◌++◌, length, map, take, drop, get_or, filter, add-one, drop-cons, is_some, refl, sym, ap, ◌∙◌, subst, arith, Option, Some, None, bytes_eq}
-use Rattle.std.specs.List.{list_any}
+use Rattle.std.proofs.Common.{◌≡◌, ℕ, zero, suc, ◌+◌, ◌<◌, ◌||◌, Bool, true, false, cond, List, [], ◌∷◌, ◌++◌, length, map, take, drop, get_or, add-one, drop-cons, is_some, refl, sym, ap, ◌∙◌, arith, Option, Some, None}
 use Rattle.std.proofs.lemmas.Bool.{and_parts}
 use Rattle.std.proofs.lemmas.Slice.Eq.{bytes_eq-Decides}
-use Rattle.std.proofs.lemmas.List.{take_more, take_all, length-map, map-append, take-append-drop}
-use Rattle.std.proofs.lemmas.List.Folds.{list_any-append}
+use Rattle.std.proofs.lemmas.List.{take_more, map-append, take-append-drop}
 use Rattle.rox_grammar.specs.Written.{Declaration}
 use Rattle.rox_grammar.specs.Tree.{same_prefix, is_declared, uri_of}
-use Rattle.rox_grammar.specs.Document.{same_pair, has_pair, with_new}
+use Rattle.rox_grammar.specs.Document.{same_pair}
 use Rattle.rox_build.specs.declared.tables.Namespace.{Namespace}
 use Rattle.rox_build.specs.Lines.{declaration, entry}
 use Rattle.rox_build.specs.Scopes.{entries, ArePlaces}
@@ -38,28 +36,6 @@ pub entry-get : (rows : List Namespace) (i : ℕ) (d : Namespace) → i < length
 entry-get [] i d h = absurd (omega arith)
 entry-get (r ∷ rows) zero d h = refl
 entry-get (r ∷ rows) (suc i) d h = entry-get rows i d (omega arith)
-
-pub has-get : (rows : List Namespace) (i : ℕ) (d : Namespace) (e : Declaration) → i < length rows → same_pair (declaration (get_or rows i d)) e ≡ true → has_pair (map declaration rows) e ≡ true
-has-get [] i d e h s = absurd (omega arith)
-has-get (r ∷ rows) zero d e h s = rw s refl
-has-get (r ∷ rows) (suc i) d e h s = let k = has-get rows i d e (omega arith) s in rw k (or_true (same_pair (declaration r) e))
-  where
-    or_true : (b : Bool) → (b || true) ≡ true
-    or_true true = refl
-    or_true false = refl
-
-or_false : (a b : Bool) → a ≡ false → b ≡ false → (a || b) ≡ false
-or_false false b h k = k
-or_false true b h k = cc h
-
--- none of those that come before i is the pair, nor the one at i
-pub none_more : (rows : List Namespace) (i : ℕ) (d : Namespace) (e : Declaration) → i < length rows → has_pair (map declaration (take i rows)) e ≡ false
-    → same_pair (declaration (get_or rows i d)) e ≡ false → has_pair (map declaration (take (i + 1) rows)) e ≡ false
-none_more rows i d e h none s =
-    let m : map declaration (take (i + 1) rows) ≡ map declaration (take i rows) ++ declaration (get_or rows i d) ∷ [] =
-    ap (map declaration) (take_more rows i d h) ∙ map-append declaration (take i rows) (get_or rows i d ∷ []) in
-    ap (λ xs. has_pair xs e) m ∙ list_any-append (λ x. same_pair x e) (map declaration (take i rows)) (declaration (get_or rows i d) ∷ [])
-    ∙ or_false _ _ none (or_false _ _ s refl)
 
 -- ---- look-ups in a scope
 

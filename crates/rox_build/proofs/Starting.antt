@@ -1,14 +1,14 @@
 -- A start tag as a whole.
-use Rattle.std.proofs.Common.{◌≡◌, ℕ, ◌+◌, ◌<◌, ◌≤◌, Bool, true, false, List, [], ◌∷◌, ◌++◌, length, map, bytes_eq, refl, sym, ap, ◌∙◌, subst, arith, Result, Ok, Err, append_assoc}
+use Rattle.std.proofs.Common.{◌≡◌, ℕ, ◌+◌, ◌<◌, ◌≤◌, Bool, false, List, [], ◌++◌, length, map, bytes_eq, refl, sym, ap, ◌∙◌, Ok, append_assoc}
 use Rattle.std.specs.List.{slice_range}
 use Rattle.std.proofs.lemmas.List.{append-nil, length-map}
 use Rattle.rox_grammar.specs.declared.fault.Fault.{Fault}
 use Rattle.rox_grammar.specs.declared.fault.Word.TheVariants.{Xmlns}
 use Rattle.rox_grammar.specs.Words.{word_text}
-use Rattle.rox_grammar.specs.Written.{Name, Attribute, Declaration, Tag}
+use Rattle.rox_grammar.specs.Written.{Name, Declaration}
 use Rattle.rox_grammar.specs.Tree.{listed, attribute_in, element_namespace}
 use Rattle.rox_grammar.specs.Document.{most_pairs}
-use Rattle.rox_reading.specs.Lexical.{Read, ◌>>=◌, qname_at}
+use Rattle.rox_reading.specs.Lexical.{◌>>=◌, qname_at}
 use Rattle.rox_reading.specs.Tags.{Held, attributes_at, tag_tested, tag_at, listable_of}
 use Rattle.rox_scan.specs.Gives.{Fails, name_view}
 use Rattle.rox_scan.specs.declared.failure.Failure.{Failure}
@@ -19,7 +19,7 @@ use Rattle.rox_build.specs.declared.taken.Taken.{Taken}
 use Rattle.rox_build.specs.declared.tag.StartTag.{StartTag}
 use Rattle.rox_build.specs.Lines.{declaration, entry}
 use Rattle.rox_build.specs.Scopes.{ArePlaces}
-use Rattle.rox_build.specs.Tags.{taken_view, Declares, Holding}
+use Rattle.rox_build.specs.Tags.{taken_view, Holding}
 use Rattle.rox_build.specs.Tagged.{IsElement, Tagged, scope_in_tables}
 use Rattle.rox_build.proofs.Listing.{with_new-front}
 use Rattle.rox_build.proofs.Stable.{all_slice, slice-append, map_same, entry-append}
@@ -62,8 +62,8 @@ tag_made cut above count known src i name n j h empty is other read fine = tag_r
 
 pub tagged : (o a s e : ElementTables) (t : StartTag) (above : List Declaration) (name : Name) (n : ℕ) (h : Held) (xml : Bool) (taken : List Taken) (scope : Scope)
     → name_view t.name ≡ name → t.name_end ≡ n → a.attributes ≡ o.attributes
-    → Holding (map declaration o.namespaces.items) o.listed.items (map declaration a.namespaces.items) a.listed.items xml taken h → length a.namespaces.items ≤ most_pairs
-    → s.namespaces ≡ a.namespaces → s.attributes ≡ a.attributes → (more : List ℕ) × (s.listed.items ≡ a.listed.items ++ more) → ArePlaces (length s.namespaces.items) s.listed.items
+    → Holding (map declaration o.namespaces.items.items) o.listed.items (map declaration a.namespaces.items.items) a.listed.items xml taken h → length a.namespaces.items.items ≤ most_pairs
+    → s.namespaces ≡ a.namespaces → s.attributes ≡ a.attributes → (more : List ℕ) × (s.listed.items ≡ a.listed.items ++ more) → ArePlaces (length s.namespaces.items.items) s.listed.items
     → scope_in_tables s scope ≡ listed above h.own → e.namespaces ≡ s.namespaces → e.listed ≡ s.listed → IsElement s e t.element (scope_in_tables s scope) name (map taken_view taken)
     → Tagged o e t above (record { name = name; name_end = n; declarations = h.own; attributes = h.attributes })
 tagged o a s e t above name n h xml taken scope is ends same hold few names attributes (more, listed_is) places lists names' listed' k =
@@ -72,8 +72,8 @@ tagged o a s e t above name n h xml taken scope is ends same hold few names attr
     record {
       name = is;
       name_end = ends;
-      names = ap (λ v. map declaration v.items) (names' ∙ names) ∙ d.names_are;
-      few = rw (ap (λ v. length v.items) (names' ∙ names)) few;
+      names = ap (λ v. map declaration v.items.items) (names' ∙ names) ∙ d.names_are;
+      few = rw (ap (λ v. length v.items.items) (names' ∙ names)) few;
       more = d.mine ++ more;
       listed_more = ap (λ v. v.items) listed' ∙ listed_is ∙ ap (λ xs. xs ++ more) d.listed_are ∙ append_assoc o.listed.items d.mine more;
       places = rw (names', listed') places;
@@ -97,16 +97,16 @@ tagged o a s e t above name n h xml taken scope is ends same hold few names attr
 
 -- what the parent lists stays as the tables grow
 pub scope_stays : (o a : ElementTables) (s : Scope) (xml : Bool) (taken : List Taken) (h : Held)
-    → Holding (map declaration o.namespaces.items) o.listed.items (map declaration a.namespaces.items) a.listed.items xml taken h
-    → ArePlaces (length o.namespaces.items) o.listed.items → (s.from ≤ s.until) × (s.until ≤ length o.listed.items) → scope_in_tables a s ≡ scope_in_tables o s
+    → Holding (map declaration o.namespaces.items.items) o.listed.items (map declaration a.namespaces.items.items) a.listed.items xml taken h
+    → ArePlaces (length o.namespaces.items.items) o.listed.items → (s.from ≤ s.until) × (s.until ≤ length o.listed.items) → scope_in_tables a s ≡ scope_in_tables o s
 scope_stays o a s xml taken h hold places within =
     let d = hold.declares in
-    let names = map declaration o.namespaces.items in
+    let names = map declaration o.namespaces.items.items in
     let front = with_new-front names (listable_of h.own) in
-    let grown : map declaration a.namespaces.items ≡ names ++ front.0 = d.names_are ∙ front.1 in
+    let grown : map declaration a.namespaces.items.items ≡ names ++ front.0 = d.names_are ∙ front.1 in
     let part : slice_range a.listed.items s.from s.until ≡ slice_range o.listed.items s.from s.until =
     ap (λ xs. slice_range xs s.from s.until) d.listed_are ∙ slice-append o.listed.items d.mine s.from s.until within.0 within.1 in
     let here : ArePlaces (length names) (slice_range o.listed.items s.from s.until) =
-    rw (length-map o.namespaces.items declaration) (all_slice (λ i. i < length o.namespaces.items) o.listed.items s.from s.until places) in
+    rw (length-map o.namespaces.items.items declaration) (all_slice (λ i. i < length o.namespaces.items.items) o.listed.items s.from s.until places) in
     ap (λ ns. map (entry ns) (slice_range a.listed.items s.from s.until)) grown ∙ ap (map (entry (names ++ front.0))) part
     ∙ map_same (entry (names ++ front.0)) (entry names) (λ i. i < length names) (slice_range o.listed.items s.from s.until) (entry-append names front.0) here

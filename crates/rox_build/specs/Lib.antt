@@ -8,3 +8,4 @@ pub mod Shown
 pub mod Tags
 pub mod Tagged
 pub mod Resolved
+pub mod Index

@@ -1,10 +1,10 @@
 -- What the builder holds, against where reading stands.
-use Rattle.std.specs.Prelude.{◌≡◌, ℕ, zero, suc, ◌+◌, ◌<◌, ◌≤◌, Bool, true, false, List, [], ◌∷◌, ◌++◌, Result, Ok, Err, length, map, slice_range}
+use Rattle.std.specs.Prelude.{◌≡◌, ℕ, ◌+◌, ◌<◌, ◌≤◌, Bool, true, false, List, [], ◌∷◌, ◌++◌, Result, Ok, Err, length, map, slice_range}
 use Rattle.std.specs.String.{string_bytes}
 use Rattle.std.specs.List.{AllByRecursion}
 use Rattle.rox_grammar.specs.declared.fault.Fault.{Fault}
-use Rattle.rox_grammar.specs.Forest.{Forest, Nil, Cons, join, size}
-use Rattle.rox_grammar.specs.Written.{Name, Declaration, Tag, Item, Element, Text, Comment, PI, merge, leaf}
+use Rattle.rox_grammar.specs.Forest.{Forest, Nil, join, size}
+use Rattle.rox_grammar.specs.Written.{Name, Declaration, Tag, Item, Element, Text, merge, leaf}
 use Rattle.rox_grammar.specs.Tree.{listed, scope_in, node_in}
 use Rattle.rox_grammar.specs.Document.{distinct_pairs, most_pairs, most_attributes}
 use Rattle.rox_reading.specs.Lexical.{Read, ◌>>=◌}
@@ -63,7 +63,7 @@ pending_text (pending.Slice start end text) joined = leaf (Text start end text.n
 pending_text (pending.Joined start end) joined = leaf (Text start end joined false)
 
 abbrev pub names_in : ElementTables → List Declaration
-names_in t = map declaration t.namespaces.items
+names_in t = map declaration t.namespaces.items.items
 
 abbrev pub line_in : ElementTables → NodeData → Line
 line_in t row = line t.attributes.items (names_in t) t.listed.items row
@@ -73,7 +73,7 @@ opened_in t os = map (opened (names_in t) t.listed.items) os
 
 -- what a row names is in the tables
 abbrev pub IsWithin : ElementTables → NodeKind → Type 0
-IsWithin t k = KindWithin (length t.attributes.items) (length t.namespaces.items) (length t.listed.items) k
+IsWithin t k = KindWithin (length t.attributes.items) (length t.namespaces.items.items) (length t.listed.items) k
 
 -- The builder holds these open elements, with these items in the innermost, of a text of this length.
 pub record Shows (end : ℕ) (stack : Open) (done : Forest Item) (b : Builder) : Type 0 where
@@ -112,8 +112,8 @@ pub record IsOpening (tables : ElementTables) (above : List Declaration) (start 
 
 -- attributes and listed places name only what the table of namespaces has
 pub record AreSound (t : ElementTables) : Type 0 where
-  pub attributes : AllByRecursion (λ a. NamespaceWithin (length t.namespaces.items) a.namespace) t.attributes.items
-  pub listed : AllByRecursion (λ i. i < length t.namespaces.items) t.listed.items
+  pub attributes : AllByRecursion (λ a. NamespaceWithin (length t.namespaces.items.items) a.namespace) t.attributes.items
+  pub listed : AllByRecursion (λ i. i < length t.namespaces.items.items) t.listed.items
 
 -- the builder holds what is read, unless memory ran out
 abbrev pub Adds : ℕ → Result (Unit {0}) Failure → Builder → Result State Fault → Type 0
@@ -128,7 +128,7 @@ IsOpenWithin t o = (o.scope.from ≤ o.scope.until) × (o.scope.until ≤ length
 pub record Fine (t : ElementTables) (opened : List OpenElement) : Type 0 where
   pub sound : AreSound t
   pub elements : AllByRecursion (IsOpenWithin t) opened
-  pub few_names : length t.namespaces.items ≤ most_pairs
+  pub few_names : length t.namespaces.items.items ≤ most_pairs
   pub few_attributes : length t.attributes.items ≤ most_attributes
 
 -- The cursor and the builder stand where reading does, in a text of this length.

@@ -1,8 +1,7 @@
 -- What the code holds of a start tag that was read, against the tag.
-use Rattle.std.specs.Prelude.{◌≡◌, ℕ, Bool, ◌+◌, ◌<◌, ◌≤◌, List, ◌++◌, length, map, Option, Result, Ok, Err, slice_range}
+use Rattle.std.specs.Prelude.{◌≡◌, ℕ, Bool, ◌≤◌, List, ◌++◌, length, map, Result, Ok, Err, slice_range}
 use Rattle.std.specs.List.{AllByRecursion}
 use Rattle.std.specs.Option.{option_map}
-use Rattle.rox_grammar.specs.declared.fault.Fault.{Fault}
 use Rattle.rox_grammar.specs.Written.{Attribute, Name, Declaration, Tag}
 use Rattle.rox_grammar.specs.Tree.{listed, attribute_in, element_namespace}
 use Rattle.rox_grammar.specs.Document.{listable, with_new, most_pairs, most_attributes}
@@ -27,25 +26,25 @@ pub record HasAttributes (old new : List AttributeData) (names : List Declaratio
 
 -- An element of this name and with these attributes, which lists this scope.
 pub record IsElement (old new : ElementTables) (e : ElementData) (scope : List Declaration) (name : Name) (written : List Attribute) : Type 0 where
-  pub attributes : HasAttributes old.attributes.items new.attributes.items (map declaration new.namespaces.items) scope written
+  pub attributes : HasAttributes old.attributes.items new.attributes.items (map declaration new.namespaces.items.items) scope written
   pub attributes_from : e.attributes_from ≡ length old.attributes.items
   pub attributes_until : e.attributes_until ≡ length new.attributes.items
   pub few : length new.attributes.items ≤ most_attributes
   pub local : e.local.now ≡ name.local
-  pub namespace : option_map (λ i. (entry (map declaration new.namespaces.items) i).uri) e.namespace ≡ element_namespace scope name
-  pub namespace_within : OptionWithin (length new.namespaces.items) e.namespace
+  pub namespace : option_map (λ i. (entry (map declaration new.namespaces.items.items) i).uri) e.namespace ≡ element_namespace scope name
+  pub namespace_within : OptionWithin (length new.namespaces.items.items) e.namespace
   pub listed_within : (e.namespaces_from ≤ e.namespaces_until) × (e.namespaces_until ≤ length new.listed.items)
-  pub lists : entries (map declaration new.namespaces.items) (slice_range new.listed.items e.namespaces_from e.namespaces_until) ≡ scope
+  pub lists : entries (map declaration new.namespaces.items.items) (slice_range new.listed.items e.namespaces_from e.namespaces_until) ≡ scope
 
 -- The tables have grown by a tag below an element that lists these.
 pub record Tagged (old new : ElementTables) (t : StartTag) (above : List Declaration) (tag : Tag) : Type 0 where
   pub name : name_view t.name ≡ tag.name
   pub name_end : t.name_end ≡ tag.name_end
-  pub names : map declaration new.namespaces.items ≡ with_new (map declaration old.namespaces.items) (listable tag)
-  pub few : length new.namespaces.items ≤ most_pairs
+  pub names : map declaration new.namespaces.items.items ≡ with_new (map declaration old.namespaces.items.items) (listable tag)
+  pub few : length new.namespaces.items.items ≤ most_pairs
   pub more : List ℕ
   pub listed_more : new.listed.items ≡ old.listed.items ++ more
-  pub places : ArePlaces (length new.namespaces.items) new.listed.items
+  pub places : ArePlaces (length new.namespaces.items.items) new.listed.items
   pub element : IsElement old new t.element (listed above tag.declarations) tag.name tag.attributes
 
 -- a start tag was read, unless memory ran out
@@ -55,4 +54,4 @@ GivesTag old new after (Err e) above read = Fails e read
 
 -- the namespaces at these listed places
 abbrev pub scope_in_tables : ElementTables → Scope → List Declaration
-scope_in_tables t s = entries (map declaration t.namespaces.items) (slice_range t.listed.items s.from s.until)
+scope_in_tables t s = entries (map declaration t.namespaces.items.items) (slice_range t.listed.items s.from s.until)

@@ -6,6 +6,7 @@ ghost use Rattle.rox_build.specs.declared.tables.NodeKind.TheVariants as kind;
 ghost use Rattle.rox_scan.specs.declared.failure.Failure.TheVariants as failure;
 ghost use Rattle.rox_build.specs.Waiting.{waiting};
 
+use crate::names::NamespaceTable;
 use crate::pending::Pending;
 use crate::storage::StringStorage;
 use crate::tables::{ElementTables, NodeData, NodeKind, Scope, Tables};
@@ -114,7 +115,7 @@ impl<'input> Builder<'input> {
             nodes: root_row(alloc, bytes)?,
             tables: ElementTables {
                 attributes: Vec::with_capacity(alloc, bytes / 64)?,
-                namespaces: Vec::new(alloc),
+                namespaces: NamespaceTable::new(alloc),
                 listed: Vec::new(alloc),
             },
             opened: Vec::new(alloc),
@@ -404,6 +405,10 @@ impl<'input> Builder<'input> {
             namespaces,
             listed,
         } = tables;
+        let NamespaceTable {
+            items: namespaces,
+            order: _,
+        } = namespaces;
         Ok(Tables {
             nodes,
             attributes,

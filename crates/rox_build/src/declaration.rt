@@ -12,7 +12,8 @@ ghost use Rattle.rox_build.specs.Tags.{taken_view, declares_xml, Declares, Decla
 ghost use Rattle.rox_grammar.specs.Tree.{is_declared};
 ghost use Rattle.rox_reading.specs.Tags.{Held};
 
-use crate::scope::{XML_URI, XMLNS_URI, is_own, is_xml, place_pair};
+use crate::names::NamespaceTable;
+use crate::scope::{XML_URI, XMLNS_URI, is_own, is_xml};
 use crate::tables::Namespace;
 use crate::taken::Taken;
 use rox_grammar::fault::{Fault, Span};
@@ -128,21 +129,21 @@ fn is_again(names: &[Namespace<'_>], own: &[u16], xml: bool, prefix: Option<&str
 /// A declaration, which is listed unless it is that of `xml`; `own` is where the listed places of the tag begin. Answers
 /// whether the tag declares `xml` now.
 pub fn take_declaration<'input>(
-    names: &mut Vec<Namespace<'input>>,
+    names: &mut NamespaceTable<'input>,
     listed: &mut Vec<u16>,
     own: usize,
     xml: bool,
     taken: Taken<'input>,
 ) -> Result<bool, Failure>
-    requires places { ArePlaces (length names.old.items) listed.old.items }
+    requires places { ArePlaces (length names.old.items.items) listed.old.items }
     requires own { own ≤ length listed.old.items }
-    requires few { length names.old.items ≤ most_pairs }
-    ensures places { OnOk result (ArePlaces (length names.new.items) listed.new.items) }
+    requires few { length names.old.items.items ≤ most_pairs }
+    ensures places { OnOk result (ArePlaces (length names.new.items.items) listed.new.items) }
     ensures own { OnOk result (own ≤ length listed.new.items) }
-    ensures few { OnOk result (length names.new.items ≤ most_pairs) }
+    ensures few { OnOk result (length names.new.items.items ≤ most_pairs) }
     ensures value { (known : List Declaration) (before : List ℕ) (h : Held) → own ≡ length before
-        → Declares known before (map declaration names.old.items) listed.old.items xml h.own
-        → Declared known before (map declaration names.new.items) listed.new.items result h (spec.declared known (taken_view taken.entry) h) }
+        → Declares known before (map declaration names.old.items.items) listed.old.items xml h.own
+        → Declared known before (map declaration names.new.items.items) listed.new.items result h (spec.declared known (taken_view taken.entry) h) }
 {
     taken.test_uri()?;
     let prefix = taken.declared_prefix();
@@ -155,7 +156,7 @@ pub fn take_declaration<'input>(
     if is_xml(prefix) {
         return Ok(true);
     }
-    let place = place_pair(names, prefix, taken.value)?;
+    let place = names.place(prefix, taken.value)?;
     listed.push(place)?;
     Ok(xml)
 }

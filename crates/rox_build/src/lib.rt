@@ -3,6 +3,7 @@
 
 pub mod builder;
 pub mod declaration;
+pub mod names;
 pub mod namespaces;
 pub mod pending;
 pub mod reader;

@@ -1,19 +1,13 @@
 //! Namespaces in scope (Namespaces in XML 1.0, section 6). A namespace is a place in the table of the distinct pairs of a
 //! prefix, or the default, and a URI; what an element lists is a stretch of such places.
 
-ghost use Rattle.std.specs.Prelude.{◌≡◌, ◌<◌, ◌≤◌, ◌∷◌, ◌++◌, [], ℕ, List, length, map, take, drop, slice_range, true, false, IfOk, OnOk, IfSome, IfNone, Ok, Err, Some, None, is_some, IsTrue, IfErr, ◌&&◌, ◌||◌};
-ghost use Rattle.rox_grammar.specs.Written.{Declaration};
+ghost use Rattle.std.specs.Prelude.{◌≡◌, ◌<◌, ◌≤◌, ◌++◌, ℕ, List, length, map, drop, slice_range, OnOk, IfSome, IfNone, Some, None, IfErr, ◌&&◌, ◌||◌};
 ghost use Rattle.rox_grammar.specs.Tree.{same_prefix, is_declared, uri_of};
 ghost use Rattle.rox_grammar.specs.WellNamed.{is_xml};
-ghost use Rattle.rox_grammar.specs.Document.{same_pair, has_pair, with_new, most_pairs};
-ghost use Rattle.rox_build.specs.Storage.{storage_bytes};
 ghost use Rattle.rox_build.specs.Lines.{declaration, entry};
-ghost use Rattle.rox_grammar.specs.declared.fault.Fault.{Fault};
-ghost use Rattle.rox_build.specs.Scopes.{prefix_view, pair, entries, ArePlaces, others};
+ghost use Rattle.rox_build.specs.Scopes.{prefix_view, entries, ArePlaces, others};
 
-use crate::storage::StringStorage;
 use crate::tables::Namespace;
-use rox_grammar::fault::Fault;
 use rox_scan::failure::Failure;
 
 /// The URI of the prefix `xml`.
@@ -21,9 +15,6 @@ pub const XML_URI: &str = "http://www.w3.org/XML/1998/namespace";
 
 /// The URI of the prefix `xmlns`.
 pub const XMLNS_URI: &str = "http://www.w3.org/2000/xmlns/";
-
-/// The most pairs that the table holds.
-const MOST_PAIRS: usize = 65_535;
 
 /// Whether two prefixes are one; two defaults are.
 #[inline]
@@ -35,53 +26,6 @@ pub fn same_prefix(one: Option<&str>, other: Option<&str>) -> bool
         (Some(one), Some(other)) => one == other,
         _ => false,
     }
-}
-
-/// Whether a namespace is this pair.
-#[inline]
-fn is_pair(name: &Namespace<'_>, prefix: Option<&str>, uri: &str) -> bool
-    ensures { result ≡ same_pair (declaration name.now) (pair (prefix_view prefix.entry) uri.now) }
-{
-    same_prefix(name.name, prefix) && name.uri.as_str() == uri
-}
-
-/// The place of a pair in the table, if it is there.
-
-fn find_pair(names: &[Namespace<'_>], prefix: Option<&str>, uri: &str) -> Option<usize>
-    ensures there { IfSome result (λ i. (i < length names.now) × (entry (map declaration names.now) i ≡ pair (prefix_view prefix.entry) uri.now)
-        × (has_pair (map declaration names.now) (pair (prefix_view prefix.entry) uri.now) ≡ true)) }
-    ensures absent { IfNone result (has_pair (map declaration names.now) (pair (prefix_view prefix.entry) uri.now) ≡ false) }
-{
-    for (place, name) in names.iter().enumerate() {
-        if is_pair(name, prefix, uri) {
-            return Some(place);
-        }
-    }
-    None
-}
-
-/// The place of a pair in the table, where it is put if it is new. The table may hold 65,535 of them.
-pub fn place_pair<'input>(
-    names: &mut Vec<Namespace<'input>>,
-    prefix: Option<&'input str>,
-    uri: StringStorage<'input>,
-) -> Result<u16, Failure>
-    requires { length names.old.items ≤ most_pairs }
-    ensures there { IfOk result (λ i. (i < length names.new.items) × (entry (map declaration names.new.items) i ≡ pair (prefix_view prefix.entry) (storage_bytes uri.entry))) }
-    ensures table { OnOk result (map declaration names.new.items ≡ with_new (map declaration names.old.items) (pair (prefix_view prefix.entry) (storage_bytes uri.entry) ∷ [])) }
-    ensures few { OnOk result (length names.new.items ≤ most_pairs) }
-    ensures fault { (f : Fault) → result ≡ Err (Failure.Fault f) → (f ≡ Fault.NamespacesLimitReached)
-        × (most_pairs < length (with_new (map declaration names.old.items) (pair (prefix_view prefix.entry) (storage_bytes uri.entry) ∷ []))) }
-{
-    if let Some(place) = find_pair(names.as_slice(), prefix, uri.as_str()) {
-        return Ok(place as u16);
-    }
-    if names.len() >= MOST_PAIRS {
-        return Err(Failure::Fault(Fault::NamespacesLimitReached));
-    }
-    let place = names.len() as u16;
-    names.push(Namespace { name: prefix, uri })?;
-    Ok(place)
 }
 
 /// The first of these places whose namespace has this prefix, or is the default.

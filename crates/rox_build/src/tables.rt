@@ -1,5 +1,6 @@
 //! The tables of a document: a row for each node in document order, and beside them attributes and namespaces.
 
+use crate::names::NamespaceTable;
 use crate::storage::StringStorage;
 
 /// A processing instruction: its target, and its value where it has one (XML 1.0 section 2.6).
@@ -86,7 +87,7 @@ pub struct Tables<'input> {
 #[derive(Debug, Drop)]
 pub struct ElementTables<'input> {
     pub attributes: Vec<AttributeData<'input>>,
-    pub namespaces: Vec<Namespace<'input>>,
+    pub namespaces: NamespaceTable<'input>,
     pub listed: Vec<u16>,
 }
 

@@ -82,16 +82,16 @@ fn take<'input>(
     requires value { HasValue text.now raw.now }
     requires placed { raw.now.start < 2 ^ 63 }
     requires end { end ≡ raw.now.value_end + 1 }
-    requires places { ArePlaces (length elements.old.namespaces.items) elements.old.listed.items }
+    requires places { ArePlaces (length elements.old.namespaces.items.items) elements.old.listed.items }
     requires own { own ≤ length elements.old.listed.items }
-    requires few { length elements.old.namespaces.items ≤ most_pairs }
-    ensures places { OnOk result (ArePlaces (length elements.new.namespaces.items) elements.new.listed.items) }
+    requires few { length elements.old.namespaces.items.items ≤ most_pairs }
+    ensures places { OnOk result (ArePlaces (length elements.new.namespaces.items.items) elements.new.listed.items) }
     ensures own { OnOk result (own ≤ length elements.new.listed.items) }
-    ensures few { OnOk result (length elements.new.namespaces.items ≤ most_pairs) }
+    ensures few { OnOk result (length elements.new.namespaces.items.items ≤ most_pairs) }
     ensures attributes { elements.new.attributes ≡ elements.old.attributes }
     ensures took { (known : List Declaration) (before : List ℕ) (h : Held) → own ≡ length before
-        → Holding known before (map declaration elements.old.namespaces.items) elements.old.listed.items xml buffers.old.taken.items h
-        → Took known before (map declaration elements.new.namespaces.items) elements.new.listed.items buffers.new.taken.items result (one_more known text.now (attribute_view raw.now) h) }
+        → Holding known before (map declaration elements.old.namespaces.items.items) elements.old.listed.items xml buffers.old.taken.items h
+        → Took known before (map declaration elements.new.namespaces.items.items) elements.new.listed.items buffers.new.taken.items result (one_more known text.now (attribute_view raw.now) h) }
 {
     let piece = value(text, raw, &mut buffers.scratch)?;
     let value = stored(alloc, piece, buffers.scratch.as_str())?;
@@ -138,17 +138,17 @@ fn attributes<'input>(
     own: usize,
     cut: Fault,
 ) -> Result<(bool, bool), Failure>
-    requires places { ArePlaces (length elements.old.namespaces.items) elements.old.listed.items }
+    requires places { ArePlaces (length elements.old.namespaces.items.items) elements.old.listed.items }
     requires own { own ≤ length elements.old.listed.items }
-    requires few { length elements.old.namespaces.items ≤ most_pairs }
-    ensures places { OnOk result (ArePlaces (length elements.new.namespaces.items) elements.new.listed.items) }
+    requires few { length elements.old.namespaces.items.items ≤ most_pairs }
+    ensures places { OnOk result (ArePlaces (length elements.new.namespaces.items.items) elements.new.listed.items) }
     ensures own { OnOk result (own ≤ length elements.new.listed.items) }
-    ensures few { OnOk result (length elements.new.namespaces.items ≤ most_pairs) }
+    ensures few { OnOk result (length elements.new.namespaces.items.items ≤ most_pairs) }
     ensures attributes { elements.new.attributes ≡ elements.old.attributes }
     ensures source { cursor.new.text ≡ cursor.old.text }
     ensures took { (known : List Declaration) (before : List ℕ) (h : Held) → own ≡ length before
-        → Holding known before (map declaration elements.old.namespaces.items) elements.old.listed.items false buffers.old.taken.items h
-        → TookAll known before (map declaration elements.new.namespaces.items) elements.new.listed.items buffers.new.taken.items cursor.new result
+        → Holding known before (map declaration elements.old.namespaces.items.items) elements.old.listed.items false buffers.old.taken.items h
+        → TookAll known before (map declaration elements.new.namespaces.items.items) elements.new.listed.items buffers.new.taken.items cursor.new result
         (attributes_at (length cursor.old.text.now) cut known cursor.old.text.now cursor.old.pos h) }
 {
     let mut xml = false;
@@ -185,18 +185,18 @@ fn scope_of_tag(
     own: usize,
     xml: bool,
 ) -> Result<Scope, Failure>
-    requires places { ArePlaces (length elements.old.namespaces.items) elements.old.listed.items }
+    requires places { ArePlaces (length elements.old.namespaces.items.items) elements.old.listed.items }
     requires own { own ≤ length elements.old.listed.items }
     requires above { (above.from ≤ above.until) × (above.until ≤ own) }
     ensures names { elements.new.namespaces ≡ elements.old.namespaces }
     ensures attributes { elements.new.attributes ≡ elements.old.attributes }
     ensures more { OnOk result ((more : List ℕ) × (elements.new.listed.items ≡ elements.old.listed.items ++ more)) }
-    ensures places { OnOk result (ArePlaces (length elements.new.namespaces.items) elements.new.listed.items) }
+    ensures places { OnOk result (ArePlaces (length elements.new.namespaces.items.items) elements.new.listed.items) }
     ensures within { IfOk result (λ s. (s.from ≤ s.until) × (s.until ≤ length elements.new.listed.items)) }
     ensures lists { (known : List Declaration) (before : List ℕ) (ds : List Declaration) → own ≡ length before
-        → Declares known before (map declaration elements.old.namespaces.items) elements.old.listed.items xml ds
-        → IfOk result (λ s. entries (map declaration elements.new.namespaces.items) (slice_range elements.new.listed.items s.from s.until)
-        ≡ listed (entries (map declaration elements.old.namespaces.items) (slice_range elements.old.listed.items above.from above.until)) ds) }
+        → Declares known before (map declaration elements.old.namespaces.items.items) elements.old.listed.items xml ds
+        → IfOk result (λ s. entries (map declaration elements.new.namespaces.items.items) (slice_range elements.new.listed.items s.from s.until)
+        ≡ listed (entries (map declaration elements.old.namespaces.items.items) (slice_range elements.old.listed.items above.from above.until)) ds) }
     ensures err { IfErr result (λ e. e ≡ Failure.Memory) }
 {
     if own >= elements.listed.len() && !xml {
@@ -229,7 +229,7 @@ fn element_data<'input>(
     at: usize,
     scope: Scope,
 ) -> Result<ElementData<'input>, Failure>
-    requires places { ArePlaces (length elements.old.namespaces.items) elements.old.listed.items }
+    requires places { ArePlaces (length elements.old.namespaces.items.items) elements.old.listed.items }
     requires within { (scope.from ≤ scope.until) × (scope.until ≤ length elements.old.listed.items) }
     requires few { length elements.old.attributes.items ≤ most_attributes }
     requires small { at < 2 ^ 63 }
@@ -278,14 +278,14 @@ pub fn start_tag<'input>(
 ) -> Result<StartTag<'input>, Failure>
     requires there { cursor.old.pos < length cursor.old.text.now }
     requires here { slice_index cursor.old.text.now cursor.old.pos ≡ 60 }
-    requires places { ArePlaces (length elements.old.namespaces.items) elements.old.listed.items }
-    requires few { length elements.old.namespaces.items ≤ most_pairs }
+    requires places { ArePlaces (length elements.old.namespaces.items.items) elements.old.listed.items }
+    requires few { length elements.old.namespaces.items.items ≤ most_pairs }
     requires few_attributes { length elements.old.attributes.items ≤ most_attributes }
     requires above { (above.from ≤ above.until) × (above.until ≤ length elements.old.listed.items) }
     ensures source { cursor.new.text ≡ cursor.old.text }
     ensures starts { IfOk result (λ t. t.name_start ≡ cursor.old.pos + 1) }
     ensures value { GivesTag elements.old elements.new cursor.new result (scope_in_tables elements.old above)
-        (tag_at cut (scope_in_tables elements.old above) (length elements.old.attributes.items) (map declaration elements.old.namespaces.items) cursor.old.text.now cursor.old.pos) }
+        (tag_at cut (scope_in_tables elements.old above) (length elements.old.attributes.items) (map declaration elements.old.namespaces.items.items) cursor.old.text.now cursor.old.pos) }
 {
     let small = byte_count(cursor.text);
     cursor.advance();

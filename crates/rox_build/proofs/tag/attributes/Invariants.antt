@@ -12,11 +12,11 @@ abbrev pub invariant-attributes : goal.invariant-attributes
 invariant-attributes l = record {
   source : l.cursor.text ≡ l.fn.cursor.text;
   attributes : l.elements.attributes ≡ l.fn.elements.attributes;
-  places : ArePlaces (length l.elements.namespaces.items) l.elements.listed.items;
+  places : ArePlaces (length l.elements.namespaces.items.items) l.elements.listed.items;
   own : l.own ≤ length l.elements.listed.items;
-  few : length l.elements.namespaces.items ≤ most_pairs;
+  few : length l.elements.namespaces.items.items ≤ most_pairs;
   reads : (known : List Declaration) (before : List ℕ) (h : Held) → l.own ≡ length before
-      → Holding known before (map declaration l.fn.elements.namespaces.items) l.fn.elements.listed.items false l.fn.buffers.taken.items h
+      → Holding known before (map declaration l.fn.elements.namespaces.items.items) l.fn.elements.listed.items false l.fn.buffers.taken.items h
       → Going known before l.cut l.fn.cursor.text.now (attributes_at (length l.fn.cursor.text.now) l.cut known l.fn.cursor.text.now l.fn.cursor.pos h)
-      (length l.fn.cursor.text.now - l._turn) l.cursor.pos (map declaration l.elements.namespaces.items) l.elements.listed.items l.xml l.buffers.taken.items;
+      (length l.fn.cursor.text.now - l._turn) l.cursor.pos (map declaration l.elements.namespaces.items.items) l.elements.listed.items l.xml l.buffers.taken.items;
 }

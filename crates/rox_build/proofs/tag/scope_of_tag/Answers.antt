@@ -1,12 +1,11 @@
-use Rattle.std.proofs.Common.{◌≡◌, ◌≤◌, ◌++◌, ℕ, List, length, map, refl, sym, ap, ◌∙◌, arith}
+use Rattle.std.proofs.Common.{◌≡◌, ◌≤◌, length, map, ap, arith}
 use Rattle.rox_build.specs.Lines.{declaration}
-use Rattle.rox_build.specs.Scopes.{entries}
 use Rattle.rox_build.proofs.Declaring.{nothing_declared, lists_above, lists_both}
 use Rattle.rox_build.proofs.tag.scope_of_tag.Goals as goal
 
 pub returns-then-not-xml-clause-lists : goal.returns-then-not-xml-clause-lists
 returns-then-not-xml-clause-lists c = λ known before ds o d.
-    let names = map declaration c.args.elements.now.namespaces.items in
+    let names = map declaration c.args.elements.now.namespaces.items.items in
     let listed = c.args.elements.now.listed.items in
     let k = c.args.elements.now.listed.ok.0 in
     let short : length listed ≤ c.args.own = omega arith in
@@ -14,7 +13,7 @@ returns-then-not-xml-clause-lists c = λ known before ds o d.
 
 pub returns-clause-lists : goal.returns-clause-lists
 returns-clause-lists c = λ known before ds o d.
-    let names = map declaration c.args.elements.now.namespaces.items in
+    let names = map declaration c.args.elements.now.namespaces.items.items in
     let ok = c.in_ok-inherit.ensures.ok in
     let k = c.inherit.new.listed.ok.0 in
     let end : c.len-2.result ≡ length c.inherit.new.listed.items = omega arith in

@@ -1,4 +1,4 @@
-use Rattle.std.proofs.Common.{◌≡◌, ◌≤◌, ◌+◌, ℕ, List, [], false, length, map, bytes_eq, refl, sym, ap, ◌∙◌, arith, Ok}
+use Rattle.std.proofs.Common.{◌≡◌, ◌≤◌, ◌+◌, [], false, length, map, bytes_eq, refl, sym, ap, ◌∙◌, arith, Ok}
 use Rattle.std.proofs.lemmas.List.{length-map}
 use Rattle.std.proofs.lemmas.Result.{err_from_is_err_and}
 use Rattle.rox_grammar.specs.declared.fault.Word.TheVariants.{Xmlns}
@@ -9,7 +9,6 @@ use Rattle.rox_reading.specs.Lexical.{qname_at}
 use Rattle.rox_reading.specs.Tags.{Held, attributes_at, tag_tested}
 use Rattle.rox_scan.specs.Gives.{Fails, name_view}
 use Rattle.rox_build.specs.Lines.{declaration}
-use Rattle.rox_build.specs.Tags.{taken_view, TookAll}
 use Rattle.rox_build.specs.Tagged.{scope_in_tables}
 use Rattle.rox_build.proofs.Starting.{holds_nothing, tag_unread, tag_untested, tag_made, tagged, scope_stays}
 use Rattle.rox_build.proofs.tag.start_tag.Goals as goal
@@ -19,7 +18,7 @@ returns-in_err-xml-clause-value c =
     let old = c.args.elements.now in
     let src = c.args.cursor.now.text.now in
     let i = c.args.cursor.now.pos in
-    let known = map declaration old.namespaces.items in
+    let known = map declaration old.namespaces.items.items in
     let above = scope_in_tables old c.args.above in
     let s = ap (λ t. t.now) c.advance.ensures.source in
     let s2 = ap (λ t. t.now) c.qname.ensures.source ∙ s in
@@ -29,7 +28,7 @@ returns-in_err-xml-clause-value c =
     let other : bytes_eq name.prefix (word_text Xmlns) ≡ false = sym c.eq.ensures ∙ c.if-eq.false in
     let k = old.listed.ok.0 in
     let own : c.len-own.result ≡ length old.listed.items = omega arith in
-    let few : length known ≤ most_pairs = rw (length-map old.namespaces.items declaration) c.requires.few in
+    let few : length known ≤ most_pairs = rw (length-map old.namespaces.items.items declaration) c.requires.few in
     let start : Held = record { own = []; attributes = [] } in
     let nothing = holds_nothing known old.listed.items _ few c.clear.ensures.items in
     let took = c.in_err-xml.ensures.took known old.listed.items start own nothing in
@@ -41,7 +40,7 @@ returns-in_err-element-clause-value c =
     let old = c.args.elements.now in
     let src = c.args.cursor.now.text.now in
     let i = c.args.cursor.now.pos in
-    let known = map declaration old.namespaces.items in
+    let known = map declaration old.namespaces.items.items in
     let above = scope_in_tables old c.args.above in
     let s = ap (λ t. t.now) c.advance.ensures.source in
     let s2 = ap (λ t. t.now) c.qname.ensures.source ∙ s in
@@ -51,7 +50,7 @@ returns-in_err-element-clause-value c =
     let other : bytes_eq name.prefix (word_text Xmlns) ≡ false = sym c.eq.ensures ∙ c.if-eq.false in
     let k = old.listed.ok.0 in
     let own : c.len-own.result ≡ length old.listed.items = omega arith in
-    let few : length known ≤ most_pairs = rw (length-map old.namespaces.items declaration) c.requires.few in
+    let few : length known ≤ most_pairs = rw (length-map old.namespaces.items.items declaration) c.requires.few in
     let start : Held = record { own = []; attributes = [] } in
     let nothing = holds_nothing known old.listed.items _ few c.clear.ensures.items in
     let took = c.in_ok-xml.ensures.took known old.listed.items start own nothing in
@@ -73,7 +72,7 @@ returns-clause-value c =
     let old = c.args.elements.now in
     let src = c.args.cursor.now.text.now in
     let i = c.args.cursor.now.pos in
-    let known = map declaration old.namespaces.items in
+    let known = map declaration old.namespaces.items.items in
     let above = scope_in_tables old c.args.above in
     let s = ap (λ t. t.now) c.advance.ensures.source in
     let s2 = ap (λ t. t.now) c.qname.ensures.source ∙ s in
@@ -83,7 +82,7 @@ returns-clause-value c =
     let other : bytes_eq name.prefix (word_text Xmlns) ≡ false = sym c.eq.ensures ∙ c.if-eq.false in
     let k = old.listed.ok.0 in
     let own : c.len-own.result ≡ length old.listed.items = omega arith in
-    let few : length known ≤ most_pairs = rw (length-map old.namespaces.items declaration) c.requires.few in
+    let few : length known ≤ most_pairs = rw (length-map old.namespaces.items.items declaration) c.requires.few in
     let start : Held = record { own = []; attributes = [] } in
     let nothing = holds_nothing known old.listed.items _ few c.clear.ensures.items in
     let took = c.in_ok-xml.ensures.took known old.listed.items start own nothing in

@@ -1,5 +1,4 @@
-use Rattle.std.proofs.Common.{◌≡◌, true, false, refl, sym, ap, ◌∙◌, map, List, ℕ, string_bytes}
-use Rattle.rox_grammar.specs.Written.{declares}
+use Rattle.std.proofs.Common.{◌≡◌, refl, sym, ap, ◌∙◌, map, List, ℕ, string_bytes}
 use Rattle.rox_scan.specs.Parts.{attribute_view}
 use Rattle.rox_build.specs.Values.{piece_view}
 use Rattle.rox_build.specs.Lines.{declaration}
@@ -17,7 +16,7 @@ returns-then-declares-clause-took c = λ known before h o hold.
     let view = view_is raw v t refl refl refl c.requires.end refl
     (c.in_ok-value.ensures.bytes ∙ ap (λ (b : List ℕ). (piece_view c.in_ok-piece.piece b).value) buffer)
     (c.in_ok-value.ensures.kind ∙ ap (λ (b : List ℕ). (piece_view c.in_ok-piece.piece b).plain) buffer) in
-    took_declaration known before (map declaration c.take_declaration.new.names.items) c.take_declaration.new.listed.items c.args.buffers.now.taken.items c.take_declaration.result
+    took_declaration known before (map declaration c.take_declaration.new.names.items.items) c.take_declaration.new.listed.items c.args.buffers.now.taken.items c.take_declaration.result
     c.args.text.now (attribute_view raw) h v (taken_view t) c.in_ok-piece.ensures view (sym c.declares.ensures ∙ c.if-declares.true) hold.attributes
     (c.take_declaration.ensures.value known before h o hold.declares)
 
@@ -26,7 +25,7 @@ returns-clause-took c = λ known before h o hold.
     let raw = c.args.raw.now in
     let v = piece_view c.in_ok-piece.piece (string_bytes c.value.new.scratch) in
     let buffer : c.as_str.result.now ≡ string_bytes c.value.new.scratch = c.as_str.ensures.value in
-    took_attribute known before (map declaration c.args.elements.now.namespaces.items) c.args.elements.now.listed.items c.args.xml c.args.buffers.now.taken.items c.push.new.self.items
+    took_attribute known before (map declaration c.args.elements.now.namespaces.items.items) c.args.elements.now.listed.items c.args.xml c.args.buffers.now.taken.items c.push.new.self.items
     c.args.text.now raw h v _ c.in_ok-push.ensures.items c.in_ok-piece.ensures refl refl refl c.requires.end refl
     (c.in_ok-value.ensures.bytes ∙ ap (λ (b : List ℕ). (piece_view c.in_ok-piece.piece b).value) buffer)
     (c.in_ok-value.ensures.kind ∙ ap (λ (b : List ℕ). (piece_view c.in_ok-piece.piece b).plain) buffer)
