@@ -4,6 +4,8 @@
 pub mod ids;
 pub mod qualified;
 pub mod records;
+#[cfg(test)]
+mod tests;
 
 pub use crate::ids::element_by_id;
 pub use crate::qualified::resolve;
