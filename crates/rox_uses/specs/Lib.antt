@@ -1,0 +1,4 @@
+pub mod Nodes
+pub mod Ids
+pub mod Records
+pub mod Qualified

@@ -1,0 +1,13 @@
+-- Qualified names (Namespaces in XML 1.0 section 4).
+use Rattle.std.specs.Prelude.{ℕ, ◌==◌, Bool, List}
+use Rattle.std.specs.List.{before_first, after_first}
+
+abbrev pub is_colon : ℕ → Bool
+is_colon byte = byte == 58
+
+-- what stands before the first colon of a name, and behind it
+abbrev pub prefix_of : List ℕ → List ℕ
+prefix_of name = before_first is_colon name
+
+abbrev pub local_of : List ℕ → List ℕ
+local_of name = after_first is_colon name

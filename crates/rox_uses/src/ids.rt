@@ -1,0 +1,25 @@
+//! Elements found by their ids.
+
+ghost use Rattle.std.specs.Prelude.{◌≡◌};
+ghost use Rattle.std.specs.Option.{option_map};
+ghost use Rattle.std.specs.List.{find};
+ghost use Rattle.roxmltree.specs.Spot.{spot};
+ghost use Rattle.rox_uses.specs.Ids.{has_id};
+ghost use Rattle.rox_uses.specs.Nodes.{nodes_of};
+
+use roxmltree::{Document, Node};
+
+/// The first element, in document order, whose attribute `id` has this value.
+pub fn element_by_id<'a, 'input>(
+    document: &'a Document<'input>,
+    id: &str,
+) -> Option<Node<'a, 'input>>
+    ensures { option_map spot result ≡ find (has_id id.now) (nodes_of document.now) }
+{
+    for node in document.descendants() {
+        if node.attribute("id".into()) == Some(id) {
+            return Some(node);
+        }
+    }
+    None
+}

@@ -1,0 +1,12 @@
+//! Callers of the library, and the tests of its public calls.
+#![tactic(auto)]
+
+pub mod ids;
+pub mod qualified;
+pub mod records;
+#[cfg(test)]
+mod tests;
+
+pub use crate::ids::element_by_id;
+pub use crate::qualified::resolve;
+pub use crate::records::{Record, RecordsError, read_records};

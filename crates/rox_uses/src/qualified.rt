@@ -1,0 +1,42 @@
+//! Qualified names in the values of attributes, as in `xsi:type="p:T"`.
+
+ghost use Rattle.std.specs.Prelude.{◌≡◌, Some, None};
+ghost use Rattle.std.specs.Option.{option_map};
+ghost use Rattle.std.specs.List.{Contains};
+ghost use Rattle.rox_grammar.specs.Tree.{uri_of};
+ghost use Rattle.roxmltree.specs.Names.{expanded};
+ghost use Rattle.roxmltree.specs.Says.{listed_of};
+ghost use Rattle.roxmltree.specs.Spot.{item_of};
+ghost use Rattle.rox_uses.specs.Qualified.{prefix_of, local_of};
+
+use roxmltree::{ExpandedName, Node};
+
+/// What a qualified name stands for in an element (XML Schema 1.0 part 2 section 3.2.18): what is before its colon is a
+/// prefix that the element lists, and a name without colon is in the default namespace, if one is listed. None where the
+/// prefix is not listed.
+#[tactic(auto, using(std::proofs::lemmas::List::Sums::fails_before_first))]
+pub fn resolve<'a, 'name>(
+    element: Node<'a, '_>,
+    name: &'name str,
+) -> Option<ExpandedName<'a, 'name>>
+    ensures prefixed { Contains name.now 58
+        → option_map expanded result ≡ option_map (λ uri. (Some uri, local_of name.now)) (uri_of (listed_of (item_of element.entry)) (Some (prefix_of name.now))) }
+    ensures plain { ¬ Contains name.now 58
+        → option_map expanded result ≡ Some (uri_of (listed_of (item_of element.entry)) None, name.now) }
+{
+    let Some((prefix, local)) = name.split_once(':') else {
+        return Some(in_default(element, name));
+    };
+    let uri = element.lookup_namespace_uri(Some(prefix))?;
+    Some(ExpandedName::from((uri, local)))
+}
+
+/// A name in the default namespace of an element, if it lists one.
+fn in_default<'a, 'name>(element: Node<'a, '_>, local: &'name str) -> ExpandedName<'a, 'name>
+    ensures { expanded result ≡ (uri_of (listed_of (item_of element.entry)) None, local.now) }
+{
+    if let Some(uri) = element.default_namespace() {
+        return ExpandedName::from((uri, local));
+    }
+    ExpandedName::from(local)
+}

@@ -1,0 +1,62 @@
+//! Worked answers of the public calls, in tables.
+
+mod attributes;
+mod axes;
+mod callers;
+mod generated;
+mod iterators;
+mod limits;
+mod memory;
+mod names;
+mod namespaces;
+mod order;
+mod parsing;
+mod positions;
+mod printed;
+mod refusals;
+mod text;
+
+use roxmltree::{Document, Error, Node, NodeId};
+use std::fmt::Display;
+use std::process::Abort;
+
+/// The document of a text that is read.
+fn document_of<'input>(rt: &(impl Abort + AllocGlobal), text: &'input str) -> Document<'input> {
+    Document::parse(rt.alloc(), text).expect(rt, text)
+}
+
+/// Why a text is refused.
+fn refusal_of(rt: &(impl Abort + AllocGlobal), text: &str) -> Error {
+    Document::parse(rt.alloc(), text).expect_err(rt, text)
+}
+
+/// The node of this id.
+fn node_of<'a, 'input>(
+    rt: &impl Abort,
+    document: &'a Document<'input>,
+    id: u32,
+) -> Node<'a, 'input> {
+    document
+        .get_node(NodeId::new(id))
+        .expect(rt, "no node of this id")
+}
+
+/// The number of a node.
+fn number(node: Node<'_, '_>) -> u32 {
+    node.id().get()
+}
+
+/// How many children a node has.
+fn child_count(node: Node<'_, '_>) -> usize {
+    let mut count: usize = 0;
+    for _ in node.children() {
+        count = count.saturating_add(1);
+    }
+    count
+}
+
+/// Wants this to be printed.
+fn prints<T: Display>(rt: &(impl Abort + AllocGlobal), printed: &T, wanted: &str) {
+    let shown = printed.to_string(rt.alloc()).expect(rt, "memory");
+    assert_eq!(rt; shown.as_str(), wanted);
+}

@@ -1,0 +1,58 @@
+//! Rows and columns, and ids.
+
+use super::{document_of, prints};
+use roxmltree::{NodeId, NodeIdTooLarge, TextPos};
+
+#[test]
+fn places_of_a_text(rt: HostRuntime) {
+    for (text, place, row, col) in [
+        ("<é/>", 0, 1, 1),
+        ("<é/>", 2, 1, 2),
+        ("<é/>", 3, 1, 3),
+        ("<é/>", 9999, 1, 5),
+        ("<!-- comment -->\n<e/>", 10, 1, 11),
+        ("<!-- comment -->\n<e/>", 17, 2, 1),
+        ("<!-- comment -->\n<e/>", 9999, 2, 5),
+        (
+            "<n1:e xmlns:n1='http://www.w3.org' n1:a  =   'b'/>",
+            35,
+            1,
+            36,
+        ),
+        (
+            "<n1:e xmlns:n1='http://www.w3.org' n1:a  =   'b'/>",
+            48,
+            1,
+            49,
+        ),
+    ] {
+        let document = document_of(&rt, text);
+        assert_eq!(rt;
+            document.text_pos_at(place),
+            TextPos { row, col },
+            "{place} in {text:?}"
+        );
+    }
+}
+
+#[test]
+fn positions_print_their_row_and_column(rt: HostRuntime) {
+    let place = TextPos::new(2, 7);
+    assert_eq!(rt; (place.row, place.col), (2, 7));
+    prints(&rt, &place, "2:7");
+}
+
+#[test]
+fn ids_are_numbers(rt: HostRuntime) {
+    for id in [0, 1, u32::MAX] {
+        assert_eq!(rt; NodeId::new(id).get(), id);
+        assert_eq!(rt; NodeId::from(id), NodeId::new(id));
+        assert_eq!(rt; NodeId::new(id).get_usize(), id as usize);
+        assert_eq!(rt; NodeId::try_from(id as usize), Ok(NodeId::new(id)));
+    }
+    assert_eq!(rt;
+        NodeId::try_from(u32::MAX as usize + 1),
+        Err(NodeIdTooLarge)
+    );
+    assert!(rt; NodeId::new(1) < NodeId::new(2));
+}
