@@ -32,8 +32,12 @@ fn values(rt: HostRuntime) -> Result<(), Fail> {
 fn parts_of_documents(rt: HostRuntime) -> Result<(), Fail> {
     let document = document_of(&rt, "<e xmlns:n='uri' n:a='b'><?target value?></e>");
     let element = document.root_element();
-    names(&rt, &document, "Document");
-    names(&rt, &node_of(&rt, &document, 2), "2");
+    names(&rt, &node_of(&rt, &document, 0), "Root");
+    names(
+        &rt,
+        &node_of(&rt, &document, 2),
+        "PI { target: \"target\", value: Some(\"value\") }",
+    );
     names(&rt, &node_of(&rt, &document, 2).pi(), "target");
     names(&rt, &element.attributes().next(), "b");
     names(&rt, &element.namespaces().next(), "uri");
@@ -42,5 +46,40 @@ fn parts_of_documents(rt: HostRuntime) -> Result<(), Fail> {
     names(&rt, &element.children(), "Children");
     names(&rt, &element.ancestors(), "AxisIter");
     names(&rt, &document.descendants(), "Descendants");
+    Ok(())
+}
+
+/// What `Debug` prints of a document with a node of each kind.
+const PRINTED: &str = "Document [
+    Comment(\"c\")
+    PI { target: \"t\", value: Some(\"v\") }
+    Element {
+        tag_name: {u}r
+        attributes: [
+            Attribute { name: a, value: Borrowed(\"1\") }
+            Attribute { name: b, value: Owned(\"x&y\") }
+        ]
+        namespaces: [
+            Namespace { name: None, uri: Borrowed(\"u\") }
+        ]
+        children: [
+            Element {
+                tag_name: {u}e
+                namespaces: [
+                    Namespace { name: None, uri: Borrowed(\"u\") }
+                ]
+            }
+            Text(\"text\")
+        ]
+    }
+]
+";
+
+#[test]
+fn a_document_prints_its_tree(rt: HostRuntime) -> Result<(), Fail> {
+    let text = "<!--c--><?t v?><r xmlns='u' a='1' b='x&amp;y'><e/>text</r>";
+    let document = document_of(&rt, text);
+    let shown = format!(in rt.alloc(); "{document:?}")?;
+    assert_eq!(rt; shown.as_str(), PRINTED);
     Ok(())
 }
