@@ -53,8 +53,12 @@ returns-in_err-leaf-clause-value c = λ limit end s h.
     subst (λ (n : ℕ). IsNode new (scope_of s.stack) pos d.pos (kind.Element t.element) (Element n d.pos v.0)) h.here (is_node old new t (scope_of s.stack) v.0 pos d.pos tg) in
     let adds = c.leaf.ensures.value end d.pos s (Element s.at d.pos v.0) shows node in
     let p = err_from_is_err_and c.from_residual-in_err-leaf.result c.from_residual-in_err-leaf.ensures.1 in
-    rw (p.1, p.2, tag_is limit c.args.cursor.now.text.now s pos _ _ _ _ v.0 t.empty d.pos h.here (c.cut_off-cut.ensures end s.stack s.done h.shows) sc h.attributes h.names v.1
-    ∙ ap (λ (e : Bool). opened_by limit s v.0 e d.pos) c.if-tag.true)
+    rw (
+      p.1,
+      p.2,
+      tag_is limit c.args.cursor.now.text.now s pos _ _ _ _ v.0 t.empty d.pos h.here (c.cut_off-cut.ensures end s.stack s.done h.shows) sc h.attributes h.names v.1
+          ∙ ap (λ (e : Bool). opened_by limit s v.0 e d.pos) c.if-tag.true,
+    )
     (subst (λ r. Stepped limit end r d c.leaf.new.self (opened_by limit s v.0 true d.pos)) c.in_err-leaf.was
     (empty_stepped limit end s d old new b.nodes_limit c.leaf.new.self c.leaf.result t (scope_of s.stack) v.0 tg h.names h.attributes h.limit_is c.leaf.ensures.tables c.leaf.ensures.limit adds))
 
@@ -90,8 +94,12 @@ returns-in_err-open_element-clause-value c = λ limit end s h.
     let shows = grown_shows end s.stack s.done b _ h.shows c.requires.fine.sound c.requires.fine.elements (grown_by old new t (scope_of s.stack) v.0 tg) refl refl refl refl in
     let adds = c.open_element.ensures.value end d.pos s v.0 shows (sym h.here) (is_opening old new t (scope_of s.stack) v.0 pos tg c.in_ok-tag.ensures.starts) in
     let p = err_from_is_err_and c.from_residual-in_err-open_element.result c.from_residual-in_err-open_element.ensures.1 in
-    rw (p.1, p.2, tag_is limit c.args.cursor.now.text.now s pos _ _ _ _ v.0 t.empty d.pos h.here (c.cut_off-cut.ensures end s.stack s.done h.shows) sc h.attributes h.names v.1
-    ∙ ap (λ (e : Bool). opened_by limit s v.0 e d.pos) c.if-tag.false)
+    rw (
+      p.1,
+      p.2,
+      tag_is limit c.args.cursor.now.text.now s pos _ _ _ _ v.0 t.empty d.pos h.here (c.cut_off-cut.ensures end s.stack s.done h.shows) sc h.attributes h.names v.1
+          ∙ ap (λ (e : Bool). opened_by limit s v.0 e d.pos) c.if-tag.false,
+    )
     (subst (λ r. Stepped limit end r d c.open_element.new.self (opened_by limit s v.0 false d.pos)) c.in_err-open_element.was
     (open_stepped limit end s d old new b.nodes_limit c.open_element.new.self c.open_element.result t (scope_of s.stack) v.0 tg h.names h.attributes h.limit_is c.open_element.ensures.tables c.open_element.ensures.limit adds))
 
