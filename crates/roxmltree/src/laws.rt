@@ -3,12 +3,12 @@
 ghost use Rattle.std.specs.Prelude.{◌≡◌, ◌≢◌, ◌↔◌, ℕ, ◌+◌, ◌<◌, ◌≤◌, ◌∷◌, ◌++◌, List, Some, None, IsTrue, IfSome, IsUtf8, length, slice_index, slice_get};
 ghost use Rattle.std.specs.List.{range_with_len, last_or};
 ghost use Rattle.std.specs.Option.{option_map};
-ghost use Rattle.std.specs.Ordering.{nat_cmp};
+ghost use Rattle.std.specs.Ordering.{nat_cmp, on, then_cmp};
 ghost use Rattle.rox_grammar.specs.Forest.{Forest, size};
 ghost use Rattle.rox_grammar.specs.Written.{Item};
 ghost use Rattle.rox_grammar.specs.Document.{ParseOf, IsTreeOf};
 ghost use Rattle.roxmltree.specs.Places.{place, parent, children, first_child, last_child, next_sibling, prev_sibling};
-ghost use Rattle.roxmltree.specs.Spot.{id_of, document_of, tree_of, item_of};
+ghost use Rattle.roxmltree.specs.Spot.{id_of, document_of, tree_of, item_of, spot};
 ghost use Rattle.roxmltree.specs.Says.{attributes_of};
 ghost use Rattle.roxmltree.specs.Names.{expanded, IsNamedAt};
 ghost use Rattle.roxmltree.specs.Listed.{attribute_of};
@@ -62,17 +62,14 @@ pub fn siblings_undo_each_other(document: &Document<'_>)
     let _ = document;
 }
 
-/// The same of the calls themselves.
+/// The same of the calls themselves: where a node has a next sibling, that one's sibling before it is the node again.
 #[tactic(auto, using(crate::proofs::Siblings::next_prev))]
-pub fn next_then_prev(node: Node<'_, '_>) -> bool
-    ensures { IsTrue result }
+pub fn next_then_prev<'a, 'input>(node: Node<'a, 'input>) -> Option<Node<'a, 'input>>
+    ensures { option_map spot result ≡ option_map (λ _. spot node.entry) (next_sibling (tree_of node.entry) (id_of node.entry)) }
 {
     match node.next_sibling() {
-        None => true,
-        Some(next) => match next.prev_sibling() {
-            None => false,
-            Some(back) => back == node,
-        },
+        Some(next) => next.prev_sibling(),
+        None => None,
     }
 }
 
