@@ -89,15 +89,13 @@ pub fn ends_of_children(document: &Document<'_>)
     let _ = document;
 }
 
-/// Two nodes are in no order exactly where they are equal.
-pub fn order_agrees_with_equality(a: Node<'_, '_>, b: Node<'_, '_>) -> bool
-    ensures { IsTrue result }
+/// Two nodes are in no order exactly where they are equal: how they are ordered, and whether they are equal.
+pub fn order_agrees_with_equality(a: Node<'_, '_>, b: Node<'_, '_>) -> (Ordering, bool)
+    ensures order { result.0 ≡ then_cmp (on (λ n. (document_of n).key) nat_cmp) (on id_of nat_cmp) a.entry b.entry }
+    ensures equality { IsTrue result.1 ↔ (((document_of a.entry).key ≡ (document_of b.entry).key) × (id_of a.entry ≡ id_of b.entry)) }
+    ensures agree { (result.0 ≡ Ordering.Equal) ↔ IsTrue result.1 }
 {
-    let tied = match a.cmp(&b) {
-        Ordering::Equal => true,
-        _ => false,
-    };
-    tied == (a == b)
+    (a.cmp(&b), a == b)
 }
 
 /// Nodes are grouped by the keys of their documents, and within one are in document order.
