@@ -1,8 +1,8 @@
 //! Laws of the calls, each a function whose contract is the law.
 
-ghost use Rattle.std.specs.Prelude.{◌≡◌, ◌≢◌, ◌↔◌, ℕ, ◌+◌, ◌<◌, ◌≤◌, ◌∷◌, ◌++◌, List, Some, None, IsTrue, IfSome, IsUtf8, length, slice_index, slice_get};
+ghost use Rattle.std.specs.Prelude.{◌≡◌, ◌≢◌, ◌↔◌, ℕ, ◌+◌, ◌<◌, ◌≤◌, ◌∷◌, ◌++◌, List, Some, None, IsTrue, IfSome, IsUtf8, length, slice_index, slice_get, count_by, if◌then◌else◌};
 ghost use Rattle.std.specs.List.{range_with_len, last_or};
-ghost use Rattle.std.specs.Option.{option_map};
+ghost use Rattle.std.specs.Option.{option_map, is_some};
 ghost use Rattle.std.specs.Ordering.{nat_cmp, on, then_cmp};
 ghost use Rattle.rox_grammar.specs.Forest.{Forest, size};
 ghost use Rattle.rox_grammar.specs.Written.{Item};
@@ -10,7 +10,7 @@ ghost use Rattle.rox_grammar.specs.Document.{ParseOf, IsTreeOf};
 ghost use Rattle.roxmltree.specs.Places.{place, parent, children, first_child, last_child, next_sibling, prev_sibling};
 ghost use Rattle.roxmltree.specs.Spot.{id_of, document_of, tree_of, item_of, spot};
 ghost use Rattle.roxmltree.specs.Says.{attributes_of};
-ghost use Rattle.roxmltree.specs.Names.{expanded, IsNamedAt};
+ghost use Rattle.roxmltree.specs.Names.{expanded, same_name, named, IsNamedAt};
 ghost use Rattle.roxmltree.specs.Listed.{attribute_of};
 ghost use Rattle.roxmltree.specs.Nearest.{upwards, NoneDeclares, IsNearest, IsElementAt, xml};
 
@@ -126,9 +126,11 @@ pub fn the_only_attribute<'a, 'input>(
     node.attribute_node(name)
 }
 
-/// The same of the calls themselves: of all attributes one has the name if `has_attribute` says so, and else none.
-pub fn one_attribute_or_none(node: Node<'_, '_>, name: ExpandedName<'_, '_>) -> bool
-    ensures { IsTrue result }
+/// The same of the calls themselves: how many of all attributes have the name, which is one where `has_attribute` says that
+/// there is one, and else none.
+pub fn one_attribute_or_none(node: Node<'_, '_>, name: ExpandedName<'_, '_>) -> usize
+    ensures count { result ≡ count_by (λ a. same_name (a.namespace, a.local) (expanded name.entry)) (attributes_of (item_of node.entry)) }
+    ensures one_or_none { result ≡ (if is_some (named (expanded name.entry) (attributes_of (item_of node.entry))) then 1 else 0) }
 {
     whole(node);
     let mut count: usize = 0;
@@ -137,11 +139,7 @@ pub fn one_attribute_or_none(node: Node<'_, '_>, name: ExpandedName<'_, '_>) -> 
             count += 1;
         }
     }
-    if node.has_attribute(name) {
-        count == 1
-    } else {
-        count == 0
-    }
+    count
 }
 
 /// What `lookup_namespace_uri` answers on an element is the URI of the nearest declaration in the text as written, by the
