@@ -1,9 +1,10 @@
 -- At most one attribute of an element has a name.
 use Rattle.std.proofs.Common.{◌≡◌, ℕ, zero, suc, ◌+◌, ◌≤◌, Bool, true, false, cond, List, [], ◌∷◌, ◌++◌, Option, Some, None, refl, sym, ap, ◌∙◌, bytes_eq, arith}
-use Rattle.std.specs.List.{list_any, slice_get}
+use Rattle.std.specs.List.{list_any, slice_get, count_by}
 use Rattle.std.specs.Option.{option_eq, option_map, is_some, IfSome}
 use Rattle.std.proofs.lemmas.Bool.{and_parts, and_from, or_parts, or_from, false_from_ne_true, both_ways}
 use Rattle.std.proofs.lemmas.List.Folds.{list_any-append}
+use Rattle.std.proofs.lemmas.List.Recursion.{is_count_by}
 use Rattle.std.proofs.lemmas.Slice.Eq.{bytes_eq-Decides}
 use Rattle.rox_grammar.specs.Forest.{Forest, Nil, Cons}
 use Rattle.rox_grammar.specs.Tree.{Node, Attribute, same_prefix}
@@ -154,10 +155,14 @@ one_at_most tree h id name = rw (counted_at tree h id name) (by_test (is_some (n
     by_test false = omega arith
 
 -- what is counted when none is left
-pub counted_all : (tree : Forest Node) → NamesDistinct tree → (id : ℕ) (name : Option (List ℕ) × List ℕ) (count : ℕ) (left : List Attribute) (found : Bool) → left ≡ []
-    → count + how_many name left ≡ how_many name (attributes_of (node_at tree id)) → found ≡ is_some (named name (attributes_of (node_at tree id))) → count ≡ cond found 1 0
-counted_all tree h id name count left found none sum is =
-    let sum' : count + 0 ≡ how_many name (attributes_of (node_at tree id)) = rw none at sum in
-    let all : how_many name (attributes_of (node_at tree id)) ≡ cond found 1 0 = rw is (counted_at tree h id name) in
+pub counted_all : (name : Option (List ℕ) × List ℕ) (as' : List Attribute) (count : ℕ) (left : List Attribute) → left ≡ []
+    → count + how_many name left ≡ how_many name as' → count ≡ count_by (λ a. same_name (a.namespace, a.local) name) as'
+counted_all name as' count left none sum =
+    let sum' : count + 0 ≡ how_many name as' = rw none at sum in
     let same : count ≡ count + 0 = omega arith in
-    same ∙ sum' ∙ all
+    same ∙ sum' ∙ is_count_by (how_many name) (has name) refl (λ _ _. refl) as'
+
+-- which is one or none
+pub counted_one : (tree : Forest Node) → NamesDistinct tree → (id : ℕ) (name : Option (List ℕ) × List ℕ)
+    → count_by (λ a. same_name (a.namespace, a.local) name) (attributes_of (node_at tree id)) ≡ cond (is_some (named name (attributes_of (node_at tree id)))) 1 0
+counted_one tree h id name = sym (is_count_by (how_many name) (has name) refl (λ _ _. refl) (attributes_of (node_at tree id))) ∙ counted_at tree h id name

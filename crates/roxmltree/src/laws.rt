@@ -1,16 +1,16 @@
 //! Laws of the calls, each a function whose contract is the law.
 
-ghost use Rattle.std.specs.Prelude.{◌≡◌, ◌≢◌, ◌↔◌, ℕ, ◌+◌, ◌<◌, ◌≤◌, ◌∷◌, ◌++◌, List, Some, None, IsTrue, IfSome, IsUtf8, length, slice_index, slice_get};
+ghost use Rattle.std.specs.Prelude.{◌≡◌, ◌≢◌, ◌↔◌, ℕ, ◌+◌, ◌<◌, ◌≤◌, ◌∷◌, ◌++◌, List, Some, None, IsTrue, IfSome, IsUtf8, length, slice_index, slice_get, count_by, if◌then◌else◌};
 ghost use Rattle.std.specs.List.{range_with_len, last_or};
-ghost use Rattle.std.specs.Option.{option_map};
-ghost use Rattle.std.specs.Ordering.{nat_cmp};
+ghost use Rattle.std.specs.Option.{option_map, is_some};
+ghost use Rattle.std.specs.Ordering.{nat_cmp, on, then_cmp};
 ghost use Rattle.rox_grammar.specs.Forest.{Forest, size};
 ghost use Rattle.rox_grammar.specs.Written.{Item};
 ghost use Rattle.rox_grammar.specs.Document.{ParseOf, IsTreeOf};
 ghost use Rattle.roxmltree.specs.Places.{place, parent, children, first_child, last_child, next_sibling, prev_sibling};
-ghost use Rattle.roxmltree.specs.Spot.{id_of, document_of, tree_of, item_of};
+ghost use Rattle.roxmltree.specs.Spot.{id_of, document_of, tree_of, item_of, spot};
 ghost use Rattle.roxmltree.specs.Says.{attributes_of};
-ghost use Rattle.roxmltree.specs.Names.{expanded, IsNamedAt};
+ghost use Rattle.roxmltree.specs.Names.{expanded, same_name, named, IsNamedAt};
 ghost use Rattle.roxmltree.specs.Listed.{attribute_of};
 ghost use Rattle.roxmltree.specs.Nearest.{upwards, NoneDeclares, IsNearest, IsElementAt, xml};
 
@@ -62,17 +62,14 @@ pub fn siblings_undo_each_other(document: &Document<'_>)
     let _ = document;
 }
 
-/// The same of the calls themselves.
+/// The same of the calls themselves: where a node has a next sibling, that one's sibling before it is the node again.
 #[tactic(auto, using(crate::proofs::Siblings::next_prev))]
-pub fn next_then_prev(node: Node<'_, '_>) -> bool
-    ensures { IsTrue result }
+pub fn next_then_prev<'a, 'input>(node: Node<'a, 'input>) -> Option<Node<'a, 'input>>
+    ensures { option_map spot result ≡ option_map (λ _. spot node.entry) (next_sibling (tree_of node.entry) (id_of node.entry)) }
 {
     match node.next_sibling() {
-        None => true,
-        Some(next) => match next.prev_sibling() {
-            None => false,
-            Some(back) => back == node,
-        },
+        Some(next) => next.prev_sibling(),
+        None => None,
     }
 }
 
@@ -92,15 +89,13 @@ pub fn ends_of_children(document: &Document<'_>)
     let _ = document;
 }
 
-/// Two nodes are in no order exactly where they are equal.
-pub fn order_agrees_with_equality(a: Node<'_, '_>, b: Node<'_, '_>) -> bool
-    ensures { IsTrue result }
+/// Two nodes are in no order exactly where they are equal: how they are ordered, and whether they are equal.
+pub fn order_agrees_with_equality(a: Node<'_, '_>, b: Node<'_, '_>) -> (Ordering, bool)
+    ensures order { result.0 ≡ then_cmp (on (λ n. (document_of n).key) nat_cmp) (on id_of nat_cmp) a.entry b.entry }
+    ensures equality { IsTrue result.1 ↔ (((document_of a.entry).key ≡ (document_of b.entry).key) × (id_of a.entry ≡ id_of b.entry)) }
+    ensures agree { (result.0 ≡ Ordering.Equal) ↔ IsTrue result.1 }
 {
-    let tied = match a.cmp(&b) {
-        Ordering::Equal => true,
-        _ => false,
-    };
-    tied == (a == b)
+    (a.cmp(&b), a == b)
 }
 
 /// Nodes are grouped by the keys of their documents, and within one are in document order.
@@ -131,9 +126,11 @@ pub fn the_only_attribute<'a, 'input>(
     node.attribute_node(name)
 }
 
-/// The same of the calls themselves: of all attributes one has the name if `has_attribute` says so, and else none.
-pub fn one_attribute_or_none(node: Node<'_, '_>, name: ExpandedName<'_, '_>) -> bool
-    ensures { IsTrue result }
+/// The same of the calls themselves: how many of all attributes have the name, which is one where `has_attribute` says that
+/// there is one, and else none.
+pub fn one_attribute_or_none(node: Node<'_, '_>, name: ExpandedName<'_, '_>) -> usize
+    ensures count { result ≡ count_by (λ a. same_name (a.namespace, a.local) (expanded name.entry)) (attributes_of (item_of node.entry)) }
+    ensures one_or_none { result ≡ (if is_some (named (expanded name.entry) (attributes_of (item_of node.entry))) then 1 else 0) }
 {
     whole(node);
     let mut count: usize = 0;
@@ -142,11 +139,7 @@ pub fn one_attribute_or_none(node: Node<'_, '_>, name: ExpandedName<'_, '_>) -> 
             count += 1;
         }
     }
-    if node.has_attribute(name) {
-        count == 1
-    } else {
-        count == 0
-    }
+    count
 }
 
 /// What `lookup_namespace_uri` answers on an element is the URI of the nearest declaration in the text as written, by the

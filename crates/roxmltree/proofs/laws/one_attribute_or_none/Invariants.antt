@@ -7,5 +7,5 @@ use Rattle.roxmltree.proofs.laws.one_attribute_or_none.Given as goal
 
 abbrev pub invariant-loop-attribute : goal.invariant-loop-attribute
 invariant-loop-attribute l =
-    (l.count + how_many (expanded l.name) l.attribute-iterator ≡ how_many (expanded l.name) (attributes_of (item_of l.node)))
-    × (how_many (expanded l.name) (attributes_of (item_of l.node)) ≤ 1)
+    (l.count + how_many (expanded l.name) l.attribute-iterator ≡ how_many (expanded l.name) (attributes_of (item_of l.fn.node)))
+    × (how_many (expanded l.name) (attributes_of (item_of l.fn.node)) ≤ 1)
