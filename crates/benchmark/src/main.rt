@@ -1,6 +1,9 @@
 //! Measures the library on one document: `benchmark FILE [SECONDS]`.
 #![tactic(auto)]
 
+ghost use Rattle.std.specs.Prelude.{◌≡◌};
+ghost use Rattle.benchmark.specs.Fault.{status_of};
+
 mod arguments;
 mod clock;
 mod fault;
@@ -55,7 +58,9 @@ fn measure(rt: &HostRuntime, command: &Command) -> u8 {
 }
 
 // Writes a fault on standard error. The answer is the exit status.
-fn tell(rt: &HostRuntime, fault: &Fault) -> u8 {
+fn tell(rt: &HostRuntime, fault: &Fault) -> u8
+    ensures { result ≡ status_of fault.now }
+{
     let _ = writeln!(rt.stderr(), "error: {fault}");
     fault.status()
 }

@@ -1,9 +1,9 @@
 //! How many bytes of memory a document holds.
 
 use crate::fault::Fault;
+use crate::input;
 use roxmltree::Document;
 use std::alloc::Global;
-use std::fs;
 use std::rt::Files;
 
 /// How many bytes of text are parsed, about, where one text is shorter: the system counts memory in pages.
@@ -19,11 +19,11 @@ const MOST_COPIES: usize = 10_000;
 pub fn held<R: Files + AllocGlobal>(rt: &R, text: &str) -> Result<Option<u64>, Fault> {
     let copies = (SAMPLE / text.len().max(1)).clamp(1, MOST_COPIES);
     let mut documents = Vec::with_capacity(rt.alloc(), copies)?;
-    let before = in_use(rt);
+    let before = in_use(rt)?;
     for _ in 0..copies {
         documents.push(Document::parse(rt.alloc(), text)?)?;
     }
-    let after = in_use(rt);
+    let after = in_use(rt)?;
     match (before, after) {
         (Some(before), Some(after)) => {
             Ok(Some(after.saturating_sub(before) / documents.len().max(1) as u64))
@@ -33,9 +33,17 @@ pub fn held<R: Files + AllocGlobal>(rt: &R, text: &str) -> Result<Option<u64>, F
 }
 
 // The bytes of anonymous memory that the process has in use.
-fn in_use<R: Files + AllocGlobal>(rt: &R) -> Option<u64> {
-    let table = fs::read_to_string(rt, "/proc/self/smaps_rollup").ok()?;
-    kibibytes(table.as_str(), "Anonymous:")?.checked_mul(1024)
+fn in_use<R: Files + AllocGlobal>(rt: &R) -> Result<Option<u64>, Fault> {
+    match input::read(rt, "/proc/self/smaps_rollup") {
+        Ok(table) => Ok(anonymous(&table)),
+        Err(Fault::OutOfMemory) => Err(Fault::OutOfMemory),
+        Err(_) => Ok(None),
+    }
+}
+
+fn anonymous(table: &[u8]) -> Option<u64> {
+    let table = str::from_utf8(table).ok()?;
+    kibibytes(table, "Anonymous:")?.checked_mul(1024)
 }
 
 /// The number in the line of such a table that begins with this word, as in `Anonymous:   148 kB`.
