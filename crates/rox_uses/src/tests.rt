@@ -14,6 +14,7 @@ mod parsing;
 mod positions;
 mod printed;
 mod refusals;
+mod searches;
 mod text;
 
 use roxmltree::{Document, Error, Node, NodeId};

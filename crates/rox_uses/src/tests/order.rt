@@ -1,8 +1,10 @@
 //! Nodes compared, and hashed.
 
-use super::node_of;
-use roxmltree::{Document, Node, ParsingOptions};
-use std::hash::{BuildHasher, BuildHasherDefault, FoldHasher};
+use super::{document_of, node_of, refusal_of};
+use roxmltree::laws::{next_then_prev, order_agrees_with_equality, order_is_by_document};
+use roxmltree::{Document, NodeId, ParsingOptions, TextPos};
+use std::cmp::Ordering;
+use std::hash::{BuildHasher, BuildHasherDefault, FoldHasher, Hash};
 use std::process::Abort;
 
 /// The document of a text, with this key.
@@ -12,8 +14,8 @@ fn keyed<'input>(rt: &(impl Abort + AllocGlobal), text: &'input str, key: u64) -
     Document::parse_with_options(rt.alloc(), text, options).expect(rt, text)
 }
 
-fn hash_of(node: Node<'_, '_>) -> u64 {
-    BuildHasherDefault::<FoldHasher>::default().hash_one(node)
+fn hash_of<T: Hash + Drop>(value: T) -> u64 {
+    BuildHasherDefault::<FoldHasher>::default().hash_one(value)
 }
 
 #[test]
@@ -37,4 +39,28 @@ fn nodes_of_one_key_are_equal_by_id(rt: HostRuntime) {
     assert_eq!(rt; hash_of(a), hash_of(b));
     assert!(rt; one.root() < b);
     assert!(rt; one.root() != b);
+}
+
+#[test]
+fn equal_values_have_equal_hashes(rt: HostRuntime) {
+    assert_eq!(rt; hash_of(NodeId::new(2)), hash_of(NodeId::from(2)));
+    assert_eq!(rt;
+        hash_of(TextPos::new(1, 2)),
+        hash_of(TextPos { row: 1, col: 2 })
+    );
+    let error = hash_of(refusal_of(&rt, "<e p:a=''/>"));
+    assert_eq!(rt; error, hash_of(refusal_of(&rt, "<e p:b=''/>")));
+}
+
+#[test]
+fn laws_that_run(rt: HostRuntime) {
+    let document = document_of(&rt, "<root><a/>t<b/><!--c--></root>");
+    for one in document.descendants() {
+        assert!(rt; next_then_prev(one));
+        for other in document.descendants() {
+            assert!(rt; order_agrees_with_equality(one, other));
+            let order = order_is_by_document(one, other);
+            assert_eq!(rt; order == Ordering::Less, one.id() < other.id());
+        }
+    }
 }
