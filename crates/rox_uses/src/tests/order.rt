@@ -56,9 +56,14 @@ fn equal_values_have_equal_hashes(rt: HostRuntime) {
 fn laws_that_run(rt: HostRuntime) {
     let document = document_of(&rt, "<root><a/>t<b/><!--c--></root>");
     for one in document.descendants() {
-        assert!(rt; next_then_prev(one));
+        match next_then_prev(one) {
+            Some(back) => assert!(rt; back == one),
+            None => assert!(rt; one.next_sibling().is_none()),
+        }
         for other in document.descendants() {
-            assert!(rt; order_agrees_with_equality(one, other));
+            let (order, equal) = order_agrees_with_equality(one, other);
+            assert_eq!(rt; order == Ordering::Equal, equal);
+            assert_eq!(rt; equal, one.id() == other.id());
             let order = order_is_by_document(one, other);
             assert_eq!(rt; order == Ordering::Less, one.id() < other.id());
         }
