@@ -2,6 +2,7 @@
 
 ghost use Rattle.std.specs.Prelude.{◌≡◌, ◌+◌, ◌<◌, ◌≤◌, ℕ, Bool, false, not, map, length, slice_index};
 ghost use Rattle.std.specs.Str.{IsCharBoundary};
+ghost use Rattle.std.specs.Int.{w64, trailing_zeros};
 ghost use Rattle.std.specs.Simd.Lanes.{mask_l};
 ghost use Rattle.rox_grammar.specs.Chars as spec;
 ghost use Rattle.rox_grammar.specs.Runs.{run_end};
@@ -112,19 +113,23 @@ impl Near for PartByte {
     }
 }
 
-/// How many of the sixteen bytes from `at` on come before the first that is not in the set.
+/// A bit for each of the sixteen bytes from `at` on that is not in the set, the lowest for the first.
 #[inline(always)]
-fn run_in_block<C: Near>(bytes: &[u8], at: usize) -> usize
+fn others_at<C: Near>(bytes: &[u8], at: usize) -> u64
     requires { at + 16 ≤ length bytes.now }
-    ensures within { result ≤ 16 }
-    ensures passes { AllPass C.test bytes.now at (at + result) }
+    ensures none { result ≡ 0 → AllPass C.test bytes.now at (at + 16) }
+    ensures few { 0 < result → trailing_zeros w64 result ≤ 16 }
+    ensures passes { 0 < result → AllPass C.test bytes.now at (at + trailing_zeros w64 result) }
 {
-    let others = C::others(u8x16::from_slice(&bytes[at..]));
-    if others == 0 {
-        16
-    } else {
-        others.trailing_zeros() as usize
-    }
+    C::others(u8x16::from_slice(&bytes[at..]))
+}
+
+/// How many bytes come before the first that has a bit.
+#[inline(always)]
+fn before_first(others: u64) -> usize
+    ensures { result ≡ trailing_zeros w64 others }
+{
+    others.trailing_zeros() as usize
 }
 
 /// Where the bytes of the set from `at` on end, or a place before that where fewer than sixteen bytes are left.
@@ -137,11 +142,12 @@ fn blocks_end<C: Near>(bytes: &[u8], at: usize) -> usize
 {
     let mut end = at;
     while bytes.len() - end >= 16 {
-        let count = run_in_block::<C>(bytes, end);
-        end += count;
-        if count < 16 {
-            return end;
+        let others = others_at::<C>(bytes, end);
+        if others != 0 {
+            // The step is the same for each block, so that no block waits for the count of the one before.
+            return end + before_first(others);
         }
+        end += 16;
     }
     end
 }

@@ -1,5 +1,5 @@
 -- The mask is held against the definition at each of the 256 bytes, by computing.
-use Rattle.std.proofs.Common.{ℕ, not, refl, arith}
+use Rattle.std.proofs.Common.{not, refl, arith}
 use Rattle.std.proofs.lemmas.Simd.{zip2_splat}
 use Rattle.rox_scan.specs.Near.{is_value_byte}
 use Rattle.rox_scan.proofs.TableLemmas.{agree_below}
