@@ -2,6 +2,7 @@
 //! of a source. Each gives what stands there, or the first fault, and moves the place past it.
 #![tactic(auto)]
 
+pub mod alike;
 pub mod chars;
 pub mod cursor;
 pub mod failure;
