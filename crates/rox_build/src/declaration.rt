@@ -17,6 +17,7 @@ use crate::scope::{XML_URI, XMLNS_URI, is_own, is_xml};
 use crate::tables::Namespace;
 use crate::taken::Taken;
 use rox_grammar::fault::{Fault, Span};
+use rox_scan::alike::same_text;
 use rox_scan::cursor::QName;
 use rox_scan::failure::Failure;
 
@@ -48,7 +49,7 @@ pub fn prefix_span(prefix: &str, start: usize) -> Span
 pub fn declares(name: QName<'_>) -> bool
     ensures { result ≡ declares (name_view name.entry) }
 {
-    name.prefix == "xmlns" || name.local == "xmlns"
+    same_text(name.prefix, "xmlns") || same_text(name.local, "xmlns")
 }
 
 /// What may not be declared with a prefix.
@@ -96,7 +97,7 @@ impl<'input> Taken<'input> {
         ensures { result ≡ spec.uri_tested (taken_view self.now) }
     {
         let uri = self.value.as_str();
-        if self.name.prefix == "xmlns" {
+        if same_text(self.name.prefix, "xmlns") {
             return test_prefix_uri(self.name.local, uri, self.start);
         }
         test_default_uri(uri, self.start)
@@ -107,7 +108,7 @@ impl<'input> Taken<'input> {
     fn declared_prefix(&self) -> Option<&'input str>
         ensures { prefix_view result ≡ (declaration_of (taken_view self.now)).prefix }
     {
-        if self.name.prefix == "xmlns" {
+        if same_text(self.name.prefix, "xmlns") {
             Some(self.name.local)
         } else {
             None

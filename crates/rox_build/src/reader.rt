@@ -24,6 +24,7 @@ use crate::tables::{NodeKind, PI, Tables};
 use crate::tag::start_tag;
 use crate::value::{cdata_text, run};
 use rox_grammar::fault::{Fault, Span, Word};
+use rox_scan::alike::same_text;
 use rox_scan::cursor::{Cursor, QName};
 use rox_scan::failure::Failure;
 use std::alloc::Global;
@@ -188,7 +189,7 @@ fn name_span(name: QName<'_>, start: usize, end: usize) -> Span
 fn same_name(one: QName<'_>, other: QName<'_>) -> bool
     ensures { result ≡ machine.same_name (name_view one.entry) (name_view other.entry) }
 {
-    one.prefix == other.prefix && one.local == other.local
+    same_text(one.prefix, other.prefix) && same_text(one.local, other.local)
 }
 
 /// An end tag, from `</`.

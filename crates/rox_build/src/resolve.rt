@@ -23,6 +23,7 @@ use crate::storage::StringStorage;
 use crate::tables::{AttributeData, AttributeNamespace, Namespace};
 use crate::taken::Taken;
 use rox_grammar::fault::Fault;
+use rox_scan::alike::same_text;
 use rox_scan::cursor::QName;
 use rox_scan::failure::Failure;
 
@@ -43,7 +44,7 @@ fn attribute_namespace(
     if name.prefix.is_empty() {
         return Some(AttributeNamespace::None);
     }
-    if name.prefix == "xml" {
+    if same_text(name.prefix, "xml") {
         return Some(AttributeNamespace::Xml);
     }
     match place_of(names, places, Some(name.prefix)) {
@@ -77,7 +78,7 @@ fn has_expanded(
     requires other { NamespaceWithin (length names.now) namespace }
     ensures { result ≡ has_expanded (map declaration names.now) namespace local.now attribute.now }
 {
-    attribute.local == local
+    same_text(attribute.local, local)
         && same_prefix(
             namespace_uri(names, attribute.namespace),
             namespace_uri(names, namespace),

@@ -8,6 +8,7 @@ ghost use Rattle.rox_build.specs.Lines.{declaration, entry};
 ghost use Rattle.rox_build.specs.Scopes.{prefix_view, entries, ArePlaces, others};
 
 use crate::tables::Namespace;
+use rox_scan::alike::same_text;
 use rox_scan::failure::Failure;
 
 /// The URI of the prefix `xml`.
@@ -23,7 +24,7 @@ pub fn same_prefix(one: Option<&str>, other: Option<&str>) -> bool
 {
     match (one, other) {
         (None, None) => true,
-        (Some(one), Some(other)) => one == other,
+        (Some(one), Some(other)) => same_text(one, other),
         _ => false,
     }
 }
@@ -61,7 +62,7 @@ pub fn is_xml(prefix: Option<&str>) -> bool
     ensures { result ≡ is_xml (prefix_view prefix.entry) }
 {
     match prefix {
-        Some(prefix) => prefix == "xml",
+        Some(prefix) => same_text(prefix, "xml"),
         None => false,
     }
 }

@@ -22,6 +22,7 @@ use crate::tables::{ElementData, ElementTables, Scope};
 use crate::taken::Taken;
 use crate::value::{Piece, value};
 use rox_grammar::fault::Fault;
+use rox_scan::alike::same_text;
 use rox_scan::cursor::{Cursor, QName};
 use rox_scan::failure::Failure;
 use rox_scan::markup::{RawAttribute, Turn};
@@ -292,7 +293,7 @@ pub fn start_tag<'input>(
     let name_start = cursor.pos;
     let name = cursor.qname()?;
     let name_end = cursor.pos;
-    if name.prefix == "xmlns" {
+    if same_text(name.prefix, "xmlns") {
         return Err(Failure::Fault(Fault::InvalidElementNamePrefix(name_start)));
     }
     let own = elements.listed.len();

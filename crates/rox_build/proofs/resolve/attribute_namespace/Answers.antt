@@ -12,4 +12,4 @@ returns-in-Some-clause-known c =
 pub returns-in-None-clause-unknown : goal.returns-in-None-clause-unknown
 returns-in-None-clause-unknown c =
     known_none (entries (map declaration c.args.names.now) c.args.places.now) (name_view c.args.name)
-    (empty_is c.args.name.prefix.now c.is_empty.result c.is_empty.ensures ∙ c.if-is_empty.false) (sym c.eq.ensures ∙ c.if-eq.false) c.in-None.ensures.absent
+    (empty_is c.args.name.prefix.now c.is_empty.result c.is_empty.ensures ∙ c.if-is_empty.false) (sym c.same_text.ensures ∙ c.if-same_text.false) c.in-None.ensures.absent

@@ -6,14 +6,14 @@ use Rattle.rox_reading.specs.Tags as spec
 use Rattle.rox_build.specs.Tags.{taken_view}
 use Rattle.rox_build.proofs.taken.Taken.test_uri.Goals as goal
 
-pub returns-then-eq : goal.returns-then-eq
-returns-then-eq c =
+pub returns-then-same_text : goal.returns-then-same_text
+returns-then-same_text c =
     let a = taken_view c.args.self.now in
     let k = c.test_prefix_uri.ensures a refl (sym c.as_str-uri.ensures) refl in
-    let t : bytes_eq a.name.prefix (word_text Xmlns) ≡ true = sym c.eq.ensures ∙ c.if-eq.true in rw t k
+    let t : bytes_eq a.name.prefix (word_text Xmlns) ≡ true = sym c.same_text.ensures ∙ c.if-same_text.true in rw t k
 
 pub returns : goal.returns
 returns c =
     let a = taken_view c.args.self.now in
     let k = c.test_default_uri.ensures a (sym c.as_str-uri.ensures) refl in
-    let t : bytes_eq a.name.prefix (word_text Xmlns) ≡ false = sym c.eq.ensures ∙ c.if-eq.false in rw t k
+    let t : bytes_eq a.name.prefix (word_text Xmlns) ≡ false = sym c.same_text.ensures ∙ c.if-same_text.false in rw t k
