@@ -52,7 +52,7 @@ fn root_row<'input>(alloc: Global, bytes: usize) -> Result<Vec<NodeData<'input>>
     ensures ok { IfOk result (λ nodes. nodes.items ≡ record { start = 0; end = bytes; parent = 0; next = 0; depth = 0; kind = kind.Root } ∷ []) }
     ensures err { IfErr result (λ e. e ≡ failure.Memory) }
 {
-    let mut nodes = Vec::with_capacity(alloc, bytes / 16 + 1)?;
+    let mut nodes = Vec::with_capacity(alloc, bytes / 12 + 1)?;
     nodes.push(NodeData {
         start: 0,
         end: bytes,
