@@ -1,21 +1,18 @@
 -- What one construct does to the builder, against what is read.
-use Rattle.std.proofs.lemmas.Bool.{le-leb, lt-leb}
+use Rattle.std.proofs.lemmas.Bool.{lt-leb}
 use Rattle.rox_grammar.specs.Marks.{stands}
 use Rattle.std.specs.List.{starts_with}
-use Rattle.rox_grammar.specs.Constructs.{at}
-use Rattle.rox_grammar.specs.declared.fault.Word.TheVariants as word
 use Rattle.rox_build.specs.Scopes.{entries}
-use Rattle.std.proofs.Common.{eqb, eq-eqb, ne_eqb, if◌then◌else◌, slice_index, slice_range, ◌≡◌, ℕ, zero, suc, ◌+◌, ◌-◌, ◌<◌, ◌≤◌, Bool, true, false, List, [], ◌∷◌, ◌++◌, length, map, leb, refl, sym, ap, subst, ◌∙◌, arith, Result, Ok, Err, append_assoc}
+use Rattle.std.proofs.Common.{eqb, eq-eqb, ne_eqb, if◌then◌else◌, slice_index, slice_range, ◌≡◌, ℕ, zero, suc, ◌+◌, ◌<◌, Bool, true, false, List, [], ◌∷◌, ◌++◌, length, map, leb, refl, sym, ap, subst, ◌∙◌, arith, Result, Ok, Err, append_assoc}
 use Rattle.std.proofs.lemmas.List.{append-nil, map-append, same_from_push}
 use Rattle.rox_grammar.specs.declared.fault.Fault.{Fault}
 use Rattle.rox_grammar.specs.declared.fault.Span.{Span}
 use Rattle.rox_grammar.specs.declared.fault.Fault.TheVariants as fault
 use Rattle.rox_grammar.specs.Forest.{Forest, Nil, Cons, join, size}
 use Rattle.rox_grammar.specs.Written.{Name, Tag, Item, Element, Text, Comment, PI, Declaration, merge, leaf}
-use Rattle.rox_grammar.specs.Document.{own_pairs, own_attributes, pairs, attribute_count, distinct_pairs, listable, with_new}
+use Rattle.rox_grammar.specs.Document.{own_pairs, own_attributes, pairs, attribute_count, distinct_pairs, listable}
 use Rattle.rox_reading.specs.State.{Open, root, inside, State, scope_of, nodes_so_far, pairs_so_far, attributes_so_far}
-use Rattle.rox_reading.specs.Lexical.{◌>>=◌}
-use Rattle.rox_reading.specs.Machine.{counted, with_item, opened_by, comment_step, instruction_step, cdata_step, run_step, end_step, tag_step, step, closed_by, same_name, name_span}
+use Rattle.rox_reading.specs.Machine.{counted, with_item, comment_step, instruction_step, cdata_step, run_step, end_step, tag_step, step, closed_by, same_name, name_span}
 use Rattle.rox_reading.specs.Markup.{Instruction, EndTag, comment_at, instruction_at, cdata_at, end_tag_at}
 use Rattle.rox_reading.specs.Values.{RunText, run_at}
 use Rattle.rox_reading.proofs.Forests.{pairs-join, attribute_count-join, pairs-merge, attribute_count-merge}
@@ -219,6 +216,27 @@ no_scope t (inside start tag before up) h = absurd (push_not_nil (open_lines up)
     push_not_nil : {A : Type 0} (xs : List A) (y : A) → xs ++ y ∷ [] ≡ [] → ⊥
     push_not_nil [] y h = cc h
     push_not_nil (x ∷ xs) y h = cc h
+
+-- ---- which construct a step is
+
+pub step_is_run : (limit : ℕ) (src xs : List ℕ) (s : State) (i : ℕ) → xs ≡ src → i ≡ s.at → (slice_index xs i ≡ 60 → ⊥) → step limit src s ≡ run_step limit src s
+unfolding step
+step_is_run limit src xs s i same e other =
+    let x : slice_index xs i ≡ slice_index src s.at = ap (λ (ys : List ℕ). slice_index ys i) same ∙ ap (slice_index src) e in
+    let k : eqb (slice_index src s.at) 60 ≡ false = subst (λ (n : ℕ). eqb n 60 ≡ false) x (ne_eqb (slice_index xs i) 60 other) in
+    rw k refl
+
+-- `<` with a byte behind it that is no `!`
+pub step_is_markup : (limit : ℕ) (src xs : List ℕ) (s : State) (i b : ℕ) → xs ≡ src → i ≡ s.at → slice_index xs i ≡ 60 → i + 1 < length xs → slice_index xs (i + 1) ≡ b → (b ≡ 33 → ⊥)
+    → step limit src s ≡ (if eqb b 63 then instruction_step limit src s else if eqb b 47 then end_step src s else tag_step limit src s)
+unfolding step
+step_is_markup limit src xs s i b same e here more next other =
+    let x : slice_index src s.at ≡ 60 = sym (ap (λ (ys : List ℕ). slice_index ys i) same ∙ ap (slice_index src) e) ∙ here in
+    let y : slice_index src (s.at + 1) ≡ b = sym (ap (λ (ys : List ℕ). slice_index ys (i + 1)) same ∙ ap (λ (n : ℕ). slice_index src (n + 1)) e) ∙ next in
+    let z : s.at + 1 < length src = subst (λ (n : ℕ). n + 1 < length src) e (subst (λ (ys : List ℕ). i + 1 < length ys) same more) in
+    let k : leb (length src) (s.at + 1) ≡ false = lt-leb (length src) (s.at + 1) z in
+    let l : eqb b 33 ≡ false = ne_eqb b 33 other in
+    rw (x, k, y, l) refl
 
 -- two bytes that stand
 pub two_stand : (src : List ℕ) (i a b : ℕ) → i + 1 < length src → slice_index src i ≡ a → slice_index src (i + 1) ≡ b → stands (a ∷ b ∷ []) src i ≡ true

@@ -260,22 +260,27 @@ fn step<'input>(
 {
     let bytes = cursor.text.as_bytes();
     if bytes[cursor.pos] != b'<' {
-        return character_data(cursor, builder);
+        character_data(cursor, builder)?;
+        return Ok(());
     }
     if cursor.pos + 1 >= bytes.len() {
         return Err(Failure::Fault(Fault::UnknownToken(cursor.pos)));
     }
     let next = bytes[cursor.pos + 1];
     if next == b'!' {
-        return comment_or_section(alloc, cursor, builder);
+        comment_or_section(alloc, cursor, builder)?;
+        return Ok(());
     }
     if next == b'?' {
-        return instruction(alloc, cursor, builder);
+        instruction(alloc, cursor, builder)?;
+        return Ok(());
     }
     if next == b'/' {
-        return end_tag(alloc, cursor, builder);
+        end_tag(alloc, cursor, builder)?;
+        return Ok(());
     }
-    element(alloc, cursor, builder)
+    element(alloc, cursor, builder)?;
+    Ok(())
 }
 
 /// Content up to the end tag of the root element.

@@ -70,6 +70,7 @@ pub fn stored<'input>(
 
 /// One attribute or declaration as written, which ends at `end`; `own` is where the listed places of the tag begin. Answers
 /// whether the tag declares `xml` now.
+#[inline(always)]
 fn take<'input>(
     alloc: Global,
     text: &'input str,
@@ -130,6 +131,7 @@ pub fn byte_count(text: &str) -> usize
 /// Attributes and declarations, up to the end of the tag; `own` is where the listed places of the tag begin. Answers whether
 /// the tag declares `xml`, and whether it is empty. A tag that is cut off right behind its name or an attribute is refused as
 /// `cut`.
+#[inline(always)]
 #[tactic(auto, unfolding(rox_reading::specs::Tags::attributes_at))]
 fn attributes<'input>(
     alloc: Global,
@@ -180,6 +182,7 @@ fn attributes<'input>(
 
 /// What an element lists whose own declarations are those behind `own`, and `xml` if the flag says so, below one that lists
 /// `above`: a stretch of its own, or its parent's where it declares nothing.
+#[inline(always)]
 fn scope_of_tag(
     elements: &mut ElementTables<'_>,
     above: Scope,
@@ -222,6 +225,7 @@ const MOST_ATTRIBUTES: usize = 4294967294;
 
 /// What an element has that lists this scope, with its names tested: its attributes go into the table. The name stands at
 /// `at`.
+#[inline(always)]
 #[tactic(auto, unfolding(rox_reading::specs::Tags::tag_tested))]
 fn element_data<'input>(
     elements: &mut ElementTables<'input>,
@@ -268,6 +272,7 @@ fn element_data<'input>(
 
 /// A start tag, from its `<`, of an element whose parent lists `above`. A tag that is cut off by the end of the text right
 /// behind its name or an attribute is refused as `cut`.
+#[inline(always)]
 #[tactic(auto, unfolding(rox_reading::specs::Tags::tag_at))]
 pub fn start_tag<'input>(
     alloc: Global,
