@@ -18,7 +18,7 @@ ghost use Rattle.rox_build.specs.Tags.{taken_view};
 ghost use Rattle.rox_build.specs.Resolved.{row_of, has_expanded, Tested};
 
 use crate::declaration::{local_span, prefix_span};
-use crate::scope::{XML_URI, place_of, same_prefix};
+use crate::scope::{XML_URI, default_place, place_of, same_prefix};
 use crate::storage::StringStorage;
 use crate::tables::{AttributeData, AttributeNamespace, Namespace};
 use crate::taken::Taken;
@@ -105,6 +105,7 @@ fn is_repeated(
 }
 
 /// The namespace of an attribute behind these of its tag: its prefix must be known, and its expanded name be none of theirs.
+#[inline(always)]
 fn tested_namespace(
     names: &[Namespace<'_>],
     places: &[u16],
@@ -150,6 +151,7 @@ fn move_row<'input>(
 
 /// Moves the attributes of a tag into the table, each with its namespace in this scope. A prefix that is not known, or an
 /// expanded name that comes twice, is refused.
+#[inline(always)]
 pub fn resolve<'input>(
     names: &[Namespace<'input>],
     places: &[u16],
@@ -174,6 +176,7 @@ pub fn resolve<'input>(
 
 /// The namespace of an element's name, which stands at `at`, in this scope: without a prefix the default. A prefix that is
 /// not known is refused.
+#[inline(always)]
 pub fn element_namespace(
     names: &[Namespace<'_>],
     places: &[u16],
@@ -189,7 +192,7 @@ pub fn element_namespace(
         × (may_name (entries (map declaration names.now) places.now) (name_view name.entry) ≡ false)) }
 {
     if name.prefix.is_empty() {
-        return Ok(place_of(names, places, None));
+        return Ok(default_place(names, places));
     }
     match place_of(names, places, Some(name.prefix)) {
         Some(place) => Ok(Some(place)),

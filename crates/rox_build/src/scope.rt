@@ -44,6 +44,22 @@ pub fn place_of(names: &[Namespace<'_>], places: &[u16], prefix: Option<&str>) -
     None
 }
 
+/// The first of these places whose namespace is the default.
+#[inline(always)]
+pub fn default_place(names: &[Namespace<'_>], places: &[u16]) -> Option<u16>
+    requires { ArePlaces (length names.now) places.now }
+    ensures there { IfSome result (λ i. (i < length names.now)
+        × (uri_of (entries (map declaration names.now) places.now) None ≡ Some (entry (map declaration names.now) i).uri)) }
+    ensures absent { IfNone result (uri_of (entries (map declaration names.now) places.now) None ≡ None) }
+{
+    for place in places {
+        if same_prefix(names[*place as usize].name, None) {
+            return Some(*place);
+        }
+    }
+    None
+}
+
 /// Whether one of these has this prefix, or is the default.
 #[tactic(auto, using(crate::proofs::Pairs::declared_some, crate::proofs::Pairs::declared_none))]
 pub fn is_declared(names: &[Namespace<'_>], places: &[u16], prefix: Option<&str>) -> bool

@@ -1,6 +1,7 @@
 //! Text that is a slice of the input, or owned.
 
 ghost use Rattle.std.specs.Prelude.{◌≡◌, IfOk, false};
+ghost use Rattle.std.specs.Rc.{rc_str_bytes};
 ghost use Rattle.rox_build.specs.Storage.{storage_bytes, is_borrowed};
 
 use std::alloc::{AllocError, Global};
@@ -12,6 +13,15 @@ use std::rc::RcStr;
 pub enum StringStorage<'input> {
     Borrowed(&'input str),
     Owned(RcStr),
+}
+
+/// A text of its own. It is kept out of line, since most texts are slices, which then take no jump.
+#[cold]
+#[inline(never)]
+fn owned_text(text: &RcStr) -> &str
+    ensures { result.now ≡ rc_str_bytes text.now }
+{
+    text.as_str()
 }
 
 impl<'input> StringStorage<'input> {
@@ -31,7 +41,7 @@ impl<'input> StringStorage<'input> {
     {
         match self {
             StringStorage::Borrowed(s) => s,
-            StringStorage::Owned(s) => s.as_str(),
+            StringStorage::Owned(s) => owned_text(s),
         }
     }
 }

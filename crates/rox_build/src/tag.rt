@@ -70,7 +70,6 @@ pub fn stored<'input>(
 
 /// One attribute or declaration as written, which ends at `end`; `own` is where the listed places of the tag begin. Answers
 /// whether the tag declares `xml` now.
-#[inline(always)]
 fn take<'input>(
     alloc: Global,
     text: &'input str,

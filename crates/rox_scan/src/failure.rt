@@ -28,6 +28,7 @@ impl From<AllocError> for Failure {
 
     ghost from_gives = { λ _ e. e ≡ failure.Memory };
 
+    #[cold]
     fn from(_error: AllocError) -> Failure {
         Failure::Memory
     }
@@ -39,6 +40,7 @@ impl<T: Drop> From<AllocFailed<T>> for Failure {
 
     ghost from_gives = { λ _ e. e ≡ failure.Memory };
 
+    #[cold]
     fn from(_error: AllocFailed<T>) -> Failure {
         Failure::Memory
     }
