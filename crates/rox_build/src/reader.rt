@@ -1,6 +1,6 @@
 //! Reading of a text from its start to its end, one construct after another (XML 1.0 sections 2.1, 2.8, 3.1).
 
-ghost use Rattle.std.specs.Prelude.{◌≡◌, ◌==◌, ◌<◌, ◌≤◌, ◌+◌, ℕ, Ok, Err, Bool, OnOk, IfOk, IfErr, length, slice_index, slice_range, true, nat_le};
+ghost use Rattle.std.specs.Prelude.{◌≡◌, ◌≢◌, ◌==◌, ◌<◌, ◌≤◌, ◌+◌, ℕ, Ok, Err, Bool, OnOk, IfOk, IfErr, length, slice_index, slice_range, true, nat_le};
 ghost use Rattle.std.specs.List.{starts_with};
 ghost use Rattle.rox_grammar.specs.Marks.{stands};
 ghost use Rattle.rox_grammar.specs.Words.{word_text};
@@ -244,6 +244,37 @@ fn comment_or_section<'input>(
     Err(Failure::Fault(Fault::UnknownToken(cursor.pos)))
 }
 
+/// What `<` begins, but for an end tag.
+#[inline(always)]
+#[tactic(auto, unfolding(rox_reading::specs::Machine::step))]
+fn markup<'input>(
+    alloc: Global,
+    cursor: &mut Cursor<'input>,
+    builder: &mut Builder<'input>,
+) -> Result<(), Failure>
+    requires there { cursor.old.pos + 1 < length cursor.old.text.now }
+    requires here { slice_index cursor.old.text.now cursor.old.pos ≡ 60 }
+    requires no_end_tag { slice_index cursor.old.text.now (cursor.old.pos + 1) ≢ 47 }
+    requires fine { Fine builder.old.tables builder.old.opened.items }
+    ensures value { (limit end : ℕ) (s : State) → Sees limit end s cursor.old builder.old
+        → Stepped limit end result cursor.new builder.new (machine.step limit cursor.old.text.now s) }
+    ensures fine { OnOk result (Fine builder.new.tables builder.new.opened.items) }
+    ensures source { cursor.new.text ≡ cursor.old.text }
+{
+    let bytes = cursor.text.as_bytes();
+    let next = bytes[cursor.pos + 1];
+    if next == b'!' {
+        comment_or_section(alloc, cursor, builder)?;
+        return Ok(());
+    }
+    if next == b'?' {
+        instruction(alloc, cursor, builder)?;
+        return Ok(());
+    }
+    element(alloc, cursor, builder)?;
+    Ok(())
+}
+
 /// One construct of content.
 #[tactic(auto, unfolding(rox_reading::specs::Machine::step))]
 fn step<'input>(
@@ -267,19 +298,11 @@ fn step<'input>(
         return Err(Failure::Fault(Fault::UnknownToken(cursor.pos)));
     }
     let next = bytes[cursor.pos + 1];
-    if next == b'!' {
-        comment_or_section(alloc, cursor, builder)?;
-        return Ok(());
-    }
-    if next == b'?' {
-        instruction(alloc, cursor, builder)?;
-        return Ok(());
-    }
     if next == b'/' {
         end_tag(alloc, cursor, builder)?;
         return Ok(());
     }
-    element(alloc, cursor, builder)?;
+    markup(alloc, cursor, builder)?;
     Ok(())
 }
 

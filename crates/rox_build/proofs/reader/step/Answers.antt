@@ -1,15 +1,6 @@
-use Rattle.std.proofs.Common.{◌+◌, refl, sym, ap, ◌∙◌, arith, slice_index, List, ℕ}
-use Rattle.std.proofs.lemmas.Bool.{ne_eqb}
+use Rattle.std.proofs.Common.{◌+◌, sym, ap, ◌∙◌, arith, slice_index, List, ℕ}
 use Rattle.rox_build.proofs.Stepping.{two_stand, step_is_run, step_is_markup}
 use Rattle.rox_build.proofs.reader.step.Goals as goal
-
-pub instruction-requires-clause-here : goal.instruction-requires-clause-here
-instruction-requires-clause-here c =
-    let e = c.as_bytes-bytes.ensures.value in
-    let i = c.args.cursor.now.pos in
-    let l = c.as_bytes-bytes.ensures.len in
-    let more = c.if-cursor-bytes.false in
-    two_stand c.args.cursor.now.text.now i 60 63 (omega arith) (ap (λ (xs : List ℕ). slice_index xs i) (sym e) ∙ c.if-bytes-cursor-ne60.false) (ap (λ (xs : List ℕ). slice_index xs (i + 1)) (sym e) ∙ c.if-next-eq63.true)
 
 pub end_tag-requires-clause-here : goal.end_tag-requires-clause-here
 end_tag-requires-clause-here c =
@@ -23,18 +14,7 @@ pub returns-then-bytes-cursor-ne60-clause-value : goal.returns-then-bytes-cursor
 returns-then-bytes-cursor-ne60-clause-value c = λ limit end s h.
     rw (step_is_run limit c.args.cursor.now.text.now _ s c.args.cursor.now.pos c.as_bytes-bytes.ensures.value h.here c.if-bytes-cursor-ne60.true) (c.in_ok-character_data.ensures.value limit end s h)
 
-pub returns-then-next-eq63-clause-value : goal.returns-then-next-eq63-clause-value
-returns-then-next-eq63-clause-value c = λ limit end s h.
-    rw (step_is_markup limit c.args.cursor.now.text.now _ s c.args.cursor.now.pos 63 c.as_bytes-bytes.ensures.value h.here c.if-bytes-cursor-ne60.false c.if-cursor-bytes.false c.if-next-eq63.true (λ e. cc e))
-    (c.in_ok-instruction.ensures.value limit end s h)
-
 pub returns-then-next-eq47-clause-value : goal.returns-then-next-eq47-clause-value
 returns-then-next-eq47-clause-value c = λ limit end s h.
     rw (step_is_markup limit c.args.cursor.now.text.now _ s c.args.cursor.now.pos 47 c.as_bytes-bytes.ensures.value h.here c.if-bytes-cursor-ne60.false c.if-cursor-bytes.false c.if-next-eq47.true (λ e. cc e))
     (c.in_ok-end_tag.ensures.value limit end s h)
-
-pub returns-clause-value : goal.returns-clause-value
-returns-clause-value c = λ limit end s h.
-    let b = slice_index c.as_bytes-bytes.result.now (c.args.cursor.now.pos + 1) in
-    let x = step_is_markup limit c.args.cursor.now.text.now _ s c.args.cursor.now.pos b c.as_bytes-bytes.ensures.value h.here c.if-bytes-cursor-ne60.false c.if-cursor-bytes.false refl c.if-next-eq33.false in
-    rw (x, ne_eqb b 63 c.if-next-eq63.false, ne_eqb b 47 c.if-next-eq47.false) (c.in_ok-element.ensures.value limit end s h)

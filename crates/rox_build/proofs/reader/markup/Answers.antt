@@ -1,0 +1,26 @@
+use Rattle.std.proofs.Common.{◌+◌, refl, sym, ap, ◌∙◌, slice_index, List, ℕ}
+use Rattle.std.proofs.lemmas.Bool.{ne_eqb}
+use Rattle.rox_build.proofs.Stepping.{two_stand, step_is_markup}
+use Rattle.rox_build.proofs.reader.markup.Goals as goal
+
+pub instruction-requires-clause-here : goal.instruction-requires-clause-here
+instruction-requires-clause-here c =
+    let e = c.as_bytes-bytes.ensures.value in
+    let i = c.args.cursor.now.pos in
+    two_stand c.args.cursor.now.text.now i 60 63 c.requires.there c.requires.here (ap (λ (xs : List ℕ). slice_index xs (i + 1)) (sym e) ∙ c.if-next-eq63.true)
+
+pub returns-then-next-eq63-clause-value : goal.returns-then-next-eq63-clause-value
+returns-then-next-eq63-clause-value c = λ limit end s h.
+    let e = c.as_bytes-bytes.ensures.value in
+    let i = c.args.cursor.now.pos in
+    rw (step_is_markup limit c.args.cursor.now.text.now c.args.cursor.now.text.now s i 63 refl h.here c.requires.here c.requires.there (ap (λ (xs : List ℕ). slice_index xs (i + 1)) (sym e) ∙ c.if-next-eq63.true) (λ e. cc e))
+    (c.in_ok-instruction.ensures.value limit end s h)
+
+pub returns-clause-value : goal.returns-clause-value
+returns-clause-value c = λ limit end s h.
+    let e = c.as_bytes-bytes.ensures.value in
+    let i = c.args.cursor.now.pos in
+    let b = slice_index c.as_bytes-bytes.result.now (i + 1) in
+    let same = ap (λ (xs : List ℕ). slice_index xs (i + 1)) e in
+    let x = step_is_markup limit c.args.cursor.now.text.now c.args.cursor.now.text.now s i b refl h.here c.requires.here c.requires.there (sym same) c.if-next-eq33.false in
+    rw (x, ne_eqb b 63 c.if-next-eq63.false, ne_eqb b 47 (λ k. c.requires.no_end_tag (sym same ∙ k))) (c.in_ok-element.ensures.value limit end s h)
