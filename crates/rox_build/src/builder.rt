@@ -6,6 +6,7 @@ ghost use Rattle.rox_build.specs.declared.tables.NodeKind.TheVariants as kind;
 ghost use Rattle.rox_scan.specs.declared.failure.Failure.TheVariants as failure;
 ghost use Rattle.rox_build.specs.Waiting.{waiting};
 
+use crate::growth::push;
 use crate::names::NamespaceTable;
 use crate::pending::Pending;
 use crate::storage::StringStorage;
@@ -225,13 +226,13 @@ impl<'input> Builder<'input> {
             Pending::None => Ok(()),
             Pending::Slice(start, end, text) => {
                 let row = self.row(start, end, NodeKind::Text(StringStorage::Borrowed(text)));
-                self.nodes.push(row)?;
+                push(&mut self.nodes, row)?;
                 Ok(())
             }
             Pending::Joined(start, end) => {
                 let text = StringStorage::new_owned(alloc, self.joined.as_str())?;
                 let row = self.row(start, end, NodeKind::Text(text));
-                self.nodes.push(row)?;
+                push(&mut self.nodes, row)?;
                 Ok(())
             }
         }
@@ -255,7 +256,7 @@ impl<'input> Builder<'input> {
         self.flush(alloc)?;
         self.room()?;
         let row = self.row(start, end, kind);
-        self.nodes.push(row)?;
+        push(&mut self.nodes, row)?;
         Ok(())
     }
 
@@ -350,7 +351,7 @@ impl<'input> Builder<'input> {
         let row = self.nodes.len() as u32;
         let mut opening = self.row(start, 0, NodeKind::Element(tag.element));
         opening.next = 0;
-        self.nodes.push(opening)?;
+        push(&mut self.nodes, opening)?;
         let element = OpenElement {
             row,
             name: tag.name,
@@ -361,7 +362,7 @@ impl<'input> Builder<'input> {
                 until: tag.element.namespaces_until,
             },
         };
-        self.opened.push(element)?;
+        push(&mut self.opened, element)?;
         Ok(())
     }
 

@@ -3,6 +3,7 @@
 
 pub mod builder;
 pub mod declaration;
+pub mod growth;
 pub mod names;
 pub mod namespaces;
 pub mod pending;

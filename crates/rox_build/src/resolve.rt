@@ -18,6 +18,7 @@ ghost use Rattle.rox_build.specs.Tags.{taken_view};
 ghost use Rattle.rox_build.specs.Resolved.{row_of, has_expanded, Tested};
 
 use crate::declaration::{local_span, prefix_span};
+use crate::growth::push;
 use crate::scope::{XML_URI, default_place, place_of, same_prefix};
 use crate::storage::StringStorage;
 use crate::tables::{AttributeData, AttributeNamespace, Namespace};
@@ -169,7 +170,7 @@ pub fn resolve<'input>(
     for turn in 0..taken.len() {
         let namespace = tested_namespace(names, places, &attributes[from..], &taken[turn])?;
         let row = move_row(&mut taken[turn], namespace);
-        attributes.push(row)?;
+        push(attributes, row)?;
     }
     Ok(())
 }

@@ -15,6 +15,7 @@ ghost use Rattle.rox_build.specs.Tags.{Declares, Holding, Took, TookAll, one_mor
 ghost use Rattle.rox_grammar.specs.Tree.{listed};
 
 use crate::declaration::{declares, take_declaration};
+use crate::growth::push;
 use crate::resolve::{element_namespace, resolve};
 use crate::scope::inherit;
 use crate::storage::StringStorage;
@@ -113,7 +114,7 @@ fn take<'input>(
             one,
         );
     }
-    buffers.taken.push(one)?;
+    push(&mut buffers.taken, one)?;
     Ok(xml)
 }
 

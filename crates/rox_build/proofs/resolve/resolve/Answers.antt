@@ -25,7 +25,7 @@ loop-turn-preserved c =
     let behind = rows_behind l.attributes.items c.deref.result.now c.args.attributes.now.items c.len-from.result c.deref.ensures.value from in
     let here : l.turn < length l.taken.items = omega arith in
     moves (length c.args.names.now) names (entries names c.args.places.now) c.args.taken.now.items c.args.attributes.now.items l.turn l.taken.items l.attributes.items
-    c.index.result.now c.index_mut.result.now c.move_row-row.new.taken c.in_ok-namespace.namespace c.move_row-row.result c.push.new.self.items
+    c.index.result.now c.index_mut.result.now c.move_row-row.new.taken c.in_ok-namespace.namespace c.move_row-row.result c.push.new.to.items
     l.invariant here c.index.ensures
     (λ before rest shown. c.in_ok-namespace.ensures.tested before rest (ap (map (attribute names)) behind ∙ shown))
     c.in_ok-namespace.ensures.within c.in_ok-namespace.ensures.there c.index_mut.ensures.value c.move_row-row.ensures c.in_ok-push.ensures.items

@@ -25,7 +25,7 @@ returns-clause-took c = λ known before h o hold.
     let raw = c.args.raw.now in
     let v = piece_view c.in_ok-piece.piece (string_bytes c.value.new.scratch) in
     let buffer : c.as_str.result.now ≡ string_bytes c.value.new.scratch = c.as_str.ensures.value in
-    took_attribute known before (map declaration c.args.elements.now.namespaces.items.items) c.args.elements.now.listed.items c.args.xml c.args.buffers.now.taken.items c.push.new.self.items
+    took_attribute known before (map declaration c.args.elements.now.namespaces.items.items) c.args.elements.now.listed.items c.args.xml c.args.buffers.now.taken.items c.push.new.to.items
     c.args.text.now raw h v _ c.in_ok-push.ensures.items c.in_ok-piece.ensures refl refl refl c.requires.end refl
     (c.in_ok-value.ensures.bytes ∙ ap (λ (b : List ℕ). (piece_view c.in_ok-piece.piece b).value) buffer)
     (c.in_ok-value.ensures.kind ∙ ap (λ (b : List ℕ). (piece_view c.in_ok-piece.piece b).plain) buffer)

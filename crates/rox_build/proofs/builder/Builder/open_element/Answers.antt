@@ -31,7 +31,7 @@ returns-clause-value c = λ total at s t sh here is.
     let place : c.len-row.result ≡ length f.nodes.items = omega (arith, c.len-row.ensures) in
     let view : opened (names_in f.tables) f.tables.listed.items x ≡ record { row = x.row; name = t.name; name_start = s.at + 1; name_end = t.name_end; scope = listed (scope_of s.stack) t.declarations } =
     rw (op.name, op.name_start, op.name_end, op.scope) refl in
-    let rows : c.push.new.self.items ≡ f.nodes.items ++ row_open f.tables 0 f.opened.items s.at k ∷ [] =
+    let rows : c.push.new.to.items ≡ f.nodes.items ++ row_open f.tables 0 f.opened.items s.at k ∷ [] =
     rw here (c.in_ok-push.ensures.items ∙ ap (λ (r : NodeData). f.nodes.items ++ record r { next = 0 } ∷ []) c.row-opening.ensures) in (
       next,
       counted_ok c.args.self.now.nodes_limit next (omega arith),
