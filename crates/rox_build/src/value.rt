@@ -215,7 +215,7 @@ fn value_text(cursor: &mut Cursor<'_>, stop: usize, out: &mut String) -> Result<
 #[inline(always)]
 fn is_run_end(text: &str, at: usize) -> bool
     requires { at ≤ length text.now }
-    ensures { result ≡ true → at < length text.now → slice_index text.now at ≡ 60 }
+    ensures { result ≡ (at == length text.now || slice_index text.now at == 60) }
 {
     at == text.len() || text.as_bytes()[at] == b'<'
 }
