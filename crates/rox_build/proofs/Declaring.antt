@@ -1,6 +1,6 @@
 -- A declaration of a start tag, step by step.
-use Rattle.std.proofs.Common.{◌≡◌, ℕ, ◌+◌, ◌<◌, ◌≤◌, ◌||◌, ◌&&◌, not, Bool, true, false, List, [], ◌∷◌, ◌++◌, length, map, drop, filter, refl, sym, ap, ◌∙◌, subst, arith, Result, Ok, Err, length-append, append_assoc, le-ltb, lt-ltb}
-use Rattle.std.specs.List.{list_any, slice_range}
+use Rattle.std.proofs.Common.{◌≡◌, ℕ, ◌+◌, ◌<◌, ◌≤◌, ◌||◌, not, Bool, true, false, List, [], ◌∷◌, ◌++◌, length, drop, refl, sym, ap, ◌∙◌, arith, Result, Ok, Err, length-append, append_assoc, le-ltb, lt-ltb}
+use Rattle.std.specs.List.{slice_range}
 use Rattle.std.proofs.lemmas.List.{append-nil, map-append}
 use Rattle.std.proofs.lemmas.List.Elements.{filter-append}
 use Rattle.std.proofs.lemmas.List.Folds.{list_any-append}
@@ -10,13 +10,12 @@ use Rattle.rox_grammar.specs.Written.{Attribute, Declaration, declaration_of, lo
 use Rattle.rox_grammar.specs.Tree.{is_declared, listed}
 use Rattle.rox_grammar.specs.WellNamed.{is_xml}
 use Rattle.rox_grammar.specs.Document.{with_new, most_pairs}
-use Rattle.rox_reading.specs.Lexical.{◌>>=◌}
 use Rattle.rox_reading.specs.Tags.{Held, uri_tested, listable_of, declared}
 use Rattle.rox_scan.specs.Gives.{Fails}
 use Rattle.rox_scan.specs.declared.failure.Failure.{Failure}
 use Rattle.rox_scan.specs.declared.failure.Failure.TheVariants as failure
 use Rattle.rox_build.specs.Lines.{entry}
-use Rattle.rox_build.specs.Scopes.{entries, ArePlaces, others}
+use Rattle.rox_build.specs.Scopes.{entries, others}
 use Rattle.rox_build.specs.Tags.{declares_xml, Declares, Declared}
 use Rattle.rox_build.proofs.Listing.{with_new-append, with_new-front, declares_nothing, listed-none, listed-others}
 use Rattle.rox_build.proofs.Inherits.{slice-rest}

@@ -1,12 +1,12 @@
 -- A character begins behind the byte order mark.
-use Rattle.std.proofs.Common.{◌≡◌, ℕ, ◌==◌, Bool, true, false, List, [], ◌++◌, length, drop, refl, sym, ap, subst}
+use Rattle.std.proofs.Common.{◌≡◌, ℕ, ◌==◌, true, List, ◌++◌, length, drop, refl, sym}
 use Rattle.std.specs.List.{starts_with}
 use Rattle.std.specs.Str.{IsUtf8, IsCharBoundary}
 use Rattle.std.specs.Char.{encode_utf8}
 use Rattle.std.proofs.lemmas.Str.{IsCharBoundary-at_seam, IsUtf8-past_char}
 use Rattle.std.proofs.lemmas.Bool.Decides.{Decides-eqb}
 use Rattle.std.proofs.lemmas.Slice.Eq.{starts_is}
-use Rattle.rox_grammar.specs.Document.{bom, after_bom}
+use Rattle.rox_grammar.specs.Document.{bom}
 
 pub mark_cut : (src : List ℕ) → IsUtf8 src → starts_with ◌==◌ src bom ≡ true → IsCharBoundary src 3
 unfolding encode_utf8

@@ -1,13 +1,13 @@
 -- The rows of what is read so far.
-use Rattle.std.proofs.Common.{◌≡◌, ℕ, ◌+◌, ◌-◌, ◌<◌, ◌≤◌, List, [], ◌∷◌, ◌++◌, length, set, get_or, map, slice_range, refl, sym, ap, ◌∙◌, arith, append_assoc, length-append}
-use Rattle.std.proofs.lemmas.List.{append-nil, length_push, set_at}
+use Rattle.std.proofs.Common.{◌≡◌, ℕ, ◌+◌, List, [], ◌∷◌, ◌++◌, length, set, refl, sym, ap, ◌∙◌, arith, append_assoc, length-append}
+use Rattle.std.proofs.lemmas.List.{append-nil, set_at}
 use Rattle.rox_grammar.specs.Forest.{Forest, Nil, Cons, join, size}
-use Rattle.rox_grammar.specs.Written.{Tag, Item, Element, Declaration, merge}
-use Rattle.rox_grammar.specs.Tree.{Node, listed, node_in, scope_in, resolved}
+use Rattle.rox_grammar.specs.Written.{Tag, Item, Element, merge}
+use Rattle.rox_grammar.specs.Tree.{Node, listed, node_in, resolved}
 use Rattle.rox_reading.specs.State.{Open, root, inside, scope_of, nodes_so_far}
 use Rattle.rox_build.specs.Lines.{Line, lines}
-use Rattle.rox_build.specs.SoFar.{top, depth_of, root_line, open_line, rows_to, so_far}
-use Rattle.rox_reading.proofs.Forests.{size-join, size-resolved, resolved-join}
+use Rattle.rox_build.specs.SoFar.{top, depth_of, open_line, rows_to, so_far}
+use Rattle.rox_reading.proofs.Forests.{size-resolved, resolved-join}
 
 pub length-lines : (p d at : ℕ) (f : Forest Node) → length (lines p d at f) ≡ size f
 length-lines p d at Nil = refl

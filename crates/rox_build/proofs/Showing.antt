@@ -1,19 +1,18 @@
 -- What each change of the builder does to the items that it shows.
-use Rattle.std.proofs.Common.{◌≡◌, ℕ, zero, suc, ◌+◌, ◌-◌, ◌<◌, ◌≤◌, Bool, true, false, List, [], ◌∷◌, ◌++◌, length, map, set, get_or, take, leb, refl, sym, ap, subst, ◌∙◌, arith, Result, Ok, Err, append_assoc}
+use Rattle.std.proofs.Common.{◌≡◌, ℕ, zero, suc, ◌+◌, ◌-◌, ◌<◌, ◌≤◌, Bool, false, List, [], ◌∷◌, ◌++◌, length, map, set, get_or, take, refl, sym, ap, subst, ◌∙◌, arith, Ok, Err, append_assoc}
 use Rattle.std.specs.List.{AllByRecursion}
 use Rattle.std.proofs.Math.ListN.{get_or-map}
 use Rattle.std.proofs.lemmas.Bool.{le-leb, lt-leb}
 use Rattle.std.proofs.lemmas.List.{map-append, length-map, length_push, map-set, same_from_push, get_or_at, take_all, take_more}
 use Rattle.std.specs.String.{string_bytes}
-use Rattle.rox_grammar.specs.declared.fault.Fault.{Fault}
 use Rattle.rox_grammar.specs.declared.fault.Fault.TheVariants as fault
 use Rattle.rox_grammar.specs.Forest.{Forest, Nil, Cons, join, size}
 use Rattle.rox_grammar.specs.Written.{Tag, Item, Element, Text, Declaration, merge, leaf}
 use Rattle.rox_grammar.specs.Tree as tree
 use Rattle.rox_grammar.specs.Tree.{Node, listed, node_in, scope_in, resolved}
 use Rattle.rox_reading.specs.State.{Open, root, inside, State, scope_of, nodes_so_far}
-use Rattle.rox_reading.specs.Machine.{counted, with_item}
-use Rattle.rox_reading.proofs.Forests.{Clean, is_text, add, join-nil, size-join, merge-piece, add-text, add_clean, merge-item, clean-item}
+use Rattle.rox_reading.specs.Machine.{counted}
+use Rattle.rox_reading.proofs.Forests.{is_text, add, join-nil, size-join, merge-piece, add-text, add_clean, merge-item, clean-item}
 use Rattle.rox_build.specs.Lines.{Line, line, lines, node}
 use Rattle.rox_build.specs.SoFar.{top, depth_of, open_line, rows_to, so_far}
 use Rattle.rox_build.specs.Waiting.{waiting}

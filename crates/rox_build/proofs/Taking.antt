@@ -1,5 +1,5 @@
 -- One attribute or declaration of a start tag, and the loop over them.
-use Rattle.std.proofs.Common.{◌≡◌, ℕ, zero, suc, ◌+◌, ◌<◌, ◌≤◌, Bool, true, false, cond, eqb, nat_le, if◌then◌else◌, List, [], ◌∷◌, ◌++◌, map, length, get_or, refl, sym, ap, ◌∙◌, subst, arith, Result, Ok, Err, le-leb}
+use Rattle.std.proofs.Common.{◌≡◌, ℕ, zero, suc, ◌+◌, ◌<◌, ◌≤◌, Bool, true, false, cond, eqb, nat_le, if◌then◌else◌, List, [], ◌∷◌, ◌++◌, map, length, get_or, refl, sym, ap, ◌∙◌, subst, Result, Ok, Err, le-leb}
 use Rattle.std.proofs.lemmas.List.{map-append}
 use Rattle.std.proofs.lemmas.Bool.{leb-false, lt-leb}
 use Rattle.rox_grammar.specs.declared.fault.Fault.{Fault}
@@ -16,9 +16,8 @@ use Rattle.rox_scan.specs.declared.failure.Failure.{Failure}
 use Rattle.rox_scan.specs.declared.failure.Failure.TheVariants as failure
 use Rattle.rox_scan.specs.declared.markup.RawAttribute.{RawAttribute as CodeRaw}
 use Rattle.rox_build.specs.Storage.{storage_bytes, is_borrowed}
-use Rattle.rox_build.specs.declared.storage.StringStorage.{StringStorage}
 use Rattle.rox_build.specs.declared.taken.Taken.{Taken}
-use Rattle.rox_build.specs.Tags.{taken_view, Declares, Declared, Holding, Took, one_more}
+use Rattle.rox_build.specs.Tags.{taken_view, Declared, Holding, Took, one_more}
 
 -- an attribute with its value is the one that the code makes of it
 pub view_is : (raw : CodeRaw) (v : RunText) (t : Taken) → t.start ≡ raw.start → t.name_end ≡ raw.name_end → t.value_start ≡ raw.value_start → t.end ≡ raw.value_end + 1

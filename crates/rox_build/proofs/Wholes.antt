@@ -1,18 +1,17 @@
 -- A root element with what follows it, and a whole text, are read as their parts are.
-use Rattle.std.proofs.Common.{◌≡◌, ℕ, zero, suc, ◌+◌, ◌<◌, ◌≤◌, Bool, true, false, List, length, refl, sym, ap, ◌∙◌, subst, arith, Result, Ok, Err, lt-ltb, le-ltb, slice_index, nat_le, nat_lt, if◌then◌else◌, ◌==◌}
+use Rattle.std.proofs.Common.{◌≡◌, ℕ, zero, suc, ◌<◌, ◌≤◌, Bool, true, false, List, length, refl, ap, ◌∙◌, Result, Ok, Err, lt-ltb, le-ltb, slice_index, nat_le, nat_lt, if◌then◌else◌, ◌==◌}
 use Rattle.std.proofs.lemmas.Bool.{ne_eqb, eq-eqb}
 use Rattle.rox_grammar.specs.declared.fault.Fault.{Fault}
 use Rattle.rox_grammar.specs.declared.fault.Fault.TheVariants as fault
 use Rattle.rox_grammar.specs.declared.fault.Word.TheVariants as word
 use Rattle.rox_grammar.specs.Names.{spaces_end}
 use Rattle.rox_grammar.specs.Constructs.{at}
-use Rattle.rox_grammar.specs.Forest.{Forest, Nil}
-use Rattle.rox_grammar.specs.Written.{Item}
+use Rattle.rox_grammar.specs.Forest.{Nil}
 use Rattle.rox_grammar.specs.Document.{after_bom}
 use Rattle.rox_reading.specs.Lexical.{Read, ◌>>=◌}
 use Rattle.rox_reading.specs.Markup.{comment_at, instruction_at}
 use Rattle.rox_reading.specs.State.{State, Open, root, inside, is_root, nodes_so_far}
-use Rattle.rox_reading.specs.Machine.{counted, with_item, comment_step, instruction_step, tag_step, step, drive, misc, body, finished, prolog, reading}
+use Rattle.rox_reading.specs.Machine.{counted, comment_step, instruction_step, tag_step, step, drive, misc, body, finished, prolog, reading}
 use Rattle.rox_scan.specs.Gives.{Fails}
 use Rattle.rox_scan.specs.declared.failure.Failure.{Failure}
 use Rattle.rox_scan.specs.declared.failure.Failure.TheVariants as failure

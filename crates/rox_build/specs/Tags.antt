@@ -1,8 +1,8 @@
 -- What the code holds of a start tag, against what is read of it.
-use Rattle.std.specs.Prelude.{◌≡◌, ◌≢◌, ℕ, ◌+◌, ◌<◌, ◌≤◌, Bool, true, List, [], ◌∷◌, ◌++◌, length, map, filter, Option, Result, Ok, Err, slice_range}
+use Rattle.std.specs.Prelude.{◌≡◌, ℕ, ◌≤◌, Bool, List, ◌++◌, length, map, Result, Ok, Err}
 use Rattle.std.specs.List.{list_any}
 use Rattle.rox_grammar.specs.declared.fault.Fault.{Fault}
-use Rattle.rox_grammar.specs.Written.{Attribute, Declaration, Tag}
+use Rattle.rox_grammar.specs.Written.{Attribute, Declaration}
 use Rattle.rox_grammar.specs.WellNamed.{is_xml}
 use Rattle.rox_grammar.specs.Document.{with_new, most_pairs}
 use Rattle.rox_reading.specs.Tags.{Held, listable_of, taken, attribute_with}

@@ -1,7 +1,7 @@
 -- No text of a document is followed by a text.
-use Rattle.std.proofs.Common.{◌≡◌, ℕ, ◌+◌, ◌&&◌, Bool, true, false, List, [], ◌∷◌, ◌++◌, length, refl, sym, subst}
+use Rattle.std.proofs.Common.{◌≡◌, ℕ, ◌+◌, ◌&&◌, Bool, true, false, List, [], ◌∷◌, length, refl, sym, subst}
 use Rattle.rox_grammar.specs.Forest.{Forest, Nil, Cons, join}
-use Rattle.rox_grammar.specs.Written.{Declaration, Item, Element, Text, Comment, PI, glue, merge, leaf}
+use Rattle.rox_grammar.specs.Written.{Declaration, Item, Element, Text, Comment, PI, glue, merge}
 use Rattle.rox_grammar.specs.Tree.{Node, scope_in, resolved}
 use Rattle.rox_grammar.specs.Content.{Sign, piece, Parts, last_part, then_entity, IsMisc, comment, instruction, IsElement, empty, nest, Content, ends, run, cdata, misc, node}
 use Rattle.rox_grammar.specs.Document.{no_entities, Misc, no_misc, space, an_item, ParseOf, IsTreeOf}

@@ -1,8 +1,6 @@
-use Rattle.std.proofs.Common.{◌≡◌, ◌&&◌, ◌||◌, sym, ap, ◌∙◌, map, List}
-use Rattle.rox_grammar.specs.Written.{Declaration}
+use Rattle.std.proofs.Common.{◌&&◌, ◌||◌, sym, ap, ◌∙◌}
 use Rattle.rox_grammar.specs.Tree.{is_declared}
 use Rattle.rox_grammar.specs.WellNamed.{is_xml}
-use Rattle.rox_build.specs.Lines.{declaration}
 use Rattle.rox_reading.specs.Tags.{listable_of}
 use Rattle.rox_build.specs.Scopes.{prefix_view}
 use Rattle.rox_build.proofs.Listing.{is_declared-own}

@@ -1,12 +1,7 @@
-use Rattle.std.proofs.Common.{◌≡◌, ◌++◌, ◌∷◌, [], ◌+◌, ◌-◌, ◌≤◌, ◌<◌, Bool, not, true, false, refl, sym, ap, subst, ◌∙◌, List, ℕ, arith, length, take, Result, Ok, Err}
+use Rattle.std.proofs.Common.{◌≡◌, refl, ap}
 use Rattle.std.proofs.lemmas.Result.{err_from_is_err_and}
-use Rattle.rox_grammar.specs.Tree as tree
-use Rattle.rox_grammar.specs.Written.{Item, Text, Comment, PI}
-use Rattle.rox_reading.specs.State.{State, scope_of}
-use Rattle.rox_reading.specs.Values.{RunText}
 use Rattle.std.specs.String.{string_bytes}
 use Rattle.rox_build.specs.Values.{piece_view, section_text}
-use Rattle.rox_build.specs.Shown.{IsNode, Shows}
 use Rattle.rox_build.proofs.Stepping.{cdata_is, cdata_fails, text_stepped, text_or, same_shows}
 use Rattle.rox_build.proofs.reader.cdata.Goals as goal
 

@@ -1,14 +1,10 @@
-use Rattle.std.proofs.Common.{◌≡◌, ◌++◌, ◌∷◌, [], ◌+◌, ◌-◌, ◌≤◌, ◌<◌, Bool, not, true, false, refl, sym, ap, subst, ◌∙◌, List, ℕ, arith, length, take, Result, Ok, Err}
+use Rattle.std.proofs.Common.{refl, subst}
 use Rattle.std.proofs.lemmas.Result.{err_from_is_err_and}
-use Rattle.rox_grammar.specs.Tree as tree
-use Rattle.rox_grammar.specs.Written.{Item, Text, Comment, PI}
-use Rattle.rox_reading.specs.State.{State}
+use Rattle.rox_grammar.specs.Written.{Text}
 use Rattle.rox_reading.specs.Machine.{with_item}
-use Rattle.rox_reading.specs.Values.{RunText}
 use Rattle.std.specs.String.{string_bytes}
-use Rattle.rox_build.specs.Values.{piece_view, section_text}
-use Rattle.rox_build.specs.Shown.{Shows, Stepped}
-use Rattle.rox_build.specs.declared.builder.Builder.{Builder}
+use Rattle.rox_build.specs.Values.{piece_view}
+use Rattle.rox_build.specs.Shown.{Stepped}
 use Rattle.rox_build.proofs.Stepping.{run_is, run_fails, text_stepped, same_shows}
 use Rattle.rox_build.proofs.reader.character_data.Goals as goal
 

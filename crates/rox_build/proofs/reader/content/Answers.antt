@@ -1,10 +1,10 @@
-use Rattle.std.proofs.Common.{◌≡◌, ◌<◌, ◌≤◌, ◌-◌, ◌+◌, ℕ, suc, true, false, refl, sym, ap, ◌∙◌, subst, arith, length}
+use Rattle.std.proofs.Common.{◌≡◌, ◌<◌, ◌≤◌, ◌-◌, ◌+◌, suc, false, sym, ap, ◌∙◌, arith, length}
 use Rattle.std.proofs.lemmas.Result.{err_from_is_err_and}
 use Rattle.std.proofs.lemmas.Bool.{leb-true, leb-false}
 use Rattle.rox_scan.specs.Gives.{Fails}
 use Rattle.rox_reading.specs.State.{is_root}
 use Rattle.rox_reading.specs.Machine.{step}
-use Rattle.rox_build.proofs.Looping.{Driving, drives_on, drive_fails, drive_done, drive_cut, drive_spent}
+use Rattle.rox_build.proofs.Looping.{drives_on, drive_fails, drive_done, drive_cut, drive_spent}
 use Rattle.rox_build.proofs.reader.content.Goals as goal
 
 pub returns-then-is_at_root-clause-value : goal.returns-then-is_at_root-clause-value

@@ -1,8 +1,8 @@
 use Rattle.std.specs.Prelude.{OnOk}
-use Rattle.std.proofs.Common.{◌≡◌, ◌+◌, ℕ, true, false, Bool, refl, sym, ap, subst, ◌∙◌, List}
+use Rattle.std.proofs.Common.{ℕ, true, false, Bool, refl, sym, ap, subst, ◌∙◌, List}
 use Rattle.std.proofs.lemmas.Result.{err_from_is_err_and}
-use Rattle.rox_grammar.specs.Written.{Tag, Element, Declaration}
-use Rattle.rox_reading.specs.State.{State, scope_of}
+use Rattle.rox_grammar.specs.Written.{Element, Declaration}
+use Rattle.rox_reading.specs.State.{scope_of}
 use Rattle.rox_reading.specs.Machine.{opened_by}
 use Rattle.rox_build.specs.Tagged.{Tagged}
 use Rattle.rox_build.specs.Shown.{IsNode, Fine, Stepped}

@@ -1,19 +1,11 @@
-use Rattle.std.proofs.Common.{◌≡◌, ◌++◌, ◌∷◌, [], ◌+◌, ◌-◌, ◌≤◌, ◌<◌, Bool, not, true, false, refl, sym, ap, subst, ◌∙◌, List, ℕ, arith, length, take, Result, Ok, Err}
+use Rattle.std.proofs.Common.{◌≡◌, ◌++◌, ◌∷◌, [], ◌-◌, refl, sym, ap, ◌∙◌, List, arith, length, take, Err}
 use Rattle.std.proofs.lemmas.Result.{err_from_is_err_and}
 use Rattle.std.proofs.Common.{slice_get, None, inl, inr}
 use Rattle.std.proofs.lemmas.Option.{slice_get_cases}
-use Rattle.rox_grammar.specs.Tree as tree
-use Rattle.rox_grammar.specs.Written.{Item, Text, Comment, PI}
-use Rattle.rox_reading.specs.State.{State, scope_of}
-use Rattle.rox_reading.specs.Values.{RunText}
-use Rattle.std.specs.String.{string_bytes}
-use Rattle.rox_build.specs.Values.{piece_view, section_text}
-use Rattle.rox_build.specs.Shown.{IsNode, Shows}
-use Rattle.rox_build.specs.declared.builder.Builder.{Builder}
 use Rattle.rox_scan.specs.Parts.{end_tag_view}
 use Rattle.rox_scan.specs.Gives.{name_view}
 use Rattle.rox_reading.specs.Machine.{name_span}
-use Rattle.rox_build.specs.Shown.{opened_in, open_lines}
+use Rattle.rox_build.specs.Shown.{opened_in}
 use Rattle.rox_build.specs.declared.builder.OpenElement.{OpenElement}
 use Rattle.rox_grammar.specs.declared.fault.Span.{Span}
 use Rattle.rox_grammar.specs.declared.fault.Fault.TheVariants as fault

@@ -1,13 +1,7 @@
-use Rattle.std.proofs.Common.{◌≡◌, ◌++◌, ◌∷◌, [], ◌+◌, ◌-◌, ◌≤◌, ◌<◌, true, false, refl, sym, ap, subst, ◌∙◌, List, ℕ, arith, length, take}
+use Rattle.std.proofs.Common.{refl, ap, ℕ}
 use Rattle.std.proofs.lemmas.Result.{err_from_is_err_and}
 use Rattle.rox_grammar.specs.Tree as tree
-use Rattle.rox_grammar.specs.Written.{Item, Text, Comment, PI}
-use Rattle.rox_reading.specs.State.{State, scope_of}
-use Rattle.rox_reading.specs.Values.{RunText}
-use Rattle.std.specs.String.{string_bytes}
-use Rattle.rox_build.specs.Values.{piece_view}
-use Rattle.rox_build.specs.Shown.{IsNode, Shows}
-use Rattle.rox_build.specs.declared.builder.Builder.{Builder}
+use Rattle.rox_grammar.specs.Written.{Item, PI}
 use Rattle.rox_scan.specs.Parts.{instruction_view}
 use Rattle.rox_build.proofs.Stepping.{instruction_is, instruction_fails, item_stepped}
 use Rattle.rox_build.proofs.reader.instruction.Goals as goal

@@ -1,4 +1,4 @@
-use Rattle.std.proofs.Common.{◌≡◌, ◌<◌, ◌-◌, ◌+◌, ℕ, suc, true, false, refl, sym, ap, ◌∙◌, subst, arith, length}
+use Rattle.std.proofs.Common.{◌≡◌, ◌-◌, ◌+◌, suc, true, false, sym, ap, ◌∙◌, arith, length}
 use Rattle.std.proofs.lemmas.Result.{err_from_is_err_and}
 use Rattle.rox_grammar.specs.declared.fault.Word.TheVariants as word
 use Rattle.rox_grammar.specs.Names.{spaces_end}
@@ -6,7 +6,7 @@ use Rattle.rox_grammar.specs.Constructs.{at}
 use Rattle.rox_scan.specs.Gives.{Fails}
 use Rattle.rox_scan.specs.declared.cursor.Cursor.{Cursor}
 use Rattle.rox_reading.specs.Machine.{comment_step, instruction_step}
-use Rattle.rox_build.proofs.Looping.{Going, spaced, sees_spaced, comment_on, instruction_on, comment_fails, instruction_fails, misc_done, misc_spent}
+use Rattle.rox_build.proofs.Looping.{spaced, sees_spaced, comment_on, instruction_on, comment_fails, instruction_fails, misc_done, misc_spent}
 use Rattle.rox_build.proofs.reader.misc.Goals as goal
 use Rattle.rox_build.proofs.reader.misc.Goals.{then-starts+in_ok-comment, else-starts+then-starts-2+in_ok-instruction}
 

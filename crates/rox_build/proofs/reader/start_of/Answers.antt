@@ -1,4 +1,4 @@
-use Rattle.std.proofs.Common.{◌≡◌, sym, ◌∙◌}
+use Rattle.std.proofs.Common.{sym, ◌∙◌}
 use Rattle.rox_build.proofs.Marking.{mark_cut}
 use Rattle.rox_build.proofs.reader.start_of.Goals as goal
 

@@ -1,7 +1,6 @@
-use Rattle.std.proofs.Common.{◌≡◌, ◌<◌, length, get_or, true, false, map, take, sym, ap, ◌∙◌, subst, arith, List, ℕ, Option, None}
+use Rattle.std.proofs.Common.{◌≡◌, ◌<◌, length, get_or, true, false, map, sym, ap, ◌∙◌, arith, None}
 use Rattle.rox_grammar.specs.Tree.{same_prefix}
-use Rattle.rox_build.specs.Lines.{declaration, entry}
-use Rattle.rox_build.specs.declared.tables.Namespace.{Namespace}
+use Rattle.rox_build.specs.Lines.{declaration}
 use Rattle.rox_grammar.specs.Written.{Declaration}
 use Rattle.rox_build.proofs.Pairs.{entry-get, place_at, uri_here, uri_none_more}
 use Rattle.rox_build.proofs.scope.default_place.Goals as goal

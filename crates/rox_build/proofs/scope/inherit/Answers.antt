@@ -1,4 +1,4 @@
-use Rattle.std.proofs.Common.{◌<◌, ◌≤◌, length, sym, ◌∙◌, ap, arith, Vec}
+use Rattle.std.proofs.Common.{◌<◌, ◌≤◌, length, sym, ◌∙◌, ap, arith}
 use Rattle.rox_build.proofs.Inherits.{lists, skips, looked}
 use Rattle.rox_build.proofs.scope.inherit.Goals as goal
 use Rattle.rox_build.proofs.scope.inherit.Goals.{then-not-is_own+in_ok-push, else-not-is_own}

@@ -1,15 +1,12 @@
-use Rattle.std.proofs.Common.{◌≡◌, ◌<◌, ◌≤◌, ◌+◌, ◌-◌, ℕ, suc, true, false, refl, sym, ap, ◌∙◌, subst, arith, map, List, length, Ok, Err, Result}
+use Rattle.std.proofs.Common.{◌≡◌, ◌<◌, ◌≤◌, ◌+◌, ◌-◌, suc, true, false, sym, ap, ◌∙◌, arith, length, Ok, Err}
 use Rattle.std.proofs.lemmas.Result.{err_from_is_err_and}
 use Rattle.std.proofs.lemmas.Bool.{leb-true, leb-false}
-use Rattle.rox_grammar.specs.Written.{Declaration}
-use Rattle.rox_reading.specs.Markup.{turn_at, more, opened, closed}
-use Rattle.rox_reading.specs.Tags.{Held, attributes_at}
+use Rattle.rox_reading.specs.Markup.{turn_at, more}
 use Rattle.rox_scan.specs.Gives.{Fails}
 use Rattle.rox_scan.specs.Parts.{attribute_view, turn_view}
 use Rattle.rox_scan.specs.declared.markup.Turn.{Turn as CodeTurn}
-use Rattle.rox_build.specs.Lines.{declaration}
 use Rattle.rox_build.specs.Tags.{one_more}
-use Rattle.rox_build.proofs.Taking.{Going, turn_gives, going_cut, going_none, going_fails, going_ends, going_on, going_stops}
+use Rattle.rox_build.proofs.Taking.{turn_gives, going_cut, going_none, going_fails, going_ends, going_on, going_stops}
 use Rattle.rox_build.proofs.tag.attributes.Goals as goal
 
 pub returns-then-is_at_end-clause-took : goal.returns-then-is_at_end-clause-took

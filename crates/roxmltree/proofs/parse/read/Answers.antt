@@ -7,7 +7,6 @@ use Rattle.rox_grammar.specs.declared.fault.Fault.{Fault}
 use Rattle.rox_reading.specs.Machine.{reading}
 use Rattle.rox_scan.specs.declared.failure.Failure.{Failure}
 use Rattle.rox_scan.specs.declared.failure.Failure.TheVariants as failure
-use Rattle.rox_error.specs.declared.error.Error.TheVariants as error
 use Rattle.rox_error.specs.Telling.{IsErrorOf}
 use Rattle.rox_theory.proofs.Tops.{parse_merged}
 use Rattle.rox_theory.proofs.Whole.{read_is_parse}

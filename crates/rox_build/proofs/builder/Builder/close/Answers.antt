@@ -1,4 +1,4 @@
-use Rattle.std.proofs.Common.{◌≡◌, refl}
+use Rattle.std.proofs.Common.{refl}
 use Rattle.rox_build.proofs.Showing.{close_shows}
 use Rattle.rox_build.proofs.builder.Builder.close.Goals as goal
 

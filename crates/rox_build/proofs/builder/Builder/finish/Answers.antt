@@ -1,6 +1,5 @@
-use Rattle.std.proofs.Common.{◌≡◌, ◌<◌, ◌^◌, ◌+◌, refl, sym, ap, ◌∙◌, arith, length, set, get_or, vec_len, ℕ}
+use Rattle.std.proofs.Common.{◌≡◌, refl, ap, ◌∙◌, arith, length, set, get_or, ℕ}
 use Rattle.rox_build.specs.Shown.{AreSound}
-use Rattle.rox_build.specs.declared.tables.NodeData.{NodeData}
 use Rattle.rox_build.proofs.Finishing.{finish_holds}
 use Rattle.rox_build.proofs.builder.Builder.finish.Goals as goal
 

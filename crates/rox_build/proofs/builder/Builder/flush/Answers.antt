@@ -1,4 +1,4 @@
-use Rattle.std.proofs.Common.{◌≡◌, ◌++◌, ◌∷◌, [], true, false, refl, sym, ap, ◌∙◌, List, ℕ}
+use Rattle.std.proofs.Common.{◌≡◌, ◌++◌, ◌∷◌, [], true, false, refl, sym, ap, ◌∙◌}
 use Rattle.rox_grammar.specs.Tree.{node_in}
 use Rattle.rox_grammar.specs.Written.{Text}
 use Rattle.rox_reading.specs.State.{scope_of}

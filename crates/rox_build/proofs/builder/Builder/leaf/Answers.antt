@@ -1,4 +1,4 @@
-use Rattle.std.proofs.Common.{◌≡◌, ◌++◌, ◌∷◌, [], ◌+◌, ◌≤◌, ◌<◌, refl, sym, ap, ◌∙◌, List, ℕ, arith, length, vec_len}
+use Rattle.std.proofs.Common.{◌++◌, ◌∷◌, [], refl, ap, ◌∙◌, arith}
 use Rattle.std.proofs.lemmas.Result.{err_from_is_err_and}
 use Rattle.rox_grammar.specs.Forest.{join}
 use Rattle.rox_grammar.specs.Written.{leaf}

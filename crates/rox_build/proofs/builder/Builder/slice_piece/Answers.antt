@@ -1,13 +1,12 @@
-use Rattle.std.proofs.Common.{◌≡◌, ◌++◌, ◌∷◌, [], ◌+◌, ◌≤◌, ◌<◌, true, false, refl, sym, ap, ◌∙◌, List, ℕ, arith, length, vec_len, max}
+use Rattle.std.proofs.Common.{◌≡◌, ◌++◌, true, false, refl, ap, ◌∙◌, List, ℕ, arith}
 use Rattle.std.proofs.lemmas.Result.{err_from_is_err_and}
 use Rattle.std.specs.String.{string_bytes}
-use Rattle.rox_grammar.specs.Forest.{Forest, join}
-use Rattle.rox_grammar.specs.Written.{Item, Text, leaf}
+use Rattle.rox_grammar.specs.Forest.{join}
+use Rattle.rox_grammar.specs.Written.{Text, leaf}
 use Rattle.rox_reading.specs.State.{State}
 use Rattle.rox_build.specs.Waiting.{waiting}
 use Rattle.rox_build.specs.Shown.{pending_text}
 use Rattle.rox_build.specs.declared.pending.Pending.{Pending}
-use Rattle.rox_build.specs.declared.pending.Pending.TheVariants as pending
 use Rattle.rox_build.proofs.Showing.{piece_first, piece_more, first_count, more_count, counted_ok, counted_err}
 use Rattle.rox_build.proofs.builder.Builder.slice_piece.Goals as goal
 

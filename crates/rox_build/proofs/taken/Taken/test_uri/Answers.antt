@@ -1,8 +1,6 @@
-use Rattle.std.proofs.Common.{◌≡◌, true, false, refl, sym, ◌∙◌, Bool, bytes_eq}
+use Rattle.std.proofs.Common.{◌≡◌, true, false, refl, sym, ◌∙◌, bytes_eq}
 use Rattle.rox_grammar.specs.declared.fault.Word.TheVariants.{Xmlns}
 use Rattle.rox_grammar.specs.Words.{word_text}
-use Rattle.rox_grammar.specs.Written.{Attribute}
-use Rattle.rox_reading.specs.Tags as spec
 use Rattle.rox_build.specs.Tags.{taken_view}
 use Rattle.rox_build.proofs.taken.Taken.test_uri.Goals as goal
 

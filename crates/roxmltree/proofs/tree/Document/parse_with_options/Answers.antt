@@ -1,5 +1,4 @@
-use Rattle.std.proofs.Common.{IfOk, IfErr, Ok, Err, length, subst, sym, ◌≢◌}
-use Rattle.std.specs.Prelude.{Result, MatchResult}
+use Rattle.std.proofs.Common.{subst, sym, ◌≢◌}
 use Rattle.rox_grammar.specs.Forest.{Forest}
 use Rattle.rox_grammar.specs.Tree as grammar
 use Rattle.rox_grammar.specs.Document.{IsTreeOf}

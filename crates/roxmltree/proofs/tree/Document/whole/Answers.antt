@@ -1,4 +1,4 @@
-use Rattle.std.proofs.Common.{subst, sym, ℕ, List}
+use Rattle.std.proofs.Common.{subst}
 use Rattle.std.specs.Prelude.{IsUtf8}
 use Rattle.rox_grammar.specs.Document.{IsTreeOf}
 use Rattle.roxmltree.specs.Doc.{Doc}
