@@ -1,11 +1,13 @@
 -- Tables of records.
-use Rattle.std.specs.Prelude.{ℕ, Bool, ◌&&◌, ◌||◌, List, Option, Some, None, filter, string_bytes, codes}
+use Rattle.std.specs.Prelude.{ℕ, Bool, ◌&&◌, ◌||◌, List, ◌++◌, Option, Some, None, filter, string_bytes, codes, decimal}
 use Rattle.std.specs.Option.{is_none}
 use Rattle.roxmltree.specs.Doc.{Doc}
 use Rattle.roxmltree.specs.Names.{same_name}
 use Rattle.roxmltree.specs.Says.{says_element, namespace_of, local_of}
 use Rattle.rox_uses.specs.Nodes.{item_at, value_at}
 use Rattle.rox_uses.specs.declared.records.Record.{Record}
+use Rattle.rox_uses.specs.declared.records.RecordsError.{RecordsError}
+use Rattle.rox_uses.specs.declared.records.RecordsError.TheVariants as error
 
 -- an element `row`, without namespace
 abbrev pub is_row : Doc × ℕ → Bool
@@ -26,3 +28,8 @@ written record' = (Some (string_bytes record'.name), Some (string_bytes record'.
 -- one of the two is missing
 abbrev pub is_incomplete : Doc × ℕ → Bool
 is_incomplete row = is_none (value_at (codes "name") row) || is_none (value_at (codes "value") row)
+
+-- what an error prints
+abbrev pub message : RecordsError → List ℕ
+message (error.Incomplete start) = codes "the row at byte " ++ (decimal start ++ codes " is incomplete")
+message error.OutOfMemory = codes "out of memory"

@@ -29,6 +29,10 @@ pub enum RecordsError {
 }
 
 impl fmt::Display for RecordsError {
+    ghost use Rattle.rox_uses.specs.Records.{message};
+
+    ghost output = { λ e. Some (message e) };
+
     fn fmt<W: fmt::Write>(&self, f: &mut fmt::Formatter<W>) -> fmt::Result {
         match self {
             RecordsError::Incomplete(start) => write!(f, "the row at byte {start} is incomplete"),

@@ -3,6 +3,7 @@
 mod attributes;
 mod axes;
 mod callers;
+mod calls;
 mod generated;
 mod iterators;
 mod limits;

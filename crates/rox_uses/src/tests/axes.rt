@@ -7,7 +7,7 @@ use std::process::Abort;
 const SMALL: &str = "<root><a/>t<b/><!--c--></root>";
 
 /// The next node along each axis: `parent`, `prev_sibling`, `next_sibling`, `first_child`, `last_child`.
-fn nearest(node: Node<'_, '_>) -> [Option<u32>; 5] {
+pub(super) fn nearest(node: Node<'_, '_>) -> [Option<u32>; 5] {
     [
         node.parent().map(number),
         node.prev_sibling().map(number),
@@ -18,7 +18,7 @@ fn nearest(node: Node<'_, '_>) -> [Option<u32>; 5] {
 }
 
 /// The next element along each of these axes.
-fn nearest_elements(node: Node<'_, '_>) -> [Option<u32>; 5] {
+pub(super) fn nearest_elements(node: Node<'_, '_>) -> [Option<u32>; 5] {
     [
         node.parent_element().map(number),
         node.prev_sibling_element().map(number),
@@ -89,7 +89,7 @@ fn siblings_have_one_parent(rt: HostRuntime) {
 }
 
 /// Wants an axis to lead over these nodes, and then to stay at its end.
-fn leads_over(rt: &impl Abort, mut nodes: AxisIter<'_, '_>, wanted: &[u32]) {
+pub(super) fn leads_over(rt: &impl Abort, mut nodes: AxisIter<'_, '_>, wanted: &[u32]) {
     for id in wanted {
         assert_eq!(rt; nodes.next().map(number), Some(*id), "{wanted:?}");
     }

@@ -6,7 +6,7 @@ use std::process::Abort;
 use std::test::Fail;
 
 /// Wants an element to list these prefixes with these URIs.
-fn lists(rt: &impl Abort, element: Node<'_, '_>, wanted: &[(Option<&str>, &str)]) {
+pub(super) fn lists(rt: &impl Abort, element: Node<'_, '_>, wanted: &[(Option<&str>, &str)]) {
     let id = element.id().get();
     assert_eq!(rt; element.namespaces().len(), wanted.len(), "{id}");
     for (namespace, (name, uri)) in element.namespaces().zip(wanted) {
@@ -16,7 +16,7 @@ fn lists(rt: &impl Abort, element: Node<'_, '_>, wanted: &[(Option<&str>, &str)]
 }
 
 /// Wants the attributes of an element to be in these namespaces.
-fn attributes_are_in(rt: &impl Abort, element: Node<'_, '_>, wanted: &[Option<&str>]) {
+pub(super) fn attributes_are_in(rt: &impl Abort, element: Node<'_, '_>, wanted: &[Option<&str>]) {
     assert_eq!(rt; element.attributes().len(), wanted.len());
     for (attribute, uri) in element.attributes().zip(wanted) {
         assert_eq!(rt; attribute.namespace(), *uri);
@@ -65,7 +65,7 @@ fn an_empty_default_stays_listed(rt: HostRuntime) {
 }
 
 /// Wants this prefix to be found for a URI.
-fn finds_prefix(rt: &impl Abort, node: Node<'_, '_>, uri: &str, wanted: Option<&str>) {
+pub(super) fn finds_prefix(rt: &impl Abort, node: Node<'_, '_>, uri: &str, wanted: Option<&str>) {
     assert_eq!(rt; node.lookup_prefix(uri), wanted, "{uri:?}");
 }
 
@@ -89,7 +89,12 @@ fn prefixes_of_uris(rt: HostRuntime) {
 }
 
 /// Wants this URI to be found for a prefix, or for the default.
-fn finds_uri(rt: &impl Abort, node: Node<'_, '_>, prefix: Option<&str>, wanted: Option<&str>) {
+pub(super) fn finds_uri(
+    rt: &impl Abort,
+    node: Node<'_, '_>,
+    prefix: Option<&str>,
+    wanted: Option<&str>,
+) {
     assert_eq!(rt; node.lookup_namespace_uri(prefix), wanted, "{prefix:?}");
 }
 

@@ -88,7 +88,7 @@ fn text_in<'a>(storage: Option<&'a StringStorage<'_>>) -> Option<&'a str> {
 }
 
 /// Wants a node to have this text and this tail.
-fn has(rt: &impl Abort, node: Node<'_, '_>, text: Option<&str>, tail: Option<&str>) {
+pub(super) fn has(rt: &impl Abort, node: Node<'_, '_>, text: Option<&str>, tail: Option<&str>) {
     let id = node.id().get();
     assert_eq!(rt; node.text(), text, "{id}");
     assert_eq!(rt; text_in(node.text_storage()), text, "{id}");
