@@ -5,7 +5,7 @@ use Rattle.std.proofs.lemmas.List.{append-nil, length-map}
 use Rattle.rox_grammar.specs.declared.fault.Fault.{Fault}
 use Rattle.rox_grammar.specs.declared.fault.Word.TheVariants.{Xmlns}
 use Rattle.rox_grammar.specs.Words.{word_text}
-use Rattle.rox_grammar.specs.Written.{Name, Declaration}
+use Rattle.rox_grammar.specs.Written.{Attribute, Name, Declaration}
 use Rattle.rox_grammar.specs.Tree.{listed, attribute_in, element_namespace}
 use Rattle.rox_grammar.specs.Document.{most_pairs}
 use Rattle.rox_reading.specs.Lexical.{◌>>=◌, qname_at}
@@ -20,7 +20,7 @@ use Rattle.rox_build.specs.declared.tag.StartTag.{StartTag}
 use Rattle.rox_build.specs.Lines.{declaration, entry}
 use Rattle.rox_build.specs.Scopes.{ArePlaces}
 use Rattle.rox_build.specs.Tags.{taken_view, Holding}
-use Rattle.rox_build.specs.Tagged.{IsElement, Tagged, scope_in_tables}
+use Rattle.rox_build.specs.Tagged.{IsElement, Tagged, scope_in_tables, tested_at}
 use Rattle.rox_build.proofs.Listing.{with_new-front}
 use Rattle.rox_build.proofs.Stable.{all_slice, slice-append, map_same, entry-append}
 
@@ -46,6 +46,17 @@ pub tag_unread : (cut : Fault) (above : List Declaration) (count : ℕ) (known :
     → bytes_eq name.prefix (word_text Xmlns) ≡ false → Fails e (attributes_at (length src) cut known src n (record { own = []; attributes = [] })) → Fails e (tag_at cut above count known src i)
 tag_unread cut above count known src i name n failure.Memory is other h = tt
 tag_unread cut above count known src i name n (failure.Fault f) is other h = tag_rest cut above count known src i name n is other ∙ rw h refl
+
+-- its names are tested where its own stands, right behind the `<`
+tested_is : (scope : List Declaration) (count i : ℕ) (name : Name) (as' : List Attribute) → tag_tested scope count i name as' ≡ tested_at scope count (i + 1) name as'
+unfolding tag_tested
+tested_is scope count i name as' = refl
+
+pub tested_fails : (e : Failure) (scope : List Declaration) (count i : ℕ) (name : Name) (as' : List Attribute) → Fails e (tested_at scope count (i + 1) name as') → Fails e (tag_tested scope count i name as')
+tested_fails e scope count i name as' h = rw (tested_is scope count i name as') h
+
+pub tested_passes : (scope : List Declaration) (count i : ℕ) (name : Name) (as' : List Attribute) → tested_at scope count (i + 1) name as' ≡ Ok tt → tag_tested scope count i name as' ≡ Ok tt
+tested_passes scope count i name as' h = tested_is scope count i name as' ∙ h
 
 -- its names are refused
 pub tag_untested : (cut : Fault) (above : List Declaration) (count : ℕ) (known : List Declaration) (src : List ℕ) (i : ℕ) (name : Name) (n j : ℕ) (h : Held) (empty : Bool) (e : Failure) → qname_at src (i + 1) ≡ Ok (name, n)

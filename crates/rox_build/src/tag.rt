@@ -3,9 +3,9 @@
 ghost use Rattle.std.specs.Prelude.{◌≡◌, ◌<◌, ◌≤◌, ◌+◌, ◌-◌, ◌^◌, ◌∷◌, [], Bool, false, true, List, ℕ, length, map, Ok, Err, OnOk, IfOk, slice_index, slice_range, IfErr, ◌++◌};
 ghost use Rattle.rox_grammar.specs.Written.{Declaration};
 ghost use Rattle.rox_grammar.specs.Document.{most_pairs, most_attributes};
-ghost use Rattle.rox_reading.specs.Tags.{Held, attributes_at, tag_tested, tag_at};
+ghost use Rattle.rox_reading.specs.Tags.{Held, attributes_at, tag_at};
 ghost use Rattle.rox_scan.specs.Gives.{Fails, name_view};
-ghost use Rattle.rox_build.specs.Tagged.{IsElement, GivesTag, scope_in_tables};
+ghost use Rattle.rox_build.specs.Tagged.{IsElement, GivesTag, scope_in_tables, tested_at};
 ghost use Rattle.rox_scan.specs.Parts.{HasValue, attribute_view};
 ghost use Rattle.rox_build.specs.Values.{piece_view};
 ghost use Rattle.rox_build.specs.Storage.{storage_bytes, is_borrowed};
@@ -226,7 +226,6 @@ const MOST_ATTRIBUTES: usize = 4294967294;
 /// What an element has that lists this scope, with its names tested: its attributes go into the table. The name stands at
 /// `at`.
 #[inline(always)]
-#[tactic(auto, unfolding(rox_reading::specs::Tags::tag_tested))]
 fn element_data<'input>(
     elements: &mut ElementTables<'input>,
     taken: &mut Vec<Taken<'input>>,
@@ -240,9 +239,9 @@ fn element_data<'input>(
     requires small { at < 2 ^ 63 }
     ensures names { elements.new.namespaces ≡ elements.old.namespaces }
     ensures listed { elements.new.listed ≡ elements.old.listed }
-    ensures tested { (i : ℕ) → at ≡ i + 1 → OnOk result (tag_tested (scope_in_tables elements.old scope) (length elements.old.attributes.items) i (name_view name.entry) (map taken_view taken.old.items) ≡ Ok tt) }
+    ensures tested { OnOk result (tested_at (scope_in_tables elements.old scope) (length elements.old.attributes.items) at (name_view name.entry) (map taken_view taken.old.items) ≡ Ok tt) }
     ensures element { IfOk result (λ e. IsElement elements.old elements.new e (scope_in_tables elements.old scope) (name_view name.entry) (map taken_view taken.old.items)) }
-    ensures err { (i : ℕ) → at ≡ i + 1 → IfErr result (λ e. Fails e (tag_tested (scope_in_tables elements.old scope) (length elements.old.attributes.items) i (name_view name.entry) (map taken_view taken.old.items))) }
+    ensures err { IfErr result (λ e. Fails e (tested_at (scope_in_tables elements.old scope) (length elements.old.attributes.items) at (name_view name.entry) (map taken_view taken.old.items))) }
 {
     let from = elements.attributes.len();
     if taken.len() > MOST_ATTRIBUTES - from {

@@ -10,7 +10,7 @@ use Rattle.rox_reading.specs.Tags.{Held, attributes_at, tag_tested}
 use Rattle.rox_scan.specs.Gives.{Fails, name_view}
 use Rattle.rox_build.specs.Lines.{declaration}
 use Rattle.rox_build.specs.Tagged.{scope_in_tables}
-use Rattle.rox_build.proofs.Starting.{holds_nothing, tag_unread, tag_untested, tag_made, tagged, scope_stays}
+use Rattle.rox_build.proofs.Starting.{holds_nothing, tag_unread, tag_untested, tag_made, tagged, scope_stays, tested_fails, tested_passes}
 use Rattle.rox_build.proofs.tag.start_tag.Goals as goal
 
 pub returns-in_err-xml-clause-value : goal.returns-in_err-xml-clause-value
@@ -64,7 +64,7 @@ returns-in_err-element-clause-value c =
     ap (λ v. length v.items) (c.in_ok-scope.ensures.attributes ∙ c.in_ok-xml.ensures.attributes) in
     let p = err_from_is_err_and c.from_residual-in_err-element.result c.from_residual-in_err-element.ensures.1 in
     let fails : Fails c.in_err-element.field-0.0 (tag_tested (listed above h.own) (length old.attributes.items) i name h.attributes) =
-    rw (scopes, count, written) at (c.in_err-element.ensures.err i c.advance.ensures.place) in
+    tested_fails c.in_err-element.field-0.0 (listed above h.own) (length old.attributes.items) i name h.attributes (rw (scopes, count, written, c.advance.ensures.place) at c.in_err-element.ensures.err) in
     rw (p.1, p.2) (tag_untested c.args.cut above (length old.attributes.items) known src i name n c.attributes.new.cursor.pos h c.in_ok-xml.empty c.in_err-element.field-0.0 is other read fails)
 
 pub returns-clause-value : goal.returns-clause-value
@@ -95,7 +95,7 @@ returns-clause-value c =
     let count : length c.scope_of_tag.new.elements.attributes.items ≡ length old.attributes.items =
     ap (λ v. length v.items) (c.in_ok-scope.ensures.attributes ∙ c.in_ok-xml.ensures.attributes) in
     let fine : tag_tested (listed above h.own) (length old.attributes.items) i name h.attributes ≡ Ok tt =
-    rw (scopes, count, written) at (c.in_ok-element.ensures.tested i c.advance.ensures.place) in (
+    tested_passes (listed above h.own) (length old.attributes.items) i name h.attributes (rw (scopes, count, written, c.advance.ensures.place) at c.in_ok-element.ensures.tested) in (
       record { name = name; name_end = n; declarations = h.own; attributes = h.attributes },
       tag_made c.args.cut above (length old.attributes.items) known src i name n c.attributes.new.cursor.pos h c.in_ok-xml.empty is other read fine,
       tagged old c.attributes.new.elements c.scope_of_tag.new.elements c.element_data.new.elements _ above name n h c.in_ok-xml.xml _ c.in_ok-scope.scope refl refl
