@@ -61,7 +61,7 @@ pub enum NodeKind<'input> {
     PI(PI<'input>),
 }
 
-/// A node: 96 bytes. `parent`, `next` and `depth` are its only links: the id of its parent (0 at the root node too), the id
+/// A node: 88 bytes. `parent`, `next` and `depth` are its only links: the id of its parent (0 at the root node too), the id
 /// past its last descendant, and how many nodes are above it.
 #[derive(Debug, Drop)]
 pub struct NodeData<'input> {
