@@ -5,9 +5,8 @@ use Rattle.std.proofs.lemmas.List.{length-map}
 use Rattle.rox_grammar.specs.Forest.{Forest}
 use Rattle.rox_grammar.specs.Written.{Item, Declaration}
 use Rattle.rox_reading.specs.State.{Open}
-use Rattle.rox_build.specs.Lines.{line, entry, NamespaceWithin, KindWithin, declaration}
+use Rattle.rox_build.specs.Lines.{line, entry, NamespaceWithin, KindWithin, declaration, AttributeRow, rows_of}
 use Rattle.rox_build.specs.Shown.{opened, opened_in, names_in, line_in, IsWithin, IsOpenWithin, AreSound, Shows, Grown}
-use Rattle.rox_build.specs.declared.tables.AttributeData.{AttributeData}
 use Rattle.rox_build.specs.declared.tables.NodeData.{NodeData}
 use Rattle.rox_build.specs.declared.tables.ElementTables.{ElementTables}
 use Rattle.rox_build.specs.declared.builder.OpenElement.{OpenElement}
@@ -27,9 +26,9 @@ names_count : (t : ElementTables) → length (names_in t) ≡ length t.namespace
 names_count t = length-map t.namespaces.items.items declaration
 
 pub grown_counts : (old new : ElementTables) → Grown old new
-    → (length old.attributes.items ≤ length new.attributes.items) × (length old.namespaces.items.items ≤ length new.namespaces.items.items) × (length old.listed.items ≤ length new.listed.items)
+    → (length (rows_of old.attributes) ≤ length (rows_of new.attributes)) × (length old.namespaces.items.items ≤ length new.namespaces.items.items) × (length old.listed.items ≤ length new.listed.items)
 grown_counts old new g =
-    let a = ap length g.attributes ∙ length-append old.attributes.items g.more_attributes in
+    let a = ap length g.attributes ∙ length-append (rows_of old.attributes) g.more_attributes in
     let n = ap length g.names ∙ length-append (names_in old) g.more_names in
     let l = ap length g.listed_are ∙ length-append old.listed.items g.more_listed in
     let x = names_count old in let y = names_count new in
@@ -48,16 +47,16 @@ pub grown_shows : (end : ℕ) (o : Open) (done : Forest Item) (b u : Builder) �
 grown_shows end o done b u h sound elements g nodes opens waits joined =
     let t = b.tables in
     let n = names_count t in
-    let all_attributes : AllByRecursion (λ (a : AttributeData). NamespaceWithin (length (names_in t)) a.namespace) t.attributes.items =
-    subst (λ (n : ℕ). AllByRecursion (λ (a : AttributeData). NamespaceWithin n a.namespace) t.attributes.items) (sym n) sound.attributes in
+    let all_attributes : AllByRecursion (λ (a : AttributeRow). NamespaceWithin (length (names_in t)) a.0.namespace) (rows_of t.attributes) =
+    subst (λ (n : ℕ). AllByRecursion (λ (a : AttributeRow). NamespaceWithin n a.0.namespace) (rows_of t.attributes)) (sym n) sound.attributes in
     let all_listed : AllByRecursion (λ i. i < length (names_in t)) t.listed.items = subst (λ (n : ℕ). AllByRecursion (λ i. i < n) t.listed.items) (sym n) sound.listed in
-    let all_rows : AllByRecursion (λ (r : NodeData). KindWithin (length t.attributes.items) (length (names_in t)) (length t.listed.items) r.kind) b.nodes.items =
-    subst (λ (n : ℕ). AllByRecursion (λ (r : NodeData). KindWithin (length t.attributes.items) n (length t.listed.items) r.kind) b.nodes.items) (sym n) h.within in
+    let all_rows : AllByRecursion (λ (r : NodeData). KindWithin (length (rows_of t.attributes)) (length (names_in t)) (length t.listed.items) r.kind) b.nodes.items =
+    subst (λ (n : ℕ). AllByRecursion (λ (r : NodeData). KindWithin (length (rows_of t.attributes)) n (length t.listed.items) r.kind) b.nodes.items) (sym n) h.within in
     let rows : map (line_in u.tables) b.nodes.items ≡ map (line_in t) b.nodes.items =
-    ap (λ (xs : List AttributeData). map (line xs (names_in u.tables) u.tables.listed.items) b.nodes.items) g.attributes
-    ∙ ap (λ (ns : List Declaration). map (line (t.attributes.items ++ g.more_attributes) ns u.tables.listed.items) b.nodes.items) g.names
-    ∙ ap (λ (ls : List ℕ). map (line (t.attributes.items ++ g.more_attributes) (names_in t ++ g.more_names) ls) b.nodes.items) g.listed_are
-    ∙ lines-append t.attributes.items g.more_attributes (names_in t) g.more_names t.listed.items g.more_listed b.nodes.items all_attributes all_listed all_rows in
+    ap (λ (xs : List AttributeRow). map (line xs (names_in u.tables) u.tables.listed.items) b.nodes.items) g.attributes
+    ∙ ap (λ (ns : List Declaration). map (line ((rows_of t.attributes) ++ g.more_attributes) ns u.tables.listed.items) b.nodes.items) g.names
+    ∙ ap (λ (ls : List ℕ). map (line ((rows_of t.attributes) ++ g.more_attributes) (names_in t ++ g.more_names) ls) b.nodes.items) g.listed_are
+    ∙ lines-append (rows_of t.attributes) g.more_attributes (names_in t) g.more_names t.listed.items g.more_listed b.nodes.items all_attributes all_listed all_rows in
     let os : opened_in u.tables b.opened.items ≡ opened_in t b.opened.items =
     ap (λ (ns : List Declaration). map (opened ns u.tables.listed.items) b.opened.items) g.names
     ∙ ap (λ (ls : List ℕ). map (opened (names_in t ++ g.more_names) ls) b.opened.items) g.listed_are
@@ -65,7 +64,7 @@ grown_shows end o done b u h sound elements g nodes opens waits joined =
     (λ o x. opened-append (names_in t) g.more_names t.listed.items g.more_listed o all_listed x) elements) in
     let k = grown_counts t u.tables g in
     let w = all_weaker (λ (r : NodeData). IsWithin t r.kind) (λ (r : NodeData). IsWithin u.tables r.kind) b.nodes.items
-    (λ r x. kind_more (length t.attributes.items) (length t.namespaces.items.items) (length t.listed.items) (length u.tables.attributes.items) (length u.tables.namespaces.items.items) (length u.tables.listed.items) r.kind k.0 k.1 k.2 x) h.within in
+    (λ r x. kind_more (length (rows_of t.attributes)) (length t.namespaces.items.items) (length t.listed.items) (length (rows_of u.tables.attributes)) (length u.tables.namespaces.items.items) (length u.tables.listed.items) r.kind k.0 k.1 k.2 x) h.within in
     record {
       front = h.front;
       merged = rw (waits, joined) h.merged;

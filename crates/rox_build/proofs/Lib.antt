@@ -6,6 +6,7 @@ pub mod Indexing
 pub mod Inherits
 pub mod Listing
 pub mod NameTests
+pub mod Columns
 pub mod Resolving
 pub mod PartLemmas
 pub mod PlainLemmas

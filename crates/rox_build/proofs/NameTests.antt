@@ -11,8 +11,7 @@ use Rattle.rox_grammar.specs.Tree.{same_prefix, is_declared, uri_of, none_if_emp
 use Rattle.rox_grammar.specs.WellNamed.{is_known, same_expanded, may_name}
 use Rattle.rox_reading.specs.Tags.{names_tested}
 use Rattle.rox_build.specs.declared.tables.AttributeNamespace.{AttributeNamespace}
-use Rattle.rox_build.specs.declared.tables.AttributeData.{AttributeData}
-use Rattle.rox_build.specs.Lines.{attribute, entry, namespace_of}
+use Rattle.rox_build.specs.Lines.{attribute, entry, namespace_of, AttributeRow}
 use Rattle.rox_build.specs.Resolved.{has_expanded}
 use Rattle.rox_build.proofs.Pairs.{declared_some, declared_none}
 
@@ -57,17 +56,17 @@ pub element_none : (scope : List Declaration) (n : Name) → bytes_eq n.prefix [
 element_none scope n e h = let d = declared_none scope (Some n.prefix) h in rw (e, d) refl
 
 -- rows of attributes have an expanded name exactly where the names have that they were made of
-pub repeated_is : (names scope : List Declaration) (s : AttributeNamespace) (n : Name) (done : List AttributeData) (before : List Attribute)
+pub repeated_is : (names scope : List Declaration) (s : AttributeNamespace) (n : Name) (done : List AttributeRow) (before : List Attribute)
     → namespace_of names s ≡ attribute_namespace scope n → map (attribute names) done ≡ map (attribute_in scope) before
-    → list_any (has_expanded names s n.local) done ≡ list_any (λ e. same_expanded scope e.name n) before
+    → list_any (has_expanded names s n.local) (map (λ r. r.0) done) ≡ list_any (λ e. same_expanded scope e.name n) before
 repeated_is names scope s n [] [] is h = refl
 repeated_is names scope s n [] (b ∷ bs) is h = cc h
 repeated_is names scope s n (d ∷ ds) [] is h = cc h
 repeated_is names scope s n (d ∷ ds) (b ∷ bs) is h =
     let first : attribute names d ≡ attribute_in scope b = cc h in
     let rest : map (attribute names) ds ≡ map (attribute_in scope) bs = cc h in
-    let space : namespace_of names d.namespace ≡ attribute_namespace scope b.name = ap (λ (r : tree.Attribute). r.namespace) first in
-    let local : d.local.now ≡ b.name.local = ap (λ (r : tree.Attribute). r.local) first in
+    let space : namespace_of names d.0.namespace ≡ attribute_namespace scope b.name = ap (λ (r : tree.Attribute). r.namespace) first in
+    let local : d.0.local.now ≡ b.name.local = ap (λ (r : tree.Attribute). r.local) first in
     rw (space, local, is, repeated_is names scope s n ds bs is rest) refl
 
 -- ---- what a test of one name says of all

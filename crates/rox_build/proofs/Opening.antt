@@ -15,13 +15,12 @@ use Rattle.rox_scan.specs.Gives.{Fails}
 use Rattle.rox_scan.specs.declared.cursor.Cursor.{Cursor}
 use Rattle.rox_scan.specs.declared.failure.Failure.{Failure}
 use Rattle.rox_scan.specs.declared.failure.Failure.TheVariants as failure
-use Rattle.rox_build.specs.Lines.{node, declaration, attribute, NamespaceWithin}
+use Rattle.rox_build.specs.Lines.{node, declaration, attribute, NamespaceWithin, AttributeRow, rows_of}
 use Rattle.rox_build.specs.Scopes.{entries}
 use Rattle.rox_build.specs.Tagged.{Tagged}
 use Rattle.rox_build.specs.Shown.{names_in, IsWithin, AreSound, IsOpenWithin, Fine, Grown, IsNode, IsOpening, Adds, Stepped, scope_in_table}
 use Rattle.std.specs.Result.{OnOk}
 use Rattle.rox_build.specs.declared.tables.Scope.{Scope}
-use Rattle.rox_build.specs.declared.tables.AttributeData.{AttributeData}
 use Rattle.rox_build.specs.declared.tables.NodeKind.TheVariants as kind
 use Rattle.rox_build.specs.declared.tables.ElementTables.{ElementTables}
 use Rattle.rox_build.specs.declared.builder.OpenElement.{OpenElement}
@@ -49,11 +48,11 @@ pub sound_by : (old new : ElementTables) (t : StartTag) (above : List Declaratio
 sound_by old new t above tag h s =
     let k = grown_counts old new (grown_by old new t above tag h) in
     let n : length (names_in new) ≡ length new.namespaces.items.items = length-map new.namespaces.items.items declaration in
-    let a = all_weaker (λ (a : AttributeData). NamespaceWithin (length old.namespaces.items.items) a.namespace) (λ (a : AttributeData). NamespaceWithin (length new.namespaces.items.items) a.namespace) old.attributes.items
-    (λ a x. namespace_more (length old.namespaces.items.items) (length new.namespaces.items.items) a.namespace k.1 x) s.attributes in
-    let m = subst (λ (n : ℕ). AllByRecursion (λ (a : AttributeData). NamespaceWithin n a.namespace) h.element.attributes.more) n h.element.attributes.within in
+    let a = all_weaker (λ (a : AttributeRow). NamespaceWithin (length old.namespaces.items.items) a.0.namespace) (λ (a : AttributeRow). NamespaceWithin (length new.namespaces.items.items) a.0.namespace) (rows_of old.attributes)
+    (λ a x. namespace_more (length old.namespaces.items.items) (length new.namespaces.items.items) a.0.namespace k.1 x) s.attributes in
+    let m = subst (λ (n : ℕ). AllByRecursion (λ (a : AttributeRow). NamespaceWithin n a.0.namespace) h.element.attributes.more) n h.element.attributes.within in
     record {
-      attributes = rw h.element.attributes.grown (all_append (λ (a : AttributeData). NamespaceWithin (length new.namespaces.items.items) a.namespace) old.attributes.items h.element.attributes.more a m);
+      attributes = rw h.element.attributes.grown (all_append (λ (a : AttributeRow). NamespaceWithin (length new.namespaces.items.items) a.0.namespace) (rows_of old.attributes) h.element.attributes.more a m);
       listed = h.places;
     }
 
@@ -61,25 +60,25 @@ drop_front : {A : Type 0} (xs ys : List A) → drop (length xs) (xs ++ ys) ≡ y
 drop_front [] ys = refl
 drop_front (x ∷ xs) ys = drop_front xs ys
 
-own_slice : (old new more : List AttributeData) (i j : ℕ) → new ≡ old ++ more → i ≡ length old → j ≡ length new → slice_range new i j ≡ more
+own_slice : (old new more : List AttributeRow) (i j : ℕ) → new ≡ old ++ more → i ≡ length old → j ≡ length new → slice_range new i j ≡ more
 own_slice old new more i j grown from until = rw (from, until) (slice-rest new (length old) ∙ ap (drop (length old)) grown ∙ drop_front old more)
 
 pub node_by : (old new : ElementTables) (t : StartTag) (above : List Declaration) (tag : Tag) (s e : ℕ) → Tagged old new t above tag
-    → node new.attributes.items (names_in new) new.listed.items s e (kind.Element t.element) ≡ node_in (listed above tag.declarations) (Element s e tag)
+    → node (rows_of new.attributes) (names_in new) new.listed.items s e (kind.Element t.element) ≡ node_in (listed above tag.declarations) (Element s e tag)
 node_by old new t above tag s e h =
     let scope = listed above tag.declarations in
     let x = h.element in
-    let a : map (attribute (names_in new)) (slice_range new.attributes.items t.element.attributes_from t.element.attributes_until) ≡ map (attribute_in scope) tag.attributes =
-    ap (map (attribute (names_in new))) (own_slice old.attributes.items new.attributes.items x.attributes.more t.element.attributes_from t.element.attributes_until x.attributes.grown x.attributes_from x.attributes_until) ∙ x.attributes.same in
-    ap (λ (u : Option (List ℕ)). tree.Element s e u t.element.local.now (entries (names_in new) (slice_range new.listed.items t.element.namespaces_from t.element.namespaces_until)) (map (attribute (names_in new)) (slice_range new.attributes.items t.element.attributes_from t.element.attributes_until))) x.namespace
-    ∙ ap (λ (l : List ℕ). tree.Element s e (element_namespace scope tag.name) l (entries (names_in new) (slice_range new.listed.items t.element.namespaces_from t.element.namespaces_until)) (map (attribute (names_in new)) (slice_range new.attributes.items t.element.attributes_from t.element.attributes_until))) x.local
-    ∙ ap (λ (l : List Declaration). tree.Element s e (element_namespace scope tag.name) tag.name.local l (map (attribute (names_in new)) (slice_range new.attributes.items t.element.attributes_from t.element.attributes_until))) x.lists
+    let a : map (attribute (names_in new)) (slice_range (rows_of new.attributes) t.element.attributes_from t.element.attributes_until) ≡ map (attribute_in scope) tag.attributes =
+    ap (map (attribute (names_in new))) (own_slice (rows_of old.attributes) (rows_of new.attributes) x.attributes.more t.element.attributes_from t.element.attributes_until x.attributes.grown x.attributes_from x.attributes_until) ∙ x.attributes.same in
+    ap (λ (u : Option (List ℕ)). tree.Element s e u t.element.local.now (entries (names_in new) (slice_range new.listed.items t.element.namespaces_from t.element.namespaces_until)) (map (attribute (names_in new)) (slice_range (rows_of new.attributes) t.element.attributes_from t.element.attributes_until))) x.namespace
+    ∙ ap (λ (l : List ℕ). tree.Element s e (element_namespace scope tag.name) l (entries (names_in new) (slice_range new.listed.items t.element.namespaces_from t.element.namespaces_until)) (map (attribute (names_in new)) (slice_range (rows_of new.attributes) t.element.attributes_from t.element.attributes_until))) x.local
+    ∙ ap (λ (l : List Declaration). tree.Element s e (element_namespace scope tag.name) tag.name.local l (map (attribute (names_in new)) (slice_range (rows_of new.attributes) t.element.attributes_from t.element.attributes_until))) x.lists
     ∙ ap (λ (l : List tree.Attribute). tree.Element s e (element_namespace scope tag.name) tag.name.local scope l) a
 
 pub within_by : (old new : ElementTables) (t : StartTag) (above : List Declaration) (tag : Tag) → Tagged old new t above tag → IsWithin new (kind.Element t.element)
 within_by old new t above tag h =
     let x = h.element in
-    let n = ap length x.attributes.grown ∙ length-append old.attributes.items x.attributes.more in
+    let n = ap length x.attributes.grown ∙ length-append (rows_of old.attributes) x.attributes.more in
     let a = x.attributes_from in let b = x.attributes_until in
     (omega arith, omega arith, x.listed_within.0, x.listed_within.1, x.namespace_within)
 
@@ -108,10 +107,10 @@ fine_opened t os qs x f is within =
 pub names_by : (old new : ElementTables) (t : StartTag) (above : List Declaration) (tag : Tag) (ps : List Declaration) → Tagged old new t above tag → names_in old ≡ distinct_pairs ps → names_in new ≡ distinct_pairs (ps ++ listable tag)
 names_by old new t above tag ps h e = h.names ∙ ap (λ ds. with_new ds (listable tag)) e ∙ sym (with_new-append [] ps (listable tag))
 
-pub attributes_by : (old new : ElementTables) (t : StartTag) (above : List Declaration) (tag : Tag) → Tagged old new t above tag → length new.attributes.items ≡ length old.attributes.items + length tag.attributes
+pub attributes_by : (old new : ElementTables) (t : StartTag) (above : List Declaration) (tag : Tag) → Tagged old new t above tag → length (rows_of new.attributes) ≡ length (rows_of old.attributes) + length tag.attributes
 attributes_by old new t above tag h =
     let x = h.element.attributes in
-    let n = ap length x.grown ∙ length-append old.attributes.items x.more in
+    let n = ap length x.grown ∙ length-append (rows_of old.attributes) x.more in
     let m : length x.more ≡ length tag.attributes = sym (length-map x.more (attribute (names_in new))) ∙ ap length x.same ∙ length-map tag.attributes (attribute_in (listed above tag.declarations)) in
     omega arith
 
@@ -135,7 +134,7 @@ tag_is limit src s i cut above count known tag empty j here c a n k h =
 
 -- an element without content
 pub empty_stepped : (limit end : ℕ) (s : State) (d : Cursor) (old new : ElementTables) (m : ℕ) (u : Builder) (r : Result (Unit {0}) Failure) (t : StartTag) (above : List Declaration) (tag : Tag)
-    → Tagged old new t above tag → names_in old ≡ distinct_pairs (pairs_so_far s.stack s.done) → length old.attributes.items ≡ attributes_so_far s.stack s.done → m ≡ limit
+    → Tagged old new t above tag → names_in old ≡ distinct_pairs (pairs_so_far s.stack s.done) → length (rows_of old.attributes) ≡ attributes_so_far s.stack s.done → m ≡ limit
     → u.tables ≡ new → u.nodes_limit ≡ m → Adds end r u (with_item m s d.pos (Element s.at d.pos tag)) → Stepped limit end r d u (opened_by limit s tag true d.pos)
 empty_stepped limit end s d old new m u r t above tag h names attributes limit_is tables same adds =
     let i : Item = Element s.at d.pos tag in
@@ -144,8 +143,8 @@ empty_stepped limit end s d old new m u r t above tag h names attributes limit_i
     let p : pairs_so_far s.stack (join s.done (leaf i)) ≡ pairs_so_far s.stack s.done ++ listable tag = pairs_more s.stack s.done i Nil ∙ ap (λ xs. pairs_so_far s.stack s.done ++ xs) (nil_right (listable tag)) in
     let n = attributes_more s.stack s.done i Nil in
     let m = attributes_by old new t above tag h in
-    let q : attributes_so_far s.stack (join s.done (leaf i)) ≡ length new.attributes.items = omega arith in
-    adds_stepped limit end next d u r a refl (same ∙ limit_is) (ap names_in tables ∙ names_by old new t above tag (pairs_so_far s.stack s.done) h names ∙ sym (ap distinct_pairs p)) (ap (λ (t : ElementTables). length t.attributes.items) tables ∙ sym q)
+    let q : attributes_so_far s.stack (join s.done (leaf i)) ≡ length (rows_of new.attributes) = omega arith in
+    adds_stepped limit end next d u r a refl (same ∙ limit_is) (ap names_in tables ∙ names_by old new t above tag (pairs_so_far s.stack s.done) h names ∙ sym (ap distinct_pairs p)) (ap (λ (t : ElementTables). length (rows_of t.attributes)) tables ∙ sym q)
   where
     nil_right : {A : Type 0} (xs : List A) → xs ++ [] ≡ xs
     nil_right [] = refl
@@ -153,15 +152,15 @@ empty_stepped limit end s d old new m u r t above tag h names attributes limit_i
 
 -- one that opens
 pub open_stepped : (limit end : ℕ) (s : State) (d : Cursor) (old new : ElementTables) (m : ℕ) (u : Builder) (r : Result (Unit {0}) Failure) (t : StartTag) (above : List Declaration) (tag : Tag)
-    → Tagged old new t above tag → names_in old ≡ distinct_pairs (pairs_so_far s.stack s.done) → length old.attributes.items ≡ attributes_so_far s.stack s.done → m ≡ limit
+    → Tagged old new t above tag → names_in old ≡ distinct_pairs (pairs_so_far s.stack s.done) → length (rows_of old.attributes) ≡ attributes_so_far s.stack s.done → m ≡ limit
     → u.tables ≡ new → u.nodes_limit ≡ m → Adds end r u (opened_by m s tag false d.pos) → Stepped limit end r d u (opened_by limit s tag false d.pos)
 open_stepped limit end s d old new m u r t above tag h names attributes limit_is tables same adds =
     let next : State = record { at = d.pos; done = Nil; stack = inside s.at tag s.done s.stack } in
     let a : Adds end r u (counted limit next) = subst (λ (n : ℕ). Adds end r u (counted n next)) limit_is adds in
     let p : pairs_so_far s.stack s.done ++ (listable tag ++ []) ≡ pairs_so_far s.stack s.done ++ listable tag = ap (λ xs. pairs_so_far s.stack s.done ++ xs) (nil_right (listable tag)) in
     let m = attributes_by old new t above tag h in
-    let q : attributes_so_far s.stack s.done + (length tag.attributes + 0) ≡ length new.attributes.items = omega arith in
-    adds_stepped limit end next d u r a refl (same ∙ limit_is) (ap names_in tables ∙ names_by old new t above tag (pairs_so_far s.stack s.done) h names ∙ sym (ap distinct_pairs p)) (ap (λ (t : ElementTables). length t.attributes.items) tables ∙ sym q)
+    let q : attributes_so_far s.stack s.done + (length tag.attributes + 0) ≡ length (rows_of new.attributes) = omega arith in
+    adds_stepped limit end next d u r a refl (same ∙ limit_is) (ap names_in tables ∙ names_by old new t above tag (pairs_so_far s.stack s.done) h names ∙ sym (ap distinct_pairs p)) (ap (λ (t : ElementTables). length (rows_of t.attributes)) tables ∙ sym q)
   where
     nil_right : {A : Type 0} (xs : List A) → xs ++ [] ≡ xs
     nil_right [] = refl

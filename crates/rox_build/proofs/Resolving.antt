@@ -10,22 +10,20 @@ use Rattle.rox_grammar.specs.Tree as tree
 use Rattle.rox_grammar.specs.Tree.{attribute_namespace, attribute_in}
 use Rattle.rox_reading.specs.Tags.{names_tested}
 use Rattle.rox_build.specs.declared.tables.AttributeNamespace.{AttributeNamespace}
-use Rattle.rox_build.specs.declared.tables.AttributeData.{AttributeData}
 use Rattle.rox_build.specs.declared.taken.Taken.{Taken}
 use Rattle.rox_scan.specs.Gives.{name_view}
 use Rattle.rox_build.specs.Storage.{storage_bytes, is_borrowed}
-use Rattle.rox_build.specs.Lines.{attribute, namespace_of, NamespaceWithin}
+use Rattle.rox_build.specs.Lines.{attribute, namespace_of, NamespaceWithin, AttributeRow}
 use Rattle.rox_build.specs.Tags.{taken_view}
 use Rattle.rox_build.specs.Resolved.{row_of}
 use Rattle.rox_build.proofs.Stable.{all_append}
-use Rattle.rox_build.proofs.Inherits.{slice-rest}
 
 -- The first k of these attributes have rows at the end of the table, and those from k on are still to be tested and moved.
-pub record Resolving (n : ℕ) (names scope : List Declaration) (initial : List Taken) (old : List AttributeData) (k : ℕ) (now : List Taken) (table : List AttributeData) : Type 0 where
-  pub done : List AttributeData
+pub record Resolving (n : ℕ) (names scope : List Declaration) (initial : List Taken) (old : List AttributeRow) (k : ℕ) (now : List Taken) (table : List AttributeRow) : Type 0 where
+  pub done : List AttributeRow
   pub table_is : table ≡ old ++ done
   pub shown : map (attribute names) done ≡ map (attribute_in scope) (map taken_view (take k initial))
-  pub within : AllByRecursion (λ a. NamespaceWithin n a.namespace) done
+  pub within : AllByRecursion (λ a. NamespaceWithin n a.0.namespace) done
   pub tested : names_tested scope [] (map taken_view initial) ≡ names_tested scope (map taken_view (take k initial)) (map taken_view (drop k initial))
   pub left : drop k now ≡ drop k initial
   pub long : length now ≡ length initial
@@ -36,12 +34,12 @@ unfolding names_tested
 nothing_left scope before = refl
 
 -- where all are moved
-pub ends : (n : ℕ) (names scope : List Declaration) (initial : List Taken) (old : List AttributeData) (k : ℕ) (now : List Taken) (table : List AttributeData)
+pub ends : (n : ℕ) (names scope : List Declaration) (initial : List Taken) (old : List AttributeRow) (k : ℕ) (now : List Taken) (table : List AttributeRow)
     → Resolving n names scope initial old k now table → length initial ≤ k
     → (names_tested scope [] (map taken_view initial) ≡ Ok tt)
-    × ((more : List AttributeData) × (table ≡ old ++ more)
+    × ((more : List AttributeRow) × (table ≡ old ++ more)
     × (map (attribute names) more ≡ map (attribute_in scope) (map taken_view initial))
-    × AllByRecursion (λ a. NamespaceWithin n a.namespace) more)
+    × AllByRecursion (λ a. NamespaceWithin n a.0.namespace) more)
 ends n names scope initial old k now table h le =
     let all : take k initial ≡ initial = take_all k initial le in
     let none : drop k initial ≡ [] = drop_of_length-le initial le in (
@@ -50,7 +48,7 @@ ends n names scope initial old k now table h le =
     )
 
 -- the rows that are done show the attributes that are done
-front_shown : (n : ℕ) (names scope : List Declaration) (initial : List Taken) (old : List AttributeData) (k : ℕ) (now : List Taken) (table : List AttributeData)
+front_shown : (n : ℕ) (names scope : List Declaration) (initial : List Taken) (old : List AttributeRow) (k : ℕ) (now : List Taken) (table : List AttributeRow)
     → Resolving n names scope initial old k now table
     → map (attribute names) (drop (length old) table) ≡ map (attribute_in scope) (map taken_view (take k initial))
 front_shown n names scope initial old k now table h = ap (map (attribute names)) (ap (drop (length old)) h.table_is ∙ drop-append_seam old h.done) ∙ h.shown
@@ -76,7 +74,7 @@ stands_at initial now k t left long lt is =
     }
 
 -- a name that is refused is that of the fault of all
-pub refuses : (n : ℕ) (names scope : List Declaration) (initial : List Taken) (old : List AttributeData) (k : ℕ) (now : List Taken) (table : List AttributeData) (t : Taken) (f : Fault)
+pub refuses : (n : ℕ) (names scope : List Declaration) (initial : List Taken) (old : List AttributeRow) (k : ℕ) (now : List Taken) (table : List AttributeRow) (t : Taken) (f : Fault)
     → Resolving n names scope initial old k now table → k < length now → t ≡ get_or now k t
     → ((before rest : List Attribute) → map (attribute names) (drop (length old) table) ≡ map (attribute_in scope) before → names_tested scope before (taken_view t ∷ rest) ≡ Err f)
     → names_tested scope [] (map taken_view initial) ≡ Err f
@@ -92,8 +90,8 @@ row_shown names scope t s h = ap (λ (o : Option (List ℕ)).
     let r : tree.Attribute = record { start = t.start; name_end = t.name_end; value_start = t.value_start; end = t.end; namespace = o; local = t.name.local.now; value = storage_bytes t.value; borrowed = is_borrowed t.value } in r) h
 
 -- one more attribute that is moved
-pub moves : (n : ℕ) (names scope : List Declaration) (initial : List Taken) (old : List AttributeData) (k : ℕ) (now : List Taken) (table : List AttributeData)
-    (t u x : Taken) (s : AttributeNamespace) (row : AttributeData) (more : List AttributeData)
+pub moves : (n : ℕ) (names scope : List Declaration) (initial : List Taken) (old : List AttributeRow) (k : ℕ) (now : List Taken) (table : List AttributeRow)
+    (t u x : Taken) (s : AttributeNamespace) (row : AttributeRow) (more : List AttributeRow)
     → Resolving n names scope initial old k now table → k < length now → t ≡ get_or now k t
     → ((before rest : List Attribute) → map (attribute names) (drop (length old) table) ≡ map (attribute_in scope) before
     → names_tested scope before (taken_view t ∷ rest) ≡ names_tested scope (before ++ taken_view t ∷ []) rest)
@@ -114,16 +112,10 @@ moves n names scope initial old k now table t u x s row more h lt is step within
       shown = map-append (attribute names) h.done (row ∷ []) ∙ ap (λ xs. xs ++ attribute names row ∷ []) h.shown
           ∙ ap (λ (r : tree.Attribute). map (attribute_in scope) before ++ r ∷ []) (ap (attribute names) made_of ∙ row_shown names scope t s space)
           ∙ sym (map-append (attribute_in scope) before (taken_view t ∷ [])) ∙ ap (map (attribute_in scope)) (sym views);
-      within = all_append (λ a. NamespaceWithin n a.namespace) h.done (row ∷ []) h.within (subst (λ (r : AttributeData). NamespaceWithin n r.namespace) (sym made_of) within, tt);
+      within = all_append (λ a. NamespaceWithin n a.0.namespace) h.done (row ∷ []) h.within (subst (λ (r : AttributeRow). NamespaceWithin n r.0.namespace) (sym made_of) within, tt);
       tested = h.tested ∙ ap (λ ys. names_tested scope before (map taken_view ys)) st.rest
           ∙ step before rest (front_shown n names scope initial old k now table h)
           ∙ ap (λ ys. names_tested scope ys rest) (sym views);
       left = drop-set-lt (k + 1) now k x (omega arith) ∙ st.left;
       long = length-set now k x ∙ h.long;
     }
-
--- the rows behind the first of the table, as a slice of it
-pub rows_behind : (table seen : List AttributeData) (old : List AttributeData) (from : ℕ) → seen ≡ table → from ≡ length old
-    → slice_range seen from (length seen) ≡ drop (length old) table
-rows_behind table seen old from same at =
-    ap (λ xs. slice_range xs from (length xs)) same ∙ slice-rest table from ∙ ap (λ i. drop i table) at

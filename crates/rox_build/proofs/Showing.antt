@@ -13,11 +13,10 @@ use Rattle.rox_grammar.specs.Tree.{Node, listed, node_in, scope_in, resolved}
 use Rattle.rox_reading.specs.State.{Open, root, inside, State, scope_of, nodes_so_far}
 use Rattle.rox_reading.specs.Machine.{counted}
 use Rattle.rox_reading.proofs.Forests.{is_text, add, join-nil, size-join, merge-piece, add-text, add_clean, merge-item, clean-item}
-use Rattle.rox_build.specs.Lines.{Line, line, lines, node}
+use Rattle.rox_build.specs.Lines.{Line, line, lines, node, AttributeRow, rows_of}
 use Rattle.rox_build.specs.SoFar.{top, depth_of, open_line, rows_to, so_far}
 use Rattle.rox_build.specs.Waiting.{waiting}
 use Rattle.rox_build.specs.Shown.{OpenLine, opened, open_lines, last_row, pending_text, names_in, line_in, opened_in, IsWithin, Shows, Settled, IsNode}
-use Rattle.rox_build.specs.declared.tables.AttributeData.{AttributeData}
 use Rattle.rox_build.specs.declared.tables.NodeKind.{NodeKind}
 use Rattle.rox_build.specs.declared.tables.NodeKind.TheVariants as kind
 use Rattle.rox_build.specs.declared.tables.NodeData.{NodeData}
@@ -88,7 +87,7 @@ row_open t next os s k = record { start = s; end = 0; parent = last_row (opened_
 
 row_shows : (t : ElementTables) (end : ℕ) (o : Open) (front : Forest Item) (i : Item) (rows : List NodeData) (os : List OpenElement) (s e : ℕ) (k : NodeKind)
     → map (line_in t) rows ≡ so_far end o front → opened_in t os ≡ open_lines o
-    → node t.attributes.items (names_in t) t.listed.items s e k ≡ node_in (scope_in (scope_of o) i) i
+    → node (rows_of t.attributes) (names_in t) t.listed.items s e k ≡ node_in (scope_in (scope_of o) i) i
     → map (line_in t) (rows ++ row_of t rows os s e k ∷ []) ≡ so_far end o (join front (leaf i))
 row_shows t end o front i rows os s e k h opens is =
     let n = rows_count t end o front rows h in
@@ -112,7 +111,7 @@ settled_none end o done b u h was nodes tables opens empty =
     }
 
 pub settled_some : (end : ℕ) (o : Open) (done : Forest Item) (b u : Builder) (s e : ℕ) (v : List ℕ) (p : Bool) (k : NodeKind) → Shows end o done b
-    → pending_text b.pending (string_bytes b.joined) ≡ leaf (Text s e v p) → node b.tables.attributes.items (names_in b.tables) b.tables.listed.items s e k ≡ node_in (scope_of o) (Text s e v p)
+    → pending_text b.pending (string_bytes b.joined) ≡ leaf (Text s e v p) → node (rows_of b.tables.attributes) (names_in b.tables) b.tables.listed.items s e k ≡ node_in (scope_of o) (Text s e v p)
     → IsWithin b.tables k → u.nodes.items ≡ b.nodes.items ++ row_of b.tables b.nodes.items b.opened.items s e k ∷ [] → u.tables ≡ b.tables → u.opened ≡ b.opened
     → u.pending ≡ pending.None → Settled end o done u
 settled_some end o done b u s e v p k h was is within nodes tables opens empty =
@@ -199,7 +198,7 @@ more_count end o done b x y w q s e v p h was =
 -- ---- elements
 
 pub open_shows : (end : ℕ) (o : Open) (done : Forest Item) (b u : Builder) (s : ℕ) (k : NodeKind) (t : Tag) (x : OpenElement) → Settled end o done b
-    → node b.tables.attributes.items (names_in b.tables) b.tables.listed.items s 0 k ≡ node_in (listed (scope_of o) t.declarations) (Element s 0 t) → IsWithin b.tables k
+    → node (rows_of b.tables.attributes) (names_in b.tables) b.tables.listed.items s 0 k ≡ node_in (listed (scope_of o) t.declarations) (Element s 0 t) → IsWithin b.tables k
     → x.row ≡ length b.nodes.items → opened (names_in b.tables) b.tables.listed.items x ≡ record { row = x.row; name = t.name; name_start = s + 1; name_end = t.name_end; scope = listed (scope_of o) t.declarations }
     → u.nodes.items ≡ b.nodes.items ++ row_open b.tables 0 b.opened.items s k ∷ [] → u.tables ≡ b.tables → u.opened.items ≡ b.opened.items ++ x ∷ [] → u.pending ≡ b.pending
     → Shows end (inside s t done o) Nil u
@@ -261,7 +260,7 @@ with_end e (tree.Text s x v b) = tree.Text s e v b
 with_end e (tree.Comment s x t) = tree.Comment s e t
 with_end e (tree.PI s x t v) = tree.PI s e t v
 
-node_end : (as' : List AttributeData) (names : List Declaration) (ls : List ℕ) (s x e : ℕ) (k : NodeKind) → node as' names ls s e k ≡ with_end e (node as' names ls s x k)
+node_end : (as' : List AttributeRow) (names : List Declaration) (ls : List ℕ) (s x e : ℕ) (k : NodeKind) → node as' names ls s e k ≡ with_end e (node as' names ls s x k)
 unfolding with_end
 node_end as' names ls s x e kind.Root = refl
 node_end as' names ls s x e (kind.Element d) = refl
@@ -279,7 +278,7 @@ so_far-inside end up start tag before front =
     ∙ ap (λ xs. rows_to end up ++ xs) (append_assoc below (open_line start tag up ∷ []) inner)
     ∙ sym (append_assoc (rows_to end up) below (open_line start tag up ∷ inner))
 
-closed_is : (as' : List AttributeData) (names : List Declaration) (ls : List ℕ) (r : NodeData) (s e next : ℕ) (tag : Tag) (up : Open) → line as' names ls r ≡ open_line s tag up
+closed_is : (as' : List AttributeRow) (names : List Declaration) (ls : List ℕ) (r : NodeData) (s e next : ℕ) (tag : Tag) (up : Open) → line as' names ls r ≡ open_line s tag up
     → line as' names ls (record r { end = e; next = next }) ≡ closed_line s e tag up next
 unfolding with_end
 closed_is as' names ls r s e next tag up h =
@@ -305,7 +304,7 @@ close_with end s e t before up done b u outer x d h was opens tables same change
     ∙ get_or_at (so_far end up (merge before)) (open_line s t up) rest (line_in tt' d) k (length-so_far end up (merge before)) in
     let new : NodeData = record (get_or b.nodes.items k d) { end = e; next = length b.nodes.items } in
     let is_closed : line_in tt' new ≡ closed_line s e t up (k + 1 + size (merge done)) =
-    closed_is tt'.attributes.items (names_in tt') tt'.listed.items (get_or b.nodes.items k d) s e (length b.nodes.items) t up found ∙ ap (closed_line s e t up) n in
+    closed_is (rows_of tt'.attributes) (names_in tt') tt'.listed.items (get_or b.nodes.items k d) s e (length b.nodes.items) t up found ∙ ap (closed_line s e t up) n in
     let one = Cons (Element s e t) (merge done) Nil in
     let z : u.pending ≡ pending.None = same ∙ h.empty in
     let set_is : u.nodes.items ≡ set b.nodes.items k new = subst (λ (i : ℕ). u.nodes.items ≡ set b.nodes.items i (record (get_or b.nodes.items i d) { end = e; next = length b.nodes.items })) row change in

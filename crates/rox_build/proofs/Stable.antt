@@ -8,11 +8,10 @@ use Rattle.rox_grammar.specs.Tree as tree
 use Rattle.rox_build.specs.Storage.{storage_bytes, is_borrowed}
 use Rattle.rox_build.specs.declared.tables.AttributeNamespace.{AttributeNamespace}
 use Rattle.rox_build.specs.declared.tables.AttributeNamespace.TheVariants as space
-use Rattle.rox_build.specs.declared.tables.AttributeData.{AttributeData}
 use Rattle.rox_build.specs.declared.tables.NodeKind.{NodeKind}
 use Rattle.rox_build.specs.declared.tables.NodeKind.TheVariants as kind
 use Rattle.rox_build.specs.declared.tables.NodeData.{NodeData}
-use Rattle.rox_build.specs.Lines.{Line, line, node, attribute, entry, namespace_of, NamespaceWithin, OptionWithin, KindWithin}
+use Rattle.rox_build.specs.Lines.{Line, line, node, attribute, entry, namespace_of, NamespaceWithin, OptionWithin, KindWithin, AttributeRow}
 
 -- ---- lists
 
@@ -63,10 +62,10 @@ namespace_of-append names more space.None h = refl
 namespace_of-append names more space.Xml h = refl
 namespace_of-append names more (space.Listed i) h = ap (λ (d : Declaration). Some d.uri) (entry-append names more i h)
 
-pub attribute-append : (names more : List Declaration) (a : AttributeData) → NamespaceWithin (length names) a.namespace → attribute (names ++ more) a ≡ attribute names a
+pub attribute-append : (names more : List Declaration) (a : AttributeRow) → NamespaceWithin (length names) a.0.namespace → attribute (names ++ more) a ≡ attribute names a
 attribute-append names more a h = ap (λ (o : Option (List ℕ)).
-    let r : tree.Attribute = record { start = a.start; name_end = a.name_end; value_start = a.value_start; end = a.end; namespace = o; local = a.local.now; value = storage_bytes a.value; borrowed = is_borrowed a.value } in r)
-    (namespace_of-append names more a.namespace h)
+    let r : tree.Attribute = record { start = a.1.start; name_end = a.1.name_end; value_start = a.1.value_start; end = a.1.end; namespace = o; local = a.0.local.now; value = storage_bytes a.0.value; borrowed = is_borrowed a.0.value } in r)
+    (namespace_of-append names more a.0.namespace h)
 
 uri-append : (names more : List Declaration) (o : Option ℕ) → OptionWithin (length names) o
     → option_map (λ i. (entry (names ++ more) i).uri) o ≡ option_map (λ i. (entry names i).uri) o
@@ -75,8 +74,8 @@ uri-append names more (Some i) h = ap (λ (d : Declaration). Some d.uri) (entry-
 
 -- ---- rows
 
-pub node-append : (as' moreA : List AttributeData) (names moreN : List Declaration) (ls moreL : List ℕ) (start end : ℕ) (k : NodeKind)
-    → AllByRecursion (λ a. NamespaceWithin (length names) a.namespace) as' → AllByRecursion (λ i. i < length names) ls
+pub node-append : (as' moreA : List AttributeRow) (names moreN : List Declaration) (ls moreL : List ℕ) (start end : ℕ) (k : NodeKind)
+    → AllByRecursion (λ a. NamespaceWithin (length names) a.0.namespace) as' → AllByRecursion (λ i. i < length names) ls
     → KindWithin (length as') (length names) (length ls) k
     → node (as' ++ moreA) (names ++ moreN) (ls ++ moreL) start end k ≡ node as' names ls start end k
 node-append as' moreA names moreN ls moreL start end kind.Root ha hl h = refl
@@ -87,8 +86,8 @@ node-append as' moreA names moreN ls moreL start end (kind.Element e) ha hl (a, 
     (all_slice (λ i. i < length names) ls e.namespaces_from e.namespaces_until hl) in
     let attributes_are : map (attribute (names ++ moreN)) (slice_range (as' ++ moreA) e.attributes_from e.attributes_until) ≡ map (attribute names) (slice_range as' e.attributes_from e.attributes_until) =
     ap (map (attribute (names ++ moreN))) (slice-append as' moreA e.attributes_from e.attributes_until a b)
-    ∙ map_same (attribute (names ++ moreN)) (attribute names) (λ a. NamespaceWithin (length names) a.namespace) (slice_range as' e.attributes_from e.attributes_until) (attribute-append names moreN)
-    (all_slice (λ a. NamespaceWithin (length names) a.namespace) as' e.attributes_from e.attributes_until ha) in
+    ∙ map_same (attribute (names ++ moreN)) (attribute names) (λ a. NamespaceWithin (length names) a.0.namespace) (slice_range as' e.attributes_from e.attributes_until) (attribute-append names moreN)
+    (all_slice (λ a. NamespaceWithin (length names) a.0.namespace) as' e.attributes_from e.attributes_until ha) in
     let o = uri-append names moreN e.namespace n in
     ap (λ (u : Option (List ℕ)). tree.Element start end u e.local.now (map (entry (names ++ moreN)) (slice_range (ls ++ moreL) e.namespaces_from e.namespaces_until)) (map (attribute (names ++ moreN)) (slice_range (as' ++ moreA) e.attributes_from e.attributes_until))) o
     ∙ ap (λ (l : List Declaration). tree.Element start end (option_map (λ i. (entry names i).uri) e.namespace) e.local.now l (map (attribute (names ++ moreN)) (slice_range (as' ++ moreA) e.attributes_from e.attributes_until))) listed_is
@@ -98,8 +97,8 @@ node-append as' moreA names moreN ls moreL start end (kind.Comment t) ha hl h = 
 node-append as' moreA names moreN ls moreL start end (kind.PI p) ha hl h = refl
 
 -- the rows show the same over tables that have grown
-pub lines-append : (as' moreA : List AttributeData) (names moreN : List Declaration) (ls moreL : List ℕ) (rows : List NodeData)
-    → AllByRecursion (λ a. NamespaceWithin (length names) a.namespace) as' → AllByRecursion (λ i. i < length names) ls
+pub lines-append : (as' moreA : List AttributeRow) (names moreN : List Declaration) (ls moreL : List ℕ) (rows : List NodeData)
+    → AllByRecursion (λ a. NamespaceWithin (length names) a.0.namespace) as' → AllByRecursion (λ i. i < length names) ls
     → AllByRecursion (λ r. KindWithin (length as') (length names) (length ls) r.kind) rows
     → map (line (as' ++ moreA) (names ++ moreN) (ls ++ moreL)) rows ≡ map (line as' names ls) rows
 lines-append as' moreA names moreN ls moreL rows ha hl h =

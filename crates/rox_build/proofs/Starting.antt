@@ -17,7 +17,7 @@ use Rattle.rox_build.specs.declared.tables.ElementTables.{ElementTables}
 use Rattle.rox_build.specs.declared.tables.Scope.{Scope}
 use Rattle.rox_build.specs.declared.taken.Taken.{Taken}
 use Rattle.rox_build.specs.declared.tag.StartTag.{StartTag}
-use Rattle.rox_build.specs.Lines.{declaration, entry}
+use Rattle.rox_build.specs.Lines.{declaration, entry, rows_of}
 use Rattle.rox_build.specs.Scopes.{ArePlaces}
 use Rattle.rox_build.specs.Tags.{taken_view, Holding}
 use Rattle.rox_build.specs.Tagged.{IsElement, Tagged, scope_in_tables, tested_at}
@@ -91,11 +91,11 @@ tagged o a s e t above name n h xml taken scope is ends same hold few names attr
       element = record {
         attributes = record {
           more = k.attributes.more;
-          grown = k.attributes.grown ∙ ap (λ v. v.items ++ k.attributes.more) kept;
+          grown = k.attributes.grown ∙ ap (λ v. rows_of v ++ k.attributes.more) kept;
           same = k.attributes.same ∙ ap (λ sc. map (attribute_in sc) (map taken_view taken)) lists ∙ ap (map (attribute_in (listed above h.own))) hold.attributes;
           within = k.attributes.within;
         };
-        attributes_from = k.attributes_from ∙ ap (λ v. length v.items) kept;
+        attributes_from = k.attributes_from ∙ ap (λ v. length (rows_of v)) kept;
         attributes_until = k.attributes_until;
         few = k.few;
         local = k.local;

@@ -2,6 +2,7 @@
 use Rattle.std.proofs.lemmas.Bool.{lt-leb}
 use Rattle.rox_grammar.specs.Marks.{stands}
 use Rattle.std.specs.List.{starts_with}
+use Rattle.rox_build.specs.Lines.{rows_of}
 use Rattle.rox_build.specs.Scopes.{entries}
 use Rattle.std.proofs.Common.{eqb, eq-eqb, ne_eqb, if◌then◌else◌, slice_index, slice_range, ◌≡◌, ℕ, zero, suc, ◌+◌, ◌<◌, Bool, true, false, List, [], ◌∷◌, ◌++◌, length, map, leb, refl, sym, ap, subst, ◌∙◌, arith, Result, Ok, Err, append_assoc}
 use Rattle.std.proofs.lemmas.List.{append-nil, map-append, same_from_push}
@@ -52,7 +53,7 @@ counted_is limit t s h = by_cases (leb (nodes_so_far t.stack t.done) limit) refl
 
 -- what a builder adds is what is read
 pub adds_stepped : (limit end : ℕ) (t : State) (c : Cursor) (u : Builder) (r : Result (Unit {0}) Failure) → Adds end r u (counted limit t) → c.pos ≡ t.at → u.nodes_limit ≡ limit
-    → names_in u.tables ≡ distinct_pairs (pairs_so_far t.stack t.done) → length u.tables.attributes.items ≡ attributes_so_far t.stack t.done → Stepped limit end r c u (counted limit t)
+    → names_in u.tables ≡ distinct_pairs (pairs_so_far t.stack t.done) → length (rows_of u.tables.attributes) ≡ attributes_so_far t.stack t.done → Stepped limit end r c u (counted limit t)
 adds_stepped limit end t c u (Ok x) (s, is, shows) here l names attributes =
     let e = counted_is limit t s is in
     (t, is ∙ ap (λ (s : State). Ok s) e, record { here = here; limit_is = l; shows = subst (λ (s : State). Shows end s.stack s.done u) e shows; names = names; attributes = attributes })

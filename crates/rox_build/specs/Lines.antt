@@ -1,6 +1,6 @@
 -- The rows of a tree, and the tree that tables hold.
 use Rattle.std.specs.Prelude.{◌≡◌, true, ℕ, ◌+◌, ◌^◌, ◌<◌, ◌≤◌, List, [], ◌∷◌, ◌++◌, Option, Some, None, length, map, slice_range}
-use Rattle.std.specs.List.{AllByRecursion}
+use Rattle.std.specs.List.{AllByRecursion, zip}
 use Rattle.std.specs.Option.{option_map}
 use Rattle.rox_grammar.specs.Forest.{Forest, Nil, Cons, size}
 use Rattle.rox_grammar.specs.Written.{Declaration}
@@ -11,6 +11,8 @@ use Rattle.rox_build.specs.declared.tables.Namespace.{Namespace}
 use Rattle.rox_build.specs.declared.tables.AttributeNamespace.{AttributeNamespace}
 use Rattle.rox_build.specs.declared.tables.AttributeNamespace.TheVariants as space
 use Rattle.rox_build.specs.declared.tables.AttributeData.{AttributeData}
+use Rattle.rox_build.specs.declared.tables.AttributePlaces.{AttributePlaces}
+use Rattle.rox_build.specs.declared.attributes.AttributeTable.{AttributeTable}
 use Rattle.rox_build.specs.declared.tables.NodeKind.{NodeKind}
 use Rattle.rox_build.specs.declared.tables.NodeKind.TheVariants as kind
 use Rattle.rox_build.specs.declared.tables.NodeData.{NodeData}
@@ -44,20 +46,27 @@ namespace_of names space.None = None
 namespace_of names space.Xml = Some xml_uri
 namespace_of names (space.Listed i) = Some (entry names i).uri
 
-abbrev pub attribute : List Declaration → AttributeData → tree.Attribute
+-- an attribute's row: what it is, and where it stands
+abbrev pub AttributeRow : Type 0
+AttributeRow = AttributeData × AttributePlaces
+
+abbrev pub rows_of : AttributeTable → List AttributeRow
+rows_of t = zip t.data.items t.places.items
+
+abbrev pub attribute : List Declaration → AttributeRow → tree.Attribute
 attribute names a = record {
-  start = a.start;
-  name_end = a.name_end;
-  value_start = a.value_start;
-  end = a.end;
-  namespace = namespace_of names a.namespace;
-  local = a.local.now;
-  value = storage_bytes a.value;
-  borrowed = is_borrowed a.value;
+  start = a.1.start;
+  name_end = a.1.name_end;
+  value_start = a.1.value_start;
+  end = a.1.end;
+  namespace = namespace_of names a.0.namespace;
+  local = a.0.local.now;
+  value = storage_bytes a.0.value;
+  borrowed = is_borrowed a.0.value;
 }
 
 -- the node of a row, over the tables of attributes, namespaces and listed places
-abbrev pub node : List AttributeData → List Declaration → List ℕ → (start end : ℕ) → NodeKind → Node
+abbrev pub node : List AttributeRow → List Declaration → List ℕ → (start end : ℕ) → NodeKind → Node
 node attributes names listed start end kind.Root = tree.Root end
 node attributes names listed start end (kind.Element e) =
     tree.Element start end (option_map (λ i. (entry names i).uri) e.namespace) e.local.now
@@ -67,7 +76,7 @@ node attributes names listed start end (kind.Text value) = tree.Text start end (
 node attributes names listed start end (kind.Comment text) = tree.Comment start end (storage_bytes text)
 node attributes names listed start end (kind.PI pi) = tree.PI start end pi.target.now (option_map (λ v. v.now) pi.value)
 
-abbrev pub line : List AttributeData → List Declaration → List ℕ → NodeData → Line
+abbrev pub line : List AttributeRow → List Declaration → List ℕ → NodeData → Line
 line attributes names listed row =
     record { parent = row.parent; next = row.next; depth = row.depth; node = node attributes names listed row.start row.end row.kind }
 
@@ -93,15 +102,15 @@ KindWithin attributes names listed (kind.PI pi) = Unit {0}
 
 -- each row names only what the tables have
 pub record Sound (t : Tables) : Type 0 where
-  pub nodes : AllByRecursion (λ row. KindWithin (length t.attributes.items) (length t.namespaces.items) (length t.listed.items) row.kind) t.nodes.items
-  pub attributes : AllByRecursion (λ a. NamespaceWithin (length t.namespaces.items) a.namespace) t.attributes.items
+  pub nodes : AllByRecursion (λ row. KindWithin (length (rows_of t.attributes)) (length t.namespaces.items) (length t.listed.items) row.kind) t.nodes.items
+  pub attributes : AllByRecursion (λ a. NamespaceWithin (length t.namespaces.items) a.0.namespace) (rows_of t.attributes)
   pub listed : AllByRecursion (λ i. i < length t.namespaces.items) t.listed.items
 
 abbrev pub names_of : Tables → List Declaration
 names_of t = map declaration t.namespaces.items
 
 abbrev pub lines_of : Tables → List Line
-lines_of t = map (line t.attributes.items (names_of t) t.listed.items) t.nodes.items
+lines_of t = map (line (rows_of t.attributes) (names_of t) t.listed.items) t.nodes.items
 
 -- the tables are those of the tree
 pub record Holds (t : Tables) (tree : Forest Node) : Type 0 where

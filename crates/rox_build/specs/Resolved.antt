@@ -4,22 +4,17 @@ use Rattle.rox_grammar.specs.declared.fault.Fault.{Fault}
 use Rattle.rox_grammar.specs.Written.{Attribute, Declaration}
 use Rattle.rox_grammar.specs.Tree.{same_prefix}
 use Rattle.rox_reading.specs.Tags.{names_tested}
-use Rattle.rox_build.specs.Lines.{namespace_of}
+use Rattle.rox_build.specs.Lines.{AttributeRow, namespace_of}
 use Rattle.rox_build.specs.declared.taken.Taken.{Taken}
 use Rattle.rox_build.specs.declared.tables.AttributeNamespace.{AttributeNamespace}
 use Rattle.rox_build.specs.declared.tables.AttributeData.{AttributeData}
 
 -- the row of an attribute that was taken, in this namespace
-abbrev pub row_of : Taken → AttributeNamespace → AttributeData
-row_of t s = record {
-  start = t.start;
-  name_end = t.name_end;
-  value_start = t.value_start;
-  end = t.end;
-  local = t.name.local;
-  value = t.value;
-  namespace = s;
-}
+abbrev pub row_of : Taken → AttributeNamespace → AttributeRow
+row_of t s = (
+  record { local = t.name.local; value = t.value; namespace = s },
+  record { start = t.start; name_end = t.name_end; value_start = t.value_start; end = t.end },
+)
 
 -- an attribute's row has this expanded name: the URI of this namespace, and this local name
 abbrev pub has_expanded : List Declaration → AttributeNamespace → List ℕ → AttributeData → Bool

@@ -14,11 +14,10 @@ use Rattle.rox_reading.proofs.Forests.{Clean, is_text}
 use Rattle.rox_scan.specs.Gives.{Fails, name_view}
 use Rattle.rox_scan.specs.declared.cursor.Cursor.{Cursor}
 use Rattle.rox_scan.specs.declared.failure.Failure.{Failure}
-use Rattle.rox_build.specs.Lines.{Line, line, node, declaration, NamespaceWithin, KindWithin}
+use Rattle.rox_build.specs.Lines.{Line, line, node, declaration, NamespaceWithin, KindWithin, AttributeRow, rows_of}
 use Rattle.rox_build.specs.Scopes.{entries}
 use Rattle.rox_build.specs.SoFar.{top, so_far}
 use Rattle.rox_build.specs.declared.tables.NodeKind.{NodeKind}
-use Rattle.rox_build.specs.declared.tables.AttributeData.{AttributeData}
 use Rattle.rox_build.specs.declared.tables.NodeData.{NodeData}
 use Rattle.rox_build.specs.declared.tables.ElementTables.{ElementTables}
 use Rattle.rox_build.specs.declared.tables.Scope.{Scope}
@@ -66,14 +65,14 @@ abbrev pub names_in : ElementTables → List Declaration
 names_in t = map declaration t.namespaces.items.items
 
 abbrev pub line_in : ElementTables → NodeData → Line
-line_in t row = line t.attributes.items (names_in t) t.listed.items row
+line_in t row = line (rows_of t.attributes) (names_in t) t.listed.items row
 
 abbrev pub opened_in : ElementTables → List OpenElement → List OpenLine
 opened_in t os = map (opened (names_in t) t.listed.items) os
 
 -- what a row names is in the tables
 abbrev pub IsWithin : ElementTables → NodeKind → Type 0
-IsWithin t k = KindWithin (length t.attributes.items) (length t.namespaces.items.items) (length t.listed.items) k
+IsWithin t k = KindWithin (length (rows_of t.attributes)) (length t.namespaces.items.items) (length t.listed.items) k
 
 -- The builder holds these open elements, with these items in the innermost, of a text of this length.
 pub record Shows (end : ℕ) (stack : Open) (done : Forest Item) (b : Builder) : Type 0 where
@@ -94,7 +93,7 @@ pub record Settled (end : ℕ) (stack : Open) (done : Forest Item) (b : Builder)
 
 -- a row shows an item with nothing below it, below an element that lists these
 pub record IsNode (t : ElementTables) (above : List Declaration) (start end : ℕ) (k : NodeKind) (item : Item) : Type 0 where
-  pub is : node t.attributes.items (names_in t) t.listed.items start end k ≡ node_in (scope_in above item) item
+  pub is : node (rows_of t.attributes) (names_in t) t.listed.items start end k ≡ node_in (scope_in above item) item
   pub within : IsWithin t k
   pub no_text : is_text item ≡ false
 
@@ -112,7 +111,7 @@ pub record IsOpening (tables : ElementTables) (above : List Declaration) (start 
 
 -- attributes and listed places name only what the table of namespaces has
 pub record AreSound (t : ElementTables) : Type 0 where
-  pub attributes : AllByRecursion (λ a. NamespaceWithin (length t.namespaces.items.items) a.namespace) t.attributes.items
+  pub attributes : AllByRecursion (λ a. NamespaceWithin (length t.namespaces.items.items) a.0.namespace) (rows_of t.attributes)
   pub listed : AllByRecursion (λ i. i < length t.namespaces.items.items) t.listed.items
 
 -- the builder holds what is read, unless memory ran out
@@ -129,7 +128,7 @@ pub record Fine (t : ElementTables) (opened : List OpenElement) : Type 0 where
   pub sound : AreSound t
   pub elements : AllByRecursion (IsOpenWithin t) opened
   pub few_names : length t.namespaces.items.items ≤ most_pairs
-  pub few_attributes : length t.attributes.items ≤ most_attributes
+  pub few_attributes : length (rows_of t.attributes) ≤ most_attributes
 
 -- The cursor and the builder stand where reading does, in a text of this length.
 pub record Sees (limit end : ℕ) (s : State) (c : Cursor) (b : Builder) : Type 0 where
@@ -137,7 +136,7 @@ pub record Sees (limit end : ℕ) (s : State) (c : Cursor) (b : Builder) : Type 
   pub limit_is : b.nodes_limit ≡ limit
   pub shows : Shows end s.stack s.done b
   pub names : names_in b.tables ≡ distinct_pairs (pairs_so_far s.stack s.done)
-  pub attributes : length b.tables.attributes.items ≡ attributes_so_far s.stack s.done
+  pub attributes : length (rows_of b.tables.attributes) ≡ attributes_so_far s.stack s.done
 
 -- the same after a step, unless memory ran out
 abbrev pub Stepped : ℕ → ℕ → Result (Unit {0}) Failure → Cursor → Builder → Result State Fault → Type 0
@@ -160,8 +159,8 @@ Completed end (Err e) b read = Fails e read
 
 -- tables that have grown
 pub record Grown (old new : ElementTables) : Type 0 where
-  pub more_attributes : List AttributeData
-  pub attributes : new.attributes.items ≡ old.attributes.items ++ more_attributes
+  pub more_attributes : List AttributeRow
+  pub attributes : (rows_of new.attributes) ≡ (rows_of old.attributes) ++ more_attributes
   pub more_names : List Declaration
   pub names : names_in new ≡ names_in old ++ more_names
   pub more_listed : List ℕ

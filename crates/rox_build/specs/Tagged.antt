@@ -13,27 +13,26 @@ use Rattle.rox_reading.specs.Tags.{names_tested}
 use Rattle.rox_scan.specs.Gives.{Fails, name_view}
 use Rattle.rox_scan.specs.declared.cursor.Cursor.{Cursor}
 use Rattle.rox_scan.specs.declared.failure.Failure.{Failure}
-use Rattle.rox_build.specs.Lines.{declaration, attribute, entry, NamespaceWithin, OptionWithin}
+use Rattle.rox_build.specs.Lines.{declaration, attribute, entry, NamespaceWithin, OptionWithin, AttributeRow, rows_of}
 use Rattle.rox_build.specs.Scopes.{entries, ArePlaces}
-use Rattle.rox_build.specs.declared.tables.AttributeData.{AttributeData}
 use Rattle.rox_build.specs.declared.tables.ElementData.{ElementData}
 use Rattle.rox_build.specs.declared.tables.ElementTables.{ElementTables}
 use Rattle.rox_build.specs.declared.tables.Scope.{Scope}
 use Rattle.rox_build.specs.declared.tag.StartTag.{StartTag}
 
 -- The table of attributes has grown by these, in this scope.
-pub record HasAttributes (old new : List AttributeData) (names : List Declaration) (scope : List Declaration) (written : List Attribute) : Type 0 where
-  pub more : List AttributeData
+pub record HasAttributes (old new : List AttributeRow) (names : List Declaration) (scope : List Declaration) (written : List Attribute) : Type 0 where
+  pub more : List AttributeRow
   pub grown : new ≡ old ++ more
   pub same : map (attribute names) more ≡ map (attribute_in scope) written
-  pub within : AllByRecursion (λ a. NamespaceWithin (length names) a.namespace) more
+  pub within : AllByRecursion (λ a. NamespaceWithin (length names) a.0.namespace) more
 
 -- An element of this name and with these attributes, which lists this scope.
 pub record IsElement (old new : ElementTables) (e : ElementData) (scope : List Declaration) (name : Name) (written : List Attribute) : Type 0 where
-  pub attributes : HasAttributes old.attributes.items new.attributes.items (map declaration new.namespaces.items.items) scope written
-  pub attributes_from : e.attributes_from ≡ length old.attributes.items
-  pub attributes_until : e.attributes_until ≡ length new.attributes.items
-  pub few : length new.attributes.items ≤ most_attributes
+  pub attributes : HasAttributes (rows_of old.attributes) (rows_of new.attributes) (map declaration new.namespaces.items.items) scope written
+  pub attributes_from : e.attributes_from ≡ length (rows_of old.attributes)
+  pub attributes_until : e.attributes_until ≡ length (rows_of new.attributes)
+  pub few : length (rows_of new.attributes) ≤ most_attributes
   pub local : e.local.now ≡ name.local
   pub namespace : option_map (λ i. (entry (map declaration new.namespaces.items.items) i).uri) e.namespace ≡ element_namespace scope name
   pub namespace_within : OptionWithin (length new.namespaces.items.items) e.namespace

@@ -6,6 +6,7 @@ ghost use Rattle.rox_build.specs.declared.tables.NodeKind.TheVariants as kind;
 ghost use Rattle.rox_scan.specs.declared.failure.Failure.TheVariants as failure;
 ghost use Rattle.rox_build.specs.Waiting.{waiting};
 
+use crate::attributes::AttributeTable;
 use crate::growth::push;
 use crate::names::NamespaceTable;
 use crate::pending::Pending;
@@ -100,13 +101,13 @@ impl<'input> Builder<'input> {
     ghost use Rattle.rox_build.specs.Values.{piece_view};
     ghost use Rattle.rox_build.specs.Shown.{Shows, Settled, IsNode, IsOpening, AreSound, Adds, Fine, names_in, opened_in, last_row, scope_in_table};
     ghost use Rattle.rox_build.specs.Scopes.{entries};
-    ghost use Rattle.rox_build.specs.Lines.{Holds};
+    ghost use Rattle.rox_build.specs.Lines.{Holds, rows_of};
     ghost use Rattle.rox_grammar.specs.Tree.{document_tree};
     ghost use Rattle.rox_build.specs.declared.builder.OpenElement.{OpenElement};
 
     /// The tables with the root node of a text of so many bytes.
     pub fn new(alloc: Global, bytes: usize, nodes_limit: u32) -> Result<Builder<'input>, Failure>
-        ensures empty { IfOk result (λ b. (names_in b.tables ≡ []) × (length b.tables.attributes.items ≡ 0)) }
+        ensures empty { IfOk result (λ b. (names_in b.tables ≡ []) × (length (rows_of b.tables.attributes) ≡ 0)) }
         ensures fine { IfOk result (λ b. Fine b.tables b.opened.items) }
         ensures shows { IfOk result (λ b. Shows bytes root Nil b) }
         ensures limit { IfOk result (λ b. b.nodes_limit ≡ nodes_limit) }
@@ -115,7 +116,7 @@ impl<'input> Builder<'input> {
         Ok(Builder {
             nodes: root_row(alloc, bytes)?,
             tables: ElementTables {
-                attributes: Vec::with_capacity(alloc, bytes / 64)?,
+                attributes: AttributeTable::with_capacity(alloc, bytes / 64)?,
                 namespaces: NamespaceTable::new(alloc),
                 listed: Vec::new(alloc),
             },

@@ -1,6 +1,7 @@
 //! From a text to the tables of its tree.
 #![tactic(auto)]
 
+pub mod attributes;
 pub mod builder;
 pub mod declaration;
 pub mod growth;

@@ -11,17 +11,16 @@ ghost use Rattle.rox_grammar.specs.Tree.{attribute_in};
 ghost use Rattle.rox_grammar.specs.WellNamed.{is_known, may_name};
 ghost use Rattle.rox_reading.specs.Tags.{names_tested};
 ghost use Rattle.rox_scan.specs.Gives.{Fails, name_view};
-ghost use Rattle.rox_build.specs.declared.tables.AttributeData.{AttributeData as SpecAttributeData};
-ghost use Rattle.rox_build.specs.Lines.{declaration, entry, attribute, namespace_of, NamespaceWithin, OptionWithin};
+ghost use Rattle.rox_build.specs.Lines.{AttributeRow, declaration, entry, attribute, rows_of, namespace_of, NamespaceWithin, OptionWithin};
 ghost use Rattle.rox_build.specs.Scopes.{entries, prefix_view, ArePlaces};
 ghost use Rattle.rox_build.specs.Tags.{taken_view};
 ghost use Rattle.rox_build.specs.Resolved.{row_of, has_expanded, Tested};
 
+use crate::attributes::AttributeTable;
 use crate::declaration::{local_span, prefix_span};
-use crate::growth::push;
 use crate::scope::{XML_URI, default_place, place_of, same_prefix};
 use crate::storage::StringStorage;
-use crate::tables::{AttributeData, AttributeNamespace, Namespace};
+use crate::tables::{AttributeData, AttributeNamespace, AttributePlaces, Namespace};
 use crate::taken::Taken;
 use rox_grammar::fault::Fault;
 use rox_scan::alike::same_text;
@@ -117,7 +116,7 @@ fn tested_namespace(
     requires done { AllByRecursion (λ a. NamespaceWithin (length names.now) a.namespace) done.now }
     ensures within { IfOk result (λ s. NamespaceWithin (length names.now) s) }
     ensures there { IfOk result (λ s. namespace_of (map declaration names.now) s ≡ tree.attribute_namespace (entries (map declaration names.now) places.now) (name_view taken.now.name)) }
-    ensures tested { (before rest : List Attribute) → map (attribute (map declaration names.now)) done.now ≡ map (attribute_in (entries (map declaration names.now) places.now)) before
+    ensures tested { (rows : List AttributeRow) (before rest : List Attribute) → map (λ r. r.0) rows ≡ done.now → map (attribute (map declaration names.now)) rows ≡ map (attribute_in (entries (map declaration names.now) places.now)) before
         → Tested (entries (map declaration names.now) places.now) before (taken_view taken.now) rest result }
 {
     let name = taken.name;
@@ -135,19 +134,22 @@ fn tested_namespace(
 fn move_row<'input>(
     taken: &mut Taken<'input>,
     namespace: AttributeNamespace,
-) -> AttributeData<'input>
+) -> (AttributeData<'input>, AttributePlaces)
     ensures { result ≡ row_of taken.old namespace }
 {
     let value = std::mem::replace(&mut taken.value, StringStorage::Borrowed(""));
-    AttributeData {
+    let data = AttributeData {
+        local: taken.name.local,
+        value,
+        namespace,
+    };
+    let places = AttributePlaces {
         start: taken.start,
         name_end: taken.name_end,
         value_start: taken.value_start,
         end: taken.end,
-        local: taken.name.local,
-        value,
-        namespace,
-    }
+    };
+    (data, places)
 }
 
 /// Moves the attributes of a tag into the table, each with its namespace in this scope. A prefix that is not known, or an
@@ -157,20 +159,20 @@ pub fn resolve<'input>(
     names: &[Namespace<'input>],
     places: &[u16],
     taken: &mut Vec<Taken<'input>>,
-    attributes: &mut Vec<AttributeData<'input>>,
+    attributes: &mut AttributeTable<'input>,
 ) -> Result<(), Failure>
     requires { ArePlaces (length names.now) places.now }
     ensures ok { OnOk result ((names_tested (entries (map declaration names.now) places.now) [] (map taken_view taken.old.items) ≡ Ok tt)
-        × ((more : List SpecAttributeData) × (attributes.new.items ≡ attributes.old.items ++ more)
+        × ((more : List AttributeRow) × (rows_of attributes.new ≡ rows_of attributes.old ++ more)
         × (map (attribute (map declaration names.now)) more ≡ map (attribute_in (entries (map declaration names.now) places.now)) (map taken_view taken.old.items))
-        × AllByRecursion (λ a. NamespaceWithin (length names.now) a.namespace) more)) }
+        × AllByRecursion (λ a. NamespaceWithin (length names.now) a.0.namespace) more)) }
     ensures err { IfErr result (λ e. Fails e (names_tested (entries (map declaration names.now) places.now) [] (map taken_view taken.old.items))) }
 {
     let from = attributes.len();
     for turn in 0..taken.len() {
-        let namespace = tested_namespace(names, places, &attributes[from..], &taken[turn])?;
+        let namespace = tested_namespace(names, places, &attributes.data[from..], &taken[turn])?;
         let row = move_row(&mut taken[turn], namespace);
-        push(attributes, row)?;
+        attributes.push(row)?;
     }
     Ok(())
 }

@@ -1,5 +1,6 @@
 //! The tables of a document: a row for each node in document order, and beside them attributes and namespaces.
 
+use crate::attributes::AttributeTable;
 use crate::names::NamespaceTable;
 use crate::storage::StringStorage;
 
@@ -27,16 +28,21 @@ pub enum AttributeNamespace {
     Listed(u16),
 }
 
-/// An attribute. Its places count bytes of its source; `value_start` is behind the opening quote, `end` behind the other.
+/// What an attribute is: 48 bytes.
 #[derive(Debug, Drop)]
 pub struct AttributeData<'input> {
+    pub local: &'input str,
+    pub value: StringStorage<'input>,
+    pub namespace: AttributeNamespace,
+}
+
+/// Where an attribute stands, in bytes of its source. `value_start` is behind the opening quote, `end` behind the other.
+#[derive(Clone, Copy, Debug)]
+pub struct AttributePlaces {
     pub start: usize,
     pub name_end: usize,
     pub value_start: usize,
     pub end: usize,
-    pub local: &'input str,
-    pub value: StringStorage<'input>,
-    pub namespace: AttributeNamespace,
 }
 
 /// What an element has: its name, and where its attributes and the namespaces that it lists stand in their tables.
@@ -78,7 +84,7 @@ pub struct NodeData<'input> {
 #[derive(Debug, Drop)]
 pub struct Tables<'input> {
     pub nodes: Vec<NodeData<'input>>,
-    pub attributes: Vec<AttributeData<'input>>,
+    pub attributes: AttributeTable<'input>,
     pub namespaces: Vec<Namespace<'input>>,
     pub listed: Vec<u16>,
 }
@@ -86,7 +92,7 @@ pub struct Tables<'input> {
 /// The tables beside the rows, while they grow.
 #[derive(Debug, Drop)]
 pub struct ElementTables<'input> {
-    pub attributes: Vec<AttributeData<'input>>,
+    pub attributes: AttributeTable<'input>,
     pub namespaces: NamespaceTable<'input>,
     pub listed: Vec<u16>,
 }

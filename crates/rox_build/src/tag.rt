@@ -9,7 +9,7 @@ ghost use Rattle.rox_build.specs.Tagged.{IsElement, GivesTag, scope_in_tables, t
 ghost use Rattle.rox_scan.specs.Parts.{HasValue, attribute_view};
 ghost use Rattle.rox_build.specs.Values.{piece_view};
 ghost use Rattle.rox_build.specs.Storage.{storage_bytes, is_borrowed};
-ghost use Rattle.rox_build.specs.Lines.{declaration};
+ghost use Rattle.rox_build.specs.Lines.{declaration, rows_of};
 ghost use Rattle.rox_build.specs.Scopes.{ArePlaces, entries};
 ghost use Rattle.rox_build.specs.Tags.{Declares, Holding, Took, TookAll, one_more, taken_view};
 ghost use Rattle.rox_grammar.specs.Tree.{listed};
@@ -235,13 +235,13 @@ fn element_data<'input>(
 ) -> Result<ElementData<'input>, Failure>
     requires places { ArePlaces (length elements.old.namespaces.items.items) elements.old.listed.items }
     requires within { (scope.from ≤ scope.until) × (scope.until ≤ length elements.old.listed.items) }
-    requires few { length elements.old.attributes.items ≤ most_attributes }
+    requires few { length (rows_of elements.old.attributes) ≤ most_attributes }
     requires small { at < 2 ^ 63 }
     ensures names { elements.new.namespaces ≡ elements.old.namespaces }
     ensures listed { elements.new.listed ≡ elements.old.listed }
-    ensures tested { OnOk result (tested_at (scope_in_tables elements.old scope) (length elements.old.attributes.items) at (name_view name.entry) (map taken_view taken.old.items) ≡ Ok tt) }
+    ensures tested { OnOk result (tested_at (scope_in_tables elements.old scope) (length (rows_of elements.old.attributes)) at (name_view name.entry) (map taken_view taken.old.items) ≡ Ok tt) }
     ensures element { IfOk result (λ e. IsElement elements.old elements.new e (scope_in_tables elements.old scope) (name_view name.entry) (map taken_view taken.old.items)) }
-    ensures err { IfErr result (λ e. Fails e (tested_at (scope_in_tables elements.old scope) (length elements.old.attributes.items) at (name_view name.entry) (map taken_view taken.old.items))) }
+    ensures err { IfErr result (λ e. Fails e (tested_at (scope_in_tables elements.old scope) (length (rows_of elements.old.attributes)) at (name_view name.entry) (map taken_view taken.old.items))) }
 {
     let from = elements.attributes.len();
     if taken.len() > MOST_ATTRIBUTES - from {
@@ -285,12 +285,12 @@ pub fn start_tag<'input>(
     requires here { slice_index cursor.old.text.now cursor.old.pos ≡ 60 }
     requires places { ArePlaces (length elements.old.namespaces.items.items) elements.old.listed.items }
     requires few { length elements.old.namespaces.items.items ≤ most_pairs }
-    requires few_attributes { length elements.old.attributes.items ≤ most_attributes }
+    requires few_attributes { length (rows_of elements.old.attributes) ≤ most_attributes }
     requires above { (above.from ≤ above.until) × (above.until ≤ length elements.old.listed.items) }
     ensures source { cursor.new.text ≡ cursor.old.text }
     ensures starts { IfOk result (λ t. t.name_start ≡ cursor.old.pos + 1) }
     ensures value { GivesTag elements.old elements.new cursor.new result (scope_in_tables elements.old above)
-        (tag_at cut (scope_in_tables elements.old above) (length elements.old.attributes.items) (map declaration elements.old.namespaces.items.items) cursor.old.text.now cursor.old.pos) }
+        (tag_at cut (scope_in_tables elements.old above) (length (rows_of elements.old.attributes)) (map declaration elements.old.namespaces.items.items) cursor.old.text.now cursor.old.pos) }
 {
     let small = byte_count(cursor.text);
     cursor.advance();

@@ -4,7 +4,7 @@ use Rattle.std.proofs.lemmas.List.Elements.{All-from_recursion}
 use Rattle.rox_build.specs.Storage.{storage_bytes}
 use Rattle.rox_grammar.specs.Forest.{Forest, size}
 use Rattle.rox_grammar.specs.Tree.{Node, Root, Element, Text, Comment, PI}
-use Rattle.rox_build.specs.Lines.{Holds, KindWithin, node, names_of}
+use Rattle.rox_build.specs.Lines.{Holds, KindWithin, node, names_of, rows_of}
 use Rattle.rox_build.specs.declared.tables.NodeKind.{NodeKind}
 use Rattle.rox_build.specs.declared.tables.NodeKind.TheVariants as kind
 use Rattle.rox_build.specs.declared.tables.NodeData.{NodeData}
@@ -28,7 +28,7 @@ bare_node az names listed start end (kind.PI pi) = refl
 -- a row's node is the tree's
 pub row_item : (t : Tables) (f : Forest Node) (i : ℕ) (x : NodeData) → Holds t f → i < size f → x ≡ get_or t.nodes.items i x → bare_row x.start x.end x.kind ≡ bare (place f i).item
 row_item t f i x h l e =
-    bare_node t.attributes.items (names_of t) t.listed.items x.start x.end x.kind ∙ ap (λ r. bare r.node) (row_line t f i x h (in_rows t f i h l) e)
+    bare_node (rows_of t.attributes) (names_of t) t.listed.items x.start x.end x.kind ∙ ap (λ r. bare r.node) (row_line t f i x h (in_rows t f i h l) e)
 
 -- The namespaces and attributes are no part of these.
 pub says_root_bare : (i : Node) → says_root i ≡ says_root (bare i)
@@ -117,12 +117,12 @@ content_kind az names listed a n l start end (kind.Comment text) w = ap (λ b. S
 content_kind az names listed a n l start end (kind.PI pi) w = refl
 
 -- what a row names is in the tables
-pub row_within : (t : Tables) (f : Forest Node) (i : ℕ) (x : NodeData) → Holds t f → i < size f → x ≡ get_or t.nodes.items i x → KindWithin (length t.attributes.items) (length t.namespaces.items) (length t.listed.items) x.kind
+pub row_within : (t : Tables) (f : Forest Node) (i : ℕ) (x : NodeData) → Holds t f → i < size f → x ≡ get_or t.nodes.items i x → KindWithin (length (rows_of t.attributes)) (length t.namespaces.items) (length t.listed.items) x.kind
 row_within t f i x h l e =
-    let P : NodeData → Type 0 = λ r. KindWithin (length t.attributes.items) (length t.namespaces.items) (length t.listed.items) r.kind in
+    let P : NodeData → Type 0 = λ r. KindWithin (length (rows_of t.attributes)) (length t.namespaces.items) (length t.listed.items) r.kind in
     subst P (sym e) (All-from_recursion P t.nodes.items h.sound.nodes i x (in_rows t f i h l))
 
 pub row_content : (t : Tables) (f : Forest Node) (i : ℕ) (x : NodeData) → Holds t f → i < size f → x ≡ get_or t.nodes.items i x → content_in x.kind ≡ content_of (place f i).item
 row_content t f i x h l e =
-    content_kind t.attributes.items (names_of t) t.listed.items _ _ _ x.start x.end x.kind (row_within t f i x h l e)
+    content_kind (rows_of t.attributes) (names_of t) t.listed.items _ _ _ x.start x.end x.kind (row_within t f i x h l e)
     ∙ ap (λ r. content_of r.node) (row_line t f i x h (in_rows t f i h l) e)

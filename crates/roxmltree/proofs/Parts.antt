@@ -5,7 +5,7 @@ use Rattle.std.specs.Option.{option_map}
 use Rattle.rox_grammar.specs.Forest.{Forest, size}
 use Rattle.rox_grammar.specs.Tree.{Node}
 use Rattle.rox_grammar.specs.Written.{Declaration}
-use Rattle.rox_build.specs.Lines.{Holds, KindWithin, node, names_of, attribute, entry}
+use Rattle.rox_build.specs.Lines.{Holds, KindWithin, node, names_of, attribute, entry, rows_of}
 use Rattle.rox_build.specs.declared.tables.NodeKind.{NodeKind}
 use Rattle.rox_build.specs.declared.tables.NodeKind.TheVariants as kind
 use Rattle.rox_build.specs.declared.tables.NodeData.{NodeData}
@@ -18,25 +18,25 @@ use Rattle.roxmltree.proofs.Rows.{row_line, in_rows}
 use Rattle.roxmltree.proofs.Bare.{row_within}
 
 -- the node of a row
-row_node : (t : Tables) (f : Forest Node) (i : ℕ) (x : NodeData) → Holds t f → i < size f → x ≡ get_or t.nodes.items i x → node t.attributes.items (names_of t) t.listed.items x.start x.end x.kind ≡ (place f i).item
+row_node : (t : Tables) (f : Forest Node) (i : ℕ) (x : NodeData) → Holds t f → i < size f → x ≡ get_or t.nodes.items i x → node (rows_of t.attributes) (names_of t) t.listed.items x.start x.end x.kind ≡ (place f i).item
 row_node t f i x h l e = ap (λ r. r.node) (row_line t f i x h (in_rows t f i h l) e)
 
 -- an element's row
 pub row_namespace : (t : Tables) (f : Forest Node) (i : ℕ) (x : NodeData) (e : ElementData) → Holds t f → i < size f → x ≡ get_or t.nodes.items i x → x.kind ≡ kind.Element e → option_map (λ p. (entry (names_of t) p).uri) e.namespace ≡ namespace_of (place f i).item
 row_namespace t f i x e h l r k =
-    ap (λ v. namespace_of (node t.attributes.items (names_of t) t.listed.items x.start x.end v)) (sym k) ∙ ap namespace_of (row_node t f i x h l r)
+    ap (λ v. namespace_of (node (rows_of t.attributes) (names_of t) t.listed.items x.start x.end v)) (sym k) ∙ ap namespace_of (row_node t f i x h l r)
 
-pub row_attributes : (t : Tables) (f : Forest Node) (i : ℕ) (x : NodeData) (e : ElementData) → Holds t f → i < size f → x ≡ get_or t.nodes.items i x → x.kind ≡ kind.Element e → map (attribute (names_of t)) (slice_range t.attributes.items e.attributes_from e.attributes_until) ≡ attributes_of (place f i).item
+pub row_attributes : (t : Tables) (f : Forest Node) (i : ℕ) (x : NodeData) (e : ElementData) → Holds t f → i < size f → x ≡ get_or t.nodes.items i x → x.kind ≡ kind.Element e → map (attribute (names_of t)) (slice_range (rows_of t.attributes) e.attributes_from e.attributes_until) ≡ attributes_of (place f i).item
 row_attributes t f i x e h l r k =
-    ap (λ v. attributes_of (node t.attributes.items (names_of t) t.listed.items x.start x.end v)) (sym k) ∙ ap attributes_of (row_node t f i x h l r)
+    ap (λ v. attributes_of (node (rows_of t.attributes) (names_of t) t.listed.items x.start x.end v)) (sym k) ∙ ap attributes_of (row_node t f i x h l r)
 
 pub row_listed : (t : Tables) (f : Forest Node) (i : ℕ) (x : NodeData) (e : ElementData) → Holds t f → i < size f → x ≡ get_or t.nodes.items i x → x.kind ≡ kind.Element e → map (entry (names_of t)) (slice_range t.listed.items e.namespaces_from e.namespaces_until) ≡ listed_of (place f i).item
 row_listed t f i x e h l r k =
-    ap (λ v. listed_of (node t.attributes.items (names_of t) t.listed.items x.start x.end v)) (sym k) ∙ ap listed_of (row_node t f i x h l r)
+    ap (λ v. listed_of (node (rows_of t.attributes) (names_of t) t.listed.items x.start x.end v)) (sym k) ∙ ap listed_of (row_node t f i x h l r)
 
-pub element_within : (t : Tables) (f : Forest Node) (i : ℕ) (x : NodeData) (e : ElementData) → Holds t f → i < size f → x ≡ get_or t.nodes.items i x → x.kind ≡ kind.Element e → KindWithin (length t.attributes.items) (length t.namespaces.items) (length t.listed.items) (kind.Element e)
+pub element_within : (t : Tables) (f : Forest Node) (i : ℕ) (x : NodeData) (e : ElementData) → Holds t f → i < size f → x ≡ get_or t.nodes.items i x → x.kind ≡ kind.Element e → KindWithin (length (rows_of t.attributes)) (length t.namespaces.items) (length t.listed.items) (kind.Element e)
 element_within t f i x e h l r k =
-    subst (λ v. KindWithin (length t.attributes.items) (length t.namespaces.items) (length t.listed.items) v) k (row_within t f i x h l r)
+    subst (λ v. KindWithin (length (rows_of t.attributes)) (length t.namespaces.items) (length t.listed.items) v) k (row_within t f i x h l r)
 
 -- a row that is no element's
 none_namespace : (az : List AttributeData) (names : List Declaration) (listed : List ℕ) (start end : ℕ) (k : NodeKind) → ((e : ElementData) → k ≡ kind.Element e → ⊥) → namespace_of (node az names listed start end k) ≡ None
@@ -62,15 +62,15 @@ none_listed az names listed start end (kind.PI pi) n = refl
 
 pub row_no_namespace : (t : Tables) (f : Forest Node) (i : ℕ) (x : NodeData) → Holds t f → i < size f → x ≡ get_or t.nodes.items i x → ((e : ElementData) → x.kind ≡ kind.Element e → ⊥) → None ≡ namespace_of (place f i).item
 row_no_namespace t f i x h l r n =
-    sym (none_namespace t.attributes.items (names_of t) t.listed.items x.start x.end x.kind n) ∙ ap namespace_of (row_node t f i x h l r)
+    sym (none_namespace (rows_of t.attributes) (names_of t) t.listed.items x.start x.end x.kind n) ∙ ap namespace_of (row_node t f i x h l r)
 
 pub row_no_attributes : (t : Tables) (f : Forest Node) (i : ℕ) (x : NodeData) → Holds t f → i < size f → x ≡ get_or t.nodes.items i x → ((e : ElementData) → x.kind ≡ kind.Element e → ⊥) → [] ≡ attributes_of (place f i).item
 row_no_attributes t f i x h l r n =
-    sym (none_attributes t.attributes.items (names_of t) t.listed.items x.start x.end x.kind n) ∙ ap attributes_of (row_node t f i x h l r)
+    sym (none_attributes (rows_of t.attributes) (names_of t) t.listed.items x.start x.end x.kind n) ∙ ap attributes_of (row_node t f i x h l r)
 
 pub row_no_listed : (t : Tables) (f : Forest Node) (i : ℕ) (x : NodeData) → Holds t f → i < size f → x ≡ get_or t.nodes.items i x → ((e : ElementData) → x.kind ≡ kind.Element e → ⊥) → [] ≡ listed_of (place f i).item
 row_no_listed t f i x h l r n =
-    sym (none_listed t.attributes.items (names_of t) t.listed.items x.start x.end x.kind n) ∙ ap listed_of (row_node t f i x h l r)
+    sym (none_listed (rows_of t.attributes) (names_of t) t.listed.items x.start x.end x.kind n) ∙ ap listed_of (row_node t f i x h l r)
 
 -- what holds of all holds of a stretch
 all_take : {X : Type 0} (P : X → Type 0) (n : ℕ) (xs : List X) → AllByRecursion P xs → AllByRecursion P (take n xs)

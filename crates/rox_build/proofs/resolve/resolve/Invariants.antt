@@ -1,8 +1,8 @@
 use Rattle.std.proofs.Common.{length, map}
-use Rattle.rox_build.specs.Lines.{declaration}
+use Rattle.rox_build.specs.Lines.{declaration, rows_of}
 use Rattle.rox_build.specs.Scopes.{entries}
 use Rattle.rox_build.proofs.Resolving.{Resolving}
 use Rattle.rox_build.proofs.resolve.resolve.Given as goal
 
 abbrev pub invariant-loop-turn : goal.invariant-loop-turn
-invariant-loop-turn l = Resolving (length l.names) (map declaration l.names) (entries (map declaration l.names) l.places) l.fn.taken.items l.fn.attributes.items l.turn l.taken.items l.attributes.items
+invariant-loop-turn l = Resolving (length l.names) (map declaration l.names) (entries (map declaration l.names) l.places) l.fn.taken.items (rows_of l.fn.attributes) l.turn l.taken.items (rows_of l.attributes)

@@ -8,7 +8,7 @@ use Rattle.rox_grammar.specs.Document.{most_pairs}
 use Rattle.rox_reading.specs.Lexical.{qname_at}
 use Rattle.rox_reading.specs.Tags.{Held, attributes_at, tag_tested}
 use Rattle.rox_scan.specs.Gives.{Fails, name_view}
-use Rattle.rox_build.specs.Lines.{declaration}
+use Rattle.rox_build.specs.Lines.{declaration, rows_of}
 use Rattle.rox_build.specs.Tagged.{scope_in_tables}
 use Rattle.rox_build.proofs.Starting.{holds_nothing, tag_unread, tag_untested, tag_made, tagged, scope_stays, tested_fails, tested_passes}
 use Rattle.rox_build.proofs.tag.start_tag.Goals as goal
@@ -33,7 +33,7 @@ returns-in_err-xml-clause-value c =
     let nothing = holds_nothing known old.listed.items _ few c.clear.ensures.items in
     let took = c.in_err-xml.ensures.took known old.listed.items start own nothing in
     let p = err_from_is_err_and c.from_residual-in_err-xml.result c.from_residual-in_err-xml.ensures.1 in
-    rw (p.1, p.2) (tag_unread c.args.cut above (length old.attributes.items) known src i name n c.in_err-xml.field-0.0 is other (rw s2 at took))
+    rw (p.1, p.2) (tag_unread c.args.cut above (length (rows_of old.attributes)) known src i name n c.in_err-xml.field-0.0 is other (rw s2 at took))
 
 pub returns-in_err-element-clause-value : goal.returns-in_err-element-clause-value
 returns-in_err-element-clause-value c =
@@ -60,12 +60,12 @@ returns-in_err-element-clause-value c =
     c.in_ok-scope.ensures.lists known old.listed.items h.own own took.2.declares
     ∙ ap (λ xs. listed xs h.own) (scope_stays old c.attributes.new.elements c.args.above c.in_ok-xml.xml _ h took.2 c.requires.places c.requires.above) in
     let written = took.2.attributes in
-    let count : length c.scope_of_tag.new.elements.attributes.items ≡ length old.attributes.items =
-    ap (λ v. length v.items) (c.in_ok-scope.ensures.attributes ∙ c.in_ok-xml.ensures.attributes) in
+    let count : length (rows_of c.scope_of_tag.new.elements.attributes) ≡ length (rows_of old.attributes) =
+    ap (λ v. length (rows_of v)) (c.in_ok-scope.ensures.attributes ∙ c.in_ok-xml.ensures.attributes) in
     let p = err_from_is_err_and c.from_residual-in_err-element.result c.from_residual-in_err-element.ensures.1 in
-    let fails : Fails c.in_err-element.field-0.0 (tag_tested (listed above h.own) (length old.attributes.items) i name h.attributes) =
-    tested_fails c.in_err-element.field-0.0 (listed above h.own) (length old.attributes.items) i name h.attributes (rw (scopes, count, written, c.advance.ensures.place) at c.in_err-element.ensures.err) in
-    rw (p.1, p.2) (tag_untested c.args.cut above (length old.attributes.items) known src i name n c.attributes.new.cursor.pos h c.in_ok-xml.empty c.in_err-element.field-0.0 is other read fails)
+    let fails : Fails c.in_err-element.field-0.0 (tag_tested (listed above h.own) (length (rows_of old.attributes)) i name h.attributes) =
+    tested_fails c.in_err-element.field-0.0 (listed above h.own) (length (rows_of old.attributes)) i name h.attributes (rw (scopes, count, written, c.advance.ensures.place) at c.in_err-element.ensures.err) in
+    rw (p.1, p.2) (tag_untested c.args.cut above (length (rows_of old.attributes)) known src i name n c.attributes.new.cursor.pos h c.in_ok-xml.empty c.in_err-element.field-0.0 is other read fails)
 
 pub returns-clause-value : goal.returns-clause-value
 returns-clause-value c =
@@ -92,12 +92,12 @@ returns-clause-value c =
     c.in_ok-scope.ensures.lists known old.listed.items h.own own took.2.declares
     ∙ ap (λ xs. listed xs h.own) (scope_stays old c.attributes.new.elements c.args.above c.in_ok-xml.xml _ h took.2 c.requires.places c.requires.above) in
     let written = took.2.attributes in
-    let count : length c.scope_of_tag.new.elements.attributes.items ≡ length old.attributes.items =
-    ap (λ v. length v.items) (c.in_ok-scope.ensures.attributes ∙ c.in_ok-xml.ensures.attributes) in
-    let fine : tag_tested (listed above h.own) (length old.attributes.items) i name h.attributes ≡ Ok tt =
-    tested_passes (listed above h.own) (length old.attributes.items) i name h.attributes (rw (scopes, count, written, c.advance.ensures.place) at c.in_ok-element.ensures.tested) in (
+    let count : length (rows_of c.scope_of_tag.new.elements.attributes) ≡ length (rows_of old.attributes) =
+    ap (λ v. length (rows_of v)) (c.in_ok-scope.ensures.attributes ∙ c.in_ok-xml.ensures.attributes) in
+    let fine : tag_tested (listed above h.own) (length (rows_of old.attributes)) i name h.attributes ≡ Ok tt =
+    tested_passes (listed above h.own) (length (rows_of old.attributes)) i name h.attributes (rw (scopes, count, written, c.advance.ensures.place) at c.in_ok-element.ensures.tested) in (
       record { name = name; name_end = n; declarations = h.own; attributes = h.attributes },
-      tag_made c.args.cut above (length old.attributes.items) known src i name n c.attributes.new.cursor.pos h c.in_ok-xml.empty is other read fine,
+      tag_made c.args.cut above (length (rows_of old.attributes)) known src i name n c.attributes.new.cursor.pos h c.in_ok-xml.empty is other read fine,
       tagged old c.attributes.new.elements c.scope_of_tag.new.elements c.element_data.new.elements _ above name n h c.in_ok-xml.xml _ c.in_ok-scope.scope refl refl
           c.in_ok-xml.ensures.attributes took.2 c.in_ok-xml.ensures.few c.in_ok-scope.ensures.names c.in_ok-scope.ensures.attributes c.in_ok-scope.ensures.more c.in_ok-scope.ensures.places
           scopes c.in_ok-element.ensures.names c.in_ok-element.ensures.listed c.in_ok-element.ensures.element,

@@ -1,0 +1,11 @@
+use Rattle.std.proofs.Common.{◌++◌, ◌∷◌, [], ap, ◌∙◌}
+use Rattle.std.specs.List.{zip}
+use Rattle.rox_build.proofs.Columns.{zip_push}
+use Rattle.rox_build.proofs.attributes.AttributeTable.push.Goals as goal
+
+pub returns-clause-rows : goal.returns-clause-rows
+returns-clause-rows c =
+    let old = c.args.self.now in
+    let places = rw c.if-is_err.ensures.negation at c.push-2.ensures.items in
+    ap (λ xs. zip xs c.push-2.new.self.items) c.in_ok-push.ensures.items
+    ∙ ap (zip (old.data.items ++ c.args.row.0 ∷ [])) places ∙ zip_push old.data.items old.places.items c.args.row.0 c.args.row.1 old.even
