@@ -8,39 +8,35 @@ use roxmltree::{Document, Node};
 pub fn walk(document: &Document<'_>, start: u64) -> u64 {
     let mut sum = start;
     for node in document.descendants() {
-        sum = sum.wrapping_add(1).wrapping_add(weight(node));
+        sum = sum.wrapping_add(weight(node));
     }
     sum
 }
 
+// One for the node, and the bytes of its strings.
 #[inline]
 fn weight(node: Node<'_, '_>) -> u64 {
+    let mut sum = 1u64;
     if node.is_element() {
         let name = node.tag_name();
-        tag_weight(name.name(), name.namespace()).wrapping_add(attributes_weight(node))
-    } else if node.is_text() {
-        node.text().map_or(0, |text| text.len() as u64)
-    } else {
-        0
-    }
-}
-
-#[inline]
-fn attributes_weight(node: Node<'_, '_>) -> u64 {
-    let mut sum = 0u64;
-    for attribute in node.attributes() {
-        let name = tag_weight(attribute.name(), attribute.namespace());
         sum = sum
-            .wrapping_add(name)
-            .wrapping_add(attribute.value().len() as u64);
+            .wrapping_add(name.name().len() as u64)
+            .wrapping_add(uri_weight(name.namespace()));
+        for attribute in node.attributes() {
+            sum = sum
+                .wrapping_add(attribute.name().len() as u64)
+                .wrapping_add(attribute.value().len() as u64)
+                .wrapping_add(uri_weight(attribute.namespace()));
+        }
+    } else if node.is_text() {
+        sum = sum.wrapping_add(node.text().map_or(0, |text| text.len() as u64));
     }
     sum
 }
 
 #[inline]
-fn tag_weight(local: &str, uri: Option<&str>) -> u64 {
-    let uri = uri.map_or(0, |uri| uri.len() as u64);
-    uri.wrapping_add(local.len() as u64)
+fn uri_weight(uri: Option<&str>) -> u64 {
+    uri.map_or(0, |uri| uri.len() as u64)
 }
 
 /// Goes over each node in document order by `first_child`, `next_sibling` and `parent`. The answer is `start` and one more

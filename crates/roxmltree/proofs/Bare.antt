@@ -4,11 +4,10 @@ use Rattle.std.proofs.lemmas.List.Elements.{All-from_recursion}
 use Rattle.rox_build.specs.Storage.{storage_bytes}
 use Rattle.rox_grammar.specs.Forest.{Forest, size}
 use Rattle.rox_grammar.specs.Tree.{Node, Root, Element, Text, Comment, PI}
-use Rattle.rox_build.specs.Lines.{Holds, KindWithin, node, names_of, rows_of}
+use Rattle.rox_build.specs.Lines.{Holds, KindWithin, node, names_of, rows_of, AttributeRow}
 use Rattle.rox_build.specs.declared.tables.NodeKind.{NodeKind}
 use Rattle.rox_build.specs.declared.tables.NodeKind.TheVariants as kind
 use Rattle.rox_build.specs.declared.tables.NodeData.{NodeData}
-use Rattle.rox_build.specs.declared.tables.AttributeData.{AttributeData}
 use Rattle.rox_build.specs.declared.tables.Tables.{Tables}
 use Rattle.rox_grammar.specs.Written.{Declaration}
 use Rattle.roxmltree.specs.Places.{place}
@@ -18,7 +17,7 @@ use Rattle.roxmltree.specs.Kinds.{type_of}
 use Rattle.roxmltree.specs.Stored.{content_in}
 use Rattle.roxmltree.proofs.Rows.{row_line, in_rows}
 
-bare_node : (az : List AttributeData) (names : List Declaration) (listed : List ℕ) (start end : ℕ) (k : NodeKind) → bare_row start end k ≡ bare (node az names listed start end k)
+bare_node : (az : List AttributeRow) (names : List Declaration) (listed : List ℕ) (start end : ℕ) (k : NodeKind) → bare_row start end k ≡ bare (node az names listed start end k)
 bare_node az names listed start end kind.Root = refl
 bare_node az names listed start end (kind.Element e) = refl
 bare_node az names listed start end (kind.Text value) = refl
@@ -109,7 +108,7 @@ text_content_bare (Comment start end text) = refl
 text_content_bare (PI start end target value) = refl
 
 -- what a text's or a comment's row says of its text
-content_kind : (az : List AttributeData) (names : List Declaration) (listed : List ℕ) (a n l start end : ℕ) (k : NodeKind) → KindWithin a n l k → content_in k ≡ content_of (node az names listed start end k)
+content_kind : (az : List AttributeRow) (names : List Declaration) (listed : List ℕ) (a n l start end : ℕ) (k : NodeKind) → KindWithin a n l k → content_in k ≡ content_of (node az names listed start end k)
 content_kind az names listed a n l start end kind.Root w = refl
 content_kind az names listed a n l start end (kind.Element e) w = refl
 content_kind az names listed a n l start end (kind.Text value) w = refl

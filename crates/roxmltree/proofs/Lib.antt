@@ -9,6 +9,7 @@ pub mod Once
 pub mod Entries
 pub mod Prefixes
 pub mod Parts
+pub mod Columns
 pub mod Stretches
 pub mod Ranges
 pub mod CharTexts

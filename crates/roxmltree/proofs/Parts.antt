@@ -5,12 +5,11 @@ use Rattle.std.specs.Option.{option_map}
 use Rattle.rox_grammar.specs.Forest.{Forest, size}
 use Rattle.rox_grammar.specs.Tree.{Node}
 use Rattle.rox_grammar.specs.Written.{Declaration}
-use Rattle.rox_build.specs.Lines.{Holds, KindWithin, node, names_of, attribute, entry, rows_of}
+use Rattle.rox_build.specs.Lines.{Holds, KindWithin, node, names_of, attribute, entry, rows_of, AttributeRow}
 use Rattle.rox_build.specs.declared.tables.NodeKind.{NodeKind}
 use Rattle.rox_build.specs.declared.tables.NodeKind.TheVariants as kind
 use Rattle.rox_build.specs.declared.tables.NodeData.{NodeData}
 use Rattle.rox_build.specs.declared.tables.ElementData.{ElementData}
-use Rattle.rox_build.specs.declared.tables.AttributeData.{AttributeData}
 use Rattle.rox_build.specs.declared.tables.Tables.{Tables}
 use Rattle.roxmltree.specs.Places.{place}
 use Rattle.roxmltree.specs.Says.{namespace_of, listed_of, attributes_of}
@@ -39,21 +38,21 @@ element_within t f i x e h l r k =
     subst (λ v. KindWithin (length (rows_of t.attributes)) (length t.namespaces.items) (length t.listed.items) v) k (row_within t f i x h l r)
 
 -- a row that is no element's
-none_namespace : (az : List AttributeData) (names : List Declaration) (listed : List ℕ) (start end : ℕ) (k : NodeKind) → ((e : ElementData) → k ≡ kind.Element e → ⊥) → namespace_of (node az names listed start end k) ≡ None
+none_namespace : (az : List AttributeRow) (names : List Declaration) (listed : List ℕ) (start end : ℕ) (k : NodeKind) → ((e : ElementData) → k ≡ kind.Element e → ⊥) → namespace_of (node az names listed start end k) ≡ None
 none_namespace az names listed start end kind.Root n = refl
 none_namespace az names listed start end (kind.Element e) n = absurd (n e refl)
 none_namespace az names listed start end (kind.Text value) n = refl
 none_namespace az names listed start end (kind.Comment text) n = refl
 none_namespace az names listed start end (kind.PI pi) n = refl
 
-none_attributes : (az : List AttributeData) (names : List Declaration) (listed : List ℕ) (start end : ℕ) (k : NodeKind) → ((e : ElementData) → k ≡ kind.Element e → ⊥) → attributes_of (node az names listed start end k) ≡ []
+none_attributes : (az : List AttributeRow) (names : List Declaration) (listed : List ℕ) (start end : ℕ) (k : NodeKind) → ((e : ElementData) → k ≡ kind.Element e → ⊥) → attributes_of (node az names listed start end k) ≡ []
 none_attributes az names listed start end kind.Root n = refl
 none_attributes az names listed start end (kind.Element e) n = absurd (n e refl)
 none_attributes az names listed start end (kind.Text value) n = refl
 none_attributes az names listed start end (kind.Comment text) n = refl
 none_attributes az names listed start end (kind.PI pi) n = refl
 
-none_listed : (az : List AttributeData) (names : List Declaration) (listed : List ℕ) (start end : ℕ) (k : NodeKind) → ((e : ElementData) → k ≡ kind.Element e → ⊥) → listed_of (node az names listed start end k) ≡ []
+none_listed : (az : List AttributeRow) (names : List Declaration) (listed : List ℕ) (start end : ℕ) (k : NodeKind) → ((e : ElementData) → k ≡ kind.Element e → ⊥) → listed_of (node az names listed start end k) ≡ []
 none_listed az names listed start end kind.Root n = refl
 none_listed az names listed start end (kind.Element e) n = absurd (n e refl)
 none_listed az names listed start end (kind.Text value) n = refl

@@ -1,7 +1,7 @@
 -- What an element has, as callers and as the tables say it.
-use Rattle.std.specs.Prelude.{◌<◌, List, map, length}
+use Rattle.std.specs.Prelude.{◌≡◌, ◌<◌, ◌≤◌, List, map, length, slice_range}
 use Rattle.std.specs.Coded.{Coded, coded_list}
-use Rattle.std.specs.List.{AllByRecursion}
+use Rattle.std.specs.List.{AllByRecursion, zip}
 use Rattle.std.specs.Slice.Iter.{iter_rest}
 use Rattle.rox_grammar.specs.Written.{Declaration}
 use Rattle.rox_grammar.specs.Tree as tree
@@ -19,15 +19,18 @@ declarations_code = coded_list declaration_code
 
 -- an attribute as callers see it
 abbrev pub attribute_of : Attribute → tree.Attribute
-attribute_of a = attribute (map declaration a.names.now) a.data.now
+attribute_of a = attribute (map declaration a.names.now) (a.data.now, a.places.now)
 
 -- those that are left
 abbrev pub attributes_left : attributes.Inside → List tree.Attribute
-attributes_left a = map (attribute (map declaration a.names.now)) (iter_rest a.items)
+attributes_left a = map (attribute (map declaration a.names.now)) (slice_range (zip a.data.now a.places.now) a.from a.until)
 
--- each of them has its namespace in the table
+-- they are a stretch of two columns, and each of these has its namespace in the table
 pub record AttributesWithin (a : attributes.Inside) : Type 0 where
-  pub each : AllByRecursion (λ d. NamespaceWithin (length a.names.now) d.namespace) (iter_rest a.items)
+  pub even : length a.places.now ≡ length a.data.now
+  pub ordered : a.from ≤ a.until
+  pub within : a.until ≤ length a.data.now
+  pub each : AllByRecursion (λ d. NamespaceWithin (length a.names.now) d.namespace) a.data.now
 
 abbrev pub namespaces_left : namespaces.Inside → List Declaration
 namespaces_left n = map (entry (map declaration n.names.now)) (iter_rest n.items)

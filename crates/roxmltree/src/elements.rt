@@ -7,7 +7,7 @@ ghost use Rattle.roxmltree.specs.Reach.{reach};
 
 use crate::names::{ExpandedName, NS_XML_URI};
 use rox_build::storage::StringStorage;
-use rox_build::tables::{AttributeData, AttributeNamespace, Namespace};
+use rox_build::tables::{AttributeData, AttributeNamespace, AttributePlaces, Namespace};
 use std::marker::Model;
 use std::ops::Range;
 use std::{fmt, slice};
@@ -16,6 +16,7 @@ use std::{fmt, slice};
 #[derive(Clone, Copy)]
 pub struct Attribute<'a, 'input> {
     data: &'a AttributeData<'input>,
+    places: &'a AttributePlaces,
     names: &'a [Namespace<'input>],
     ghost within: { reach data.now.namespace ≤ length names.now },
 }
@@ -77,7 +78,7 @@ impl<'a, 'input> Attribute<'a, 'input> {
     pub fn position(&self) -> usize
         ensures { result ≡ (attribute_of self.now).start }
     {
-        self.data.start
+        self.places.start
     }
 
     /// Where it stands in its source, in bytes: from its name to its closing quote, the quote included.
@@ -86,7 +87,7 @@ impl<'a, 'input> Attribute<'a, 'input> {
         ensures start { result.start ≡ (attribute_of self.now).start }
         ensures end { result.end ≡ (attribute_of self.now).end }
     {
-        self.data.start..self.data.end
+        self.places.start..self.places.end
     }
 
     /// Where its name stands in its source, in bytes.
@@ -95,7 +96,7 @@ impl<'a, 'input> Attribute<'a, 'input> {
         ensures start { result.start ≡ (attribute_of self.now).start }
         ensures end { result.end ≡ (attribute_of self.now).name_end }
     {
-        self.data.start..self.data.name_end
+        self.places.start..self.places.name_end
     }
 
     /// Where its value stands in its source, in bytes, without the quotes.
@@ -104,7 +105,7 @@ impl<'a, 'input> Attribute<'a, 'input> {
         ensures start { result.start ≡ (attribute_of self.now).value_start }
         ensures end { result.end ≡ (attribute_of self.now).end - 1 }
     {
-        self.data.value_start..self.data.end.saturating_sub(1)
+        self.places.value_start..self.places.end.saturating_sub(1)
     }
 }
 
@@ -133,11 +134,14 @@ impl fmt::Debug for Attribute<'_, '_> {
     }
 }
 
-/// Attributes of one element, from both ends.
+/// Attributes of one element, from both ends: a stretch of the table of attributes, which has two columns.
 #[derive(Clone, Drop)]
 pub struct Attributes<'a, 'input> {
-    pub(crate) items: slice::Iter<'a, AttributeData<'input>>,
+    pub(crate) data: &'a [AttributeData<'input>],
+    pub(crate) places: &'a [AttributePlaces],
     pub(crate) names: &'a [Namespace<'input>],
+    pub(crate) from: usize,
+    pub(crate) until: usize,
 }
 
 impl<'a, 'input> Model for Attributes<'a, 'input> {
@@ -156,26 +160,30 @@ impl<'a, 'input> Model for Attributes<'a, 'input> {
 
 impl<'a, 'input> Attributes<'a, 'input> {
     ghost use Rattle.std.specs.Prelude.{map, slice_range};
-    ghost use Rattle.std.specs.List.{AllByRecursion};
+    ghost use Rattle.std.specs.List.{AllByRecursion, zip};
     ghost use Rattle.rox_build.specs.Lines.{attribute, NamespaceWithin};
 
     /// A stretch of the attributes of all elements, whose namespaces are in this table.
     #[inline]
-    #[tactic(auto, using(crate::proofs::Parts::all_stretch))]
     pub(crate) fn part(
-        items: &'a [AttributeData<'input>],
+        data: &'a [AttributeData<'input>],
+        places: &'a [AttributePlaces],
         from: usize,
         until: usize,
         names: &'a [Namespace<'input>],
     ) -> Attributes<'a, 'input>
+        requires even { length places.now ≡ length data.now }
         requires ordered { from ≤ until }
-        requires within { until ≤ length items.now }
-        requires named { AllByRecursion (λ a. NamespaceWithin (length names.now) a.namespace) items.now }
-        ensures { result ≡ map (attribute (map declaration names.now)) (slice_range items.now from until) }
+        requires within { until ≤ length data.now }
+        requires named { AllByRecursion (λ a. NamespaceWithin (length names.now) a.namespace) data.now }
+        ensures { result ≡ map (attribute (map declaration names.now)) (slice_range (zip data.now places.now) from until) }
     {
         Attributes {
-            items: items[from..until].iter(),
+            data,
+            places,
             names,
+            from,
+            until,
         }
     }
 }
@@ -198,13 +206,18 @@ impl<'a, 'input> Iterator for Attributes<'a, 'input> {
 
     ghost remaining = { item_count (λ s. s) };
 
-    #[tactic(auto, using(crate::proofs::Entries::reach_within))]
+    #[tactic(auto, using(crate::proofs::Columns::reach_at, crate::proofs::Columns::first_row))]
     fn next(&mut self) -> Option<Attribute<'a, 'input>> {
-        let names = self.names;
-        match self.items.next() {
-            Some(data) => Some(Attribute { data, names }),
-            None => None,
+        if self.from == self.until {
+            return None;
         }
+        let place = self.from;
+        self.from = place + 1;
+        Some(Attribute {
+            data: &self.data[place],
+            places: &self.places[place],
+            names: self.names,
+        })
     }
 }
 
@@ -214,19 +227,24 @@ impl<'a, 'input> DoubleEndedIterator for Attributes<'a, 'input> {
 
     ghost next_back_gives = { YieldsLastBy attribute_of (λ s. s) };
 
-    #[tactic(auto, using(crate::proofs::Entries::reach_within, crate::proofs::Entries::all_front, crate::proofs::Entries::all_last))]
+    #[tactic(auto, using(crate::proofs::Columns::reach_at))]
     fn next_back(&mut self) -> Option<Attribute<'a, 'input>> {
-        let names = self.names;
-        match self.items.next_back() {
-            Some(data) => Some(Attribute { data, names }),
-            None => None,
+        if self.from == self.until {
+            return None;
         }
+        let place = self.until - 1;
+        self.until = place;
+        Some(Attribute {
+            data: &self.data[place],
+            places: &self.places[place],
+            names: self.names,
+        })
     }
 }
 
 impl ExactSizeIterator for Attributes<'_, '_> {
     fn len(&self) -> usize {
-        self.items.len()
+        self.until - self.from
     }
 }
 

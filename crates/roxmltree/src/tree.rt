@@ -175,15 +175,16 @@ impl<'input> Document<'input> {
         requires { number id < size self.now.tree }
         ensures { result ≡ attributes_of (node_at self.now.tree (number id)) }
     {
-        let items = self.tables.attributes.as_slice();
+        let data = self.tables.attributes.data.as_slice();
+        let places = self.tables.attributes.places.as_slice();
         let names = self.tables.namespaces.as_slice();
         match &self.tables.nodes[id.0 as usize].kind {
             NodeKind::Element(element) => {
                 let from = element.attributes_from as usize;
                 let until = element.attributes_until as usize;
-                Attributes::part(items, from, until, names)
+                Attributes::part(data, places, from, until, names)
             }
-            _ => Attributes::part(items, 0, 0, names),
+            _ => Attributes::part(data, places, 0, 0, names),
         }
     }
 

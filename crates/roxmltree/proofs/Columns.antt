@@ -1,0 +1,70 @@
+-- Attributes in two columns: what they are, and where they stand.
+use Rattle.std.proofs.Common.{◌≡◌, ℕ, zero, suc, ◌+◌, ◌-◌, ◌<◌, ◌≤◌, List, [], ◌∷◌, ◌++◌, length, map, get_or, take, drop, add-one, drop-cons, refl, sym, ap, ◌∙◌, subst, arith}
+use Rattle.std.specs.List.{AllByRecursion, slice_range, zip}
+use Rattle.std.proofs.lemmas.List.{take_more, get_or-drop, length-map, length-drop, length-take-le}
+use Rattle.std.proofs.lemmas.Slice.Zip.{firsts-zip, get_or-zip}
+use Rattle.rox_grammar.specs.Written.{Declaration}
+use Rattle.rox_build.specs.Lines.{AttributeRow, NamespaceWithin, attribute, rows_of}
+use Rattle.rox_build.specs.declared.tables.AttributeData.{AttributeData}
+use Rattle.rox_build.specs.declared.tables.AttributePlaces.{AttributePlaces}
+use Rattle.rox_build.specs.declared.attributes.AttributeTable.{AttributeTable}
+use Rattle.roxmltree.specs.Reach.{reach}
+use Rattle.roxmltree.proofs.Entries.{reach_within}
+
+-- so many rows as there are data
+pub length_rows : (as' : List AttributeData) (ps : List AttributePlaces) → length ps ≡ length as' → length (zip as' ps) ≡ length as'
+length_rows as' ps e = sym (length-map (zip as' ps) (λ r. r.0)) ∙ ap length (firsts-zip as' ps e)
+
+-- the row at a place
+row_at : (as' : List AttributeData) (ps : List AttributePlaces) (i : ℕ) (x : AttributeData) (p : AttributePlaces)
+    → length ps ≡ length as' → i < length as' → get_or (zip as' ps) i (x, p) ≡ (get_or as' i x, get_or ps i p)
+row_at as' ps i x p e l = get_or-zip as' ps i (x, p) l (omega (arith, e, l))
+
+-- the first row of a stretch, and the rest
+pub first_row : (as' : List AttributeData) (ps : List AttributePlaces) (i j : ℕ) (x : AttributeData) (p : AttributePlaces)
+    → length ps ≡ length as' → i ≤ j → (i ≡ j → ⊥) → j ≤ length as'
+    → slice_range (zip as' ps) i j ≡ (get_or as' i x, get_or ps i p) ∷ slice_range (zip as' ps) (i + 1) j
+first_row as' ps i j x p e o n w =
+    let rows = zip as' ps in
+    let l = length_rows as' ps e in
+    let some : i < length rows = omega arith in
+    let k : j - i ≡ suc (j - (i + 1)) = omega arith in
+    let d : drop i rows ≡ get_or rows i (x, p) ∷ drop (i + 1) rows = rw (add-one, drop-cons rows i (x, p) some) refl in
+    ap (take (j - i)) d ∙ ap (λ n. take n (get_or rows i (x, p) ∷ drop (i + 1) rows)) k
+    ∙ ap (λ r. r ∷ slice_range rows (i + 1) j) (row_at as' ps i x p e (omega arith))
+
+-- those before the last row of a stretch, and the last
+pub last_row : (as' : List AttributeData) (ps : List AttributePlaces) (i j : ℕ) (x : AttributeData) (p : AttributePlaces)
+    → length ps ≡ length as' → i ≤ j → (i ≡ j → ⊥) → j ≤ length as'
+    → slice_range (zip as' ps) i j ≡ slice_range (zip as' ps) i (j - 1) ++ (get_or as' (j - 1) x, get_or ps (j - 1) p) ∷ []
+last_row as' ps i j x p e o n w =
+    let rows = zip as' ps in
+    let l = length_rows as' ps e in
+    let k : j - i ≡ ((j - 1) - i) + 1 = omega arith in
+    let d : length (drop i rows) ≡ length rows - i = length-drop i rows in
+    let there : i + ((j - 1) - i) ≡ j - 1 = omega arith in
+    ap (λ n. take n (drop i rows)) k ∙ take_more (drop i rows) ((j - 1) - i) (x, p) (omega arith)
+    ∙ ap (λ r. take ((j - 1) - i) (drop i rows) ++ r ∷ []) (get_or-drop i rows ((j - 1) - i) (x, p) ∙ ap (λ n. get_or rows n (x, p)) there ∙ row_at as' ps (j - 1) x p e (omega arith))
+
+-- how many attributes a stretch has
+pub length_left : (names : List Declaration) (as' : List AttributeData) (ps : List AttributePlaces) (i j : ℕ)
+    → length ps ≡ length as' → i ≤ j → j ≤ length as' → length (map (attribute names) (slice_range (zip as' ps) i j)) ≡ j - i
+length_left names as' ps i j e o w =
+    let rows = zip as' ps in
+    let l = length_rows as' ps e in
+    let d : length (drop i rows) ≡ length rows - i = length-drop i rows in
+    length-map (slice_range rows i j) (attribute names) ∙ length-take-le (j - i) (drop i rows) (omega arith)
+
+-- what holds of each row's data holds of each of the column
+pub all_column : (n : ℕ) (t : AttributeTable) → AllByRecursion (λ (r : AttributeRow). NamespaceWithin n r.0.namespace) (rows_of t) → AllByRecursion (λ a. NamespaceWithin n a.namespace) t.data.items
+all_column n t h = subst (AllByRecursion (λ a. NamespaceWithin n a.namespace)) (firsts-zip t.data.items t.places.items t.even) (all_firsts (rows_of t) h)
+  where
+    all_firsts : (rows : List AttributeRow) → AllByRecursion (λ (r : AttributeRow). NamespaceWithin n r.0.namespace) rows → AllByRecursion (λ (a : AttributeData). NamespaceWithin n a.namespace) (map (λ (r : AttributeRow). r.0) rows)
+    all_firsts [] h = tt
+    all_firsts (r ∷ rows) h = (h.0, all_firsts rows h.1)
+
+-- a namespace that is named at a place of the column is within the table
+pub reach_at : (n : ℕ) (as' : List AttributeData) (i : ℕ) (x : AttributeData) → AllByRecursion (λ (a : AttributeData). NamespaceWithin n a.namespace) as' → i < length as' → x ≡ get_or as' i x → reach x.namespace ≤ n
+reach_at n [] i x h l is = absurd (omega arith)
+reach_at n (a ∷ as') zero x h l is = subst (λ (y : AttributeData). reach y.namespace ≤ n) (sym is) (reach_within n a.namespace h.0)
+reach_at n (a ∷ as') (suc i) x h l is = reach_at n as' i x h.1 (omega arith) is

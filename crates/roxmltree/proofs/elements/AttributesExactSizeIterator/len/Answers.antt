@@ -1,0 +1,10 @@
+use Rattle.std.proofs.Common.{length, map, ap, ◌∙◌, sym}
+use Rattle.rox_build.specs.Lines.{declaration}
+use Rattle.roxmltree.proofs.Columns.{length_left}
+use Rattle.roxmltree.proofs.elements.AttributesExactSizeIterator.len.Goals as goal
+
+pub returns-clause-value : goal.returns-clause-value
+returns-clause-value c =
+    let d = c.self.inside in
+    let v = c.self.invariant in
+    sym (length_left (map declaration d.names.now) d.data.now d.places.now d.from d.until v.even v.ordered v.within) ∙ ap length c.self.view_is
