@@ -9,7 +9,7 @@ use Rattle.rox_grammar.specs.Written.{Attribute, Name, Declaration}
 use Rattle.rox_grammar.specs.Tree.{listed, attribute_in, element_namespace}
 use Rattle.rox_grammar.specs.Document.{most_pairs}
 use Rattle.rox_reading.specs.Lexical.{◌>>=◌, qname_at}
-use Rattle.rox_reading.specs.Tags.{Held, attributes_at, tag_tested, tag_at, listable_of}
+use Rattle.rox_reading.specs.Tags.{Held, attributes_at, tested_at, tag_tested, tag_at, listable_of}
 use Rattle.rox_scan.specs.Gives.{Fails, name_view}
 use Rattle.rox_scan.specs.declared.failure.Failure.{Failure}
 use Rattle.rox_scan.specs.declared.failure.Failure.TheVariants as failure
@@ -20,7 +20,7 @@ use Rattle.rox_build.specs.declared.tag.StartTag.{StartTag}
 use Rattle.rox_build.specs.Lines.{declaration, entry, rows_of}
 use Rattle.rox_build.specs.Scopes.{ArePlaces}
 use Rattle.rox_build.specs.Tags.{taken_view, Holding}
-use Rattle.rox_build.specs.Tagged.{IsElement, Tagged, scope_in_tables, tested_at}
+use Rattle.rox_build.specs.Tagged.{IsElement, Tagged, scope_in_tables}
 use Rattle.rox_build.proofs.Listing.{with_new-front}
 use Rattle.rox_build.proofs.Stable.{all_slice, slice-append, map_same, entry-append}
 

@@ -1,15 +1,11 @@
 -- What the code holds of a start tag that was read, against the tag.
-use Rattle.std.specs.Prelude.{◌≡◌, ℕ, ◌+◌, Bool, ◌≤◌, List, [], ◌++◌, length, map, Result, Ok, Err, slice_range, nat_lt, if◌then◌else◌}
+use Rattle.std.specs.Prelude.{◌≡◌, ℕ, Bool, ◌≤◌, List, ◌++◌, length, map, Result, Ok, Err, slice_range}
 use Rattle.std.specs.List.{AllByRecursion}
 use Rattle.std.specs.Option.{option_map}
-use Rattle.rox_grammar.specs.declared.fault.Fault.{Fault}
-use Rattle.rox_grammar.specs.declared.fault.Fault.TheVariants as fault
-use Rattle.rox_grammar.specs.Written.{Attribute, Name, Declaration, Tag, prefix_span}
-use Rattle.rox_grammar.specs.WellNamed.{may_name}
+use Rattle.rox_grammar.specs.Written.{Attribute, Name, Declaration, Tag}
 use Rattle.rox_grammar.specs.Tree.{listed, attribute_in, element_namespace}
 use Rattle.rox_grammar.specs.Document.{listable, with_new, most_pairs, most_attributes}
-use Rattle.rox_reading.specs.Lexical.{Read, ◌>>=◌}
-use Rattle.rox_reading.specs.Tags.{names_tested}
+use Rattle.rox_reading.specs.Lexical.{Read}
 use Rattle.rox_scan.specs.Gives.{Fails, name_view}
 use Rattle.rox_scan.specs.declared.cursor.Cursor.{Cursor}
 use Rattle.rox_scan.specs.declared.failure.Failure.{Failure}
@@ -38,13 +34,6 @@ pub record IsElement (old new : ElementTables) (e : ElementData) (scope : List D
   pub namespace_within : OptionWithin (length new.namespaces.items.items) e.namespace
   pub listed_within : (e.namespaces_from ≤ e.namespaces_until) × (e.namespaces_until ≤ length new.listed.items)
   pub lists : entries (map declaration new.namespaces.items.items) (slice_range new.listed.items e.namespaces_from e.namespaces_until) ≡ scope
-
--- the names of a tag, whose own stands at this place, with so many attributes before it, in this scope
-abbrev pub tested_at : List Declaration → (count at : ℕ) → Name → List Attribute → Result (Unit {0}) Fault
-tested_at scope count at name as' =
-    if nat_lt most_attributes (count + length as') then Err fault.AttributesLimitReached
-    else names_tested scope [] as' >>= λ _.
-    if may_name scope name then Ok tt else Err (fault.UnknownNamespace (prefix_span name at) at)
 
 -- The tables have grown by a tag below an element that lists these.
 pub record Tagged (old new : ElementTables) (t : StartTag) (above : List Declaration) (tag : Tag) : Type 0 where

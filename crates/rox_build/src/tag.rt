@@ -3,9 +3,9 @@
 ghost use Rattle.std.specs.Prelude.{◌≡◌, ◌<◌, ◌≤◌, ◌+◌, ◌-◌, ◌^◌, ◌∷◌, [], Bool, false, true, List, ℕ, length, map, Ok, Err, OnOk, IfOk, slice_index, slice_range, IfErr, ◌++◌};
 ghost use Rattle.rox_grammar.specs.Written.{Declaration};
 ghost use Rattle.rox_grammar.specs.Document.{most_pairs, most_attributes};
-ghost use Rattle.rox_reading.specs.Tags.{Held, attributes_at, tag_at};
+ghost use Rattle.rox_reading.specs.Tags.{Held, attributes_at, tag_at, tested_at};
 ghost use Rattle.rox_scan.specs.Gives.{Fails, name_view};
-ghost use Rattle.rox_build.specs.Tagged.{IsElement, GivesTag, scope_in_tables, tested_at};
+ghost use Rattle.rox_build.specs.Tagged.{IsElement, GivesTag, scope_in_tables};
 ghost use Rattle.rox_scan.specs.Parts.{HasValue, attribute_view};
 ghost use Rattle.rox_build.specs.Values.{piece_view};
 ghost use Rattle.rox_build.specs.Storage.{storage_bytes, is_borrowed};

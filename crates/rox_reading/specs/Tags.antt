@@ -1,5 +1,5 @@
 -- Reading of a start tag: its attributes and declarations, each tested in order.
-use Rattle.std.specs.Prelude.{ℕ, zero, suc, ◌+◌, ◌-◌, ◌==◌, ◌&&◌, not, Bool, true, false, List, [], ◌∷◌, ◌++◌, Option, Some, None, Result, Ok, Err, length, slice_range, nat_lt, nat_le, bytes_eq, filter, if◌then◌else◌}
+use Rattle.std.specs.Prelude.{ℕ, zero, suc, ◌+◌, not, Bool, true, false, List, [], ◌∷◌, ◌++◌, Result, Ok, Err, length, nat_lt, nat_le, bytes_eq, filter, if◌then◌else◌}
 use Rattle.std.specs.List.{list_any}
 use Rattle.rox_grammar.specs.declared.fault.Fault.{Fault}
 use Rattle.rox_grammar.specs.declared.fault.Fault.TheVariants as fault
@@ -8,7 +8,7 @@ use Rattle.rox_grammar.specs.Words.{word_text}
 use Rattle.rox_grammar.specs.Written.{Name, Attribute, Declaration, Tag, declares, declaration_of, local_span, prefix_span}
 use Rattle.rox_grammar.specs.Tree.{xml_uri, xmlns_uri, is_declared, listed}
 use Rattle.rox_grammar.specs.WellNamed.{is_xml, is_known, same_expanded, may_name}
-use Rattle.rox_grammar.specs.Document.{with_new, distinct_pairs, most_pairs, most_attributes}
+use Rattle.rox_grammar.specs.Document.{with_new, most_pairs, most_attributes}
 use Rattle.rox_reading.specs.Lexical.{Read, ◌>>=◌, qname_at}
 use Rattle.rox_reading.specs.Markup.{RawAttribute, Turn, more, opened, closed, turn_at}
 use Rattle.rox_reading.specs.Values.{RunText, value_at}
@@ -82,12 +82,16 @@ names_tested scope before (a ∷ as') =
     else if list_any (λ e. same_expanded scope e.name a.name) before then Err (fault.DuplicatedAttribute (local_span a.name a.name_end) a.start)
     else names_tested scope (before ++ a ∷ []) as'
 
--- the end of a tag that begins at i, with so many attributes before it, of an element that lists this scope
-unfoldable pub tag_tested : List Declaration → ℕ → ℕ → Name → List Attribute → Result (Unit {0}) Fault
-tag_tested scope count i name as' =
+-- the names of a tag, whose own stands at this place, with so many attributes before it, in this scope
+abbrev pub tested_at : List Declaration → (count at : ℕ) → Name → List Attribute → Result (Unit {0}) Fault
+tested_at scope count at name as' =
     if nat_lt most_attributes (count + length as') then Err fault.AttributesLimitReached
     else names_tested scope [] as' >>= λ _.
-    if may_name scope name then Ok tt else Err (fault.UnknownNamespace (prefix_span name (i + 1)) (i + 1))
+    if may_name scope name then Ok tt else Err (fault.UnknownNamespace (prefix_span name at) at)
+
+-- the same of a tag that begins at i, of an element that lists this scope
+unfoldable pub tag_tested : List Declaration → ℕ → ℕ → Name → List Attribute → Result (Unit {0}) Fault
+tag_tested scope count i name as' = tested_at scope count (i + 1) name as'
 
 -- a start tag, from its `<`, and whether it is empty; above is what the parent lists
 unfoldable pub tag_at : Fault → List Declaration → ℕ → List Declaration → List ℕ → ℕ → Read (Tag × Bool)

@@ -1,10 +1,10 @@
 -- Blocks of bytes, seen through a mask that has a bit for each byte that is not in a set.
-use Rattle.std.proofs.Common.{◌≡◌, ℕ, ◌+◌, ◌-◌, ◌%◌, ◌^◌, ◌<◌, ◌≤◌, Bool, true, not, cond, eqb, ltb, leb, List, [], ◌∷◌, map, length, replicate, refl, sym, ap, ap₂, ◌∙◌, arith, w8, Fits}
+use Rattle.std.proofs.Common.{◌≡◌, ℕ, suc, ◌+◌, ◌-◌, ◌*◌, ◌%◌, ◌^◌, ◌<◌, ◌≤◌, Bool, true, false, not, cond, eqb, ltb, leb, List, [], ◌∷◌, map, length, get_or, replicate, refl, sym, ap, ap₂, ◌∙◌, arith, inl, inr, w8, Fits}
 use Rattle.std.specs.List.{prefix_len}
 use Rattle.std.specs.Simd.Lanes.{mask_l, top, zip2, chunk, Each1}
-use Rattle.std.proofs.lemmas.Simd.{zip2_splat, zip2_of_maps, map-map, mask_l-mod, length-chunk, leading_from_mask_l, trailing_mask_l, run_in_chunk_fails}
+use Rattle.std.proofs.lemmas.Simd.{zip2_splat, zip2_of_maps, map-map, mask_l-mod, length-chunk, leading_from_mask_l, trailing_mask_l, run_in_chunk_fails, run_in_chunk_stops}
 use Rattle.std.proofs.lemmas.List.{length-map}
-use Rattle.std.proofs.lemmas.Bool.{not-false}
+use Rattle.std.proofs.lemmas.Bool.{cases_lt, not-false, not-true}
 use Rattle.rox_scan.specs.Near.{AllPass}
 use Rattle.rox_scan.proofs.TableLemmas.{agree_below, agree_at}
 use lib.Count.{count_trailing_zeros}
@@ -60,8 +60,24 @@ pub counted_some : (q : ℕ → Bool) (src : List ℕ) (i n : ℕ) → i + n ≤
     → count_trailing_zeros 64 (mask_l (map q (chunk i n src))) ≡ prefix_len (λ b. not (q b)) (chunk i n src)
 counted_some q src i n room few some = trailing_mask_l q 64 (chunk i n src) (omega (arith, length-chunk i n src room)) some
 
+first : (b : Bool) (n m l : ℕ) → 0 < cond b 1 0 + 2 * n → (0 < n → m < l) → cond (not b) (1 + m) 0 < suc l
+first true n m l some f = omega arith
+first false n m l some f = omega (arith, f (omega arith))
+
+-- which are fewer than the block has
+pub some_left : (q : ℕ → Bool) (xs : List ℕ) → 0 < mask_l (map q xs) → prefix_len (λ b. not (q b)) xs < length xs
+some_left q [] some = absurd (omega arith)
+some_left q (x ∷ xs) some = first (q x) (mask_l (map q xs)) (prefix_len (λ b. not (q b)) xs) (length xs) some (some_left q xs)
+
 pub block_passes : (p : ℕ → Bool) (src : List ℕ) (i n r : ℕ) → i + n ≤ length src → r ≡ prefix_len (λ b. not (not (p b))) (chunk i n src) → AllPass p src i (i + r)
 block_passes p src i n r room counted k low high = not-false _ (run_in_chunk_fails (λ b. not (p b)) src i n r 0 room counted k low high)
+
+-- what passes goes on behind a place
+pub passes_on : (p : ℕ → Bool) (src : List ℕ) (i e j : ℕ) → AllPass p src i e → AllPass p src e j → AllPass p src i j
+passes_on p src i e j before behind k low high = elim (cases_lt k e) [ inl less ↦ before k low less | inr more ↦ behind k more high ]
+
+pub block_stops : (p : ℕ → Bool) (src : List ℕ) (i n r : ℕ) → i + n ≤ length src → r ≡ prefix_len (λ b. not (not (p b))) (chunk i n src) → r < n → p (get_or src (i + r) 0) ≡ false
+block_stops p src i n r room counted short = not-true _ (run_in_chunk_stops (λ b. not (p b)) src i n r 0 room counted short)
 
 -- the lanes as they are
 pub map_same : (v : List ℕ) → v ≡ map (λ x. x) v

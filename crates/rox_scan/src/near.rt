@@ -1,6 +1,6 @@
 //! Runs of plain bytes, sixteen at a time: a first look at names, values, character data and comments.
 
-ghost use Rattle.std.specs.Prelude.{◌≡◌, ◌+◌, ◌<◌, ◌≤◌, ℕ, Bool, false, not, map, length, slice_index};
+ghost use Rattle.std.specs.Prelude.{◌≡◌, ◌+◌, ◌<◌, ◌≤◌, ℕ, Bool, false, not, map, take, drop, length, slice_index};
 ghost use Rattle.std.specs.Str.{IsCharBoundary};
 ghost use Rattle.std.specs.Int.{w64, trailing_zeros};
 ghost use Rattle.std.specs.Simd.Lanes.{mask_l};
@@ -117,9 +117,11 @@ impl Near for PartByte {
 #[inline(always)]
 fn others_at<C: Near>(bytes: &[u8], at: usize) -> u64
     requires { at + 16 ≤ length bytes.now }
+    ensures value { result ≡ mask_l (map (λ b. not (C.test b)) (take 16 (drop at bytes.now))) }
     ensures none { result ≡ 0 → AllPass C.test bytes.now at (at + 16) }
-    ensures few { 0 < result → trailing_zeros w64 result ≤ 16 }
+    ensures few { 0 < result → trailing_zeros w64 result < 16 }
     ensures passes { 0 < result → AllPass C.test bytes.now at (at + trailing_zeros w64 result) }
+    ensures stops { 0 < result → C.test (slice_index bytes.now (at + trailing_zeros w64 result)) ≡ false }
 {
     C::others(u8x16::from_slice(&bytes[at..]))
 }
@@ -132,13 +134,14 @@ fn before_first(others: u64) -> usize
     others.trailing_zeros() as usize
 }
 
-/// Where the bytes of the set from `at` on end, or a place before that where fewer than sixteen bytes are left.
+/// Where the bytes of the set from `at` on end, or the whole blocks of sixteen from there, whichever is first.
 #[inline(always)]
 fn blocks_end<C: Near>(bytes: &[u8], at: usize) -> usize
     requires { at ≤ length bytes.now }
     ensures onward { at ≤ result }
-    ensures within { result ≤ length bytes.now }
+    ensures within { result ≤ near.blocks_to bytes.now at }
     ensures passes { AllPass C.test bytes.now at result }
+    ensures stops { result < near.blocks_to bytes.now at → C.test (slice_index bytes.now result) ≡ false }
 {
     let mut end = at;
     while bytes.len() - end >= 16 {
