@@ -1,6 +1,6 @@
 //! The table of attributes.
 
-ghost use Rattle.std.specs.Prelude.{◌≡◌, ◌++◌, ◌∷◌, [], length, IfOk, OnOk, IfErr};
+ghost use Rattle.std.specs.Prelude.{◌≡◌, ◌++◌, ◌∷◌, [], length, if◌then◌else◌, is_ok, IfOk, IfErr};
 ghost use Rattle.std.proofs.Props.{props};
 
 use crate::growth::push;
@@ -39,10 +39,10 @@ impl<'input> AttributeTable<'input> {
         self.data.len()
     }
 
-    /// Puts an attribute at the end. The only error is want of memory.
+    /// Puts an attribute at the end. The only error is want of memory, and then the table is as before.
     #[inline(always)]
     pub fn push(&mut self, row: (AttributeData<'input>, AttributePlaces)) -> Result<(), Failure>
-        ensures rows { OnOk result (rows_of self.new ≡ rows_of self.old ++ row.entry ∷ []) }
+        ensures rows { rows_of self.new ≡ (if is_ok result then rows_of self.old ++ row.entry ∷ [] else rows_of self.old) }
         ensures err { IfErr result (λ e. e ≡ Failure.Memory) }
     {
         let (data, places) = row;
