@@ -11,6 +11,8 @@ pub mod Prefixes
 pub mod Parts
 pub mod Stretches
 pub mod Ranges
+pub mod Few
+pub mod FewAttributes
 pub mod CharTexts
 pub mod CharRuns
 pub mod CharItems
