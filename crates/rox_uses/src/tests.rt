@@ -50,11 +50,7 @@ fn number(node: Node<'_, '_>) -> u32 {
 
 /// How many children a node has.
 fn child_count(node: Node<'_, '_>) -> usize {
-    let mut count: usize = 0;
-    for _ in node.children() {
-        count = count.saturating_add(1);
-    }
-    count
+    node.children().count()
 }
 
 /// Wants this to be printed.

@@ -12,6 +12,8 @@ pub mod Parts
 pub mod Columns
 pub mod Stretches
 pub mod Ranges
+pub mod Few
+pub mod FewAttributes
 pub mod CharTexts
 pub mod CharRuns
 pub mod CharItems

@@ -270,7 +270,7 @@ impl<'a, 'input> Model for NamespaceIter<'a, 'input> {
 }
 
 impl<'a, 'input> NamespaceIter<'a, 'input> {
-    ghost use Rattle.std.specs.Prelude.{map, slice_range, ◌<◌};
+    ghost use Rattle.std.specs.Prelude.{map, slice_range, ◌<◌, ◌^◌};
     ghost use Rattle.std.specs.List.{AllByRecursion};
     ghost use Rattle.rox_build.specs.Lines.{entry};
 
@@ -286,7 +286,8 @@ impl<'a, 'input> NamespaceIter<'a, 'input> {
         requires ordered { from ≤ until }
         requires within { until ≤ length items.now }
         requires named { AllByRecursion (λ i. i < length names.now) items.now }
-        ensures { result ≡ map (entry (map declaration names.now)) (slice_range items.now from until) }
+        ensures value { result ≡ map (entry (map declaration names.now)) (slice_range items.now from until) }
+        ensures few { length result < 2 ^ 64 }
     {
         NamespaceIter {
             items: items[from..until].iter(),

@@ -1,6 +1,6 @@
 //! The name of an element, and what is looked up in its attributes and namespaces.
 
-ghost use Rattle.std.specs.Prelude.{◌≡◌, ◌&&◌, bytes_eq};
+ghost use Rattle.std.specs.Prelude.{◌≡◌, ◌&&◌, ◌<◌, ◌^◌, length, bytes_eq};
 ghost use Rattle.std.specs.Option.{option_map, is_some};
 ghost use Rattle.rox_grammar.specs.Tree.{uri_of};
 ghost use Rattle.rox_build.specs.Lines.{declaration};
@@ -54,8 +54,10 @@ impl<'a, 'input> Node<'a, 'input> {
     /// The attributes of an element, as written. None for other nodes.
     #[inline]
     pub fn attributes(&self) -> Attributes<'a, 'input>
-        ensures { result ≡ attributes_of (item_of self.now) }
+        ensures value { result ≡ attributes_of (item_of self.now) }
+        ensures few { length result < 2 ^ 32 }
     {
+        self.document.whole();
         self.document.attributes_of(self.id)
     }
 
@@ -63,7 +65,8 @@ impl<'a, 'input> Node<'a, 'input> {
     /// declare (Namespaces in XML 1.0 section 6). None for other nodes.
     #[inline]
     pub fn namespaces(&self) -> NamespaceIter<'a, 'input>
-        ensures { result ≡ listed_of (item_of self.now) }
+        ensures value { result ≡ listed_of (item_of self.now) }
+        ensures few { length result < 2 ^ 64 }
     {
         self.document.namespaces_of(self.id)
     }

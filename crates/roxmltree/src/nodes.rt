@@ -206,9 +206,10 @@ impl<'a, 'input> Node<'a, 'input> {
 
     /// Its children, in order.
     #[inline]
-    #[tactic(auto, using(crate::proofs::Preorder::place_end, crate::proofs::Preorder::depth_le, crate::proofs::Stretches::children_left, crate::proofs::Stretches::children_stretch))]
+    #[tactic(auto, using(crate::proofs::Preorder::place_end, crate::proofs::Preorder::depth_le, crate::proofs::Stretches::children_left, crate::proofs::Stretches::children_stretch, crate::proofs::Few::few_left_of_children))]
     pub fn children(&self) -> Children<'a, 'input>
-        ensures { result ≡ spots (document_of self.now) (children (tree_of self.now) (id_of self.now)) }
+        ensures value { result ≡ spots (document_of self.now) (children (tree_of self.now) (id_of self.now)) }
+        ensures few { length result < 2 ^ 32 }
     {
         let document = self.document;
         let row = document.row(self.id);
@@ -222,9 +223,10 @@ impl<'a, 'input> Node<'a, 'input> {
 
     /// Itself and all nodes below it, in document order.
     #[inline]
-    #[tactic(auto, using(crate::proofs::Preorder::place_end, crate::proofs::Siblings::descendants_is))]
+    #[tactic(auto, using(crate::proofs::Preorder::place_end, crate::proofs::Siblings::descendants_is, crate::proofs::Ranges::spots_length))]
     pub fn descendants(&self) -> Descendants<'a, 'input>
-        ensures { result ≡ spots (document_of self.now) (place (tree_of self.now) (id_of self.now)).descendants }
+        ensures value { result ≡ spots (document_of self.now) (place (tree_of self.now) (id_of self.now)).descendants }
+        ensures few { length result < 2 ^ 32 }
     {
         let document = self.document;
         let until = document.row(self.id).next;
@@ -240,7 +242,7 @@ impl<'a, 'input> Node<'a, 'input> {
     #[tactic(auto, using(crate::proofs::Preorder::depth_le, crate::proofs::Ranges::length_spots))]
     pub fn ancestors(&self) -> AxisIter<'a, 'input>
         ensures value { result ≡ spots (document_of self.now) (id_of self.now ∷ (place (tree_of self.now) (id_of self.now)).above) }
-        ensures few { length result ≤ 2 ^ 32 }
+        ensures few { length result < 2 ^ 32 }
     {
         let _nodes = self.document.count();
         AxisIter {
@@ -251,9 +253,12 @@ impl<'a, 'input> Node<'a, 'input> {
 
     /// Itself and its siblings before it, nearest first.
     #[inline]
+    #[tactic(auto, using(crate::proofs::Few::few_before, crate::proofs::Ranges::length_spots))]
     pub fn prev_siblings(&self) -> AxisIter<'a, 'input>
-        ensures { result ≡ spots (document_of self.now) (id_of self.now ∷ (place (tree_of self.now) (id_of self.now)).before) }
+        ensures value { result ≡ spots (document_of self.now) (id_of self.now ∷ (place (tree_of self.now) (id_of self.now)).before) }
+        ensures few { length result < 2 ^ 32 }
     {
+        let _nodes = self.document.count();
         AxisIter {
             node: Some(*self),
             axis: Axis::PrevSiblings,
@@ -262,9 +267,12 @@ impl<'a, 'input> Node<'a, 'input> {
 
     /// Itself and its siblings after it.
     #[inline]
+    #[tactic(auto, using(crate::proofs::Few::few_after, crate::proofs::Ranges::length_spots))]
     pub fn next_siblings(&self) -> AxisIter<'a, 'input>
-        ensures { result ≡ spots (document_of self.now) (id_of self.now ∷ (place (tree_of self.now) (id_of self.now)).after) }
+        ensures value { result ≡ spots (document_of self.now) (id_of self.now ∷ (place (tree_of self.now) (id_of self.now)).after) }
+        ensures few { length result < 2 ^ 32 }
     {
+        let _nodes = self.document.count();
         AxisIter {
             node: Some(*self),
             axis: Axis::NextSiblings,
@@ -273,9 +281,12 @@ impl<'a, 'input> Node<'a, 'input> {
 
     /// Itself, its first child, the first child of that, and so on.
     #[inline]
+    #[tactic(auto, using(crate::proofs::Few::few_first_children, crate::proofs::Ranges::length_spots))]
     pub fn first_children(&self) -> AxisIter<'a, 'input>
-        ensures { result ≡ spots (document_of self.now) (place (tree_of self.now) (id_of self.now)).first_children }
+        ensures value { result ≡ spots (document_of self.now) (place (tree_of self.now) (id_of self.now)).first_children }
+        ensures few { length result < 2 ^ 32 }
     {
+        let _nodes = self.document.count();
         AxisIter {
             node: Some(*self),
             axis: Axis::FirstChildren,
@@ -284,9 +295,12 @@ impl<'a, 'input> Node<'a, 'input> {
 
     /// Itself, its last child, the last child of that, and so on.
     #[inline]
+    #[tactic(auto, using(crate::proofs::Few::few_last_children, crate::proofs::Ranges::length_spots))]
     pub fn last_children(&self) -> AxisIter<'a, 'input>
-        ensures { result ≡ spots (document_of self.now) (place (tree_of self.now) (id_of self.now)).last_children }
+        ensures value { result ≡ spots (document_of self.now) (place (tree_of self.now) (id_of self.now)).last_children }
+        ensures few { length result < 2 ^ 32 }
     {
+        let _nodes = self.document.count();
         AxisIter {
             node: Some(*self),
             axis: Axis::LastChildren,

@@ -21,17 +21,20 @@ impl<'input> Document<'input> {
     /// (Namespaces in XML section 7), without a document type declaration. Its key is 0.
     ///
     /// An `Err` says that the text is none, or has more than 4,294,967,295 nodes, 4,294,967,294 attributes or 65,535
-    /// distinct pairs of a prefix and its namespace; but for `Error::OutOfMemory`, which says nothing of the text.
+    /// distinct pairs of a prefix and its namespace; but for `Error::OutOfMemory`, which says nothing of the text. Any other
+    /// error is that of the fault which reading from left to right meets first: its kind and its position.
     pub fn parse(alloc: Global, text: &'input str) -> Result<Document<'input>, Error>
         ensures is_parse { IfOk result (λ document. IsTreeOf text.now 4294967295 document.tree) }
         ensures text { IfOk result (λ document. document.text ≡ text.now) }
         ensures key { IfOk result (λ document. document.key ≡ 0) }
         ensures no_parse { IfErr result (λ e. e ≢ Error.OutOfMemory → (tree : Forest grammar.Node) → IsTreeOf text.now 4294967295 tree → ⊥) }
+        ensures fault { IfErr result (λ e. e ≢ Error.OutOfMemory → (f : Fault) × (reading 4294967295 text.now ≡ Err f) × IsErrorOf text.now f e) }
     {
         Document::parse_with_options(alloc, text, ParsingOptions::default())
     }
 
-    /// The same with at most `opt.nodes_limit` nodes, the root node counted, and with the key `opt.document_key`.
+    /// The same with at most `opt.nodes_limit` nodes, the root node counted, and with the key `opt.document_key`. The error
+    /// is that of the first fault under this limit.
     pub fn parse_with_options(
         alloc: Global,
         text: &'input str,
@@ -41,6 +44,7 @@ impl<'input> Document<'input> {
         ensures text { IfOk result (λ document. document.text ≡ text.now) }
         ensures key { IfOk result (λ document. document.key ≡ opt.document_key) }
         ensures no_parse { IfErr result (λ e. e ≢ Error.OutOfMemory → (tree : Forest grammar.Node) → IsTreeOf text.now opt.nodes_limit tree → ⊥) }
+        ensures fault { IfErr result (λ e. e ≢ Error.OutOfMemory → (f : Fault) × (reading opt.nodes_limit text.now ≡ Err f) × IsErrorOf text.now f e) }
     {
         read(alloc, text, opt)
     }

@@ -60,6 +60,7 @@ impl<'input> Document<'input> {
     }
 
     /// What is true of every document.
+    #[inline]
     pub(crate) fn whole(&self)
         ensures parsed { IsTreeOf self.now.text 4294967295 self.now.tree }
         ensures utf8 { IsUtf8 self.now.text }
@@ -149,7 +150,8 @@ impl<'input> Document<'input> {
     /// All nodes, the root node first, in document order.
     #[inline]
     pub fn descendants(&self) -> Descendants<'_, 'input>
-        ensures { result ≡ spots self.now (place self.now.tree 0).descendants }
+        ensures value { result ≡ spots self.now (place self.now.tree 0).descendants }
+        ensures few { length result < 2 ^ 32 }
     {
         self.root().descendants()
     }
@@ -192,7 +194,8 @@ impl<'input> Document<'input> {
     #[inline]
     pub(crate) fn namespaces_of(&self, id: NodeId) -> NamespaceIter<'_, 'input>
         requires { number id < size self.now.tree }
-        ensures { result ≡ listed_of (node_at self.now.tree (number id)) }
+        ensures value { result ≡ listed_of (node_at self.now.tree (number id)) }
+        ensures few { length result < 2 ^ 64 }
     {
         let items = self.tables.listed.as_slice();
         let names = self.tables.namespaces.as_slice();

@@ -1,7 +1,7 @@
 //! Iterators from both ends: what is left, how many, copies, and None again after the end.
 
 use super::{document_of, node_of, number};
-use roxmltree::{Attribute, Namespace};
+use roxmltree::{Attribute, Namespace, Node};
 use std::test::Fail;
 
 #[test]
@@ -107,4 +107,38 @@ fn namespaces(rt: HostRuntime) -> Result<(), Fail> {
     assert_eq!(rt; copy.len(), 2);
     assert_eq!(rt; copy.next().map(initial), Some(b'p'));
     Ok(())
+}
+
+/// How many nodes each axis has from a node on: `children`, `descendants`, `ancestors`, `prev_siblings`, `next_siblings`,
+/// `first_children`, `last_children`.
+fn counts(node: Node<'_, '_>) -> [usize; 7] {
+    [
+        node.children().count(),
+        node.descendants().count(),
+        node.ancestors().count(),
+        node.prev_siblings().count(),
+        node.next_siblings().count(),
+        node.first_children().count(),
+        node.last_children().count(),
+    ]
+}
+
+#[test]
+fn counted(rt: HostRuntime) {
+    let text = "<!--c--><r xmlns='u' xmlns:n='v' a='1' b='2' n:c='3'><s/>t<e><f/></e></r>";
+    let document = document_of(&rt, text);
+    assert_eq!(rt; document.descendants().count(), 7);
+    for (id, wanted) in [
+        (0, [2, 7, 1, 1, 1, 2, 4]),
+        (2, [3, 5, 2, 2, 1, 2, 3]),
+        (4, [0, 1, 3, 2, 2, 1, 1]),
+        (5, [1, 2, 3, 3, 1, 2, 2]),
+    ] {
+        assert_eq!(rt; counts(node_of(&rt, &document, id)), wanted, "{id}");
+    }
+    for (id, attributes, namespaces) in [(0, 0, 0), (2, 3, 2), (4, 0, 0), (6, 0, 2)] {
+        let node = node_of(&rt, &document, id);
+        assert_eq!(rt; node.attributes().count(), attributes, "{id}");
+        assert_eq!(rt; node.namespaces().count(), namespaces, "{id}");
+    }
 }

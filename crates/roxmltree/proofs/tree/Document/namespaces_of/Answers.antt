@@ -30,14 +30,14 @@ pub part-requires-in_default : goal.part-requires-in_default
 part-requires-in_default c =
     record { ordered = omega arith; within = omega arith; named = rw (c.as_slice-items.ensures.value, c.as_slice-names.ensures.value) c.self.invariant.holds.sound.listed }
 
-pub returns-in-Element : goal.returns-in-Element
-returns-in-Element c =
+pub returns-in-Element-clause-value : goal.returns-in-Element-clause-value
+returns-in-Element-clause-value c =
     let v : tree_in c.self.inside.tables ≡ c.args.self.now.tree = ap (λ d. d.tree) c.self.view_is in
     let l : c.args.id.0 < size (tree_in c.self.inside.tables) = rw v c.requires in
-    rw (c.part.ensures, c.as_slice-items.ensures.value, c.as_slice-names.ensures.value, ← v) (row_listed c.self.inside.tables (tree_in c.self.inside.tables) _ _ _ c.self.invariant.holds l c.index.ensures c.in-Element.is)
+    rw (c.part.ensures.value, c.as_slice-items.ensures.value, c.as_slice-names.ensures.value, ← v) (row_listed c.self.inside.tables (tree_in c.self.inside.tables) _ _ _ c.self.invariant.holds l c.index.ensures c.in-Element.is)
 
-pub returns-in_default : goal.returns-in_default
-returns-in_default c =
+pub returns-in_default-clause-value : goal.returns-in_default-clause-value
+returns-in_default-clause-value c =
     let v : tree_in c.self.inside.tables ≡ c.args.self.now.tree = ap (λ d. d.tree) c.self.view_is in
     let l : c.args.id.0 < size (tree_in c.self.inside.tables) = rw v c.requires in
-    rw (c.part-in_default.ensures, ← v) (row_no_listed c.self.inside.tables (tree_in c.self.inside.tables) _ _ c.self.invariant.holds l c.index.ensures c.in_default.not-Element)
+    rw (c.part-in_default.ensures.value, ← v) (row_no_listed c.self.inside.tables (tree_in c.self.inside.tables) _ _ c.self.invariant.holds l c.index.ensures c.in_default.not-Element)
