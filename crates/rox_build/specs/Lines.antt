@@ -51,7 +51,7 @@ abbrev pub AttributeRow : Type 0
 AttributeRow = AttributeData × AttributePlaces
 
 abbrev pub rows_of : AttributeTable → List AttributeRow
-rows_of t = zip t.data.items t.places.items
+rows_of t = zip t.items.items t.places.items
 
 abbrev pub attribute : List Declaration → AttributeRow → tree.Attribute
 attribute names a = record {

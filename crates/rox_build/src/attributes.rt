@@ -12,9 +12,9 @@ use std::alloc::Global;
 /// since a reader who goes over the attributes seldom asks for places, and passes fewer bytes without them.
 #[derive(Debug, Drop)]
 pub struct AttributeTable<'input> {
-    pub data: Vec<AttributeData<'input>>,
+    pub items: Vec<AttributeData<'input>>,
     pub places: Vec<AttributePlaces>,
-    pub ghost even: { length places.items ≡ length data.items } by { Prim.hlevel props },
+    pub ghost even: { length places.items ≡ length items.items } by { Prim.hlevel props },
 }
 
 impl<'input> AttributeTable<'input> {
@@ -26,7 +26,7 @@ impl<'input> AttributeTable<'input> {
         ensures err { IfErr result (λ e. e ≡ Failure.Memory) }
     {
         Ok(AttributeTable {
-            data: Vec::with_capacity(alloc, room)?,
+            items: Vec::with_capacity(alloc, room)?,
             places: Vec::with_capacity(alloc, room)?,
         })
     }
@@ -36,7 +36,7 @@ impl<'input> AttributeTable<'input> {
     pub fn len(&self) -> usize
         ensures { result ≡ length (rows_of self.now) }
     {
-        self.data.len()
+        self.items.len()
     }
 
     /// Puts an attribute at the end. The only error is want of memory, and then the table is as before.
@@ -45,10 +45,10 @@ impl<'input> AttributeTable<'input> {
         ensures rows { rows_of self.new ≡ (if is_ok result then rows_of self.old ++ row.entry ∷ [] else rows_of self.old) }
         ensures err { IfErr result (λ e. e ≡ Failure.Memory) }
     {
-        let (data, places) = row;
-        push(&mut self.data, data)?;
+        let (item, places) = row;
+        push(&mut self.items, item)?;
         if self.places.push(places).is_err() {
-            self.data.pop();
+            self.items.pop();
             return Err(Failure::Memory);
         }
         Ok(())

@@ -170,7 +170,7 @@ pub fn resolve<'input>(
 {
     let from = attributes.len();
     for turn in 0..taken.len() {
-        let namespace = tested_namespace(names, places, &attributes.data[from..], &taken[turn])?;
+        let namespace = tested_namespace(names, places, &attributes.items[from..], &taken[turn])?;
         let row = move_row(&mut taken[turn], namespace);
         attributes.push(row)?;
     }

@@ -56,8 +56,8 @@ length_left names as' ps i j e o w =
     length-map (slice_range rows i j) (attribute names) ∙ length-take-le (j - i) (drop i rows) (omega arith)
 
 -- what holds of each row's data holds of each of the column
-pub all_column : (n : ℕ) (t : AttributeTable) → AllByRecursion (λ (r : AttributeRow). NamespaceWithin n r.0.namespace) (rows_of t) → AllByRecursion (λ a. NamespaceWithin n a.namespace) t.data.items
-all_column n t h = subst (AllByRecursion (λ a. NamespaceWithin n a.namespace)) (firsts-zip t.data.items t.places.items t.even) (all_firsts (rows_of t) h)
+pub all_column : (n : ℕ) (t : AttributeTable) → AllByRecursion (λ (r : AttributeRow). NamespaceWithin n r.0.namespace) (rows_of t) → AllByRecursion (λ a. NamespaceWithin n a.namespace) t.items.items
+all_column n t h = subst (AllByRecursion (λ a. NamespaceWithin n a.namespace)) (firsts-zip t.items.items t.places.items t.even) (all_firsts (rows_of t) h)
   where
     all_firsts : (rows : List AttributeRow) → AllByRecursion (λ (r : AttributeRow). NamespaceWithin n r.0.namespace) rows → AllByRecursion (λ (a : AttributeData). NamespaceWithin n a.namespace) (map (λ (r : AttributeRow). r.0) rows)
     all_firsts [] h = tt

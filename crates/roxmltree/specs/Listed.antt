@@ -23,14 +23,14 @@ attribute_of a = attribute (map declaration a.names.now) (a.data.now, a.places.n
 
 -- those that are left
 abbrev pub attributes_left : attributes.Inside → List tree.Attribute
-attributes_left a = map (attribute (map declaration a.names.now)) (slice_range (zip a.data.now a.places.now) a.from a.until)
+attributes_left a = map (attribute (map declaration a.names.now)) (slice_range (zip a.items.now a.places.now) a.from a.until)
 
 -- they are a stretch of two columns, and each of these has its namespace in the table
 pub record AttributesWithin (a : attributes.Inside) : Type 0 where
-  pub even : length a.places.now ≡ length a.data.now
+  pub even : length a.places.now ≡ length a.items.now
   pub ordered : a.from ≤ a.until
-  pub within : a.until ≤ length a.data.now
-  pub each : AllByRecursion (λ d. NamespaceWithin (length a.names.now) d.namespace) a.data.now
+  pub within : a.until ≤ length a.items.now
+  pub each : AllByRecursion (λ d. NamespaceWithin (length a.names.now) d.namespace) a.items.now
 
 abbrev pub namespaces_left : namespaces.Inside → List Declaration
 namespaces_left n = map (entry (map declaration n.names.now)) (iter_rest n.items)

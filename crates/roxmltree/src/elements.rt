@@ -137,7 +137,7 @@ impl fmt::Debug for Attribute<'_, '_> {
 /// Attributes of one element, from both ends: a stretch of the table of attributes, which has two columns.
 #[derive(Clone, Drop)]
 pub struct Attributes<'a, 'input> {
-    pub(crate) data: &'a [AttributeData<'input>],
+    pub(crate) items: &'a [AttributeData<'input>],
     pub(crate) places: &'a [AttributePlaces],
     pub(crate) names: &'a [Namespace<'input>],
     pub(crate) from: usize,
@@ -166,20 +166,20 @@ impl<'a, 'input> Attributes<'a, 'input> {
     /// A stretch of the attributes of all elements, whose namespaces are in this table.
     #[inline]
     pub(crate) fn part(
-        data: &'a [AttributeData<'input>],
+        items: &'a [AttributeData<'input>],
         places: &'a [AttributePlaces],
         from: usize,
         until: usize,
         names: &'a [Namespace<'input>],
     ) -> Attributes<'a, 'input>
-        requires even { length places.now ≡ length data.now }
+        requires even { length places.now ≡ length items.now }
         requires ordered { from ≤ until }
-        requires within { until ≤ length data.now }
-        requires named { AllByRecursion (λ a. NamespaceWithin (length names.now) a.namespace) data.now }
-        ensures { result ≡ map (attribute (map declaration names.now)) (slice_range (zip data.now places.now) from until) }
+        requires within { until ≤ length items.now }
+        requires named { AllByRecursion (λ a. NamespaceWithin (length names.now) a.namespace) items.now }
+        ensures { result ≡ map (attribute (map declaration names.now)) (slice_range (zip items.now places.now) from until) }
     {
         Attributes {
-            data,
+            items,
             places,
             names,
             from,
@@ -214,7 +214,7 @@ impl<'a, 'input> Iterator for Attributes<'a, 'input> {
         let place = self.from;
         self.from = place + 1;
         Some(Attribute {
-            data: &self.data[place],
+            data: &self.items[place],
             places: &self.places[place],
             names: self.names,
         })
@@ -235,7 +235,7 @@ impl<'a, 'input> DoubleEndedIterator for Attributes<'a, 'input> {
         let place = self.until - 1;
         self.until = place;
         Some(Attribute {
-            data: &self.data[place],
+            data: &self.items[place],
             places: &self.places[place],
             names: self.names,
         })

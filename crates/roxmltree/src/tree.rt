@@ -177,16 +177,16 @@ impl<'input> Document<'input> {
         requires { number id < size self.now.tree }
         ensures { result ≡ attributes_of (node_at self.now.tree (number id)) }
     {
-        let data = self.tables.attributes.data.as_slice();
+        let items = self.tables.attributes.items.as_slice();
         let places = self.tables.attributes.places.as_slice();
         let names = self.tables.namespaces.as_slice();
         match &self.tables.nodes[id.0 as usize].kind {
             NodeKind::Element(element) => {
                 let from = element.attributes_from as usize;
                 let until = element.attributes_until as usize;
-                Attributes::part(data, places, from, until, names)
+                Attributes::part(items, places, from, until, names)
             }
-            _ => Attributes::part(data, places, 0, 0, names),
+            _ => Attributes::part(items, places, 0, 0, names),
         }
     }
 

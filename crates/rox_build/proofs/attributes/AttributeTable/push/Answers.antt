@@ -8,4 +8,4 @@ returns-clause-rows c =
     let old = c.args.self.now in
     let places = rw c.if-is_err.ensures.negation at c.push-2.ensures.items in
     ap (λ xs. zip xs c.push-2.new.self.items) c.in_ok-push.ensures.items
-    ∙ ap (zip (old.data.items ++ c.args.row.0 ∷ [])) places ∙ zip_push old.data.items old.places.items c.args.row.0 c.args.row.1 old.even
+    ∙ ap (zip (old.items.items ++ c.args.row.0 ∷ [])) places ∙ zip_push old.items.items old.places.items c.args.row.0 c.args.row.1 old.even
