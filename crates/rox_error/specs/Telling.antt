@@ -9,6 +9,7 @@ use Rattle.rox_grammar.specs.declared.fault.Fault.{Fault}
 use Rattle.rox_grammar.specs.declared.fault.Fault.TheVariants as fault
 use Rattle.rox_grammar.specs.Words.{word_text}
 use Rattle.rox_grammar.specs.Positions.{row_of, col_of}
+use Rattle.rox_grammar.specs.Spans.{IsTextSpan}
 use Rattle.rox_error.specs.declared.position.TextPos.{TextPos}
 use Rattle.rox_error.specs.declared.error.Error.{Error}
 use Rattle.rox_error.specs.declared.error.Error.TheVariants as error
@@ -59,12 +60,6 @@ due_text due.Quote = codes "a quote"
 due_text due.SubsetOrEnd = codes "'[' or '>'"
 due_text due.End = codes "'>'"
 due_text due.EntityDefinition = codes "a quote, SYSTEM or PUBLIC"
-
--- it begins and ends between two characters of the source
-pub record IsTextSpan (src : List ℕ) (span : Span) : Type 0 where
-  pub ordered : span.start ≤ span.end
-  pub start : IsCharBoundary src span.start
-  pub end : IsCharBoundary src span.end
 
 -- the name is the text of the span
 abbrev pub Names : List ℕ → Span → String Global → Type 0

@@ -2,6 +2,7 @@ pub mod Chars
 pub mod Runs
 pub mod Marks
 pub mod Positions
+pub mod Spans
 pub mod Words
 pub mod Forest
 pub mod Written

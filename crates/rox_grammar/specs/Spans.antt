@@ -1,0 +1,20 @@
+-- Names that a fault has as spans of the source.
+use Rattle.std.specs.Prelude.{◌≤◌, ℕ, List, IsCharBoundary}
+use Rattle.rox_grammar.specs.declared.fault.Span.{Span}
+use Rattle.rox_grammar.specs.declared.fault.Fault.{Fault}
+use Rattle.rox_grammar.specs.declared.fault.Fault.TheVariants as fault
+
+-- it begins and ends between two characters of the source
+pub record IsTextSpan (src : List ℕ) (span : Span) : Type 0 where
+  pub ordered : span.start ≤ span.end
+  pub start : IsCharBoundary src span.start
+  pub end : IsCharBoundary src span.end
+
+-- each name that the fault has is a text of the source
+abbrev pub NamesText : List ℕ → Fault → Type 0
+NamesText src (fault.DuplicatedNamespace name at) = IsTextSpan src name
+NamesText src (fault.UnknownNamespace name at) = IsTextSpan src name
+NamesText src (fault.UnexpectedCloseTag expected actual at) = IsTextSpan src expected × IsTextSpan src actual
+NamesText src (fault.UnknownEntityReference name at) = IsTextSpan src name
+NamesText src (fault.DuplicatedAttribute name at) = IsTextSpan src name
+NamesText src f = Unit {0}
