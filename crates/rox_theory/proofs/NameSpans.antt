@@ -1,0 +1,108 @@
+-- Names that are read, as spans of the source.
+use Rattle.std.proofs.Common.{◌≡◌, ℕ, ◌+◌, ◌-◌, ◌<◌, ◌≤◌, Bool, true, false, cond, List, [], ◌∷◌, ◌++◌, length, drop, refl, sym, ap, ◌∙◌, subst, arith, inl, inr, add-zero, length-drop, length-take}
+use Rattle.std.specs.Prelude.{Ok, bytes_eq}
+use Rattle.std.specs.Char.{encode_utf8, len_utf8}
+use Rattle.std.specs.Str.{chars, IsUtf8, IsCharBoundary, encode_utf8_all}
+use Rattle.std.proofs.lemmas.Str.{chars-encodes, length-encode, IsUtf8-drop, IsCharBoundary-past_char, IsCharBoundary-after_ascii}
+use Rattle.std.proofs.lemmas.List.{drop-drop}
+use Rattle.std.proofs.Math.Seq.{drop-append_seam}
+use Rattle.std.proofs.lemmas.Bool.{cases_Bool}
+use Rattle.rox_grammar.specs.Spans.{IsTextSpan}
+use Rattle.rox_grammar.specs.Chars.{is_part_char}
+use Rattle.rox_grammar.specs.Runs.{run_end, passing}
+use Rattle.rox_grammar.specs.Written.{Name, local_span, prefix_span}
+use Rattle.rox_grammar.specs.Names.{byte, slice, IsQName, unprefixed, prefixed, colon_first}
+use Rattle.rox_reading.specs.Lexical.{qname_at}
+use Rattle.rox_reading.specs.Machine.{name_span}
+use Rattle.rox_theory.proofs.Basics.{within, run_end_le}
+use Rattle.rox_theory.proofs.NameLemmas.{qname_sound}
+
+-- behind the characters that pass another begins
+run_cut_in : (p : ℕ → Bool) (src cs : List ℕ) (i : ℕ) → IsUtf8 src → IsCharBoundary src i → drop i src ≡ encode_utf8_all cs → IsCharBoundary src (i + passing p cs)
+run_cut_in p src [] i utf8 cut is = rw (add-zero i) cut
+run_cut_in p src (c ∷ cs) i utf8 cut is =
+    elim (cases_Bool (p c)) as (λ s. IsCharBoundary src (i + passing p (c ∷ cs))) [
+      | inl passes ↦ (
+          let next = IsCharBoundary-past_char src (encode_utf8_all cs) i c cut.0 (IsUtf8-drop src i utf8 cut) is in
+          let past : drop (len_utf8 c) (encode_utf8 c ++ encode_utf8_all cs) ≡ encode_utf8_all cs =
+              rw (← length-encode c) (drop-append_seam (encode_utf8 c) (encode_utf8_all cs)) in
+          let rest : drop (i + len_utf8 c) src ≡ encode_utf8_all cs = sym (drop-drop (len_utf8 c) i src) ∙ ap (drop (len_utf8 c)) is ∙ past in
+          let e : i + len_utf8 c + passing p cs ≡ i + passing p (c ∷ cs) = rw passes (omega arith) in
+          subst (IsCharBoundary src) e (run_cut_in p src cs (i + len_utf8 c) utf8 next rest))
+      | inr fails ↦ rw (fails, add-zero i) cut
+    ]
+
+-- a run that begins where a character does ends so
+pub run_cut : (p : ℕ → Bool) (src : List ℕ) (i : ℕ) → IsUtf8 src → IsCharBoundary src i → IsCharBoundary src (run_end p src i)
+unfolding run_end
+run_cut p src i utf8 cut =
+    let spelled = IsUtf8-drop src i utf8 cut in
+    let all : chars (drop i src) ≡ spelled.0 = ap chars (sym spelled.1.1) ∙ chars-encodes spelled.0 spelled.1.0 in
+    rw all (run_cut_in p src spelled.0 i utf8 cut (sym spelled.1.1))
+
+-- a character begins behind a byte that is ASCII and not 0
+pub cut_behind : (src : List ℕ) (i b : ℕ) → IsUtf8 src → byte src i ≡ b → 0 < b → b < 128 → IsCharBoundary src (i + 1)
+cut_behind src i b utf8 is some ascii = IsCharBoundary-after_ascii src i utf8 (within src i (λ z. omega arith)) (omega arith)
+
+-- a span from its two ends
+pub text_span : (src : List ℕ) (i j : ℕ) → i ≤ j → IsCharBoundary src i → IsCharBoundary src j → IsTextSpan src (record { start = i; end = j })
+text_span src i j le start end = record { ordered = le; start = start; end = end }
+
+-- how long a slice is
+slice_long : (src : List ℕ) (i j : ℕ) → i ≤ j → j ≤ length src → length (slice src i j) ≡ j - i
+slice_long src i j from inside = omega (arith, length-take (j - i) (drop i src), length-drop i src)
+
+-- a local part that is a slice
+local_is : (src : List ℕ) (name : Name) (i j : ℕ) → name.local ≡ slice src i j → i ≤ j → IsCharBoundary src i → IsCharBoundary src j → IsTextSpan src (local_span name j)
+local_is src name i j is le start end =
+    let l = slice_long src i j le end.0 in
+    let e : i ≡ j - length name.local = rw is (omega arith) in
+    text_span src (j - length name.local) j (omega arith) (subst (IsCharBoundary src) e start) end
+
+-- a prefix that is a slice
+prefix_is : (src : List ℕ) (name : Name) (i j : ℕ) → name.prefix ≡ slice src i j → i ≤ j → IsCharBoundary src i → IsCharBoundary src j → IsTextSpan src (prefix_span name i)
+prefix_is src name i j is le start end =
+    let l = slice_long src i j le end.0 in
+    let e : j ≡ i + length name.prefix = rw is (omega arith) in
+    text_span src i (i + length name.prefix) (omega arith) start (subst (IsCharBoundary src) e end)
+
+-- an empty prefix
+prefix_none : (src : List ℕ) (name : Name) (i : ℕ) → name.prefix ≡ [] → IsCharBoundary src i → IsTextSpan src (prefix_span name i)
+prefix_none src name i is start =
+    let e : i ≡ i + length name.prefix = rw is (omega arith) in
+    text_span src i (i + length name.prefix) (omega arith) start (subst (IsCharBoundary src) e start)
+
+-- the parts of a name from i up to n, and the whole of it, are texts
+abbrev pub NameText : List ℕ → ℕ → Name → ℕ → Type 0
+NameText src i name n = IsTextSpan src (prefix_span name i) × IsTextSpan src (local_span name n) × IsTextSpan src (record { start = i; end = n }) × IsCharBoundary src n
+
+-- those of a name that stands there are
+pub qname_text : (src : List ℕ) (i : ℕ) (name : Name) (n : ℕ) → IsUtf8 src → IsCharBoundary src i → IsQName src i name n → NameText src i name n
+qname_text src i name n utf8 cut (unprefixed _ _ is last) =
+    let e = is.longest in
+    let le = run_end_le is_part_char src i in
+    let end = subst (IsCharBoundary src) (sym e) (run_cut is_part_char src i utf8 cut) in
+    (prefix_none src name i refl cut, local_is src name i n refl (omega arith) cut end, text_span src i n (omega arith) cut end, end)
+qname_text src i name n utf8 cut (prefixed _ k _ front colon is last) =
+    let e = front.longest in let f = is.longest in
+    let le = run_end_le is_part_char src i in
+    let le' = run_end_le is_part_char src (k + 1) in
+    let middle = subst (IsCharBoundary src) (sym e) (run_cut is_part_char src i utf8 cut) in
+    let next = cut_behind src k 58 utf8 colon (omega arith) (omega arith) in
+    let end = subst (IsCharBoundary src) (sym f) (run_cut is_part_char src (k + 1) utf8 next) in
+    (prefix_is src name i k refl (omega arith) cut middle, local_is src name (k + 1) n refl (omega arith) next end, text_span src i n (omega arith) cut end, end)
+qname_text src i name n utf8 cut (colon_first _ _ colon is last) =
+    let f = is.longest in
+    let le = run_end_le is_part_char src (i + 1) in
+    let next = cut_behind src i 58 utf8 colon (omega arith) (omega arith) in
+    let end = subst (IsCharBoundary src) (sym f) (run_cut is_part_char src (i + 1) utf8 next) in
+    (prefix_none src name i refl cut, local_is src name (i + 1) n refl (omega arith) next end, text_span src i n (omega arith) cut end, end)
+
+-- those of a name that is read are
+pub qname_spans : (src : List ℕ) (i : ℕ) (name : Name) (n : ℕ) → IsUtf8 src → IsCharBoundary src i → qname_at src i ≡ Ok (name, n)
+    → IsTextSpan src (prefix_span name i) × IsTextSpan src (local_span name n) × IsTextSpan src (record { start = i; end = n }) × IsCharBoundary src n
+qname_spans src i name n utf8 cut h = qname_text src i name n utf8 cut (qname_sound src i (name, n) h)
+
+-- where the name is written
+pub name_spans : (src : List ℕ) (i : ℕ) (name : Name) (n : ℕ) → NameText src i name n → IsTextSpan src (name_span name i n)
+name_spans src i name n text = elim (bytes_eq name.prefix []) as (λ b. IsTextSpan src (cond b (local_span name n) (record { start = i; end = n }))) [ true ↦ text.1 | false ↦ text.2 ]
