@@ -25,3 +25,4 @@ pub mod Whole
 pub mod TagOnce
 pub mod Tops
 pub mod NameSpans
+pub mod TagSpans
