@@ -25,7 +25,7 @@ run_cut_in p src (c ∷ cs) i utf8 cut is =
       | inl passes ↦ (
           let next = IsCharBoundary-past_char src (encode_utf8_all cs) i c cut.0 (IsUtf8-drop src i utf8 cut) is in
           let past : drop (len_utf8 c) (encode_utf8 c ++ encode_utf8_all cs) ≡ encode_utf8_all cs =
-              rw (← length-encode c) (drop-append_seam (encode_utf8 c) (encode_utf8_all cs)) in
+          rw (← length-encode c) (drop-append_seam (encode_utf8 c) (encode_utf8_all cs)) in
           let rest : drop (i + len_utf8 c) src ≡ encode_utf8_all cs = sym (drop-drop (len_utf8 c) i src) ∙ ap (drop (len_utf8 c)) is ∙ past in
           let e : i + len_utf8 c + passing p cs ≡ i + passing p (c ∷ cs) = rw passes (omega arith) in
           subst (IsCharBoundary src) e (run_cut_in p src cs (i + len_utf8 c) utf8 next rest))

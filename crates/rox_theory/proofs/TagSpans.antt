@@ -143,3 +143,142 @@ AllNamed src (a ∷ as') = Named src a × AllNamed src as'
 named_more : (src : List ℕ) (as' : List Attribute) (a : Attribute) → AllNamed src as' → Named src a → AllNamed src (as' ++ a ∷ [])
 named_more src [] a all one = (one, tt)
 named_more src (b ∷ as') a all one = (all.0, named_more src as' a all.1 one)
+
+-- ---- declarations
+
+-- a declared prefix's fault has no name
+prefix_well : (src : List ℕ) (a : Attribute) → FailsWell src (prefix_tested a)
+prefix_well src a =
+    well_if src (bytes_eq a.value xmlns_uri) _ _ (well_err src _ tt) (well_if src (bytes_eq a.name.local (word_text word.Xml)) _ _
+    (well_if src (bytes_eq a.value xml_uri) _ _ (well_ok src tt) (well_err src _ tt))
+    (well_if src (bytes_eq a.value xml_uri) _ _ (well_err src _ tt) (well_ok src tt)))
+
+-- nor has that of the default
+default_well : (src : List ℕ) (a : Attribute) → FailsWell src (default_tested a)
+default_well src a =
+    well_if src (bytes_eq a.value xml_uri) _ _ (well_err src _ tt) (well_if src (bytes_eq a.value xmlns_uri) _ _ (well_err src _ tt) (well_ok src tt))
+
+-- nor that of either
+uri_well : (src : List ℕ) (a : Attribute) → FailsWell src (uri_tested a)
+uri_well src a = well_if src (bytes_eq a.name.prefix (word_text word.Xmlns)) _ _ (prefix_well src a) (default_well src a)
+
+-- a declaration's fault
+pub declared_spans : (src : List ℕ) (known : List Declaration) (a : Attribute) (h : Held) → Named src a → FailsWell src (declared known a h)
+unfolding declared
+declared_spans src known a h named =
+    well_bind src (uri_tested a) _ (uri_well src a) (λ u e.
+    well_if src (is_declared (declaration_of a).prefix h.own) _ _ (well_err src (fault.DuplicatedNamespace (local_span a.name a.name_end) a.start) named.local)
+    (well_if src (ltb most_pairs (length (with_new known (listable_of (h.own ++ declaration_of a ∷ []))))) _ _ (well_err src _ tt) (well_ok src _)))
+
+-- a declaration leaves the attributes as they are
+declared_keeps : (src : List ℕ) (known : List Declaration) (a : Attribute) (h held : Held) → AllNamed src h.attributes → declared known a h ≡ Ok held → AllNamed src held.attributes
+unfolding declared
+declared_keeps src known a h held all is =
+    bind_ok (uri_tested a) _ _ is (λ u tested is.
+    chosen (is_declared (declaration_of a).prefix h.own) _ _ _ is (λ again is. cc) (λ new is.
+    chosen (ltb most_pairs (length (with_new known (listable_of (h.own ++ declaration_of a ∷ []))))) _ _ _ is (λ many is. cc) (λ few is.
+    subst (λ (k : Held). AllNamed src k.attributes) (ok_same _ _ is) all)))
+
+-- an attribute's fault
+pub taken_spans : (src : List ℕ) (known : List Declaration) (a : Attribute) (h : Held) → Named src a → FailsWell src (taken known a h)
+taken_spans src known a h named = well_if src (declares a.name) _ _ (declared_spans src known a h named) (well_ok src _)
+
+-- those that are held stay named
+pub taken_keeps : (src : List ℕ) (known : List Declaration) (a : Attribute) (h held : Held) → Named src a → AllNamed src h.attributes → taken known a h ≡ Ok held → AllNamed src held.attributes
+taken_keeps src known a h held named all is =
+    chosen (declares a.name) _ _ _ is (λ one is. declared_keeps src known a h held all is) (λ other is.
+    subst (λ (k : Held). AllNamed src k.attributes) (ok_same _ _ is) (named_more src h.attributes a all named))
+
+-- ---- the tests of the names
+
+-- the attributes' names
+pub names_spans : (src : List ℕ) (scope : List Declaration) (before as' : List Attribute) → AllNamed src as' → FailsWell src (names_tested scope before as')
+unfolding names_tested
+names_spans src scope before [] all = well_ok src tt
+names_spans src scope before (a ∷ as') all =
+    well_if src (not (is_known scope a.name)) _ _ (well_err src (fault.UnknownNamespace (prefix_span a.name a.start) a.start) all.0.prefix)
+    (well_if src (list_any (λ e. same_expanded scope e.name a.name) before) _ _ (well_err src (fault.DuplicatedAttribute (local_span a.name a.name_end) a.start) all.0.local)
+    (names_spans src scope (before ++ a ∷ []) as' all.1))
+
+-- a tag's names, where its own stands at this place
+pub tested_spans : (src : List ℕ) (scope : List Declaration) (count at : ℕ) (name : Name) (as' : List Attribute) → IsTextSpan src (prefix_span name at) → AllNamed src as'
+    → FailsWell src (tested_at scope count at name as')
+tested_spans src scope count at name as' text all =
+    well_if src (ltb most_attributes (count + length as')) _ _ (well_err src _ tt) (well_bind src (names_tested scope [] as') _ (names_spans src scope [] as' all) (λ u e.
+    well_if src (may_name scope name) _ _ (well_ok src tt) (well_err src (fault.UnknownNamespace (prefix_span name at) at) text)))
+
+-- those of a tag that begins at i
+pub tested_tag_spans : (src : List ℕ) (scope : List Declaration) (count i : ℕ) (name : Name) (as' : List Attribute) → IsTextSpan src (prefix_span name (i + 1)) → AllNamed src as'
+    → FailsWell src (tag_tested scope count i name as')
+unfolding tag_tested
+tested_tag_spans src scope count i name as' text all = tested_spans src scope count (i + 1) name as' text all
+
+-- ---- a tag
+
+-- the faults of a value have texts for names
+abbrev pub ValuesWell : List ℕ → Type 0
+ValuesWell src = (i stop : ℕ) (g : Fault) → value_at src i stop ≡ Err g → NamesText src g
+
+-- the rest of a tag: its fault's names are texts, and so are the names of the attributes that are held then
+abbrev RestWell : List ℕ → Read (Held × Bool) → Type 0
+RestWell src r = FailsWell src r × ((x : (Held × Bool) × ℕ) → r ≡ Ok x → AllNamed src x.0.0.attributes)
+
+-- behind a turn
+after_spans : (src : List ℕ) → IsUtf8 src → ValuesWell src → (known : List Declaration) (next : ℕ → Held → Read (Held × Bool))
+    → ((j : ℕ) (held : Held) → IsCharBoundary src j → AllNamed src held.attributes → RestWell src (next j held))
+    → (i : ℕ) (h : Held) (t : Turn) (j : ℕ) → IsCharBoundary src i → AllNamed src h.attributes → turn_at src i ≡ Ok (t, j) → RestWell src (after_turn next known src h t j)
+after_spans src utf8 values known next rest i h (more raw) j cut all turn =
+    let text = turn_named src i raw j utf8 cut turn in
+    let named : (v : RunText) → Named src (attribute_with raw v) = λ v. record { prefix = text.0; local = text.1 } in (
+      well_bind src (value_at src raw.value_start raw.value_end) _ (values raw.value_start raw.value_end) (λ v e.
+          well_bind src (taken known (attribute_with raw v) h) _ (taken_spans src known (attribute_with raw v) h (named v)) (λ held e.
+          (rest j held text.2 (taken_keeps src known (attribute_with raw v) h held (named v) all e)).0)),
+      λ x is. bind_ok (value_at src raw.value_start raw.value_end) _ _ is (λ v read is. bind_ok (taken known (attribute_with raw v) h) _ _ is (λ held e is.
+          (rest j held text.2 (taken_keeps src known (attribute_with raw v) h held (named v) all e)).1 x is)),
+    )
+after_spans src utf8 values known next rest i h opened j cut all turn =
+    (well_ok src _, λ x is. subst (λ (y : (Held × Bool) × ℕ). AllNamed src y.0.0.attributes) (ok_same _ _ is) all)
+after_spans src utf8 values known next rest i h closed j cut all turn =
+    (well_ok src _, λ x is. subst (λ (y : (Held × Bool) × ℕ). AllNamed src y.0.0.attributes) (ok_same _ _ is) all)
+
+-- the attributes of a tag
+pub attributes_spans : (n : ℕ) (cut : Fault) (known : List Declaration) (src : List ℕ) → IsUtf8 src → ValuesWell src → NamesText src cut
+    → (i : ℕ) (h : Held) → IsCharBoundary src i → AllNamed src h.attributes → RestWell src (attributes_at n cut known src i h)
+unfolding attributes_at
+attributes_spans zero cut known src utf8 values text i h at all = (well_err src cut text, λ x is. cc)
+attributes_spans (suc n) cut known src utf8 values text i h at all =
+    let after : (t : Turn × ℕ) → turn_at src i ≡ Ok t → RestWell src (after_turn (λ j held. attributes_at n cut known src j held) known src h t.0 t.1) =
+    λ t turn. after_spans src utf8 values known (λ j held. attributes_at n cut known src j held) (λ j held at all. attributes_spans n cut known src utf8 values text j held at all) i h t.0 t.1 at all turn in (
+      well_if src (leb (length src) i) _ _ (well_err src cut text) (well_bind src (turn_at src i) _ (turn_well src i) (λ t turn. (after t turn).0)),
+      λ x is. chosen (leb (length src) i) _ _ _ is (λ out is. cc) (λ inside is. bind_ok (turn_at src i) _ _ is (λ t turn is. (after t turn).1 x is)),
+    )
+
+-- the name of a tag
+tag_name : (src : List ℕ) (i : ℕ) (n : Name × ℕ) → IsUtf8 src → slice_index src i ≡ 60 → qname_at src (i + 1) ≡ Ok n → NameText src (i + 1) n.0 n.1
+tag_name src i n utf8 begins h = qname_spans src (i + 1) n.0 n.1 utf8 (cut_behind src i 60 utf8 begins (omega arith) (omega arith)) h
+
+-- a tag's fault
+pub tag_spans : (cut : Fault) (above : List Declaration) (count : ℕ) (known : List Declaration) (src : List ℕ) (i : ℕ) (f : Fault) → IsUtf8 src → slice_index src i ≡ 60 → i < length src
+    → NamesText src cut → ((i stop : ℕ) (g : Fault) → value_at src i stop ≡ Err g → NamesText src g) → tag_at cut above count known src i ≡ Err f → NamesText src f
+unfolding tag_at
+tag_spans cut above count known src i f utf8 begins inside text values =
+    well_bind src (qname_at src (i + 1)) _ (qname_well src (i + 1)) (λ n named.
+    let name = tag_name src i n utf8 begins named in
+    let none : Held = record { own = []; attributes = [] } in
+    let rest = attributes_spans (length src) cut known src utf8 values text n.1 none name.3 tt in
+    well_if src (bytes_eq n.0.prefix (word_text word.Xmlns)) _ _ (well_err src _ tt)
+    (well_bind src (attributes_at (length src) cut known src n.1 none) _ rest.0 (λ x e.
+    well_bind src (tag_tested (listed above x.0.0.own) count i n.0 x.0.0.attributes) _
+    (tested_tag_spans src (listed above x.0.0.own) count i n.0 x.0.0.attributes name.0 (rest.1 x e)) (λ u e. well_ok src _)))) f
+
+-- a tag's name
+pub tag_named : (cut : Fault) (above : List Declaration) (count : ℕ) (known : List Declaration) (src : List ℕ) (i : ℕ) (tag : Tag) (empty : Bool) (j : ℕ) → IsUtf8 src → slice_index src i ≡ 60
+    → tag_at cut above count known src i ≡ Ok ((tag, empty), j) → IsTextSpan src (name_span tag.name (i + 1) tag.name_end)
+unfolding tag_at
+tag_named cut above count known src i tag empty j utf8 begins h =
+    bind_ok (qname_at src (i + 1)) _ _ h (λ n named h.
+    chosen (bytes_eq n.0.prefix (word_text word.Xmlns)) _ _ _ h (λ reserved h. cc) (λ free h.
+    bind_ok (attributes_at (length src) cut known src n.1 (record { own = []; attributes = [] })) _ _ h (λ x rest h.
+    bind_ok (tag_tested (listed above x.0.0.own) count i n.0 x.0.0.attributes) _ _ h (λ u tested h.
+    let e : ◌≡◌ {A = (Tag × Bool) × ℕ} ((record { name = n.0; name_end = n.1; declarations = x.0.0.own; attributes = x.0.0.attributes }, x.0.1), x.1) ((tag, empty), j) = ok_same _ _ h in
+    subst (λ (y : (Tag × Bool) × ℕ). IsTextSpan src (name_span y.0.0.name (i + 1) y.0.0.name_end)) e (name_spans src (i + 1) n.0 n.1 (tag_name src i n utf8 begins named))))))
