@@ -1,5 +1,5 @@
 -- Names that a start tag's faults have are texts of the source.
-use Rattle.std.proofs.Common.{◌≡◌, ℕ, zero, suc, ◌+◌, ◌<◌, ◌≤◌, Bool, true, false, cond, not, eqb, leb, ltb, List, [], ◌∷◌, ◌++◌, length, take, drop, refl, sym, ap, ◌∙◌, subst, arith}
+use Rattle.std.proofs.Common.{◌≡◌, ℕ, zero, suc, ◌+◌, ◌<◌, Bool, true, false, cond, not, eqb, leb, ltb, List, [], ◌∷◌, ◌++◌, length, take, refl, ap, subst, arith}
 use Rattle.std.specs.Prelude.{Result, Ok, Err, bytes_eq, slice_index}
 use Rattle.std.specs.List.{list_any}
 use Rattle.std.specs.Str.{IsUtf8, IsCharBoundary}
@@ -8,21 +8,20 @@ use Rattle.rox_grammar.specs.declared.fault.Fault.TheVariants as fault
 use Rattle.rox_grammar.specs.declared.fault.Word.TheVariants as word
 use Rattle.rox_grammar.specs.Spans.{IsTextSpan, NamesText}
 use Rattle.rox_grammar.specs.Words.{word_text}
-use Rattle.rox_grammar.specs.Chars.{is_char, is_space, is_name_start}
+use Rattle.rox_grammar.specs.Chars.{is_char, is_space}
 use Rattle.rox_grammar.specs.Runs.{run_end, begins}
-use Rattle.rox_grammar.specs.Marks.{byte_from}
 use Rattle.rox_grammar.specs.Written.{Name, Attribute, Declaration, Tag, declares, declaration_of, local_span, prefix_span}
 use Rattle.rox_grammar.specs.Tree.{xml_uri, xmlns_uri, is_declared, listed}
 use Rattle.rox_grammar.specs.WellNamed.{is_known, same_expanded, may_name}
 use Rattle.rox_grammar.specs.Document.{with_new, most_pairs, most_attributes}
 use Rattle.rox_grammar.specs.Names.{byte, spaces_end}
-use Rattle.rox_reading.specs.Lexical.{Read, ◌>>=◌, byte_at, quote_at, chars_up_to, qname_at, part_end, is_colon}
+use Rattle.rox_reading.specs.Lexical.{Read, ◌>>=◌, byte_at, quote_at, chars_up_to, qname_at}
 use Rattle.rox_reading.specs.Markup.{RawAttribute, raw_value_at, attribute_at, Turn, more, opened, closed, turn_at}
 use Rattle.rox_reading.specs.Values.{RunText, value_at}
 use Rattle.rox_reading.specs.Tags.{Held, prefix_tested, default_tested, uri_tested, listable_of, declared, taken, attribute_with, after_turn, attributes_at, names_tested, tested_at, tag_tested, tag_at}
 use Rattle.rox_reading.specs.Machine.{name_span}
 use Rattle.rox_theory.proofs.Basics.{ok_same, bind_ok, chosen}
-use Rattle.rox_theory.proofs.AttributeLemmas.{RawStands, TurnStands, turn_sound}
+use Rattle.rox_theory.proofs.AttributeLemmas.{RawStands, turn_sound}
 use Rattle.rox_theory.proofs.LiteralLemmas.{quote_ascii, literal_closes}
 use Rattle.rox_theory.proofs.NameSpans.{NameText, run_cut, cut_behind, qname_text, qname_spans, name_spans}
 
@@ -46,37 +45,37 @@ abbrev pub FailsWell : {A : Type 0} → List ℕ → Result A Fault → Type 0
 FailsWell src r = (f : Fault) → r ≡ Err f → NamesText src f
 
 -- a value is no fault
-well_ok : {A : Type 0} (src : List ℕ) (x : A) → FailsWell {A = A} src (Ok x)
+pub well_ok : {A : Type 0} (src : List ℕ) (x : A) → FailsWell {A = A} src (Ok x)
 well_ok src x f h = cc
 
 -- this fault
-well_err : {A : Type 0} (src : List ℕ) (g : Fault) → NamesText src g → FailsWell {A = A} src (Err g)
+pub well_err : {A : Type 0} (src : List ℕ) (g : Fault) → NamesText src g → FailsWell {A = A} src (Err g)
 well_err src g text f h = names_of src g f text h
 
 -- one of two
-well_if : {A : Type 0} (src : List ℕ) (b : Bool) (x y : Result A Fault) → FailsWell src x → FailsWell src y → FailsWell src (cond b x y)
+pub well_if : {A : Type 0} (src : List ℕ) (b : Bool) (x y : Result A Fault) → FailsWell src x → FailsWell src y → FailsWell src (cond b x y)
 well_if src true x y first second = first
 well_if src false x y first second = second
 
 -- one after the other
-well_bind : {A B : Type 0} (src : List ℕ) (r : Result A Fault) (k : A → Result B Fault) → FailsWell src r → ((x : A) → r ≡ Ok x → FailsWell src (k x)) → FailsWell src (r >>= k)
+pub well_bind : {A B : Type 0} (src : List ℕ) (r : Result A Fault) (k : A → Result B Fault) → FailsWell src r → ((x : A) → r ≡ Ok x → FailsWell src (k x)) → FailsWell src (r >>= k)
 well_bind src (Ok x) k first rest = rest x refl
 well_bind src (Err e) k first rest = λ f h. first f (ap (λ (g : Fault). Err g) (err_same e f h))
 
 -- ---- readings whose faults have no names
 
 -- a byte
-byte_well : (b : ℕ) (src : List ℕ) (i : ℕ) → FailsWell src (byte_at b src i)
+pub byte_well : (b : ℕ) (src : List ℕ) (i : ℕ) → FailsWell src (byte_at b src i)
 unfolding byte_at
 byte_well b src i = well_if src (leb (length src) i) _ _ (well_err src _ tt) (well_if src (eqb (byte src i) b) _ _ (well_ok src _) (well_err src _ tt))
 
 -- a quote
-quote_well : (src : List ℕ) (i : ℕ) → FailsWell src (quote_at src i)
+pub quote_well : (src : List ℕ) (i : ℕ) → FailsWell src (quote_at src i)
 unfolding quote_at
 quote_well src i = well_if src (leb (length src) i) _ _ (well_err src _ tt) (well_if src _ _ _ (well_ok src _) (well_err src _ tt))
 
 -- Chars
-chars_well : (end : ℕ) (src : List ℕ) (i : ℕ) → FailsWell src (chars_up_to end src i)
+pub chars_well : (end : ℕ) (src : List ℕ) (i : ℕ) → FailsWell src (chars_up_to end src i)
 unfolding chars_up_to
 chars_well end src i = well_if src (ltb (run_end is_char (take end src) i) end) _ _ (well_err src _ tt) (well_ok src _)
 
@@ -86,13 +85,13 @@ unfolding raw_value_at
 raw_well quote src i = well_if src _ _ _ (well_err src _ tt) (chars_well _ src i)
 
 -- a name
-qname_well : (src : List ℕ) (i : ℕ) → FailsWell src (qname_at src i)
+pub qname_well : (src : List ℕ) (i : ℕ) → FailsWell src (qname_at src i)
 unfolding qname_at
 qname_well src i =
     well_if src _ _ _ (well_if src _ _ _ (well_ok src _) (well_err src _ tt)) (well_if src _ _ _ (well_ok src _) (well_err src _ tt))
 
 -- an attribute before its value is looked at
-attribute_well : (src : List ℕ) (i : ℕ) → FailsWell src (attribute_at src i)
+pub attribute_well : (src : List ℕ) (i : ℕ) → FailsWell src (attribute_at src i)
 unfolding attribute_at
 attribute_well src i =
     well_bind src _ _ (qname_well src i) (λ name e. well_bind src _ _ (byte_well 61 src _) (λ equals e.
@@ -100,7 +99,7 @@ attribute_well src i =
     well_bind src _ _ (byte_well _ src _) (λ done e. well_ok src _)))))
 
 -- a turn
-turn_well : (src : List ℕ) (i : ℕ) → FailsWell src (turn_at src i)
+pub turn_well : (src : List ℕ) (i : ℕ) → FailsWell src (turn_at src i)
 unfolding turn_at
 turn_well src i =
     let j = spaces_end src i in
