@@ -35,11 +35,6 @@ err_same f g h = cc
 pub names_of : {A : Type 0} (src : List ℕ) (f g : Fault) → NamesText src f → ◌≡◌ {A = Result A Fault} (Err f) (Err g) → NamesText src g
 names_of src f g text h = subst (NamesText src) (err_same f g h) text
 
--- where a sequence fails, its first step fails, or gave a value and the rest fails
-pub bind_err : {A B P : Type 0} (r : Result A Fault) (k : A → Result B Fault) (f : Fault) → (r >>= k) ≡ Err f → (r ≡ Err f → P) → ((x : A) → r ≡ Ok x → k x ≡ Err f → P) → P
-bind_err (Ok x) k f h first rest = rest x refl h
-bind_err {A = A} (Err e) k f h first rest = first (ap (λ (g : Fault). Err g) (err_same e f h))
-
 -- a reading whose faults' names are texts
 abbrev pub FailsWell : {A : Type 0} → List ℕ → Result A Fault → Type 0
 FailsWell src r = (f : Fault) → r ≡ Err f → NamesText src f
@@ -122,7 +117,7 @@ raw_cut src i j raw utf8 r =
     rw next (cut_behind src raw.value_end (byte src r.v) utf8 (literal_closes src r.v raw.value_end j r.literal) (omega arith) (omega arith))
 
 -- an attribute's name, of a turn
-abbrev RawNamed : List ℕ → RawAttribute → ℕ → Type 0
+abbrev pub RawNamed : List ℕ → RawAttribute → ℕ → Type 0
 RawNamed src raw j = IsTextSpan src (prefix_span raw.name raw.start) × IsTextSpan src (local_span raw.name raw.name_end) × IsCharBoundary src j
 
 -- its parts are texts
@@ -219,7 +214,7 @@ abbrev pub ValuesWell : List ℕ → Type 0
 ValuesWell src = (i stop : ℕ) (g : Fault) → value_at src i stop ≡ Err g → NamesText src g
 
 -- the rest of a tag: its fault's names are texts, and so are the names of the attributes that are held then
-abbrev RestWell : List ℕ → Read (Held × Bool) → Type 0
+abbrev pub RestWell : List ℕ → Read (Held × Bool) → Type 0
 RestWell src r = FailsWell src r × ((x : (Held × Bool) × ℕ) → r ≡ Ok x → AllNamed src x.0.0.attributes)
 
 -- behind a turn
