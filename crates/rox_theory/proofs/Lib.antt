@@ -24,3 +24,4 @@ pub mod Around
 pub mod Whole
 pub mod TagOnce
 pub mod Tops
+pub mod ValueSpans
