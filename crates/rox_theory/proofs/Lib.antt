@@ -25,3 +25,4 @@ pub mod Whole
 pub mod TagOnce
 pub mod Tops
 pub mod ValueSpans
+pub mod FaultSpans
