@@ -25,4 +25,6 @@ pub mod Whole
 pub mod TagOnce
 pub mod Tops
 pub mod NameSpans
+pub mod ValueSpans
 pub mod TagSpans
+pub mod FaultSpans

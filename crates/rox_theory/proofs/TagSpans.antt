@@ -1,5 +1,5 @@
 -- Names that a start tag's faults have are texts of the source.
-use Rattle.std.proofs.Common.{◌≡◌, ℕ, zero, suc, ◌+◌, ◌<◌, Bool, true, false, cond, not, eqb, leb, ltb, List, [], ◌∷◌, ◌++◌, length, take, refl, ap, subst, arith}
+use Rattle.std.proofs.Common.{◌≡◌, ℕ, zero, suc, ◌+◌, ◌<◌, Bool, true, false, cond, not, eqb, leb, ltb, List, [], ◌∷◌, ◌++◌, length, refl, ap, subst, arith}
 use Rattle.std.specs.Prelude.{Result, Ok, Err, bytes_eq, slice_index}
 use Rattle.std.specs.List.{list_any}
 use Rattle.std.specs.Str.{IsUtf8, IsCharBoundary}
@@ -8,8 +8,8 @@ use Rattle.rox_grammar.specs.declared.fault.Fault.TheVariants as fault
 use Rattle.rox_grammar.specs.declared.fault.Word.TheVariants as word
 use Rattle.rox_grammar.specs.Spans.{IsTextSpan, NamesText}
 use Rattle.rox_grammar.specs.Words.{word_text}
-use Rattle.rox_grammar.specs.Chars.{is_char, is_space}
-use Rattle.rox_grammar.specs.Runs.{run_end, begins}
+use Rattle.rox_grammar.specs.Chars.{is_space}
+use Rattle.rox_grammar.specs.Runs.{begins}
 use Rattle.rox_grammar.specs.Written.{Name, Attribute, Declaration, Tag, declares, declaration_of, local_span, prefix_span}
 use Rattle.rox_grammar.specs.Tree.{xml_uri, xmlns_uri, is_declared, listed}
 use Rattle.rox_grammar.specs.WellNamed.{is_known, same_expanded, may_name}
@@ -23,6 +23,7 @@ use Rattle.rox_reading.specs.Machine.{name_span}
 use Rattle.rox_theory.proofs.Basics.{ok_same, bind_ok, chosen}
 use Rattle.rox_theory.proofs.AttributeLemmas.{RawStands, turn_sound}
 use Rattle.rox_theory.proofs.LiteralLemmas.{quote_ascii, literal_closes}
+use Rattle.rox_theory.proofs.ValueSpans.{chars_spans, spanned_fault}
 use Rattle.rox_theory.proofs.NameSpans.{NameText, run_cut, cut_behind, qname_text, qname_spans, name_spans}
 
 -- ---- faults
@@ -71,8 +72,7 @@ quote_well src i = well_if src (leb (length src) i) _ _ (well_err src _ tt) (wel
 
 -- Chars
 pub chars_well : (end : ℕ) (src : List ℕ) (i : ℕ) → FailsWell src (chars_up_to end src i)
-unfolding chars_up_to
-chars_well end src i = well_if src (ltb (run_end is_char (take end src) i) end) _ _ (well_err src _ tt) (well_ok src _)
+chars_well end src i f h = spanned_fault src _ (chars_up_to end src i) f (chars_spans src end i) h
 
 -- a value before it is looked at
 raw_well : (quote : ℕ) (src : List ℕ) (i : ℕ) → FailsWell src (raw_value_at quote src i)

@@ -1,8 +1,8 @@
 -- The top nodes of a document are no texts, so nothing is merged there.
-use Rattle.std.proofs.Common.{◌≡◌, ℕ, Bool, true, false, List, refl, sym, ap, ◌∙◌}
+use Rattle.std.proofs.Common.{◌≡◌, ℕ, true, false, List, refl, sym, ap, ◌∙◌}
 use Rattle.rox_grammar.specs.Forest.{Forest, Nil, Cons, join}
-use Rattle.rox_grammar.specs.Written.{Item, Element, Text, Comment, PI, merge, leaf}
-use Rattle.rox_grammar.specs.Content.{Opener, IsMisc, comment, instruction, IsElement, empty, nest}
+use Rattle.rox_grammar.specs.Written.{Item, Element, Text, Comment, PI, merge}
+use Rattle.rox_grammar.specs.Content.{IsMisc, comment, instruction, IsElement, empty, nest}
 use Rattle.rox_grammar.specs.Document.{no_entities, Misc, no_misc, space, an_item, ParseOf}
 use Rattle.rox_reading.proofs.Forests.{is_text}
 
