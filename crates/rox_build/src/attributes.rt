@@ -1,6 +1,6 @@
 //! The table of attributes.
 
-ghost use Rattle.std.specs.Prelude.{◌≡◌, ◌++◌, ◌∷◌, [], length, if◌then◌else◌, is_ok, IfOk, IfErr};
+ghost use Rattle.std.specs.Prelude.{◌≡◌, ◌≤◌, ◌++◌, ◌∷◌, [], length, vec_capacity, if◌then◌else◌, is_ok, IfOk, IfErr};
 ghost use Rattle.std.proofs.Props.{props};
 
 use crate::growth::push;
@@ -23,6 +23,7 @@ impl<'input> AttributeTable<'input> {
     /// A table without attributes, with room for so many. The only error is want of memory.
     pub fn with_capacity(alloc: Global, room: usize) -> Result<AttributeTable<'input>, Failure>
         ensures ok { IfOk result (λ t. rows_of t ≡ []) }
+        ensures room { IfOk result (λ t. (room ≤ vec_capacity t.items) × (room ≤ vec_capacity t.places)) }
         ensures err { IfErr result (λ e. e ≡ Failure.Memory) }
     {
         Ok(AttributeTable {
