@@ -4,6 +4,7 @@ ghost use Rattle.std.specs.Prelude.{◌≡◌, ◌≢◌, Ok, Err, IfOk, IfErr, 
 ghost use Rattle.rox_grammar.specs.declared.fault.Fault.{Fault};
 ghost use Rattle.rox_grammar.specs.Forest.{Forest};
 ghost use Rattle.rox_grammar.specs.Written.{Item};
+ghost use Rattle.rox_grammar.specs.Spans.{NamesText};
 ghost use Rattle.rox_grammar.specs.Tree as grammar;
 ghost use Rattle.rox_grammar.specs.Document.{IsTreeOf};
 ghost use Rattle.rox_reading.specs.Machine.{reading};
@@ -28,7 +29,7 @@ impl<'input> Document<'input> {
         ensures text { IfOk result (λ document. document.text ≡ text.now) }
         ensures key { IfOk result (λ document. document.key ≡ 0) }
         ensures no_parse { IfErr result (λ e. e ≢ Error.OutOfMemory → (tree : Forest grammar.Node) → IsTreeOf text.now 4294967295 tree → ⊥) }
-        ensures fault { IfErr result (λ e. e ≢ Error.OutOfMemory → (f : Fault) × (reading 4294967295 text.now ≡ Err f) × IsErrorOf text.now f e) }
+        ensures fault { IfErr result (λ e. e ≢ Error.OutOfMemory → (f : Fault) × (reading 4294967295 text.now ≡ Err f) × NamesText text.now f × IsErrorOf text.now f e) }
     {
         Document::parse_with_options(alloc, text, ParsingOptions::default())
     }
@@ -44,7 +45,7 @@ impl<'input> Document<'input> {
         ensures text { IfOk result (λ document. document.text ≡ text.now) }
         ensures key { IfOk result (λ document. document.key ≡ opt.document_key) }
         ensures no_parse { IfErr result (λ e. e ≢ Error.OutOfMemory → (tree : Forest grammar.Node) → IsTreeOf text.now opt.nodes_limit tree → ⊥) }
-        ensures fault { IfErr result (λ e. e ≢ Error.OutOfMemory → (f : Fault) × (reading opt.nodes_limit text.now ≡ Err f) × IsErrorOf text.now f e) }
+        ensures fault { IfErr result (λ e. e ≢ Error.OutOfMemory → (f : Fault) × (reading opt.nodes_limit text.now ≡ Err f) × NamesText text.now f × IsErrorOf text.now f e) }
     {
         read(alloc, text, opt)
     }
@@ -59,7 +60,7 @@ fn read<'input>(
     ensures tree { IfOk result (λ document. (tops : Forest Item) × (reading opt.nodes_limit text.now ≡ Ok tops) × (document.tree ≡ grammar.document_tree (length text.now) tops)) }
     ensures text { IfOk result (λ document. document.text ≡ text.now) }
     ensures key { IfOk result (λ document. document.key ≡ opt.document_key) }
-    ensures told { IfErr result (λ e. e ≢ Error.OutOfMemory → (f : Fault) × (reading opt.nodes_limit text.now ≡ Err f) × IsErrorOf text.now f e) }
+    ensures told { IfErr result (λ e. e ≢ Error.OutOfMemory → (f : Fault) × (reading opt.nodes_limit text.now ≡ Err f) × NamesText text.now f × IsErrorOf text.now f e) }
 {
     let options = Options {
         nodes_limit: opt.nodes_limit,

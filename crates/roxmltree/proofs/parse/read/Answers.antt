@@ -2,6 +2,7 @@ use Rattle.std.proofs.Common.{◌≡◌, ℕ, List, Ok, Err, ap, refl, subst, le
 use Rattle.std.specs.Str.{IsUtf8}
 use Rattle.rox_grammar.specs.Forest.{Forest}
 use Rattle.rox_grammar.specs.Written.{Item, merge}
+use Rattle.rox_grammar.specs.Spans.{NamesText}
 use Rattle.rox_grammar.specs.Tree.{document_tree}
 use Rattle.rox_grammar.specs.declared.fault.Fault.{Fault}
 use Rattle.rox_reading.specs.Machine.{reading}
@@ -11,6 +12,7 @@ use Rattle.rox_error.specs.Telling.{IsErrorOf}
 use Rattle.rox_theory.proofs.Tops.{parse_merged}
 use Rattle.rox_theory.proofs.Whole.{read_is_parse}
 use Rattle.rox_theory.proofs.Constructs.{agrees}
+use Rattle.rox_theory.proofs.FaultSpans.{reading_spans}
 use Rattle.rox_build.specs.Lines.{Holds}
 use Rattle.rox_build.specs.declared.tables.Tables.{Tables}
 use Rattle.roxmltree.proofs.Parsed.{read_holds}
@@ -33,10 +35,11 @@ returns-in-Ok-clause-tree c =
 
 pub returns-in-Err-clause-told : goal.returns-in-Err-clause-told
 returns-in-Err-clause-told c some =
-    let P : Failure → Type 0 = λ w. c.in-Err.failure ≡ w → (f : Fault) × (reading c.args.opt.nodes_limit c.args.text.now ≡ Err f) × IsErrorOf c.args.text.now f c.told.result in
+    let P : Failure → Type 0 = λ w. c.in-Err.failure ≡ w → (f : Fault) × (reading c.args.opt.nodes_limit c.args.text.now ≡ Err f) × NamesText c.args.text.now f × IsErrorOf c.args.text.now f c.told.result in
     let by_case : P c.in-Err.failure =
     elim c.in-Err.failure as P [
       | failure.Memory ↦ λ e. absurd (some (c.told.ensures.memory e))
-      | failure.Fault f ↦ λ e. (f, c.in-Err.ensures.fault f (ap Err e), c.told.ensures.fault f e)
+      | failure.Fault f ↦ λ e.
+          let read = c.in-Err.ensures.fault f (ap Err e) in (f, read, reading_spans c.args.opt.nodes_limit c.args.text.now f c.utf8.text read, c.told.ensures.fault f e)
     ] in
     by_case refl
