@@ -23,7 +23,7 @@ impl<'input> Document<'input> {
     ///
     /// An `Err` says that the text is none, or has more than 4,294,967,295 nodes, 4,294,967,294 attributes or 65,535
     /// distinct pairs of a prefix and its namespace; but for `Error::OutOfMemory`, which says nothing of the text. Any other
-    /// error is that of the fault which reading from left to right meets first: its kind and its position.
+    /// error is that of the fault which reading from left to right meets first: its kind, its position and its names.
     pub fn parse(alloc: Global, text: &'input str) -> Result<Document<'input>, Error>
         ensures is_parse { IfOk result (λ document. IsTreeOf text.now 4294967295 document.tree) }
         ensures text { IfOk result (λ document. document.text ≡ text.now) }
