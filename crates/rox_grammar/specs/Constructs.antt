@@ -1,5 +1,5 @@
 -- The constructs that hold no others.
-use Rattle.std.specs.Prelude.{◌≡◌, ◌≢◌, ℕ, ◌+◌, ◌-◌, ◌<◌, ◌⊎◌, ◌==◌, Bool, true, false, List, [], ◌∷◌, Option, length, take, nat_lt}
+use Rattle.std.specs.Prelude.{◌≡◌, ◌≢◌, ℕ, ◌+◌, ◌-◌, ◌<◌, ◌⊎◌, ◌==◌, Bool, true, false, List, [], ◌∷◌, length, take, nat_lt}
 use Rattle.rox_grammar.specs.declared.fault.Word.{Word}
 use Rattle.rox_grammar.specs.declared.fault.Word.TheVariants as word
 use Rattle.rox_grammar.specs.Chars.{is_char}
@@ -7,7 +7,6 @@ use Rattle.rox_grammar.specs.Runs.{run_end}
 use Rattle.rox_grammar.specs.Marks.{stands, before_mark, mark_from, byte_from}
 use Rattle.rox_grammar.specs.Words.{word_text}
 use Rattle.rox_grammar.specs.Written.{Name}
-use Rattle.rox_grammar.specs.Tree.{none_if_empty}
 use Rattle.rox_grammar.specs.Names.{byte, slice, spaces_end, IsName, IsQName}
 
 -- the fixed text stands at i
@@ -40,7 +39,8 @@ pub record IsComment (src : List ℕ) (i e j : ℕ) : Type 0 where
   pub no_last : byte (slice src (i + 4) e) (length (slice src (i + 4) e) - 1) ≢ 45
   pub next : j ≡ e + 3
 
--- XML 2.6 [16] PI; its target ends at n, and its value at e. White space behind the target may be none.
+-- XML 2.6 [16] PI; its target ends at n, and its value at e. White space behind the target may be none, and of the names only
+-- `xml` with a space behind it is no target: 2.6 [17] wants white space and forbids `xml` in any letters, NS 7 a colon.
 pub record IsPI (src : List ℕ) (i n e j : ℕ) : Type 0 where
   pub opens : at word.PIStart src i ≡ true
   pub no_declaration : at word.DeclarationStart src i ≡ false
@@ -87,7 +87,8 @@ pub data IsGap (src : List ℕ) : ℕ → ℕ → Type 0 where
   some_space : (i : ℕ) → i < spaces_end src i → IsGap src i (spaces_end src i)
   no_space : (i : ℕ) → (length src ≡ i) ⊎ (at word.PIEnd src i ≡ true) → IsGap src i i
 
--- a pair that begins with this word, and a gap, or nothing where the word does not stand
+-- A pair that begins with this word, and a gap, or nothing where the word does not stand. The name may go on behind the word, and
+-- the value is any literal: XML 2.8 [24], [26], 4.3.3 [80], [81] and 2.9 [32] fix both.
 pub data MayBePair (w : Word) (src : List ℕ) : ℕ → ℕ → Type 0 where
   is_pair : (i j k : ℕ) → at w src i ≡ true → IsPair src i j → IsGap src j k → MayBePair w src i k
   no_pair : (i : ℕ) → at w src i ≡ false → MayBePair w src i i
@@ -97,7 +98,7 @@ pub data MayEndPair (w : Word) (src : List ℕ) : ℕ → ℕ → Type 0 where
   is_last : (i j : ℕ) → at w src i ≡ true → IsPair src i j → MayEndPair w src i j
   no_last : (i : ℕ) → at w src i ≡ false → MayEndPair w src i i
 
--- XML 2.8 [23] XMLDecl
+-- XML 2.8 [23] XMLDecl, but only where a space follows `<?xml`: with other white space there it is read as an instruction
 pub record IsDeclaration (src : List ℕ) (i j : ℕ) : Type 0 where
   pub opens : at word.DeclarationStart src i ≡ true
   pub version : at word.Version src (spaces_end src (i + 5)) ≡ true

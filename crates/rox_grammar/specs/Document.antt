@@ -1,33 +1,16 @@
 -- Documents, and their limits.
-use Rattle.std.specs.Prelude.{◌≡◌, ℕ, ◌+◌, ◌≤◌, Bool, true, false, not, ◌&&◌, List, [], ◌∷◌, ◌++◌, length, filter, if◌then◌else◌, bytes_eq}
-use Rattle.std.specs.List.{list_any, starts_with}
-use Rattle.std.specs.Prelude.{◌==◌}
-use Rattle.rox_grammar.specs.declared.fault.Word.TheVariants as word
+use Rattle.std.specs.Prelude.{◌≡◌, ℕ, ◌+◌, ◌≤◌, ◌⊎◌, Option, Bool, true, false, not, ◌&&◌, List, [], ◌∷◌, ◌++◌, length, filter, if◌then◌else◌, bytes_eq}
+use Rattle.std.specs.List.{list_any}
 use Rattle.rox_grammar.specs.Chars.{is_space}
 use Rattle.rox_grammar.specs.Forest.{Forest, Nil, Cons, join, size}
-use Rattle.rox_grammar.specs.Written.{Attribute, Declaration, Tag, Item, Element, Text, Comment, PI, leaf}
+use Rattle.rox_grammar.specs.Written.{Declaration, Tag, Item, Element, Text, Comment, PI, leaf}
 use Rattle.rox_grammar.specs.Tree.{Node, same_prefix, document_tree}
 use Rattle.rox_grammar.specs.Names.{byte}
-use Rattle.rox_grammar.specs.Constructs.{at, IsDeclaration}
-use Rattle.rox_grammar.specs.Content.{Opener, IsMisc, IsElement}
+use Rattle.rox_grammar.specs.Content.{IsMisc, IsElement}
+use Rattle.rox_grammar.specs.Start.{after_bom, MayDeclare}
+use Rattle.rox_grammar.specs.Entities.{Entity, opens_main}
+use Rattle.rox_grammar.specs.Doctype.{Request, Asked, IsExternalID, MayHaveNotation, CutsNotation, BeginsEntity, Subset, BeginsDoctype, IsDoctype}
 use Rattle.rox_grammar.specs.WellNamed.{is_xml, AreWellNamed}
-
--- no name is declared as an entity
-abbrev pub no_entities : Opener
-no_entities = record { content = λ name b items c. ⊥; value = λ name b v c. ⊥ }
-
--- EF BB BF
-abbrev pub bom : List ℕ
-bom = 239 ∷ 187 ∷ 191 ∷ []
-
--- the place after a byte order mark, if there is one
-abbrev pub after_bom : List ℕ → ℕ
-after_bom src = if starts_with ◌==◌ src bom then 3 else 0
-
--- XML 2.8 [23]: a declaration where `<?xml` and a space stand, else nothing
-pub data MayDeclare (src : List ℕ) : ℕ → ℕ → Type 0 where
-  declared : (i j : ℕ) → IsDeclaration src i j → MayDeclare src i j
-  not_declared : (i : ℕ) → at word.DeclarationStart src i ≡ false → MayDeclare src i i
 
 -- XML 2.8 [27] Misc, any number of them: comments, processing instructions and white space
 pub data Misc (src : List ℕ) : ℕ → ℕ → Forest Item → Type 0 where
@@ -35,26 +18,41 @@ pub data Misc (src : List ℕ) : ℕ → ℕ → Forest Item → Type 0 where
   space : (i j : ℕ) (items : Forest Item) → is_space (byte src i) ≡ true → Misc src (i + 1) j items → Misc src i j items
   an_item : (i j k : ℕ) (item : Item) (items : Forest Item) → IsMisc src i j item → Misc src j k items → Misc src i k (join (leaf item) items)
 
--- XML 2.1 [1], 2.8 [22] document, with no document type declaration: these are its top nodes. A reference outside
--- replacement texts may open 255 more within the one that it opens.
-pub record ParseOf (src : List ℕ) (tree : Forest Item) : Type 0 where
+-- XML 2.8 [22] a document type declaration with what follows it, or nothing; whether there is one; and its nodes, what is asked
+-- for its entities, and the entities
+pub data MayHaveDoctype (src : List ℕ) : ℕ → ℕ → Bool → Forest Item → List Asked → List Entity → Type 0 where
+  doctype : (i j k : ℕ) (items more : Forest Item) (asked : List Asked) (es : List Entity) → IsDoctype src i j items asked es → Misc src j k more
+      → MayHaveDoctype src i k true (join items more) asked es
+  no_doctype : (i : ℕ) → MayHaveDoctype src i i false Nil [] []
+
+-- XML 2.1 [1], 2.8 [22] document: whether it has a document type declaration, what is asked for its entities, and its top nodes.
+-- A reference outside replacement texts may open 255 more within the one that it opens.
+pub record ParseOf (src : List ℕ) (dtd : Bool) (asked : List Asked) (tree : Forest Item) : Type 0 where
   pub declared_to : ℕ
   pub declaration : MayDeclare src (after_bom src) declared_to
-  pub start : ℕ
+  pub begun : ℕ
   pub before : Forest Item
-  pub misc_before : Misc src declared_to start before
+  pub misc_before : Misc src declared_to begun before
+  pub start : ℕ
+  pub nodes : Forest Item
+  pub entities : List Entity
+  pub doctype : MayHaveDoctype src begun start dtd nodes asked entities
   pub end : ℕ
   pub left : ℕ
   pub one : Forest Item
-  pub element : IsElement true no_entities src start end 255 left one
+  pub element : IsElement true (opens_main entities) src start end 255 left one
   pub after : Forest Item
   pub misc_after : Misc src end (length src) after
-  pub is_tree : tree ≡ join before (join one after)
+  pub is_tree : tree ≡ join before (join nodes (join one after))
   pub well_named : AreWellNamed [] tree
+
+-- of these declarations those that are listed
+abbrev pub listable_of : List Declaration → List Declaration
+listable_of ds = filter (λ d. not (is_xml d.prefix)) ds
 
 -- what a tag declares and its element lists
 abbrev pub listable : Tag → List Declaration
-listable t = filter (λ d. not (is_xml d.prefix)) t.declarations
+listable t = listable_of t.declarations
 
 abbrev pub own_pairs : Item → List Declaration
 own_pairs (Element start end t) = listable t
@@ -106,9 +104,44 @@ pub record IsWithinLimits (nodes_limit : ℕ) (tree : Forest Item) : Type 0 wher
   pub attributes : attribute_count tree ≤ most_attributes
   pub namespaces : length (distinct_pairs (pairs tree)) ≤ most_pairs
 
--- the text has a parse within the limits, and this is its tree as readers see it
-pub record IsTreeOf (src : List ℕ) (nodes_limit : ℕ) (tree : Forest Node) : Type 0 where
+-- The text has a parse within the limits, with these answers for its external entities, and this is its tree as readers see it.
+pub record IsTreeOf (src : List ℕ) (dtd : Bool) (asked : List Asked) (nodes_limit : ℕ) (tree : Forest Node) : Type 0 where
   pub written : Forest Item
-  pub parse : ParseOf src written
+  pub parse : ParseOf src dtd asked written
   pub within : IsWithinLimits nodes_limit written
   pub shown : tree ≡ document_tree (length src) written
+
+-- a document type declaration stands only where it may
+abbrev pub Permits : (allow dtd : Bool) → Type 0
+Permits allow dtd = dtd ≡ true → allow ≡ true
+
+-- After these were asked, in order, this is asked next: the declaration of an external entity is read up to p, where its
+-- request ends, and everything before it is as the grammar wants.
+pub record AsksNext (src : List ℕ) (asked : List Asked) (request : Request) (p : ℕ) : Type 0 where
+  pub declared_to : ℕ
+  pub declaration : MayDeclare src (after_bom src) declared_to
+  pub begun : ℕ
+  pub before : Forest Item
+  pub misc_before : Misc src declared_to begun before
+  pub s : ℕ
+  pub doctype : BeginsDoctype src begun s
+  pub opens : byte src s ≡ 91
+  pub i : ℕ
+  pub nodes : Forest Item
+  pub entities : List Entity
+  pub items : Subset src (s + 1) i nodes asked entities
+  pub parameter : Bool
+  pub n : ℕ
+  pub m : ℕ
+  pub d : ℕ
+  pub begins : BeginsEntity src i parameter n m d
+  pub e : ℕ
+  pub external : IsExternalID src d request e
+  pub notation : MayHaveNotation src parameter e p ⊎ CutsNotation src parameter e p
+
+-- What was asked, in order, while the text was read: for each its declaration stands next, after those before it. Nothing is asked
+-- where no document type declaration may stand.
+pub data HasAsked (src : List ℕ) (allow : Bool) : List Asked → Type 0 where
+  nothing : HasAsked src allow []
+  one_more : (asked : List Asked) (request : Request) (p : ℕ) (answer : Option (List ℕ)) → allow ≡ true → AsksNext src asked request p
+      → HasAsked src allow (asked ++ record { request = request; answer = answer } ∷ [])

@@ -11,5 +11,16 @@ pub mod Names
 pub mod Constructs
 pub mod References
 pub mod Content
+pub mod Start
+pub mod Entities
+pub mod Doctype
 pub mod WellNamed
 pub mod Document
+pub mod Expansion
+pub mod State
+pub mod Due
+pub mod Places
+pub mod Faults
+pub mod Refused
+pub mod Exchange
+pub mod CharText

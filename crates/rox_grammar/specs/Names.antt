@@ -27,7 +27,8 @@ pub record IsNCName (src : List ℕ) (i j : ℕ) : Type 0 where
   pub no_colon : byte src i ≢ 58
   pub longest : j ≡ run_end is_part_char src i
 
--- NS 4 [7] QName. No second colon follows. A colon may also stand in front, and the prefix is empty then.
+-- NS 4 [7] QName. No second colon follows. A colon may also stand in front, which NS 4 forbids, and the prefix is
+-- empty then.
 pub data IsQName (src : List ℕ) : ℕ → Name → ℕ → Type 0 where
   unprefixed : (i j : ℕ) → IsNCName src i j → byte src j ≢ 58 → IsQName src i (record { prefix = []; local = slice src i j }) j
   prefixed : (i k j : ℕ) → IsNCName src i k → byte src k ≡ 58 → IsNCName src (k + 1) j → byte src j ≢ 58

@@ -1,5 +1,5 @@
 -- References (XML 4.1).
-use Rattle.std.specs.Prelude.{◌≡◌, ℕ, ◌+◌, ◌*◌, ◌-◌, ◌^◌, ◌<◌, ◌≤◌, ◌==◌, ◌&&◌, ◌||◌, Bool, true, false, List, [], ◌∷◌, Option, Some, None, nat_le, nat_lt, bytes_eq, if◌then◌else◌, drop}
+use Rattle.std.specs.Prelude.{◌≡◌, ℕ, ◌+◌, ◌*◌, ◌-◌, ◌^◌, ◌<◌, ◌||◌, Bool, true, List, [], ◌∷◌, Option, Some, None, nat_le, nat_lt, bytes_eq, if◌then◌else◌, drop}
 use Rattle.std.specs.List.{prefix_len}
 use Rattle.rox_grammar.specs.Chars.{is_between, is_char}
 use Rattle.rox_grammar.specs.Names.{byte, slice, IsName}
@@ -26,7 +26,7 @@ number base ds = number_from base 0 ds
 unfoldable pub bytes_end : (ℕ → Bool) → List ℕ → ℕ → ℕ
 bytes_end p src i = i + prefix_len p (drop i src)
 
--- the character of a number; a number that is no character gives U+FFFD
+-- the character of a number; a number that is no character gives U+FFFD, where XML 4.1 (Legal Character) forbids it
 abbrev pub character : ℕ → ℕ
 character n = if nat_lt n 0xD800 || is_between 0xE000 0x10FFFF n then n else 0xFFFD
 

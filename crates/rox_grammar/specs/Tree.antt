@@ -1,5 +1,5 @@
 -- The tree of a document as its readers see it: each name with the namespace that it stands in (XML Information Set 2).
-use Rattle.std.specs.Prelude.{ℕ, ◌==◌, Bool, true, false, not, List, [], ◌∷◌, ◌++◌, Option, Some, None, bytes_eq, filter, map, if◌then◌else◌}
+use Rattle.std.specs.Prelude.{ℕ, Bool, true, false, not, List, [], ◌∷◌, ◌++◌, Option, Some, None, bytes_eq, filter, map, if◌then◌else◌}
 use Rattle.std.specs.List.{list_any}
 use Rattle.rox_grammar.specs.declared.fault.Word.TheVariants.{Xml}
 use Rattle.rox_grammar.specs.Words.{word_text}
@@ -58,7 +58,7 @@ abbrev pub none_if_empty : List ℕ → Option (List ℕ)
 none_if_empty [] = None
 none_if_empty (b ∷ bs) = Some (b ∷ bs)
 
--- NS 6.2: an element without prefix takes the default
+-- NS 6.2: an element without prefix takes the default. Where that is the empty text, so is its namespace, which by NS 6.2 is none.
 abbrev pub element_namespace : List Declaration → Name → Option (List ℕ)
 element_namespace scope name = uri_of scope (none_if_empty name.prefix)
 

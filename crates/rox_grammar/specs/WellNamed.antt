@@ -1,5 +1,5 @@
 -- Names in their namespaces (Namespaces in XML 1.0).
-use Rattle.std.specs.Prelude.{◌≡◌, ◌≢◌, ◌⊎◌, ℕ, ◌&&◌, ◌||◌, not, Bool, true, false, List, [], ◌∷◌, ◌++◌, Option, Some, None, bytes_eq, if◌then◌else◌}
+use Rattle.std.specs.Prelude.{◌≡◌, ℕ, ◌&&◌, ◌||◌, not, Bool, true, false, List, [], ◌∷◌, ◌++◌, Option, Some, bytes_eq, if◌then◌else◌}
 use Rattle.std.specs.List.{list_any}
 use Rattle.rox_grammar.specs.declared.fault.Word.TheVariants.{Xml, Xmlns}
 use Rattle.rox_grammar.specs.Words.{word_text}
@@ -11,7 +11,8 @@ use Rattle.rox_grammar.specs.Tree.{xml_uri, xmlns_uri, same_prefix, is_declared,
 abbrev pub is_xml : Option (List ℕ) → Bool
 is_xml prefix = same_prefix prefix (Some (word_text Xml))
 
--- NS 3: `xml` and only `xml` may be bound to its URI, and nothing to that of `xmlns`
+-- NS 3: `xml` and only `xml` may be bound to its URI, and nothing to that of `xmlns`. NS 3 also forbids the prefix `xmlns`, and
+-- the empty text for a prefix; and by NS 2.2 the value is a URI.
 abbrev pub may_declare : Declaration → Bool
 may_declare d = not (bytes_eq d.uri xmlns_uri) && (if is_xml d.prefix then bytes_eq d.uri xml_uri else not (bytes_eq d.uri xml_uri))
 
@@ -24,7 +25,7 @@ AreDeclarable before (d ∷ ds) = (may_declare d ≡ true) × (is_declared d.pre
 abbrev pub is_known : List Declaration → Name → Bool
 is_known scope n = bytes_eq n.prefix [] || (bytes_eq n.prefix (word_text Xml) || is_declared (Some n.prefix) scope)
 
--- NS 6.3: equal expanded names. No namespace and the empty URI differ.
+-- NS 6.3: equal expanded names. No namespace and the empty URI differ, which NS 6.2 takes for one.
 abbrev pub same_expanded : List Declaration → Name → Name → Bool
 same_expanded scope m n = same_prefix (attribute_namespace scope m) (attribute_namespace scope n) && bytes_eq m.local n.local
 
@@ -34,7 +35,7 @@ AreDistinct scope before [] = Unit {0}
 AreDistinct scope before (a ∷ as') =
     (is_known scope a.name ≡ true) × (list_any (λ e. same_expanded scope e.name a.name) before ≡ false) × AreDistinct scope (before ++ a ∷ []) as'
 
--- the prefix of an element is empty or listed
+-- NS 5: the prefix of an element is empty or listed. So `xml` is refused, which NS 3 declares everywhere.
 abbrev pub may_name : List Declaration → Name → Bool
 may_name scope n = bytes_eq n.prefix [] || is_declared (Some n.prefix) scope
 

@@ -1,5 +1,5 @@
 -- The tree of a text with its names as they are written. Every place is a count of bytes from the start of the source.
-use Rattle.std.specs.Prelude.{ℕ, ◌+◌, ◌-◌, Bool, true, false, ◌||◌, not, List, [], ◌∷◌, ◌++◌, Option, Some, None, bytes_eq, filter, map, if◌then◌else◌, length}
+use Rattle.std.specs.Prelude.{ℕ, ◌+◌, ◌-◌, Bool, false, ◌||◌, not, List, ◌++◌, Option, Some, None, bytes_eq, filter, map, if◌then◌else◌, length}
 use Rattle.rox_grammar.specs.declared.fault.Word.TheVariants.{Xmlns}
 use Rattle.rox_grammar.specs.declared.fault.Span.{Span}
 use Rattle.rox_grammar.specs.Words.{word_text}
@@ -42,7 +42,7 @@ pub data Item : Type 0 where
   Comment : (start end : ℕ) → (text : List ℕ) → Item
   PI : (start end : ℕ) → (target : List ℕ) → (value : Option (List ℕ)) → Item
 
--- NS 3: `xmlns:p` declares p, and any other name with the local part `xmlns` the default
+-- NS 3: `xmlns:p` declares p, and any other name with the local part `xmlns` the default, where NS 3 has `xmlns` alone for it
 abbrev pub declares : Name → Bool
 declares n = bytes_eq n.prefix (word_text Xmlns) || bytes_eq n.local (word_text Xmlns)
 

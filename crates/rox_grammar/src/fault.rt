@@ -116,7 +116,6 @@ pub enum Fault {
     InvalidChar2(Due, u8, usize),
     InvalidString(Word, usize),
     InvalidExternalID(usize),
-    EntityResolver(usize),
     InvalidComment(usize),
     InvalidCharacterData(usize),
     UnknownToken(usize),

@@ -1,0 +1,139 @@
+-- The document type declaration, the entities that it declares, and what is asked for them.
+use Rattle.std.specs.Prelude.{◌≡◌, ◌≢◌, ℕ, ◌+◌, ◌<◌, ◌≤◌, ◌⊎◌, ◌==◌, Bool, true, false, List, [], ◌∷◌, ◌++◌, Option, Some, None, length, take, drop, IsUtf8}
+use Rattle.rox_grammar.specs.declared.fault.Word.TheVariants as word
+use Rattle.rox_grammar.specs.Chars.{is_space}
+use Rattle.rox_grammar.specs.Marks.{byte_from}
+use Rattle.rox_grammar.specs.Forest.{Forest, Nil, join}
+use Rattle.rox_grammar.specs.Written.{Item, leaf}
+use Rattle.rox_grammar.specs.Names.{byte, slice, spaces_end, IsName}
+use Rattle.rox_grammar.specs.Constructs.{at}
+use Rattle.rox_grammar.specs.Content.{IsMisc}
+use Rattle.rox_grammar.specs.Start.{after_bom, MayDeclare}
+use Rattle.rox_grammar.specs.Entities.{Replacement, Entity}
+
+-- XML 4.2.2: what is asked for an external entity: its public identifier, if it has one, and its system identifier, as written
+pub record Request : Type 0 where
+  pub public_id : Option (List ℕ)
+  pub uri : List ℕ
+
+-- a request, and the text that was answered, if any
+pub record Asked : Type 0 where
+  pub request : Request
+  pub answer : Option (List ℕ)
+
+-- XML 2.3 [9], [11], [12]: any characters but the quote, in quotes; it ends at e
+pub record IsQuoted (src : List ℕ) (i e j : ℕ) : Type 0 where
+  pub quote : (byte src i ≡ 39) ⊎ (byte src i ≡ 34)
+  pub end : e ≡ byte_from (λ c. c == byte src i) src (i + 1)
+  pub closes : e < length src
+  pub next : j ≡ e + 1
+
+-- the white space between two things, one at least: from i up to j
+pub record IsSpace (src : List ℕ) (i j : ℕ) : Type 0 where
+  pub some : i < j
+  pub all : j ≡ spaces_end src i
+
+-- XML 4.2.2 [75] ExternalID
+pub data IsExternalID (src : List ℕ) : ℕ → Request → ℕ → Type 0 where
+  system : (i s e j : ℕ) → at word.System src i ≡ true → IsSpace src (i + 6) s → IsQuoted src s e j
+      → IsExternalID src i (record { public_id = None; uri = slice src (s + 1) e }) j
+  public : (i p d k s e j : ℕ) → at word.Public src i ≡ true → IsSpace src (i + 6) p → IsQuoted src p d k → IsSpace src k s → IsQuoted src s e j
+      → IsExternalID src i (record { public_id = Some (slice src (p + 1) d); uri = slice src (s + 1) e }) j
+
+-- XML 4.2.2 [76] NDataDecl, of a general entity alone. White space before it may be none.
+pub data MayHaveNotation (src : List ℕ) : (parameter : Bool) → ℕ → ℕ → Type 0 where
+  notation : (i s j : ℕ) → at word.NData src (spaces_end src i) ≡ true → IsSpace src (spaces_end src i + 5) s → IsName src s j → MayHaveNotation src false i j
+  no_notation : (i : ℕ) → at word.NData src (spaces_end src i) ≡ false → MayHaveNotation src false i i
+  of_parameter : (i : ℕ) → MayHaveNotation src true i i
+
+-- The text is cut off where the name of a notation should stand: what is asked stands before it.
+pub record CutsNotation (src : List ℕ) (parameter : Bool) (i j : ℕ) : Type 0 where
+  pub is_general : parameter ≡ false
+  pub opens : at word.NData src (spaces_end src i) ≡ true
+  pub space_behind : IsSpace src (spaces_end src i + 5) j
+  pub cut : length src ≤ j
+
+-- XML 4.3.1: an answer is a text, and its replacement text what follows a byte order mark and a declaration in it
+pub data Gives : Option (List ℕ) → Option Replacement → Type 0 where
+  nothing : Gives None None
+  the_rest : (text : List ℕ) (d : ℕ) → IsUtf8 text → MayDeclare text (after_bom text) d → Gives (Some text) (Some (record { source = drop d text; start = 0 }))
+
+-- XML 4.2 [73] EntityDef, [74] PEDef: from i up to j, with what is asked there and the text that is declared, if any
+pub data IsDefinition (src : List ℕ) (parameter : Bool) : ℕ → ℕ → List Asked → Option Replacement → Type 0 where
+  internal : (i e j : ℕ) → IsQuoted src i e j → IsDefinition src parameter i j [] (Some (record { source = take e src; start = i + 1 }))
+  external : (i n j : ℕ) (request : Request) (answer : Option (List ℕ)) (text : Option Replacement) → IsExternalID src i request n → MayHaveNotation src parameter n j
+      → Gives answer text → IsDefinition src parameter i j (record { request = request; answer = answer } ∷ []) text
+
+-- `%` and white space before the name of a parameter entity
+pub data IsKind (src : List ℕ) : ℕ → (parameter : Bool) → ℕ → Type 0 where
+  of_parameter : (i j : ℕ) → byte src i ≡ 37 → IsSpace src (i + 1) j → IsKind src i true j
+  general : (i : ℕ) → byte src i ≢ 37 → IsKind src i false i
+
+-- XML 4.2 [70] EntityDecl up to its definition, which begins at d; its name stands from n up to m
+pub record BeginsEntity (src : List ℕ) (i : ℕ) (parameter : Bool) (n m d : ℕ) : Type 0 where
+  pub opens : at word.EntityStart src i ≡ true
+  pub k : ℕ
+  pub space_before : IsSpace src (i + 8) k
+  pub is_kind : IsKind src k parameter n
+  pub name : IsName src n m
+  pub space_behind : IsSpace src m d
+
+abbrev pub entry : List ℕ → Option Replacement → List Entity
+entry name None = []
+entry name (Some text) = record { name = name; text = text } ∷ []
+
+-- XML 4.2 [70] EntityDecl
+pub record IsEntityDeclaration (src : List ℕ) (i j : ℕ) (asked : List Asked) (declared : List Entity) : Type 0 where
+  pub parameter : Bool
+  pub n : ℕ
+  pub m : ℕ
+  pub d : ℕ
+  pub begins : BeginsEntity src i parameter n m d
+  pub e : ℕ
+  pub text : Option Replacement
+  pub definition : IsDefinition src parameter d e asked text
+  pub declares : declared ≡ entry (slice src n m) text
+  pub closes : byte src (spaces_end src e) ≡ 62
+  pub next : j ≡ spaces_end src e + 1
+
+-- XML 3.2 [45], 3.3 [52], 4.7 [82]: declarations that are passed over, to their first `>`
+pub record IsPassedOver (src : List ℕ) (i j : ℕ) : Type 0 where
+  pub opens : (at word.ElementStart src i ≡ true) ⊎ ((at word.AttlistStart src i ≡ true) ⊎ (at word.NotationStart src i ≡ true))
+  pub e : ℕ
+  pub end : e ≡ byte_from (λ c. c == 62) src i
+  pub closes : e < length src
+  pub next : j ≡ e + 1
+
+-- XML 2.8 [28b] intSubset: its comments and processing instructions, what is asked, and the entities that are declared, each in order
+pub data Subset (src : List ℕ) : ℕ → ℕ → Forest Item → List Asked → List Entity → Type 0 where
+  no_more : (i : ℕ) → Subset src i i Nil [] []
+  space : (i j : ℕ) (items : Forest Item) (asked : List Asked) (es : List Entity) → is_space (byte src i) ≡ true → Subset src (i + 1) j items asked es
+      → Subset src i j items asked es
+  an_item : (i j k : ℕ) (item : Item) (items : Forest Item) (asked : List Asked) (es : List Entity) → IsMisc src i j item → Subset src j k items asked es
+      → Subset src i k (join (leaf item) items) asked es
+  passed_over : (i j k : ℕ) (items : Forest Item) (asked : List Asked) (es : List Entity) → IsPassedOver src i j → Subset src j k items asked es
+      → Subset src i k items asked es
+  an_entity : (i j k : ℕ) (items : Forest Item) (first asked : List Asked) (one es : List Entity) → IsEntityDeclaration src i j first one → Subset src j k items asked es
+      → Subset src i k items (first ++ asked) (one ++ es)
+
+-- an external id where `SYSTEM` or `PUBLIC` stands, else nothing. Nothing is asked for it.
+pub data MayHaveExternalID (src : List ℕ) : ℕ → ℕ → Type 0 where
+  external_id : (i j : ℕ) (request : Request) → IsExternalID src i request j → MayHaveExternalID src i j
+  no_external_id : (i : ℕ) → at word.System src i ≡ false → at word.Public src i ≡ false → MayHaveExternalID src i i
+
+-- XML 2.8 [28] doctypedecl up to its `>` or `[`, which stands at s
+pub record BeginsDoctype (src : List ℕ) (i s : ℕ) : Type 0 where
+  pub opens : at word.DoctypeStart src i ≡ true
+  pub n : ℕ
+  pub space_before : IsSpace src (i + 9) n
+  pub m : ℕ
+  pub name : IsName src n m
+  pub x : ℕ
+  pub external : MayHaveExternalID src (spaces_end src m) x
+  pub next : s ≡ spaces_end src x
+
+-- XML 2.8 [28] doctypedecl
+pub data IsDoctype (src : List ℕ) : ℕ → ℕ → Forest Item → List Asked → List Entity → Type 0 where
+  no_subset : (i s : ℕ) → BeginsDoctype src i s → byte src s ≡ 62 → IsDoctype src i (s + 1) Nil [] []
+  with_subset : (i s k : ℕ) (items : Forest Item) (asked : List Asked) (es : List Entity) → BeginsDoctype src i s → byte src s ≡ 91 → Subset src (s + 1) k items asked es
+      → byte src k ≡ 93 → byte src (spaces_end src (k + 1)) ≡ 62 → IsDoctype src i (spaces_end src (k + 1) + 1) items asked es

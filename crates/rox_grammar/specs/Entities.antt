@@ -1,0 +1,51 @@
+-- Entities, and what a reference to one opens (XML 4.4). A replacement text is read as a source of its own, which ends where
+-- the text ends; its places count as those of the source that it lies in: the main text, or the rest of a resolver's answer.
+use Rattle.std.specs.Prelude.{◌≡◌, ℕ, zero, suc, ◌+◌, Bool, true, false, List, [], ◌∷◌, Option, Some, None, length, bytes_eq, if◌then◌else◌}
+use Rattle.rox_grammar.specs.Constructs.{AreChars}
+use Rattle.rox_grammar.specs.Content.{Opener, Content, Value}
+
+-- XML 4.5: a replacement text, from `start` up to the end of `source`, which is cut off there
+pub record Replacement : Type 0 where
+  pub source : List ℕ
+  pub start : ℕ
+
+pub record Entity : Type 0 where
+  pub name : List ℕ
+  pub text : Replacement
+
+-- XML 4.2: of several declarations of a name the first is binding
+abbrev pub text_of : List Entity → List ℕ → Option Replacement
+text_of [] name = None
+text_of (e ∷ es) name = if bytes_eq e.name name then Some e.text else text_of es name
+
+-- Of the openings that are left: b before a reference and c after it, and within the text that it opens r at the start and l
+-- at the end. Outside replacement texts each reference has 255 of its own; within them each opening takes one.
+abbrev pub Spends : (main : Bool) (b r l c : ℕ) → Type 0
+Spends true b r l c = (r ≡ 255) × (c ≡ b)
+Spends false b r l c = (b ≡ r + 1) × (c ≡ l)
+
+-- no name is declared as an entity, or none may be opened
+abbrev pub no_entities : Opener
+no_entities = record { content = λ name b items c. ⊥; value = λ name b v c. ⊥ }
+
+-- XML 4.4.2, 4.4.5: what a reference opens, outside replacement texts or within one, where so many may still be open within one
+-- another. In content the whole text is content; in a value it is a part of a value, of Chars.
+abbrev pub Opens : List Entity → (left : ℕ) → (main : Bool) → Opener
+Opens es zero main = no_entities
+Opens es (suc d) main =
+    record {
+      content = λ name b items c.
+          (t : Replacement) × (r : ℕ) × (l : ℕ) × (text_of es name ≡ Some t) × Spends main b r l c
+          × Content false (Opens es d false) t.source t.start (length t.source) r l items;
+      value = λ name b v c.
+          (t : Replacement) × (r : ℕ) × (l : ℕ) × (text_of es name ≡ Some t) × Spends main b r l c × AreChars t.source t.start (length t.source)
+          × Value false (Opens es d false) t.source (length t.source) t.start r l v;
+    }
+
+-- at most ten replacement texts are open at once
+abbrev pub most_open : ℕ
+most_open = 10
+
+-- what a reference outside replacement texts opens
+abbrev pub opens_main : List Entity → Opener
+opens_main es = Opens es most_open true

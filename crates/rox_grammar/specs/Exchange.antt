@@ -1,0 +1,185 @@
+-- An element alone, moved to another place, and put in the place of another. A node is named by its id: its place in preorder,
+-- where the first node of a row has the id 0.
+use Rattle.std.specs.Prelude.{◌≡◌, ℕ, zero, suc, ◌+◌, ◌-◌, ◌<◌, ◌≤◌, ◌&&◌, ◌⊎◌, Bool, true, false, List, [], ◌∷◌, ◌++◌, map, length, take, drop, nat_lt, if◌then◌else◌}
+use Rattle.rox_grammar.specs.Forest.{Forest, Nil, Cons, join, size}
+use Rattle.rox_grammar.specs.Written.{Declaration, Item}
+use Rattle.rox_grammar.specs.Tree.{Attribute, Node, Root, Element, Text, Comment, PI, document_tree}
+use Rattle.rox_grammar.specs.Names.{slice}
+use Rattle.rox_grammar.specs.Document.{ParseOf}
+
+-- ---- moving
+
+-- A move by `add` bytes to the right and then `sub` to the left; what is moved has at least `sub` bytes before it then.
+pub record Move : Type 0 where
+  pub add : ℕ
+  pub sub : ℕ
+
+abbrev pub moved : Move → ℕ → ℕ
+moved m i = i + m.add - m.sub
+
+abbrev pub moved_attribute : Move → Attribute → Attribute
+moved_attribute m a = record {
+  start = moved m a.start;
+  name_end = moved m a.name_end;
+  value_start = moved m a.value_start;
+  end = moved m a.end;
+  namespace = a.namespace;
+  local = a.local;
+  value = a.value;
+  borrowed = a.borrowed;
+}
+
+-- all places of a node move
+abbrev pub moved_node : Move → Node → Node
+moved_node m (Root end) = Root (moved m end)
+moved_node m (Element start end namespace local listed attributes) = Element (moved m start) (moved m end) namespace local listed (map (moved_attribute m) attributes)
+moved_node m (Text start end value borrowed) = Text (moved m start) (moved m end) value borrowed
+moved_node m (Comment start end text) = Comment (moved m start) (moved m end) text
+moved_node m (PI start end target value) = PI (moved m start) (moved m end) target value
+
+-- and of all nodes below and beside it
+abbrev pub shifted : Move → Forest Node → Forest Node
+shifted m Nil = Nil
+shifted m (Cons node children rest) = Cons (moved_node m node) (shifted m children) (shifted m rest)
+
+-- only the end of a node moves, since something in it grew or shrank
+abbrev pub stretched : Move → Node → Node
+stretched m (Root end) = Root (moved m end)
+stretched m (Element start end namespace local listed attributes) = Element start (moved m end) namespace local listed attributes
+stretched m (Text start end value borrowed) = Text start end value borrowed
+stretched m (Comment start end text) = Comment start end text
+stretched m (PI start end target value) = PI start end target value
+
+-- ---- a node of a tree, by its id
+
+-- the node of this id and what is below it, alone
+abbrev pub subtree : Forest Node → ℕ → Forest Node
+subtree Nil id = Nil
+subtree (Cons node children rest) zero = Cons node children Nil
+subtree (Cons node children rest) (suc id) = if nat_lt id (size children) then subtree children id else subtree rest (id - size children)
+
+-- These in the place of the node of this id and of what is below it: what stands behind moves, and the nodes above it grow.
+abbrev pub exchanged : Move → Forest Node → Forest Node → ℕ → Forest Node
+exchanged m one Nil id = Nil
+exchanged m one (Cons node children rest) zero = join one (shifted m rest)
+exchanged m one (Cons node children rest) (suc id) =
+    if nat_lt id (size children) then Cons (stretched m node) (exchanged m one children id) (shifted m rest)
+    else Cons node children (exchanged m one rest (id - size children))
+
+abbrev pub is_an_element : Node → Bool
+is_an_element (Element start end namespace local listed attributes) = true
+is_an_element other = false
+
+abbrev pub none_of : List Declaration → Bool
+none_of [] = true
+none_of (d ∷ ds) = false
+
+-- the node lists no namespace
+abbrev pub lists_none : Node → Bool
+lists_none (Element start end namespace local listed attributes) = none_of listed
+lists_none other = true
+
+-- The node of this id is an element, and none above it lists a namespace (NS 6): each name below it stands for what it stands
+-- for by the element's own text.
+abbrev pub self_contained : Forest Node → ℕ → Bool
+self_contained Nil id = false
+self_contained (Cons node children rest) zero = is_an_element node
+self_contained (Cons node children rest) (suc id) =
+    if nat_lt id (size children) then lists_none node && self_contained children id
+    else self_contained rest (id - size children)
+
+-- where the range of a node starts and ends
+abbrev pub first_byte : Node → ℕ
+first_byte (Root end) = 0
+first_byte (Element start end namespace local listed attributes) = start
+first_byte (Text start end value borrowed) = start
+first_byte (Comment start end text) = start
+first_byte (PI start end target value) = start
+
+abbrev pub past_byte : Node → ℕ
+past_byte (Root end) = end
+past_byte (Element start end namespace local listed attributes) = end
+past_byte (Text start end value borrowed) = end
+past_byte (Comment start end text) = end
+past_byte (PI start end target value) = end
+
+-- of the first node of a row
+abbrev pub row_start : Forest Node → ℕ
+row_start Nil = 0
+row_start (Cons node children rest) = first_byte node
+
+abbrev pub row_end : Forest Node → ℕ
+row_end Nil = 0
+row_end (Cons node children rest) = past_byte node
+
+-- of the node of this id
+abbrev pub start_at : Forest Node → ℕ → ℕ
+start_at tree id = row_start (subtree tree id)
+
+abbrev pub end_at : Forest Node → ℕ → ℕ
+end_at tree id = row_end (subtree tree id)
+
+-- ---- what the calls answer
+
+-- what stands in a text from i up to j, replaced
+abbrev pub replaced : List ℕ → ℕ → ℕ → List ℕ → List ℕ
+replaced text i j bytes = take i text ++ (bytes ++ drop j text)
+
+-- the text is a document, whatever the limits are, and this is its tree
+pub record HasTree (text : List ℕ) (tree : Forest Node) : Type 0 where
+  pub written : Forest Item
+  pub parse : ParseOf text false [] written
+  pub shown : tree ≡ document_tree (length text) written
+
+-- a document of the slice of a node, which has that node alone, moved to the start
+pub record IsReparse (tree : Forest Node) (text : List ℕ) (id : ℕ) (own : Forest Node) (own_text : List ℕ) : Type 0 where
+  pub text_is : own_text ≡ slice text (start_at tree id) (end_at tree id)
+  pub tree_is : own ≡ Cons (Root (length own_text)) (shifted (record { add = 0; sub = start_at tree id }) (subtree tree id)) Nil
+
+-- how far what stands behind the node moves, if it is replaced by a node of the other tree
+abbrev pub change : Forest Node → ℕ → Forest Node → ℕ → Move
+change tree id other at = record { add = end_at other at - start_at other at; sub = end_at tree id - start_at tree id }
+
+-- the tree with a node of the other tree in the place of the node of this id
+abbrev pub with_other : Forest Node → ℕ → Forest Node → ℕ → Forest Node
+with_other tree id other at =
+    exchanged (change tree id other at) (shifted (record { add = start_at tree id; sub = start_at other at }) (subtree other at)) tree id
+
+-- the text with the slice of a node of the other document in the place of that of the node of this id
+abbrev pub text_with : Forest Node → List ℕ → ℕ → Forest Node → List ℕ → ℕ → List ℕ
+text_with tree text id other other_text at = replaced text (start_at tree id) (end_at tree id) (slice other_text (start_at other at) (end_at other at))
+
+-- that text, which is a document, and its tree is the one with that node in the other's place
+pub record IsExchange (tree : Forest Node) (text : List ℕ) (id : ℕ) (other : Forest Node) (other_text : List ℕ) (at : ℕ) (own_text : List ℕ) : Type 0 where
+  pub text_is : own_text ≡ text_with tree text id other other_text at
+  pub tree_is : HasTree own_text (with_other tree id other at)
+
+-- ---- laws
+
+-- k is neither the node of this id nor below it
+abbrev pub IsOutside : Forest Node → ℕ → ℕ → Type 0
+IsOutside tree id k = (k < size tree) × ((id ≤ k) → id + size (subtree tree id) ≤ k)
+
+-- neither of these nodes is the other or below it
+abbrev pub AreSeparate : Forest Node → ℕ → ℕ → Type 0
+AreSeparate tree i j = (i + size (subtree tree i) ≤ j) ⊎ (j + size (subtree tree j) ≤ i)
+
+-- where a node that stands outside of the node of this id stands when that has been replaced
+abbrev pub id_after : Forest Node → ℕ → Forest Node → ℕ → ℕ → ℕ
+id_after tree id other at k = if nat_lt k id then k else k + size (subtree other at) - size (subtree tree id)
+
+-- the node that was put in is self-contained, and each outside of it that was so is so
+pub record StaysContained (tree : Forest Node) (id : ℕ) (other : Forest Node) (at : ℕ) : Type 0 where
+  pub itself : self_contained (with_other tree id other at) id ≡ true
+  pub outside : (k : ℕ) → IsOutside tree id k → self_contained tree k ≡ true → self_contained (with_other tree id other at) (id_after tree id other at k) ≡ true
+
+-- the old node put back gives the first text and the first tree
+pub record GoesBack (tree : Forest Node) (text : List ℕ) (id : ℕ) (other : Forest Node) (other_text : List ℕ) (at : ℕ) : Type 0 where
+  pub text_is : text_with (with_other tree id other at) (text_with tree text id other other_text at) id tree text id ≡ text
+  pub tree_is : with_other (with_other tree id other at) id tree id ≡ tree
+
+-- Nodes put in the places of two, neither of which is below the other: either order gives one text and one tree.
+pub record Commutes (tree : Forest Node) (text : List ℕ) (i : ℕ) (one : Forest Node) (one_text : List ℕ) (a : ℕ) (j : ℕ) (two : Forest Node) (two_text : List ℕ) (b : ℕ) : Type 0 where
+  pub text_is : text_with (with_other tree i one a) (text_with tree text i one one_text a) (id_after tree i one a j) two two_text b
+      ≡ text_with (with_other tree j two b) (text_with tree text j two two_text b) (id_after tree j two b i) one one_text a
+  pub tree_is : with_other (with_other tree i one a) (id_after tree i one a j) two b ≡ with_other (with_other tree j two b) (id_after tree j two b i) one a
