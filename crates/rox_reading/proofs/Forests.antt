@@ -1,12 +1,11 @@
 -- Forests, merged from left to right.
-use Rattle.std.proofs.Common.{◌≡◌, ℕ, zero, suc, ◌+◌, ◌≤◌, Bool, true, false, List, [], ◌∷◌, ◌++◌, length, filter, refl, sym, ap, ◌∙◌, arith, append_assoc, Option, Some, None}
-use Rattle.std.proofs.lemmas.List.{append-nil}
+use Rattle.std.proofs.Common.{◌≡◌, ℕ, ◌+◌, ◌≤◌, Bool, true, false, List, ◌++◌, refl, sym, ap, ◌∙◌, arith, append_assoc, Option}
 use Rattle.rox_grammar.specs.Forest.{Forest, Nil, Cons, join, size}
 use Rattle.rox_grammar.specs.Written.{Tag, Item, Element, Text, Comment, PI, Declaration, glue, merge, leaf}
-use Rattle.rox_grammar.specs.Tree.{Node, scope_in, node_in, resolved}
-use Rattle.rox_grammar.specs.WellNamed.{ItemWellNamed, AreWellNamed}
-use Rattle.rox_grammar.specs.Document.{own_pairs, pairs, own_attributes, attribute_count}
-use Rattle.rox_reading.specs.State.{is_nil}
+use Rattle.rox_grammar.specs.Tree.{scope_in, node_in, resolved}
+use Rattle.rox_grammar.specs.WellNamed.{AreWellNamed}
+use Rattle.rox_grammar.specs.Document.{own_pairs, pairs, attribute_count}
+use Rattle.rox_grammar.specs.State.{is_nil}
 
 pub join-nil : {I : Type 0} (f : Forest I) → join f Nil ≡ f
 join-nil Nil = refl

@@ -1,1 +1,4 @@
 pub mod Forests
+pub mod Answering
+pub mod Settling
+pub mod FaultsAlone

@@ -1,15 +1,14 @@
 -- What each small step reads at a place of a source: a value and the next place, or the first fault.
-use Rattle.std.specs.Prelude.{ℕ, ◌+◌, ◌-◌, ◌==◌, ◌||◌, ◌&&◌, not, Bool, List, [], ◌∷◌, Result, Ok, Err, length, take, drop, slice_index, slice_range, nat_lt, nat_le, if◌then◌else◌}
+use Rattle.std.specs.Prelude.{ℕ, ◌+◌, ◌==◌, ◌||◌, ◌&&◌, not, Bool, List, [], Result, Ok, Err, length, take, drop, slice_index, slice_range, nat_lt, nat_le, if◌then◌else◌}
 use Rattle.std.specs.Str.{chars}
 use Rattle.rox_grammar.specs.declared.fault.Due.TheVariants.{Space, Quote}
 use Rattle.rox_grammar.specs.declared.fault.Fault.{Fault}
 use Rattle.rox_grammar.specs.declared.fault.Word.{Word}
-use Rattle.rox_grammar.specs.declared.fault.Word.TheVariants as word
 use Rattle.rox_grammar.specs.declared.fault.Fault.TheVariants.{InvalidName, NonXmlChar, InvalidChar, InvalidChar2, InvalidString, UnexpectedEndOfStream}
 use Rattle.rox_grammar.specs.Chars.{is_space, is_name_start, is_name_char, is_part_char, is_char}
 use Rattle.rox_grammar.specs.Runs.{run_end, begins}
 use Rattle.rox_grammar.specs.Words.{word_text}
-use Rattle.rox_grammar.specs.Marks.{stands, before_mark, mark_from, byte_from}
+use Rattle.rox_grammar.specs.Marks.{stands, mark_from}
 use Rattle.rox_grammar.specs.Written.{Name}
 use Rattle.rox_grammar.specs.Names.{spaces_end}
 
@@ -18,7 +17,7 @@ abbrev pub Read : Type 0 → Type 0
 Read A = Result (A × ℕ) Fault
 
 infixl 10 ◌>>=◌
-abbrev pub ◌>>=◌ : {A B : Type 0} → Result A Fault → (A → Result B Fault) → Result B Fault
+abbrev pub ◌>>=◌ : {A B E : Type 0} → Result A E → (A → Result B E) → Result B E
 (Ok x) >>= f = f x
 (Err e) >>= f = Err e
 

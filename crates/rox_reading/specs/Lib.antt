@@ -1,6 +1,10 @@
 pub mod Lexical
+pub mod Refusals
 pub mod Markup
 pub mod Values
 pub mod State
 pub mod Tags
 pub mod Machine
+pub mod Doctype
+pub mod Whole
+pub mod Answering

@@ -1,5 +1,6 @@
--- Reading of a document: one construct a step.
-use Rattle.std.specs.Prelude.{ℕ, zero, suc, ◌+◌, ◌-◌, ◌==◌, ◌&&◌, not, Bool, true, false, List, [], ◌∷◌, Option, Result, Ok, Err, length, slice_range, slice_index, nat_lt, nat_le, bytes_eq, if◌then◌else◌}
+-- Reading of content: one construct a step. A replacement text is read as content by steps of its own, over its own source, which add to the
+-- same items and open elements; it goes on until its end, where as many elements have to be open as at its start.
+use Rattle.std.specs.Prelude.{ℕ, zero, suc, ◌+◌, ◌-◌, ◌==◌, ◌&&◌, not, Bool, true, false, List, [], ◌∷◌, Result, Ok, Err, length, slice_index, nat_lt, nat_le, bytes_eq, if◌then◌else◌}
 use Rattle.std.specs.List.{list_any}
 use Rattle.rox_grammar.specs.declared.fault.Fault.{Fault}
 use Rattle.rox_grammar.specs.declared.fault.Span.{Span}
@@ -7,15 +8,25 @@ use Rattle.rox_grammar.specs.declared.fault.Fault.TheVariants as fault
 use Rattle.rox_grammar.specs.declared.fault.Word.TheVariants as word
 use Rattle.rox_grammar.specs.Forest.{Forest, Nil, Cons, join}
 use Rattle.rox_grammar.specs.Written.{Name, Tag, Item, Element, Text, Comment, PI, merge, leaf, local_span}
-use Rattle.rox_grammar.specs.Names.{spaces_end}
 use Rattle.rox_grammar.specs.Constructs.{at}
-use Rattle.rox_grammar.specs.Content.{literals, line_ends}
-use Rattle.rox_grammar.specs.Document.{after_bom, distinct_pairs}
-use Rattle.rox_reading.specs.Lexical.{Read, ◌>>=◌}
-use Rattle.rox_reading.specs.Markup.{comment_at, instruction_at, cdata_at, end_tag_at, declaration_at}
-use Rattle.rox_reading.specs.Values.{run_at}
-use Rattle.rox_reading.specs.Tags.{tag_at}
-use Rattle.rox_reading.specs.State.{Open, root, inside, State, is_root, is_nil, scope_of, nodes_so_far, attributes_so_far, pairs_so_far}
+use Rattle.rox_grammar.specs.Content.{is_plain, literals, line_ends}
+use Rattle.rox_grammar.specs.Document.{distinct_pairs}
+use Rattle.rox_grammar.specs.Entities.{Replacement, Entity, most_open}
+use Rattle.rox_reading.specs.Lexical.{◌>>=◌}
+use Rattle.rox_reading.specs.Refusals.{Refusal, here, lifted, elsewhere}
+use Rattle.rox_reading.specs.Markup.{comment_at, instruction_at, cdata_at, end_tag_at}
+use Rattle.rox_reading.specs.Values.{Next, at_end, opening, run_part, part_text, raw_run_at, ValueOpener, value_text}
+use Rattle.rox_reading.specs.Tags.{Values, tag_at}
+use Rattle.rox_grammar.specs.State.{Open, root, inside, is_root, scope_of, nodes_so_far, attributes_so_far, pairs_so_far}
+use Rattle.rox_reading.specs.State.{State, depth_of}
+
+-- how a text is read: the limit, how values are, whether it is the main text, how many elements are open around it, and how a
+-- replacement text is read, behind whose reference this place is
+pub record How : Type 0 where
+  pub limit : ℕ
+  pub values : Values
+  pub base : ℕ
+  pub opener : Replacement → ℕ → State → Result State Refusal
 
 -- the state, if its nodes are within the limit
 abbrev pub counted : ℕ → State → Result State Fault
@@ -23,7 +34,7 @@ counted limit s = if nat_le (nodes_so_far s.stack s.done) limit then Ok s else E
 
 -- one more item without children, up to j
 abbrev pub with_item : ℕ → State → ℕ → Item → Result State Fault
-with_item limit s j item = counted limit (record { at = j; done = join s.done (leaf item); stack = s.stack })
+with_item limit s j item = counted limit (record { at = j; done = join s.done (leaf item); stack = s.stack; left = s.left })
 
 unfoldable pub comment_step : ℕ → List ℕ → State → Result State Fault
 comment_step limit src s = comment_at src s.at >>= λ x. with_item limit s x.1 (Comment s.at x.1 x.0)
@@ -36,22 +47,46 @@ unfoldable pub cdata_step : ℕ → List ℕ → State → Result State Fault
 cdata_step limit src s =
     cdata_at src s.at >>= λ x. with_item limit s x.1 (Text s.at x.1 (line_ends (literals x.0)) (not (list_any (λ b. b == 13) x.0)))
 
-unfoldable pub run_step : ℕ → List ℕ → State → Result State Fault
-run_step limit src s = run_at src s.at >>= λ x. with_item limit s x.1 (Text s.at x.1 x.0.value x.0.plain)
+-- the piece of a part of the run from i up to j, if it has a character
+abbrev pub with_piece : ℕ → State → ℕ → ℕ → List ℕ → Result State Fault
+with_piece limit s i j [] = Ok s
+with_piece limit s i j (b ∷ bs) = with_item limit s j (Text i j (b ∷ bs) false)
+
+abbrev pub at_place : ℕ → State → State
+at_place j s = record { at = j; done = s.done; stack = s.stack; left = s.left }
+
+-- after a part, with what reads the parts from the state behind a reference
+abbrev pub after_part : How → (State → Result State Refusal) → ℕ → State → Next → Result State Refusal
+after_part how more stop s at_end = Ok (at_place stop s)
+after_part how more stop s (opening t j) = how.opener t j s >>= more
+
+-- the parts of the run from start up to stop, from the state's place on; the number bounds them
+unfoldable pub run_parts : How → ℕ → List ℕ → (start stop : ℕ) → State → Result State Refusal
+run_parts how zero src start stop s = Ok (at_place stop s)
+run_parts how (suc n) src start stop s =
+    lifted (run_part how.values.main how.values.entities (stop - s.at) src stop s.at) >>= λ x.
+    lifted (with_piece how.limit s start stop (part_text how.values.main x.0)) >>= λ t. after_part how (λ u. run_parts how n src start stop u) stop t x.1
+
+-- a run: a slice of the source where it has no `&` and no CR
+unfoldable pub run_step : How → List ℕ → State → Result State Refusal
+run_step how src s =
+    lifted (raw_run_at src s.at) >>= λ x.
+    if is_plain x.0 then lifted (with_item how.limit s x.1 (Text s.at x.1 x.0 true)) else run_parts how (length src) src s.at x.1 s
 
 -- a tag that is cut off by the end of the text right behind its name or an attribute
-abbrev pub cut_off : Open → Fault
-cut_off root = fault.NoRootNode
-cut_off (inside start tag before up) = fault.UnclosedRootNode
+abbrev pub cut_off : (main : Bool) → Open → Fault
+cut_off true root = fault.NoRootNode
+cut_off true (inside start tag before up) = fault.UnclosedRootNode
+cut_off false stack = fault.UnexpectedEndOfStream
 
-abbrev pub opened_by : ℕ → State → Tag → Bool → ℕ → Result State Fault
-opened_by limit s t true j = with_item limit s j (Element s.at j t)
-opened_by limit s t false j = counted limit (record { at = j; done = Nil; stack = inside s.at t s.done s.stack })
+abbrev pub opened_by : ℕ → State → Tag → Bool → ℕ → ℕ → Result State Fault
+opened_by limit s t true left j = with_item limit (record { at = s.at; done = s.done; stack = s.stack; left = left }) j (Element s.at j t)
+opened_by limit s t false left j = counted limit (record { at = j; done = Nil; stack = inside s.at t s.done s.stack; left = left })
 
-unfoldable pub tag_step : ℕ → List ℕ → State → Result State Fault
-tag_step limit src s =
-    tag_at (cut_off s.stack) (scope_of s.stack) (attributes_so_far s.stack s.done) (distinct_pairs (pairs_so_far s.stack s.done)) src s.at
-    >>= λ x. opened_by limit s x.0.0 x.0.1 x.1
+unfoldable pub tag_step : How → List ℕ → State → Result State Refusal
+tag_step how src s =
+    tag_at how.values (cut_off how.values.main s.stack) (scope_of s.stack) (attributes_so_far s.stack s.done) (distinct_pairs (pairs_so_far s.stack s.done)) src s.at s.left
+    >>= λ x. lifted (opened_by how.limit s x.0.tag x.0.empty x.0.left x.1)
 
 -- where a name is written that ends at n, in a tag whose name may begin at i: without the colon if there is no prefix
 abbrev pub name_span : Name → ℕ → ℕ → Span
@@ -61,65 +96,81 @@ abbrev pub same_name : Name → Name → Bool
 same_name m n = bytes_eq m.prefix n.prefix && bytes_eq m.local n.local
 
 -- an end tag of this name, which ends at n, from i to j
-unfoldable pub closed_by : ℕ → Name → ℕ → ℕ → Forest Item → Open → Result State Fault
-closed_by i name n j done root = Err (fault.UnexpectedEntityCloseTag i)
-closed_by i name n j done (inside start tag before up) =
-    if same_name tag.name name then Ok (record { at = j; done = join before (Cons (Element start j tag) (merge done) Nil); stack = up })
+unfoldable pub closed_by : ℕ → Name → ℕ → ℕ → Forest Item → Open → ℕ → Result State Fault
+closed_by i name n j done root left = Err (fault.UnexpectedEntityCloseTag i)
+closed_by i name n j done (inside start tag before up) left =
+    if same_name tag.name name then Ok (record { at = j; done = join before (Cons (Element start j tag) (merge done) Nil); stack = up; left = left })
     else Err (fault.UnexpectedCloseTag (name_span tag.name (start + 1) tag.name_end) (name_span name (i + 2) n) i)
 
-unfoldable pub end_step : List ℕ → State → Result State Fault
-end_step src s = end_tag_at src s.at >>= λ x. closed_by s.at x.0.name x.0.name_end x.1 s.done s.stack
+-- it closes no element that was open before the text
+unfoldable pub end_step : How → List ℕ → State → Result State Fault
+end_step how src s =
+    end_tag_at src s.at >>= λ x.
+    if nat_le (depth_of s.stack) how.base then Err (fault.UnexpectedEntityCloseTag s.at) else closed_by s.at x.0.name x.0.name_end x.1 s.done s.stack s.left
 
 -- one construct of content
-unfoldable pub step : ℕ → List ℕ → State → Result State Fault
-step limit src s =
-    if not (slice_index src s.at == 60) then run_step limit src s
-    else if nat_le (length src) (s.at + 1) then Err (fault.UnknownToken s.at)
+unfoldable pub step : How → List ℕ → State → Result State Refusal
+step how src s =
+    if not (slice_index src s.at == 60) then run_step how src s
+    else if nat_le (length src) (s.at + 1) then Err (here (fault.UnknownToken s.at))
     else if slice_index src (s.at + 1) == 33 then
-    (if at word.CommentStart src s.at then comment_step limit src s
-    else if at word.CDataStart src s.at then cdata_step limit src s
-    else Err (fault.UnknownToken s.at))
-    else if slice_index src (s.at + 1) == 63 then instruction_step limit src s
-    else if slice_index src (s.at + 1) == 47 then end_step src s
-    else tag_step limit src s
+    (if at word.CommentStart src s.at then lifted (comment_step how.limit src s)
+    else if at word.CDataStart src s.at then lifted (cdata_step how.limit src s)
+    else Err (here (fault.UnknownToken s.at)))
+    else if slice_index src (s.at + 1) == 63 then lifted (instruction_step how.limit src s)
+    else if slice_index src (s.at + 1) == 47 then lifted (end_step how src s)
+    else tag_step how src s
 
--- content up to the end tag of the root element; the number bounds the steps
-unfoldable pub drive : ℕ → ℕ → List ℕ → State → Result State Fault
-drive limit zero src s = if is_root s.stack then Ok s else Err fault.UnclosedRootNode
-drive limit (suc n) src s =
+-- content of the main text up to the end tag of the root element; the number bounds the steps
+unfoldable pub drive : How → ℕ → List ℕ → State → Result State Refusal
+drive how zero src s = if is_root s.stack then Ok s else Err (here fault.UnclosedRootNode)
+drive how (suc n) src s =
     if is_root s.stack then Ok s
-    else if nat_lt s.at (length src) then (step limit src s >>= λ t. drive limit n src t)
-    else Err fault.UnclosedRootNode
+    else if nat_lt s.at (length src) then (step how src s >>= λ t. drive how n src t)
+    else Err (here fault.UnclosedRootNode)
 
--- comments, processing instructions and white space; the number bounds them
-unfoldable pub misc : ℕ → ℕ → List ℕ → State → Result State Fault
-misc limit zero src s = Ok s
-misc limit (suc n) src s =
-    let t : State = record { at = spaces_end src s.at; done = s.done; stack = s.stack } in
-    if at word.CommentStart src t.at then (comment_step limit src t >>= λ u. misc limit n src u)
-    else if at word.PIStart src t.at then (instruction_step limit src t >>= λ u. misc limit n src u)
-    else Ok t
+-- a replacement text ends where no element is open that it opened
+abbrev pub text_ends : How → State → Result State Refusal
+text_ends how s = if depth_of s.stack == how.base then Ok s else Err (here fault.UnexpectedEndOfStream)
 
--- the root element, if `<` stands here, and what follows it
-unfoldable pub body : ℕ → List ℕ → State → Result (State × Bool) Fault
-body limit src s =
-    if slice_index src s.at == 60 then
-    (tag_step limit src s >>= λ t. drive limit (length src) src t >>= λ u. misc limit (length src) src u >>= λ v. Ok (v, true))
-    else Ok (s, false)
+-- content of a replacement text up to its end; the number bounds the steps
+unfoldable pub drive_text : How → ℕ → List ℕ → State → Result State Refusal
+drive_text how zero src s = text_ends how s
+drive_text how (suc n) src s = if nat_lt s.at (length src) then (step how src s >>= λ t. drive_text how n src t) else text_ends how s
 
--- nothing is left, and there is an element
-unfoldable pub finished : List ℕ → State × Bool → Result (Forest Item) Fault
-finished src (s, some) =
-    if nat_lt s.at (length src) then Err (fault.UnknownToken s.at)
-    else if some then Ok s.done else Err fault.NoRootNode
+-- ---- what a reference opens
 
--- the declaration, if it stands here
-unfoldable pub prolog : List ℕ → ℕ → Result ℕ Fault
-prolog src i = if at word.DeclarationStart src i then (declaration_at src i >>= λ x. Ok x.1) else Ok i
+-- how many may be opened within a replacement text whose reference ends at `after`, where so many are left
+abbrev pub budget : (main : Bool) → (after left : ℕ) → Result ℕ Fault
+budget true after left = Ok 255
+budget false after zero = Err (fault.EntityReferenceLoop after)
+budget false after (suc r) = Ok r
 
--- a whole text
-unfoldable pub reading : ℕ → List ℕ → Result (Forest Item) Fault
-reading limit src =
-    prolog src (after_bom src) >>= λ i. misc limit (length src) src (record { at = i; done = Nil; stack = root }) >>= λ s.
-    if at word.DoctypeStart src s.at then Err fault.DtdDetected
-    else body limit src s >>= λ x. finished src x
+-- how many are left behind the reference
+abbrev pub left_behind : (main : Bool) → (before inner : ℕ) → ℕ
+left_behind true before inner = before
+left_behind false before inner = inner
+
+-- a replacement text as a part of a value, where so many may still be open within one another
+unfoldable pub value_opener : List Entity → (deep : ℕ) → (main : Bool) → ValueOpener
+value_opener es zero main t after left = Err (here (fault.EntityReferenceLoop after))
+value_opener es (suc d) main t after left =
+    lifted (budget main after left) >>= λ r.
+    elsewhere t.source (value_text false es (value_opener es d false) (length t.source) t.source (length t.source) t.start r) >>= λ x.
+    Ok (x.0, left_behind main left x.1)
+
+abbrev pub values_of : List Entity → (deep : ℕ) → (main : Bool) → Values
+values_of es d main = record { main = main; entities = es; opener = value_opener es d main }
+
+-- a replacement text in content
+unfoldable pub opener : ℕ → List Entity → (deep : ℕ) → (main : Bool) → Replacement → ℕ → State → Result State Refusal
+opener limit es zero main t after s = Err (here (fault.EntityReferenceLoop after))
+opener limit es (suc d) main t after s =
+    lifted (budget main after s.left) >>= λ r.
+    elsewhere t.source (drive_text (record { limit = limit; values = values_of es d false; base = depth_of s.stack; opener = opener limit es d false }) (length t.source) t.source
+    (record { at = t.start; done = s.done; stack = s.stack; left = r })) >>= λ u.
+    Ok (record { at = after; done = u.done; stack = u.stack; left = left_behind main s.left u.left })
+
+-- the main text
+abbrev pub main_text : ℕ → List Entity → How
+main_text limit es = record { limit = limit; values = values_of es most_open true; base = 0; opener = opener limit es most_open true }

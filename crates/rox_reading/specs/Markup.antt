@@ -1,12 +1,12 @@
 -- Comments, processing instructions, CDATA sections, end tags, attributes and the declaration.
-use Rattle.std.specs.Prelude.{ℕ, ◌+◌, ◌-◌, ◌==◌, ◌||◌, List, [], ◌∷◌, Option, Ok, Err, length, slice_index, slice_range, nat_le, nat_lt, if◌then◌else◌}
+use Rattle.std.specs.Prelude.{ℕ, ◌+◌, ◌-◌, ◌==◌, ◌||◌, List, Option, Ok, Err, length, slice_index, nat_le, if◌then◌else◌}
 use Rattle.rox_grammar.specs.declared.fault.Due.TheVariants.{Space}
 use Rattle.rox_grammar.specs.declared.fault.Fault.TheVariants.{InvalidChar2, InvalidString, UnexpectedEndOfStream, UnexpectedDeclaration, InvalidComment}
 use Rattle.rox_grammar.specs.declared.fault.Word.{Word}
 use Rattle.rox_grammar.specs.declared.fault.Word.TheVariants as word
 use Rattle.rox_grammar.specs.Chars.{is_space}
 use Rattle.rox_grammar.specs.Words.{word_text}
-use Rattle.rox_grammar.specs.Marks.{stands, before_mark, byte_from}
+use Rattle.rox_grammar.specs.Marks.{stands, byte_from}
 use Rattle.rox_grammar.specs.Written.{Name}
 use Rattle.rox_grammar.specs.Tree.{none_if_empty}
 use Rattle.rox_grammar.specs.Names.{spaces_end}

@@ -1,5 +1,5 @@
 -- Reading of a start tag: its attributes and declarations, each tested in order.
-use Rattle.std.specs.Prelude.{ℕ, zero, suc, ◌+◌, not, Bool, true, false, List, [], ◌∷◌, ◌++◌, Result, Ok, Err, length, nat_lt, nat_le, bytes_eq, filter, if◌then◌else◌}
+use Rattle.std.specs.Prelude.{ℕ, zero, suc, ◌+◌, not, Bool, true, false, List, [], ◌∷◌, ◌++◌, Result, Ok, Err, length, nat_lt, nat_le, bytes_eq, if◌then◌else◌}
 use Rattle.std.specs.List.{list_any}
 use Rattle.rox_grammar.specs.declared.fault.Fault.{Fault}
 use Rattle.rox_grammar.specs.declared.fault.Fault.TheVariants as fault
@@ -7,11 +7,13 @@ use Rattle.rox_grammar.specs.declared.fault.Word.TheVariants as word
 use Rattle.rox_grammar.specs.Words.{word_text}
 use Rattle.rox_grammar.specs.Written.{Name, Attribute, Declaration, Tag, declares, declaration_of, local_span, prefix_span}
 use Rattle.rox_grammar.specs.Tree.{xml_uri, xmlns_uri, is_declared, listed}
-use Rattle.rox_grammar.specs.WellNamed.{is_xml, is_known, same_expanded, may_name}
-use Rattle.rox_grammar.specs.Document.{with_new, most_pairs, most_attributes}
-use Rattle.rox_reading.specs.Lexical.{Read, ◌>>=◌, qname_at}
+use Rattle.rox_grammar.specs.WellNamed.{is_known, same_expanded, may_name}
+use Rattle.rox_grammar.specs.Document.{listable_of, with_new, most_pairs, most_attributes}
+use Rattle.rox_reading.specs.Lexical.{◌>>=◌, qname_at}
 use Rattle.rox_reading.specs.Markup.{RawAttribute, Turn, more, opened, closed, turn_at}
-use Rattle.rox_reading.specs.Values.{RunText, value_at}
+use Rattle.rox_grammar.specs.Entities.{Entity}
+use Rattle.rox_reading.specs.Refusals.{Refusal, here, lifted}
+use Rattle.rox_reading.specs.Values.{RunText, ValueOpener, value_at}
 
 -- what a tag holds so far
 pub record Held : Type 0 where
@@ -36,10 +38,6 @@ default_tested a =
 abbrev pub uri_tested : Attribute → Result (Unit {0}) Fault
 uri_tested a = if bytes_eq a.name.prefix (word_text word.Xmlns) then prefix_tested a else default_tested a
 
--- those that are listed
-abbrev pub listable_of : List Declaration → List Declaration
-listable_of ds = filter (λ d. not (is_xml d.prefix)) ds
-
 -- a declaration, where these pairs are known before the tag
 unfoldable pub declared : List Declaration → Attribute → Held → Result Held Fault
 declared known a h =
@@ -59,20 +57,33 @@ abbrev pub attribute_with : RawAttribute → RunText → Attribute
 attribute_with raw v =
     record { start = raw.start; name_end = raw.name_end; value_start = raw.value_start; end = raw.value_end + 1; name = raw.name; value = v.value; borrowed = v.plain }
 
+-- the entities, and how a replacement text is read as a part of a value, in the main text or in another
+pub record Values : Type 0 where
+  pub main : Bool
+  pub entities : List Entity
+  pub opener : ValueOpener
+
+-- what a tag holds, whether it is empty, and how many replacement texts may be opened after it
+pub record TagRest : Type 0 where
+  pub held : Held
+  pub empty : Bool
+  pub left : ℕ
+
 -- after a turn that ends at j, with what reads the attributes from there
-abbrev pub after_turn : (ℕ → Held → Read (Held × Bool)) → List Declaration → List ℕ → Held → Turn → ℕ → Read (Held × Bool)
-after_turn next known src h (more raw) j =
-    value_at src raw.value_start raw.value_end >>= λ v. taken known (attribute_with raw v) h >>= λ held. next j held
-after_turn next known src h opened j = Ok ((h, false), j)
-after_turn next known src h closed j = Ok ((h, true), j)
+abbrev pub after_turn : (ℕ → ℕ → Held → Result (TagRest × ℕ) Refusal) → Values → List Declaration → List ℕ → ℕ → Held → Turn → ℕ → Result (TagRest × ℕ) Refusal
+after_turn next how known src left h (more raw) j =
+    value_at how.main how.entities how.opener src raw.value_start raw.value_end left >>= λ v.
+    lifted (taken known (attribute_with raw v.0) h) >>= λ held. next j v.1 held
+after_turn next how known src left h opened j = Ok (record { held = h; empty = false; left = left }, j)
+after_turn next how known src left h closed j = Ok (record { held = h; empty = true; left = left }, j)
 
 -- attributes and declarations, and whether the tag is empty. The number bounds them; a tag that is cut off right behind
 -- its name or an attribute is refused by this fault.
-unfoldable pub attributes_at : ℕ → Fault → List Declaration → List ℕ → ℕ → Held → Read (Held × Bool)
-attributes_at zero cut known src i h = Err cut
-attributes_at (suc n) cut known src i h =
-    if nat_le (length src) i then Err cut
-    else turn_at src i >>= λ x. after_turn (λ j held. attributes_at n cut known src j held) known src h x.0 x.1
+unfoldable pub attributes_at : ℕ → Values → Fault → List Declaration → List ℕ → ℕ → ℕ → Held → Result (TagRest × ℕ) Refusal
+attributes_at zero how cut known src i left h = Err (here cut)
+attributes_at (suc n) how cut known src i left h =
+    if nat_le (length src) i then Err (here cut)
+    else lifted (turn_at src i) >>= λ x. after_turn (λ j l held. attributes_at n how cut known src j l held) how known src left h x.0 x.1
 
 -- each prefix is known, and no expanded name comes twice; the first list holds those that are tested
 unfoldable pub names_tested : List Declaration → List Attribute → List Attribute → Result (Unit {0}) Fault
@@ -93,11 +104,16 @@ tested_at scope count at name as' =
 unfoldable pub tag_tested : List Declaration → ℕ → ℕ → Name → List Attribute → Result (Unit {0}) Fault
 tag_tested scope count i name as' = tested_at scope count (i + 1) name as'
 
--- a start tag, from its `<`, and whether it is empty; above is what the parent lists
-unfoldable pub tag_at : Fault → List Declaration → ℕ → List Declaration → List ℕ → ℕ → Read (Tag × Bool)
-tag_at cut above count known src i =
-    qname_at src (i + 1) >>= λ name.
-    if bytes_eq name.0.prefix (word_text word.Xmlns) then Err (fault.InvalidElementNamePrefix (i + 1))
-    else attributes_at (length src) cut known src name.1 (record { own = []; attributes = [] }) >>= λ x.
-    tag_tested (listed above x.0.0.own) count i name.0 x.0.0.attributes >>= λ _.
-    Ok ((record { name = name.0; name_end = name.1; declarations = x.0.0.own; attributes = x.0.0.attributes }, x.0.1), x.1)
+pub record TagRead : Type 0 where
+  pub tag : Tag
+  pub empty : Bool
+  pub left : ℕ
+
+-- a start tag, from its `<`; above is what the parent lists
+unfoldable pub tag_at : Values → Fault → List Declaration → ℕ → List Declaration → List ℕ → ℕ → ℕ → Result (TagRead × ℕ) Refusal
+tag_at how cut above count known src i left =
+    lifted (qname_at src (i + 1)) >>= λ name.
+    if bytes_eq name.0.prefix (word_text word.Xmlns) then Err (here (fault.InvalidElementNamePrefix (i + 1)))
+    else attributes_at (length src) how cut known src name.1 left (record { own = []; attributes = [] }) >>= λ x.
+    lifted (tag_tested (listed above x.0.held.own) count i name.0 x.0.held.attributes) >>= λ _.
+    Ok (record { tag = record { name = name.0; name_end = name.1; declarations = x.0.held.own; attributes = x.0.held.attributes }; empty = x.0.empty; left = x.0.left }, x.1)

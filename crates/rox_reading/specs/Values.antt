@@ -1,9 +1,9 @@
 -- References, and the texts that hold them.
-use Rattle.std.specs.Prelude.{ℕ, zero, suc, ◌+◌, ◌-◌, ◌^◌, ◌==◌, ◌||◌, Bool, true, false, List, [], ◌∷◌, ◌++◌, Option, Some, None, Result, Ok, Err, length, take, slice_range, slice_index, nat_lt, nat_le, if◌then◌else◌}
+use Rattle.std.specs.Prelude.{ℕ, zero, suc, ◌+◌, ◌-◌, ◌^◌, ◌==◌, ◌||◌, Bool, true, false, List, [], ◌∷◌, ◌++◌, Option, Some, None, Result, Ok, Err, take, slice_range, slice_index, nat_lt, nat_le, if◌then◌else◌}
 use Rattle.std.specs.Char.{encode_utf8}
 use Rattle.rox_grammar.specs.declared.fault.Fault.{Fault}
 use Rattle.rox_grammar.specs.declared.fault.Span.{Span}
-use Rattle.rox_grammar.specs.declared.fault.Fault.TheVariants.{MalformedEntityReference, UnknownEntityReference, InvalidCharacterData}
+use Rattle.rox_grammar.specs.declared.fault.Fault.TheVariants.{MalformedEntityReference, UnknownEntityReference, InvalidCharacterData, InvalidAttributeValue}
 use Rattle.rox_grammar.specs.declared.fault.Word.TheVariants as word
 use Rattle.rox_grammar.specs.Words.{word_text}
 use Rattle.rox_grammar.specs.Chars.{is_name_start, is_name_char, is_char}
@@ -11,7 +11,9 @@ use Rattle.rox_grammar.specs.Runs.{run_end, begins}
 use Rattle.rox_grammar.specs.Marks.{byte_from}
 use Rattle.rox_grammar.specs.Constructs.{has_mark}
 use Rattle.rox_grammar.specs.References.{is_digit, is_hex_digit, number, bytes_end, character, predefined}
-use Rattle.rox_grammar.specs.Content.{is_plain, is_plain_value}
+use Rattle.rox_grammar.specs.Content.{is_plain_value, literals, line_ends, value_bytes}
+use Rattle.rox_grammar.specs.Entities.{Replacement, Entity, text_of}
+use Rattle.rox_reading.specs.Refusals.{Refusal, lifted}
 use Rattle.rox_reading.specs.Lexical.{Read, ◌>>=◌, chars_up_to}
 
 -- a reference: to a character, or to an entity
@@ -50,61 +52,110 @@ reference_at src i =
     (if slice_index src (i + 2) == 120 then number_at 16 is_hex_digit src i (i + 3) else number_at 10 is_digit src i (i + 2))
     else name_reference_at src i
 
--- the bytes that a reference at i stands for
-abbrev pub expanded : ℕ → Reference → Result (List ℕ) Fault
-expanded i (character_of c) = Ok (encode_utf8 c)
-expanded i (entity_at span) = Err (UnknownEntityReference span i)
+-- what stands for itself, or for other bytes; or a replacement text that is opened
+pub data Bit : Type 0 where
+  bytes_of : List ℕ → Bit
+  opens : Replacement → Bit
 
-unfoldable pub expansion_at : List ℕ → ℕ → Read (List ℕ)
-expansion_at src i = reference_at src i >>= λ r. expanded i r.0 >>= λ bytes. Ok (bytes, r.1)
+abbrev pub found : Option Replacement → ℕ → Span → Result Bit Fault
+found None i span = Err (UnknownEntityReference span i)
+found (Some t) i span = Ok (opens t)
 
--- In a run: a reference, a line end, or all bytes up to the next `&` or CR. The text stops at `stop`.
-unfoldable pub run_part_at : List ℕ → ℕ → ℕ → Read (List ℕ)
-run_part_at src stop i =
-    if slice_index src i == 38 then expansion_at src i
-    else if slice_index src i == 13 then Ok (10 ∷ [], if slice_index (take stop src) (i + 1) == 10 then i + 2 else i + 1)
-    else (let j = byte_from (λ c. c == 38 || c == 13) (take stop src) i in Ok (slice_range src i j, j))
+-- what a reference at i stands for
+abbrev pub expanded : List Entity → List ℕ → ℕ → Reference → Result Bit Fault
+expanded es src i (character_of c) = Ok (bytes_of (encode_utf8 c))
+expanded es src i (entity_at span) = found (text_of es (slice_range src span.start span.end)) i span
 
--- what the run's bytes from i up to stop stand for; the number bounds the parts
-unfoldable pub run_text : ℕ → List ℕ → ℕ → ℕ → Result (List ℕ) Fault
-run_text zero src stop i = Ok []
-run_text (suc n) src stop i =
-    if nat_lt i stop then (run_part_at src stop i >>= λ x. run_text n src stop x.1 >>= λ rest. Ok (x.0 ++ rest)) else Ok []
+unfoldable pub expansion_at : List Entity → List ℕ → ℕ → Read Bit
+expansion_at es src i = reference_at src i >>= λ r. expanded es src i r.0 >>= λ bit. Ok (bit, r.1)
+
+-- In a run: a reference, a line end, or all bytes up to the next `&` or CR. Within a replacement text line ends are left to the whole part.
+unfoldable pub run_bit_at : (main : Bool) → List Entity → List ℕ → ℕ → ℕ → Read Bit
+run_bit_at main es src stop i =
+    if slice_index src i == 38 then expansion_at es src i
+    else if main then
+    (if slice_index src i == 13 then Ok (bytes_of (10 ∷ []), if slice_index (take stop src) (i + 1) == 10 then i + 2 else i + 1)
+    else (let j = byte_from (λ c. c == 38 || c == 13) (take stop src) i in Ok (bytes_of (slice_range src i j), j)))
+    else (let j = byte_from (λ c. c == 38) (take stop src) i in Ok (bytes_of (slice_range src i j), j))
+
+-- what ends a part of a run, or of a value: the end, or a replacement text, behind whose reference this place is
+pub data Next : Type 0 where
+  at_end : Next
+  opening : Replacement → ℕ → Next
+
+abbrev pub after_bit : (ℕ → Result (List ℕ × Next) Fault) → Bit → ℕ → Result (List ℕ × Next) Fault
+after_bit more (bytes_of bs) j = more j >>= λ rest. Ok (bs ++ rest.0, rest.1)
+after_bit more (opens t) j = Ok ([], opening t j)
+
+-- the part of a run from i on; the number bounds its bits
+unfoldable pub run_part : (main : Bool) → List Entity → ℕ → List ℕ → ℕ → ℕ → Result (List ℕ × Next) Fault
+run_part main es zero src stop i = Ok ([], at_end)
+run_part main es (suc n) src stop i =
+    if nat_lt i stop then (run_bit_at main es src stop i >>= λ x. after_bit (λ j. run_part main es n src stop j) x.0 x.1) else Ok ([], at_end)
+
+-- its text
+abbrev pub part_text : (main : Bool) → List ℕ → List ℕ
+part_text true bs = bs
+part_text false bs = line_ends (literals bs)
+
+-- a run, up to the next `<` or the end, tested for Chars and `]]>`
+unfoldable pub raw_run_at : List ℕ → ℕ → Read (List ℕ)
+raw_run_at src i =
+    let end = byte_from (λ c. c == 60) src i in
+    chars_up_to end src i >>= λ raw.
+    if has_mark (word_text word.CDataEnd) raw.0 then Err (InvalidCharacterData end) else Ok (raw.0, end)
 
 pub record RunText : Type 0 where
   pub value : List ℕ
   -- it is a slice of the source
   pub plain : Bool
 
--- a run, up to the next `<` or the end
-unfoldable pub run_at : List ℕ → ℕ → Read RunText
-run_at src i =
-    let end = byte_from (λ c. c == 60) src i in
-    chars_up_to end src i >>= λ raw.
-    if has_mark (word_text word.CDataEnd) raw.0 then Err (InvalidCharacterData end)
-    else if is_plain raw.0 then Ok (record { value = raw.0; plain = true }, end)
-    else (run_text (end - i) src end i >>= λ value. Ok (record { value = value; plain = false }, end))
-
 -- `&`, or white space that is no space
 abbrev pub is_special : ℕ → Bool
 is_special b = b == 38 || (b == 9 || (b == 10 || b == 13))
 
--- In a value: a reference, white space, or all bytes up to the next of these. A CR right before a LF gives nothing.
-unfoldable pub value_part_at : List ℕ → ℕ → ℕ → Read (List ℕ)
-value_part_at src stop i =
-    if slice_index src i == 38 then expansion_at src i
-    else if is_special (slice_index src i) then
-    (if slice_index src i == 13 then (if slice_index (take stop src) (i + 1) == 10 then Ok ([], i + 1) else Ok (32 ∷ [], i + 1)) else Ok (32 ∷ [], i + 1))
-    else (let j = byte_from is_special (take stop src) i in Ok (slice_range src i j, j))
+-- within a replacement text a character from a reference gives a space for white space, and is no `<`
+abbrev pub tested_bit : (main : Bool) → ℕ → Reference → Result Bit Fault → Result Bit Fault
+tested_bit true i r read = read
+tested_bit false i (character_of c) read = if c == 60 then Err (InvalidAttributeValue i) else Ok (bytes_of (value_bytes false c))
+tested_bit false i (entity_at span) read = read
 
--- what the value's bytes from i up to stop stand for; the number bounds the parts
-unfoldable pub value_text : ℕ → List ℕ → ℕ → ℕ → Result (List ℕ) Fault
-value_text zero src stop i = Ok []
-value_text (suc n) src stop i =
-    if nat_lt i stop then (value_part_at src stop i >>= λ x. value_text n src stop x.1 >>= λ rest. Ok (x.0 ++ rest)) else Ok []
+unfoldable pub value_reference_at : (main : Bool) → List Entity → List ℕ → ℕ → Read Bit
+value_reference_at main es src i = reference_at src i >>= λ r. tested_bit main i r.0 (expanded es src i r.0) >>= λ bit. Ok (bit, r.1)
+
+-- All bytes up to the next special one. Within a replacement text a `<`, or a character that is no Char, is a fault: the first of them.
+abbrev pub stretch_at : (main : Bool) → List ℕ → ℕ → ℕ → Read Bit
+stretch_at true src stop i = (let j = byte_from is_special (take stop src) i in Ok (bytes_of (slice_range src i j), j))
+stretch_at false src stop i =
+    (let j = byte_from (λ b. is_special b || b == 60) (take stop src) i in
+    chars_up_to j src i >>= λ x. if slice_index (take stop src) j == 60 then Err (InvalidAttributeValue j) else Ok (bytes_of x.0, j))
+
+-- In a value: a reference, white space, or a stretch. A CR right before a LF gives nothing.
+unfoldable pub value_bit_at : (main : Bool) → List Entity → List ℕ → ℕ → ℕ → Read Bit
+value_bit_at main es src stop i =
+    if slice_index src i == 38 then value_reference_at main es src i
+    else if is_special (slice_index src i) then
+    (if slice_index src i == 13 then (if slice_index (take stop src) (i + 1) == 10 then Ok (bytes_of [], i + 1) else Ok (bytes_of (32 ∷ []), i + 1))
+    else Ok (bytes_of (32 ∷ []), i + 1))
+    else stretch_at main src stop i
+
+-- how a replacement text is read as a part of a value: the text, the place behind its reference, and how many may still be opened
+abbrev pub ValueOpener : Type 0
+ValueOpener = Replacement → ℕ → ℕ → Result (List ℕ × ℕ) Refusal
+
+abbrev pub after_value_bit : ValueOpener → (ℕ → ℕ → Result (List ℕ × ℕ) Refusal) → ℕ → Bit → ℕ → Result (List ℕ × ℕ) Refusal
+after_value_bit opener more left (bytes_of bs) j = more j left >>= λ rest. Ok (bs ++ rest.0, rest.1)
+after_value_bit opener more left (opens t) j = opener t j left >>= λ x. more j x.1 >>= λ rest. Ok (x.0 ++ rest.0, rest.1)
+
+-- what the value's bytes from i up to stop stand for, and how many may be opened after it; the number bounds the bits
+unfoldable pub value_text : (main : Bool) → List Entity → ValueOpener → ℕ → List ℕ → ℕ → ℕ → ℕ → Result (List ℕ × ℕ) Refusal
+value_text main es opener zero src stop i left = Ok ([], left)
+value_text main es opener (suc n) src stop i left =
+    if nat_lt i stop then (lifted (value_bit_at main es src stop i) >>= λ x. after_value_bit opener (λ j l. value_text main es opener n src stop j l) left x.0 x.1)
+    else Ok ([], left)
 
 -- the value of an attribute that stands from i up to stop
-unfoldable pub value_at : List ℕ → ℕ → ℕ → Result RunText Fault
-value_at src i stop =
-    if is_plain_value (slice_range src i stop) then Ok (record { value = slice_range src i stop; plain = true })
-    else (value_text (stop - i) src stop i >>= λ value. Ok (record { value = value; plain = false }))
+unfoldable pub value_at : (main : Bool) → List Entity → ValueOpener → List ℕ → ℕ → ℕ → ℕ → Result (RunText × ℕ) Refusal
+value_at main es opener src i stop left =
+    if is_plain_value (slice_range src i stop) then Ok (record { value = slice_range src i stop; plain = true }, left)
+    else (value_text main es opener (stop - i) src stop i left >>= λ x. Ok (record { value = x.0; plain = false }, x.1))

@@ -1,0 +1,166 @@
+-- Behind the document type declaration a text is refused by its own faults alone: nothing is asked there.
+use Rattle.std.proofs.Common.{◌≡◌, refl, ap, subst, ℕ, zero, suc, ◌+◌, ◌-◌, ◌==◌, not, Bool, true, false, cond, nat_lt, nat_le, List, [], length, Result, Ok, Err}
+use Rattle.std.specs.Prelude.{bytes_eq}
+use Rattle.rox_grammar.specs.declared.fault.Fault.{Fault}
+use Rattle.rox_grammar.specs.declared.fault.Word.TheVariants as word
+use Rattle.rox_grammar.specs.Words.{word_text}
+use Rattle.rox_grammar.specs.Written.{Declaration}
+use Rattle.rox_grammar.specs.Tree.{listed}
+use Rattle.rox_grammar.specs.Names.{byte, slice}
+use Rattle.rox_grammar.specs.Constructs.{at}
+use Rattle.rox_grammar.specs.Content.{is_plain, is_plain_value}
+use Rattle.rox_grammar.specs.Document.{distinct_pairs}
+use Rattle.rox_grammar.specs.Entities.{Replacement, Entity, most_open}
+use Rattle.rox_grammar.specs.State.{is_root, scope_of, attributes_so_far, pairs_so_far}
+use Rattle.rox_reading.specs.Lexical.{◌>>=◌, qname_at}
+use Rattle.rox_reading.specs.Refusals.{Refusal, here, there, refused, SpeaksOfText, lifted, elsewhere}
+use Rattle.rox_reading.specs.State.{State, depth_of}
+use Rattle.rox_reading.specs.Markup.{Turn, more, opened, closed, turn_at}
+use Rattle.rox_reading.specs.Values.{Bit, bytes_of, opens, Next, at_end, opening, run_part, part_text, raw_run_at, value_bit_at, ValueOpener, after_value_bit, value_text, value_at}
+use Rattle.rox_reading.specs.Tags.{Held, Values, TagRest, after_turn, attributes_at, taken, attribute_with, tag_tested, tag_at}
+use Rattle.rox_reading.specs.Machine.{How, with_piece, after_part, run_parts, run_step, cut_off, tag_step, step, drive, text_ends, drive_text, budget, value_opener, values_of, opener, main_text}
+use Rattle.rox_reading.specs.Whole.{misc, body}
+
+-- it is no refusal of the resolver
+pub record Alone (A : Type 0) (r : Result A Refusal) : Type 0 where
+  pub is : (e : Refusal) → r ≡ Err e → SpeaksOfText e
+
+pub good : {A : Type 0} (x : A) → Alone A (Ok x)
+good x = record { is = λ e h. cc h }
+
+bad : {A : Type 0} (f : Fault) → Alone A (Err (here f))
+bad f = record { is = λ e h. (let same : here f ≡ e = cc in subst SpeaksOfText same tt) }
+
+pub alone_lifted : {A : Type 0} (r : Result A Fault) → Alone A (lifted r)
+alone_lifted (Ok x) = good x
+alone_lifted (Err f) = bad f
+
+-- one after the other
+alone_bind : {A B : Type 0} (r : Result A Refusal) (f : A → Result B Refusal) → Alone A r → ((x : A) → Alone B (f x)) → Alone B (r >>= f)
+alone_bind (Ok x) f h go = go x
+alone_bind (Err e) f h go = record { is = λ e' same. h.is e' (let is : e ≡ e' = cc in ap Err is) }
+
+alone_after : {A B : Type 0} (r : Result A Fault) (f : A → Result B Refusal) → ((x : A) → Alone B (f x)) → Alone B (lifted r >>= f)
+alone_after r f go = alone_bind (lifted r) f (alone_lifted r) go
+
+-- a choice
+alone_cond : {A : Type 0} (b : Bool) (x y : Result A Refusal) → Alone A x → Alone A y → Alone A (cond b x y)
+alone_cond true x y h k = h
+alone_cond false x y h k = k
+
+-- of another source
+alone_elsewhere : {A : Type 0} (source : List ℕ) (r : Result A Refusal) → Alone A r → Alone A (elsewhere source r)
+alone_elsewhere source (Ok x) h = good x
+alone_elsewhere source (Err (here f)) h = record { is = λ e same. (let is : there source f ≡ e = cc in subst SpeaksOfText is tt) }
+alone_elsewhere source (Err (there s f)) h = record { is = λ e same. (let is : there s f ≡ e = cc in subst SpeaksOfText is tt) }
+alone_elsewhere source (Err (refused request at message)) h = absurd (h.is (refused request at message) refl)
+
+-- ---- values
+
+module _ (main : Bool) (es : List Entity) (open' : ValueOpener) (opens_alone : (t : Replacement) (j l : ℕ) → Alone (List ℕ × ℕ) (open' t j l)) where
+  value_alone : (n : ℕ) (src : List ℕ) (stop i left : ℕ) → Alone (List ℕ × ℕ) (value_text main es open' n src stop i left)
+  unfolding value_text
+  value_alone zero src stop i left = good _
+  value_alone (suc n) src stop i left =
+      alone_cond (nat_lt i stop) _ _ (alone_after (value_bit_at main es src stop i) _ (λ x. bit x.0 x.1 (λ j l. value_alone n src stop j l))) (good _)
+    where
+      bit : (b : Bit) (j : ℕ) → ((j l : ℕ) → Alone (List ℕ × ℕ) (value_text main es open' n src stop j l)) → Alone (List ℕ × ℕ) (after_value_bit open' (λ j l. value_text main es open' n src stop j l) left b j)
+      bit (bytes_of bs) j next = alone_bind _ _ (next j left) (λ rest. good _)
+      bit (opens t) j next = alone_bind _ _ (opens_alone t j left) (λ x. alone_bind _ _ (next j x.1) (λ rest. good _))
+
+  value_at_alone : (src : List ℕ) (i stop left : ℕ) → Alone _ (value_at main es open' src i stop left)
+  unfolding value_at
+  value_at_alone src i stop left = alone_cond (is_plain_value (slice src i stop)) _ _ (good _) (alone_bind _ _ (value_alone (stop - i) src stop i left) (λ x. good _))
+
+value_opener_alone : (es : List Entity) (d : ℕ) (main : Bool) (t : Replacement) (j l : ℕ) → Alone (List ℕ × ℕ) (value_opener es d main t j l)
+unfolding value_opener
+value_opener_alone es zero main t j l = bad _
+value_opener_alone es (suc d) main t j l =
+    alone_after (budget main j l) _ (λ r. alone_bind _ _ (alone_elsewhere t.source _ (value_alone false es (value_opener es d false) (λ t j l. value_opener_alone es d false t j l) (length t.source) t.source (length t.source) t.start r)) (λ x. good _))
+
+-- ---- tags
+
+module _ (how : Values) (opens_alone : (t : Replacement) (j l : ℕ) → Alone (List ℕ × ℕ) (how.opener t j l)) where
+  attributes_alone : (n : ℕ) (cut : Fault) (known : List Declaration) (src : List ℕ) (i left : ℕ) (h : Held) → Alone (TagRest × ℕ) (attributes_at n how cut known src i left h)
+  unfolding attributes_at
+  attributes_alone zero cut known src i left h = bad cut
+  attributes_alone (suc n) cut known src i left h =
+      alone_cond (nat_le (length src) i) _ _ (bad cut) (alone_after (turn_at src i) _ (λ x. turn x.0 x.1 (λ j l held. attributes_alone n cut known src j l held)))
+    where
+      turn : (t : Turn) (j : ℕ) → ((j l : ℕ) (held : Held) → Alone (TagRest × ℕ) (attributes_at n how cut known src j l held))
+          → Alone (TagRest × ℕ) (after_turn (λ j l held. attributes_at n how cut known src j l held) how known src left h t j)
+      turn (more raw) j next =
+          alone_bind _ _ (value_at_alone how.main how.entities how.opener opens_alone src raw.value_start raw.value_end left) (λ v. alone_after (taken known (attribute_with raw v.0) h) _ (λ held. next j v.1 held))
+      turn opened j next = good _
+      turn closed j next = good _
+
+  tag_alone : (cut : Fault) (above : List Declaration) (count : ℕ) (known : List Declaration) (src : List ℕ) (i left : ℕ) → Alone _ (tag_at how cut above count known src i left)
+  unfolding tag_at
+  tag_alone cut above count known src i left =
+      alone_after (qname_at src (i + 1)) _ (λ name. alone_cond (bytes_eq name.0.prefix (word_text word.Xmlns)) _ _ (bad _)
+      (alone_bind _ _ (attributes_alone (length src) cut known src name.1 left (record { own = []; attributes = [] }))
+      (λ x. alone_after (tag_tested (listed above x.0.held.own) count i name.0 x.0.held.attributes) _ (λ u. good _))))
+
+-- ---- content
+
+module _ (how : How) (values_alone : (t : Replacement) (j l : ℕ) → Alone (List ℕ × ℕ) (how.values.opener t j l)) (opens_alone : (t : Replacement) (j : ℕ) (s : State) → Alone State (how.opener t j s)) where
+  parts_alone : (n : ℕ) (src : List ℕ) (start stop : ℕ) (s : State) → Alone State (run_parts how n src start stop s)
+  unfolding run_parts
+  parts_alone zero src start stop s = good _
+  parts_alone (suc n) src start stop s =
+      alone_after (run_part how.values.main how.values.entities (stop - s.at) src stop s.at) _ (λ x.
+      alone_after (with_piece how.limit s start stop (part_text how.values.main x.0)) _ (λ t. part x.1 t (λ u. parts_alone n src start stop u)))
+    where
+      part : (x : Next) (t : State) → ((u : State) → Alone State (run_parts how n src start stop u)) → Alone State (after_part how (λ u. run_parts how n src start stop u) stop t x)
+      part at_end t next = good _
+      part (opening r j) t next = alone_bind _ _ (opens_alone r j t) next
+
+  run_alone : (src : List ℕ) (s : State) → Alone State (run_step how src s)
+  unfolding run_step
+  run_alone src s = alone_after (raw_run_at src s.at) _ (λ x. alone_cond (is_plain x.0) _ _ (alone_lifted _) (parts_alone (length src) src s.at x.1 s))
+
+  tag_step_alone : (src : List ℕ) (s : State) → Alone State (tag_step how src s)
+  unfolding tag_step
+  tag_step_alone src s =
+      alone_bind _ _ (tag_alone how.values values_alone (cut_off how.values.main s.stack) (scope_of s.stack) (attributes_so_far s.stack s.done) (distinct_pairs (pairs_so_far s.stack s.done)) src s.at s.left) (λ x. alone_lifted _)
+
+  step_alone : (src : List ℕ) (s : State) → Alone State (step how src s)
+  unfolding step
+  step_alone src s =
+      alone_cond (not (byte src s.at == 60)) _ _ (run_alone src s)
+      (alone_cond (nat_le (length src) (s.at + 1)) _ _ (bad _)
+      (alone_cond (byte src (s.at + 1) == 33) _ _ (alone_cond (at word.CommentStart src s.at) _ _ (alone_lifted _) (alone_cond (at word.CDataStart src s.at) _ _ (alone_lifted _) (bad _)))
+      (alone_cond (byte src (s.at + 1) == 63) _ _ (alone_lifted _)
+      (alone_cond (byte src (s.at + 1) == 47) _ _ (alone_lifted _) (tag_step_alone src s)))))
+
+  drive_alone : (n : ℕ) (src : List ℕ) (s : State) → Alone State (drive how n src s)
+  unfolding drive
+  drive_alone zero src s = alone_cond (is_root s.stack) _ _ (good _) (bad _)
+  drive_alone (suc n) src s =
+      alone_cond (is_root s.stack) _ _ (good _) (alone_cond (nat_lt s.at (length src)) _ _ (alone_bind _ _ (step_alone src s) (λ t. drive_alone n src t)) (bad _))
+
+  ends_alone : (s : State) → Alone State (text_ends how s)
+  ends_alone s = alone_cond (depth_of s.stack == how.base) _ _ (good _) (bad _)
+
+  text_alone : (n : ℕ) (src : List ℕ) (s : State) → Alone State (drive_text how n src s)
+  unfolding drive_text
+  text_alone zero src s = ends_alone s
+  text_alone (suc n) src s = alone_cond (nat_lt s.at (length src)) _ _ (alone_bind _ _ (step_alone src s) (λ t. text_alone n src t)) (ends_alone s)
+
+opener_alone : (limit : ℕ) (es : List Entity) (d : ℕ) (main : Bool) (t : Replacement) (j : ℕ) (s : State) → Alone State (opener limit es d main t j s)
+unfolding opener
+opener_alone limit es zero main t j s = bad _
+opener_alone limit es (suc d) main t j s =
+    alone_after (budget main j s.left) _ (λ r. alone_bind _ _
+    (alone_elsewhere t.source _ (text_alone (record { limit = limit; values = values_of es d false; base = depth_of s.stack; opener = opener limit es d false })
+    (λ t j l. value_opener_alone es d false t j l) (λ t j s. opener_alone limit es d false t j s) (length t.source) t.source _)) (λ u. good _))
+
+-- the root element and what follows it
+pub body_alone : (limit : ℕ) (es : List Entity) (src : List ℕ) (s : State) → Alone (State × Bool) (body limit es src s)
+unfolding body
+body_alone limit es src s =
+    let values : (t : Replacement) (j l : ℕ) → Alone (List ℕ × ℕ) ((main_text limit es).values.opener t j l) = λ t j l. value_opener_alone es most_open true t j l in
+    let texts : (t : Replacement) (j : ℕ) (s : State) → Alone State ((main_text limit es).opener t j s) = λ t j s. opener_alone limit es most_open true t j s in
+    alone_cond (byte src s.at == 60) _ _
+    (alone_bind _ _ (tag_step_alone (main_text limit es) values texts src s) (λ t. alone_bind _ _ (drive_alone (main_text limit es) values texts (length src) src t) (λ u.
+    alone_after (misc limit (length src) src u) _ (λ v. good _)))) (good _)
