@@ -1,24 +1,24 @@
 -- Attributes and the end of a start tag: what is read stands there, and what stands there is read.
 use Rattle.std.proofs.Common.{◌≡◌, ◌≢◌, ℕ, ◌+◌, ◌<◌, Bool, true, false, cond, eqb, leb, List, length, refl, sym, ap, ◌∙◌, subst, arith, inl, inr, ◌⊎◌}
 use Rattle.std.specs.Prelude.{Ok}
-use Rattle.std.specs.Str.{IsUtf8}
+use Rattle.std.specs.Str.{IsUtf8, IsCharBoundary}
 use Rattle.std.proofs.lemmas.Bool.{eqb-true, eqb-false, ne_eqb, leb-false, lt-leb, false≢true}
 use Rattle.rox_grammar.specs.Chars.{is_space, is_name_start}
 use Rattle.rox_grammar.specs.Runs.{begins}
 use Rattle.rox_grammar.specs.Written.{Name, Attribute}
 use Rattle.rox_grammar.specs.Names.{byte, spaces_end, IsQName, unprefixed, prefixed, colon_first}
 use Rattle.rox_grammar.specs.Constructs.{IsEq, IsLiteral}
-use Rattle.rox_grammar.specs.Content.{is_plain_value, Value, IsAttribute, TagEnds}
+use Rattle.rox_grammar.specs.Content.{Opener, IsAttribute, TagEnds}
 use Rattle.rox_grammar.specs.Content as content
-use Rattle.rox_grammar.specs.Document.{no_entities}
 use Rattle.rox_reading.specs.Lexical.{byte_at, quote_at, qname_at}
 use Rattle.rox_reading.specs.Markup.{RawAttribute, raw_value_at, attribute_at, Turn, more, opened, closed, turn_at}
 use Rattle.rox_reading.specs.Values.{RunText, value_at}
-use Rattle.rox_reading.specs.Tags.{attribute_with}
+use Rattle.rox_reading.specs.Tags.{Values, attribute_with}
 use Rattle.rox_theory.proofs.Basics.{ok_same, bind_ok, chosen, within, run_end_le, byte_sound, byte_complete, chars_sound, chars_complete}
 use Rattle.rox_theory.proofs.NameLemmas.{qname_sound, qname_complete, qname_le, begins_here}
 use Rattle.rox_theory.proofs.LiteralLemmas.{value_stop, value_stop_le, quote_sound, quote_complete, quote_ascii, literal_sound, literal_complete, literal_closes, literal_plain, literal_le}
-use Rattle.rox_theory.proofs.ReferenceLemmas.{IsStop}
+use Rattle.rox_theory.specs.Openers.{IsStop, AgreesValue}
+use Rattle.rox_theory.proofs.CharTexts.{cut_behind}
 use Rattle.rox_theory.proofs.ValueLemmas.{value_sound, value_complete}
 
 -- an attribute stands there, its value not looked at
@@ -175,54 +175,56 @@ quote_stop b (inl h) = inr (inl h)
 quote_stop b (inr h) = inr (inr h)
 
 -- a literal ends where a quote stops it
-literal_stop : (src : List ℕ) (v e j : ℕ) → IsLiteral src v e j → IsStop (byte src e)
+pub literal_stop : (src : List ℕ) (v e j : ℕ) → IsLiteral src v e j → IsStop (byte src e)
 literal_stop src v e j l = rw (literal_closes src v e j l) (quote_stop (byte src v) l.quote)
 
--- an attribute whose value is read stands there
-pub attribute_sound : (src : List ℕ) → IsUtf8 src → (i j : ℕ) (raw : RawAttribute) (x : RunText) → RawStands src i j raw → value_at src raw.value_start raw.value_end ≡ Ok x
-    → (b : ℕ) → IsAttribute true no_entities src i j b b (attribute_with raw x)
-attribute_sound src utf8 i j raw x r h b =
-    let closes = r.literal.closes in
-    let value = value_sound src utf8 (r.v + 1) raw.value_end (omega arith) (λ z. literal_stop src r.v raw.value_end j r.literal)
-    (literal_plain src r.v raw.value_end j r.literal) x b (literal_le src r.v raw.value_end j r.literal) (rw r.value_start at h) in
-    record {
-      starts = r.starts;
-      is_name = r.is_name;
-      v = r.v;
-      eq = r.eq;
-      e = raw.value_end;
-      literal = r.literal;
-      value_start = r.value_start;
-      end = sym r.literal.next;
-      value = value.0;
-      borrowed = value.1;
-    }
+-- the place behind its quote
+value_cut : (src : List ℕ) → IsUtf8 src → (v e j : ℕ) → IsLiteral src v e j → IsCharBoundary src (v + 1)
+value_cut src utf8 v e j l = let q = quote_ascii (byte src v) l.quote in cut_behind src v (byte src v) (v + 1) utf8 refl (omega arith) (omega arith) refl
 
--- the attribute is read from i up to j, and then its value
-abbrev pub AttributeReads : List ℕ → ℕ → ℕ → Attribute → Type 0
-AttributeReads src i j a =
-    (raw : RawAttribute) × (x : RunText) × RawStands src i j raw × (value_at src raw.value_start raw.value_end ≡ Ok x) × (a ≡ attribute_with raw x)
+module _ (how : Values) (O : Opener) (agrees : AgreesValue how.entities O how.opener) (src : List ℕ) (utf8 : IsUtf8 src) where
+  -- an attribute whose value is read stands there
+  pub attribute_sound : (i j b c : ℕ) (raw : RawAttribute) (x : RunText) → RawStands src i j raw → value_at how.main how.entities how.opener src raw.value_start raw.value_end b ≡ Ok (x, c)
+      → IsAttribute how.main O src i j b c (attribute_with raw x)
+  attribute_sound i j b c raw x r h =
+      let closes = r.literal.closes in
+      let value = value_sound how.entities src utf8 raw.value_end (omega arith) (λ z. literal_stop src r.v raw.value_end j r.literal) how.main O how.opener agrees (r.v + 1) b c x
+      (literal_le src r.v raw.value_end j r.literal) (literal_plain src r.v raw.value_end j r.literal) (rw r.value_start at h) in
+      record {
+        starts = r.starts;
+        is_name = r.is_name;
+        v = r.v;
+        eq = r.eq;
+        e = raw.value_end;
+        literal = r.literal;
+        value_start = r.value_start;
+        end = sym r.literal.next;
+        value = value.0;
+        borrowed = value.1;
+      }
 
--- an attribute that stands there is read, and opens nothing
-pub attribute_complete : (src : List ℕ) → IsUtf8 src → (i j b c : ℕ) (a : Attribute) → IsAttribute true no_entities src i j b c a → AttributeReads src i j a × (b ≡ c)
-attribute_complete src utf8 i j b c a h =
-    let closes = h.literal.closes in
-    let value = value_complete src utf8 (h.v + 1) h.e (omega arith) (λ z. literal_stop src h.v h.e j h.literal)
-    (literal_plain src h.v h.e j h.literal) b c a.value (literal_le src h.v h.e j h.literal) h.value in
-    let start = h.value_start in
-    let borrowed = h.borrowed in
-    let read : value_at src a.value_start h.e ≡ Ok (record { value = a.value; plain = a.borrowed }) = rw (start, borrowed) value.0 in
-    let end : a.end ≡ h.e + 1 = h.end ∙ h.literal.next in (
-      (
+  -- the attribute is read from i up to j, and then its value
+  abbrev pub AttributeReads : ℕ → ℕ → ℕ → ℕ → Attribute → Type 0
+  AttributeReads i j b c a =
+      (raw : RawAttribute) × (x : RunText) × RawStands src i j raw × (value_at how.main how.entities how.opener src raw.value_start raw.value_end b ≡ Ok (x, c)) × (a ≡ attribute_with raw x)
+
+  -- an attribute that stands there is read
+  pub attribute_complete : (i j b c : ℕ) (a : Attribute) → IsAttribute how.main O src i j b c a → AttributeReads i j b c a
+  attribute_complete i j b c a h =
+      let closes = h.literal.closes in
+      let value = value_complete how.entities src utf8 h.e (omega arith) (λ z. literal_stop src h.v h.e j h.literal) how.main O how.opener agrees (h.v + 1) b c a.value
+      (literal_le src h.v h.e j h.literal) (value_cut src utf8 h.v h.e j h.literal) (λ z. h.literal.chars) h.value in
+      let start = h.value_start in
+      let borrowed = h.borrowed in
+      let read : value_at how.main how.entities how.opener src a.value_start h.e b ≡ Ok (record { value = a.value; plain = a.borrowed }, c) = rw (start, borrowed) value in
+      let end : a.end ≡ h.e + 1 = h.end ∙ h.literal.next in (
         record { start = a.start; name = a.name; name_end = a.name_end; value_start = a.value_start; value_end = h.e },
         record { value = a.value; plain = a.borrowed },
         record { starts = h.starts; is_name = h.is_name; v = h.v; eq = h.eq; value_start = start; literal = h.literal },
         read,
         ap (λ (k : ℕ). record { start = a.start; name_end = a.name_end; value_start = a.value_start; end = k; name = a.name; value = a.value; borrowed = a.borrowed }) end,
-      ),
-      value.1,
-    )
+      )
 
--- an attribute has a byte
-pub attribute_le : (src : List ℕ) → IsUtf8 src → (i j b c : ℕ) (a : Attribute) → IsAttribute true no_entities src i j b c a → i < j
-attribute_le src utf8 i j b c a h = let r = (attribute_complete src utf8 i j b c a h).0 in raw_le src i j r.0 r.2
+  -- an attribute has a byte
+  pub attribute_le : (i j b c : ℕ) (a : Attribute) → IsAttribute how.main O src i j b c a → i < j
+  attribute_le i j b c a h = let r = attribute_complete i j b c a h in raw_le src i j r.0 r.2

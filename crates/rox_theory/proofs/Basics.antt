@@ -13,16 +13,34 @@ use Rattle.rox_grammar.specs.Words.{word_text}
 use Rattle.rox_grammar.specs.Names.{byte, slice}
 use Rattle.rox_grammar.specs.Constructs.{AreChars}
 use Rattle.rox_reading.specs.Lexical.{◌>>=◌, byte_at, string_at, chars_up_to, text_to}
+use Rattle.rox_reading.specs.Refusals.{Refusal, here, there, refused, lifted, elsewhere}
 use Rattle.rox_theory.proofs.SpanLemmas.{run_end_inside}
 
 -- what two equal answers hold is equal
-pub ok_same : {A : Type 0} (x y : A) → ◌≡◌ {A = Result A Fault} (Ok x) (Ok y) → x ≡ y
+pub ok_same : {A E : Type 0} (x y : A) → ◌≡◌ {A = Result A E} (Ok x) (Ok y) → x ≡ y
 ok_same x y h = cc
 
 -- where a sequence gives a value, its first step gave one and the rest gave the value
-pub bind_ok : {A B P : Type 0} (r : Result A Fault) (f : A → Result B Fault) (y : B) → (r >>= f) ≡ Ok y → ((x : A) → r ≡ Ok x → f x ≡ Ok y → P) → P
+pub bind_ok : {A B E P : Type 0} (r : Result A E) (f : A → Result B E) (y : B) → (r >>= f) ≡ Ok y → ((x : A) → r ≡ Ok x → f x ≡ Ok y → P) → P
 bind_ok (Ok x) f y h go = go x refl h
 bind_ok (Err e) f y h go = cc h
+
+-- the same of a first step that opens no entity
+pub bind_lifted : {A B P : Type 0} (r : Result A Fault) (f : A → Result B Refusal) (y : B) → (lifted r >>= f) ≡ Ok y → ((x : A) → r ≡ Ok x → f x ≡ Ok y → P) → P
+bind_lifted (Ok x) f y h go = go x refl h
+bind_lifted (Err e) f y h go = cc h
+
+-- and of one that is all
+pub bind_lifted_only : {A P : Type 0} (r : Result A Fault) (y : A) → lifted r ≡ Ok y → (r ≡ Ok y → P) → P
+bind_lifted_only (Ok x) y h go = let e : x ≡ y = ok_same _ _ h in go (ap Ok e)
+bind_lifted_only (Err e) y h go = cc h
+
+-- what is seen from another source is what is seen from its own, where there is a value
+pub elsewhere_ok : {A : Type 0} (source : List ℕ) (r : Result A Refusal) (y : A) → elsewhere source r ≡ Ok y → r ≡ Ok y
+elsewhere_ok source (Ok x) y h = h
+elsewhere_ok source (Err (here f)) y h = cc h
+elsewhere_ok source (Err (there s f)) y h = cc h
+elsewhere_ok source (Err (refused request at message)) y h = cc h
 
 -- what a choice gives comes from one of its branches
 pub chosen : {X P : Type 0} (b : Bool) (x y z : X) → cond b x y ≡ z → (b ≡ true → x ≡ z → P) → (b ≡ false → y ≡ z → P) → P

@@ -1,18 +1,23 @@
--- The text of a run: what is read stands there, and what stands there is read.
-use Rattle.std.proofs.Common.{◌≡◌, ◌≢◌, ℕ, zero, suc, ◌+◌, ◌-◌, ◌<◌, ◌≤◌, ◌==◌, Bool, true, false, ◌||◌, eqb, ltb, List, [], ◌∷◌, ◌++◌, length, take, refl, sym, ap, ◌∙◌, subst, arith, inl, inr}
-use Rattle.std.specs.Prelude.{Ok}
+-- The parts of a run, up to its end or a reference to an entity: what is read stands there, and what stands there is read.
+use Rattle.std.proofs.Common.{◌≡◌, ◌≢◌, ℕ, zero, suc, ◌+◌, ◌-◌, ◌<◌, ◌≤◌, ◌==◌, Bool, true, false, cond, ◌||◌, eqb, ltb, List, [], ◌∷◌, ◌++◌, length, take, refl, sym, ap, ◌∙◌, subst, arith, inl, inr}
+use Rattle.std.specs.Prelude.{Some, None, Result, Ok}
 use Rattle.std.specs.Char.{encode_utf8}
 use Rattle.std.specs.Str.{IsUtf8}
 use Rattle.std.proofs.lemmas.Str.{length-encode, len_utf8_bounds}
-use Rattle.std.proofs.lemmas.Bool.{eqb-true, eqb-false, eq-eqb, ne_eqb, lt-ltb, le-ltb, ltb-true, ltb-false, or_parts, or_from, cases_eq, cases_Bool}
+use Rattle.std.proofs.lemmas.List.{get_or-take}
+use Rattle.std.proofs.lemmas.Bool.{eqb-true, eqb-false, eq-eqb, ne_eqb, lt-ltb, le-ltb, ltb-true, ltb-false, or_parts, or_from, cases_eq, cases_lt, cases_Bool, false≢true}
+use Rattle.rox_grammar.specs.declared.fault.Fault.{Fault}
 use Rattle.rox_grammar.specs.Names.{byte, slice}
-use Rattle.rox_grammar.specs.References.{IsCharacter}
-use Rattle.rox_grammar.specs.Content.{Sign, literal, signs_of, line_ends_after, line_ends, Part, part_ends, as_written, from_reference}
-use Rattle.rox_reading.specs.Values.{run_part_at, run_text}
+use Rattle.rox_grammar.specs.References.{IsReference, IsCharacter, predefined}
+use Rattle.rox_grammar.specs.Content.{Sign, literal, signs_of, line_ends_after, line_ends, literals, Part, part_ends, as_written, from_reference}
+use Rattle.rox_grammar.specs.Entities.{Replacement, Entity, text_of}
+use Rattle.rox_reading.specs.Values.{Reference, reference_at, Bit, bytes_of, opens, expanded, expansion_at, run_bit_at, Next, at_end, opening, after_bit, run_part, part_text}
+use Rattle.rox_theory.specs.Openers.{IsStop}
 use Rattle.rox_theory.proofs.Basics.{ok_same, bind_ok, chosen}
 use Rattle.rox_theory.proofs.NameLemmas.{slice_nil}
-use Rattle.rox_theory.proofs.StretchLemmas.{joined, slice_cons, next_at, next_bound, next_before, next_more, follows, follows_not}
-use Rattle.rox_theory.proofs.ReferenceLemmas.{IsStop, expansion_sound, expansion_complete, character_opens, character_inside}
+use Rattle.rox_theory.proofs.StretchLemmas.{slice_cons, next_at, next_bound, next_before, next_more, follows, follows_not}
+use Rattle.rox_theory.proofs.ReferenceLemmas.{IsRead, is_character, is_entity, reference_sound, character_complete, entity_complete, character_opens, character_inside, reference_opens, reference_inside}
+use Rattle.rox_theory.proofs.ValueLemmas.{found_ok}
 
 -- a character has a byte
 pub encode_some : (c : ℕ) → 0 < length (encode_utf8 c)
@@ -29,7 +34,7 @@ kept_after [] ss some = absurd (omega arith)
 kept_after (b ∷ bs) ss some = refl
 
 -- a byte but CR stands for itself
-literal_ends : (b : ℕ) (ss : List Sign) → b ≢ 13 → line_ends (literal b ∷ ss) ≡ b ∷ line_ends ss
+pub literal_ends : (b : ℕ) (ss : List Sign) → b ≢ 13 → line_ends (literal b ∷ ss) ≡ b ∷ line_ends ss
 literal_ends b ss no_cr =
     let n = ne_eqb b 13 no_cr in
     elim (cases_eq b 10) as (λ s. line_ends (literal b ∷ ss) ≡ b ∷ line_ends ss) [
@@ -38,174 +43,367 @@ literal_ends b ss no_cr =
     ]
 
 -- CR LF gives LF
-crlf_ends : (a b : ℕ) (ss : List Sign) → eqb a 13 ≡ true → b ≡ 10 → line_ends (literal a ∷ literal b ∷ ss) ≡ 10 ∷ line_ends ss
+crlf_ends : (a b : ℕ) (ss : List Sign) → a ≡ 13 → b ≡ 10 → line_ends (literal a ∷ literal b ∷ ss) ≡ 10 ∷ line_ends ss
 crlf_ends a b ss cr lf = rw (cr, lf) refl
 
 -- CR gives LF
-cr_ends : (a : ℕ) (ss : List Sign) → eqb a 13 ≡ true → line_ends_after true ss ≡ line_ends ss → line_ends (literal a ∷ ss) ≡ 10 ∷ line_ends ss
+cr_ends : (a : ℕ) (ss : List Sign) → a ≡ 13 → line_ends_after true ss ≡ line_ends ss → line_ends (literal a ∷ ss) ≡ 10 ∷ line_ends ss
 cr_ends a ss cr after = rw (cr, after) refl
+
+-- the signs of two texts in a row
+literals-append : (bs cs : List ℕ) → literals (bs ++ cs) ≡ signs_of false bs ++ literals cs
+literals-append [] cs = refl
+literals-append (b ∷ bs) cs = ap (λ (r : List Sign). literal b ∷ r) (literals-append bs cs)
 
 -- a byte that is neither `&` nor CR
 abbrev pub ordinary : ℕ → Bool
 ordinary b = b == 38 || b == 13
 
-module _ (src : List ℕ) (utf8 : IsUtf8 src) (stop : ℕ) (long : stop ≤ length src) (closes : stop < length src → IsStop (byte src stop)) where
+-- what is read of signs: outside replacement texts their text, and within them the bytes, whose line ends are left as they are
+abbrev pub Texts : (main : Bool) → List ℕ → List Sign → Type 0
+Texts true bs ss = bs ≡ line_ends ss
+Texts false bs ss = ss ≡ literals bs
+
+-- the text of the part
+pub texts_line_ends : (main : Bool) (bs : List ℕ) (ss : List Sign) → Texts main bs ss → part_text main bs ≡ line_ends ss
+texts_line_ends true bs ss h = h
+texts_line_ends false bs ss h = ap line_ends (sym h)
+
+-- a part goes forward
+pub part_le : (main : Bool) (src : List ℕ) (p i : ℕ) (ss : List Sign) → Part main src p i ss → i ≤ p
+part_le main src p i ss part_ends = omega arith
+part_le main src p i ss (as_written _ rest lt no_amp q) = omega arith
+part_le main src p i ss (from_reference _ n c rest r inside q) = omega (arith, character_opens src i c n r)
+
+-- where a part ends: at the end of the run, or where a reference to an entity stands
+pub data Ends (es : List Entity) (src : List ℕ) (stop : ℕ) : ℕ → Next → Type 0 where
+  ends_run : (p : ℕ) → p ≡ stop → Ends es src stop p at_end
+  ends_entity : (p n j : ℕ) (t : Replacement) → IsReference src p n j → predefined (slice src (p + 1) n) ≡ None → j ≤ stop → text_of es (slice src (p + 1) n) ≡ Some t → Ends es src stop p (opening t j)
+
+-- what stands in a run at a place, in so far as it is one bit of its reading
+pub data RunBit (main : Bool) (es : List Entity) (src : List ℕ) (stop : ℕ) : ℕ → Bit → ℕ → Type 0 where
+  bit_cr_lf : (i : ℕ) → main ≡ true → i + 1 < stop → byte src i ≡ 13 → byte src (i + 1) ≡ 10 → RunBit main es src stop i (bytes_of (10 ∷ [])) (i + 2)
+  bit_cr : (i : ℕ) → main ≡ true → i < stop → byte src i ≡ 13 → (i + 1 < stop → byte src (i + 1) ≢ 10) → RunBit main es src stop i (bytes_of (10 ∷ [])) (i + 1)
+  bit_stretch : (i j : ℕ) → i < j → j ≤ stop → ((k : ℕ) → i ≤ k → k < j → (byte src k ≢ 38) × (main ≡ true → byte src k ≢ 13)) → RunBit main es src stop i (bytes_of (slice src i j)) j
+  bit_character : (i x j : ℕ) → IsCharacter src i x j → j ≤ stop → RunBit main es src stop i (bytes_of (encode_utf8 x)) j
+  bit_entity : (i n j : ℕ) (t : Replacement) → IsReference src i n j → predefined (slice src (i + 1) n) ≡ None → j ≤ stop → text_of es (slice src (i + 1) n) ≡ Some t → RunBit main es src stop i (opens t) j
+
+module _ (es : List Entity) (src : List ℕ) (utf8 : IsUtf8 src) (stop : ℕ) (long : stop ≤ length src) (closes : stop < length src → IsStop (byte src stop)) where
+  -- a part ends before the stop, where `&` stands, or at it
+  pub ends_at : (p : ℕ) (next : Next) → Ends es src stop p next → (p ≤ stop) × (p < stop → byte src p ≡ 38)
+  ends_at p next (ends_run _ is) = (omega arith, λ l. absurd (omega arith))
+  ends_at p next (ends_entity _ n j t r none to is) = let o = reference_opens src p n j r in (omega arith, λ l. o.0)
+
+  -- each bit moves forward, but not past the stop
+  pub bit_moves : (main : Bool) (i : ℕ) (bit : Bit) (j : ℕ) → RunBit main es src stop i bit j → (i < j) × (j ≤ stop)
+  bit_moves main i bit j (bit_cr_lf _ is more cr lf) = (omega arith, omega arith)
+  bit_moves main i bit j (bit_cr _ is here cr apart) = (omega arith, omega arith)
+  bit_moves main i bit j (bit_stretch _ _ some to plain) = (some, to)
+  bit_moves main i bit j (bit_character _ x _ r to) = ((character_opens src i x j r).1, to)
+  bit_moves main i bit j (bit_entity _ n _ t r none to is) = ((reference_opens src i n j r).2, to)
+
+  -- ---- a bit that is read stands there
+
+  expanded_sound : (main : Bool) (i : ℕ) (r : Reference) (j : ℕ) (bit : Bit) → i < stop → IsRead src i r j → expanded es src i r ≡ Ok bit → RunBit main es src stop i bit j
+  expanded_sound main i r j bit below (is_character c _ stands) h =
+      subst (λ (x : Bit). RunBit main es src stop i x j) (ok_same _ _ h) (bit_character i c j stands (character_inside src i stop c j utf8 below long closes stands))
+  expanded_sound main i r j bit below (is_entity n _ stands none) h =
+      let f = found_ok (text_of es (slice src (i + 1) n)) i (record { start = i + 1; end = n }) bit h in
+      subst (λ (x : Bit). RunBit main es src stop i x j) f.2 (bit_entity i n j f.0 stands none (reference_inside src i stop n j utf8 below long closes stands) f.1)
+
+  expansion_sound : (main : Bool) (i : ℕ) (x : Bit × ℕ) → i < stop → byte src i ≡ 38 → expansion_at es src i ≡ Ok x → RunBit main es src stop i x.0 x.1
+  unfolding expansion_at
+  expansion_sound main i x below amp h =
+      bind_ok (reference_at src i) _ _ h (λ r read h. bind_ok (expanded es src i r.0) _ _ h (λ bit made h.
+      subst (λ (y : Bit × ℕ). RunBit main es src stop i y.0 y.1) (ok_same _ _ h) (expanded_sound main i r.0 r.1 bit below (reference_sound src i r amp read) made)))
+
+  cr_sound : (i : ℕ) (b : Bool) → eqb (byte (take stop src) (i + 1)) 10 ≡ b → i < stop → byte src i ≡ 13 → RunBit true es src stop i (bytes_of (10 ∷ [])) (cond b (i + 2) (i + 1))
+  cr_sound i true lf below cr = let f = follows src stop long (i + 1) lf in bit_cr_lf i refl f.0 cr f.1
+  cr_sound i false no_lf below cr = bit_cr i refl below cr (follows_not src stop long (i + 1) no_lf)
+
+  pub run_bit_sound : (main : Bool) (i : ℕ) (x : Bit × ℕ) → i < stop → run_bit_at main es src stop i ≡ Ok x → RunBit main es src stop i x.0 x.1
+  unfolding run_bit_at
+  run_bit_sound true i x below h = chosen (eqb (byte src i) 38) _ _ _ h
+      (λ amp h. expansion_sound true i x below (eqb-true _ _ amp) h)
+      (λ no_amp h. chosen (eqb (byte src i) 13) _ _ _ h
+      (λ cr h.
+      subst (λ (y : Bit × ℕ). RunBit true es src stop i y.0 y.1) (ok_same _ _ h)
+      (cr_sound i (eqb (byte (take stop src) (i + 1)) 10) refl below (eqb-true _ _ cr)))
+      (λ no_cr h.
+      let plain = or_from (eqb (byte src i) 38) (eqb (byte src i) 13) no_amp no_cr in
+      subst (λ (y : Bit × ℕ). RunBit true es src stop i y.0 y.1) (ok_same _ _ h)
+      (bit_stretch i (next_at src stop ordinary i) (next_more src stop long ordinary i below plain) (next_bound src stop long ordinary i (omega arith))
+      (λ k from lt. let both = or_parts (eqb (byte src k) 38) (eqb (byte src k) 13) (next_before src stop long ordinary i k (omega arith) from lt) in (eqb-false _ _ both.0, λ z. eqb-false _ _ both.1)))))
+  run_bit_sound false i x below h = chosen (eqb (byte src i) 38) _ _ _ h
+      (λ amp h. expansion_sound false i x below (eqb-true _ _ amp) h)
+      (λ no_amp h.
+      subst (λ (y : Bit × ℕ). RunBit false es src stop i y.0 y.1) (ok_same _ _ h)
+      (bit_stretch i (next_at src stop (λ c. c == 38) i) (next_more src stop long (λ c. c == 38) i below no_amp) (next_bound src stop long (λ c. c == 38) i (omega arith))
+      (λ k from lt. (eqb-false _ _ (next_before src stop long (λ c. c == 38) i k (omega arith) from lt), λ z. absurd (false≢true z)))))
+
+  -- ---- parts
+
   -- a part goes on with a byte that is no `&`
-  next_part : (i : ℕ) (ss : List Sign) → i < stop → byte src i ≢ 38 → Part true src stop i ss → (rest : List Sign) × (ss ≡ literal (byte src i) ∷ rest) × Part true src stop (i + 1) rest
-  next_part i ss below other part_ends = absurd (omega arith)
-  next_part i ss below other (as_written _ rest lt no_amp p) = (rest, refl, p)
-  next_part i ss below other (from_reference _ n c rest r inside p) = absurd (other (character_opens src i c n r).0)
-
-  -- the signs of a stretch of ordinary bytes, one more by one
-  pub stretch_on : (d i j : ℕ) (ss : List Sign) → i + d ≡ j → j ≤ stop → ((k : ℕ) → i ≤ k → k < j → ordinary (byte src k) ≡ false) → Part true src stop j ss
-      → (front : List Sign) × Part true src stop i front × (line_ends front ≡ slice src i j ++ line_ends ss)
-  stretch_on zero i j ss to inside plain p =
-      let e : j ≡ i = omega arith in
-      (ss, subst (λ (m : ℕ). Part true src stop m ss) e p, rw (e, slice_nil src i) refl)
-  stretch_on (suc d) i j ss to inside plain p =
-      let here = or_parts (eqb (byte src i) 38) (eqb (byte src i) 13) (plain i (omega arith) (omega arith)) in
-      let ih = stretch_on d (i + 1) j ss (omega arith) inside (λ k from below. plain k (omega arith) below) p in (
-        literal (byte src i) ∷ ih.0,
-        as_written i ih.0 (omega arith) (eqb-false _ _ here.0) ih.1,
-        literal_ends (byte src i) ih.0 (eqb-false _ _ here.1) ∙ ap (λ (r : List ℕ). byte src i ∷ r) ih.2 ∙ ap (λ (r : List ℕ). r ++ line_ends ss) (sym (slice_cons src i j (omega arith) (omega arith))),
-      )
-
-  -- the signs behind a stretch of ordinary bytes
-  pub stretch_off : (d i j : ℕ) (ss : List Sign) → i + d ≡ j → j ≤ stop → ((k : ℕ) → i ≤ k → k < j → ordinary (byte src k) ≡ false) → Part true src stop i ss
-      → (rest : List Sign) × Part true src stop j rest × (line_ends ss ≡ slice src i j ++ line_ends rest)
-  stretch_off zero i j ss to inside plain p =
-      let e : i ≡ j = omega arith in
-      (ss, subst (λ (m : ℕ). Part true src stop m ss) e p, rw (e, slice_nil src j) refl)
-  stretch_off (suc d) i j ss to inside plain p =
-      let here = or_parts (eqb (byte src i) 38) (eqb (byte src i) 13) (plain i (omega arith) (omega arith)) in
-      let one = next_part i ss (omega arith) (eqb-false _ _ here.0) p in
-      let ih = stretch_off d (i + 1) j one.0 (omega arith) inside (λ k from below. plain k (omega arith) below) one.2 in (
-        ih.0,
-        ih.1,
-        ap line_ends one.1 ∙ literal_ends (byte src i) one.0 (eqb-false _ _ here.1) ∙ ap (λ (r : List ℕ). byte src i ∷ r) ih.2
-            ∙ ap (λ (r : List ℕ). r ++ line_ends ih.0) (sym (slice_cons src i j (omega arith) (omega arith))),
-      )
+  next_part : (main : Bool) (p i : ℕ) (ss : List Sign) → i < p → byte src i ≢ 38 → Part main src p i ss → (rest : List Sign) × (ss ≡ literal (byte src i) ∷ rest) × Part main src p (i + 1) rest
+  next_part main p i ss below other part_ends = absurd (omega arith)
+  next_part main p i ss below other (as_written _ rest lt no_amp q) = (rest, refl, q)
+  next_part main p i ss below other (from_reference _ n c rest r inside q) = absurd (other (character_opens src i c n r).0)
 
   -- behind a CR that no LF follows
-  no_line_feed : (i : ℕ) (ss : List Sign) → (i < stop → byte src i ≢ 10) → Part true src stop i ss → line_ends_after true ss ≡ line_ends ss
-  no_line_feed i ss none part_ends = refl
-  no_line_feed i ss none (as_written _ rest lt no_amp p) = let n = ne_eqb (byte src i) 10 (none lt) in rw n refl
-  no_line_feed i ss none (from_reference _ n c rest r inside p) = kept_after (encode_utf8 c) rest (encode_some c)
+  no_line_feed : (p i : ℕ) (ss : List Sign) → (i < p → byte src i ≢ 10) → Part true src p i ss → line_ends_after true ss ≡ line_ends ss
+  no_line_feed p i ss none part_ends = refl
+  no_line_feed p i ss none (as_written _ rest lt no_amp q) = let n = ne_eqb (byte src i) 10 (none lt) in rw n refl
+  no_line_feed p i ss none (from_reference _ n c rest r inside q) = kept_after (encode_utf8 c) rest (encode_some c)
 
-  -- the text that is read of a run is that of its signs
-  pub run_text_sound : (n i : ℕ) (v : List ℕ) → i ≤ stop → stop ≤ i + n → run_text n src stop i ≡ Ok v → (ss : List Sign) × Part true src stop i ss × (v ≡ line_ends ss)
-  unfolding run_text run_part_at
-  run_text_sound zero i v to enough h =
-      let e : stop ≡ i = omega arith in
-      ([], subst (λ (m : ℕ). Part true src stop m []) e part_ends, sym (ok_same _ _ h))
-  run_text_sound (suc n) i v to enough h = chosen (ltb i stop) _ _ _ h
-      (λ lt h. let below = ltb-true _ _ lt in bind_ok (run_part_at src stop i) _ _ h (λ x part h. bind_ok (run_text n src stop x.1) _ _ h (λ rest more h.
-      let v_is : x.0 ++ rest ≡ v = ok_same _ _ h in
-      chosen (eqb (byte src i) 38) _ _ _ part
-      (λ amp part.
-      let r = expansion_sound src i x (eqb-true _ _ amp) part in
-      let opens = character_opens src i r.0 x.1 r.1 in
-      let inside = character_inside src i stop r.0 x.1 utf8 below long closes r.1 in
-      let ih = run_text_sound n x.1 rest inside (omega arith) more in (
-        signs_of true (encode_utf8 r.0) ++ ih.0,
-        from_reference i x.1 r.0 ih.0 r.1 inside ih.1,
-        joined x.0 rest v (encode_utf8 r.0) (line_ends ih.0) v_is r.2 ih.2 ∙ sym (kept_ends (encode_utf8 r.0) ih.0),
-      ))
-      (λ no_amp part. chosen (eqb (byte src i) 13) _ _ _ part
-      (λ cr part.
-      let bytes : 10 ∷ [] ≡ x.0 = ap (λ p. p.0) (ok_same _ _ part) in
-      chosen (eqb (byte (take stop src) (i + 1)) 10) (i + 2) (i + 1) x.1 (ap (λ p. p.1) (ok_same _ _ part))
-      (λ lf next.
-      let f = follows src stop long (i + 1) lf in
-      let two : i + 1 + 1 ≡ x.1 = omega arith in
-      let ih = run_text_sound n x.1 rest (omega arith) (omega arith) more in
-      let p = subst (λ (m : ℕ). Part true src stop m ih.0) (sym two) ih.1 in (
-        literal (byte src i) ∷ literal (byte src (i + 1)) ∷ ih.0,
-        as_written i (literal (byte src (i + 1)) ∷ ih.0) below (eqb-false _ _ no_amp) (as_written (i + 1) ih.0 f.0 (λ z. omega arith) p),
-        joined x.0 rest v (10 ∷ []) (line_ends ih.0) v_is (sym bytes) ih.2 ∙ sym (crlf_ends (byte src i) (byte src (i + 1)) ih.0 cr f.1),
-      ))
-      (λ no_lf next.
-      let ih = run_text_sound n x.1 rest (omega arith) (omega arith) more in
-      let p = subst (λ (m : ℕ). Part true src stop m ih.0) (sym next) ih.1 in
-      let after = no_line_feed (i + 1) ih.0 (follows_not src stop long (i + 1) no_lf) p in (
-        literal (byte src i) ∷ ih.0,
-        as_written i ih.0 below (eqb-false _ _ no_amp) p,
-        joined x.0 rest v (10 ∷ []) (line_ends ih.0) v_is (sym bytes) ih.2 ∙ sym (cr_ends (byte src i) ih.0 cr after),
-      )))
-      (λ no_cr part.
-      let plain = or_from (eqb (byte src i) 38) (eqb (byte src i) 13) no_amp no_cr in
-      let bytes : slice src i (next_at src stop ordinary i) ≡ x.0 = ap (λ p. p.0) (ok_same _ _ part) in
-      let next : next_at src stop ordinary i ≡ x.1 = ap (λ p. p.1) (ok_same _ _ part) in
-      let bound = next_bound src stop long ordinary i to in
-      let progress = next_more src stop long ordinary i below plain in
-      let ih = run_text_sound n x.1 rest (omega arith) (omega arith) more in
-      let p = subst (λ (m : ℕ). Part true src stop m ih.0) (sym next) ih.1 in
-      let s = stretch_on (next_at src stop ordinary i - i) i (next_at src stop ordinary i) ih.0 (omega arith) bound (λ k from lt. next_before src stop long ordinary i k to from lt) p in
-      (s.0, s.1, joined x.0 rest v (slice src i (next_at src stop ordinary i)) (line_ends ih.0) v_is (sym bytes) ih.2 ∙ sym s.2))))))
-      (λ past h.
-      let e : stop ≡ i = omega (arith, ltb-false _ _ past) in
-      ([], subst (λ (m : ℕ). Part true src stop m []) e part_ends, sym (ok_same _ _ h)))
+  -- one byte in front
+  byte_on : (main : Bool) (p i : ℕ) (bs : List ℕ) (ss : List Sign) → (main ≡ true → byte src i ≢ 13) → Texts main bs ss → Texts main (byte src i ∷ bs) (literal (byte src i) ∷ ss)
+  byte_on true p i bs ss no_cr h = ap (λ (r : List ℕ). byte src i ∷ r) h ∙ sym (literal_ends (byte src i) ss (no_cr refl))
+  byte_on false p i bs ss no_cr h = ap (λ (r : List Sign). literal (byte src i) ∷ r) h
+
+  -- the part from i on that has this text
+  abbrev PartFrom : (main : Bool) → ℕ → ℕ → List ℕ → Type 0
+  PartFrom main p i bs = (ss : List Sign) × Part main src p i ss × Texts main bs ss
+
+  -- a stretch in front
+  pub stretch_on : (main : Bool) (p d i j : ℕ) (bs : List ℕ) → i + d ≡ j → j ≤ p → p ≤ length src → ((k : ℕ) → i ≤ k → k < j → (byte src k ≢ 38) × (main ≡ true → byte src k ≢ 13)) → PartFrom main p j bs → PartFrom main p i (slice src i j ++ bs)
+  stretch_on main p zero i j bs to inside most plain h =
+      let e : j ≡ i = omega arith in
+      subst (λ (m : ℕ). PartFrom main p m (slice src m j ++ bs)) e (rw (slice_nil src j) h)
+  stretch_on main p (suc d) i j bs to inside most plain h =
+      let here = plain i (omega arith) (omega arith) in
+      let ih = stretch_on main p d (i + 1) j bs (omega arith) inside most (λ k from below. plain k (omega arith) below) h in
+      rw (slice_cons src i j (omega arith) (omega arith)) (literal (byte src i) ∷ ih.0, as_written i ih.0 (omega arith) here.0 ih.1, byte_on main p i (slice src (i + 1) j ++ bs) ih.0 here.1 ih.2)
+
+  -- a character in front
+  character_on : (main : Bool) (c : ℕ) (bs : List ℕ) (ss : List Sign) → Texts main bs ss → Texts main (encode_utf8 c ++ bs) (signs_of main (encode_utf8 c) ++ ss)
+  character_on true c bs ss h = ap (λ (r : List ℕ). encode_utf8 c ++ r) h ∙ sym (kept_ends (encode_utf8 c) ss)
+  character_on false c bs ss h = ap (λ (r : List Sign). signs_of false (encode_utf8 c) ++ r) h ∙ sym (literals-append (encode_utf8 c) bs)
+
+  -- what a part that is read is
+  abbrev pub PartStands : (main : Bool) → ℕ → List ℕ × Next → Type 0
+  PartStands main i x = (p : ℕ) × PartFrom main p i x.0 × Ends es src stop p x.1
+
+  -- CR LF in front, of the main text
+  cr_lf_on : (main : Bool) (p i : ℕ) (bs : List ℕ) → main ≡ true → byte src i ≡ 13 → byte src (i + 1) ≡ 10 → PartFrom main p (i + 2) bs → PartFrom main p i (10 ∷ bs)
+  cr_lf_on true p i bs is cr lf (ss, part, text) =
+      let le = part_le true src p (i + 2) ss part in
+      let two : i + 2 ≡ i + 1 + 1 = omega arith in
+      let part' = subst (λ (m : ℕ). Part true src p m ss) two part in (
+        literal (byte src i) ∷ literal (byte src (i + 1)) ∷ ss,
+        as_written i (literal (byte src (i + 1)) ∷ ss) (omega arith) (λ z. omega arith) (as_written (i + 1) ss (omega arith) (λ z. omega arith) part'),
+        ap (λ (r : List ℕ). 10 ∷ r) text ∙ sym (crlf_ends (byte src i) (byte src (i + 1)) ss cr lf),
+      )
+  cr_lf_on false p i bs is cr lf h = absurd (false≢true is)
+
+  -- CR in front
+  cr_on : (main : Bool) (p i : ℕ) (bs : List ℕ) → main ≡ true → byte src i ≡ 13 → (i + 1 < p → byte src (i + 1) ≢ 10) → PartFrom main p (i + 1) bs → PartFrom main p i (10 ∷ bs)
+  cr_on true p i bs is cr apart (ss, part, text) =
+      let le = part_le true src p (i + 1) ss part in (
+        literal (byte src i) ∷ ss,
+        as_written i ss (omega arith) (λ z. omega arith) part,
+        ap (λ (r : List ℕ). 10 ∷ r) text ∙ sym (cr_ends (byte src i) ss cr (no_line_feed p (i + 1) ss apart part)),
+      )
+  cr_on false p i bs is cr apart h = absurd (false≢true is)
+
+  -- nothing
+  pub nothing_from : (main : Bool) (i : ℕ) → PartFrom main i i []
+  nothing_from true i = ([], part_ends, refl)
+  nothing_from false i = ([], part_ends, refl)
+
+  -- a bit in front
+  bit_on : (main : Bool) (i : ℕ) (bit : Bit) (j : ℕ) (x : List ℕ × Next) (more : ℕ → Result (List ℕ × Next) Fault) → RunBit main es src stop i bit j
+      → ((rest : List ℕ × Next) → more j ≡ Ok rest → PartStands main j rest) → after_bit more bit j ≡ Ok x → PartStands main i x
+  bit_on main i bit j x more (bit_cr_lf _ is lt cr lf) ih h = bind_ok (more j) _ _ h (λ rest read h.
+      let q = ih rest read in
+      subst (PartStands main i) (ok_same _ _ h) (q.0, cr_lf_on main q.0 i rest.0 is cr lf q.1, q.2))
+  bit_on main i bit j x more (bit_cr _ is lt cr apart) ih h = bind_ok (more j) _ _ h (λ rest read h.
+      let q = ih rest read in
+      let to = ends_at q.0 rest.1 q.2 in
+      subst (PartStands main i) (ok_same _ _ h) (q.0, cr_on main q.0 i rest.0 is cr (λ l. apart (omega arith)) q.1, q.2))
+  bit_on main i bit j x more (bit_stretch _ _ some to plain) ih h = bind_ok (more j) _ _ h (λ rest read h.
+      let q = ih rest read in
+      let end = ends_at q.0 rest.1 q.2 in
+      let le = part_le main src q.0 j q.1.0 q.1.1 in
+      subst (PartStands main i) (ok_same _ _ h) (q.0, stretch_on main q.0 (j - i) i j rest.0 (omega arith) le (omega arith) plain q.1, q.2))
+  bit_on main i bit j x more (bit_character _ c _ r to) ih h = bind_ok (more j) _ _ h (λ rest read h.
+      let q = ih rest read in
+      let le = part_le main src q.0 j q.1.0 q.1.1 in
+      subst (PartStands main i) (ok_same _ _ h) (q.0, (signs_of main (encode_utf8 c) ++ q.1.0, from_reference i j c q.1.0 r le q.1.1, character_on main c rest.0 q.1.0 q.1.2), q.2))
+  bit_on main i bit j x more (bit_entity _ n _ t r none to is) ih h =
+      subst (PartStands main i) (ok_same _ _ h) (i, nothing_from main i, ends_entity i n j t r none to is)
+
+  -- a part that is read stands there
+  pub run_part_sound : (main : Bool) (n i : ℕ) (x : List ℕ × Next) → i ≤ stop → stop ≤ i + n → run_part main es n src stop i ≡ Ok x → PartStands main i x
+  unfolding run_part
+  run_part_sound main zero i x to enough h =
+      subst (PartStands main i) (ok_same _ _ h) (i, nothing_from main i, ends_run i (omega arith))
+  run_part_sound main (suc n) i x to enough h = chosen (ltb i stop) _ _ _ h
+      (λ lt h. let below = ltb-true _ _ lt in bind_ok (run_bit_at main es src stop i) _ _ h (λ y read h.
+      let bit = run_bit_sound main i y below read in
+      let moves = bit_moves main i y.0 y.1 bit in
+      bit_on main i y.0 y.1 x (λ j. run_part main es n src stop j) bit (λ rest more. run_part_sound main n y.1 rest moves.1 (omega arith) more) h))
+      (λ past h. subst (PartStands main i) (ok_same _ _ h) (i, nothing_from main i, ends_run i (omega (arith, ltb-false _ _ past))))
+
+  -- ---- a bit that stands there is read
 
   -- CR LF is read
-  cr_lf_part : (i : ℕ) → eqb (byte src i) 38 ≡ false → eqb (byte src i) 13 ≡ true → eqb (byte (take stop src) (i + 1)) 10 ≡ true → run_part_at src stop i ≡ Ok (10 ∷ [], i + 2)
-  unfolding run_part_at
-  cr_lf_part i amp cr lf = rw (amp, cr, lf) refl
+  cr_lf_read : (i : ℕ) → i + 1 < stop → byte src i ≡ 13 → byte src (i + 1) ≡ 10 → run_bit_at true es src stop i ≡ Ok (bytes_of (10 ∷ []), i + 2)
+  unfolding run_bit_at
+  cr_lf_read i below cr lf =
+      let t : byte (take stop src) (i + 1) ≡ byte src (i + 1) = get_or-take stop src (i + 1) 0 below in
+      rw (t, cr, lf) refl
 
   -- CR alone is read
-  cr_part : (i : ℕ) → eqb (byte src i) 38 ≡ false → eqb (byte src i) 13 ≡ true → eqb (byte (take stop src) (i + 1)) 10 ≡ false → run_part_at src stop i ≡ Ok (10 ∷ [], i + 1)
-  unfolding run_part_at
-  cr_part i amp cr lf = rw (amp, cr, lf) refl
-
-  -- a stretch of ordinary bytes is read
-  plain_part : (i : ℕ) → eqb (byte src i) 38 ≡ false → eqb (byte src i) 13 ≡ false → run_part_at src stop i ≡ Ok (slice src i (next_at src stop ordinary i), next_at src stop ordinary i)
-  unfolding run_part_at
-  plain_part i amp cr = rw (amp, cr) refl
+  cr_read : (i : ℕ) → byte src i ≡ 13 → eqb (byte (take stop src) (i + 1)) 10 ≡ false → run_bit_at true es src stop i ≡ Ok (bytes_of (10 ∷ []), i + 1)
+  unfolding run_bit_at
+  cr_read i cr apart = rw (cr, apart) refl
 
   -- a reference to a character is read
-  reference_part : (i c m : ℕ) → IsCharacter src i c m → run_part_at src stop i ≡ Ok (encode_utf8 c, m)
-  unfolding run_part_at
-  reference_part i c m r =
+  character_read : (main : Bool) (i c m : ℕ) → IsCharacter src i c m → run_bit_at main es src stop i ≡ Ok (bytes_of (encode_utf8 c), m)
+  unfolding run_bit_at expansion_at
+  character_read main i c m r =
       let amp = eq-eqb _ _ (character_opens src i c m r).0 in
-      let one = expansion_complete src i c m r in
-      rw amp one
+      let one = character_complete src i c m r in
+      rw (amp, one) refl
 
-  -- a part is read, and then the rest
-  text_on : (n i m : ℕ) (bytes rest : List ℕ) → i < stop → run_part_at src stop i ≡ Ok (bytes, m) → run_text n src stop m ≡ Ok rest → run_text (suc n) src stop i ≡ Ok (bytes ++ rest)
-  unfolding run_text
-  text_on n i m bytes rest below part more = let here = lt-ltb i stop below in rw (here, part, more) refl
+  -- and so is one to an entity
+  entity_read : (main : Bool) (i n j : ℕ) (t : Replacement) → IsReference src i n j → predefined (slice src (i + 1) n) ≡ None → text_of es (slice src (i + 1) n) ≡ Some t → run_bit_at main es src stop i ≡ Ok (opens t, j)
+  unfolding run_bit_at expansion_at
+  entity_read main i n j t r none is =
+      let amp = eq-eqb _ _ (reference_opens src i n j r).0 in
+      let one = entity_complete src i n j r none in
+      rw (amp, one, is) refl
 
-  -- the text of the signs of a run is read
-  pub run_text_complete : (n i : ℕ) (ss : List Sign) → i ≤ stop → stop ≤ i + n → Part true src stop i ss → run_text n src stop i ≡ Ok (line_ends ss)
-  unfolding run_text run_part_at
-  run_text_complete zero i ss to enough part_ends = refl
-  run_text_complete zero i ss to enough (as_written _ rest lt no_amp p) = absurd (omega arith)
-  run_text_complete zero i ss to enough (from_reference _ m c rest r inside p) = absurd (omega (arith, (character_opens src i c m r).1))
-  run_text_complete (suc n) i ss to enough part_ends = let past = le-ltb stop stop (omega arith) in rw past refl
-  run_text_complete (suc n) i ss to enough (from_reference _ m c rest r inside p) =
-      let opens = character_opens src i c m r in
-      let ih = run_text_complete n m rest inside (omega arith) p in
-      text_on n i m (encode_utf8 c) (line_ends rest) (omega arith) (reference_part i c m r) ih ∙ ap Ok (sym (kept_ends (encode_utf8 c) rest))
-  run_text_complete (suc n) i ss to enough (as_written _ rest lt no_amp p) =
-      let amp = ne_eqb (byte src i) 38 no_amp in
-      elim (cases_Bool (eqb (byte src i) 13)) as (λ s. run_text (suc n) src stop i ≡ Ok (line_ends (literal (byte src i) ∷ rest))) [
-        | inl cr ↦ elim (cases_Bool (eqb (byte (take stop src) (i + 1)) 10)) as (λ s. run_text (suc n) src stop i ≡ Ok (line_ends (literal (byte src i) ∷ rest))) [
-          | inl lf ↦ (
-              let f = follows src stop long (i + 1) lf in
-              let one = next_part (i + 1) rest f.0 (λ z. omega arith) p in
-              let two : i + 1 + 1 ≡ i + 2 = omega arith in
-              let ih = run_text_complete n (i + 2) one.0 (omega arith) (omega arith) (subst (λ (m : ℕ). Part true src stop m one.0) two one.2) in
-              text_on n i (i + 2) (10 ∷ []) (line_ends one.0) lt (cr_lf_part i amp cr lf) ih
-              ∙ ap Ok (sym (ap (λ (ss : List Sign). line_ends (literal (byte src i) ∷ ss)) one.1 ∙ crlf_ends (byte src i) (byte src (i + 1)) one.0 cr f.1)))
-          | inr no_lf ↦ (
-              let after = no_line_feed (i + 1) rest (follows_not src stop long (i + 1) no_lf) p in
-              let ih = run_text_complete n (i + 1) rest (omega arith) (omega arith) p in
-              text_on n i (i + 1) (10 ∷ []) (line_ends rest) lt (cr_part i amp cr no_lf) ih ∙ ap Ok (sym (cr_ends (byte src i) rest cr after)))
-        ]
-        | inr no_cr ↦ (
-            let plain = or_from (eqb (byte src i) 38) (eqb (byte src i) 13) amp no_cr in
-            let bound = next_bound src stop long ordinary i to in
-            let progress = next_more src stop long ordinary i lt plain in
-            let s = stretch_off (next_at src stop ordinary i - i) i (next_at src stop ordinary i) (literal (byte src i) ∷ rest) (omega arith) bound (λ k from lt. next_before src stop long ordinary i k to from lt) (as_written i rest lt no_amp p) in
-            let ih = run_text_complete n (next_at src stop ordinary i) s.0 bound (omega arith) s.1 in
-            text_on n i (next_at src stop ordinary i) (slice src i (next_at src stop ordinary i)) (line_ends s.0) lt (plain_part i amp no_cr) ih ∙ ap Ok (sym s.2))
+  -- where a stretch ends
+  abbrev stretch_end : (main : Bool) → ℕ → ℕ
+  stretch_end true i = next_at src stop ordinary i
+  stretch_end false i = next_at src stop (λ c. c == 38) i
+
+  -- what is known of it
+  stretch_bounds : (main : Bool) (i : ℕ) → i < stop → byte src i ≢ 38 → (main ≡ true → byte src i ≢ 13)
+      → (i < stretch_end main i) × (stretch_end main i ≤ stop) × ((k : ℕ) → i ≤ k → k < stretch_end main i → (byte src k ≢ 38) × (main ≡ true → byte src k ≢ 13))
+  stretch_bounds true i below amp cr = (
+    next_more src stop long ordinary i below (or_from (eqb (byte src i) 38) (eqb (byte src i) 13) (ne_eqb _ _ amp) (ne_eqb _ _ (cr refl))),
+    next_bound src stop long ordinary i (omega arith),
+    λ k from lt. let both = or_parts (eqb (byte src k) 38) (eqb (byte src k) 13) (next_before src stop long ordinary i k (omega arith) from lt) in (eqb-false _ _ both.0, λ z. eqb-false _ _ both.1),
+  )
+  stretch_bounds false i below amp cr = (
+    next_more src stop long (λ c. c == 38) i below (ne_eqb _ _ amp),
+    next_bound src stop long (λ c. c == 38) i (omega arith),
+    λ k from lt. (eqb-false _ _ (next_before src stop long (λ c. c == 38) i k (omega arith) from lt), λ z. absurd (false≢true z)),
+  )
+
+  -- a stretch is read
+  stretch_read : (main : Bool) (i : ℕ) → byte src i ≢ 38 → (main ≡ true → byte src i ≢ 13) → run_bit_at main es src stop i ≡ Ok (bytes_of (slice src i (stretch_end main i)), stretch_end main i)
+  unfolding run_bit_at
+  stretch_read true i amp cr = let a = ne_eqb (byte src i) 38 amp in let c = ne_eqb (byte src i) 13 (cr refl) in rw (a, c) refl
+  stretch_read false i amp cr = let a = ne_eqb (byte src i) 38 amp in rw a refl
+
+  -- ---- a part that stands there is read
+
+  -- a bit of bytes is read, and then the rest
+  bytes_on : (main : Bool) (n i j : ℕ) (bytes rest : List ℕ) (next : Next) → i < stop → run_bit_at main es src stop i ≡ Ok (bytes_of bytes, j) → run_part main es n src stop j ≡ Ok (rest, next)
+      → run_part main es (suc n) src stop i ≡ Ok (bytes ++ rest, next)
+  unfolding run_part
+  bytes_on main n i j bytes rest next below bit more = let here = lt-ltb i stop below in rw (here, bit, more) refl
+
+  -- a part is read to this text
+  abbrev pub PartReads : (main : Bool) → ℕ → ℕ → List Sign → Next → Type 0
+  PartReads main n i ss next = (bs : List ℕ) × (run_part main es n src stop i ≡ Ok (bs, next)) × Texts main bs ss
+
+  -- nothing is read where the part ends
+  ends_read : (main : Bool) (n p : ℕ) (next : Next) → stop ≤ p + n → Ends es src stop p next → run_part main es n src stop p ≡ Ok ([], next)
+  unfolding run_part
+  ends_read main zero p next enough (ends_run _ is) = refl
+  ends_read main (suc n) p next enough (ends_run _ is) = let past = le-ltb p stop (omega arith) in rw past refl
+  ends_read main zero p next enough (ends_entity _ m j t r none to is) = absurd (omega (arith, reference_opens src p m j r))
+  ends_read main (suc n) p next enough (ends_entity _ m j t r none to is) =
+      let here = lt-ltb p stop (omega (arith, reference_opens src p m j r)) in
+      let bit = entity_read main p m j t r none is in
+      rw (here, bit) refl
+
+  pub no_texts : (main : Bool) → Texts main [] []
+  no_texts true = refl
+  no_texts false = refl
+
+  -- the signs behind a stretch
+  pub stretch_off : (main : Bool) (p d i j : ℕ) (ss : List Sign) → i + d ≡ j → j ≤ p → p ≤ length src → ((k : ℕ) → i ≤ k → k < j → (byte src k ≢ 38) × (main ≡ true → byte src k ≢ 13)) → Part main src p i ss
+      → (rest : List Sign) × Part main src p j rest × ((bs : List ℕ) → Texts main bs rest → Texts main (slice src i j ++ bs) ss)
+  stretch_off main p zero i j ss to inside most plain q =
+      let e : i ≡ j = omega arith in
+      (ss, subst (λ (m : ℕ). Part main src p m ss) e q, λ bs h. rw (e, slice_nil src j) h)
+  stretch_off main p (suc d) i j ss to inside most plain q =
+      let here = plain i (omega arith) (omega arith) in
+      let one = next_part main p i ss (omega arith) here.0 q in
+      let ih = stretch_off main p d (i + 1) j one.0 (omega arith) inside most (λ k from below. plain k (omega arith) below) one.2 in
+      (ih.0, ih.1, λ bs h. rw (one.1, slice_cons src i j (omega arith) (omega arith)) (byte_on main p i (slice src (i + 1) j ++ bs) one.0 here.1 (ih.2 bs h)))
+
+  -- CR LF of the main text
+  texts_cr_lf : (i : ℕ) (bs : List ℕ) (ss : List Sign) → byte src i ≡ 13 → byte src (i + 1) ≡ 10 → bs ≡ line_ends ss → 10 ∷ bs ≡ line_ends (literal (byte src i) ∷ literal (byte src (i + 1)) ∷ ss)
+  texts_cr_lf i bs ss cr lf h = ap (λ (r : List ℕ). 10 ∷ r) h ∙ sym (crlf_ends (byte src i) (byte src (i + 1)) ss cr lf)
+
+  -- a stretch begins with a byte that is neither `&` nor, in the main text, CR
+  stretch_first : (main : Bool) (n i p : ℕ) (ss : List Sign) (next : Next) → i < p → byte src i ≢ 38 → (main ≡ true → byte src i ≢ 13) → Part main src p i ss → Ends es src stop p next
+      → ((j : ℕ) (rest : List Sign) → i < j → j ≤ stop → Part main src p j rest → PartReads main n j rest next) → PartReads main (suc n) i ss next
+  stretch_first main n i p ss next below amp cr q end ih =
+      let to = ends_at p next end in
+      let known = stretch_bounds main i (omega (arith, to.0)) amp cr in
+      let j = stretch_end main i in
+      let le : j ≤ p = elim (cases_lt p j) as (λ s. j ≤ p) [
+        | inl l ↦ absurd ((known.2 p (omega arith) l).0 (to.1 (omega (arith, known.1))))
+        | inr g ↦ g
+      ] in
+      let o = stretch_off main p (j - i) i j ss (omega (arith, known.0)) le (omega (arith, to.0)) known.2 q in
+      let rest = ih j o.0 known.0 known.1 o.1 in
+      (slice src i j ++ rest.0, bytes_on main n i j (slice src i j) rest.0 next (omega (arith, to.0)) (stretch_read main i amp cr) rest.1, o.2 rest.0 rest.2)
+
+  -- a CR of the main text
+  cr_first : (n i p : ℕ) (ss : List Sign) (next : Next) → i < p → byte src i ≡ 13 → Part true src p (i + 1) ss → Ends es src stop p next
+      → ((j : ℕ) (rest : List Sign) → i < j → j ≤ stop → Part true src p j rest → PartReads true n j rest next) → PartReads true (suc n) i (literal (byte src i) ∷ ss) next
+  cr_first n i p ss next below cr q end ih =
+      let to = ends_at p next end in
+      elim (cases_Bool (eqb (byte (take stop src) (i + 1)) 10)) as (λ s. PartReads true (suc n) i (literal (byte src i) ∷ ss) next) [
+        | inl lf ↦ (
+            let f = follows src stop long (i + 1) lf in
+            let more : i + 1 < p = elim (cases_lt (i + 1) p) as (λ s. i + 1 < p) [ inl l ↦ l | inr g ↦ absurd (let e : p ≡ i + 1 = omega arith in let a = rw e at (to.1 (omega arith)) in omega arith) ] in
+            let one = next_part true p (i + 1) ss more (λ z. omega arith) q in
+            let two : i + 1 + 1 ≡ i + 2 = omega arith in
+            let q' = subst (λ (m : ℕ). Part true src p m one.0) two one.2 in
+            let le = part_le true src p (i + 2) one.0 q' in
+            let rest = ih (i + 2) one.0 (omega arith) (omega (arith, to.0)) q' in (
+              10 ∷ rest.0,
+              bytes_on true n i (i + 2) (10 ∷ []) rest.0 next (omega (arith, to.0)) (cr_lf_read i f.0 cr f.1) rest.1,
+              texts_cr_lf i rest.0 one.0 cr f.1 rest.2 ∙ ap (λ (r : List Sign). line_ends (literal (byte src i) ∷ r)) (sym one.1),
+            ))
+        | inr no_lf ↦ (
+            let rest = ih (i + 1) ss (omega arith) (omega (arith, to.0)) q in
+            let after = no_line_feed p (i + 1) ss (λ l. follows_not src stop long (i + 1) no_lf (omega (arith, to.0))) q in (
+              10 ∷ rest.0,
+              bytes_on true n i (i + 1) (10 ∷ []) rest.0 next (omega (arith, to.0)) (cr_read i cr no_lf) rest.1,
+              ap (λ (r : List ℕ). 10 ∷ r) rest.2 ∙ sym (cr_ends (byte src i) ss cr after),
+            ))
       ]
+
+  -- a byte as it is written
+  written_first : (main : Bool) (n i p : ℕ) (ss : List Sign) (next : Next) → i < p → byte src i ≢ 38 → Part main src p (i + 1) ss → Ends es src stop p next
+      → ((j : ℕ) (rest : List Sign) → i < j → j ≤ stop → Part main src p j rest → PartReads main n j rest next) → PartReads main (suc n) i (literal (byte src i) ∷ ss) next
+  written_first false n i p ss next below amp q end ih =
+      stretch_first false n i p (literal (byte src i) ∷ ss) next below amp (λ z. absurd (false≢true z)) (as_written i ss below amp q) end ih
+  written_first true n i p ss next below amp q end ih =
+      elim (cases_eq (byte src i) 13) as (λ s. PartReads true (suc n) i (literal (byte src i) ∷ ss) next) [
+        | inl cr ↦ cr_first n i p ss next below cr q end ih
+        | inr no_cr ↦ stretch_first true n i p (literal (byte src i) ∷ ss) next below amp (λ z. no_cr) (as_written i ss below amp q) end ih
+      ]
+
+  -- a part that stands there is read
+  pub run_part_complete : (main : Bool) (n i p : ℕ) (ss : List Sign) (next : Next) → i ≤ stop → stop ≤ i + n → Part main src p i ss → Ends es src stop p next → PartReads main n i ss next
+  run_part_complete main n i p ss next to enough part_ends end = ([], ends_read main n p next enough end, no_texts main)
+  run_part_complete main zero i p ss next to enough (as_written _ rest lt no_amp q) end = absurd (omega (arith, ends_at p next end))
+  run_part_complete main zero i p ss next to enough (from_reference _ m c rest r inside q) end = absurd (omega (arith, ends_at p next end, character_opens src i c m r))
+  run_part_complete main (suc n) i p ss next to enough (as_written _ rest lt no_amp q) end =
+      written_first main n i p rest next lt no_amp q end (λ j rest' from to' q'. run_part_complete main n j p rest' next to' (omega arith) q' end)
+  run_part_complete main (suc n) i p ss next to enough (from_reference _ m c rest r inside q) end =
+      let moves = character_opens src i c m r in
+      let at = ends_at p next end in
+      let ih = run_part_complete main n m p rest next (omega (arith, at.0)) (omega (arith, moves.1)) q end in
+      (encode_utf8 c ++ ih.0, bytes_on main n i m (encode_utf8 c) ih.0 next (omega (arith, moves.1, at.0)) (character_read main i c m r) ih.1, character_on main c ih.0 rest ih.2)

@@ -1,18 +1,17 @@
 -- References to characters: what is read stands there, and what stands there is read.
-use Rattle.std.proofs.Common.{◌≡◌, ◌≢◌, ℕ, ◌+◌, ◌-◌, ◌^◌, ◌<◌, ◌≤◌, Bool, true, false, eqb, leb, List, length, get_or, drop, refl, sym, ap, ◌∙◌, subst, arith, inl, inr, ◌⊎◌, get_or-drop}
+use Rattle.std.proofs.Common.{◌≡◌, ◌≢◌, ℕ, ◌+◌, ◌-◌, ◌^◌, ◌<◌, ◌≤◌, Bool, true, false, eqb, leb, List, length, get_or, drop, refl, sym, ap, ◌∙◌, subst, arith, inl, inr, get_or-drop}
 use Rattle.std.specs.Prelude.{Ok, Option, Some, None}
-use Rattle.std.specs.Char.{encode_utf8}
 use Rattle.std.specs.Str.{IsUtf8}
 use Rattle.std.proofs.lemmas.Str.{IsCharBoundary-after_ascii}
 use Rattle.std.proofs.lemmas.List.Sums.{prefix_len_passes}
 use Rattle.std.proofs.lemmas.Bool.{eqb-true, eqb-false, eq-eqb, ne_eqb, leb-false, lt-leb, leb-true, and_parts, cases_lt, cases_eq, false≢true}
-use Rattle.rox_grammar.specs.declared.fault.Span.{Span}
 use Rattle.rox_grammar.specs.Chars.{is_name_start, is_name_char, is_char}
 use Rattle.rox_grammar.specs.Runs.{run_end, begins}
 use Rattle.rox_grammar.specs.Names.{byte, slice}
 use Rattle.rox_grammar.specs.References.{is_digit, is_hex_digit, number, bytes_end, character, predefined, IsNumber, IsReference, IsCharacter, decimal, hexadecimal, named}
-use Rattle.rox_reading.specs.Values.{Reference, character_of, named_or, number_at, name_reference_at, reference_at, expanded, expansion_at}
-use Rattle.rox_theory.proofs.Basics.{ok_same, bind_ok, chosen, within, run_end_le}
+use Rattle.rox_reading.specs.Values.{Reference, character_of, entity_at, named_or, number_at, name_reference_at, reference_at}
+use Rattle.rox_theory.specs.Openers.{IsStop}
+use Rattle.rox_theory.proofs.Basics.{ok_same, chosen, within, run_end_le}
 use Rattle.rox_theory.proofs.NameLemmas.{begins_here}
 use Rattle.rox_theory.proofs.CharLemmas.{run_within}
 
@@ -22,7 +21,7 @@ unfolding bytes_end
 bytes_end_le p src i = omega arith
 
 -- each byte of a stretch passes
-bytes_pass : (p : ℕ → Bool) (src : List ℕ) (i k : ℕ) → i ≤ k → k < bytes_end p src i → p (byte src k) ≡ true
+pub bytes_pass : (p : ℕ → Bool) (src : List ℕ) (i k : ℕ) → i ≤ k → k < bytes_end p src i → p (byte src k) ≡ true
 unfolding bytes_end
 bytes_pass p src i k from below =
     let e : i + (k - i) ≡ k = omega arith in
@@ -61,51 +60,40 @@ number_complete base is src i d e c j m =
     let next = m.next in
     rw (← l, apart, small, ← k, a, closes, next) refl
 
--- a name that stands for bytes is predefined
-expanded_ok : (i : ℕ) (span : Span) (o : Option ℕ) (bytes : List ℕ) → expanded i (named_or o span) ≡ Ok bytes → (c : ℕ) × (o ≡ Some c) × (bytes ≡ encode_utf8 c)
-expanded_ok i span None bytes h = cc h
-expanded_ok i span (Some c) bytes h = (c, refl, sym (ok_same _ _ h))
+-- what a reference is that ends at j: one to a character, or one to an entity
+pub data IsRead (src : List ℕ) (i : ℕ) : Reference → ℕ → Type 0 where
+  is_character : (c j : ℕ) → IsCharacter src i c j → IsRead src i (character_of c) j
+  is_entity : (n j : ℕ) → IsReference src i n j → predefined (slice src (i + 1) n) ≡ None → IsRead src i (entity_at (record { start = i + 1; end = n })) j
 
--- a reference to a character stands for the bytes of it
-of_character : (i : ℕ) (r : Reference) (c : ℕ) (bytes : List ℕ) → r ≡ character_of c → expanded i r ≡ Ok bytes → bytes ≡ encode_utf8 c
-of_character i r c bytes is h = sym (ok_same _ _ (rw is at h))
+-- a name, by whether it is predefined
+named_read : (src : List ℕ) (i n j : ℕ) (o : Option ℕ) → IsReference src i n j → predefined (slice src (i + 1) n) ≡ o → IsRead src i (named_or o (record { start = i + 1; end = n })) j
+named_read src i n j None r is = is_entity n j r is
+named_read src i n j (Some c) r is = is_character c j (named i n c j r is)
 
--- a reference that is read to bytes is one to a character
-pub expansion_sound : (src : List ℕ) (i : ℕ) (x : List ℕ × ℕ) → byte src i ≡ 38 → expansion_at src i ≡ Ok x → (c : ℕ) × IsCharacter src i c x.1 × (x.0 ≡ encode_utf8 c)
-unfolding expansion_at reference_at name_reference_at
-expansion_sound src i x amp h =
-    bind_ok (reference_at src i) _ _ h (λ r read h. bind_ok (expanded i r.0) _ _ h (λ bytes made h.
-    let value : bytes ≡ x.0 = ap (λ p. p.0) (ok_same _ _ h) in
-    let next : r.1 ≡ x.1 = ap (λ p. p.1) (ok_same _ _ h) in
-    chosen (eqb (byte src (i + 1)) 35) _ _ _ read
-    (λ hash read. chosen (eqb (byte src (i + 2)) 120) _ _ _ read
-    (λ hex read.
-    let m = number_sound 16 is_hex_digit src i (i + 3) r read in
-    let b = of_character i r.0 m.0 bytes m.2 made in (
-      m.0,
-      hexadecimal i (bytes_end is_hex_digit src (i + 3)) m.0 x.1 amp (eqb-true _ _ hash) (eqb-true _ _ hex)
-          (subst (λ (k : ℕ). IsNumber 16 is_hex_digit src (i + 3) (bytes_end is_hex_digit src (i + 3)) m.0 k) next m.1),
-      sym value ∙ b,
-    ))
-    (λ dec read.
-    let m = number_sound 10 is_digit src i (i + 2) r read in
-    let b = of_character i r.0 m.0 bytes m.2 made in (
-      m.0,
-      decimal i (bytes_end is_digit src (i + 2)) m.0 x.1 amp (eqb-true _ _ hash)
-          (subst (λ (k : ℕ). IsNumber 10 is_digit src (i + 2) (bytes_end is_digit src (i + 2)) m.0 k) next m.1),
-      sym value ∙ b,
-    )))
-    (λ name read. chosen (begins is_name_start src (i + 1)) _ _ _ read
-    (λ starts read. chosen (eqb (byte src (run_end is_name_char src (i + 1))) 59) _ _ _ read
-    (λ closes read.
+-- a number
+number_read : (src : List ℕ) (i c j : ℕ) (r : Reference) → r ≡ character_of c → IsCharacter src i c j → IsRead src i r j
+number_read src i c j r is stands = subst (λ (q : Reference). IsRead src i q j) (sym is) (is_character c j stands)
+
+-- a reference that is read stands there
+pub reference_sound : (src : List ℕ) (i : ℕ) (x : Reference × ℕ) → byte src i ≡ 38 → reference_at src i ≡ Ok x → IsRead src i x.0 x.1
+unfolding reference_at name_reference_at
+reference_sound src i x amp h =
+    chosen (eqb (byte src (i + 1)) 35) _ _ _ h
+    (λ hash h. chosen (eqb (byte src (i + 2)) 120) _ _ _ h
+    (λ hex h.
+    let m = number_sound 16 is_hex_digit src i (i + 3) x h in
+    number_read src i m.0 x.1 x.0 m.2 (hexadecimal i (bytes_end is_hex_digit src (i + 3)) m.0 x.1 amp (eqb-true _ _ hash) (eqb-true _ _ hex) m.1))
+    (λ dec h.
+    let m = number_sound 10 is_digit src i (i + 2) x h in
+    number_read src i m.0 x.1 x.0 m.2 (decimal i (bytes_end is_digit src (i + 2)) m.0 x.1 amp (eqb-true _ _ hash) m.1)))
+    (λ name h. chosen (begins is_name_start src (i + 1)) _ _ _ h
+    (λ starts h. chosen (eqb (byte src (run_end is_name_char src (i + 1))) 59) _ _ _ h
+    (λ closes h.
     let n = run_end is_name_char src (i + 1) in
-    let r0 : named_or (predefined (slice src (i + 1) n)) (record { start = i + 1; end = n }) ≡ r.0 = ap (λ p. p.0) (ok_same _ _ read) in
-    let r1 : n + 1 ≡ r.1 = ap (λ p. p.1) (ok_same _ _ read) in
-    let m = expanded_ok i (record { start = i + 1; end = n }) (predefined (slice src (i + 1) n)) bytes (ap (expanded i) r0 ∙ made) in
-    let ref : IsReference src i n x.1 = record { opens = amp; name = record { starts = starts; longest = refl }; closes = eqb-true _ _ closes; next = sym next ∙ sym r1 } in
-    (m.0, named i n m.0 x.1 ref m.1, sym value ∙ m.2))
-    (λ fails read. cc))
-    (λ fails read. cc))))
+    let ref : IsReference src i n (n + 1) = record { opens = amp; name = record { starts = starts; longest = refl }; closes = eqb-true _ _ closes; next = refl } in
+    subst (λ (y : Reference × ℕ). IsRead src i y.0 y.1) (ok_same _ _ h) (named_read src i n (n + 1) (predefined (slice src (i + 1) n)) ref refl))
+    (λ fails h. cc))
+    (λ fails h. cc))
 
 -- no name begins with `#`
 no_hash : is_name_start 35 ≡ false
@@ -113,7 +101,7 @@ unfolding is_name_start
 no_hash = refl
 
 -- where a name begins, no `#` stands
-name_no_hash : (src : List ℕ) (i : ℕ) → begins is_name_start src i ≡ true → byte src i ≢ 35
+pub name_no_hash : (src : List ℕ) (i : ℕ) → begins is_name_start src i ≡ true → byte src i ≢ 35
 name_no_hash src i starts hash =
     let b = begins_here is_name_start src i (within src i (λ z. omega arith)) (omega arith) in
     let f : begins is_name_start src i ≡ false = b ∙ rw hash no_hash in
@@ -123,37 +111,47 @@ name_no_hash src i starts hash =
 digit_range : (b : ℕ) → is_digit b ≡ true → (48 ≤ b) × (b ≤ 57)
 digit_range b h = let both = and_parts (leb 48 b) (leb b 57) h in (leb-true _ _ both.0, leb-true _ _ both.1)
 
+-- a name that stands there is read
+pub name_complete : (src : List ℕ) (i n j : ℕ) → IsReference src i n j → reference_at src i ≡ Ok (named_or (predefined (slice src (i + 1) n)) (record { start = i + 1; end = n }), j)
+unfolding reference_at name_reference_at
+name_complete src i n j r =
+    let starts = r.name.starts in let l = r.name.longest in
+    let t = ne_eqb (byte src (i + 1)) 35 (name_no_hash src (i + 1) starts) in
+    let closes = eq-eqb _ _ r.closes in
+    let next = r.next in
+    rw (t, starts, ← l, closes, next) refl
+
 -- a reference to a character is read
-pub expansion_complete : (src : List ℕ) (i c j : ℕ) → IsCharacter src i c j → expansion_at src i ≡ Ok (encode_utf8 c, j)
-unfolding expansion_at reference_at name_reference_at
-expansion_complete src i c j (decimal _ e _ _ amp hash m) =
+pub character_complete : (src : List ℕ) (i c j : ℕ) → IsCharacter src i c j → reference_at src i ≡ Ok (character_of c, j)
+unfolding reference_at
+character_complete src i c j (decimal _ e _ _ amp hash m) =
     let t = eq-eqb _ _ hash in
     let some = m.some in let end = m.end in
     let digit = digit_range (byte src (i + 2)) (bytes_pass is_digit src (i + 2) (i + 2) (omega arith) (omega arith)) in
     let dec = ne_eqb (byte src (i + 2)) 120 (λ z. omega arith) in
     let n = number_complete 10 is_digit src i (i + 2) e c j m in
     rw (t, dec, n) refl
-expansion_complete src i c j (hexadecimal _ e _ _ amp hash hex m) =
+character_complete src i c j (hexadecimal _ e _ _ amp hash hex m) =
     let t = eq-eqb _ _ hash in
     let x = eq-eqb _ _ hex in
     let n = number_complete 16 is_hex_digit src i (i + 3) e c j m in
     rw (t, x, n) refl
-expansion_complete src i c j (named _ n _ _ r is) =
-    let starts = r.name.starts in let l = r.name.longest in
-    let t = ne_eqb (byte src (i + 1)) 35 (name_no_hash src (i + 1) starts) in
-    let closes = eq-eqb _ _ r.closes in
-    let next = r.next in
-    rw (t, starts, ← l, closes, is, next) refl
+character_complete src i c j (named _ n _ _ r is) =
+    name_complete src i n j r ∙ ap (λ (o : Option ℕ). Ok (named_or o (record { start = i + 1; end = n }), j)) is
+
+-- and so is one to an entity
+pub entity_complete : (src : List ℕ) (i n j : ℕ) → IsReference src i n j → predefined (slice src (i + 1) n) ≡ None → reference_at src i ≡ Ok (entity_at (record { start = i + 1; end = n }), j)
+entity_complete src i n j r is = name_complete src i n j r ∙ ap (λ (o : Option ℕ). Ok (named_or o (record { start = i + 1; end = n }), j)) is
+
+-- a reference to a name begins with `&`, and has a byte
+pub reference_opens : (src : List ℕ) (i n j : ℕ) → IsReference src i n j → (byte src i ≡ 38) × (i < n) × (i < j)
+reference_opens src i n j r = let l = r.name.longest in let next = r.next in (r.opens, omega (arith, run_end_le is_name_char src (i + 1)), omega (arith, run_end_le is_name_char src (i + 1)))
 
 -- a reference begins with `&`, and has a byte
 pub character_opens : (src : List ℕ) (i c j : ℕ) → IsCharacter src i c j → (byte src i ≡ 38) × (i < j)
 character_opens src i c j (decimal _ e _ _ amp hash m) = let some = m.some in let next = m.next in (amp, omega arith)
 character_opens src i c j (hexadecimal _ e _ _ amp hash hex m) = let some = m.some in let next = m.next in (amp, omega arith)
 character_opens src i c j (named _ n _ _ r is) = let l = r.name.longest in let next = r.next in (r.opens, omega (arith, run_end_le is_name_char src (i + 1)))
-
--- `<` or a quote, which ends a run or a value
-abbrev pub IsStop : ℕ → Type 0
-IsStop b = (b ≡ 60) ⊎ ((b ≡ 39) ⊎ (b ≡ 34))
 
 -- a stop is in no name
 stop_no_name : (b : ℕ) → IsStop b → is_name_char b ≡ false
@@ -196,16 +194,9 @@ number_inside base is src d stop e c j from long closes none m =
           ])
     ]
 
--- a reference that begins before a stop ends before it
-pub character_inside : (src : List ℕ) (i stop c j : ℕ) → IsUtf8 src → i < stop → stop ≤ length src → (stop < length src → IsStop (byte src stop)) → IsCharacter src i c j → j ≤ stop
-character_inside src i stop c j utf8 from long closes (decimal _ e _ _ amp hash m) =
-    let apart : stop ≢ i + 1 = λ same. let h = rw (← same) at hash in (stop_apart _ (closes (let l = within src (i + 1) (λ z. omega arith) in omega arith))).2 h in
-    number_inside 10 is_digit src (i + 2) stop e c j (omega arith) long closes stop_no_digit m
-character_inside src i stop c j utf8 from long closes (hexadecimal _ e _ _ amp hash hex m) =
-    let apart : stop ≢ i + 1 = λ same. let h = rw (← same) at hash in (stop_apart _ (closes (let l = within src (i + 1) (λ z. omega arith) in omega arith))).2 h in
-    let apart' : stop ≢ i + 2 = λ same. let h = rw (← same) at hex in (stop_apart _ (closes (let l = within src (i + 2) (λ z. omega arith) in omega arith))).3 h in
-    number_inside 16 is_hex_digit src (i + 3) stop e c j (omega arith) long closes stop_no_hex m
-character_inside src i stop c j utf8 from long closes (named _ n _ _ r is) =
+-- a reference to a name that begins before a stop ends before it
+pub reference_inside : (src : List ℕ) (i stop n j : ℕ) → IsUtf8 src → i < stop → stop ≤ length src → (stop < length src → IsStop (byte src stop)) → IsReference src i n j → j ≤ stop
+reference_inside src i stop n j utf8 from long closes r =
     let l = r.name.longest in let next = r.next in let closes' = r.closes in let amp = r.opens in
     let inside : n < length src = within src n (λ z. omega arith) in
     let cut = IsCharBoundary-after_ascii src i utf8 (omega arith) (omega arith) in
@@ -217,3 +208,14 @@ character_inside src i stop c j utf8 from long closes (named _ n _ _ r is) =
           let same : stop ≡ n = omega arith in
           let k : byte src stop ≡ 59 = rw same closes' in (stop_apart _ s).1 k)
     ]
+
+-- a reference that begins before a stop ends before it
+pub character_inside : (src : List ℕ) (i stop c j : ℕ) → IsUtf8 src → i < stop → stop ≤ length src → (stop < length src → IsStop (byte src stop)) → IsCharacter src i c j → j ≤ stop
+character_inside src i stop c j utf8 from long closes (decimal _ e _ _ amp hash m) =
+    let apart : stop ≢ i + 1 = λ same. let h = rw (← same) at hash in (stop_apart _ (closes (let l = within src (i + 1) (λ z. omega arith) in omega arith))).2 h in
+    number_inside 10 is_digit src (i + 2) stop e c j (omega arith) long closes stop_no_digit m
+character_inside src i stop c j utf8 from long closes (hexadecimal _ e _ _ amp hash hex m) =
+    let apart : stop ≢ i + 1 = λ same. let h = rw (← same) at hash in (stop_apart _ (closes (let l = within src (i + 1) (λ z. omega arith) in omega arith))).2 h in
+    let apart' : stop ≢ i + 2 = λ same. let h = rw (← same) at hex in (stop_apart _ (closes (let l = within src (i + 2) (λ z. omega arith) in omega arith))).3 h in
+    number_inside 16 is_hex_digit src (i + 3) stop e c j (omega arith) long closes stop_no_hex m
+character_inside src i stop c j utf8 from long closes (named _ n _ _ r is) = reference_inside src i stop n j utf8 from long closes r

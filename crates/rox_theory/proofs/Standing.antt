@@ -5,23 +5,11 @@ use Rattle.std.proofs.lemmas.Bool.{cond_both}
 use Rattle.rox_grammar.specs.Forest.{Forest, Nil, Cons, join, size}
 use Rattle.rox_grammar.specs.Written.{Tag, Item, Element, Declaration, merge}
 use Rattle.rox_grammar.specs.Tree.{scope_in, listed}
-use Rattle.rox_grammar.specs.WellNamed.{IsWellNamed, ItemWellNamed, AreWellNamed}
-use Rattle.rox_grammar.specs.Document.{own_pairs, pairs, own_attributes, attribute_count, has_pair, with_new, distinct_pairs, most_attributes, most_pairs}
-use Rattle.rox_reading.specs.State.{Open, root, inside, State, scope_of, nodes_so_far, attributes_so_far, pairs_so_far}
+use Rattle.rox_grammar.specs.WellNamed.{ItemWellNamed, AreWellNamed}
+use Rattle.rox_grammar.specs.Document.{own_pairs, pairs, own_attributes, attribute_count, has_pair, with_new, distinct_pairs}
+use Rattle.rox_grammar.specs.State.{Open, root, inside, scope_of, nodes_so_far, attributes_so_far, pairs_so_far}
 use Rattle.rox_reading.proofs.Forests.{size-join, merge-item, merge-more, pairs-join, attribute_count-join, named-join, named-left, named-right}
-
--- the names of all that is read so far
-abbrev pub AreNamed : Open → Forest Item → Type 0
-AreNamed root done = AreWellNamed [] done
-AreNamed (inside start tag before up) done =
-    AreNamed up before × IsWellNamed (listed (scope_of up) tag.declarations) tag × AreWellNamed (listed (scope_of up) tag.declarations) done
-
--- a state that the limits allow, and whose names are in order
-pub record IsFine (limit : ℕ) (s : State) : Type 0 where
-  pub nodes : nodes_so_far s.stack s.done ≤ limit
-  pub attributes : attributes_so_far s.stack s.done ≤ most_attributes
-  pub pairs : length (distinct_pairs (pairs_so_far s.stack s.done)) ≤ most_pairs
-  pub named : AreNamed s.stack s.done
+pub use Rattle.rox_theory.specs.Fine.{AreNamed, IsFine}
 
 -- ---- pairs
 

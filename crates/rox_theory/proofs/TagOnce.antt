@@ -1,20 +1,20 @@
--- At most one start tag stands at a place, whatever the limits are.
+-- At most one start tag stands at a place, whatever the limits are, where as many texts may be opened.
 use Rattle.std.proofs.Common.{◌≡◌, ℕ, ◌+◌, ◌<◌, Bool, true, false, cond, List, Ok, refl, sym, ap, ◌∙◌, subst}
 use Rattle.std.specs.Str.{IsUtf8}
-use Rattle.rox_grammar.specs.Written.{Name, Attribute, declarations_of, attributes_of}
+use Rattle.rox_grammar.specs.Written.{Name, Attribute, Tag, declarations_of, attributes_of}
 use Rattle.rox_grammar.specs.Names.{spaces_end}
-use Rattle.rox_grammar.specs.Content.{IsAttribute, Attributes, no_more, one_more, TagEnds}
-use Rattle.rox_grammar.specs.Document.{no_entities}
+use Rattle.rox_grammar.specs.Content.{Opener, IsAttribute, Attributes, no_more, one_more, TagEnds, IsTag}
 use Rattle.rox_reading.specs.Markup.{RawAttribute, Turn, more, opened, closed, turn_at}
-use Rattle.rox_reading.specs.Values.{value_at}
-use Rattle.rox_reading.specs.Tags.{attribute_with}
+use Rattle.rox_reading.specs.Values.{RunText, value_at}
+use Rattle.rox_reading.specs.Tags.{Values, attribute_with}
 use Rattle.rox_reading.specs.Lexical.{qname_at}
-use Rattle.rox_theory.proofs.Steps.{ok_one, OneTag}
+use Rattle.rox_theory.specs.Openers.{AgreesValue}
+use Rattle.rox_theory.proofs.FaultBasics.{ok_one}
 use Rattle.rox_theory.proofs.NameLemmas.{qname_complete}
 use Rattle.rox_theory.proofs.AttributeLemmas.{AttributeReads, attribute_complete, more_complete, end_complete}
 
 -- the end of a tag is no attribute
-apart : (raw : RawAttribute) (x : Bool) → more raw ≡ cond x closed opened → ⊥
+pub apart : (raw : RawAttribute) (x : Bool) → more raw ≡ cond x closed opened → ⊥
 apart raw true e = cc
 apart raw false e = cc
 
@@ -32,55 +32,65 @@ raw_of raw opened = raw
 raw_of raw closed = raw
 
 -- a turn holds one attribute
-same_more : (r s : RawAttribute) → more r ≡ more s → r ≡ s
+pub same_more : (r s : RawAttribute) → more r ≡ more s → r ≡ s
 unfolding raw_of
 same_more r s e = ap (raw_of r) e
 
-module _ (src : List ℕ) (utf8 : IsUtf8 src) where
+module _ (how : Values) (O : Opener) (agrees : AgreesValue how.entities O how.opener) (src : List ℕ) (utf8 : IsUtf8 src) where
+  abbrev pub Reads : ℕ → ℕ → ℕ → ℕ → Attribute → Type 0
+  Reads i j b c a = AttributeReads how O agrees src utf8 i j b c a
+
   -- a turn of a tag that is an attribute
-  turn_is : (i j b c : ℕ) (a : Attribute) → IsAttribute true no_entities src (spaces_end src i) j b c a → (spaces : i < spaces_end src i)
-      → (r : AttributeReads src (spaces_end src i) j a) × (turn_at src i ≡ Ok (more r.0, j))
+  pub turn_is : (i j b c : ℕ) (a : Attribute) → IsAttribute how.main O src (spaces_end src i) j b c a → (spaces : i < spaces_end src i)
+      → (r : Reads (spaces_end src i) j b c a) × (turn_at src i ≡ Ok (more r.0, j))
   turn_is i j b c a is spaces =
-      let r = (attribute_complete src utf8 (spaces_end src i) j b c a is).0 in
+      let r = attribute_complete how O agrees src utf8 (spaces_end src i) j b c a is in
       (r, more_complete src i j r.0 spaces r.2)
 
   -- an attribute is read in one way
-  one_attribute : (j k : ℕ) (i : ℕ) (a e : Attribute) → (r : AttributeReads src i j a) → (s : AttributeReads src i k e) → r.0 ≡ s.0 → a ≡ e
-  one_attribute j k i a e r s same =
-      let read : value_at src r.0.value_start r.0.value_end ≡ Ok s.1 = subst (λ (raw : RawAttribute). value_at src raw.value_start raw.value_end ≡ Ok s.1) (sym same) s.3 in
-      let value : r.1 ≡ s.1 = ok_one r.1 s.1 (value_at src r.0.value_start r.0.value_end) r.3 read in
-      r.4 ∙ ap (λ (raw : RawAttribute). attribute_with raw r.1) same ∙ ap (attribute_with s.0) value ∙ sym s.4
+  pub one_attribute : (j k i b c d : ℕ) (a e : Attribute) → (r : Reads i j b c a) → (s : Reads i k b d e) → r.0 ≡ s.0 → (a ≡ e) × (c ≡ d)
+  one_attribute j k i b c d a e r s same =
+      let read : value_at how.main how.entities how.opener src r.0.value_start r.0.value_end b ≡ Ok (s.1, d) =
+      subst (λ (raw : RawAttribute). value_at how.main how.entities how.opener src raw.value_start raw.value_end b ≡ Ok (s.1, d)) (sym same) s.3 in
+      let value = ok_one (r.1, c) (s.1, d) (value_at how.main how.entities how.opener src r.0.value_start r.0.value_end b) r.3 read in (
+        r.4 ∙ ap (λ (raw : RawAttribute). attribute_with raw r.1) same ∙ ap (λ (x : RunText × ℕ). attribute_with s.0 x.0) value ∙ sym s.4,
+        ap (λ (x : RunText × ℕ). x.1) value,
+      )
 
   -- the attributes, and the end of their tag
-  one_list : (i l m j k b c d e : ℕ) (as' bs : List Attribute) (x y : Bool) → Attributes true no_entities src i l b c as' → Attributes true no_entities src i m d e bs → TagEnds src l x j → TagEnds src m y k
-      → (as' ≡ bs) × (j ≡ k) × (x ≡ y)
-  one_list i l m j k b c d e as' bs x y (no_more _ _) (no_more _ _) end end' =
+  one_list : (i l m j k b c d : ℕ) (as' bs : List Attribute) (x y : Bool) → Attributes how.main O src i l b c as' → Attributes how.main O src i m b d bs → TagEnds src l x j → TagEnds src m y k
+      → (as' ≡ bs) × (j ≡ k) × (x ≡ y) × (c ≡ d)
+  one_list i l m j k b c d as' bs x y (no_more _ _) (no_more _ _) end end' =
       let same = ok_one (cond x closed opened, j) (cond y closed opened, k) (turn_at src i) (end_complete src i x j end) (end_complete src i y k end') in
-      (refl, ap (λ (p : Turn × ℕ). p.1) same, same_end x y (ap (λ (p : Turn × ℕ). p.0) same))
-  one_list i l m j k b c d e as' bs x y (no_more _ _) (one_more _ n _ _ f _ a rest spaces is others) end end' =
-      let turn = turn_is i n d f a is spaces in
+      (refl, ap (λ (p : Turn × ℕ). p.1) same, same_end x y (ap (λ (p : Turn × ℕ). p.0) same), refl)
+  one_list i l m j k b c d as' bs x y (no_more _ _) (one_more _ n _ _ f _ a rest spaces is others) end end' =
+      let turn = turn_is i n b f a is spaces in
       let same = ok_one (more turn.0.0, n) (cond x closed opened, j) (turn_at src i) turn.1 (end_complete src i x j end) in
       absurd (apart turn.0.0 x (ap (λ (p : Turn × ℕ). p.0) same))
-  one_list i l m j k b c d e as' bs x y (one_more _ n _ _ f _ a rest spaces is others) (no_more _ _) end end' =
+  one_list i l m j k b c d as' bs x y (one_more _ n _ _ f _ a rest spaces is others) (no_more _ _) end end' =
       let turn = turn_is i n b f a is spaces in
       let same = ok_one (more turn.0.0, n) (cond y closed opened, k) (turn_at src i) turn.1 (end_complete src i y k end') in
       absurd (apart turn.0.0 y (ap (λ (p : Turn × ℕ). p.0) same))
-  one_list i l m j k b c d e as' bs x y (one_more _ n _ _ f _ a rest spaces is others) (one_more _ o _ _ g _ a' rest' spaces' is' others') end end' =
+  one_list i l m j k b c d as' bs x y (one_more _ n _ _ f _ a rest spaces is others) (one_more _ o _ _ g _ a' rest' spaces' is' others') end end' =
       let turn = turn_is i n b f a is spaces in
-      let turn' = turn_is i o d g a' is' spaces' in
+      let turn' = turn_is i o b g a' is' spaces' in
       let same = ok_one (more turn.0.0, n) (more turn'.0.0, o) (turn_at src i) turn.1 turn'.1 in
-      let one : a ≡ a' = one_attribute n o (spaces_end src i) a a' turn.0 turn'.0 (same_more turn.0.0 turn'.0.0 (ap (λ (p : Turn × ℕ). p.0) same)) in
+      let one = one_attribute n o (spaces_end src i) b f g a a' turn.0 turn'.0 (same_more turn.0.0 turn'.0.0 (ap (λ (p : Turn × ℕ). p.0) same)) in
       let at : o ≡ n = sym (ap (λ (p : Turn × ℕ). p.1) same) in
-      let next = one_list n l m j k f c g e rest rest' x y others (subst (λ (p : ℕ). Attributes true no_entities src p m g e rest') at others') end end' in
-      (rw (one, next.0) refl, next.1, next.2)
+      let others'' : Attributes how.main O src n m f d rest' = subst (λ (p : ℕ). Attributes how.main O src p m f d rest') at (subst (λ (f : ℕ). Attributes how.main O src o m f d rest') (sym one.1) others') in
+      let next = one_list n l m j k f c d rest rest' x y others others'' end end' in
+      (rw (one.0, next.0) refl, next.1, next.2, next.3)
 
-  -- a tag is read in one way
-  pub one_tag : OneTag src
-  one_tag i j k b c d e s t x y p q =
+  -- a tag is read in one way, and as many texts may be opened behind it
+  pub tag_once : (i j k b c d : ℕ) (s t : Tag) (x y : Bool) → IsTag how.main O src i j b c x s → IsTag how.main O src i k b d y t → (j ≡ k) × (c ≡ d) × (x ≡ y) × (s ≡ t)
+  tag_once i j k b c d s t x y p q =
       let named = ok_one (s.name, s.name_end) (t.name, t.name_end) (qname_at src (i + 1)) (qname_complete src (i + 1) s.name s.name_end p.is_name) (qname_complete src (i + 1) t.name t.name_end q.is_name) in
       let name : s.name ≡ t.name = ap (λ (n : Name × ℕ). n.0) named in
       let at : s.name_end ≡ t.name_end = ap (λ (n : Name × ℕ). n.1) named in
-      let list = one_list t.name_end p.last q.last j k b c d e p.written q.written x y (subst (λ (n : ℕ). Attributes true no_entities src n p.last b c p.written) at p.attributes) q.attributes p.ends q.ends in
+      let list = one_list t.name_end p.last q.last j k b c d p.written q.written x y (subst (λ (n : ℕ). Attributes how.main O src n p.last b c p.written) at p.attributes) q.attributes p.ends q.ends in
       let declarations : s.declarations ≡ t.declarations = p.declares ∙ ap declarations_of list.0 ∙ sym q.declares in
       let attributes : s.attributes ≡ t.attributes = p.has ∙ ap attributes_of list.0 ∙ sym q.has in
-      (list.1, rw (name, at, declarations, attributes) refl, list.2)
+      (list.1, list.3, list.2, rw (name, at, declarations, attributes) refl)
+
+  pub one_tag : (i j k b c d : ℕ) (s t : Tag) (x y : Bool) → IsTag how.main O src i j b c x s → IsTag how.main O src i k b d y t → (j ≡ k) × (s ≡ t) × (x ≡ y)
+  one_tag i j k b c d s t x y p q = let once = tag_once i j k b c d s t x y p q in (once.0, once.3, once.2)

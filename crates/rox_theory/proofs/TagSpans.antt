@@ -1,5 +1,5 @@
 -- Names that a start tag's faults have are texts of the source.
-use Rattle.std.proofs.Common.{◌≡◌, ℕ, zero, suc, ◌+◌, ◌<◌, Bool, true, false, cond, not, eqb, leb, ltb, List, [], ◌∷◌, ◌++◌, length, refl, ap, subst, arith}
+use Rattle.std.proofs.Common.{◌≡◌, ℕ, zero, suc, ◌+◌, Bool, true, false, cond, not, eqb, leb, ltb, List, [], ◌∷◌, ◌++◌, length, refl, ap, subst, arith}
 use Rattle.std.specs.Prelude.{Result, Ok, Err, bytes_eq, slice_index}
 use Rattle.std.specs.List.{list_any}
 use Rattle.std.specs.Str.{IsUtf8, IsCharBoundary}
@@ -10,20 +10,22 @@ use Rattle.rox_grammar.specs.Spans.{IsTextSpan, NamesText}
 use Rattle.rox_grammar.specs.Words.{word_text}
 use Rattle.rox_grammar.specs.Chars.{is_space}
 use Rattle.rox_grammar.specs.Runs.{begins}
-use Rattle.rox_grammar.specs.Written.{Name, Attribute, Declaration, Tag, declares, declaration_of, local_span, prefix_span}
+use Rattle.rox_grammar.specs.Written.{Name, Attribute, Declaration, declares, declaration_of, local_span, prefix_span}
 use Rattle.rox_grammar.specs.Tree.{xml_uri, xmlns_uri, is_declared, listed}
 use Rattle.rox_grammar.specs.WellNamed.{is_known, same_expanded, may_name}
 use Rattle.rox_grammar.specs.Document.{with_new, most_pairs, most_attributes}
 use Rattle.rox_grammar.specs.Names.{byte, spaces_end}
-use Rattle.rox_reading.specs.Lexical.{Read, ◌>>=◌, byte_at, quote_at, chars_up_to, qname_at}
+use Rattle.rox_reading.specs.Refusals.{Refusal}
+use Rattle.rox_reading.specs.Lexical.{◌>>=◌, byte_at, quote_at, chars_up_to, qname_at}
 use Rattle.rox_reading.specs.Markup.{RawAttribute, raw_value_at, attribute_at, Turn, more, opened, closed, turn_at}
 use Rattle.rox_reading.specs.Values.{RunText, value_at}
-use Rattle.rox_reading.specs.Tags.{Held, prefix_tested, default_tested, uri_tested, listable_of, declared, taken, attribute_with, after_turn, attributes_at, names_tested, tested_at, tag_tested, tag_at}
+use Rattle.rox_grammar.specs.Document.{listable_of}
+use Rattle.rox_reading.specs.Tags.{Values, Held, TagRest, TagRead, prefix_tested, default_tested, uri_tested, declared, taken, attribute_with, after_turn, attributes_at, names_tested, tested_at, tag_tested, tag_at}
 use Rattle.rox_reading.specs.Machine.{name_span}
 use Rattle.rox_theory.proofs.Basics.{ok_same, bind_ok, chosen}
 use Rattle.rox_theory.proofs.AttributeLemmas.{RawStands, turn_sound}
 use Rattle.rox_theory.proofs.LiteralLemmas.{quote_ascii, literal_closes}
-use Rattle.rox_theory.proofs.ValueSpans.{chars_spans, spanned_fault}
+use Rattle.rox_theory.proofs.ValueSpans.{chars_spans, spanned_fault, spanned_by, Told, told_bind, told_cond, told_after}
 use Rattle.rox_theory.proofs.NameSpans.{NameText, run_cut, cut_behind, qname_text, qname_spans, name_spans}
 
 -- ---- faults
@@ -110,7 +112,7 @@ pub record Named (src : List ℕ) (a : Attribute) : Type 0 where
   pub local : IsTextSpan src (local_span a.name a.name_end)
 
 -- a character begins behind an attribute that stands there
-raw_cut : (src : List ℕ) (i j : ℕ) (raw : RawAttribute) → IsUtf8 src → RawStands src i j raw → IsCharBoundary src j
+pub raw_cut : (src : List ℕ) (i j : ℕ) (raw : RawAttribute) → IsUtf8 src → RawStands src i j raw → IsCharBoundary src j
 raw_cut src i j raw utf8 r =
     let quote = quote_ascii (byte src r.v) r.literal.quote in
     let next = r.literal.next in
@@ -209,70 +211,47 @@ tested_tag_spans src scope count i name as' text all = tested_spans src scope co
 
 -- ---- a tag
 
--- the faults of a value have texts for names
-abbrev pub ValuesWell : List ℕ → Type 0
-ValuesWell src = (i stop : ℕ) (g : Fault) → value_at src i stop ≡ Err g → NamesText src g
-
--- the rest of a tag: its fault's names are texts, and so are the names of the attributes that are held then
-abbrev pub RestWell : List ℕ → Read (Held × Bool) → Type 0
-RestWell src r = FailsWell src r × ((x : (Held × Bool) × ℕ) → r ≡ Ok x → AllNamed src x.0.0.attributes)
-
--- behind a turn
-after_spans : (src : List ℕ) → IsUtf8 src → ValuesWell src → (known : List Declaration) (next : ℕ → Held → Read (Held × Bool))
-    → ((j : ℕ) (held : Held) → IsCharBoundary src j → AllNamed src held.attributes → RestWell src (next j held))
-    → (i : ℕ) (h : Held) (t : Turn) (j : ℕ) → IsCharBoundary src i → AllNamed src h.attributes → turn_at src i ≡ Ok (t, j) → RestWell src (after_turn next known src h t j)
-after_spans src utf8 values known next rest i h (more raw) j cut all turn =
-    let text = turn_named src i raw j utf8 cut turn in
-    let named : (v : RunText) → Named src (attribute_with raw v) = λ v. record { prefix = text.0; local = text.1 } in (
-      well_bind src (value_at src raw.value_start raw.value_end) _ (values raw.value_start raw.value_end) (λ v e.
-          well_bind src (taken known (attribute_with raw v) h) _ (taken_spans src known (attribute_with raw v) h (named v)) (λ held e.
-          (rest j held text.2 (taken_keeps src known (attribute_with raw v) h held (named v) all e)).0)),
-      λ x is. bind_ok (value_at src raw.value_start raw.value_end) _ _ is (λ v read is. bind_ok (taken known (attribute_with raw v) h) _ _ is (λ held e is.
-          (rest j held text.2 (taken_keeps src known (attribute_with raw v) h held (named v) all e)).1 x is)),
-    )
-after_spans src utf8 values known next rest i h opened j cut all turn =
-    (well_ok src _, λ x is. subst (λ (y : (Held × Bool) × ℕ). AllNamed src y.0.0.attributes) (ok_same _ _ is) all)
-after_spans src utf8 values known next rest i h closed j cut all turn =
-    (well_ok src _, λ x is. subst (λ (y : (Held × Bool) × ℕ). AllNamed src y.0.0.attributes) (ok_same _ _ is) all)
-
--- the attributes of a tag
-pub attributes_spans : (n : ℕ) (cut : Fault) (known : List Declaration) (src : List ℕ) → IsUtf8 src → ValuesWell src → NamesText src cut
-    → (i : ℕ) (h : Held) → IsCharBoundary src i → AllNamed src h.attributes → RestWell src (attributes_at n cut known src i h)
-unfolding attributes_at
-attributes_spans zero cut known src utf8 values text i h at all = (well_err src cut text, λ x is. cc)
-attributes_spans (suc n) cut known src utf8 values text i h at all =
-    let after : (t : Turn × ℕ) → turn_at src i ≡ Ok t → RestWell src (after_turn (λ j held. attributes_at n cut known src j held) known src h t.0 t.1) =
-    λ t turn. after_spans src utf8 values known (λ j held. attributes_at n cut known src j held) (λ j held at all. attributes_spans n cut known src utf8 values text j held at all) i h t.0 t.1 at all turn in (
-      well_if src (leb (length src) i) _ _ (well_err src cut text) (well_bind src (turn_at src i) _ (turn_well src i) (λ t turn. (after t turn).0)),
-      λ x is. chosen (leb (length src) i) _ _ _ is (λ out is. cc) (λ inside is. bind_ok (turn_at src i) _ _ is (λ t turn is. (after t turn).1 x is)),
-    )
-
 -- the name of a tag
 tag_name : (src : List ℕ) (i : ℕ) (n : Name × ℕ) → IsUtf8 src → slice_index src i ≡ 60 → qname_at src (i + 1) ≡ Ok n → NameText src (i + 1) n.0 n.1
 tag_name src i n utf8 begins h = qname_spans src (i + 1) n.0 n.1 utf8 (cut_behind src i 60 utf8 begins (omega arith) (omega arith)) h
 
--- a tag's fault
-pub tag_spans : (cut : Fault) (above : List Declaration) (count : ℕ) (known : List Declaration) (src : List ℕ) (i : ℕ) (f : Fault) → IsUtf8 src → slice_index src i ≡ 60 → i < length src
-    → NamesText src cut → ((i stop : ℕ) (g : Fault) → value_at src i stop ≡ Err g → NamesText src g) → tag_at cut above count known src i ≡ Err f → NamesText src f
-unfolding tag_at
-tag_spans cut above count known src i f utf8 begins inside text values =
-    well_bind src (qname_at src (i + 1)) _ (qname_well src (i + 1)) (λ n named.
-    let name = tag_name src i n utf8 begins named in
-    let none : Held = record { own = []; attributes = [] } in
-    let rest = attributes_spans (length src) cut known src utf8 values text n.1 none name.3 tt in
-    well_if src (bytes_eq n.0.prefix (word_text word.Xmlns)) _ _ (well_err src _ tt)
-    (well_bind src (attributes_at (length src) cut known src n.1 none) _ rest.0 (λ x e.
-    well_bind src (tag_tested (listed above x.0.0.own) count i n.0 x.0.0.attributes) _
-    (tested_tag_spans src (listed above x.0.0.own) count i n.0 x.0.0.attributes name.0 (rest.1 x e)) (λ u e. well_ok src _)))) f
+module _ (how : Values) (src : List ℕ) (utf8 : IsUtf8 src) (values : (i stop left : ℕ) → Told (RunText × ℕ) src (λ x. Unit {0}) (value_at how.main how.entities how.opener src i stop left)) where
+  -- the rest of a tag: the names of its refusal are texts, and so are the names of the attributes that are held then
+  abbrev RestTold : Result (TagRest × ℕ) Refusal → Type 0
+  RestTold r = Told (TagRest × ℕ) src (λ (x : TagRest × ℕ). AllNamed src x.0.held.attributes) r
 
--- a tag's name
-pub tag_named : (cut : Fault) (above : List Declaration) (count : ℕ) (known : List Declaration) (src : List ℕ) (i : ℕ) (tag : Tag) (empty : Bool) (j : ℕ) → IsUtf8 src → slice_index src i ≡ 60
-    → tag_at cut above count known src i ≡ Ok ((tag, empty), j) → IsTextSpan src (name_span tag.name (i + 1) tag.name_end)
-unfolding tag_at
-tag_named cut above count known src i tag empty j utf8 begins h =
-    bind_ok (qname_at src (i + 1)) _ _ h (λ n named h.
-    chosen (bytes_eq n.0.prefix (word_text word.Xmlns)) _ _ _ h (λ reserved h. cc) (λ free h.
-    bind_ok (attributes_at (length src) cut known src n.1 (record { own = []; attributes = [] })) _ _ h (λ x rest h.
-    bind_ok (tag_tested (listed above x.0.0.own) count i n.0 x.0.0.attributes) _ _ h (λ u tested h.
-    let e : ◌≡◌ {A = (Tag × Bool) × ℕ} ((record { name = n.0; name_end = n.1; declarations = x.0.0.own; attributes = x.0.0.attributes }, x.0.1), x.1) ((tag, empty), j) = ok_same _ _ h in
-    subst (λ (y : (Tag × Bool) × ℕ). IsTextSpan src (name_span y.0.0.name (i + 1) y.0.0.name_end)) e (name_spans src (i + 1) n.0 n.1 (tag_name src i n utf8 begins named))))))
+  -- behind a turn
+  after_told : (known : List Declaration) (next : ℕ → ℕ → Held → Result (TagRest × ℕ) Refusal) → ((j l : ℕ) (held : Held) → IsCharBoundary src j → AllNamed src held.attributes → RestTold (next j l held))
+      → (i left : ℕ) (h : Held) (t : Turn) (j : ℕ) → IsCharBoundary src i → AllNamed src h.attributes → turn_at src i ≡ Ok (t, j) → RestTold (after_turn next how known src left h t j)
+  after_told known next rest i left h (more raw) j cut all turn =
+      let text = turn_named src i raw j utf8 cut turn in
+      let named : (v : RunText) → Named src (attribute_with raw v) = λ v. record { prefix = text.0; local = text.1 } in
+      told_bind src (λ (x : RunText × ℕ). Unit {0}) _ (value_at how.main how.entities how.opener src raw.value_start raw.value_end left) _ (values raw.value_start raw.value_end left) (λ v read h'.
+      told_after src (λ (k : Held). AllNamed src k.attributes) _ (taken known (attribute_with raw v.0) h) _
+      (spanned_by src (λ (k : Held). AllNamed src k.attributes) (taken known (attribute_with raw v.0) h) (taken_spans src known (attribute_with raw v.0) h (named v.0)) (λ held e. taken_keeps src known (attribute_with raw v.0) h held (named v.0) all e))
+      (λ held e all'. rest j v.1 held text.2 all'))
+  after_told known next rest i left h opened j cut all turn = record { tells = all }
+  after_told known next rest i left h closed j cut all turn = record { tells = all }
+
+  -- the attributes of a tag
+  attributes_told : (n : ℕ) (cut : Fault) (known : List Declaration) → NamesText src cut → (i left : ℕ) (h : Held) → IsCharBoundary src i → AllNamed src h.attributes → RestTold (attributes_at n how cut known src i left h)
+  unfolding attributes_at
+  attributes_told zero cut known text i left h at all = record { tells = text }
+  attributes_told (suc n) cut known text i left h at all =
+      told_cond src _ (leb (length src) i) _ _ (λ out. record { tells = text }) (λ inside.
+      told_after src (λ (x : Turn × ℕ). Unit {0}) _ (turn_at src i) _ (spanned_by src (λ (x : Turn × ℕ). Unit {0}) (turn_at src i) (turn_well src i) (λ x h. tt)) (λ t turn h'.
+      after_told known (λ j l held. attributes_at n how cut known src j l held) (λ j l held at all. attributes_told n cut known text j l held at all) i left h t.0 t.1 at all turn))
+
+  -- the names of a tag's refusal are texts, and so is its own
+  pub tag_told : (cut : Fault) (above : List Declaration) (count : ℕ) (known : List Declaration) (i left : ℕ) → slice_index src i ≡ 60 → NamesText src cut
+      → Told (TagRead × ℕ) src (λ (x : TagRead × ℕ). IsTextSpan src (name_span x.0.tag.name (i + 1) x.0.tag.name_end)) (tag_at how cut above count known src i left)
+  unfolding tag_at
+  tag_told cut above count known i left begins text =
+      let none : Held = record { own = []; attributes = [] } in
+      told_after src (λ (n : Name × ℕ). Unit {0}) _ (qname_at src (i + 1)) _ (spanned_by src (λ (n : Name × ℕ). Unit {0}) (qname_at src (i + 1)) (qname_well src (i + 1)) (λ n h. tt)) (λ n named h.
+      let name = tag_name src i n utf8 begins named in
+      told_cond src _ (bytes_eq n.0.prefix (word_text word.Xmlns)) _ _ (λ reserved. record { tells = tt }) (λ free.
+      told_bind src (λ (x : TagRest × ℕ). AllNamed src x.0.held.attributes) _ (attributes_at (length src) how cut known src n.1 left none) _ (attributes_told (length src) cut known text n.1 left none name.3 tt) (λ x rest all.
+      told_after src (λ (u : Unit {0}). Unit {0}) _ (tag_tested (listed above x.0.held.own) count i n.0 x.0.held.attributes) _
+      (spanned_by src (λ (u : Unit {0}). Unit {0}) (tag_tested (listed above x.0.held.own) count i n.0 x.0.held.attributes) (tested_tag_spans src (listed above x.0.held.own) count i n.0 x.0.held.attributes name.0 all) (λ u h. tt))
+      (λ u tested h. record { tells = name_spans src (i + 1) n.0 n.1 name }))))

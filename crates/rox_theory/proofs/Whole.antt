@@ -1,72 +1,69 @@
 -- Reading a whole text is its grammar.
-use Rattle.std.proofs.Common.{◌≡◌, ℕ, ◌+◌, ◌-◌, ◌≤◌, ◌==◌, Bool, true, false, nat_lt, List, [], ◌++◌, length, Ok, Err, refl, sym, ap, ◌∙◌, subst, arith, ltb-false, le-ltb, eqb-true, eq-eqb}
+use Rattle.std.proofs.Common.{◌≡◌, ℕ, ◌+◌, ◌-◌, ◌≤◌, ◌==◌, Bool, true, false, nat_lt, List, [], ◌++◌, length, Ok, refl, sym, ap, ◌∙◌, subst, arith, ltb-false, le-ltb, eqb-true, eq-eqb}
+use Rattle.std.specs.Prelude.{Result, Err}
 use Rattle.std.specs.Str.{IsUtf8}
+use Rattle.std.proofs.lemmas.List.{append-nil}
+use Rattle.std.proofs.lemmas.Bool.{false≢true}
 use Rattle.rox_grammar.specs.declared.fault.Word.TheVariants as word
-use Rattle.rox_grammar.specs.declared.fault.Fault.{Fault}
-use Rattle.rox_grammar.specs.Forest.{Forest, Nil, Cons, join, size}
-use Rattle.rox_grammar.specs.Tree.{Node, document_tree}
-use Rattle.rox_grammar.specs.Written.{Item, Element, merge}
+use Rattle.rox_grammar.specs.Forest.{Forest, Nil, join, size}
+use Rattle.rox_grammar.specs.Written.{Item, merge}
 use Rattle.rox_grammar.specs.Names.{byte}
 use Rattle.rox_grammar.specs.Constructs.{at}
-use Rattle.rox_grammar.specs.Content.{IsMisc, comment, instruction, IsElement, empty, nest}
-use Rattle.rox_grammar.specs.Document.{no_entities, after_bom, Misc, no_misc, space, an_item, ParseOf, IsWithinLimits, IsTreeOf, pairs, distinct_pairs, most_pairs}
-use Rattle.rox_reading.specs.State.{root, State}
-use Rattle.rox_reading.specs.Machine.{tag_step, drive, misc, body, finished, prolog, reading}
-use Rattle.rox_reading.proofs.Forests.{join-nil, join_assoc, size-join, merge-more, pairs-join, attribute_count-join, named-left}
-use Rattle.rox_theory.specs.Agrees.{Agrees}
-use Rattle.rox_theory.proofs.Basics.{bind_ok, chosen}
-use Rattle.rox_theory.proofs.Constructions.{a_tag}
-use Rattle.rox_theory.proofs.Standing.{IsFine, distinct-grows}
-use Rattle.rox_theory.proofs.Steps.{OneTag, ok_one, tag_read, read_tag, by_one}
-use Rattle.rox_theory.proofs.Chains.{state, Drives, drive_sound, drive_complete, drives_back, drives_one, root_drives}
+use Rattle.rox_grammar.specs.Content.{IsElement, empty, nest}
+use Rattle.rox_grammar.specs.Start.{after_bom}
+use Rattle.rox_grammar.specs.Entities.{Entity, most_open, opens_main}
+use Rattle.rox_grammar.specs.Doctype.{Asked}
+use Rattle.rox_grammar.specs.Document.{Misc, MayHaveDoctype, ParseOf, IsWithinLimits, Permits}
+use Rattle.rox_grammar.specs.Document as document
+use Rattle.rox_grammar.specs.State.{root}
+use Rattle.rox_reading.specs.Refusals.{Refusal, here, there, refused, SpeaksOfText}
+use Rattle.rox_reading.specs.State.{State}
+use Rattle.rox_reading.specs.Machine.{tag_step, drive, main_text}
+use Rattle.rox_reading.specs.Doctype.{Reply, replies_of, AreTextReplies, Asks, Dtd}
+use Rattle.rox_reading.specs.Whole.{misc, body, finished, prolog, doctype, has_doctype, reading}
+use Rattle.rox_reading.specs.Answering.{with_refusal, Stops as StopsWith, SettledWhole}
+use Rattle.rox_reading.proofs.Answering.{replies_then}
+use Rattle.rox_reading.proofs.Forests.{join_assoc, size-join}
+use Rattle.rox_theory.specs.Openers.{AreTexts}
+use Rattle.rox_theory.specs.Fine.{IsFine, state}
+use Rattle.rox_theory.proofs.Basics.{within, ok_same, bind_ok, bind_lifted, chosen}
+use Rattle.rox_theory.proofs.Openers.{values_agree}
+use Rattle.rox_theory.proofs.Contents.{StepsAgree}
+use Rattle.rox_theory.proofs.ContentOpeners.{steps_agree, openers_agree}
+use Rattle.rox_theory.proofs.Leaves.{fine_there, fine_before}
+use Rattle.rox_theory.proofs.Steps.{after}
+use Rattle.rox_theory.proofs.StepLemmas.{tag_read, read_tag}
+use Rattle.rox_theory.proofs.Chains.{Drives, drive_sound, drive_complete, drives_back, root_drives}
 use Rattle.rox_theory.proofs.Derivations.{root_element}
-use Rattle.rox_theory.proofs.Around.{Stops, fine_at, element_stops, end_stops, ends_cut, element_ends, bom_cut, misc_sound, misc_complete, prolog_sound, prolog_complete, prolog_cut}
-
--- ---- no text stands at the top
-
--- comments and instructions in front are merged as they stand
-misc_merged : (src : List ℕ) (i j : ℕ) (items more : Forest Item) → Misc src i j items → merge more ≡ more → merge (join items more) ≡ join items more
-misc_merged src i j items more (no_misc _) h = h
-misc_merged src i j items more (space _ _ _ is rest) h = misc_merged src (i + 1) j items more rest h
-misc_merged src i j items more (an_item _ k _ item others is rest) h = item_merged item is (misc_merged src k j others more rest h)
-  where
-    -- one of them
-    item_merged : (item : Item) → IsMisc src i k item → merge (join others more) ≡ join others more → merge (Cons item Nil (join others more)) ≡ Cons item Nil (join others more)
-    item_merged item (comment _ e _ is) h = ap (Cons item Nil) h
-    item_merged item (instruction _ n e _ is) h = ap (Cons item Nil) h
-
--- so is an element
-element_merged : (src : List ℕ) (i j b c : ℕ) (one more : Forest Item) → IsElement true no_entities src i j b c one → merge more ≡ more → merge (join one more) ≡ join one more
-element_merged src i j b c one more (empty _ _ _ _ t tag) h = ap (Cons (Element i j t) Nil) h
-element_merged src i j b c one more (nest _ k m p _ _ d _ t kids tag inner end) h = ap (Cons (Element i j t) (merge kids)) h
+use Rattle.rox_theory.proofs.Tops.{tops_merged, parse_merged}
+use Rattle.rox_theory.proofs.SameReplies.{reading_same}
+use Rattle.rox_theory.proofs.Asking.{ok_lifted, nothing_ok, nothing_lifted_ok, asks_none, asking_ok}
+use Rattle.rox_theory.proofs.Around.{DoctypesAgree, element_stops, end_stops, none_agree, begins_stop, dtd_begins, ends_cut, element_ends, bom_cut, misc_sound, misc_complete, prolog_sound, prolog_complete, prolog_cut}
 
 -- an element is a node at least
-element_size : (src : List ℕ) (i j b c : ℕ) (one : Forest Item) → IsElement true no_entities src i j b c one → 1 ≤ size one
-element_size src i j b c one (empty _ _ _ _ t tag) = omega arith
-element_size src i j b c one (nest _ k m p _ _ d _ t kids tag inner end) = omega arith
+element_size : (src : List ℕ) (i j b c : ℕ) (es : List Entity) (one : Forest Item) → IsElement true (opens_main es) src i j b c one → 1 ≤ size one
+element_size src i j b c es one (empty _ _ _ _ t tag) = omega arith
+element_size src i j b c es one (nest _ k m p _ _ d _ t kids tag inner end) = omega arith
 
--- the size of a row of three
-size_three : (t a b c : Forest Item) → t ≡ join a (join b c) → size t ≡ size a + (size b + size c)
-size_three t a b c is = rw is (omega (arith, size-join a (join b c), size-join b c))
+-- the size of a row of four
+size_four : (t a b c d : Forest Item) → t ≡ join a (join b (join c d)) → size t ≡ size a + (size b + (size c + size d))
+size_four t a b c d is = rw is (omega (arith, size-join a (join b (join c d)), size-join b (join c d), size-join c d))
 
--- a document is merged as it stands
-top_merged : (src : List ℕ) (i j k l b c : ℕ) (before one after : Forest Item) → Misc src i j before → IsElement true no_entities src j k b c one → Misc src k l after
-    → merge (join before (join one after)) ≡ join before (join one after)
-top_merged src i j k l b c before one after first element last =
-    let e : merge (join after Nil) ≡ join after Nil = misc_merged src k l after Nil last refl in
-    let e' : merge after ≡ after = rw join-nil at e in
-    misc_merged src i j before (join one after) first (element_merged src j k b c one after element e')
+-- a refusal is no value
+err_not_ok : {A : Type 0} (e : Refusal) (x : A) → ◌≡◌ {A = Result A Refusal} (Err e) (Ok x) → ⊥
+err_not_ok e x h = cc h
 
-module _ (src : List ℕ) (agrees : Agrees src) where
+module _ (src : List ℕ) (utf8 : IsUtf8 src) where
   -- what is read up to the end
-  record Found (most : ℕ) (i : ℕ) (before : Forest Item) (t : Forest Item) : Type 0 where
+  record Found (most : ℕ) (es : List Entity) (i : ℕ) (before : Forest Item) (t : Forest Item) : Type 0 where
     pub end : ℕ
+    pub left : ℕ
     pub one : Forest Item
-    pub element : IsElement true no_entities src i end 255 255 one
+    pub element : IsElement true (opens_main es) src i end 255 left one
     pub after : Forest Item
     pub misc_after : Misc src end (length src) after
     pub is_tree : t ≡ join (join before one) after
-    pub fine : IsFine most (state (length src) t root)
+    pub fine : IsFine most (state (length src) t root left)
 
   -- a text that is read has come to its end
   finished_is : (v : State) (t : Forest Item) → finished src (v, true) ≡ Ok t → (length src ≤ v.at) × (v.done ≡ t)
@@ -78,151 +75,250 @@ module _ (src : List ℕ) (agrees : Agrees src) where
   unfolding finished
   unfinished v t h = chosen (nat_lt v.at (length src)) _ _ _ h (λ more h. cc) (λ all h. cc)
 
-  -- what is read from the root element on stands there
-  body_sound : (limit most i : ℕ) (before t : Forest Item) (x : State × Bool) → limit ≤ most → IsUtf8 src → IsFine most (state i before root) → body limit src (state i before root) ≡ Ok x → finished src x ≡ Ok t
-      → Found most i before t
+  -- so an element begins there
+  body_begins : (limit : ℕ) (es : List Entity) (s : State) (x : State × Bool) (t : Forest Item) → body limit es src s ≡ Ok x → finished src x ≡ Ok t → byte src s.at ≡ 60
   unfolding body
-  body_sound limit most i before t x more utf8 fine h last =
-      let s = state i before root in
+  body_begins limit es s x t h last =
+      chosen (byte src s.at == 60) _ _ _ h
+      (λ here h. eqb-true _ _ here)
+      (λ none h. let e : (s, false) ≡ x = ok_same _ _ h in absurd (unfinished s t (rw (← e) at last)))
+
+  -- a step of the main text is a construct
+  steps : (limit : ℕ) (es : List Entity) → AreTexts es → StepsAgree (main_text limit es) (opens_main es) src
+  steps limit es texts = steps_agree (main_text limit es) (opens_main es) (values_agree es texts most_open true) (openers_agree limit es texts most_open true) src utf8
+
+  -- what is read from the root element on stands there
+  body_sound : (limit most : ℕ) (es : List Entity) (i : ℕ) (before t : Forest Item) (x : State × Bool) → limit ≤ most → AreTexts es → IsFine most (state i before root 255)
+      → body limit es src (state i before root 255) ≡ Ok x → finished src x ≡ Ok t → Found most es i before t
+  unfolding body
+  body_sound limit most es i before t x more texts fine h last =
+      let s = state i before root 255 in
+      let how = main_text limit es in
+      let agree = steps limit es texts in
       chosen (byte src i == 60) _ _ _ h
-      (λ here h. bind_ok (tag_step limit src s) _ _ h (λ v read h. bind_ok (drive limit (length src) src v) _ _ h (λ u driven h. bind_ok (misc limit (length src) src u) _ _ h (λ w rest h.
-      let tag = tag_read src agrees limit most s v more (eqb-true _ _ here) fine read in
-      let chain = drive_sound src agrees (length src) limit most v u more tag.1 driven in
-      let element = root_element src agrees i before v u tag.0 chain.0 in
-      let e : (w, true) ≡ x = cc in
+      (λ here h. bind_ok (tag_step how src s) _ _ h (λ v read h. bind_ok (drive how (length src) src v) _ _ h (λ u driven h. bind_lifted (misc limit (length src) src u) _ _ h (λ w rest h.
+      let tag = tag_read how (opens_main es) (values_agree es texts most_open true) (openers_agree limit es texts most_open true) src utf8 most s v more (eqb-true _ _ here) fine read in
+      let chain = drive_sound limit es src agree (length src) most v u more tag.1 driven in
+      let begun = tag.0 in
+      let chain' : Drives (opens_main es) src (after s begun.0 begun.2 begun.3 begun.1) u = subst (λ (v : State). Drives (opens_main es) src v u) begun.5 chain.0 in
+      let element = root_element (opens_main es) src i begun.0 255 begun.1 before begun.2 begun.3 u begun.4 chain' in
+      let e : (w, true) ≡ x = ok_same _ _ h in
       let done = finished_is w t (rw (← e) at last) in
       let u_is = element.2 in
-      let cut = ends_cut src u.at utf8 (element_ends src i u.at 255 255 element.0 element.1) in
-      let behind = misc_sound src agrees (length src) limit most u.at (join before element.0) w more utf8 cut (subst (IsFine most) u_is chain.1) (subst (λ (u : State). misc limit (length src) src u ≡ Ok w) u_is rest) in
-      let at_end : w.at ≡ length src = let far = behind.4 in let near = done.0 in omega arith in
+      let cut = ends_cut src u.at utf8 (element_ends true (opens_main es) src i u.at 255 u.left element.0 element.1) in
+      let behind = misc_sound src utf8 (length src) limit most u.left u.at (join before element.0) w more cut (subst (IsFine most) u_is chain.1) (subst (λ (u : State). misc limit (length src) src u ≡ Ok w) u_is rest) in
+      let at_end : w.at ≡ length src = let far = behind.4.0 in let near = done.0 in omega arith in
       let tree : t ≡ join (join before element.0) behind.0 = sym done.1 ∙ ap (λ (s : State). s.done) behind.2 in
-      let all : IsFine most (state w.at (join (join before element.0) behind.0) root) = subst (IsFine most) behind.2 behind.3 in
+      let all : IsFine most (state w.at (join (join before element.0) behind.0) root u.left) = subst (IsFine most) behind.2 behind.3 in
       record {
         end = u.at;
+        left = u.left;
         one = element.0;
         element = element.1;
         after = behind.0;
         misc_after = subst (λ (k : ℕ). Misc src u.at k behind.0) at_end behind.1;
         is_tree = tree;
-        fine = fine_at most w.at (length src) t root (subst (λ (f : Forest Item). IsFine most (state w.at f root)) (sym tree) all);
+        fine = fine_there most (state w.at (join (join before element.0) behind.0) root u.left) (state (length src) t root u.left) (sym tree) refl all;
       }))))
-      (λ none h. let e : (s, false) ≡ x = cc in absurd (unfinished s t (rw (← e) at last)))
+      (λ none h. let e : (s, false) ≡ x = ok_same _ _ h in absurd (unfinished s t (rw (← e) at last)))
 
-  -- what is read is a parse within the limits
-  pub read_is_parse : (limit : ℕ) (t : Forest Item) → IsUtf8 src → reading limit src ≡ Ok t → ParseOf src t × IsWithinLimits limit t
-  unfolding reading
-  read_is_parse limit t utf8 h =
-      let most = limit + (1 - limit) in
-      bind_ok (prolog src (after_bom src)) _ _ h (λ i declared h. bind_ok (misc limit (length src) src (state i Nil root)) _ _ h (λ s first h.
-      chosen (at word.DoctypeStart src s.at) _ _ _ h (λ here h. cc) (λ none h. bind_ok (body limit src s) _ _ h (λ x main last.
-      let may = prolog_sound src agrees (after_bom src) i declared in
-      let cut = prolog_cut src agrees (after_bom src) i utf8 (bom_cut src utf8) may in
-      let start : IsFine most (state i Nil root) = record { nodes = omega arith; attributes = omega arith; pairs = omega arith; named = tt } in
-      let ahead = misc_sound src agrees (length src) limit most i Nil s (omega arith) utf8 cut start first in
-      let s_is : s ≡ state s.at ahead.0 root = ahead.2 in
-      let found = body_sound limit most s.at ahead.0 t x (omega arith) utf8 (subst (IsFine most) s_is ahead.3) (subst (λ (s : State). body limit src s ≡ Ok x) s_is main) last in
-      let tree : t ≡ join ahead.0 (join found.one found.after) = found.is_tree ∙ join_assoc ahead.0 found.one found.after in
-      let merged : merge t ≡ t = rw tree (top_merged src i s.at found.end (length src) 255 255 ahead.0 found.one found.after ahead.1 found.element found.misc_after) in
-      let sizes : size t ≡ size ahead.0 + (size found.one + size found.after) = size_three t ahead.0 found.one found.after tree in
-      let some = element_size src s.at found.end 255 255 found.one found.element in
-      let counted : 1 + size t ≤ most = subst (λ (f : Forest Item). 1 + size f ≤ most) merged found.fine.nodes in (
-        record {
-          declared_to = i;
-          declaration = may;
-          start = s.at;
-          before = ahead.0;
-          misc_before = ahead.1;
-          end = found.end;
-          left = 255;
-          one = found.one;
-          element = found.element;
-          after = found.after;
-          misc_after = found.misc_after;
-          is_tree = tree;
-          well_named = found.fine.named;
-        },
-        record { nodes = omega arith; attributes = found.fine.attributes; namespaces = found.fine.pairs },
-      )))))
-
-  -- what the limits allow of a whole they allow of its front
-  fine_front : (limit i j : ℕ) (front back : Forest Item) → IsFine limit (state j (join front back) root) → IsFine limit (state i front root)
-  fine_front limit i j front back fine =
-      let all : length (distinct_pairs (pairs front ++ pairs back)) ≤ most_pairs = rw pairs-join at fine.pairs in
-      record {
-        nodes = omega (arith, fine.nodes, merge-more front back);
-        attributes = omega (arith, fine.attributes, attribute_count-join front back);
-        pairs = omega (arith, distinct-grows (pairs front) (pairs back));
-        named = named-left [] front back fine.named;
-      }
+  module _ (allow : Bool) (doctypes : DoctypesAgree src allow) where
+    -- what is read is a parse within the limits, with a document type declaration only where one may stand
+    pub read_is_parse : (limit : ℕ) (replies : List Reply) (asked : List Asked) (t : Forest Item) → AreTextReplies replies → reading limit allow replies src ≡ (asked, Ok t)
+        → (dtd : Bool) × ParseOf src dtd asked t × IsWithinLimits limit t × Permits allow dtd
+    unfolding reading
+    read_is_parse limit replies asked t texts h =
+        let most = limit + (1 - limit) in
+        let start_dtd : State → Dtd = λ s. record { state = s; entities = []; replies = replies } in
+        nothing_lifted_ok (prolog src (after_bom src)) _ _ _ h (λ i declared h.
+        nothing_lifted_ok (misc limit (length src) src (state i Nil root 255)) _ _ _ h (λ s first h.
+        asking_ok (doctype limit allow src (start_dtd s)) _ asked t (λ d. asks_none (body limit d.entities src d.state) _ (λ x. refl)) h (λ d declares h.
+        nothing_ok (body limit d.entities src d.state) _ _ _ h (λ x main last.
+        let may = prolog_sound src utf8 (after_bom src) i declared in
+        let cut = prolog_cut src utf8 (after_bom src) i (bom_cut src utf8) may in
+        let start : IsFine most (state i Nil root 255) = record { nodes = omega arith; attributes = omega arith; pairs = omega arith; named = tt } in
+        let ahead = misc_sound src utf8 (length src) limit most 255 i Nil s (omega arith) cut start first in
+        let s_is : s ≡ state s.at ahead.0 root 255 = ahead.2 in
+        let begins = body_begins limit d.entities d.state x t main (ok_lifted (finished src x) [] t last) in
+        let dtd = doctypes.sound limit most s.at ahead.0 replies asked d (omega arith) texts (subst (IsFine most) s_is ahead.3)
+        (subst (λ (s : State). doctype limit allow src (start_dtd s) ≡ (asked, Ok d)) s_is declares) (within src d.state.at (λ z. omega arith)) in
+        let d_is : d.state ≡ state d.state.at (join ahead.0 dtd.1) root 255 = dtd.4 in
+        let found = body_sound limit most d.entities d.state.at (join ahead.0 dtd.1) t x (omega arith) (doctypes.texts s.at d.state.at dtd.0 dtd.1 asked d.entities dtd.2 dtd.3) (subst (IsFine most) d_is dtd.5)
+        (subst (λ (s : State). body limit d.entities src s ≡ Ok x) d_is main) (ok_lifted (finished src x) [] t last) in
+        let tree : t ≡ join ahead.0 (join dtd.1 (join found.one found.after)) = found.is_tree ∙ ap (λ (f : Forest Item). join f found.after) (join_assoc ahead.0 dtd.1 found.one)
+        ∙ join_assoc ahead.0 (join dtd.1 found.one) found.after ∙ ap (join ahead.0) (join_assoc dtd.1 found.one found.after) in
+        let merged : merge t ≡ t = ap merge tree
+        ∙ tops_merged true (opens_main d.entities) src i s.at d.state.at found.end (length src) 255 found.left dtd.0 ahead.0 dtd.1 found.one found.after asked d.entities ahead.1 dtd.2 found.element found.misc_after ∙ sym tree in
+        let sizes : size t ≡ size ahead.0 + (size dtd.1 + (size found.one + size found.after)) = size_four t ahead.0 dtd.1 found.one found.after tree in
+        let some = element_size src d.state.at found.end 255 found.left d.entities found.one found.element in
+        let counted : 1 + size t ≤ most = subst (λ (f : Forest Item). 1 + size f ≤ most) merged found.fine.nodes in (
+          dtd.0,
+          record {
+            declared_to = i;
+            declaration = may;
+            begun = s.at;
+            before = ahead.0;
+            misc_before = ahead.1;
+            start = d.state.at;
+            nodes = dtd.1;
+            entities = d.entities;
+            doctype = dtd.2;
+            end = found.end;
+            left = found.left;
+            one = found.one;
+            element = found.element;
+            after = found.after;
+            misc_after = found.misc_after;
+            is_tree = tree;
+            well_named = found.fine.named;
+          },
+          record { nodes = omega arith; attributes = found.fine.attributes; namespaces = found.fine.pairs },
+          dtd.3,
+        )))))
 
   -- at the end the text is read
-  finishes : (done : Forest Item) → finished src (state (length src) done root, true) ≡ Ok done
+  finishes : (done : Forest Item) (left : ℕ) → finished src (state (length src) done root left, true) ≡ Ok done
   unfolding finished
-  finishes done = rw (le-ltb (length src) (length src) (omega arith)) refl
+  finishes done left = rw (le-ltb (length src) (length src) (omega arith)) refl
 
   -- what stands there from the root element on is read
-  body_complete : (limit i j b c : ℕ) (before one after : Forest Item) → IsElement true no_entities src i j b c one → Misc src j (length src) after → IsFine limit (state (length src) (join (join before one) after) root)
-      → body limit src (state i before root) ≡ Ok (state (length src) (join (join before one) after) root, true)
+  body_complete : (limit : ℕ) (es : List Entity) (i j c : ℕ) (before one behind : Forest Item) → AreTexts es → IsElement true (opens_main es) src i j 255 c one → Misc src j (length src) behind
+      → IsFine limit (state (length src) (join (join before one) behind) root c)
+      → body limit es src (state i before root 255) ≡ Ok (state (length src) (join (join before one) behind) root c, true)
   unfolding body
-  body_complete limit i j b c before one after element last fine =
-      let chain = root_drives src agrees i j b c one before element in
-      let there = fine_front limit j (length src) (join before one) after fine in
-      let next = drives_back src agrees limit chain.0 (state j (join before one) root) chain.2 there in
-      let read = read_tag src agrees limit (state i before root) chain.0 chain.1 next in
-      let driven = drive_complete src agrees (length src) limit chain.0 (state j (join before one) root) chain.2 there (omega arith) in
-      let rest = misc_complete src agrees (length src) limit j (length src) after (join before one) last (end_stops src) (omega (arith, fine.nodes)) (omega arith) in
-      rw (eq-eqb _ _ (element_stops src i j b c one element).0, read, driven, rest) refl
+  body_complete limit es i j c before one behind texts element last fine =
+      let how = main_text limit es in
+      let agree = steps limit es texts in
+      let s = state i before root 255 in
+      let u = state j (join before one) root c in
+      let chain = root_drives (opens_main es) src i j 255 c one before element in
+      let there : IsFine limit u = fine_before limit j (length src) c c (join before one) behind root fine in
+      let next = drives_back limit es src agree (after s chain.0 chain.2 chain.3 chain.1) u chain.5 there in
+      let read = read_tag how (opens_main es) (values_agree es texts most_open true) (openers_agree limit es texts most_open true) src utf8 s chain.0 chain.1 chain.2 chain.3 chain.4 next in
+      let driven = drive_complete limit es src agree (length src) (after s chain.0 chain.2 chain.3 chain.1) u chain.5 there (omega arith) in
+      let rest = misc_complete src utf8 (length src) limit c j (length src) behind (join before one) last (end_stops src) (omega (arith, fine.nodes)) (omega arith) in
+      rw (eq-eqb _ _ (element_stops true (opens_main es) src i j 255 c one element).0, read, driven, rest) refl
 
-  -- a parse within the limits is read
-  pub parse_is_read : (limit : ℕ) (t : Forest Item) → ParseOf src t → IsWithinLimits limit t → reading limit src ≡ Ok t
-  unfolding reading
-  parse_is_read limit t p within =
-      let tree : t ≡ join (join p.before p.one) p.after = p.is_tree ∙ sym (join_assoc p.before p.one p.after) in
-      let merged : merge t ≡ t = rw p.is_tree (top_merged src p.declared_to p.start p.end (length src) 255 p.left p.before p.one p.after p.misc_before p.element p.misc_after) in
+  -- what the limits allow of a parse they allow where its text has been read
+  parse_fine : (limit : ℕ) (dtd : Bool) (asked : List Asked) (t : Forest Item) (p : ParseOf src dtd asked t) → IsWithinLimits limit t
+      → IsFine limit (state (length src) (join (join (join p.before p.nodes) p.one) p.after) root p.left) × (t ≡ join (join (join p.before p.nodes) p.one) p.after)
+  parse_fine limit dtd asked t p within =
+      let tree : t ≡ join (join (join p.before p.nodes) p.one) p.after =
+      p.is_tree ∙ ap (join p.before) (sym (join_assoc p.nodes p.one p.after)) ∙ sym (join_assoc p.before (join p.nodes p.one) p.after) ∙ ap (λ (f : Forest Item). join f p.after) (sym (join_assoc p.before p.nodes p.one)) in
+      let merged = parse_merged src dtd asked t p in
       let counted : 1 + size (merge t) ≤ limit = rw merged (omega (arith, within.nodes)) in
-      let whole : IsFine limit (state (length src) t root) = record { nodes = counted; attributes = within.attributes; pairs = within.namespaces; named = p.well_named } in
-      let fine : IsFine limit (state (length src) (join (join p.before p.one) p.after) root) = subst (λ (f : Forest Item). IsFine limit (state (length src) f root)) tree whole in
-      let front = fine_front limit p.start p.end p.before p.one (fine_front limit p.end (length src) (join p.before p.one) p.after fine) in
-      let declared = prolog_complete src agrees (after_bom src) p.declared_to p.declaration in
-      let stops = element_stops src p.start p.end 255 p.left p.one p.element in
-      let first = misc_complete src agrees (length src) limit p.declared_to p.start p.before Nil p.misc_before stops.2 (omega (arith, front.nodes)) (omega arith) in
-      let main = body_complete limit p.start p.end 255 p.left p.before p.one p.after p.element p.misc_after fine in
-      rw (declared, first, stops.1, main, finishes (join (join p.before p.one) p.after)) (ap Ok (sym tree))
+      let whole : IsFine limit (state (length src) t root p.left) = record { nodes = counted; attributes = within.attributes; pairs = within.namespaces; named = p.well_named } in
+      (subst (λ (f : Forest Item). IsFine limit (state (length src) f root p.left)) tree whole, tree)
 
-  -- comments and instructions up to a stop are read in one way
-  one_misc : (h i j k : ℕ) (xs ys : Forest Item) → h ≡ i → Misc src h j xs → Stops src j → Misc src i k ys → Stops src k → (j ≡ k) × (xs ≡ ys)
-  one_misc h i j k xs ys same m stops n stops' =
-      let limit = (size (merge xs) + 1) + (size (merge ys) + 1) in
-      let m' : Misc src i j xs = subst (λ (i : ℕ). Misc src i j xs) same m in
-      let x = misc_complete src agrees (length src) limit i j xs Nil m' stops (omega arith) (omega arith) in
-      let y = misc_complete src agrees (length src) limit i k ys Nil n stops' (omega arith) (omega arith) in
-      let e = ok_one (state j xs root) (state k ys root) _ x y in
-      (ap (λ (s : State). s.at) e, ap (λ (s : State). s.done) e)
+  -- what comes before a document type declaration is read, and one begins behind it, if there is one
+  before_read : (limit : ℕ) (dtd : Bool) (asked : List Asked) (t : Forest Item) (p : ParseOf src dtd asked t) → IsWithinLimits limit t
+      → (prolog src (after_bom src) ≡ Ok p.declared_to) × (misc limit (length src) src (state p.declared_to Nil root 255) ≡ Ok (state p.begun p.before root 255)) × (at word.DoctypeStart src p.begun ≡ dtd)
+  before_read limit dtd asked t p within =
+      let stops = element_stops true (opens_main p.entities) src p.start p.end 255 p.left p.one p.element in
+      let fine = (parse_fine limit dtd asked t p within).0 in
+      let behind = fine_before limit p.end (length src) p.left p.left (join (join p.before p.nodes) p.one) p.after root fine in
+      let element = fine_before limit p.start p.end 255 p.left (join p.before p.nodes) p.one root behind in
+      let front = fine_before limit p.begun p.start 255 255 p.before p.nodes root element in (
+        prolog_complete src utf8 (after_bom src) p.declared_to p.declaration,
+        misc_complete src utf8 (length src) limit 255 p.declared_to p.begun p.before Nil p.misc_before (begins_stop src p.begun p.start dtd p.nodes asked p.entities p.doctype stops.2)
+            (omega (arith, front.nodes)) (omega arith),
+        dtd_begins src p.begun p.start dtd p.nodes asked p.entities p.doctype stops.1,
+      )
 
-  -- an element is read in one way
-  one_element : OneTag src → (h i j k b c d e : ℕ) (xs ys : Forest Item) → h ≡ i → IsElement true no_entities src h j b c xs → IsElement true no_entities src i k d e ys → (j ≡ k) × (xs ≡ ys)
-  one_element one h i j k b c d e xs ys same x y =
-      let x' : IsElement true no_entities src i j b c xs = subst (λ (i : ℕ). IsElement true no_entities src i j b c xs) same x in
-      let first = root_drives src agrees i j b c xs Nil x' in
-      let second = root_drives src agrees i k d e ys Nil y in
-      let t : second.0 ≡ first.0 = by_one src agrees one a_tag (state i Nil root) second.0 first.0 second.1 first.1 in
-      let u = drives_one src agrees one first.0 (state j xs root) (state k ys root) first.2 (subst (λ (t : State). Drives src t (state k ys root)) t second.2) in
-      (ap (λ (s : State). s.at) u, ap (λ (s : State). s.done) u)
+  -- whether there is a document type declaration is seen
+  pub doctype_seen : (limit : ℕ) (dtd : Bool) (asked : List Asked) (t : Forest Item) → ParseOf src dtd asked t → IsWithinLimits limit t → has_doctype limit src ≡ dtd
+  unfolding has_doctype
+  doctype_seen limit dtd asked t p within =
+      let b = before_read limit dtd asked t p within in
+      rw (b.0, b.1) b.2
 
-  -- a text has at most one parse
-  pub one_parse : OneTag src → (s t : Forest Item) → ParseOf src s → ParseOf src t → s ≡ t
-  one_parse one s t p q =
-      let declared = ok_one p.declared_to q.declared_to (prolog src (after_bom src)) (prolog_complete src agrees (after_bom src) p.declared_to p.declaration) (prolog_complete src agrees (after_bom src) q.declared_to q.declaration) in
-      let before = one_misc p.declared_to q.declared_to p.start q.start p.before q.before declared p.misc_before (element_stops src p.start p.end 255 p.left p.one p.element).2
-      q.misc_before (element_stops src q.start q.end 255 q.left q.one q.element).2 in
-      let element = one_element one p.start q.start p.end q.end 255 p.left 255 q.left p.one q.one before.0 p.element q.element in
-      let after = one_misc p.end q.end (length src) (length src) p.after q.after element.0 p.misc_after (end_stops src) q.misc_after (end_stops src) in
-      p.is_tree ∙ rw (before.1, element.1, after.1) refl ∙ sym q.is_tree
+  module _ (allow : Bool) (doctypes : DoctypesAgree src allow) where
+    -- the entities of a parse are text
+    pub parse_texts : (dtd : Bool) (asked : List Asked) (t : Forest Item) (p : ParseOf src dtd asked t) → Permits allow dtd → AreTexts p.entities
+    parse_texts dtd asked t p permits = doctypes.texts p.begun p.start dtd p.nodes asked p.entities p.doctype permits
 
-  -- a text that is refused has no parse within the limits
-  pub refused_has_none : (limit : ℕ) (f : Fault) (t : Forest Item) → reading limit src ≡ Err f → ParseOf src t → IsWithinLimits limit t → ⊥
-  refused_has_none limit f t h p within = let read = parse_is_read limit t p within in cc (sym h ∙ read)
+    -- a parse within the limits is read, with any replies behind the answers
+    pub parse_is_read : (limit : ℕ) (dtd : Bool) (asked : List Asked) (more : List Reply) (t : Forest Item) → ParseOf src dtd asked t → IsWithinLimits limit t → Permits allow dtd
+        → reading limit allow (replies_of asked ++ more) src ≡ (asked, Ok t)
+    unfolding reading
+    parse_is_read limit dtd asked more t p within permits =
+        let b = before_read limit dtd asked t p within in
+        let f = parse_fine limit dtd asked t p within in
+        let fine = f.0 in
+        let stops = element_stops true (opens_main p.entities) src p.start p.end 255 p.left p.one p.element in
+        let behind = fine_before limit p.end (length src) p.left p.left (join (join p.before p.nodes) p.one) p.after root fine in
+        let element = fine_before limit p.start p.end 255 p.left (join p.before p.nodes) p.one root behind in
+        let declared = doctypes.complete limit p.begun p.start dtd p.before p.nodes asked p.entities more p.doctype stops.2 stops.1 permits element in
+        let main = body_complete limit p.entities p.start p.end p.left (join p.before p.nodes) p.one p.after (parse_texts dtd asked t p permits) p.element p.misc_after fine in
+        let done = finishes (join (join (join p.before p.nodes) p.one) p.after) p.left in
+        let e : asked ++ [] ≡ asked = append-nil asked in
+        rw (b.0, b.1, declared, main, done, e) (ap (λ (f : Forest Item). (asked, Ok f)) (sym f.1))
 
-  -- and its readers see one tree
-  pub one_tree : OneTag src → (limit most : ℕ) (s t : Forest Node) → IsTreeOf src limit s → IsTreeOf src most t → s ≡ t
-  one_tree one limit most s t p q = p.shown ∙ ap (document_tree (length src)) (one_parse one p.written q.written p.parse q.parse) ∙ sym q.shown
+    -- what is read is a parse with the document type declaration that is seen
+    pub seen_parse : (limit : ℕ) (replies : List Reply) (asked : List Asked) (t : Forest Item) → AreTextReplies replies → reading limit allow replies src ≡ (asked, Ok t)
+        → ParseOf src (has_doctype limit src) asked t × IsWithinLimits limit t × Permits allow (has_doctype limit src)
+    seen_parse limit replies asked t texts h =
+        let r = read_is_parse allow doctypes limit replies asked t texts h in
+        let seen = sym (doctype_seen limit r.0 asked t r.1 r.2) in
+        (subst (λ (dtd : Bool). ParseOf src dtd asked t) seen r.1, r.2, subst (Permits allow) seen r.3)
+
+    -- within the limits there is one parse at most for the same answers
+    pub one_within : (limit most : ℕ) (d e : Bool) (asked : List Asked) (t u : Forest Item) → ParseOf src d asked t → ParseOf src e asked u → IsWithinLimits limit t → IsWithinLimits most u
+        → Permits allow d → Permits allow e → (d ≡ e) × (t ≡ u)
+    one_within limit most d e asked t u p q within within' permits permits' =
+        let all = limit + most in
+        let x : IsWithinLimits all t = record { nodes = omega (arith, within.nodes); attributes = within.attributes; namespaces = within.namespaces } in
+        let y : IsWithinLimits all u = record { nodes = omega (arith, within'.nodes); attributes = within'.attributes; namespaces = within'.namespaces } in
+        let same = sym (parse_is_read all d asked [] t p x permits) ∙ parse_is_read all e asked [] u q y permits' in
+        (sym (doctype_seen all d asked t p x) ∙ doctype_seen all e asked u q y, ok_same t u (ap (λ (x : Asks (Forest Item)). x.1) same))
+
+    -- a text that is refused has no parse within the limits whose answers begin with those that were given
+    pub refused_has_none : (limit : ℕ) (replies : List Reply) (asked later : List Asked) (e : Refusal) (dtd : Bool) (t : Forest Item) → reading limit allow replies src ≡ (asked, Err e) → SpeaksOfText e
+        → ParseOf src dtd (asked ++ later) t → IsWithinLimits limit t → Permits allow dtd → ⊥
+    refused_has_none limit replies asked later e dtd t h of_text p within permits =
+        let stops : StopsWith (λ rs. reading limit allow rs src) asked e = subst (SettledWhole (λ rs. reading limit allow rs src)) h (reading_same limit allow src replies) in
+        let read = parse_is_read limit dtd (asked ++ later) [] t p within permits in
+        let same = ap (λ (rs : List Reply). reading limit allow rs src) (replies_then asked later []) in
+        clash e of_text (stops (replies_of later ++ [])) (sym same ∙ read)
+      where
+        clash : (e : Refusal) → SpeaksOfText e → reading limit allow (replies_of asked ++ with_refusal e (replies_of later ++ [])) src ≡ (asked, Err e)
+            → reading limit allow (replies_of asked ++ (replies_of later ++ [])) src ≡ (asked ++ later, Ok t) → ⊥
+        clash (here f) of_text h k = err_not_ok (here f) t (ap (λ (x : Asks (Forest Item)). x.1) (sym h ∙ k))
+        clash (there source f) of_text h k = err_not_ok (there source f) t (ap (λ (x : Asks (Forest Item)). x.1) (sym h ∙ k))
+        clash (refused request at message) of_text h k = absurd of_text
+
+    -- the answers of a parse are all that its reading takes
+    pub all_is_read : (limit : ℕ) (dtd : Bool) (asked : List Asked) (t : Forest Item) → ParseOf src dtd asked t → IsWithinLimits limit t → Permits allow dtd
+        → reading limit allow (replies_of asked) src ≡ (asked, Ok t)
+    all_is_read limit dtd asked t p within permits =
+        ap (λ (rs : List Reply). reading limit allow rs src) (sym (append-nil (replies_of asked))) ∙ parse_is_read limit dtd asked [] t p within permits
+
+  -- ---- without a document type declaration
+
+  -- nothing is asked
+  pub asks_nothing_there : (asked : List Asked) (t : Forest Item) → ParseOf src false asked t → asked ≡ []
+  asks_nothing_there asked t p = none p.begun p.start p.nodes asked p.entities false refl p.doctype
+    where
+      none : (i j : ℕ) (nodes : Forest Item) (asked : List Asked) (es : List Entity) (dtd : Bool) → dtd ≡ false → MayHaveDoctype src i j dtd nodes asked es → asked ≡ []
+      none i j nodes asked es dtd is (document.doctype _ k _ own more _ _ one rest) = absurd (false≢true (sym is))
+      none i j nodes asked es dtd is (document.no_doctype _) = refl
+
+  -- what is read where none may stand is a parse
+  pub plain_parse : (limit : ℕ) (asked : List Asked) (t : Forest Item) → reading limit false [] src ≡ (asked, Ok t) → (asked ≡ []) × ParseOf src false [] t × IsWithinLimits limit t
+  plain_parse limit asked t h = from_parse (read_is_parse false (none_agree src) limit [] asked t tt h)
+    where
+      from_parse : (dtd : Bool) × ParseOf src dtd asked t × IsWithinLimits limit t × Permits false dtd → (asked ≡ []) × ParseOf src false [] t × IsWithinLimits limit t
+      from_parse (true, p, within, permits) = absurd (false≢true (permits refl))
+      from_parse (false, p, within, permits) = let none = asks_nothing_there asked t p in (none, subst (λ (a : List Asked). ParseOf src false a t) none p, within)
+
+  -- and such a parse within the limits is read
+  pub plain_read : (limit : ℕ) (asked : List Asked) (t : Forest Item) → ParseOf src false asked t → IsWithinLimits limit t → reading limit false [] src ≡ ([], Ok t)
+  plain_read limit asked t p within =
+      let p' : ParseOf src false [] t = subst (λ (a : List Asked). ParseOf src false a t) (asks_nothing_there asked t p) p in
+      parse_is_read false (none_agree src) limit false [] [] t p' within (λ no. absurd (false≢true no))
+
+  -- a text that is refused has none
+  pub plain_refused : (limit : ℕ) (asked asked' : List Asked) (e : Refusal) (t : Forest Item) → reading limit false [] src ≡ (asked, Err e) → ParseOf src false asked' t → IsWithinLimits limit t → ⊥
+  plain_refused limit asked asked' e t h p within =
+      let read = plain_read limit asked' t p within in
+      err_not_ok e t (ap (λ (x : Asks (Forest Item)). x.1) (sym h ∙ read))

@@ -1,1 +1,5 @@
-pub mod Agrees
+pub mod Fine
+pub mod Openers
+pub mod Without
+pub mod CharItems
+pub mod Apart

@@ -1,6 +1,9 @@
-//! Reading from left to right is the grammar: what is read is a parse, and each parse is read. So a text has at most one
-//! parse, and a fault says that it has none.
+//! What reading from left to right has to do with the written grammar.
 #![tactic(auto)]
 
+pub mod doctype;
 pub mod document;
+pub mod expansion;
+pub mod faults;
+pub mod items;
 pub mod laws;

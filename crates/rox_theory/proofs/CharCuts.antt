@@ -1,0 +1,175 @@
+-- Where stretches of Chars are joined and cut, and the Chars of references.
+use Rattle.std.proofs.Common.{◌≡◌, ℕ, zero, suc, ◌+◌, ◌-◌, ◌<◌, ◌≤◌, ◌==◌, Bool, true, ◌||◌, ◌&&◌, leb, ltb, List, [], ◌∷◌, ◌++◌, length, take, drop, refl, sym, ap, ◌∙◌, subst, arith, inl, inr, ◌⊎◌, length-append}
+use Rattle.std.specs.Char.{encode_utf8}
+use Rattle.std.specs.List.{list_all, list_any}
+use Rattle.std.specs.Str.{chars, IsUtf8, IsCharBoundary}
+use Rattle.std.proofs.Math.Utf8.{encodes}
+use Rattle.std.proofs.Math.Seq.{take-append-add}
+use Rattle.std.proofs.lemmas.Bool.{and_parts, and_from, and_left, and_right, or_cases, or_right, leb-true, ltb-true, le-leb, lt-leb, not_from_false}
+use Rattle.std.proofs.lemmas.Bool.Decides.{nat_tests}
+use Rattle.std.proofs.lemmas.List.{drop-take}
+use Rattle.std.proofs.lemmas.List.Folds.{drop_split}
+use Rattle.std.proofs.lemmas.Str.{encodes-chars, length-encode}
+use Rattle.rox_grammar.specs.Chars.{is_between, is_char, name_start_ranges, name_more_ranges, is_name_start, is_name_char}
+use Rattle.rox_grammar.specs.Runs.{run_end, passing}
+use Rattle.rox_grammar.specs.Names.{byte, slice}
+use Rattle.rox_grammar.specs.Constructs.{AreChars}
+use Rattle.rox_grammar.specs.References.{is_digit, is_hex_digit, IsNumber, IsReference, IsCharacter, decimal, hexadecimal, named}
+use Rattle.rox_theory.proofs.Basics.{within}
+use Rattle.rox_theory.proofs.NameLemmas.{slice_nil}
+use Rattle.rox_theory.proofs.StretchLemmas.{slice_length, slice_cons}
+use Rattle.rox_theory.proofs.ReferenceLemmas.{bytes_pass, reference_opens}
+use Rattle.rox_theory.proofs.CharTexts.{IsCharText, no_text, texts_joined, byte_text, chars_between, chars_within, cut_behind, run_of_chars}
+
+-- if each passes, as many bytes pass as there are
+all_passing : (p : ℕ → Bool) (cs : List ℕ) → list_all p cs ≡ true → passing p cs ≡ length (encodes cs)
+all_passing p [] h = refl
+all_passing p (c ∷ cs) h =
+    let both = and_parts (p c) (list_all p cs) h in
+    let here = both.0 in
+    rw here (omega (arith, length-append (encode_utf8 c) (encodes cs), length-encode c, all_passing p cs both.1))
+
+-- a stretch that is a text of Chars
+pub text_chars : (src : List ℕ) (i j : ℕ) → i ≤ j → j ≤ length src → IsCharText (slice src i j) → AreChars src i j
+unfolding run_end
+text_chars src i j le inside text =
+    let e : i + (j - i) ≡ j = omega arith in
+    let front : drop i (take j src) ≡ slice src i j = ap (λ (m : ℕ). drop i (take m src)) (sym e) ∙ drop-take i (j - i) src in
+    let long = slice_length src i j le inside in
+    let all = all_passing is_char (chars (slice src i j)) text.all in
+    let spelled = ap length (encodes-chars (slice src i j) text.utf8) in
+    rw front (omega arith)
+
+-- a slice in two parts
+pub slice_parts : (src : List ℕ) (a b c : ℕ) → a ≤ b → b ≤ c → c ≤ length src → slice src a c ≡ slice src a b ++ slice src b c
+slice_parts src a b c le le' inside =
+    let long = slice_length src a b le (omega arith) in
+    let e : c - a ≡ length (slice src a b) + (c - b) = omega arith in
+    ap (take (c - a)) (drop_split src a b le) ∙ ap (λ (n : ℕ). take n (slice src a b ++ drop b src)) e ∙ take-append-add (slice src a b) (drop b src) (c - b)
+
+-- two stretches in a row are one
+pub stretches_joined : (src : List ℕ) (i j k : ℕ) → i ≤ j → j ≤ k → k ≤ length src → IsCharText (slice src i j) → IsCharText (slice src j k) → IsCharText (slice src i k)
+stretches_joined src i j k le le' inside a b = subst (λ (v : List ℕ). IsCharText v) (sym (slice_parts src i j k le le' inside)) (texts_joined (slice src i j) (slice src j k) a b)
+
+pub chars_joined : (src : List ℕ) (i j k : ℕ) → IsUtf8 src → IsCharBoundary src i → IsCharBoundary src j → IsCharBoundary src k → i ≤ j → j ≤ k → AreChars src i j → AreChars src j k → AreChars src i k
+chars_joined src i j k utf8 a b c le le' f g =
+    text_chars src i k (omega arith) c.0 (stretches_joined src i j k le le' c.0 (chars_between src i j utf8 a b f) (chars_between src j k utf8 b c g))
+
+-- and of one that is longer
+pub chars_part : (src : List ℕ) (from to i j : ℕ) → IsUtf8 src → IsCharBoundary src from → IsCharBoundary src to → AreChars src from to
+    → from ≤ i → i ≤ j → j ≤ to → IsCharBoundary src i → IsCharBoundary src j → AreChars src i j
+chars_part src from to i j utf8 first last are le le' le'' a b = text_chars src i j le' b.0 (chars_within src from to i j utf8 first last are le le' le'' a b)
+
+-- one byte
+pub byte_chars : (src : List ℕ) (i : ℕ) → i < length src → byte src i < 128 → is_char (byte src i) ≡ true → IsCharText (slice src i (i + 1))
+byte_chars src i here low allowed =
+    let e : slice src i (i + 1) ≡ byte src i ∷ [] = slice_cons src i (i + 1) (omega arith) (omega arith) ∙ ap (λ (r : List ℕ). byte src i ∷ r) (slice_nil src (i + 1)) in
+    subst (λ (v : List ℕ). IsCharText v) (sym e) (byte_text (byte src i) low allowed)
+
+-- some bytes, each of them ASCII
+pub bytes_chars : (src : List ℕ) (d i j : ℕ) → i + d ≡ j → j ≤ length src → ((k : ℕ) → i ≤ k → k < j → (byte src k < 128) × (is_char (byte src k) ≡ true)) → IsCharText (slice src i j)
+bytes_chars src zero i j to inside each = let e : j ≡ i = omega arith in rw (e, slice_nil src i) no_text
+bytes_chars src (suc d) i j to inside each =
+    let here = each i (omega arith) (omega arith) in
+    stretches_joined src i (i + 1) j (omega arith) (omega arith) inside (byte_chars src i (omega arith) here.0 here.1) (bytes_chars src d (i + 1) j (omega arith) inside (λ k from below. each k (omega arith) below))
+
+-- ---- single characters
+
+-- from 32 on all but two numbers are Chars
+allowed : (c : ℕ) → 32 ≤ c → (c < 0xFFFE) ⊎ (0xFFFF < c) → is_char c ≡ true
+allowed c some (inl low) = or_right ((c == 9 || c == 10) || c == 13) _ (and_from (leb 32 c) _ (le-leb 32 c some) (not_from_false _ (and_left (leb 0xFFFE c) (leb c 0xFFFF) (lt-leb 0xFFFE c low))))
+allowed c some (inr high) = or_right ((c == 9 || c == 10) || c == 13) _ (and_from (leb 32 c) _ (le-leb 32 c some) (not_from_false _ (and_right (leb 0xFFFE c) (leb c 0xFFFF) (lt-leb c 0xFFFF high))))
+
+-- a range of such numbers
+fine_range : ℕ × ℕ → Bool
+fine_range r = leb 32 r.0 && (ltb r.1 0xFFFE || ltb 0xFFFF r.0)
+
+-- what is in one of them is a Char
+in_ranges : (c : ℕ) (rs : List (ℕ × ℕ)) → list_all fine_range rs ≡ true → list_any (λ r. is_between r.0 r.1 c) rs ≡ true → is_char c ≡ true
+unfolding fine_range
+in_ranges c [] all h = cc h
+in_ranges c (r ∷ rs) all h =
+    let both = and_parts (leb 32 r.0 && (ltb r.1 0xFFFE || ltb 0xFFFF r.0)) (list_all fine_range rs) all in
+    let fine = and_parts (leb 32 r.0) (ltb r.1 0xFFFE || ltb 0xFFFF r.0) both.0 in
+    let from = leb-true 32 r.0 fine.0 in
+    elim (or_cases (is_between r.0 r.1 c) (list_any (λ r. is_between r.0 r.1 c) rs) h) as (λ s. is_char c ≡ true) [
+      | inl here ↦ (
+          let ends = and_parts (leb r.0 c) (leb c r.1) here in
+          let low = leb-true r.0 c ends.0 in
+          let high = leb-true c r.1 ends.1 in
+          elim (or_cases (ltb r.1 0xFFFE) (ltb 0xFFFF r.0) fine.1) as (λ s. is_char c ≡ true) [
+            | inl below ↦ allowed c (omega arith) (inl (let b = ltb-true r.1 0xFFFE below in omega arith))
+            | inr above ↦ allowed c (omega arith) (inr (let a = ltb-true 0xFFFF r.0 above in omega arith))
+          ])
+      | inr later ↦ in_ranges c rs both.1 later
+    ]
+
+-- each character of a name is a Char
+pub name_char : (c : ℕ) → is_name_char c ≡ true → is_char c ≡ true
+unfolding is_name_char is_name_start fine_range
+name_char c h = elim (or_cases (is_name_start c) (list_any (λ r. is_between r.0 r.1 c) name_more_ranges) h) as (λ s. is_char c ≡ true) [
+  | inl first ↦ in_ranges c name_start_ranges refl first
+  | inr more ↦ in_ranges c name_more_ranges refl more
+]
+
+-- ---- references
+
+-- an ASCII character but the first 32 is a Char
+pub printable : (b : ℕ) → 32 ≤ b → b < 128 → is_char b ≡ true
+printable b some low = allowed b some (inl (omega arith))
+
+hex_range : (b : ℕ) → is_hex_digit b ≡ true → (32 ≤ b) × (b < 128)
+hex_range b h = grind (arith, nat_tests)
+
+digit_range : (b : ℕ) → is_digit b ≡ true → (32 ≤ b) × (b < 128)
+digit_range b h = grind (arith, nat_tests)
+
+-- a byte of known value
+known : (src : List ℕ) (i b : ℕ) → byte src i ≡ b → 32 ≤ b → b < 128 → IsCharText (slice src i (i + 1)) × (i < length src)
+known src i b is some low =
+    let here = within src i (λ z. omega arith) in
+    (byte_chars src i here (omega arith) (printable (byte src i) (omega arith) (omega arith)), here)
+
+-- digits and `;`
+number_text : (base : ℕ) (is : ℕ → Bool) (src : List ℕ) (d e c j : ℕ) → ((b : ℕ) → is b ≡ true → (32 ≤ b) × (b < 128)) → IsNumber base is src d e c j → IsCharText (slice src d j) × (d ≤ j) × (j ≤ length src)
+number_text base is src d e c j fine m =
+    let end = m.end in let some = m.some in let next = m.next in
+    let last = known src e 59 m.closes (omega arith) (omega arith) in
+    let digits = bytes_chars src (e - d) d e (omega arith) (omega (arith, last.1)) (λ k from below. let r = fine (byte src k) (bytes_pass is src d k from (omega arith)) in (r.1, printable (byte src k) r.0 r.1)) in
+    (rw next (stretches_joined src d e (e + 1) (omega arith) (omega arith) (omega (arith, last.1)) digits last.0), omega arith, omega (arith, last.1))
+
+-- one to a name
+pub reference_text : (src : List ℕ) (i n j : ℕ) → IsUtf8 src → IsReference src i n j → IsCharText (slice src i j) × IsCharBoundary src j
+reference_text src i n j utf8 r =
+    let next = r.next in let l = r.name.longest in
+    let first = known src i 38 r.opens (omega arith) (omega arith) in
+    let last = known src n 59 r.closes (omega arith) (omega arith) in
+    let cut = cut_behind src i 38 (i + 1) utf8 r.opens (omega arith) (omega arith) refl in
+    let name : IsCharText (slice src (i + 1) n) = rw l (run_of_chars is_name_char src (i + 1) utf8 cut name_char) in
+    let le = (reference_opens src i n j r).1 in
+    let front = stretches_joined src i (i + 1) n (omega arith) (omega arith) (omega (arith, last.1)) first.0 name in
+    (rw next (stretches_joined src i n (n + 1) (omega arith) (omega arith) (omega (arith, last.1)) front last.0), cut_behind src n 59 j utf8 r.closes (omega arith) (omega arith) next)
+
+-- one to a character
+pub character_text : (src : List ℕ) (i c j : ℕ) → IsUtf8 src → IsCharacter src i c j → IsCharText (slice src i j) × IsCharBoundary src j
+character_text src i c j utf8 (decimal _ e _ _ amp hash m) =
+    let first = known src i 38 amp (omega arith) (omega arith) in
+    let second = known src (i + 1) 35 hash (omega arith) (omega arith) in
+    let two : i + 1 + 1 ≡ i + 2 = omega arith in
+    let second' : IsCharText (slice src (i + 1) (i + 2)) = subst (λ (k : ℕ). IsCharText (slice src (i + 1) k)) two second.0 in
+    let rest = number_text 10 is_digit src (i + 2) e c j digit_range m in
+    let front = stretches_joined src i (i + 1) (i + 2) (omega arith) (omega arith) (omega (arith, second.1)) first.0 second' in
+    (stretches_joined src i (i + 2) j (omega arith) rest.1 rest.2 front rest.0, cut_behind src e 59 j utf8 m.closes (omega arith) (omega arith) m.next)
+character_text src i c j utf8 (hexadecimal _ e _ _ amp hash hex m) =
+    let first = known src i 38 amp (omega arith) (omega arith) in
+    let second = known src (i + 1) 35 hash (omega arith) (omega arith) in
+    let third = known src (i + 2) 120 hex (omega arith) (omega arith) in
+    let two : i + 1 + 1 ≡ i + 2 = omega arith in
+    let three : i + 2 + 1 ≡ i + 3 = omega arith in
+    let second' : IsCharText (slice src (i + 1) (i + 2)) = subst (λ (k : ℕ). IsCharText (slice src (i + 1) k)) two second.0 in
+    let third' : IsCharText (slice src (i + 2) (i + 3)) = subst (λ (k : ℕ). IsCharText (slice src (i + 2) k)) three third.0 in
+    let rest = number_text 16 is_hex_digit src (i + 3) e c j hex_range m in
+    let front = stretches_joined src i (i + 1) (i + 2) (omega arith) (omega arith) (omega (arith, second.1)) first.0 second' in
+    let front' = stretches_joined src i (i + 2) (i + 3) (omega arith) (omega arith) (omega (arith, third.1)) front third' in
+    (stretches_joined src i (i + 3) j (omega arith) rest.1 rest.2 front' rest.0, cut_behind src e 59 j utf8 m.closes (omega arith) (omega arith) m.next)
+character_text src i c j utf8 (named _ n _ _ r is) = reference_text src i n j utf8 r

@@ -1,0 +1,248 @@
+-- All that a parse holds are texts of Chars, also what its entities give.
+use Rattle.std.proofs.Common.{◌≡◌, ℕ, zero, suc, ◌+◌, ◌==◌, Bool, true, false, not, List, [], ◌∷◌, ◌++◌, length, filter, refl, sym, ap, ◌∙◌, subst, arith, inl, inr}
+use Rattle.std.specs.Prelude.{Option, Some, None, All, IfSome, bytes_eq}
+use Rattle.std.specs.Str.{IsUtf8, IsCharBoundary}
+use Rattle.std.proofs.lemmas.Bool.{eqb-true, cases_lt, cond_both}
+use Rattle.std.proofs.lemmas.List.Elements.{All-nil, All-cons, All-map, All-filter, All-weaker}
+use Rattle.std.proofs.lemmas.Str.{IsCharBoundary-end}
+use Rattle.rox_grammar.specs.declared.fault.Word.TheVariants as word
+use Rattle.rox_grammar.specs.declared.fault.Word.TheVariants.{Xmlns}
+use Rattle.rox_grammar.specs.Words.{word_text}
+use Rattle.rox_grammar.specs.Marks.{byte_from}
+use Rattle.rox_grammar.specs.Chars.{is_space, is_name_char, is_part_char}
+use Rattle.rox_grammar.specs.CharText.{IsCharText, DeclarationChars}
+use Rattle.rox_grammar.specs.Forest.{Forest, Nil, Cons, join}
+use Rattle.rox_grammar.specs.Written.{Name, Attribute, Declaration, Tag, Item, Element, Text, Comment, PI, declares, declaration_of, declarations_of, attributes_of, glue, merge}
+use Rattle.rox_grammar.specs.Tree.{none_if_empty}
+use Rattle.rox_grammar.specs.Names.{byte, slice, spaces_end, IsNCName, IsQName, unprefixed, prefixed, colon_first}
+use Rattle.rox_grammar.specs.Constructs.{IsComment, IsPI, IsCData}
+use Rattle.rox_grammar.specs.Content.{Opener, Sign, IsAttribute, Attributes, no_more, one_more, TagEnds, opened, closed, IsTag, IsMisc, comment, instruction, IsElement, empty, nest, Content, ends, run, cdata, misc, node, line_ends, literals}
+use Rattle.rox_grammar.specs.Entities.{Entity, Opens, opens_main, most_open}
+use Rattle.rox_grammar.specs.Doctype.{Asked, Subset, no_more as no_item, space as subset_space, an_item as subset_item, passed_over, an_entity as an_entity_declared, IsDoctype, no_subset, with_subset}
+use Rattle.rox_grammar.specs.Document.{Misc, no_misc, space, an_item, MayHaveDoctype, doctype, no_doctype, ParseOf}
+use Rattle.rox_theory.specs.Openers.{AreTexts}
+use Rattle.rox_theory.specs.CharItems.{WrittenChars, TagChars, ItemChars, ItemsChars}
+use Rattle.rox_theory.proofs.LiteralLemmas.{from_bound, from_here, quote_ascii, literal_closes}
+use Rattle.rox_theory.proofs.DeclarationLemmas.{stands_reads}
+use Rattle.rox_theory.proofs.Around.{ends_cut, element_ends}
+use Rattle.rox_theory.proofs.CharTexts.{texts_joined, cut_at, cut_behind, chars_between, run_cut, run_of_chars}
+use Rattle.rox_theory.proofs.CharCuts.{name_char}
+use Rattle.rox_theory.proofs.CharSigns.{part_char, no_signs, text_front, items_joined, OpensChars, value_chars, parts_items}
+use Rattle.rox_theory.proofs.DoctypeAgreement.{texts_agree}
+
+-- ---- names
+
+-- a part of a name is a text of Chars, and a character begins behind it
+name_part : (src : List ℕ) (i j : ℕ) → IsUtf8 src → IsCharBoundary src i → IsNCName src i j → IsCharText (slice src i j) × IsCharBoundary src j
+name_part src i j utf8 cut n =
+    subst (λ (m : ℕ). IsCharText (slice src i m) × IsCharBoundary src m) (sym n.longest) (run_of_chars is_part_char src i utf8 cut part_char, run_cut is_part_char src i utf8 cut)
+
+-- behind a colon too
+part_behind : (src : List ℕ) (k j : ℕ) → IsUtf8 src → byte src k ≡ 58 → IsNCName src (k + 1) j → IsCharText (slice src (k + 1) j) × IsCharBoundary src j
+part_behind src k j utf8 colon n = name_part src (k + 1) j utf8 (cut_behind src k 58 (k + 1) utf8 colon (omega arith) (omega arith) refl) n
+
+-- so is a local name
+local_name : (src : List ℕ) (i : ℕ) (name : Name) (j : ℕ) → IsUtf8 src → IsCharBoundary src i → IsQName src i name j → IsCharText name.local × IsCharBoundary src j
+local_name src i name j utf8 cut (unprefixed _ _ n last) = name_part src i j utf8 cut n
+local_name src i name j utf8 cut (prefixed _ k _ n colon m last) = part_behind src k j utf8 colon m
+local_name src i name j utf8 cut (colon_first _ _ colon m last) = part_behind src i j utf8 colon m
+
+-- a declaration is an attribute as written
+declared_text : (a : Attribute) → WrittenChars a → DeclarationChars (declaration_of a)
+declared_text a h =
+    record {
+      prefix = cond_both (bytes_eq a.name.prefix (word_text Xmlns)) (Some a.name.local) None (λ (o : Option (List ℕ)). IfSome o IsCharText) (λ is. h.local) (λ none. tt);
+      uri = h.value;
+    }
+
+-- ---- items
+
+-- with a text in front
+items_glued : (a e : ℕ) (v : List ℕ) (b : Bool) (c f : Forest Item) → IsCharText v → ItemsChars c → ItemsChars f → ItemsChars (glue a e v b c f)
+items_glued a e v b c Nil one below h = (one, below, tt)
+items_glued a e v b c (Cons (Text x y w p) d r) one below h = (texts_joined v w one h.0, items_joined c d below h.1, h.2)
+items_glued a e v b c (Cons (Element x y t) d r) one below h = (one, below, h)
+items_glued a e v b c (Cons (Comment x y t) d r) one below h = (one, below, h)
+items_glued a e v b c (Cons (PI x y t o) d r) one below h = (one, below, h)
+
+-- with its texts merged
+items_merged : (f : Forest Item) → ItemsChars f → ItemsChars (merge f)
+items_merged Nil h = tt
+items_merged (Cons (Text a e v b) c r) h = items_glued a e v b c (merge r) h.0 h.1 (items_merged r h.2)
+items_merged (Cons (Element a e t) c r) h = (h.0, h.1, items_merged r h.2)
+items_merged (Cons (Comment a e t) c r) h = (h.0, h.1, items_merged r h.2)
+items_merged (Cons (PI a e t o) c r) h = (h.0, h.1, items_merged r h.2)
+
+-- ---- what stands in one place
+
+-- where a run stops, a character begins
+stop_cut : (src : List ℕ) (i : ℕ) → IsCharBoundary src i → IsCharBoundary src (byte_from (λ c. c == 60) src i)
+stop_cut src i cut =
+    let stop = byte_from (λ c. c == 60) src i in
+    let bound = from_bound (λ c. c == 60) src i cut.0 in
+    elim (cases_lt stop (length src)) as (λ s. IsCharBoundary src stop) [
+      | inl l ↦ cut_at src stop 60 (eqb-true _ _ (from_here (λ c. c == 60) src i l)) (omega arith) (omega arith)
+      | inr g ↦ (let e : length src ≡ stop = omega arith in subst (λ (m : ℕ). IsCharBoundary src m) e (IsCharBoundary-end src))
+    ]
+
+-- the text of a comment
+comment_text : (src : List ℕ) (i e j : ℕ) → IsUtf8 src → IsComment src i e j → IsCharText (slice src (i + 4) e)
+comment_text src i e j utf8 is =
+    let first = cut_behind src (i + 3) 45 (i + 4) utf8 (stands_reads (word_text word.CommentStart) src i 3 is.opens (omega arith)) (omega arith) (omega arith) (omega arith) in
+    let z : e + 0 ≡ e = omega arith in
+    let last = cut_at src e 45 (sym (ap (byte src) z) ∙ stands_reads (word_text word.CommentEnd) src e 0 is.closes (omega arith)) (omega arith) (omega arith) in
+    chars_between src (i + 4) e utf8 first last is.chars
+
+sign_nil : (ss : List Sign) → ss ++ [] ≡ ss
+sign_nil [] = refl
+sign_nil (s ∷ ss) = ap (λ (r : List Sign). s ∷ r) (sign_nil ss)
+
+-- that of a CDATA section
+section_text : (src : List ℕ) (i e j : ℕ) → IsUtf8 src → IsCData src i e j → IsCharText (line_ends (literals (slice src (i + 9) e)))
+section_text src i e j utf8 is =
+    let first = cut_behind src (i + 8) 91 (i + 9) utf8 (stands_reads (word_text word.CDataStart) src i 8 is.opens (omega arith)) (omega arith) (omega arith) (omega arith) in
+    let z : e + 0 ≡ e = omega arith in
+    let last = cut_at src e 93 (sym (ap (byte src) z) ∙ stands_reads (word_text word.CDataEnd) src e 0 is.closes (omega arith)) (omega arith) (omega arith) in
+    subst (λ (ss : List Sign). IsCharText (line_ends ss)) (sign_nil (literals (slice src (i + 9) e)))
+    (text_front false (slice src (i + 9) e) [] (chars_between src (i + 9) e utf8 first last is.chars) no_signs false)
+
+-- if it has a character
+if_some : (v : List ℕ) → IsCharText v → IfSome (none_if_empty v) IsCharText
+if_some [] h = tt
+if_some (b ∷ bs) h = h
+
+-- the target and the value of a processing instruction
+instruction_text : (src : List ℕ) (i n e j : ℕ) → IsUtf8 src → IsPI src i n e j → IsCharText (slice src (i + 2) n) × IfSome (none_if_empty (slice src (spaces_end src n) e)) IsCharText
+instruction_text src i n e j utf8 is =
+    let first = cut_behind src (i + 1) 63 (i + 2) utf8 (stands_reads (word_text word.PIStart) src i 1 is.opens (omega arith)) (omega arith) (omega arith) (omega arith) in
+    let z : e + 0 ≡ e = omega arith in
+    let last = cut_at src e 63 (sym (ap (byte src) z) ∙ stands_reads (word_text word.PIEnd) src e 0 is.closes (omega arith)) (omega arith) (omega arith) in
+    let (target, behind) = subst (λ (m : ℕ). IsCharText (slice src (i + 2) m) × IsCharBoundary src m) (sym is.target.longest)
+    (run_of_chars is_name_char src (i + 2) utf8 first name_char, run_cut is_name_char src (i + 2) utf8 first) in
+    (target, if_some _ (chars_between src (spaces_end src n) e utf8 (run_cut is_space src n utf8 behind) last is.chars))
+
+-- comments and processing instructions
+misc_item : (src : List ℕ) (i j : ℕ) (item : Item) → IsUtf8 src → IsMisc src i j item → ItemChars item
+misc_item src i j item utf8 (comment _ e _ is) = comment_text src i e j utf8 is
+misc_item src i j item utf8 (instruction _ n e _ is) = instruction_text src i n e j utf8 is
+
+-- a character begins behind a comment and an instruction
+misc_cut : (src : List ℕ) (i j : ℕ) (item : Item) → IsUtf8 src → IsMisc src i j item → IsCharBoundary src j
+misc_cut src i j item utf8 (comment _ e _ is) =
+    cut_behind src (e + 2) 62 j utf8 (stands_reads (word_text word.CommentEnd) src e 2 is.closes (omega arith)) (omega arith) (omega arith) (omega (arith, is.next))
+misc_cut src i j item utf8 (instruction _ n e _ is) =
+    cut_behind src (e + 1) 62 j utf8 (stands_reads (word_text word.PIEnd) src e 1 is.closes (omega arith)) (omega arith) (omega arith) (omega (arith, is.next))
+
+-- and behind a tag
+tag_cut : (src : List ℕ) (i j : ℕ) (is_empty : Bool) → IsUtf8 src → TagEnds src i is_empty j → IsCharBoundary src j
+tag_cut src i j is_empty utf8 (opened _ close) = cut_behind src (spaces_end src i) 62 j utf8 close (omega arith) (omega arith) refl
+tag_cut src i j is_empty utf8 (closed _ slash close) = cut_behind src (spaces_end src i + 1) 62 j utf8 close (omega arith) (omega arith) (omega arith)
+
+-- ---- tags, elements and content, over what is opened
+
+module _ (main : Bool) (O : Opener) (opens : OpensChars O) (src : List ℕ) (utf8 : IsUtf8 src) where
+  -- an attribute that stands behind a place where a character begins ends at another one
+  attribute_text : (i j b c : ℕ) (a : Attribute) → IsCharBoundary src i → IsAttribute main O src i j b c a → WrittenChars a × IsCharBoundary src j
+  attribute_text i j b c a cut h =
+      let v = h.v in
+      let stop = h.e in
+      let low = quote_ascii (byte src v) h.literal.quote in
+      let same = literal_closes src v stop j h.literal in
+      let first = cut_behind src v (byte src v) (v + 1) utf8 refl low.0 (omega arith) refl in
+      let last = cut_at src stop (byte src v) same low.0 (omega arith) in (
+        record { local = (local_name src i a.name a.name_end utf8 cut h.is_name).0; value = value_chars src utf8 (v + 1) stop first last h.literal.chars main O opens b c a.value h.value },
+        cut_behind src stop (byte src v) j utf8 same low.0 (omega arith) h.literal.next,
+      )
+
+  -- attributes in a row
+  attributes_text : (i j b c : ℕ) (as' : List Attribute) → IsCharBoundary src i → Attributes main O src i j b c as' → All WrittenChars as'
+  attributes_text i j b c as' cut (no_more _ _) = All-nil WrittenChars
+  attributes_text i j b c as' cut (one_more _ k _ _ d _ a rest some is more) =
+      let one = attribute_text (spaces_end src i) k b d a (run_cut is_space src i utf8 cut) is in
+      All-cons WrittenChars a rest one.0 (attributes_text k j d c rest one.1 more)
+
+  -- the tag that stands there
+  tag_text : (i j b c : ℕ) (is_empty : Bool) (t : Tag) → IsTag main O src i j b c is_empty t → TagChars t
+  tag_text i j b c is_empty t tag =
+      let cut = cut_behind src i 60 (i + 1) utf8 tag.begins (omega arith) (omega arith) refl in
+      let name = local_name src (i + 1) t.name t.name_end utf8 cut tag.is_name in
+      let all = attributes_text t.name_end tag.last b c tag.written name.1 tag.attributes in
+      let declaring = filter (λ (a : Attribute). declares a.name) tag.written in
+      let declared : All DeclarationChars (declarations_of tag.written) =
+      All-map DeclarationChars declaration_of declaring (All-weaker WrittenChars (λ (a : Attribute). DeclarationChars (declaration_of a)) declared_text declaring (All-filter (λ (a : Attribute). declares a.name) WrittenChars tag.written all)) in
+      let others : All WrittenChars (attributes_of tag.written) = All-filter (λ (a : Attribute). not (declares a.name)) WrittenChars tag.written all in
+      record {
+        local = name.0;
+        declarations = subst (λ (ds : List Declaration). All DeclarationChars ds) (sym tag.declares) declared;
+        attributes = subst (λ (as' : List Attribute). All WrittenChars as') (sym tag.has) others;
+      }
+
+  mutual
+    -- content, from where a character begins
+    pub content_items : (i j b c : ℕ) (items : Forest Item) → IsCharBoundary src i → Content main O src i j b c items → ItemsChars items
+    content_items i j b c items cut (ends _ _) = tt
+    content_items i j b c items cut (run _ k _ _ d _ front more is parts inner) =
+        let next = subst (λ (m : ℕ). IsCharBoundary src m) (sym is.end) (stop_cut src i cut) in
+        items_joined front more (parts_items src utf8 i k cut next is.chars main O opens i i b d front parts (omega arith) cut) (content_items k j d c more next inner)
+    content_items i j b c items cut (cdata _ e k _ _ _ more is inner) =
+        let next = cut_behind src (e + 2) 62 k utf8 (stands_reads (word_text word.CDataEnd) src e 2 is.closes (omega arith)) (omega arith) (omega arith) (omega (arith, is.next)) in
+        (section_text src i e k utf8 is, tt, content_items k j b c more next inner)
+    content_items i j b c items cut (misc _ k _ _ _ item more is inner) =
+        (misc_item src i k item utf8 is, tt, content_items k j b c more (misc_cut src i k item utf8 is) inner)
+    content_items i j b c items cut (node _ k _ _ d _ one more is inner) =
+        items_joined one more (element_items i k b d one is) (content_items k j d c more (ends_cut src k utf8 (element_ends main O src i k b d one is)) inner)
+
+    -- an element
+    pub element_items : (i j b c : ℕ) (one : Forest Item) → IsElement main O src i j b c one → ItemsChars one
+    element_items i j b c one (empty _ _ _ _ t tag) = (tag_text i j b c true t tag, tt, tt)
+    element_items i j b c one (nest _ k m p _ _ d _ t kids tag inner end) =
+        (tag_text i k b d false t tag, items_merged kids (content_items k m d c kids (tag_cut src tag.last k false utf8 tag.ends) inner), tt)
+
+-- ---- what references open, by the number of texts that may still be open
+
+pub opens_chars : (es : List Entity) → AreTexts es → (d : ℕ) (main : Bool) → OpensChars (Opens es d main)
+opens_chars es texts zero main = record { content = λ name b items c h. absurd h; value = λ name b v c h. absurd h }
+opens_chars es texts (suc d) main =
+    let inner = opens_chars es texts d false in
+    record {
+      content = λ name b items c (t, r, l, found, spends, is).
+          let text = texts name t found in
+          content_items false (Opens es d false) inner t.source text.0 t.start (length t.source) r l items text.1 is;
+      value = λ name b v c (t, r, l, found, spends, chars, is).
+          let text = texts name t found in
+          value_chars t.source text.0 t.start (length t.source) text.1 (IsCharBoundary-end t.source) chars false (Opens es d false) inner r l v is;
+    }
+
+-- ---- what stands around the root element
+
+misc_items : (src : List ℕ) (i j : ℕ) (items : Forest Item) → IsUtf8 src → Misc src i j items → ItemsChars items
+misc_items src i j items utf8 (no_misc _) = tt
+misc_items src i j items utf8 (space _ _ _ is rest) = misc_items src (i + 1) j items utf8 rest
+misc_items src i j items utf8 (an_item _ k _ item others is rest) = (misc_item src i k item utf8 is, tt, misc_items src k j others utf8 rest)
+
+subset_items : (src : List ℕ) (i j : ℕ) (items : Forest Item) (asked : List Asked) (es : List Entity) → IsUtf8 src → Subset src i j items asked es → ItemsChars items
+subset_items src i j items asked es utf8 (no_item _) = tt
+subset_items src i j items asked es utf8 (subset_space _ _ _ _ _ here rest) = subset_items src (i + 1) j items asked es utf8 rest
+subset_items src i j items asked es utf8 (subset_item _ k _ item more _ _ is rest) = (misc_item src i k item utf8 is, tt, subset_items src k j more asked es utf8 rest)
+subset_items src i j items asked es utf8 (passed_over _ k _ _ _ _ is rest) = subset_items src k j items asked es utf8 rest
+subset_items src i j items asked es utf8 (an_entity_declared _ k _ _ front more one others is rest) = subset_items src k j items more others utf8 rest
+
+doctype_itself : (src : List ℕ) (i j : ℕ) (items : Forest Item) (asked : List Asked) (es : List Entity) → IsUtf8 src → IsDoctype src i j items asked es → ItemsChars items
+doctype_itself src i j items asked es utf8 (no_subset _ s begins here) = tt
+doctype_itself src i j items asked es utf8 (with_subset _ s k _ _ _ begins here is close end) = subset_items src (s + 1) k items asked es utf8 is
+
+doctype_items : (src : List ℕ) (i j : ℕ) (dtd : Bool) (items : Forest Item) (asked : List Asked) (es : List Entity) → IsUtf8 src → MayHaveDoctype src i j dtd items asked es → ItemsChars items
+doctype_items src i j dtd items asked es utf8 (no_doctype _) = tt
+doctype_items src i j dtd items asked es utf8 (doctype _ k _ front more _ _ is rest) =
+    items_joined front more (doctype_itself src i k front asked es utf8 is) (misc_items src k j more utf8 rest)
+
+-- a document
+pub parse_items : (src : List ℕ) (dtd : Bool) (asked : List Asked) (tree : Forest Item) → IsUtf8 src → ParseOf src dtd asked tree → ItemsChars tree
+parse_items src dtd asked tree utf8 p =
+    let texts = texts_agree src utf8 p.begun p.start dtd p.nodes asked p.entities p.doctype in
+    let one = element_items true (opens_main p.entities) (opens_chars p.entities texts most_open true) src utf8 p.start p.end 255 p.left p.one p.element in
+    let nodes = doctype_items src p.begun p.start dtd p.nodes asked p.entities utf8 p.doctype in
+    let after = misc_items src p.end (length src) p.after utf8 p.misc_after in
+    let before = misc_items src p.declared_to p.begun p.before utf8 p.misc_before in
+    subst (λ (f : Forest Item). ItemsChars f) (sym p.is_tree)
+    (items_joined p.before (join p.nodes (join p.one p.after)) before (items_joined p.nodes (join p.one p.after) nodes (items_joined p.one p.after one after)))

@@ -1,0 +1,264 @@
+-- What is read of characters and references to them, in a run or a value, is a text of Chars.
+use Rattle.std.proofs.Common.{◌≡◌, ◌≢◌, ℕ, suc, ◌+◌, ◌<◌, ◌≤◌, ◌==◌, Bool, true, false, ◌||◌, ltb, leb, List, [], ◌∷◌, ◌++◌, length, get_or, refl, sym, ap, ◌∙◌, subst, arith, inl, inr, ◌⊎◌, append_assoc}
+use Rattle.std.specs.Prelude.{Option, Some, bytes_eq}
+use Rattle.std.specs.Char.{encode_utf8}
+use Rattle.std.specs.List.{list_all}
+use Rattle.std.specs.Str.{chars, IsUtf8, IsCharBoundary}
+use Rattle.std.proofs.Math.Utf8.{encodes, scalar, scalars, low_scalar}
+use Rattle.std.proofs.lemmas.Bool.{and_parts, and_from, or_cases, ltb-true, leb-true, ne_eqb, le-ltb, lt-ltb, cond_both, cases_eq}
+use Rattle.std.proofs.lemmas.List.{append-nil}
+use Rattle.std.proofs.lemmas.Str.{encodes-chars, scalars-chars, encode_ascii, inside_one, length-encode, len_utf8_bounds}
+use Rattle.rox_grammar.specs.Chars.{is_between, is_char, is_name_char, is_part_char}
+use Rattle.rox_grammar.specs.CharText.{IsCharText}
+use Rattle.rox_grammar.specs.Forest.{Forest, Nil, Cons, join}
+use Rattle.rox_grammar.specs.Written.{Item}
+use Rattle.rox_grammar.specs.Names.{byte, slice}
+use Rattle.rox_grammar.specs.Constructs.{AreChars}
+use Rattle.rox_grammar.specs.References.{number, character, predefined, IsNumber, IsCharacter, decimal, hexadecimal, named}
+use Rattle.rox_grammar.specs.Content.{Opener, Sign, literal, signs_of, literals, line_ends_after, piece, Part, part_ends, as_written, from_reference, Parts, last_part, then_entity, value_bytes, Value, value_ends, line_end, white, other, a_character, an_entity}
+use Rattle.rox_theory.specs.CharItems.{ItemsChars}
+use Rattle.rox_theory.proofs.Basics.{chosen}
+use Rattle.rox_theory.proofs.NameLemmas.{slice_nil}
+use Rattle.rox_theory.proofs.StretchLemmas.{slice_cons}
+use Rattle.rox_theory.proofs.ReferenceLemmas.{reference_opens, character_opens}
+use Rattle.rox_theory.proofs.CharTexts.{no_text, texts_joined, char_text, byte_text, cut_at, cut_behind, chars_within}
+use Rattle.rox_theory.proofs.CharCuts.{slice_parts, name_char}
+use Rattle.rox_theory.proofs.Onward.{part_bytes, reference_onward}
+
+-- each character of a part of a name is a Char
+pub part_char : (c : ℕ) → is_part_char c ≡ true → is_char c ≡ true
+unfolding is_part_char
+part_char c h = name_char c (and_parts (is_name_char c) _ h).0
+
+-- ---- references
+
+-- a character that is a Char
+abbrev IsAllowed : ℕ → Type 0
+IsAllowed c = (scalar c ≡ true) × (is_char c ≡ true)
+
+-- no number stands for a surrogate, or for none
+number_scalar : (n : ℕ) → scalar (character n) ≡ true
+number_scalar n =
+    cond_both (ltb n 0xD800 || is_between 0xE000 0x10FFFF n) n 0xFFFD (λ (c : ℕ). scalar c ≡ true)
+    (λ h. elim (or_cases (ltb n 0xD800) (is_between 0xE000 0x10FFFF n) h) as (λ s. scalar n ≡ true) [
+      | inl low ↦ low_scalar n (ltb-true n 0xD800 low)
+      | inr high ↦ (
+          let ends = and_parts (leb 0xE000 n) (leb n 0x10FFFF) high in
+          let below = leb-true n 0x10FFFF ends.1 in
+          let from = leb-true 0xE000 n ends.0 in
+          let no = le-ltb n 0xD800 (omega arith) in
+          rw no (and_from (leb 0xE000 n) (ltb n 1114112) ends.0 (lt-ltb n 1114112 (omega arith))))
+    ])
+    (λ other. refl)
+
+-- a character begins behind a reference, and its character is a Char
+abbrev pub Referenced : List ℕ → ℕ → ℕ → Type 0
+Referenced src c j = IsAllowed c × IsCharBoundary src j
+
+-- a number
+of_number : (base : ℕ) (is : ℕ → Bool) (src : List ℕ) (d e c j : ℕ) → IsUtf8 src → IsNumber base is src d e c j → Referenced src c j
+of_number base is src d e c j utf8 m =
+    ((rw m.is_character (number_scalar (number base (slice src d e))), m.allowed), cut_behind src e 59 j utf8 m.closes (omega arith) (omega arith) m.next)
+
+-- one of the five names
+of_name : (name : List ℕ) (c : ℕ) → predefined name ≡ Some c → IsAllowed c
+of_name name c h =
+    let one : (b : ℕ) → IsAllowed b → ◌≡◌ {A = Option ℕ} (Some b) (Some c) → IsAllowed c = λ b fine e. (let same : b ≡ c = cc in subst (λ (x : ℕ). IsAllowed x) same fine) in
+    chosen (bytes_eq name (108 ∷ 116 ∷ [])) _ _ _ h (λ is e. one 60 (refl, refl) e)
+    (λ no h. chosen (bytes_eq name (103 ∷ 116 ∷ [])) _ _ _ h (λ is e. one 62 (refl, refl) e)
+    (λ no h. chosen (bytes_eq name (97 ∷ 109 ∷ 112 ∷ [])) _ _ _ h (λ is e. one 38 (refl, refl) e)
+    (λ no h. chosen (bytes_eq name (113 ∷ 117 ∷ 111 ∷ 116 ∷ [])) _ _ _ h (λ is e. one 34 (refl, refl) e)
+    (λ no h. chosen (bytes_eq name (97 ∷ 112 ∷ 111 ∷ 115 ∷ [])) _ _ _ h (λ is e. one 39 (refl, refl) e)
+    (λ no h. cc)))))
+
+-- a reference to a character
+pub referenced : (src : List ℕ) (i c j : ℕ) → IsUtf8 src → IsCharacter src i c j → Referenced src c j
+referenced src i c j utf8 (decimal _ e _ _ amp hash m) = of_number 10 _ src (i + 2) e c j utf8 m
+referenced src i c j utf8 (hexadecimal _ e _ _ amp hash hex m) = of_number 16 _ src (i + 3) e c j utf8 m
+referenced src i c j utf8 (named _ n _ _ r is) = (of_name (slice src (i + 1) n) c is, cut_behind src n 59 j utf8 r.closes (omega arith) (omega arith) r.next)
+
+-- ---- signs
+
+-- what is read of them is a text of Chars, whether or not a CR stands in front
+abbrev pub SignChars : List Sign → Type 0
+SignChars ss = (after : Bool) → IsCharText (line_ends_after after ss)
+
+pub no_signs : SignChars []
+no_signs = λ after. no_text
+
+literals_append : (v w : List ℕ) (ss : List Sign) → literals (v ++ w) ++ ss ≡ literals v ++ (literals w ++ ss)
+literals_append [] w ss = refl
+literals_append (b ∷ v) w ss = ap (λ (r : List Sign). literal b ∷ r) (literals_append v w ss)
+
+-- no byte of a character but CR and LF is one of them
+no_line_end : (c k : ℕ) → c ≢ 13 → c ≢ 10 → k < length (encode_utf8 c) → (get_or (encode_utf8 c) k 0 ≢ 13) × (get_or (encode_utf8 c) k 0 ≢ 10)
+no_line_end c k no_cr no_lf below =
+    let same : get_or (encode_utf8 c) k 0 < 128 → c ≡ get_or (encode_utf8 c) k 0 = inside_one c [] (encode_utf8 c) k (sym (append-nil (encode_utf8 c))) below in
+    (λ cr. no_cr (same (omega arith) ∙ cr), λ lf. no_lf (same (omega arith) ∙ lf))
+
+-- bytes other than these stand for themselves
+bytes_stay : (bs : List ℕ) (ss : List Sign) (after : Bool) → 0 < length bs → ((k : ℕ) → k < length bs → (get_or bs k 0 ≢ 13) × (get_or bs k 0 ≢ 10))
+    → line_ends_after after (literals bs ++ ss) ≡ bs ++ line_ends_after false ss
+bytes_stay [] ss after some none = absurd (omega arith)
+bytes_stay (b ∷ []) ss after some none =
+    let n = none 0 (omega arith) in
+    let cr = ne_eqb b 13 n.0 in let lf = ne_eqb b 10 n.1 in
+    rw (cr, lf) refl
+bytes_stay (b ∷ c ∷ bs) ss after some none =
+    let n = none 0 (omega arith) in
+    let cr = ne_eqb b 13 n.0 in let lf = ne_eqb b 10 n.1 in
+    rw (cr, lf) (ap (λ (r : List ℕ). b ∷ r) (bytes_stay (c ∷ bs) ss false (omega arith) (λ k below. none (suc k) (omega arith))))
+
+-- characters in front
+chars_front : (cs : List ℕ) (ss : List Sign) → scalars cs ≡ true → list_all is_char cs ≡ true → SignChars ss → SignChars (literals (encodes cs) ++ ss)
+chars_front [] ss s h rest after = rest after
+chars_front (c ∷ cs) ss s h rest after =
+    let s' = and_parts (scalar c) (scalars cs) s in
+    let h' = and_parts (is_char c) (list_all is_char cs) h in
+    let split = literals_append (encode_utf8 c) (encodes cs) ss in
+    let more = chars_front cs ss s'.1 h'.1 rest in
+    let all = literals (encodes cs) ++ ss in
+    let feed : (b : Bool) → IsCharText (10 ∷ line_ends_after b all) = λ b. texts_joined (10 ∷ []) (line_ends_after b all) (byte_text 10 (omega arith) refl) (more b) in
+    subst (λ (r : List Sign). IsCharText (line_ends_after after r)) (sym split)
+    (elim (cases_eq c 13) as (λ s. IsCharText (line_ends_after after (literals (encode_utf8 c) ++ all))) [
+      | inl cr ↦ rw (cr, encode_ascii 13 (omega arith)) (feed true)
+      | inr no_cr ↦ elim (cases_eq c 10) as (λ s. IsCharText (line_ends_after after (literals (encode_utf8 c) ++ all))) [
+        | inl lf ↦ rw (lf, encode_ascii 10 (omega arith)) (elim after as (λ b. IsCharText (line_ends_after b (literal 10 ∷ all))) [ true ↦ more false | false ↦ feed false ])
+        | inr no_lf ↦ (
+            let some : 0 < length (encode_utf8 c) = omega (arith, length-encode c, len_utf8_bounds c) in
+            let stay = bytes_stay (encode_utf8 c) all after some (λ k below. no_line_end c k no_cr no_lf below) in
+            rw stay (texts_joined (encode_utf8 c) (line_ends_after false all) (char_text c s'.0 h'.0) (more false)))
+      ]
+    ])
+
+-- what was kept stays
+kept_stay : (bs : List ℕ) (ss : List Sign) → line_ends_after false (signs_of true bs ++ ss) ≡ bs ++ line_ends_after false ss
+kept_stay [] ss = refl
+kept_stay (b ∷ bs) ss = ap (λ (r : List ℕ). b ∷ r) (kept_stay bs ss)
+
+-- a text in front, literal or kept
+pub text_front : (main : Bool) (v : List ℕ) (ss : List Sign) → IsCharText v → SignChars ss → SignChars (signs_of main v ++ ss)
+text_front false v ss h rest =
+    subst (λ (w : List ℕ). SignChars (literals w ++ ss)) (encodes-chars v h.utf8) (chars_front (chars v) ss (scalars-chars v h.utf8) h.all rest)
+text_front true [] ss h rest = rest
+text_front true (b ∷ bs) ss h rest = λ after. subst (λ (w : List ℕ). IsCharText w) (sym (ap (λ (r : List ℕ). b ∷ r) (kept_stay bs ss))) (texts_joined (b ∷ bs) (line_ends_after false ss) h (rest false))
+
+-- the text of a part
+pub piece_items : (i j : ℕ) (plain : Bool) (ss : List Sign) → SignChars ss → ItemsChars (piece i j plain ss)
+piece_items i j plain [] h = tt
+piece_items i j plain (s ∷ ss) h = (h false, tt, tt)
+
+-- ---- items
+
+-- of two rows together
+pub items_joined : (f g : Forest Item) → ItemsChars f → ItemsChars g → ItemsChars (join f g)
+items_joined Nil g h k = k
+items_joined (Cons item c r) g h k = (h.0, h.1, items_joined r g h.2 k)
+
+-- what a reference opens are texts of Chars
+pub record OpensChars (O : Opener) : Type 0 where
+  pub content : (name : List ℕ) (b : ℕ) (items : Forest Item) (c : ℕ) → O.content name b items c → ItemsChars items
+  pub value : (name : List ℕ) (b : ℕ) (v : List ℕ) (c : ℕ) → O.value name b v c → IsCharText v
+
+-- ---- runs and values
+
+module _ (src : List ℕ) (utf8 : IsUtf8 src) (start stop : ℕ) (first : IsCharBoundary src start) (last : IsCharBoundary src stop) (are : AreChars src start stop) where
+  -- what stands between two places
+  stretch : (k i : ℕ) → start ≤ k → k ≤ i → i ≤ stop → IsCharBoundary src k → IsCharBoundary src i → IsCharText (slice src k i)
+  stretch k i = chars_within src start stop k i utf8 first last are
+
+  -- one byte more
+  grown : (k i : ℕ) → k ≤ i → i < stop → slice src k (i + 1) ≡ slice src k i ++ (byte src i ∷ [])
+  grown k i on within =
+      slice_parts src k i (i + 1) on (omega arith) (omega (arith, last.0))
+      ∙ ap (λ (r : List ℕ). slice src k i ++ r) (slice_cons src i (i + 1) (omega arith) (omega (arith, last.0)) ∙ ap (λ (r : List ℕ). byte src i ∷ r) (slice_nil src (i + 1)))
+
+  -- the signs of a part, with what stands in front of it
+  part_signs : (main : Bool) (p i : ℕ) (ss : List Sign) → Part main src p i ss → IsCharBoundary src p → p ≤ stop → (k : ℕ) → start ≤ k → k ≤ i → IsCharBoundary src k → SignChars (literals (slice src k i) ++ ss)
+  part_signs main p i ss part_ends cut le k from on front = text_front false (slice src k p) [] (stretch k p from on le front cut) no_signs
+  part_signs main p i ss (as_written _ more within no_amp rest) cut le k from on front =
+      subst (λ (r : List Sign). SignChars r)
+      (ap (λ (v : List ℕ). literals v ++ more) (grown k i on (omega arith)) ∙ literals_append (slice src k i) (byte src i ∷ []) more)
+      (part_signs main p (i + 1) more rest cut le k from (omega arith) front)
+  part_signs main p i ss (from_reference _ n c more is within rest) cut le k from on front =
+      let opens = character_opens src i c n is in
+      let amp = opens.0 in
+      let r = referenced src i c n utf8 is in
+      let later = part_signs main p n more rest cut le n (omega (arith, opens.1)) (omega arith) r.1 in
+      let behind : SignChars more = subst (λ (v : List ℕ). SignChars (literals v ++ more)) (slice_nil src n) later in
+      text_front false (slice src k i) (signs_of main (encode_utf8 c) ++ more) (stretch k i from on (omega (arith, opens.1)) front (cut_at src i 38 amp (omega arith) (omega arith)))
+      (text_front main (encode_utf8 c) more (char_text c r.0.0 r.0.1) behind)
+
+  -- from where a character begins
+  part_chars : (main : Bool) (p i : ℕ) (ss : List Sign) → Part main src p i ss → IsCharBoundary src p → p ≤ stop → start ≤ i → IsCharBoundary src i → SignChars ss
+  part_chars main p i ss part cut le from front =
+      subst (λ (v : List ℕ). SignChars (literals v ++ ss)) (slice_nil src i) (part_signs main p i ss part cut le i from (omega arith) front)
+
+  -- a value, with what stands in front of it
+  value_front : (main : Bool) (O : Opener) → OpensChars O → (i b c : ℕ) (v : List ℕ) → Value main O src stop i b c v → (k : ℕ) → start ≤ k → k ≤ i → IsCharBoundary src k → IsCharText (slice src k i ++ v)
+  value_front main O oc i b c v (value_ends _) k from on front = subst (λ (w : List ℕ). IsCharText w) (sym (append-nil (slice src k stop))) (stretch k stop from on (omega arith) front last)
+  value_front main O oc i b c v (line_end _ _ _ _ more cr lf rest) k from on front =
+      let next = cut_behind src i 13 (i + 1) utf8 cr (omega arith) (omega arith) refl in
+      let later = value_front main O oc (i + 1) b c v rest (i + 1) (omega arith) (omega arith) next in
+      texts_joined (slice src k i) v (stretch k i from on (omega arith) front (cut_at src i 13 cr (omega arith) (omega arith)))
+      (subst (λ (w : List ℕ). IsCharText (w ++ v)) (slice_nil src (i + 1)) later)
+  value_front main O oc i b c v (white _ _ _ w more is rest) k from on front = white_front (λ next. value_front main O oc (i + 1) b c w rest (i + 1) (omega arith) (omega arith) next) is
+    where
+      -- white space that is this byte
+      white_at : (IsCharBoundary src (i + 1) → IsCharText (slice src (i + 1) (i + 1) ++ w)) → (z : ℕ) → byte src i ≡ z → 0 < z → z < 128 → IsCharText (slice src k i ++ (32 ∷ w))
+      white_at later z here some low =
+          let next = cut_behind src i z (i + 1) utf8 here some low refl in
+          texts_joined (slice src k i) (32 ∷ w) (stretch k i from on (omega arith) front (cut_at src i z here some low))
+          (texts_joined (32 ∷ []) w (byte_text 32 (omega arith) refl) (subst (λ (r : List ℕ). IsCharText (r ++ w)) (slice_nil src (i + 1)) (later next)))
+
+      white_front : (IsCharBoundary src (i + 1) → IsCharText (slice src (i + 1) (i + 1) ++ w)) → (byte src i ≡ 9) ⊎ ((byte src i ≡ 10) ⊎ ((byte src i ≡ 13) × ((stop ≡ i + 1) ⊎ (byte src (i + 1) ≢ 10)))) → IsCharText (slice src k i ++ (32 ∷ w))
+      white_front later (inl tab) = white_at later 9 tab (omega arith) (omega arith)
+      white_front later (inr (inl lf)) = white_at later 10 lf (omega arith) (omega arith)
+      white_front later (inr (inr (cr, alone))) = white_at later 13 cr (omega arith) (omega arith)
+  value_front main O oc i b c v (other _ _ _ w more x₁ x₂ x₃ x₄ x₅ rest) k from on front =
+      let later = value_front main O oc (i + 1) b c w rest k from (omega arith) front in
+      subst (λ (r : List ℕ). IsCharText r) (ap (λ (r : List ℕ). r ++ w) (grown k i on more) ∙ append_assoc (slice src k i) (byte src i ∷ []) w) later
+  value_front main O oc i b c v (a_character _ n x _ _ w is within allowed rest) k from on front =
+      let opens = character_opens src i x n is in
+      let amp = opens.0 in
+      let r = referenced src i x n utf8 is in
+      let later = value_front main O oc n b c w rest n (omega (arith, opens.1)) (omega arith) r.1 in
+      texts_joined (slice src k i) (value_bytes main x ++ w) (stretch k i from on (omega (arith, opens.1)) front (cut_at src i 38 amp (omega arith) (omega arith)))
+      (texts_joined (value_bytes main x) w (given main (char_text x r.0.0 r.0.1)) (subst (λ (v : List ℕ). IsCharText (v ++ w)) (slice_nil src n) later))
+    where
+      given : (main : Bool) → IsCharText (encode_utf8 x) → IsCharText (value_bytes main x)
+      given true h = h
+      given false h = cond_both (x == 9 || (x == 10 || x == 13)) (32 ∷ []) (encode_utf8 x) (λ (v : List ℕ). IsCharText v) (λ space. byte_text 32 (omega arith) refl) (λ none. h)
+  value_front main O oc i b d v (an_entity _ n m _ c _ u w is name within opened rest) k from on front =
+      let opens = reference_opens src i n m is in
+      let amp = is.opens in
+      let next = cut_behind src n 59 m utf8 is.closes (omega arith) (omega arith) is.next in
+      let later = value_front main O oc m c d w rest m (omega (arith, opens.2)) (omega arith) next in
+      texts_joined (slice src k i) (u ++ w) (stretch k i from on (omega (arith, opens.2)) front (cut_at src i 38 amp (omega arith) (omega arith)))
+      (texts_joined u w (oc.value _ b u c opened) (subst (λ (v : List ℕ). IsCharText (v ++ w)) (slice_nil src m) later))
+
+  -- from where a character begins
+  pub value_chars : (main : Bool) (O : Opener) → OpensChars O → (b c : ℕ) (v : List ℕ) → Value main O src stop start b c v → IsCharText v
+  value_chars main O oc b c v is =
+      subst (λ (w : List ℕ). IsCharText (w ++ v)) (slice_nil src start) (value_front main O oc start b c v is start (omega arith) (omega arith) first)
+
+  -- parts end where the run does, or before
+  parts_within : (main : Bool) (O : Opener) (from i b c : ℕ) (items : Forest Item) → Parts main O src from stop i b c items → i ≤ stop
+  parts_within main O from i b c items (last_part _ _ ss part) = let h = part_bytes main src stop i ss part in omega (arith, h)
+  parts_within main O from i b d items (then_entity _ p n j _ c _ ss front more part reference name opened rest) =
+      let h = part_bytes main src p i ss part in
+      let k = reference_onward src p n j reference in
+      let l = parts_within main O from j c d more rest in
+      omega (arith, h, k, l)
+
+  -- the parts of a run
+  pub parts_items : (main : Bool) (O : Opener) → OpensChars O → (from i b c : ℕ) (items : Forest Item) → Parts main O src from stop i b c items → start ≤ i → IsCharBoundary src i → ItemsChars items
+  parts_items main O oc from i b c items (last_part _ _ ss part) on cut = piece_items from stop _ ss (part_chars main stop i ss part last (omega arith) on cut)
+  parts_items main O oc from i b d items (then_entity _ p n j _ c _ ss front more part reference name opened rest) on cut =
+      let h = part_bytes main src p i ss part in
+      let k = reference_onward src p n j reference in
+      let l = parts_within main O from j c d more rest in
+      let amp = cut_at src p 38 reference.opens (omega arith) (omega arith) in
+      let next = cut_behind src n 59 j utf8 reference.closes (omega arith) (omega arith) reference.next in
+      items_joined (piece from stop false ss) (join front more) (piece_items from stop false ss (part_chars main p i ss part amp (omega (arith, k, l)) on cut))
+      (items_joined front more (oc.content _ b front c opened) (parts_items main O oc from j c d more rest (omega (arith, h, k)) next))

@@ -1,0 +1,164 @@
+-- At most one element stands at a place, whatever the limits are.
+use Rattle.std.proofs.Common.{◌≡◌, ℕ, zero, suc, ◌+◌, ◌==◌, Bool, true, false, not, List, length, Ok, refl, sym, ap, ◌∙◌, subst, arith, true≢false}
+use Rattle.std.specs.Prelude.{Some, Option}
+use Rattle.std.specs.Str.{IsUtf8}
+use Rattle.std.specs.List.{list_any}
+use Rattle.rox_grammar.specs.Forest.{Forest, Nil, join}
+use Rattle.rox_grammar.specs.Written.{Tag, Item, Text, Comment, PI}
+use Rattle.rox_grammar.specs.Tree.{none_if_empty}
+use Rattle.rox_grammar.specs.Names.{slice, spaces_end}
+use Rattle.rox_grammar.specs.Content.{Opener, Parts, IsRun, IsMisc, comment, instruction, IsTag, IsElement, Content, literals, line_ends}
+use Rattle.rox_grammar.specs.Entities.{Replacement, Entity, Spends, Opens, opens_main, most_open}
+use Rattle.rox_grammar.specs.State.{Open, root, inside}
+use Rattle.rox_reading.specs.Markup.{comment_at, Instruction, instruction_at, cdata_at, EndTag, end_tag_at}
+use Rattle.rox_reading.specs.Tags.{Values}
+use Rattle.rox_reading.specs.State.{State}
+use Rattle.rox_reading.specs.Machine.{values_of}
+use Rattle.rox_theory.specs.Openers.{AreTexts, AgreesValue}
+use Rattle.rox_theory.specs.Fine.{state}
+use Rattle.rox_theory.proofs.MarkupLemmas.{comment_complete, instruction_complete, cdata_complete, end_complete}
+use Rattle.rox_theory.proofs.Openers.{values_agree}
+use Rattle.rox_theory.proofs.Leaves.{with_leaf}
+use Rattle.rox_theory.proofs.Steps.{after, closed}
+use Rattle.rox_theory.proofs.Flat.{Takes, takes_run, takes_cdata, takes_misc, takes_empty, takes_start, takes_end, Chain, arrives, goes, text_complete}
+use Rattle.rox_theory.proofs.Constructions.{Kind, a_run, a_comment, a_cdata, an_instruction, an_end, a_tag, nothing, kind_at, name_byte, run_within, run_kind, comment_kind, cdata_kind, instruction_kind, end_kind, tag_kind}
+use Rattle.rox_theory.proofs.Contents.{StepsAgree, within}
+use Rattle.rox_theory.proofs.ContentOpeners.{steps_agree, openers_agree}
+use Rattle.rox_theory.proofs.FaultBasics.{ok_one}
+use Rattle.rox_theory.proofs.PartOnce.{OpensOnce, parts_once}
+use Rattle.rox_theory.proofs.TagOnce.{tag_once}
+use Rattle.rox_theory.proofs.Chains as chains
+use Rattle.rox_theory.proofs.Chains.{Drives, root_drives}
+
+module _ (how : Values) (O : Opener) (agrees : AgreesValue how.entities O how.opener) (once : OpensOnce O) (src : List ℕ) (utf8 : IsUtf8 src) where
+  -- an end tag closes the innermost open element
+  abbrev Closes : ℕ → ℕ → Forest Item → Open → State → Type 0
+  Closes left j done root t = ⊥
+  Closes left j done (inside start tag before up) t = t ≡ closed j done start tag before up left
+
+  -- one construct, by its kind
+  abbrev OneBy : Kind → State → State → Type 0
+  OneBy a_run s t = (j : ℕ) × (c : ℕ) × (items : Forest Item) × IsRun src s.at j × Parts how.main O src s.at j s.at s.left c items × (t ≡ state j (join s.done items) s.stack c)
+  OneBy a_comment s t = (j : ℕ) × (text : List ℕ) × (comment_at src s.at ≡ Ok (text, j)) × (t ≡ with_leaf s j (Comment s.at j text))
+  OneBy a_cdata s t = (j : ℕ) × (text : List ℕ) × (cdata_at src s.at ≡ Ok (text, j)) × (t ≡ with_leaf s j (Text s.at j (line_ends (literals text)) (not (list_any (λ b. b == 13) text))))
+  OneBy an_instruction s t = (j : ℕ) × (x : Instruction) × (instruction_at src s.at ≡ Ok (x, j)) × (t ≡ with_leaf s j (PI s.at j x.target x.value))
+  OneBy an_end s t = (j : ℕ) × (x : EndTag) × (end_tag_at src s.at ≡ Ok (x, j)) × Closes s.left j s.done s.stack t
+  OneBy a_tag s t = (j : ℕ) × (c : ℕ) × (tag : Tag) × (empty : Bool) × IsTag how.main O src s.at j s.left c empty tag × (t ≡ after s j tag empty c)
+  OneBy nothing s t = ⊥
+
+  -- of the kind that stands there
+  by_kind : (k : Kind) (s t : State) → kind_at src s.at ≡ k → OneBy k s t → OneBy (kind_at src s.at) s t
+  by_kind k s t is h = subst (λ (k : Kind). OneBy k s t) (sym is) h
+
+  takes_by : (base : ℕ) (s t : State) → Takes how.main O src base s t → OneBy (kind_at src s.at) s t
+  takes_by base s t (takes_run i j b c items done stack is parts) = by_kind a_run s t (run_kind src i (run_within src i j is).1) (j, c, items, is, parts, refl)
+  takes_by base s t (takes_cdata i e j b done stack is) = by_kind a_cdata s t (cdata_kind src i is.opens) (j, slice src (i + 9) e, cdata_complete src i e j is, refl)
+  takes_by base s t (takes_misc i j b item done stack is) = misc_by item is
+    where
+      misc_by : (item : Item) → IsMisc src i j item → OneBy (kind_at src i) (state i done stack b) (with_leaf (state i done stack b) j item)
+      misc_by item (comment _ e _ is) = by_kind a_comment (state i done stack b) _ (comment_kind src i is.opens) (j, slice src (i + 4) e, comment_complete src i e j is, refl)
+      misc_by item (instruction _ n e _ is) = by_kind an_instruction (state i done stack b) _ (instruction_kind src i is.opens)
+          (j, record { target = slice src (i + 2) n; value = none_if_empty (slice src (spaces_end src n) e) }, instruction_complete src i n e j is, refl)
+  takes_by base s t (takes_empty i j b c tag done stack is) = by_kind a_tag s t (tag_kind src i is.begins (name_byte src (i + 1) tag.name tag.name_end is.is_name)) (j, c, tag, true, is, refl)
+  takes_by base s t (takes_start i j b c tag done stack is) = by_kind a_tag s t (tag_kind src i is.begins (name_byte src (i + 1) tag.name tag.name_end is.is_name)) (j, c, tag, false, is, refl)
+  takes_by base s t (takes_end i p j b start tag done before up deep end) = by_kind an_end s t (end_kind src i end.opens) (j, record { name = tag.name; name_end = p }, end_complete src i j p tag.name end, refl)
+
+  closes_once : (left j : ℕ) (done : Forest Item) (stack : Open) (t u : State) → Closes left j done stack t → Closes left j done stack u → t ≡ u
+  closes_once left j done root t u h k = absurd h
+  closes_once left j done (inside start tag before up) t u h k = h ∙ sym k
+
+  pub tags_once : (s t u : State) → OneBy a_tag s t → OneBy a_tag s u → t ≡ u
+  tags_once s t u (j, c, tag, empty, is, to) (k, d, tag', empty', is', to') =
+      let same = tag_once how O agrees src utf8 s.at j k s.left c d tag tag' empty empty' is is' in
+      to ∙ ap (λ (j : ℕ). after s j tag empty c) same.0 ∙ ap (λ (c : ℕ). after s k tag empty c) same.1 ∙ ap (λ (e : Bool). after s k tag e d) same.2 ∙ ap (λ (tag : Tag). after s k tag empty' d) same.3 ∙ sym to'
+
+  by_once : (k : Kind) (s t u : State) → OneBy k s t → OneBy k s u → t ≡ u
+  by_once a_run s t u (j, c, items, run, parts, to) (k, d, more, run', parts', to') =
+      let at : k ≡ j = run'.end ∙ sym run.end in
+      let parts'' : Parts how.main O src s.at j s.at s.left d more = subst (λ (k : ℕ). Parts how.main O src s.at k s.at s.left d more) at parts' in
+      let same = parts_once how.main O once src s.at j s.at s.left c d items more parts parts'' in
+      to ∙ ap (λ (f : Forest Item). state j (join s.done f) s.stack c) same.0 ∙ ap (λ (c : ℕ). state j (join s.done more) s.stack c) same.1 ∙ ap (λ (j : ℕ). state j (join s.done more) s.stack d) (sym at) ∙ sym to'
+  by_once a_comment s t u (j, text, read, to) (k, text', read', to') =
+      let same = ok_one (text, j) (text', k) (comment_at src s.at) read read' in
+      to ∙ ap (λ (x : List ℕ × ℕ). with_leaf s x.1 (Comment s.at x.1 x.0)) same ∙ sym to'
+  by_once a_cdata s t u (j, text, read, to) (k, text', read', to') =
+      let same = ok_one (text, j) (text', k) (cdata_at src s.at) read read' in
+      to ∙ ap (λ (x : List ℕ × ℕ). with_leaf s x.1 (Text s.at x.1 (line_ends (literals x.0)) (not (list_any (λ b. b == 13) x.0)))) same ∙ sym to'
+  by_once an_instruction s t u (j, x, read, to) (k, x', read', to') =
+      let same = ok_one (x, j) (x', k) (instruction_at src s.at) read read' in
+      to ∙ ap (λ (x : Instruction × ℕ). with_leaf s x.1 (PI s.at x.1 x.0.target x.0.value)) same ∙ sym to'
+  by_once an_end s t u (j, x, read, to) (k, x', read', to') =
+      let same = ok_one (x, j) (x', k) (end_tag_at src s.at) read read' in
+      let at : k ≡ j = sym (ap (λ (x : EndTag × ℕ). x.1) same) in
+      closes_once s.left j s.done s.stack t u to (subst (λ (k : ℕ). Closes s.left k s.done s.stack u) at to')
+  by_once a_tag s t u h k = tags_once s t u h k
+  by_once nothing s t u h k = absurd h
+
+  -- one construct stands at a place
+  pub takes_once : (base : ℕ) (s t u : State) → Takes how.main O src base s t → Takes how.main O src base s u → t ≡ u
+  takes_once base s t u h k = by_once (kind_at src s.at) s t u (takes_by base s t h) (takes_by base s u k)
+
+-- ---- replacement texts
+
+module _ (limit : ℕ) (es : List Entity) (texts : AreTexts es) (d : ℕ) (once : OpensOnce (Opens es d false)) (src : List ℕ) (utf8 : IsUtf8 src) (base : ℕ) where
+  steps : StepsAgree (within limit es d base) (Opens es d false) src
+  steps = steps_agree (within limit es d base) (Opens es d false) (values_agree es texts d false) (openers_agree limit es texts d false) src utf8
+
+  -- there is one chain up to the end
+  chain_once : (s t u : State) → Chain false (Opens es d false) src base s t → Chain false (Opens es d false) src base s u → t ≡ u
+  chain_once s t u (arrives _ at deep) (arrives _ at' deep') = refl
+  chain_once s t u (arrives _ at deep) (goes _ v _ takes rest) = absurd (omega (arith, (steps.moves s v takes).0))
+  chain_once s t u (goes _ v _ takes rest) (arrives _ at deep) = absurd (omega (arith, (steps.moves s v takes).0))
+  chain_once s t u (goes _ v _ takes rest) (goes _ w _ takes' rest') =
+      let e : w ≡ v = takes_once (values_of es d false) (Opens es d false) (values_agree es texts d false) once src utf8 base s w v takes' takes in
+      chain_once v t u rest (subst (λ (w : State). Chain false (Opens es d false) src base w u) e rest')
+
+-- what is spent leaves one budget within the text, and one behind it
+spends_once : (main : Bool) (b r l c q m d : ℕ) → Spends main b r l c → Spends main b q m d → r ≡ q
+spends_once true b r l c q m d (all, same) (all', same') = all ∙ sym all'
+spends_once false b r l c q m d (before, same) (before', same') = omega (arith, before, before')
+
+spent_once : (main : Bool) (b r l c q m d : ℕ) → Spends main b r l c → Spends main b q m d → l ≡ m → c ≡ d
+spent_once true b r l c q m d (all, same) (all', same') e = same ∙ sym same'
+spent_once false b r l c q m d (before, same) (before', same') e = same ∙ e ∙ sym same'
+
+same_text : (x y : Replacement) → ◌≡◌ {A = Option Replacement} (Some x) (Some y) → x ≡ y
+same_text x y h = cc h
+
+-- a reference opens one row of items
+pub opens_once : (es : List Entity) → AreTexts es → (d : ℕ) (main : Bool) → OpensOnce (Opens es d main)
+opens_once es texts zero main name b c e items more h k = absurd h
+opens_once es texts (suc d) main name b c e items more (t, r, l, found, spends, content) (u, q, m, found', spends', content') =
+    let same : u ≡ t = same_text u t (sym found' ∙ found) in
+    let budget : q ≡ r = spends_once main b q m e r l c spends' spends in
+    let O = Opens es d false in
+    let content2 : Content false O t.source t.start (length t.source) q m more = subst (λ (u : Replacement). Content false O u.source u.start (length u.source) q m more) same content' in
+    let content3 : Content false O t.source t.start (length t.source) r m more = subst (λ (q : ℕ). Content false O t.source t.start (length t.source) q m more) budget content2 in
+    let first = text_complete O t.source t.start r l Nil items root content in
+    let second = text_complete O t.source t.start r m Nil more root content3 in
+    let one = chain_once 0 es texts d (opens_once es texts d false) t.source (texts name t found).0 0 (state t.start Nil root r) (state (length t.source) items root l) (state (length t.source) more root m) first second in
+    (ap (λ (s : State). s.done) one, spent_once main b r l c q m e spends spends' (ap (λ (s : State). s.left) one))
+
+-- ---- the root element
+
+module _ (es : List Entity) (texts : AreTexts es) (src : List ℕ) (utf8 : IsUtf8 src) where
+  -- there is one chain up to its end
+  drives_once : (s t u : State) → Drives (opens_main es) src s t → Drives (opens_main es) src s u → t ≡ u
+  drives_once s t u (chains.arrives _ h) (chains.arrives _ k) = refl
+  drives_once s t u (chains.arrives _ h) (chains.goes _ v _ inner takes rest) = absurd (true≢false (sym h ∙ inner))
+  drives_once s t u (chains.goes _ v _ inner takes rest) (chains.arrives _ h) = absurd (true≢false (sym h ∙ inner))
+  drives_once s t u (chains.goes _ v _ inner takes rest) (chains.goes _ w _ inner' takes' rest') =
+      let e : w ≡ v = takes_once (values_of es most_open true) (opens_main es) (values_agree es texts most_open true) (opens_once es texts most_open true) src utf8 0 s w v takes' takes in
+      drives_once v t u rest (subst (λ (w : State). Drives (opens_main es) src w u) e rest')
+
+  -- there is one element
+  pub element_once : (i j k b c d : ℕ) (one other : Forest Item) → IsElement true (opens_main es) src i j b c one → IsElement true (opens_main es) src i k b d other → (j ≡ k) × (one ≡ other)
+  element_once i j k b c d one other x y =
+      let p = root_drives (opens_main es) src i j b c one Nil x in
+      let q = root_drives (opens_main es) src i k b d other Nil y in
+      let s = state i Nil root b in
+      let t : after s q.0 q.2 q.3 q.1 ≡ after s p.0 p.2 p.3 p.1 =
+      tags_once (values_of es most_open true) (opens_main es) (values_agree es texts most_open true) (opens_once es texts most_open true) src utf8 s (after s q.0 q.2 q.3 q.1) (after s p.0 p.2 p.3 p.1)
+      (q.0, q.1, q.2, q.3, q.4, refl) (p.0, p.1, p.2, p.3, p.4, refl) in
+      let u = drives_once (after s p.0 p.2 p.3 p.1) (state j one root c) (state k other root d) p.5 (subst (λ (t : State). Drives (opens_main es) src t (state k other root d)) t q.5) in
+      (ap (λ (s : State). s.at) u, ap (λ (s : State). s.done) u)

@@ -1,0 +1,165 @@
+-- How large what a reference opens can be, by the number of texts that are opened.
+use Rattle.std.proofs.Common.{arith, subst, sym}
+use Rattle.std.proofs.lemmas.List.{length-append}
+use Rattle.std.specs.Prelude.{◌≡◌, ◌==◌, ℕ, zero, suc, ◌+◌, ◌-◌, ◌*◌, ◌≤◌, not, max, Bool, true, false, List, [], ◌∷◌, Some, length, if◌then◌else◌, bytes_eq}
+use Rattle.std.specs.List.{list_any}
+use Rattle.rox_grammar.specs.Forest.{Forest, Nil, join}
+use Rattle.rox_grammar.specs.Written.{Item, Text, Attribute, Tag, leaf, merge}
+use Rattle.rox_grammar.specs.Tree.{none_if_empty}
+use Rattle.rox_grammar.specs.Names.{slice, spaces_end}
+use Rattle.rox_grammar.specs.Content.{Opener, Sign, line_ends, literals, is_plain, piece, value_bytes, Parts, last_part, then_entity, Value, value_ends, line_end, white, other, a_character, an_entity, Attributes, no_more, one_more, IsTag, IsMisc, comment, instruction, IsElement, empty, nest, Content, ends, run, cdata, misc, node}
+use Rattle.rox_grammar.specs.Entities.{Replacement, Entity, text_of}
+use Rattle.rox_grammar.specs.Expansion.{Counts, longest}
+use Rattle.rox_theory.proofs.Onward.{ends_shorten, signs_length, slice_short, reference_onward, value_char, part_bytes, qname_onward, eq_onward, tag_end_onward, end_onward, misc_onward, section_onward}
+use Rattle.rox_theory.proofs.Measures.{Measure, most_of, fewer}
+
+module _ (of : Forest Item → ℕ) (is_measure : Measure of) where
+  -- the text of a part
+  pub piece_most : (i j : ℕ) (plain : Bool) (ss : List Sign) → of (piece i j plain ss) ≤ length ss
+  piece_most i j plain [] = let h = is_measure.none in omega (arith, h)
+  piece_most i j plain (s ∷ ss) = is_measure.text i j (line_ends (s ∷ ss)) plain (length (s ∷ ss)) (omega arith) (ends_shorten false (s ∷ ss))
+
+  -- a section's, of so many bytes
+  pub section_most : (src : List ℕ) (i e j : ℕ) (plain : Bool) → i + 9 ≤ e → of (leaf (Text i j (line_ends (literals (slice src (i + 9) e))) plain)) + i ≤ e
+  section_most src i e j plain h =
+      let a = ends_shorten false (literals (slice src (i + 9) e)) in
+      let s = signs_length false (slice src (i + 9) e) in
+      let z = slice_short src (i + 9) e in
+      let t = is_measure.text i j (line_ends (literals (slice src (i + 9) e))) plain (e - i) (omega (arith, h)) (omega (arith, h, a, s, z)) in
+      omega (arith, t, h)
+
+  pub misc_most : (src : List ℕ) (i j : ℕ) (item : Item) → IsMisc src i j item → of (leaf item) + i ≤ j
+  misc_most src i j item (comment _ e _ is) =
+      let h = misc_onward src i j item (comment i e j is) in
+      let t = is_measure.comment i j (slice src (i + 4) e) in
+      omega (arith, h, t)
+  misc_most src i j item (instruction _ n e _ is) =
+      let h = misc_onward src i j item (instruction i n e j is) in
+      let t = is_measure.instruction i j (slice src (i + 2) n) (none_if_empty (slice src (spaces_end src n) e)) in
+      omega (arith, h, t)
+
+-- no text opens more than this for each opening, where r is the length of the longest
+pub record Weighs (of : Forest Item → ℕ) (O : Opener) (r : ℕ) : Type 0 where
+  pub content : (name : List ℕ) (b : ℕ) (items : Forest Item) (c : ℕ) → O.content name b items c → of items + b * r ≤ c * r
+  pub value : (name : List ℕ) (b : ℕ) (v : List ℕ) (c : ℕ) → O.value name b v c → length v + b * r ≤ c * r
+
+module _ (of : Forest Item → ℕ) (is_measure : Measure of) (main : Bool) (O : Opener) (r : ℕ) (weighs : Weighs of O r) (src : List ℕ) where
+  parts_weigh : (start stop i b c : ℕ) (items : Forest Item) → Parts main O src start stop i b c items → of items + i + b * r ≤ stop + c * r
+  parts_weigh start stop i b c items (last_part _ _ ss part) =
+      let p = part_bytes main src stop i ss part in
+      let q = piece_most of is_measure start stop (is_plain (slice src start stop)) ss in
+      omega (arith, p, q)
+  parts_weigh start stop i b d items (then_entity _ p n j _ c _ ss front more part reference name opens rest) =
+      let h = part_bytes main src p i ss part in
+      let q = piece_most of is_measure start stop false ss in
+      let k = reference_onward src p n j reference in
+      let x = weighs.content _ b front c opens in
+      let y = parts_weigh start stop j c d more rest in
+      let e = is_measure.joined (piece start stop false ss) (join front more) in
+      let f = is_measure.joined front more in
+      omega (arith, h, q, k, x, y, e, f)
+
+  value_weighs : (j i b c : ℕ) (v : List ℕ) → Value main O src j i b c v → length v + i + b * r ≤ j + c * r
+  value_weighs j i b c v (value_ends _) = omega arith
+  value_weighs j i b c v (line_end _ _ _ _ more cr lf rest) = let h = value_weighs j (i + 1) b c v rest in omega (arith, h)
+  value_weighs j i b c v (white _ _ _ w more is rest) = let h = value_weighs j (i + 1) b c w rest in omega (arith, h)
+  value_weighs j i b c v (other _ _ _ w more x₁ x₂ x₃ x₄ x₅ rest) = let h = value_weighs j (i + 1) b c w rest in omega (arith, h)
+  value_weighs j i b c v (a_character _ n z _ _ w is within allowed rest) =
+      let h = value_weighs j n b c w rest in
+      let k = value_char main src i z n is in
+      let l = length-append (value_bytes main z) w in
+      omega (arith, h, k, l)
+  value_weighs j i b d v (an_entity _ n k _ c _ u w is name within opens rest) =
+      let h = value_weighs j k c d w rest in
+      let x = weighs.value _ b u c opens in
+      let m = reference_onward src i n k is in
+      let l = length-append u w in
+      omega (arith, h, x, m, l)
+
+  attributes_weigh : (i k b c : ℕ) (as' : List Attribute) → Attributes main O src i k b c as' → most_of as' + i + b * r ≤ k + c * r
+  attributes_weigh i k b c as' (no_more _ _) = omega arith
+  attributes_weigh i k b d as' (one_more _ j _ _ c _ a rest spaces is more) =
+      let h = value_weighs is.e (is.v + 1) b c a.value is.value in
+      let n = qname_onward src (spaces_end src i) a.name_end a.name is.is_name in
+      let e = eq_onward src a.name_end is.v is.eq in
+      let l = is.literal.next in
+      let y = attributes_weigh j k c d rest more in
+      omega (arith, h, n, e, l, y, spaces)
+
+  tag_weighs : (i j b c : ℕ) (is_empty : Bool) (t : Tag) → IsTag main O src i j b c is_empty t → 1 + most_of t.attributes + i + b * r ≤ j + c * r
+  tag_weighs i j b c is_empty t is =
+      let h = attributes_weigh t.name_end is.last b c is.written is.attributes in
+      let n = qname_onward src (i + 1) t.name_end t.name is.is_name in
+      let e = tag_end_onward src is.last is_empty j is.ends in
+      let f : most_of t.attributes ≤ most_of is.written = subst (λ (as' : List Attribute). most_of as' ≤ most_of is.written) (sym is.has) (fewer is.written) in
+      omega (arith, h, n, e, f)
+
+  mutual
+    element_weighs : (i j b c : ℕ) (one : Forest Item) → IsElement main O src i j b c one → of one + i + b * r ≤ j + c * r
+    element_weighs i j b c one (empty _ _ _ _ t is) =
+        let h = tag_weighs i j b c true t is in
+        let g = is_measure.element i j t Nil in
+        let z = is_measure.none in
+        omega (arith, h, g, z)
+    element_weighs i j b d one (nest _ k m p _ _ c _ t kids is inner end) =
+        let h = tag_weighs i k b c false t is in
+        let x = content_weighs k m c d kids inner in
+        let e = end_onward src m t.name p j end in
+        let g = is_measure.merged kids in
+        let u = is_measure.element i j t (merge kids) in
+        omega (arith, h, x, e, g, u)
+
+    pub content_weighs : (i l b c : ℕ) (items : Forest Item) → Content main O src i l b c items → of items + i + b * r ≤ l + c * r
+    content_weighs i l b c items (ends _ _) = let h = is_measure.none in omega (arith, h)
+    content_weighs i l b d items (run _ j _ _ c _ front more is parts rest) =
+        let x = parts_weigh i j i b c front parts in
+        let y = content_weighs j l c d more rest in
+        let e = is_measure.joined front more in
+        omega (arith, x, y, e)
+    content_weighs i l b c items (cdata _ e j _ _ _ more is rest) =
+        let y = content_weighs j l b c more rest in
+        let h = section_onward src i e j is in
+        let t = section_most of is_measure src i e j (not (list_any (λ b. b == 13) (slice src (i + 9) e))) h.0 in
+        let f = is_measure.joined (leaf (Text i j (line_ends (literals (slice src (i + 9) e))) (not (list_any (λ b. b == 13) (slice src (i + 9) e))))) more in
+        omega (arith, y, h.1, t, f)
+    content_weighs i l b c items (misc _ j _ _ _ item more is rest) =
+        let y = content_weighs j l b c more rest in
+        let h = misc_most of is_measure src i j item is in
+        let f = is_measure.joined (leaf item) more in
+        omega (arith, y, h, f)
+    content_weighs i l b d items (node _ j _ _ c _ one more is rest) =
+        let x = element_weighs i j b c one is in
+        let y = content_weighs j l c d more rest in
+        let e = is_measure.joined one more in
+        omega (arith, x, y, e)
+
+-- ---- what a reference opens
+
+longest_is : (es : List Entity) (name : List ℕ) (t : Replacement) → text_of es name ≡ Some t → length t.source - t.start ≤ longest es
+longest_is [] name t h = cc h
+longest_is (e ∷ es) name t h = at_test (bytes_eq e.name name) (longest_is es name t) h
+  where
+    at_test : (b : Bool) → (text_of es name ≡ Some t → length t.source - t.start ≤ longest es) → (if b then Some e.text else text_of es name) ≡ Some t → length t.source - t.start ≤ max (length e.text.source - e.text.start) (longest es)
+    at_test true more h = let same : e.text ≡ t = cc h in subst (λ (x : Replacement). length x.source - x.start ≤ max (length e.text.source - e.text.start) (longest es)) same (omega arith)
+    at_test false more h = let k = more h in omega (arith, k)
+
+pub more_times : (b r : ℕ) → (b + 1) * r ≡ b * r + r
+more_times b r = omega arith
+
+-- within replacement texts: as much as the longest text has bytes, for each that is opened
+pub counts_weigh : (of : Forest Item → ℕ) → Measure of → (es : List Entity) (d : ℕ) → Weighs of (Counts es d) (longest es)
+counts_weigh of is_measure es zero = record { content = λ name b items c h. absurd h; value = λ name b v c h. absurd h }
+counts_weigh of is_measure es (suc d) =
+    let inner = counts_weigh of is_measure es d in
+    record {
+      content = λ name b items c (t, found, is).
+          let x = content_weighs of is_measure false (Counts es d) (longest es) inner t.source t.start (length t.source) (b + 1) c items is in
+          let l = longest_is es name t found in
+          let m = more_times b (longest es) in
+          omega (arith, x, l, m);
+      value = λ name b v c (t, found, chars, is).
+          let x = value_weighs of is_measure false (Counts es d) (longest es) inner t.source (length t.source) t.start (b + 1) c v is in
+          let l = longest_is es name t found in
+          let m = more_times b (longest es) in
+          omega (arith, x, l, m);
+    }

@@ -1,0 +1,23 @@
+-- What is so of the rows of items of every document.
+use Rattle.std.specs.Prelude.{◌≡◌, ◌&&◌, Bool, false}
+use Rattle.rox_grammar.specs.Forest.{Forest, Nil, Cons}
+use Rattle.rox_grammar.specs.Written.{Item, Element, Text, Comment, PI}
+use Rattle.rox_reading.proofs.Forests.{is_text}
+
+-- the first is a text
+abbrev pub begins_with_text : Forest Item → Bool
+begins_with_text Nil = false
+begins_with_text (Cons item children rest) = is_text item
+
+-- no text is followed by a text, at any depth
+abbrev pub Apart : Forest Item → Type 0
+Apart Nil = Unit {0}
+Apart (Cons item children rest) = ((is_text item && begins_with_text rest) ≡ false) × Apart children × Apart rest
+
+-- one of the row is an element
+abbrev pub AnyElement : Forest Item → Type 0
+AnyElement Nil = ⊥
+AnyElement (Cons (Element start end tag) children rest) = Unit {0}
+AnyElement (Cons (Text start end value borrowed) children rest) = AnyElement rest
+AnyElement (Cons (Comment start end text) children rest) = AnyElement rest
+AnyElement (Cons (PI start end target value) children rest) = AnyElement rest

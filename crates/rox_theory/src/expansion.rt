@@ -1,0 +1,30 @@
+//! What entities add to a text.
+
+ghost use Rattle.std.specs.Prelude.{◌≡◌, ◌≤◌, ℕ, Bool, false, List, []};
+ghost use Rattle.rox_grammar.specs.Forest.{Forest};
+ghost use Rattle.rox_grammar.specs.Written.{Item};
+ghost use Rattle.rox_grammar.specs.Entities.{Entity, most_open, opens_main};
+ghost use Rattle.rox_grammar.specs.Doctype.{Asked};
+ghost use Rattle.rox_grammar.specs.Document.{ParseOf};
+ghost use Rattle.rox_grammar.specs.Expansion.{Counts, IsBounded};
+ghost use Rattle.rox_theory.specs.Without.{ParseWithout};
+
+/// For a text without a document type declaration nothing is asked, and in its root element nothing is opened.
+pub fn plain_texts_open_nothing()
+    ensures opens_nothing { (src : List ℕ) (asked : List Asked) (tree : Forest Item) → ParseOf src false asked tree → (asked ≡ []) × ParseWithout src tree }
+    ensures is_parse { (src : List ℕ) (tree : Forest Item) → ParseWithout src tree → ParseOf src false [] tree }
+{}
+
+/// Under one reference of the main text at most 256 replacement texts are opened, at most ten within one another.
+pub fn few_opened()
+    ensures in_content { (es : List Entity) (name : List ℕ) (b c : ℕ) (items : Forest Item) → (opens_main es).content name b items c
+        → (n : ℕ) × (Counts es most_open).content name 0 items n × (n ≤ 256) }
+    ensures in_value { (es : List Entity) (name : List ℕ) (b c : ℕ) (v : List ℕ) → (opens_main es).value name b v c
+        → (n : ℕ) × (Counts es most_open).value name 0 v n × (n ≤ 256) }
+{}
+
+/// The values of all texts and attributes together have at most the bytes of the text, and for each `&` in it 256 times those of the
+/// longest replacement text. There are no more nodes and attributes together than that.
+pub fn trees_are_bounded()
+    ensures { (src : List ℕ) (dtd : Bool) (asked : List Asked) (tree : Forest Item) (p : ParseOf src dtd asked tree) → IsBounded src p.entities tree }
+{}
