@@ -1,0 +1,4 @@
+pub mod Local
+pub mod Context
+pub mod Stands
+pub mod Contained
