@@ -1,14 +1,15 @@
 -- Blocks of bytes, seen through a mask that has a bit for each byte that is not in a set.
-use Rattle.std.proofs.Common.{◌≡◌, ℕ, suc, ◌+◌, ◌-◌, ◌*◌, ◌%◌, ◌^◌, ◌<◌, ◌≤◌, Bool, true, false, not, cond, eqb, ltb, leb, List, [], ◌∷◌, map, length, get_or, replicate, refl, sym, ap, ap₂, ◌∙◌, arith, inl, inr, w8, Fits}
+use Rattle.std.proofs.Common.{◌≡◌, ℕ, zero, suc, ◌+◌, ◌-◌, ◌*◌, ◌/◌, ◌%◌, ◌^◌, ◌<◌, ◌≤◌, Bool, true, false, not, cond, eqb, ltb, leb, List, [], ◌∷◌, map, length, get_or, replicate, refl, sym, ap, ap₂, ◌∙◌, arith, inl, inr, w8, Fits}
 use Rattle.std.specs.List.{prefix_len}
 use Rattle.std.specs.Simd.Lanes.{mask_l, top, zip2, chunk, Each1}
-use Rattle.std.proofs.lemmas.Simd.{zip2_splat, zip2_of_maps, map-map, mask_l-mod, length-chunk, leading_from_mask_l, trailing_mask_l, run_in_chunk_fails, run_in_chunk_stops}
-use Rattle.std.proofs.lemmas.List.{length-map}
+use Rattle.std.proofs.lemmas.Nat.{and_le_r}
+use Rattle.std.proofs.lemmas.Simd.{Each1-all, Each1-weaker, Each1-zip2, Each2-splat, below_from_Fits, length-zip2, swz_l, SwzOk, SwzOk-from_below, length-swz_l, get_or-swz_l_below, zip2_splat, zip2_of_maps, map-map, mask_l-mod, length-chunk, leading_from_mask_l, trailing_mask_l, run_in_chunk_fails, run_in_chunk_stops}
+use Rattle.std.proofs.lemmas.List.{get_or-map, ext_get_or, length-map}
 use Rattle.std.proofs.lemmas.Bool.{cases_lt, not-false, not-true}
 use Rattle.rox_scan.specs.Near.{AllPass}
 use Rattle.rox_scan.proofs.TableLemmas.{agree_below, agree_at}
 use lib.Count.{count_trailing_zeros}
-use lib.Bits.{bit_or}
+use lib.Bits.{bit_and, bit_or}
 
 -- the lanes of a comparison
 abbrev pub equals : ℕ → ℕ → ℕ
@@ -83,3 +84,43 @@ block_stops p src i n r room counted short = not-true _ (run_in_chunk_stops (λ 
 pub map_same : (v : List ℕ) → v ≡ map (λ x. x) v
 map_same [] = refl
 map_same (x ∷ xs) = ap (λ r. x ∷ r) (map_same xs)
+
+-- ---- look-ups at halves
+
+abbrev pub down : ℕ → ℕ → ℕ
+down a b = a / 2 ^ b
+
+abbrev pub IsBlock : List ℕ → Type 0
+IsBlock v = (length v ≡ 16) × Each1 (Fits w8) v
+
+lane_fits : (v : List ℕ) (i : ℕ) → Each1 (Fits w8) v → get_or v i 0 < 256
+lane_fits [] i h = omega arith
+lane_fits (x ∷ xs) zero h = h.0.fits
+lane_fits (x ∷ xs) (suc i) h = lane_fits xs i h.1
+
+pub high_ok : (v : List ℕ) → IsBlock v → SwzOk w8 16 16 0 (zip2 down v (replicate 16 4))
+high_ok v fits =
+    let small = Each1-weaker (λ a. a < 256) (λ a. a / 16 < 16) (λ a h. omega arith) v (below_from_Fits w8 v fits.1) in
+    SwzOk-from_below w8 16 1 16 0 (zip2 down v (replicate 16 4)) refl (omega (arith, length-zip2 down v (replicate 16 4) fits.0))
+    (Each1-zip2 down (λ j. j < 16) v (replicate 16 4) (Each2-splat (λ a b. down a b < 16) v 16 4 small))
+
+pub low_ok : (v : List ℕ) → IsBlock v → SwzOk w8 16 16 0 (zip2 bit_and v (replicate 16 15))
+low_ok v fits =
+    let small = Each1-all (λ a. bit_and a 15 < 16) (λ a. omega (arith, and_le_r a 15)) v in
+    SwzOk-from_below w8 16 1 16 0 (zip2 bit_and v (replicate 16 15)) refl (omega (arith, length-zip2 bit_and v (replicate 16 15) fits.0))
+    (Each1-zip2 bit_and (λ j. j < 16) v (replicate 16 15) (Each2-splat (λ a b. bit_and a b < 16) v 16 15 small))
+
+-- a table that is read at places g x below 16
+pub looked_up : (t : List ℕ) (g : ℕ → ℕ) (v js : List ℕ) → IsBlock v → js ≡ map g v → ((x : ℕ) → x < 256 → g x < 16) → swz_l w8 16 t 0 js ≡ map (λ x. get_or t (g x) 0) v
+looked_up t g v js fits e small =
+    let long : length js ≡ 16 = ap length e ∙ length-map v g ∙ fits.0 in
+    ext_get_or 0 _ _ (length-swz_l w8 16 t 0 js ∙ long ∙ sym (length-map v (λ x. get_or t (g x) 0) ∙ fits.0)) (λ i h.
+    let lt : i < 16 = omega (arith, length-swz_l w8 16 t 0 js) in
+    let within : i < length v = omega (arith, fits.0) in
+    let is : get_or js i 0 ≡ g (get_or v i 0) = ap (λ l. get_or l i 0) e ∙ get_or-map g v i 0 0 within in
+    let below : get_or js i 0 < 16 = omega (arith, small (get_or v i 0) (lane_fits v i fits.1)) in
+    get_or-swz_l_below w8 16 t 0 js i (omega arith) below
+    ∙ ap (λ k. get_or t k 0) (omega arith) ∙ ap (λ k. get_or t k 0) is ∙ sym (get_or-map (λ x. get_or t (g x) 0) v i 0 0 within))
+
+abbrev pub differs : ℕ → ℕ → ℕ
+differs a b = cond (not (eqb a b)) 255 0

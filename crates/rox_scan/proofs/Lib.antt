@@ -4,3 +4,5 @@ pub mod NearLemmas
 pub mod PlainLemmas
 pub mod RunLemmas
 pub mod TableLemmas
+pub mod Marking
+pub mod QuoteLemmas

@@ -18,7 +18,7 @@ use Rattle.rox_reading.specs.Lexical.{chars_up_to, string_at, text_to}
 use Rattle.rox_reading.specs.Markup.{comment_at, raw_value_at}
 use Rattle.rox_scan.specs.Near.{AllPass, is_value_byte, is_text_byte, is_comment_byte, is_part_byte}
 use Rattle.rox_scan.proofs.MarkLemmas.{before_mark_is, not_from_first, no_mark}
-use Rattle.rox_scan.proofs.RunLemmas.{run_on_ascii}
+use Rattle.rox_scan.proofs.RunLemmas.{run_on_ascii, run_stops_ascii, run_at_end}
 use Rattle.rox_scan.proofs.PlainLemmas.{plain_run}
 
 value_is_plain : (b : ℕ) → is_value_byte b ≡ true → is_plain b ≡ true
@@ -82,6 +82,19 @@ run_from src i e (suc n) same within utf8 all =
 
 pub part_goes_on : (src : List ℕ) (i e : ℕ) → IsUtf8 src → i ≤ e → e ≤ length src → AllPass is_part_byte src i e → run_end is_part_char src e ≡ run_end is_part_char src i
 part_goes_on src i e utf8 le within all = run_from src i e (e - i) (omega arith) within utf8 all
+
+part_apart : (b : ℕ) → is_part_byte b ≡ false → b < 128 → is_part_char b ≡ false
+unfolding is_part_byte
+part_apart b h ascii = grind (arith, nat_tests)
+
+-- and stops with them before an ASCII byte, or at the end
+pub part_stops : (src : List ℕ) (i e : ℕ) → IsUtf8 src → i ≤ e → e ≤ length src → AllPass is_part_byte src i e → (e < length src → is_part_byte (get_or src e 0) ≡ false) → (e < length src → get_or src e 0 < 128) → e ≡ run_end is_part_char src i
+part_stops src i e utf8 le within all stops ascii =
+    let here : run_end is_part_char src e ≡ e = elim (cases_lt e (length src)) [
+      | inl more ↦ run_stops_ascii is_part_char src e utf8 more (ascii more) (part_apart _ (stops more) (ascii more))
+      | inr past ↦ run_at_end is_part_char src e past
+    ] in
+    sym here ∙ part_goes_on src i e utf8 le within all
 
 -- all of a stretch of such bytes
 all_plain : (p : ℕ → Bool) (src : List ℕ) (i e n : ℕ) → i + n ≡ e → e ≤ length src → AllPass p src i e → ((b : ℕ) → p b ≡ true → is_plain b ≡ true) → list_all is_plain (drop i (take e src)) ≡ true

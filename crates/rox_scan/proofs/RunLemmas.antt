@@ -1,9 +1,13 @@
 -- One step of a run.
-use Rattle.std.proofs.Common.{◌≡◌, ℕ, ◌+◌, ◌<◌, ◌≤◌, Bool, true, false, List, ◌∷◌, length, get_or, drop, arith, add-zero, add_assoc}
+use Rattle.std.proofs.Common.{◌≡◌, ℕ, ◌+◌, ◌<◌, ◌≤◌, Bool, true, false, List, [], ◌∷◌, length, get_or, drop, refl, arith, add-zero, add_assoc, inl, inr, get_or-drop}
 use Rattle.std.specs.Char.{len_utf8}
 use Rattle.std.specs.Str.{chars, IsUtf8, IsCharBoundary}
-use Rattle.std.proofs.lemmas.Str.{chars-nil, chars_past_char, encode_ascii, len_utf8_ascii, IsUtf8-drop, IsCharBoundary-start, IsCharBoundary-before_ascii, IsCharBoundary-after_ascii}
+use Rattle.std.proofs.Math.Utf8.{encodes}
+use Rattle.std.proofs.lemmas.Bool.{cases_lt}
+use Rattle.std.proofs.lemmas.Bool.Decides.{nat_tests}
+use Rattle.std.proofs.lemmas.Str.{chars-nil, encodes-chars, chars_past_char, encode_ascii, len_utf8_ascii, IsUtf8-drop, IsCharBoundary-start, IsCharBoundary-before_ascii, IsCharBoundary-after_ascii}
 use Rattle.std.proofs.lemmas.List.{drop_more, drop_all}
+use Rattle.rox_grammar.specs.Chars.{is_space}
 use Rattle.rox_grammar.specs.Runs.{passing, run_end, begins, StandsAt}
 
 pub chars_at : (src : List ℕ) (i c : ℕ) → IsUtf8 src → IsCharBoundary src i → StandsAt c src i → chars (drop i src) ≡ c ∷ chars (drop (i + len_utf8 c) src)
@@ -35,6 +39,35 @@ pub run_at_end : (p : ℕ → Bool) (src : List ℕ) (i : ℕ) → length src �
 unfolding run_end
 run_at_end p src i past = rw (drop_all i src past, chars-nil) (add-zero i)
 
+-- white space is ASCII
+space_ascii : (b : ℕ) → is_space b ≡ true → b < 128
+space_ascii b h = grind (arith, nat_tests)
+
+wide_is_none : (c : ℕ) → 128 ≤ c → is_space c ≡ false
+wide_is_none c wide = grind (arith, nat_tests)
+
+none_passes : (cs : List ℕ) → 128 ≤ get_or (encodes cs) 0 0 → passing is_space cs ≡ 0
+none_passes [] wide = refl
+none_passes (c ∷ cs) wide =
+    elim (cases_lt c 128) [ inl ascii ↦ absurd (omega (arith, rw (encode_ascii c ascii) at wide)) | inr more ↦ rw (wide_is_none c more) refl ]
+
+wide_stops : (src : List ℕ) (i : ℕ) → IsUtf8 src → IsCharBoundary src i → 128 ≤ get_or src i 0 → run_end is_space src i ≡ i
+unfolding run_end
+wide_stops src i utf8 cut wide =
+    let back = encodes-chars (drop i src) (IsUtf8-drop src i utf8 cut) in
+    let read : get_or (drop i src) 0 0 ≡ get_or src i 0 = rw (get_or-drop i src 0 0, add-zero) refl in
+    omega (arith, none_passes (chars (drop i src)) (rw (back, read) wide))
+
+pub space_on : (src : List ℕ) (i : ℕ) → IsUtf8 src → i < length src → is_space (get_or src i 0) ≡ true → run_end is_space src (i + 1) ≡ run_end is_space src i
+space_on src i utf8 within passes = run_on_ascii is_space src i utf8 within (space_ascii _ passes) passes
+
+pub space_stops : (src : List ℕ) (i : ℕ) → IsUtf8 src → IsCharBoundary src i → i < length src → is_space (get_or src i 0) ≡ false → run_end is_space src i ≡ i
+space_stops src i utf8 cut within fails =
+    elim (cases_lt (get_or src i 0) 128) [ inl ascii ↦ run_stops_ascii is_space src i utf8 within ascii fails | inr wide ↦ wide_stops src i utf8 cut wide ]
+
+pub space_cut : (src : List ℕ) (i : ℕ) → IsUtf8 src → i < length src → is_space (get_or src i 0) ≡ true → IsCharBoundary src (i + 1)
+space_cut src i utf8 within passes = IsCharBoundary-after_ascii src i utf8 within (space_ascii _ passes)
+
 pub begins_at : (p : ℕ → Bool) (src : List ℕ) (i c : ℕ) → IsUtf8 src → IsCharBoundary src i → StandsAt c src i → begins p src i ≡ p c
 unfolding begins
 begins_at p src i c utf8 cut stands = rw (chars_at src i c utf8 cut stands)
@@ -48,6 +81,8 @@ unfolding begins
 begins_no_end p src i past = rw (drop_all i src past, chars-nil)
 
 pub ruleset run_steps = (run_on, run_stops, run_on_ascii, run_stops_ascii, run_at_end, IsCharBoundary-after_ascii)
+
+pub ruleset space_steps = (space_on, space_stops, run_at_end, space_cut)
 
 pub ruleset begin_steps = (begins_at, begins_ascii, begins_no_end)
 

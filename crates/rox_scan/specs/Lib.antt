@@ -1,3 +1,5 @@
 pub mod Gives
 pub mod Parts
 pub mod Near
+pub mod Halves
+pub mod Doctypes

@@ -1,7 +1,7 @@
 -- Bytes that stand for themselves, whichever character they are of, for a first look. 239 is none of them, since it begins the
 -- two characters past ASCII that are no Chars.
 use Rattle.rox_grammar.specs.Chars.{is_part_char}
-use Rattle.std.specs.Prelude.{◌≡◌, ◌≤◌, ◌<◌, ℕ, Bool, true, not, ◌&&◌, ◌||◌, ◌==◌, ◌+◌, ◌-◌, ◌*◌, ◌/◌, nat_le, nat_lt, List, length, slice_index}
+use Rattle.std.specs.Prelude.{◌≡◌, ◌≤◌, ◌<◌, ℕ, Bool, true, not, ◌&&◌, ◌||◌, ◌==◌, nat_le, nat_lt, List, slice_index}
 
 -- no control, no quote, no `&` and no `<`
 unfoldable pub is_value_byte : ℕ → Bool
@@ -22,7 +22,3 @@ is_part_byte b = nat_lt b 128 && is_part_char b
 -- each byte from i up to j passes
 abbrev pub AllPass : (ℕ → Bool) → List ℕ → ℕ → ℕ → Type 0
 AllPass p src i j = (k : ℕ) → i ≤ k → k < j → p (slice_index src k) ≡ true
-
--- where the whole blocks of sixteen bytes from i on end
-abbrev pub blocks_to : List ℕ → ℕ → ℕ
-blocks_to src i = i + (length src - i) / 16 * 16

@@ -37,6 +37,22 @@ pub fn is_name_start(c: char) -> bool
         | '\u{F900}'..='\u{FDCF}' | '\u{FDF0}'..='\u{FFFD}' | '\u{10000}'..='\u{EFFFF}')
 }
 
+// A `#` at the place of each ASCII character that may begin a name.
+static START_BYTES: [u8; 128] = *b"\
+    ................................\
+    ..........................#.....\
+    .##########################....#\
+    .##########################.....";
+
+/// The same of an ASCII byte.
+#[inline(always)]
+pub fn is_start_byte(b: u8) -> bool
+    requires { b < 128 }
+    ensures { result ≡ spec.is_name_start b }
+{
+    START_BYTES[b as usize] == b'#'
+}
+
 /// A character that may stand in a name (XML 1.0 [4a] NameChar).
 #[inline]
 #[tactic(auto, unfolding(rox_grammar::specs::Chars::is_name_char))]

@@ -7,7 +7,7 @@ ghost use Rattle.std.proofs.Props.{props};
 use crate::chars::is_space;
 use crate::near::part_end;
 use crate::runs::{
-    NameChar, NameStart, Space, after_byte, begins, char_at, chars_end, is_at, run_end,
+    NameChar, NameStart, after_byte, begins, char_at, chars_end, is_at, run_end, space_end,
 };
 use rox_grammar::fault::{Due, Fault, Word};
 
@@ -89,13 +89,13 @@ impl<'input> Cursor<'input> {
     }
 
     /// Moves past any white space, also none (XML 1.0 [3] S).
-    #[inline]
+    #[inline(always)]
     pub fn spaces(&mut self)
         ensures place { self.new.pos ≡ spaces_end self.old.text.now self.old.pos }
         ensures source { self.new.text ≡ self.old.text }
         ensures onward { self.old.pos ≤ self.new.pos }
     {
-        self.pos = run_end::<Space>(self.text, self.pos);
+        self.pos = space_end(self.text, self.pos);
     }
 
     /// One or more white space. Any other byte is a fault, and so is the end.

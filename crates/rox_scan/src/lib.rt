@@ -5,7 +5,9 @@
 pub mod alike;
 pub mod chars;
 pub mod cursor;
+pub mod doctype;
 pub mod failure;
+pub mod halves;
 pub mod marks;
 pub mod markup;
 pub mod near;

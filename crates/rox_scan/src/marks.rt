@@ -14,21 +14,21 @@ use rox_grammar::fault::Word;
 
 /// A search for each text that ends a construct, made once for a source.
 #[derive(Drop)]
-pub struct Finders {
+pub struct Finders<'n> {
     /// Of `-->`.
-    pub comment_end: Finder<'static>,
+    pub comment_end: Finder<'n>,
     /// Of `?>`.
-    pub pi_end: Finder<'static>,
+    pub pi_end: Finder<'n>,
     /// Of `]]>`.
-    pub cdata_end: Finder<'static>,
+    pub cdata_end: Finder<'n>,
     pub ghost comments: { comment_end ≡ word_text word.CommentEnd } by { Prim.hlevel props },
     pub ghost instructions: { pi_end ≡ word_text word.PIEnd } by { Prim.hlevel props },
     pub ghost sections: { cdata_end ≡ word_text word.CDataEnd } by { Prim.hlevel props },
 }
 
-impl Finders {
+impl<'n> Finders<'n> {
     /// The searches, for any source.
-    pub fn new() -> Finders {
+    pub fn new() -> Finders<'n> {
         Finders {
             comment_end: Finder::new(Word::CommentEnd.text()),
             pi_end: Finder::new(Word::PIEnd.text()),
@@ -108,7 +108,7 @@ pub fn has_mark(bytes: &[u8], mark: &[u8]) -> bool
 /// The first place from `at` on of the finder's text, or the end.
 #[inline]
 #[tactic(auto, unfolding(rox_grammar::specs::Marks::mark_from))]
-pub fn mark_from(text: &str, at: usize, finder: &Finder<'static>) -> usize
+pub fn mark_from(text: &str, at: usize, finder: &Finder<'_>) -> usize
     requires cut { IsCharBoundary text.now at }
     requires some { 0 < length finder.now }
     requires ascii { slice_index finder.now 0 < 128 }
@@ -121,7 +121,7 @@ pub fn mark_from(text: &str, at: usize, finder: &Finder<'static>) -> usize
 
 /// How many bytes come before the first of the finder's text, or all.
 #[inline]
-fn before_found(bytes: &[u8], finder: &Finder<'static>) -> usize
+fn before_found(bytes: &[u8], finder: &Finder<'_>) -> usize
     requires { 0 < length finder.now }
     ensures value { result ≡ spec.before_mark finder.now bytes.now }
     ensures within { result ≤ length bytes.now }

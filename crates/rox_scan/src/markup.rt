@@ -74,7 +74,7 @@ impl<'input> Cursor<'input> {
     /// The text up to the first mark, and the mark.
     #[inline]
     #[tactic(auto, unfolding(rox_reading::specs::Lexical::text_to))]
-    fn text_to(&mut self, mark: Word, finder: &Finder<'static>) -> Result<&'input str, Fault>
+    fn text_to(&mut self, mark: Word, finder: &Finder<'_>) -> Result<&'input str, Fault>
         requires finds { finder.now ≡ word_text mark }
         requires some { 0 < length (word_text mark) }
         requires ascii { slice_index (word_text mark) 0 < 128 }
@@ -92,7 +92,7 @@ impl<'input> Cursor<'input> {
     /// the text, or one at its end, are a fault at the comment's start.
     #[inline]
     #[tactic(auto, using(crate::proofs::NearLemmas::comment_cut))]
-    pub fn comment(&mut self, finders: &Finders) -> Result<&'input str, Fault>
+    pub fn comment(&mut self, finders: &Finders<'_>) -> Result<&'input str, Fault>
         requires { stands (word_text word.CommentStart) self.old.text.now self.old.pos ≡ true }
         ensures value { Reads (λ x. x.now) self.new result (spec.comment_at self.old.text.now self.old.pos) }
         ensures source { self.new.text ≡ self.old.text }
@@ -114,7 +114,7 @@ impl<'input> Cursor<'input> {
 
     /// The same, behind its `<!--`, of a comment with a dash, or a byte that may begin what is no Char.
     #[tactic(auto, unfolding(rox_reading::specs::Markup::comment_at))]
-    fn far_comment(&mut self, start: usize, finders: &Finders) -> Result<&'input str, Fault>
+    fn far_comment(&mut self, start: usize, finders: &Finders<'_>) -> Result<&'input str, Fault>
         requires { self.old.pos ≡ start + 4 }
         ensures value { Reads (λ x. x.now) self.new result (spec.comment_at self.old.text.now start) }
         ensures source { self.new.text ≡ self.old.text }
@@ -131,7 +131,7 @@ impl<'input> Cursor<'input> {
     /// A processing instruction, from `<?` to its end `?>` (XML 1.0 section 2.6). An XML declaration is a fault here.
     #[inline]
     #[tactic(auto, unfolding(rox_reading::specs::Markup::instruction_at))]
-    pub fn instruction(&mut self, finders: &Finders) -> Result<Instruction<'input>, Fault>
+    pub fn instruction(&mut self, finders: &Finders<'_>) -> Result<Instruction<'input>, Fault>
         requires { stands (word_text word.PIStart) self.old.text.now self.old.pos ≡ true }
         ensures value { Reads instruction_view self.new result (spec.instruction_at self.old.text.now self.old.pos) }
         ensures source { self.new.text ≡ self.old.text }
@@ -153,7 +153,7 @@ impl<'input> Cursor<'input> {
     /// A CDATA section, from `<![CDATA[` to its end `]]>` (XML 1.0 section 2.7). It answers the text between these.
     #[inline]
     #[tactic(auto, unfolding(rox_reading::specs::Markup::cdata_at))]
-    pub fn cdata(&mut self, finders: &Finders) -> Result<&'input str, Fault>
+    pub fn cdata(&mut self, finders: &Finders<'_>) -> Result<&'input str, Fault>
         requires { stands (word_text word.CDataStart) self.old.text.now self.old.pos ≡ true }
         ensures value { Reads (λ x. x.now) self.new result (spec.cdata_at self.old.text.now self.old.pos) }
         ensures source { self.new.text ≡ self.old.text }
@@ -164,7 +164,7 @@ impl<'input> Cursor<'input> {
     }
 
     /// An end tag, from `</` to its `>` (XML 1.0 [42] ETag).
-    #[inline]
+    #[inline(always)]
     #[tactic(auto, unfolding(rox_reading::specs::Markup::end_tag_at))]
     pub fn end_tag(&mut self) -> Result<EndTag<'input>, Fault>
         requires { stands (word_text word.EndTagStart) self.old.text.now self.old.pos ≡ true }

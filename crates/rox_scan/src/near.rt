@@ -1,6 +1,6 @@
 //! Runs of plain bytes, sixteen at a time: a first look at names, values, character data and comments.
 
-ghost use Rattle.std.specs.Prelude.{◌≡◌, ◌+◌, ◌<◌, ◌≤◌, ℕ, Bool, false, not, map, take, drop, length, slice_index};
+ghost use Rattle.std.specs.Prelude.{◌≡◌, ◌+◌, ◌<◌, ◌≤◌, ℕ, Bool, true, false, not, map, take, drop, length, slice_index};
 ghost use Rattle.std.specs.Str.{IsCharBoundary};
 ghost use Rattle.std.specs.Int.{w64, trailing_zeros};
 ghost use Rattle.std.specs.Simd.Lanes.{mask_l};
@@ -10,6 +10,7 @@ ghost use Rattle.rox_scan.specs.Near as near;
 ghost use Rattle.rox_scan.specs.Near.{AllPass};
 
 use crate::chars;
+use crate::halves::classes;
 use crate::runs::{PartChar, run_end};
 use std::simd::prelude::*;
 
@@ -28,6 +29,11 @@ pub trait Near {
 /// The bytes of an attribute's value that stand for themselves.
 pub struct ValueByte;
 
+// Classes that a byte of the set has none of, and any other has one.
+const VALUE_LOW: [u8; 16] = [1, 1, 3, 1, 1, 1, 3, 3, 1, 1, 1, 1, 5, 1, 1, 9];
+
+const VALUE_HIGH: [u8; 16] = [1, 1, 2, 4, 0, 0, 0, 0, 0, 0, 0, 0, 0, 0, 8, 0];
+
 impl Near for ValueByte {
     ghost test = { near.is_value_byte };
 
@@ -38,18 +44,19 @@ impl Near for ValueByte {
 
     #[inline(always)]
     fn others(block: u8x16) -> u64 {
-        (block.simd_lt(u8x16::splat(32))
-            | block.simd_eq(u8x16::splat(239))
-            | block.simd_eq(u8x16::splat(b'"'))
-            // `&` and `'` differ in the lowest bit alone.
-            | (block | u8x16::splat(1)).simd_eq(u8x16::splat(b'\''))
-            | block.simd_eq(u8x16::splat(b'<')))
+        classes(VALUE_LOW, VALUE_HIGH, block)
+            .simd_ne(u8x16::splat(0))
             .to_bitmask()
     }
 }
 
 /// The bytes of character data that stand for themselves.
 pub struct TextByte;
+
+// Classes that a byte of the set has none of, and any other has one.
+const TEXT_LOW: [u8; 16] = [3, 3, 3, 3, 3, 3, 7, 3, 3, 2, 2, 3, 11, 19, 3, 35];
+
+const TEXT_HIGH: [u8; 16] = [1, 2, 4, 8, 0, 16, 0, 0, 0, 0, 0, 0, 0, 0, 32, 0];
 
 impl Near for TextByte {
     ghost test = { near.is_text_byte };
@@ -61,17 +68,19 @@ impl Near for TextByte {
 
     #[inline(always)]
     fn others(block: u8x16) -> u64 {
-        (block.simd_lt(u8x16::splat(9))
-            | (block - u8x16::splat(11)).simd_lt(u8x16::splat(21))
-            | block.simd_eq(u8x16::splat(239))
-            | block.simd_eq(u8x16::splat(b'&'))
-            | block.simd_eq(u8x16::splat(b'<'))
-            | block.simd_eq(u8x16::splat(b']'))).to_bitmask()
+        classes(TEXT_LOW, TEXT_HIGH, block)
+            .simd_ne(u8x16::splat(0))
+            .to_bitmask()
     }
 }
 
 /// The bytes of a comment that stand for themselves.
 pub struct CommentByte;
+
+// Classes that a byte of the set has none of, and any other has one.
+const COMMENT_LOW: [u8; 16] = [3, 3, 3, 3, 3, 3, 3, 3, 3, 2, 2, 3, 3, 6, 3, 11];
+
+const COMMENT_HIGH: [u8; 16] = [1, 2, 4, 0, 0, 0, 0, 0, 0, 0, 0, 0, 0, 0, 8, 0];
 
 impl Near for CommentByte {
     ghost test = { near.is_comment_byte };
@@ -83,16 +92,19 @@ impl Near for CommentByte {
 
     #[inline(always)]
     fn others(block: u8x16) -> u64 {
-        (block.simd_lt(u8x16::splat(9))
-            | (block - u8x16::splat(11)).simd_lt(u8x16::splat(2))
-            | (block - u8x16::splat(14)).simd_lt(u8x16::splat(18))
-            | block.simd_eq(u8x16::splat(239))
-            | block.simd_eq(u8x16::splat(b'-'))).to_bitmask()
+        classes(COMMENT_LOW, COMMENT_HIGH, block)
+            .simd_ne(u8x16::splat(0))
+            .to_bitmask()
     }
 }
 
 /// The ASCII bytes of a part of a name.
 pub struct PartByte;
+
+// Classes that each byte of the set has one of, and no other.
+const PART_LOW: [u8; 16] = [26, 30, 30, 30, 30, 30, 30, 30, 30, 30, 28, 4, 4, 5, 5, 12];
+
+const PART_HIGH: [u8; 16] = [0, 0, 1, 2, 4, 8, 4, 16, 0, 0, 0, 0, 0, 0, 0, 0];
 
 impl Near for PartByte {
     ghost test = { near.is_part_byte };
@@ -104,12 +116,9 @@ impl Near for PartByte {
 
     #[inline(always)]
     fn others(block: u8x16) -> u64 {
-        (block.simd_lt(u8x16::splat(b'-'))
-            | block.simd_eq(u8x16::splat(b'/'))
-            | (block - u8x16::splat(b':')).simd_lt(u8x16::splat(7))
-            | (block - u8x16::splat(b'[')).simd_lt(u8x16::splat(4))
-            | block.simd_eq(u8x16::splat(b'`'))
-            | block.simd_ge(u8x16::splat(b'{'))).to_bitmask()
+        classes(PART_LOW, PART_HIGH, block)
+            .simd_eq(u8x16::splat(0))
+            .to_bitmask()
     }
 }
 
@@ -134,28 +143,32 @@ fn before_first(others: u64) -> usize
     others.trailing_zeros() as usize
 }
 
-/// Where the bytes of the set from `at` on end, or the whole blocks of sixteen from there, whichever is first.
+/// Where the bytes of the set from `at` on end.
 #[inline(always)]
-fn blocks_end<C: Near>(bytes: &[u8], at: usize) -> usize
+fn bytes_end<C: Near>(bytes: &[u8], at: usize) -> usize
     requires { at ≤ length bytes.now }
     ensures onward { at ≤ result }
-    ensures within { result ≤ near.blocks_to bytes.now at }
+    ensures within { result ≤ length bytes.now }
     ensures passes { AllPass C.test bytes.now at result }
-    ensures stops { result < near.blocks_to bytes.now at → C.test (slice_index bytes.now result) ≡ false }
+    ensures stops { result < length bytes.now → C.test (slice_index bytes.now result) ≡ false }
 {
-    let mut end = at;
-    while bytes.len() - end >= 16 {
-        let others = others_at::<C>(bytes, end);
+    let mut block = at;
+    while bytes.len() - block >= 16 {
+        let others = others_at::<C>(bytes, block);
         if others != 0 {
             // The step is the same for each block, so that no block waits for the count of the one before.
-            return end + before_first(others);
+            return block + before_first(others);
         }
-        end += 16;
+        block += 16;
+    }
+    let mut end = block;
+    while end < bytes.len() && C::has(bytes[end]) {
+        end += 1;
     }
     end
 }
 
-/// Where the bytes of the set from `at` on end.
+/// The same of a text.
 #[inline(always)]
 pub fn near_end<C: Near>(text: &str, at: usize) -> usize
     requires { at ≤ length text.now }
@@ -164,12 +177,17 @@ pub fn near_end<C: Near>(text: &str, at: usize) -> usize
     ensures passes { AllPass C.test text.now at result }
     ensures stops { result < length text.now → C.test (slice_index text.now result) ≡ false }
 {
+    bytes_end::<C>(text.as_bytes(), at)
+}
+
+/// Whether an ASCII byte stands at `at`, or nothing.
+#[inline(always)]
+fn is_ascii_at(text: &str, at: usize) -> bool
+    ensures ascii { result ≡ true → at < length text.now → slice_index text.now at < 128 }
+    ensures wide { result ≡ false → (at < length text.now) × (128 ≤ slice_index text.now at) }
+{
     let bytes = text.as_bytes();
-    let mut end = blocks_end::<C>(bytes, at);
-    while end < bytes.len() && C::has(bytes[end]) {
-        end += 1;
-    }
-    end
+    at >= bytes.len() || bytes[at] < 128
 }
 
 /// Where the part of a name that begins at `at` ends.
@@ -180,5 +198,9 @@ pub fn part_end(text: &str, at: usize) -> usize
     ensures onward { at ≤ result }
     ensures cut { IsCharBoundary text.now result }
 {
-    run_end::<PartChar>(text, near_end::<PartByte>(text, at))
+    let near = near_end::<PartByte>(text, at);
+    if is_ascii_at(text, near) {
+        return near;
+    }
+    run_end::<PartChar>(text, near)
 }

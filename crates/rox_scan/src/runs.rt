@@ -49,9 +49,9 @@ impl Class for NameStart {
         chars::is_name_start(c)
     }
 
-    #[inline]
+    #[inline(always)]
     fn has_byte(b: u8) -> bool {
-        chars::is_name_start(char::from(b))
+        chars::is_start_byte(b)
     }
 }
 
@@ -86,23 +86,6 @@ impl Class for XmlChar {
     #[inline]
     fn has_byte(b: u8) -> bool {
         chars::is_char(char::from(b))
-    }
-}
-
-/// White space.
-pub struct Space;
-
-impl Class for Space {
-    ghost test = { spec.is_space };
-
-    #[inline]
-    fn has(c: char) -> bool {
-        c == ' ' || c == '\t' || c == '\n' || c == '\r'
-    }
-
-    #[inline]
-    fn has_byte(b: u8) -> bool {
-        chars::is_space(b)
     }
 }
 
@@ -148,6 +131,23 @@ pub fn run_end<C: Class>(text: &str, at: usize) -> usize
         }
     }
     i
+}
+
+/// Where the white space that begins at `at` ends.
+#[inline(always)]
+#[tactic(auto, using(crate::proofs::RunLemmas::space_steps))]
+pub fn space_end(text: &str, at: usize) -> usize
+    requires { IsCharBoundary text.now at }
+    ensures end { result ≡ run_end spec.is_space text.now at }
+    ensures onward { at ≤ result }
+    ensures cut { IsCharBoundary text.now result }
+{
+    let bytes = text.as_bytes();
+    let mut end = at;
+    while end < bytes.len() && chars::is_space(bytes[end]) {
+        end += 1;
+    }
+    end
 }
 
 /// Whether a character of the class begins at `at`.

@@ -1,9 +1,10 @@
 -- The mask is held against the definition at each of the 256 bytes, by computing.
 use Rattle.std.proofs.Common.{not, refl, arith}
-use Rattle.std.proofs.lemmas.Simd.{zip2_splat}
+use Rattle.rox_scan.specs.Halves.{class_of}
 use Rattle.rox_scan.specs.Near.{is_text_byte}
+use Rattle.rox_scan.specs.declared.near.TheConstants.{TEXT_LOW, TEXT_HIGH}
 use Rattle.rox_scan.proofs.TableLemmas.{agree_below}
-use Rattle.rox_scan.proofs.LaneLemmas.{masked, either, against, below, less, equals}
+use Rattle.rox_scan.proofs.LaneLemmas.{masked, against, differs}
 use Rattle.rox_scan.proofs.near.TextByteNear.others.Goals as goal
 
 pub returns : goal.returns
@@ -11,11 +12,5 @@ unfolding agree_below is_text_byte
 returns c =
     let v = c.args.block in
     let long = c.fits-block.0 in
-    masked _ (λ b. not (is_text_byte b)) v _ (omega (arith, long)) c.fits-block.1 (
-    (either _ _ v (either _ _ v (either _ _ v (either _ _ v (either _ _ v
-    (zip2_splat below v 16 9 long)
-    (against below _ 21 16 v long (zip2_splat less v 16 11 long)))
-    (zip2_splat equals v 16 239 long))
-    (zip2_splat equals v 16 38 long))
-    (zip2_splat equals v 16 60 long))
-    (zip2_splat equals v 16 93 long))) refl
+    masked _ (λ b. not (is_text_byte b)) v _ (omega (arith, long)) c.fits-block.1
+    (against differs (class_of TEXT_LOW TEXT_HIGH) 0 16 v long c.classes.ensures) refl

@@ -1,10 +1,10 @@
 -- The mask is held against the definition at each of the 256 bytes, by computing.
 use Rattle.std.proofs.Common.{not, refl, arith}
-use Rattle.std.proofs.lemmas.Simd.{zip2_splat}
+use Rattle.rox_scan.specs.Halves.{class_of}
 use Rattle.rox_scan.specs.Near.{is_value_byte}
+use Rattle.rox_scan.specs.declared.near.TheConstants.{VALUE_LOW, VALUE_HIGH}
 use Rattle.rox_scan.proofs.TableLemmas.{agree_below}
-use Rattle.rox_scan.proofs.LaneLemmas.{masked, either, against, below, equals}
-use lib.Bits.{bit_or}
+use Rattle.rox_scan.proofs.LaneLemmas.{masked, against, differs}
 use Rattle.rox_scan.proofs.near.ValueByteNear.others.Goals as goal
 
 pub returns : goal.returns
@@ -12,10 +12,5 @@ unfolding agree_below is_value_byte
 returns c =
     let v = c.args.block in
     let long = c.fits-block.0 in
-    masked _ (λ b. not (is_value_byte b)) v _ (omega (arith, long)) c.fits-block.1 (
-    (either _ _ v (either _ _ v (either _ _ v (either _ _ v
-    (zip2_splat below v 16 32 long)
-    (zip2_splat equals v 16 239 long))
-    (zip2_splat equals v 16 34 long))
-    (against equals _ 39 16 v long (zip2_splat bit_or v 16 1 long)))
-    (zip2_splat equals v 16 60 long))) refl
+    masked _ (λ b. not (is_value_byte b)) v _ (omega (arith, long)) c.fits-block.1
+    (against differs (class_of VALUE_LOW VALUE_HIGH) 0 16 v long c.classes.ensures) refl

@@ -1,0 +1,349 @@
+//! The parts of a document type declaration (XML 1.0 sections 2.8, 4.2, 4.3.1, 4.7), and where a resolver's answer begins.
+
+ghost use Rattle.std.specs.Prelude.{◌≡◌, ◌==◌, ◌≤◌, ◌+◌, IfOk, Some, IsUtf8, slice_index, slice_range, true};
+ghost use Rattle.std.specs.List.{starts_with};
+ghost use Rattle.rox_grammar.specs.Start.{after_bom, bom};
+ghost use Rattle.rox_grammar.specs.Marks.{stands};
+ghost use Rattle.rox_grammar.specs.Words.{word_text};
+ghost use Rattle.rox_grammar.specs.declared.fault.Word.TheVariants as word;
+ghost use Rattle.rox_reading.specs.Doctype as spec;
+ghost use Rattle.rox_scan.specs.Gives.{Reads};
+ghost use Rattle.rox_scan.specs.Doctypes.{IsWithin, IsReplacement, declaration_if, definition_view, head_view, inner_at, is_passed_over, outer_at, passed_over_at, request_view, subset_end_at};
+
+use crate::cursor::Cursor;
+use crate::marks::byte_from;
+use crate::runs::{after_byte, is_at};
+use rox_grammar::fault::{Due, Fault, Word};
+
+/// What an external entity is known by: its public identifier, if it has one, and its system identifier, as they are written
+/// (XML 1.0 [75] ExternalID).
+#[derive(Clone, Copy, Debug)]
+pub struct ExternalId<'input> {
+    pub public_id: Option<&'input str>,
+    pub uri: &'input str,
+}
+
+/// What an entity is declared as (XML 1.0 [73] EntityDef, [74] PEDef).
+#[derive(Clone, Copy)]
+pub enum Definition<'input> {
+    /// The text in quotes: its start, in the source cut off at its end.
+    Inner(Cursor<'input>),
+    /// What has to be asked for.
+    Outer(ExternalId<'input>),
+}
+
+/// An entity's declaration, up to its definition.
+#[derive(Clone, Copy, Debug)]
+pub struct EntityHead<'input> {
+    /// Whether it is a parameter entity, declared by `%`.
+    pub parameter: bool,
+    pub name: &'input str,
+}
+
+impl<'input> Cursor<'input> {
+    /// The places between which a text in quotes stands. It ends at the first quote like the one before it.
+    #[tactic(auto, unfolding(rox_reading::specs::Doctype::quoted_at))]
+    fn quoted_span(&mut self) -> Result<(usize, usize), Fault>
+        ensures value { Reads (λ x. slice_range self.old.text.now x.0 x.1) self.new result (spec.quoted_at self.old.text.now self.old.pos) }
+        ensures source { self.new.text ≡ self.old.text }
+        ensures onward { self.old.pos ≤ self.new.pos }
+        ensures start { IfOk result (λ x. x.0 ≡ self.old.pos + 1) }
+        ensures within { IfOk result (λ x. IsWithin self.old.text.now x.0 x.1) }
+    {
+        let quote = self.quote()?;
+        let start = self.pos;
+        let end = byte_from(self.text, start, quote);
+        self.pos = end;
+        self.byte(quote)?;
+        Ok((start, end))
+    }
+
+    /// Any characters but the quote, in quotes (XML 1.0 [11] SystemLiteral, [12] PubidLiteral). It answers the text between these.
+    #[tactic(auto, unfolding(rox_reading::specs::Doctype::quoted_at))]
+    fn quoted(&mut self) -> Result<&'input str, Fault>
+        ensures value { Reads (λ x. x.now) self.new result (spec.quoted_at self.old.text.now self.old.pos) }
+        ensures source { self.new.text ≡ self.old.text }
+        ensures onward { self.old.pos ≤ self.new.pos }
+    {
+        let (start, end) = self.quoted_span()?;
+        Ok(&self.text[start..end])
+    }
+
+    /// The system identifier, from `SYSTEM`.
+    #[tactic(auto, unfolding(rox_reading::specs::Doctype::system_at))]
+    fn system(&mut self) -> Result<ExternalId<'input>, Fault>
+        requires { stands (word_text word.System) self.old.text.now self.old.pos ≡ true }
+        ensures value { Reads request_view self.new result (spec.system_at self.old.text.now self.old.pos) }
+        ensures source { self.new.text ≡ self.old.text }
+        ensures onward { self.old.pos ≤ self.new.pos }
+    {
+        self.skip(Word::System);
+        self.space()?;
+        let uri = self.quoted()?;
+        Ok(ExternalId {
+            public_id: None,
+            uri,
+        })
+    }
+
+    /// The public identifier and the system identifier, from `PUBLIC`.
+    #[tactic(auto, unfolding(rox_reading::specs::Doctype::public_at))]
+    fn public(&mut self) -> Result<ExternalId<'input>, Fault>
+        requires { stands (word_text word.Public) self.old.text.now self.old.pos ≡ true }
+        ensures value { Reads request_view self.new result (spec.public_at self.old.text.now self.old.pos) }
+        ensures source { self.new.text ≡ self.old.text }
+        ensures onward { self.old.pos ≤ self.new.pos }
+    {
+        self.skip(Word::Public);
+        self.space()?;
+        let id = self.quoted()?;
+        self.space()?;
+        let uri = self.quoted()?;
+        Ok(ExternalId {
+            public_id: Some(id),
+            uri,
+        })
+    }
+
+    /// An external identifier, from `SYSTEM` or `PUBLIC` (XML 1.0 [75] ExternalID). Anything else is a fault.
+    #[tactic(auto, unfolding(rox_reading::specs::Doctype::external_id_at))]
+    fn external_id(&mut self) -> Result<ExternalId<'input>, Fault>
+        ensures value { Reads request_view self.new result (spec.external_id_at self.old.text.now self.old.pos) }
+        ensures source { self.new.text ≡ self.old.text }
+        ensures onward { self.old.pos ≤ self.new.pos }
+    {
+        if self.starts(Word::System) {
+            return self.system();
+        }
+        if self.starts(Word::Public) {
+            return self.public();
+        }
+        Err(Fault::InvalidExternalID(self.pos))
+    }
+
+    /// A name, or nothing where the source ends.
+    #[tactic(auto, unfolding(rox_reading::specs::Doctype::name_or_end_at))]
+    fn name_or_end(&mut self) -> Result<&'input str, Fault>
+        ensures value { Reads (λ x. x.now) self.new result (spec.name_or_end_at self.old.text.now self.old.pos) }
+        ensures source { self.new.text ≡ self.old.text }
+        ensures onward { self.old.pos ≤ self.new.pos }
+    {
+        if self.is_at_end() {
+            return Ok("");
+        }
+        self.name()
+    }
+
+    /// The notation of an external entity, if one is named here (XML 1.0 [76] NDataDecl). A parameter entity has none.
+    #[tactic(auto, unfolding(rox_reading::specs::Doctype::notation_at))]
+    fn notation(&mut self, parameter: bool) -> Result<(), Fault>
+        ensures value { Reads (λ x. x) self.new result (spec.notation_at parameter self.old.text.now self.old.pos) }
+        ensures source { self.new.text ≡ self.old.text }
+        ensures onward { self.old.pos ≤ self.new.pos }
+    {
+        if parameter {
+            return Ok(());
+        }
+        let mut behind = Cursor::at(self.text, self.pos);
+        behind.spaces();
+        if !behind.starts(Word::NData) {
+            return Ok(());
+        }
+        behind.skip(Word::NData);
+        behind.space()?;
+        let _name = behind.name_or_end()?;
+        self.pos = behind.pos;
+        Ok(())
+    }
+
+    /// A text in quotes, as the replacement text that it is (XML 1.0 [9] EntityValue, section 4.5).
+    fn inner(&mut self) -> Result<Definition<'input>, Fault>
+        ensures value { Reads definition_view self.new result (inner_at self.old.text.now self.old.pos) }
+        ensures source { self.new.text ≡ self.old.text }
+        ensures onward { self.old.pos ≤ self.new.pos }
+    {
+        let (start, end) = self.quoted_span()?;
+        Ok(Definition::Inner(Cursor::within(self.text, start, end)))
+    }
+
+    /// An external identifier, and the notation behind it.
+    fn outer(&mut self, parameter: bool) -> Result<Definition<'input>, Fault>
+        ensures value { Reads definition_view self.new result (outer_at parameter self.old.text.now self.old.pos) }
+        ensures source { self.new.text ≡ self.old.text }
+        ensures onward { self.old.pos ≤ self.new.pos }
+    {
+        let id = self.external_id()?;
+        self.notation(parameter)?;
+        Ok(Definition::Outer(id))
+    }
+
+    /// What an entity is declared as (XML 1.0 [73] EntityDef, [74] PEDef). Where neither a quote nor the first letter of
+    /// `SYSTEM` or `PUBLIC` stands it is a fault, and so is the end.
+    #[tactic(auto, unfolding(rox_reading::specs::Doctype::definition_at))]
+    pub fn definition(&mut self, parameter: bool) -> Result<Definition<'input>, Fault>
+        ensures value { Reads definition_view self.new result (spec.definition_at parameter self.old.text.now self.old.pos) }
+        ensures source { self.new.text ≡ self.old.text }
+        ensures onward { self.old.pos ≤ self.new.pos }
+    {
+        if self.pos >= self.text.len() {
+            return Err(Fault::UnexpectedEndOfStream);
+        }
+        let here = self.text.as_bytes()[self.pos];
+        if here == b'"' || here == b'\'' {
+            return self.inner();
+        }
+        if here == b'S' || here == b'P' {
+            return self.outer(parameter);
+        }
+        Err(Fault::InvalidChar2(Due::EntityDefinition, here, self.pos))
+    }
+
+    /// `%` and the white space behind it, if it stands here. Answers whether it does.
+    #[tactic(auto, unfolding(rox_reading::specs::Doctype::kind_at))]
+    fn kind(&mut self) -> Result<bool, Fault>
+        ensures value { Reads (λ x. x) self.new result (spec.kind_at self.old.text.now self.old.pos) }
+        ensures source { self.new.text ≡ self.old.text }
+        ensures onward { self.old.pos ≤ self.new.pos }
+    {
+        if !is_at(self.text, self.pos, b'%') {
+            return Ok(false);
+        }
+        self.pos = after_byte(self.text, self.pos, b'%');
+        self.space()?;
+        Ok(true)
+    }
+
+    /// An entity's declaration, from `<!ENTITY` up to its definition (XML 1.0 [71] GEDecl, [72] PEDecl).
+    #[tactic(auto, unfolding(rox_reading::specs::Doctype::entity_head_at))]
+    pub fn entity_head(&mut self) -> Result<EntityHead<'input>, Fault>
+        requires { stands (word_text word.EntityStart) self.old.text.now self.old.pos ≡ true }
+        ensures value { Reads head_view self.new result (spec.entity_head_at self.old.text.now self.old.pos) }
+        ensures source { self.new.text ≡ self.old.text }
+        ensures onward { self.old.pos ≤ self.new.pos }
+    {
+        self.skip(Word::EntityStart);
+        self.space()?;
+        let parameter = self.kind()?;
+        let name = self.name()?;
+        self.space()?;
+        Ok(EntityHead { parameter, name })
+    }
+
+    /// An external identifier, if one stands here.
+    #[tactic(auto, unfolding(rox_reading::specs::Doctype::external_id_if))]
+    fn external_id_if(&mut self) -> Result<(), Fault>
+        ensures value { Reads (λ x. x) self.new result (spec.external_id_if self.old.text.now self.old.pos) }
+        ensures source { self.new.text ≡ self.old.text }
+        ensures onward { self.old.pos ≤ self.new.pos }
+    {
+        if self.starts(Word::System) || self.starts(Word::Public) {
+            let _id = self.external_id()?;
+        }
+        Ok(())
+    }
+
+    /// A document type declaration, from `<!DOCTYPE` up to its `[` or `>` (XML 1.0 [28] doctypedecl). Its external subset is
+    /// never asked for.
+    #[tactic(auto, unfolding(rox_reading::specs::Doctype::doctype_head_at))]
+    pub fn doctype_head(&mut self) -> Result<(), Fault>
+        requires { stands (word_text word.DoctypeStart) self.old.text.now self.old.pos ≡ true }
+        ensures value { Reads (λ x. x) self.new result (spec.doctype_head_at self.old.text.now self.old.pos) }
+        ensures source { self.new.text ≡ self.old.text }
+        ensures onward { self.old.pos ≤ self.new.pos }
+    {
+        self.skip(Word::DoctypeStart);
+        self.space()?;
+        let _name = self.name_or_end()?;
+        self.spaces();
+        self.external_id_if()?;
+        self.spaces();
+        Ok(())
+    }
+
+    /// Whether a declaration stands here that is passed over (XML 1.0 [45] elementdecl, [52] AttlistDecl, [82] NotationDecl).
+    pub fn is_passed_over(&self) -> bool
+        ensures { result ≡ is_passed_over self.now.text.now self.now.pos }
+    {
+        self.starts(Word::ElementStart)
+            || self.starts(Word::AttlistStart)
+            || self.starts(Word::NotationStart)
+    }
+
+    /// Moves past a declaration, to its first `>`, even one within quotes. Where none follows it is a fault at `start`, where
+    /// the document type declaration begins.
+    pub fn pass_over(&mut self, start: usize) -> Result<(), Fault>
+        ensures value { Reads (λ x. x) self.new result (passed_over_at start self.old.text.now self.old.pos) }
+        ensures source { self.new.text ≡ self.old.text }
+        ensures onward { self.old.pos ≤ self.new.pos }
+    {
+        let end = byte_from(self.text, self.pos, b'>');
+        if end >= self.text.len() {
+            return Err(Fault::UnknownToken(start));
+        }
+        self.pos = end + 1;
+        Ok(())
+    }
+
+    /// The end of a document type declaration, from the `]` of its internal subset (XML 1.0 [28] doctypedecl).
+    pub fn subset_end(&mut self) -> Result<(), Fault>
+        requires { slice_index self.old.text.now self.old.pos ≡ 93 }
+        ensures value { Reads (λ x. x) self.new result (subset_end_at self.old.text.now self.old.pos) }
+        ensures source { self.new.text ≡ self.old.text }
+        ensures onward { self.old.pos ≤ self.new.pos }
+    {
+        self.pos = after_byte(self.text, self.pos, b']');
+        self.spaces();
+        if self.pos >= self.text.len() {
+            return Err(Fault::UnexpectedEndOfStream);
+        }
+        let here = self.text.as_bytes()[self.pos];
+        if here != b'>' {
+            return Err(Fault::InvalidChar2(Due::End, here, self.pos));
+        }
+        self.advance();
+        Ok(())
+    }
+
+    /// The declaration that a text begins with, if it does (XML 1.0 [23] XMLDecl, [77] TextDecl).
+    pub fn declaration_if(&mut self) -> Result<(), Fault>
+        ensures value { Reads (λ x. x) self.new result (declaration_if self.old.text.now self.old.pos) }
+        ensures source { self.new.text ≡ self.old.text }
+        ensures onward { self.old.pos ≤ self.new.pos }
+    {
+        if self.starts(Word::DeclarationStart) {
+            return self.declaration();
+        }
+        Ok(())
+    }
+}
+
+/// Whether a byte order mark stands at the start (XML 1.0 section 4.3.3).
+fn has_byte_order_mark(text: &str) -> bool
+    ensures { result ≡ starts_with ◌==◌ text.now bom }
+{
+    text.as_bytes().starts_with(b"\xEF\xBB\xBF")
+}
+
+/// The start of a text, behind its byte order mark if it has one.
+pub fn start_of(text: &str) -> Cursor<'_>
+    ensures place { result.pos ≡ after_bom text.entry.now }
+    ensures source { result.text ≡ text.entry }
+{
+    if has_byte_order_mark(text) {
+        Cursor::at(text, 3)
+    } else {
+        Cursor::new(text)
+    }
+}
+
+/// The replacement text that a resolver's answer gives: what follows its byte order mark and its declaration (XML 1.0 section
+/// 4.3.1). It counts its places from its own start.
+#[tactic(auto, unfolding(rox_reading::specs::Doctype::answer_text))]
+pub fn replacement_in<'input>(answer: &'input str) -> Result<Cursor<'input>, Fault>
+    ensures value { IsReplacement answer.entry.now result (spec.answer_text (Some answer.entry.now)) }
+    ensures text { IsUtf8 answer.entry.now }
+{
+    let mut cursor = start_of(answer);
+    cursor.declaration_if()?;
+    Ok(Cursor::new(&answer[cursor.pos..]))
+}
