@@ -1,5 +1,6 @@
 -- What a position and an error print.
-use Rattle.std.specs.Prelude.{ℕ, List, ◌++◌, Option, Some, None, codes, decimal, string_bytes, encode_utf8}
+use Rattle.std.specs.Prelude.{ℕ, List, ◌++◌, Option, Some, codes, if◌then◌else◌, ◌==◌, decimal, string_bytes, encode_utf8}
+use Rattle.std.specs.Fmt.{◌++?◌, debug_char}
 use Rattle.rox_error.specs.declared.position.TextPos.{TextPos}
 use Rattle.rox_error.specs.declared.error.Error.{Error}
 use Rattle.rox_error.specs.declared.error.Error.TheVariants as error
@@ -8,7 +9,11 @@ use Rattle.rox_error.specs.declared.error.Error.TheVariants as error
 abbrev pub position_text : TextPos → List ℕ
 position_text p = decimal p.row ++ (codes ":" ++ decimal p.col)
 
--- All but the kind that prints a character in its debug form, of which nothing is said.
+-- the debug form of a character: of those past ASCII it is said of the two that no text may have (XML 1.0 section 2.2)
+abbrev pub quoted : ℕ → Option (List ℕ)
+quoted c = if c == 65534 then Some (codes "'\\u{fffe}'") else if c == 65535 then Some (codes "'\\u{ffff}'") else debug_char c
+
+-- the text of an error: for each kind, and for `NonXmlChar` of each character that no text may have
 abbrev pub message : Error → Option (List ℕ)
 message (error.InvalidXmlPrefixUri p) = Some (codes "'xml' namespace prefix mapped to wrong URI at " ++ position_text p)
 message (error.UnexpectedXmlUri p) = Some (codes "the 'xml' namespace URI is used for not 'xml' prefix at " ++ position_text p)
@@ -31,7 +36,7 @@ message error.NodesLimitReached = Some (codes "nodes limit reached")
 message error.AttributesLimitReached = Some (codes "more than 2^32 attributes were parsed")
 message error.NamespacesLimitReached = Some (codes "more than 2^16 unique namespaces were parsed")
 message (error.InvalidName p) = Some (codes "invalid name token at " ++ position_text p)
-message (error.NonXmlChar c p) = None
+message (error.NonXmlChar c p) = Some (codes "a non-XML character ") ++? quoted c ++? Some (codes " found at " ++ position_text p)
 message (error.InvalidChar e a p) = Some (codes "expected '" ++ (encode_utf8 e ++ (codes "' not '" ++ (encode_utf8 a ++ (codes "' at " ++ position_text p)))))
 message (error.InvalidChar2 e a p) = Some (codes "expected " ++ (e.now ++ (codes " not '" ++ (encode_utf8 a ++ (codes "' at " ++ position_text p)))))
 message (error.InvalidString s p) = Some (codes "expected '" ++ (s.now ++ (codes "' at " ++ position_text p)))

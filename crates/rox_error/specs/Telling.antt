@@ -1,5 +1,5 @@
 -- The error that a fault of a source becomes.
-use Rattle.std.specs.Prelude.{◌≡◌, ◌≤◌, ◌⊎◌, ℕ, List, [], codes, string_bytes, String, slice_range, IsCharBoundary}
+use Rattle.std.specs.Prelude.{◌≡◌, ◌⊎◌, ℕ, List, codes, string_bytes, String, slice_range}
 use Rattle.std.specs.Borrow.{Bor}
 use Rattle.std.specs.declared.alloc.Global.{Global}
 use Rattle.rox_grammar.specs.declared.fault.Span.{Span}
@@ -106,8 +106,6 @@ IsErrorOf src (fault.InvalidChar2 expected actual at) e =
 IsErrorOf src (fault.InvalidString expected at) e =
     (words : Bor (List ℕ)) × (words.now ≡ word_text expected) × (e ≡ error.InvalidString words (position_at src at))
 IsErrorOf src (fault.InvalidExternalID at) e = e ≡ error.InvalidExternalID (position_at src at)
-IsErrorOf src (fault.EntityResolver at) e =
-    (words : String Global) × (string_bytes words ≡ []) × (e ≡ error.EntityResolver (position_at src at) words)
 IsErrorOf src (fault.InvalidComment at) e = e ≡ error.InvalidComment (position_at src at)
 IsErrorOf src (fault.InvalidCharacterData at) e = e ≡ error.InvalidCharacterData (position_at src at)
 IsErrorOf src (fault.UnknownToken at) e = e ≡ error.UnknownToken (position_at src at)

@@ -1,12 +1,13 @@
 //! Why a text is refused, as a caller is told.
 
 use crate::position::TextPos;
-use std::alloc::AllocError;
+use std::alloc::{AllocError, AllocFailed};
 use std::fmt;
 
-/// Why a text is refused. Each kind but those without a field keeps the position that it is named at.
+/// Why a text is refused. Each kind but those without a field keeps the position that it is named at. What was due is named by
+/// fixed words, so callers have it as `Error<'static>`; a function that asks a resolver gives it at any lifetime.
 #[derive(Clone, Debug, Drop, PartialEq, Eq, Hash)]
-pub enum Error {
+pub enum Error<'w> {
     /// The prefix `xml` is declared with another URI (Namespaces in XML section 3).
     InvalidXmlPrefixUri(TextPos),
     /// The URI of the prefix `xml` is declared for another prefix (Namespaces in XML section 3).
@@ -29,23 +30,25 @@ pub enum Error {
     MalformedEntityReference(TextPos),
     /// References lie too deep or are too many inside replacement texts.
     EntityReferenceLoop(TextPos),
-    /// An attribute's value has a `<` (XML 1.0 section 3.1).
+    /// A replacement text brings a `<` into an attribute's value (XML 1.0 section 3.1). One that stands in the value itself is
+    /// an `InvalidChar`, in place of the closing quote.
     InvalidAttributeValue(TextPos),
     /// Two attributes of one element have one name.
     DuplicatedAttribute(String, TextPos),
-    /// There is no element.
+    /// There is no element, or the text ends in the start tag of the first one, right behind its name or an attribute.
     NoRootNode,
     /// The text ends inside the root element.
     UnclosedRootNode,
-    /// A processing instruction has the target `xml` (XML 1.0 section 2.6).
+    /// `<?xml` and a space stand elsewhere than at the start of the text (XML 1.0 section 2.8). Where no space follows, and
+    /// for other letters, as in `<?XML?>`, it is a processing instruction.
     UnexpectedDeclaration(TextPos),
     /// There is a DOCTYPE, and none is allowed.
     DtdDetected,
     /// There are more nodes than are allowed.
     NodesLimitReached,
-    /// There are more attributes than a `u32` counts.
+    /// There are more than 4,294,967,294 attributes, declarations of namespaces aside.
     AttributesLimitReached,
-    /// There are more distinct namespaces than a `u16` counts.
+    /// There are more than 65,535 distinct pairs of a prefix, or the default, and a URI that are declared and listed.
     NamespacesLimitReached,
     /// No Name stands where one is due (XML 1.0 section 2.3).
     InvalidName(TextPos),
@@ -54,9 +57,9 @@ pub enum Error {
     /// The byte that is due, and the one that stands there.
     InvalidChar(u8, u8, TextPos),
     /// What is due, and the byte that stands there.
-    InvalidChar2(&'static str, u8, TextPos),
+    InvalidChar2(&'w str, u8, TextPos),
     /// The text that is due.
-    InvalidString(&'static str, TextPos),
+    InvalidString(&'w str, TextPos),
     /// No ExternalID stands where one is due (XML 1.0 section 4.2.2).
     InvalidExternalID(TextPos),
     /// The resolver of external entities refused, with these words.
@@ -73,7 +76,7 @@ pub enum Error {
     OutOfMemory,
 }
 
-impl Error {
+impl Error<'_> {
     ghost use Rattle.std.specs.Prelude.{◌≡◌};
     ghost use Rattle.rox_error.specs.Telling.{position_of};
 
@@ -118,7 +121,7 @@ impl Error {
     }
 }
 
-impl fmt::Display for Error {
+impl fmt::Display for Error<'_> {
     ghost use Rattle.rox_error.specs.Messages.{message};
 
     ghost output = { message };
@@ -182,10 +185,10 @@ impl fmt::Display for Error {
                 "more than 2^16 unique namespaces were parsed"
             ),
             Error::InvalidName(pos) => write!(f, "invalid name token at {pos}"),
-            Error::NonXmlChar(character, pos) => write!(
-                f,
-                "a non-XML character {character:?} found at {pos}"
-            ),
+            Error::NonXmlChar(character, pos) => {
+                let quoted = Quoted(*character);
+                write!(f, "a non-XML character {quoted} found at {pos}")
+            }
             Error::InvalidChar(expected, actual, pos) => {
                 let expected = char::from(*expected);
                 let actual = char::from(*actual);
@@ -213,15 +216,44 @@ impl fmt::Display for Error {
     }
 }
 
-impl std::error::Error for Error {}
+/// A character between quotes, as its debug form has it. That of the two past ASCII that no text may have is written here.
+#[derive(Drop)]
+struct Quoted(char);
 
-impl From<AllocError> for Error {
+impl fmt::Display for Quoted {
+    ghost use Rattle.rox_error.specs.Messages.{quoted};
+
+    ghost output = { λ q. quoted q.0 };
+
+    fn fmt<W: fmt::Write>(&self, f: &mut fmt::Formatter<W>) -> fmt::Result {
+        match self.0 {
+            '\u{fffe}' => write!(f, "'\\u{{fffe}}'"),
+            '\u{ffff}' => write!(f, "'\\u{{ffff}}'"),
+            character => write!(f, "{character:?}"),
+        }
+    }
+}
+
+impl std::error::Error for Error<'_> {}
+
+impl From<AllocError> for Error<'_> {
     ghost use Rattle.rox_error.specs.declared.error.Error.TheVariants.{OutOfMemory};
     ghost use Rattle.std.specs.Prelude.{◌≡◌};
 
     ghost from_gives = { λ _ e. e ≡ OutOfMemory };
 
-    fn from(_error: AllocError) -> Error {
+    fn from(_error: AllocError) -> Self {
+        Error::OutOfMemory
+    }
+}
+
+impl<T: Drop> From<AllocFailed<T>> for Error<'_> {
+    ghost use Rattle.rox_error.specs.declared.error.Error.TheVariants.{OutOfMemory};
+    ghost use Rattle.std.specs.Prelude.{◌≡◌};
+
+    ghost from_gives = { λ _ e. e ≡ OutOfMemory };
+
+    fn from(_error: AllocFailed<T>) -> Self {
         Error::OutOfMemory
     }
 }

@@ -11,11 +11,11 @@ use rox_grammar::fault::{Due, Fault, Span, Word};
 use std::alloc::{AllocError, Global};
 use std::str;
 
-impl Error {
+impl<'w> Error<'w> {
     /// The error of this fault of `text`: rows and columns in place of counts of bytes, and names in place of spans. Where
     /// there is no memory for a name it is `OutOfMemory`.
     #[cold]
-    pub fn from_fault(alloc: Global, text: &str, fault: Fault) -> Error
+    pub fn from_fault(alloc: Global, text: &str, fault: Fault) -> Error<'w>
         ensures { IsErrorOf text.now fault result }
     {
         match told(alloc, text, fault) {
@@ -23,10 +23,18 @@ impl Error {
             Err(_) => Error::OutOfMemory,
         }
     }
+
+    /// The error of a resolver that refused the request which ends at `at` of `text`, with these words.
+    #[cold]
+    pub fn from_resolver(text: &str, at: usize, words: String) -> Error<'w>
+        ensures { result ≡ error.EntityResolver (position_at text.now at) words }
+    {
+        Error::EntityResolver(pos(text, at), words)
+    }
 }
 
 /// The error of a fault. The only `Err` is want of memory for a name.
-fn told(alloc: Global, text: &str, fault: Fault) -> Result<Error, AllocError>
+fn told<'w>(alloc: Global, text: &str, fault: Fault) -> Result<Error<'w>, AllocError>
     ensures { MatchResult result (IsErrorOf text.now fault) (λ _. IsErrorOf text.now fault error.OutOfMemory) }
 {
     match fault {
@@ -85,7 +93,6 @@ fn told(alloc: Global, text: &str, fault: Fault) -> Result<Error, AllocError>
             pos(text, at),
         )),
         Fault::InvalidExternalID(at) => Ok(Error::InvalidExternalID(pos(text, at))),
-        Fault::EntityResolver(at) => Ok(Error::EntityResolver(pos(text, at), String::new(alloc))),
         Fault::InvalidComment(at) => Ok(Error::InvalidComment(pos(text, at))),
         Fault::InvalidCharacterData(at) => Ok(Error::InvalidCharacterData(pos(text, at))),
         Fault::UnknownToken(at) => Ok(Error::UnknownToken(pos(text, at))),

@@ -3,10 +3,11 @@
 use crate::error::Error;
 use crate::position::{TextPos, text_pos_at};
 use rox_grammar::fault::{Due, Fault, Span, Word};
+use std::alloc::Global;
 use std::process::Abort;
 use std::test::Fail;
 
-fn shows(rt: &(impl Abort + AllocGlobal), error: Error, text: &str) {
+fn shows(rt: &(impl Abort + AllocGlobal), error: Error<'_>, text: &str) {
     let shown = error.to_string(rt.alloc()).expect(rt, "memory");
     assert_eq!(rt; shown.as_str(), text);
 }
@@ -168,11 +169,15 @@ fn constructs(rt: HostRuntime) {
 fn characters(rt: HostRuntime) {
     let p = place();
     shows(&rt, Error::InvalidName(p), "invalid name token at 2:7");
-    shows(
-        &rt,
-        Error::NonXmlChar('\u{1}', p),
-        "a non-XML character '\\u{1}' found at 2:7",
-    );
+    for (character, text) in [
+        ('\0', "a non-XML character '\\0' found at 2:7"),
+        ('\u{1}', "a non-XML character '\\u{1}' found at 2:7"),
+        ('\u{fffe}', "a non-XML character '\\u{fffe}' found at 2:7"),
+        ('\u{ffff}', "a non-XML character '\\u{ffff}' found at 2:7"),
+        ('\u{e9}', "a non-XML character 'é' found at 2:7"),
+    ] {
+        shows(&rt, Error::NonXmlChar(character, p), text);
+    }
     shows(
         &rt,
         Error::InvalidChar(b'>', b'/', p),
@@ -227,5 +232,21 @@ fn copies_are_equal(rt: HostRuntime) -> Result<(), Fail> {
     assert_ne!(rt; error, other);
     assert_eq!(rt; copy.pos(), place());
     assert_eq!(rt; Error::NoRootNode.pos(), TextPos::new(1, 1));
+    Ok(())
+}
+
+/// A list of one position, whose growth may be refused.
+fn listed(alloc: Global) -> Result<Vec<TextPos>, Error<'static>> {
+    let mut places = Vec::new(alloc);
+    places.push(place())?;
+    Ok(places)
+}
+
+#[test]
+fn want_of_memory_is_an_error(rt: HostRuntime) -> Result<(), Fail> {
+    match listed(rt.alloc()) {
+        Ok(places) => assert_eq!(rt; places.len(), 1),
+        Err(error) => assert_eq!(rt; error, Error::OutOfMemory),
+    }
     Ok(())
 }

@@ -32,8 +32,3 @@ returns-in_ok-named-in-UnexpectedCloseTag-2 c =
     let other = c.in_ok-named-in-UnexpectedCloseTag-2.field-0 in
     let same = ap (error.UnexpectedCloseTag one other) c.pos-in-UnexpectedCloseTag.ensures in
     rw c.in-UnexpectedCloseTag.is (inl (one, other, c.in_ok-named-in-UnexpectedCloseTag.ensures, c.in_ok-named-in-UnexpectedCloseTag-2.ensures, same))
-
-pub returns-in-EntityResolver : goal.returns-in-EntityResolver
-returns-in-EntityResolver c =
-    let same = ap (λ p. error.EntityResolver p c.new.result) c.pos-in-EntityResolver.ensures in
-    rw c.in-EntityResolver.is (c.new.result, c.new.ensures.bytes, same)
