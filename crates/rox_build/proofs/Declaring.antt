@@ -10,7 +10,8 @@ use Rattle.rox_grammar.specs.Written.{Attribute, Declaration, declaration_of, lo
 use Rattle.rox_grammar.specs.Tree.{is_declared, listed}
 use Rattle.rox_grammar.specs.WellNamed.{is_xml}
 use Rattle.rox_grammar.specs.Document.{with_new, most_pairs}
-use Rattle.rox_reading.specs.Tags.{Held, uri_tested, listable_of, declared}
+use Rattle.rox_grammar.specs.Document.{listable_of}
+use Rattle.rox_reading.specs.Tags.{Held, uri_tested, declared}
 use Rattle.rox_scan.specs.Gives.{Fails}
 use Rattle.rox_scan.specs.declared.failure.Failure.{Failure}
 use Rattle.rox_scan.specs.declared.failure.Failure.TheVariants as failure

@@ -4,10 +4,10 @@ use Rattle.std.proofs.Math.ListN.{get_or-map}
 use Rattle.std.proofs.lemmas.List.{append-nil, map-set, length-set}
 use Rattle.rox_grammar.specs.Forest.{Forest, size}
 use Rattle.rox_grammar.specs.Written.{Item, merge}
-use Rattle.rox_grammar.specs.Tree.{resolved, document_tree}
-use Rattle.rox_reading.specs.State.{root}
+use Rattle.rox_grammar.specs.Tree.{Node, resolved, document_tree}
+use Rattle.rox_grammar.specs.State.{root}
 use Rattle.rox_reading.proofs.Forests.{size-resolved}
-use Rattle.rox_build.specs.Lines.{Line, lines, Holds, Sound}
+use Rattle.rox_build.specs.Lines.{Line, lines, Holds, Sound, rows_of}
 use Rattle.rox_build.specs.SoFar.{root_line, so_far}
 use Rattle.rox_build.specs.Shown.{IsWithin, AreSound, Settled, line_in}
 use Rattle.rox_build.specs.declared.tables.NodeData.{NodeData}
@@ -50,3 +50,16 @@ finish_holds end done b u h sound few change attributes namespaces listed =
     let some : 0 < length b.nodes.items = omega arith in
     let d = some_row b.nodes.items some in
     finish_with end done b u d h sound few (change d) attributes namespaces listed (first_within b.tables b.nodes.items some h.within)
+
+-- tables of the same rows hold the same tree, whatever room they have
+pub same_held : (t u : Tables) (tree : Forest Node) → u.nodes.items ≡ t.nodes.items → rows_of u.attributes ≡ rows_of t.attributes → u.namespaces ≡ t.namespaces → u.listed ≡ t.listed
+    → Holds t tree → Holds u tree
+same_held t u tree nodes attributes namespaces listed h = record {
+  rows = rw (nodes, attributes, namespaces, listed) h.rows;
+  sound = record {
+    nodes = rw (nodes, attributes, namespaces, listed) h.sound.nodes;
+    attributes = rw (attributes, namespaces) h.sound.attributes;
+    listed = rw (listed, namespaces) h.sound.listed;
+  };
+  few = rw nodes h.few;
+}

@@ -4,7 +4,7 @@ use Rattle.std.specs.List.{AllByRecursion, slice_range}
 use Rattle.std.proofs.lemmas.List.{length-map}
 use Rattle.rox_grammar.specs.Forest.{Forest}
 use Rattle.rox_grammar.specs.Written.{Item, Declaration}
-use Rattle.rox_reading.specs.State.{Open}
+use Rattle.rox_grammar.specs.State.{Open}
 use Rattle.rox_build.specs.Lines.{line, entry, NamespaceWithin, KindWithin, declaration, AttributeRow, rows_of}
 use Rattle.rox_build.specs.Shown.{opened, opened_in, names_in, line_in, IsWithin, IsOpenWithin, AreSound, Shows, Grown}
 use Rattle.rox_build.specs.declared.tables.NodeData.{NodeData}

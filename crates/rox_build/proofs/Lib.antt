@@ -8,7 +8,11 @@ pub mod Listing
 pub mod NameTests
 pub mod Columns
 pub mod Resolving
+pub mod Binding
+pub mod Declared
+pub mod Lifting
 pub mod PartLemmas
+pub mod ValueOpening
 pub mod PlainLemmas
 pub mod SectionLemmas
 pub mod Showing
@@ -20,6 +24,13 @@ pub mod Taking
 pub mod Starting
 pub mod ShortLemmas
 pub mod Opening
+pub mod Parting
+pub mod TextLooping
+pub mod TextOpening
 pub mod Looping
-pub mod Marking
 pub mod Wholes
+pub mod Seeing
+pub mod Asking
+pub mod Items
+pub mod Rooted
+pub mod Documents

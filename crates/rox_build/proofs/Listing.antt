@@ -6,7 +6,7 @@ use Rattle.rox_grammar.specs.Written.{Declaration}
 use Rattle.rox_grammar.specs.Tree.{same_prefix, is_declared, listed}
 use Rattle.rox_grammar.specs.WellNamed.{is_xml}
 use Rattle.rox_grammar.specs.Document.{has_pair, with_new}
-use Rattle.rox_reading.specs.Tags.{listable_of}
+use Rattle.rox_grammar.specs.Document.{listable_of}
 use Rattle.rox_build.specs.Scopes.{others}
 use Rattle.rox_build.proofs.Pairs.{same_prefix-true}
 
@@ -14,7 +14,7 @@ use Rattle.rox_build.proofs.Pairs.{same_prefix-true}
 abbrev pub declares_xml : List Declaration → Bool
 declares_xml own = list_any (λ d. is_xml d.prefix) own
 
-same_prefix-sym : (p q : Option (List ℕ)) → same_prefix p q ≡ same_prefix q p
+pub same_prefix-sym : (p q : Option (List ℕ)) → same_prefix p q ≡ same_prefix q p
 same_prefix-sym p q = both (same_prefix p q) (same_prefix q p) refl refl
   where
     both : (a b : Bool) → same_prefix p q ≡ a → same_prefix q p ≡ b → same_prefix p q ≡ same_prefix q p

@@ -1,80 +1,85 @@
 -- The loops over constructs give what is read.
 use Rattle.std.proofs.Common.{◌≡◌, ℕ, zero, suc, ◌<◌, ◌≤◌, true, false, List, length, refl, sym, ap, ◌∙◌, Result, Ok, Err, lt-ltb, le-ltb}
-use Rattle.rox_grammar.specs.declared.fault.Fault.{Fault}
 use Rattle.rox_grammar.specs.declared.fault.Fault.TheVariants as fault
 use Rattle.rox_grammar.specs.declared.fault.Word.TheVariants as word
 use Rattle.rox_grammar.specs.Names.{spaces_end}
 use Rattle.rox_grammar.specs.Constructs.{at}
 use Rattle.rox_reading.specs.Lexical.{◌>>=◌}
-use Rattle.rox_reading.specs.State.{State, is_root}
-use Rattle.rox_reading.specs.Machine.{step, drive, misc, comment_step, instruction_step}
-use Rattle.rox_scan.specs.Gives.{Fails}
+use Rattle.rox_grammar.specs.State.{is_root}
+use Rattle.rox_reading.specs.Refusals.{Refusal, here, lifted}
+use Rattle.rox_reading.specs.State.{State}
+use Rattle.rox_reading.specs.Machine.{How, step, drive, comment_step, instruction_step}
+use Rattle.rox_reading.specs.Whole.{misc}
 use Rattle.rox_scan.specs.declared.cursor.Cursor.{Cursor}
 use Rattle.rox_scan.specs.declared.failure.Failure.{Failure}
 use Rattle.rox_scan.specs.declared.failure.Failure.TheVariants as failure
-use Rattle.rox_build.specs.Shown.{Sees, Stepped}
+use Rattle.rox_build.specs.Refusing.{Stops, Refuses}
+use Rattle.rox_build.specs.declared.refused.Refused.{Refused}
+use Rattle.rox_build.proofs.PartLemmas.{refuses_by}
+use Rattle.rox_build.specs.Shown.{Sees, Stepped, Went}
+use Rattle.rox_build.proofs.Lifting.{lifted_ok, lifted_err}
 use Rattle.rox_build.specs.declared.builder.Builder.{Builder}
 
 -- ---- content
 
-pub record Driving (limit end : ℕ) (src : List ℕ) (whole : Result State Fault) (n : ℕ) (c : Cursor) (b : Builder) : Type 0 where
+pub record Driving (how : How) (end : ℕ) (src : List ℕ) (whole : Result State Refusal) (n : ℕ) (c : Cursor) (b : Builder) : Type 0 where
   pub s : State
-  pub sees : Sees limit end s c b
-  pub same : drive limit n src s ≡ whole
+  pub sees : Sees how.limit end s c b
+  pub same : drive how n src s ≡ whole
 
-driven : (limit n m : ℕ) (src : List ℕ) (s : State) → n ≡ suc m → is_root s.stack ≡ false → s.at < length src → drive limit n src s ≡ (step limit src s >>= λ t. drive limit m src t)
+driven : (how : How) (n m : ℕ) (src : List ℕ) (s : State) → n ≡ suc m → is_root s.stack ≡ false → s.at < length src → drive how n src s ≡ (step how src s >>= λ t. drive how m src t)
 unfolding drive
-driven limit n m src s one inner inside = let k = lt-ltb _ _ inside in rw (one, inner, k) refl
+driven how n m src s one inner inside = let k = lt-ltb _ _ inside in rw (one, inner, k) refl
 
-pub drives_on : (limit end : ℕ) (src : List ℕ) (whole : Result State Fault) (n m : ℕ) (c d : Cursor) (b u : Builder) (x : Unit {0}) (g : Driving limit end src whole n c b) → n ≡ suc m → is_root g.s.stack ≡ false
-    → g.s.at < length src → Stepped limit end (Ok x) d u (step limit src g.s) → Driving limit end src whole m d u
-drives_on limit end src whole n m c d b u x g one inner inside (t, read, sees) =
-    record { s = t; sees = sees; same = sym (driven limit n m src g.s one inner inside ∙ rw read refl) ∙ g.same }
+pub drives_on : (how : How) (end : ℕ) (src : List ℕ) (whole : Result State Refusal) (n m : ℕ) (c d : Cursor) (b u : Builder) (x : Unit {0}) (g : Driving how end src whole n c b) → n ≡ suc m → is_root g.s.stack ≡ false
+    → g.s.at < length src → Went how.limit end (Ok x) d u (step how src g.s) → Driving how end src whole m d u
+drives_on how end src whole n m c d b u x g one inner inside (t, read, sees) =
+    record { s = t; sees = sees; same = sym (driven how n m src g.s one inner inside ∙ rw read refl) ∙ g.same }
 
-pub drive_fails : (limit end : ℕ) (src : List ℕ) (whole : Result State Fault) (n m : ℕ) (c : Cursor) (b : Builder) (e : Failure) (g : Driving limit end src whole n c b) → n ≡ suc m → is_root g.s.stack ≡ false
-    → g.s.at < length src → Fails e (step limit src g.s) → Fails e whole
-drive_fails limit end src whole n m c b failure.Memory g one inner inside h = tt
-drive_fails limit end src whole n m c b (failure.Fault f) g one inner inside h = sym g.same ∙ driven limit n m src g.s one inner inside ∙ rw h refl
+pub drive_fails : (how : How) (end : ℕ) (src : List ℕ) (whole : Result State Refusal) (n m : ℕ) (c : Cursor) (b : Builder) (e : Refused) (g : Driving how end src whole n c b) → n ≡ suc m → is_root g.s.stack ≡ false
+    → g.s.at < length src → Refuses e (step how src g.s) → Refuses e whole
+drive_fails how end src whole n m c b e g one inner inside h =
+    refuses_by e (step how src g.s) whole (λ r err. sym g.same ∙ driven how n m src g.s one inner inside ∙ rw err refl) h
 
 -- the root element is closed
-pub drive_done : (limit end : ℕ) (src : List ℕ) (whole : Result State Fault) (n : ℕ) (c : Cursor) (b : Builder) (g : Driving limit end src whole n c b) → is_root g.s.stack ≡ true
-    → (s : State) × (whole ≡ Ok s) × Sees limit end s c b
+pub drive_done : (how : How) (end : ℕ) (src : List ℕ) (whole : Result State Refusal) (n : ℕ) (c : Cursor) (b : Builder) (g : Driving how end src whole n c b) → is_root g.s.stack ≡ true
+    → (s : State) × (whole ≡ Ok s) × Sees how.limit end s c b
 unfolding drive
-drive_done limit end src whole n c b g closed = (g.s, sym g.same ∙ stays n, g.sees)
+drive_done how end src whole n c b g closed = (g.s, sym g.same ∙ stays n, g.sees)
   where
-    stays : (n : ℕ) → drive limit n src g.s ≡ Ok g.s
+    stays : (n : ℕ) → drive how n src g.s ≡ Ok g.s
     stays zero = rw closed refl
     stays (suc n) = rw closed refl
 
 -- the text ends within it
-pub drive_cut : (limit end : ℕ) (src : List ℕ) (whole : Result State Fault) (n : ℕ) (c : Cursor) (b : Builder) (g : Driving limit end src whole n c b) → is_root g.s.stack ≡ false
-    → length src ≤ g.s.at → whole ≡ Err fault.UnclosedRootNode
+pub drive_cut : (how : How) (end : ℕ) (src : List ℕ) (whole : Result State Refusal) (n : ℕ) (c : Cursor) (b : Builder) (g : Driving how end src whole n c b) → is_root g.s.stack ≡ false
+    → length src ≤ g.s.at → whole ≡ Err (here fault.UnclosedRootNode)
 unfolding drive
-drive_cut limit end src whole n c b g inner past = sym g.same ∙ stops n
+drive_cut how end src whole n c b g inner past = sym g.same ∙ stops n
   where
-    stops : (n : ℕ) → drive limit n src g.s ≡ Err fault.UnclosedRootNode
+    stops : (n : ℕ) → drive how n src g.s ≡ Err (here fault.UnclosedRootNode)
     stops zero = rw inner refl
     stops (suc n) = let k = le-ltb _ _ past in rw (inner, k) refl
 
-pub drive_spent : (limit end : ℕ) (src : List ℕ) (whole : Result State Fault) (n : ℕ) (c : Cursor) (b : Builder) (g : Driving limit end src whole n c b) → is_root g.s.stack ≡ false
-    → n ≡ 0 → whole ≡ Err fault.UnclosedRootNode
+pub drive_spent : (how : How) (end : ℕ) (src : List ℕ) (whole : Result State Refusal) (n : ℕ) (c : Cursor) (b : Builder) (g : Driving how end src whole n c b) → is_root g.s.stack ≡ false
+    → n ≡ 0 → whole ≡ Err (here fault.UnclosedRootNode)
 unfolding drive
-drive_spent limit end src whole n c b g inner none = sym g.same ∙ rw (none, inner) refl
+drive_spent how end src whole n c b g inner none = sym g.same ∙ rw (none, inner) refl
 
 -- ---- comments, processing instructions and white space
 
-pub record Going (limit end : ℕ) (src : List ℕ) (whole : Result State Fault) (n : ℕ) (c : Cursor) (b : Builder) : Type 0 where
+pub record Going (limit end : ℕ) (src : List ℕ) (whole : Result State Refusal) (n : ℕ) (c : Cursor) (b : Builder) : Type 0 where
   pub s : State
   pub sees : Sees limit end s c b
-  pub same : misc limit n src s ≡ whole
+  pub same : lifted (misc limit n src s) ≡ whole
 
 -- behind white space
 abbrev pub spaced : List ℕ → State → State
-spaced src s = record { at = spaces_end src s.at; done = s.done; stack = s.stack }
+spaced src s = record { at = spaces_end src s.at; done = s.done; stack = s.stack; left = s.left }
 
 pub sees_spaced : (limit end : ℕ) (src : List ℕ) (s : State) (c d : Cursor) (b : Builder) → Sees limit end s c b → d.pos ≡ spaces_end src c.pos → Sees limit end (spaced src s) d b
 sees_spaced limit end src s c d b h next =
-    record { here = next ∙ ap (spaces_end src) h.here; limit_is = h.limit_is; shows = h.shows; names = h.names; attributes = h.attributes }
+    record { here = next ∙ ap (spaces_end src) h.here; limit_is = h.limit_is; shows = h.shows; names = h.names; attributes = h.attributes; left_is = h.left_is }
 
 commented : (limit n m : ℕ) (src : List ℕ) (s : State) → n ≡ suc m → at word.CommentStart src (spaces_end src s.at) ≡ true
     → misc limit n src s ≡ (comment_step limit src (spaced src s) >>= λ u. misc limit m src u)
@@ -86,34 +91,34 @@ instructed : (limit n m : ℕ) (src : List ℕ) (s : State) → n ≡ suc m → 
 unfolding misc
 instructed limit n m src s one other is = rw (one, other, is) refl
 
-pub comment_on : (limit end : ℕ) (src : List ℕ) (whole : Result State Fault) (n m : ℕ) (c d : Cursor) (b u : Builder) (x : Unit {0}) (g : Going limit end src whole n c b) → n ≡ suc m
-    → at word.CommentStart src (spaces_end src g.s.at) ≡ true → Stepped limit end (Ok x) d u (comment_step limit src (spaced src g.s)) → Going limit end src whole m d u
-comment_on limit end src whole n m c d b u x g one is (t, read, sees) = record { s = t; sees = sees; same = sym (commented limit n m src g.s one is ∙ rw read refl) ∙ g.same }
+pub comment_on : (limit end : ℕ) (src : List ℕ) (whole : Result State Refusal) (n m : ℕ) (c d : Cursor) (b u : Builder) (x : Unit {0}) (g : Going limit end src whole n c b) → n ≡ suc m
+    → at word.CommentStart src (spaces_end src g.s.at) ≡ true → Stepped limit end (Ok x) d u (lifted (comment_step limit src (spaced src g.s))) → Going limit end src whole m d u
+comment_on limit end src whole n m c d b u x g one is (t, read, sees) = record { s = t; sees = sees; same = sym (ap lifted (commented limit n m src g.s one is) ∙ rw (lifted_ok _ _ read) refl) ∙ g.same }
 
-pub instruction_on : (limit end : ℕ) (src : List ℕ) (whole : Result State Fault) (n m : ℕ) (c d : Cursor) (b u : Builder) (x : Unit {0}) (g : Going limit end src whole n c b) → n ≡ suc m
+pub instruction_on : (limit end : ℕ) (src : List ℕ) (whole : Result State Refusal) (n m : ℕ) (c d : Cursor) (b u : Builder) (x : Unit {0}) (g : Going limit end src whole n c b) → n ≡ suc m
     → at word.CommentStart src (spaces_end src g.s.at) ≡ false → at word.PIStart src (spaces_end src g.s.at) ≡ true
-    → Stepped limit end (Ok x) d u (instruction_step limit src (spaced src g.s)) → Going limit end src whole m d u
-instruction_on limit end src whole n m c d b u x g one other is (t, read, sees) = record { s = t; sees = sees; same = sym (instructed limit n m src g.s one other is ∙ rw read refl) ∙ g.same }
+    → Stepped limit end (Ok x) d u (lifted (instruction_step limit src (spaced src g.s))) → Going limit end src whole m d u
+instruction_on limit end src whole n m c d b u x g one other is (t, read, sees) = record { s = t; sees = sees; same = sym (ap lifted (instructed limit n m src g.s one other is) ∙ rw (lifted_ok _ _ read) refl) ∙ g.same }
 
-pub comment_fails : (limit end : ℕ) (src : List ℕ) (whole : Result State Fault) (n m : ℕ) (c : Cursor) (b : Builder) (e : Failure) (g : Going limit end src whole n c b) → n ≡ suc m
-    → at word.CommentStart src (spaces_end src g.s.at) ≡ true → Fails e (comment_step limit src (spaced src g.s)) → Fails e whole
+pub comment_fails : (limit end : ℕ) (src : List ℕ) (whole : Result State Refusal) (n m : ℕ) (c : Cursor) (b : Builder) (e : Failure) (g : Going limit end src whole n c b) → n ≡ suc m
+    → at word.CommentStart src (spaces_end src g.s.at) ≡ true → Stops e (lifted (comment_step limit src (spaced src g.s))) → Stops e whole
 comment_fails limit end src whole n m c b failure.Memory g one is h = tt
-comment_fails limit end src whole n m c b (failure.Fault f) g one is h = sym g.same ∙ commented limit n m src g.s one is ∙ rw h refl
+comment_fails limit end src whole n m c b (failure.Fault f) g one is h = sym g.same ∙ ap lifted (commented limit n m src g.s one is) ∙ rw (lifted_err _ f h) refl
 
-pub instruction_fails : (limit end : ℕ) (src : List ℕ) (whole : Result State Fault) (n m : ℕ) (c : Cursor) (b : Builder) (e : Failure) (g : Going limit end src whole n c b) → n ≡ suc m
-    → at word.CommentStart src (spaces_end src g.s.at) ≡ false → at word.PIStart src (spaces_end src g.s.at) ≡ true → Fails e (instruction_step limit src (spaced src g.s)) → Fails e whole
+pub instruction_fails : (limit end : ℕ) (src : List ℕ) (whole : Result State Refusal) (n m : ℕ) (c : Cursor) (b : Builder) (e : Failure) (g : Going limit end src whole n c b) → n ≡ suc m
+    → at word.CommentStart src (spaces_end src g.s.at) ≡ false → at word.PIStart src (spaces_end src g.s.at) ≡ true → Stops e (lifted (instruction_step limit src (spaced src g.s))) → Stops e whole
 instruction_fails limit end src whole n m c b failure.Memory g one other is h = tt
-instruction_fails limit end src whole n m c b (failure.Fault f) g one other is h = sym g.same ∙ instructed limit n m src g.s one other is ∙ rw h refl
+instruction_fails limit end src whole n m c b (failure.Fault f) g one other is h = sym g.same ∙ ap lifted (instructed limit n m src g.s one other is) ∙ rw (lifted_err _ f h) refl
 
 -- something else stands here
-pub misc_done : (limit end : ℕ) (src : List ℕ) (whole : Result State Fault) (n m : ℕ) (c d : Cursor) (b : Builder) (g : Going limit end src whole n c b) → n ≡ suc m
+pub misc_done : (limit end : ℕ) (src : List ℕ) (whole : Result State Refusal) (n m : ℕ) (c d : Cursor) (b : Builder) (g : Going limit end src whole n c b) → n ≡ suc m
     → at word.CommentStart src (spaces_end src g.s.at) ≡ false → at word.PIStart src (spaces_end src g.s.at) ≡ false → d.pos ≡ spaces_end src c.pos
     → (s : State) × (whole ≡ Ok s) × Sees limit end s d b
 unfolding misc
 misc_done limit end src whole n m c d b g one other also next =
     (spaced src g.s, sym g.same ∙ rw (one, other, also) refl, sees_spaced limit end src g.s c d b g.sees next)
 
-pub misc_spent : (limit end : ℕ) (src : List ℕ) (whole : Result State Fault) (n : ℕ) (c : Cursor) (b : Builder) (g : Going limit end src whole n c b) → n ≡ 0
+pub misc_spent : (limit end : ℕ) (src : List ℕ) (whole : Result State Refusal) (n : ℕ) (c : Cursor) (b : Builder) (g : Going limit end src whole n c b) → n ≡ 0
     → (s : State) × (whole ≡ Ok s) × Sees limit end s c b
 unfolding misc
 misc_spent limit end src whole n c b g none = (g.s, sym g.same ∙ rw none refl, g.sees)

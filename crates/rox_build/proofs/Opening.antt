@@ -9,12 +9,15 @@ use Rattle.rox_grammar.specs.Tree as tree
 use Rattle.rox_grammar.specs.Tree.{listed, attribute_in, element_namespace, node_in}
 use Rattle.rox_grammar.specs.Document.{listable, with_new, distinct_pairs}
 use Rattle.rox_reading.specs.Tags.{tag_at}
-use Rattle.rox_reading.specs.State.{inside, State, scope_of, pairs_so_far, attributes_so_far}
-use Rattle.rox_reading.specs.Machine.{tag_step, cut_off, opened_by, counted, with_item}
-use Rattle.rox_scan.specs.Gives.{Fails}
+use Rattle.rox_grammar.specs.State.{inside, scope_of, pairs_so_far, attributes_so_far}
+use Rattle.rox_reading.specs.State.{State}
+use Rattle.rox_reading.specs.Refusals.{lifted}
+use Rattle.rox_reading.specs.Machine.{How, tag_step, cut_off, opened_by, counted}
+use Rattle.rox_build.specs.Refusing.{Refuses}
+use Rattle.rox_build.specs.declared.refused.Refused.{Refused}
+use Rattle.rox_build.proofs.PartLemmas.{refuses_by}
 use Rattle.rox_scan.specs.declared.cursor.Cursor.{Cursor}
 use Rattle.rox_scan.specs.declared.failure.Failure.{Failure}
-use Rattle.rox_scan.specs.declared.failure.Failure.TheVariants as failure
 use Rattle.rox_build.specs.Lines.{node, declaration, attribute, NamespaceWithin, AttributeRow, rows_of}
 use Rattle.rox_build.specs.Scopes.{entries}
 use Rattle.rox_build.specs.Tagged.{Tagged}
@@ -116,51 +119,54 @@ attributes_by old new t above tag h =
 
 -- ---- one start tag, read and kept
 
-pub tag_fails : (limit : ℕ) (src : List ℕ) (s : State) (i : ℕ) (cut : Fault) (above : List Declaration) (count : ℕ) (known : List Declaration) (e : Failure) → i ≡ s.at → cut ≡ cut_off s.stack → above ≡ scope_of s.stack
-    → count ≡ attributes_so_far s.stack s.done → known ≡ distinct_pairs (pairs_so_far s.stack s.done) → Fails e (tag_at cut above count known src i) → Fails e (tag_step limit src s)
+pub tag_fails : (how : How) (src : List ℕ) (s : State) (i : ℕ) (cut : Fault) (above : List Declaration) (count : ℕ) (known : List Declaration) (e : Refused) → i ≡ s.at → cut ≡ cut_off how.values.main s.stack → above ≡ scope_of s.stack
+    → count ≡ attributes_so_far s.stack s.done → known ≡ distinct_pairs (pairs_so_far s.stack s.done) → Refuses e (tag_at how.values cut above count known src i s.left) → Refuses e (tag_step how src s)
 unfolding tag_step
-tag_fails limit src s i cut above count known failure.Memory here c a n k h = tt
-tag_fails limit src s i cut above count known (failure.Fault f) here c a n k h =
-    let t : tag_at (cut_off s.stack) (scope_of s.stack) (attributes_so_far s.stack s.done) (distinct_pairs (pairs_so_far s.stack s.done)) src s.at ≡ Err f = rw (← here, ← c, ← a, ← n, ← k) h in
-    rw t refl
+tag_fails how src s i cut above count known e here c a n k h =
+    refuses_by e (tag_at how.values cut above count known src i s.left) (tag_step how src s)
+    (λ r err.
+    let t : tag_at how.values (cut_off how.values.main s.stack) (scope_of s.stack) (attributes_so_far s.stack s.done) (distinct_pairs (pairs_so_far s.stack s.done)) src s.at s.left ≡ Err r = rw (← here, ← c, ← a, ← n, ← k) err in
+    rw t refl)
+    h
 
-pub tag_is : (limit : ℕ) (src : List ℕ) (s : State) (i : ℕ) (cut : Fault) (above : List Declaration) (count : ℕ) (known : List Declaration) (tag : Tag) (empty : Bool) (j : ℕ) → i ≡ s.at → cut ≡ cut_off s.stack
-    → above ≡ scope_of s.stack → count ≡ attributes_so_far s.stack s.done → known ≡ distinct_pairs (pairs_so_far s.stack s.done) → tag_at cut above count known src i ≡ Ok ((tag, empty), j)
-    → tag_step limit src s ≡ opened_by limit s tag empty j
+pub tag_is : (how : How) (src : List ℕ) (s : State) (i : ℕ) (cut : Fault) (above : List Declaration) (count : ℕ) (known : List Declaration) (tag : Tag) (empty : Bool) (left j : ℕ) → i ≡ s.at → cut ≡ cut_off how.values.main s.stack
+    → above ≡ scope_of s.stack → count ≡ attributes_so_far s.stack s.done → known ≡ distinct_pairs (pairs_so_far s.stack s.done)
+    → tag_at how.values cut above count known src i s.left ≡ Ok (record { tag = tag; empty = empty; left = left }, j) → tag_step how src s ≡ lifted (opened_by how.limit s tag empty left j)
 unfolding tag_step
-tag_is limit src s i cut above count known tag empty j here c a n k h =
-    let t : tag_at (cut_off s.stack) (scope_of s.stack) (attributes_so_far s.stack s.done) (distinct_pairs (pairs_so_far s.stack s.done)) src s.at ≡ Ok ((tag, empty), j) = rw (← here, ← c, ← a, ← n, ← k) h in
+tag_is how src s i cut above count known tag empty left j here c a n k h =
+    let t : tag_at how.values (cut_off how.values.main s.stack) (scope_of s.stack) (attributes_so_far s.stack s.done) (distinct_pairs (pairs_so_far s.stack s.done)) src s.at s.left ≡ Ok (record { tag = tag; empty = empty; left = left }, j) =
+    rw (← here, ← c, ← a, ← n, ← k) h in
     rw t refl
 
 -- an element without content
-pub empty_stepped : (limit end : ℕ) (s : State) (d : Cursor) (old new : ElementTables) (m : ℕ) (u : Builder) (r : Result (Unit {0}) Failure) (t : StartTag) (above : List Declaration) (tag : Tag)
+pub empty_stepped : (limit end left : ℕ) (s : State) (d : Cursor) (old new : ElementTables) (m : ℕ) (u : Builder) (r : Result (Unit {0}) Failure) (t : StartTag) (above : List Declaration) (tag : Tag)
     → Tagged old new t above tag → names_in old ≡ distinct_pairs (pairs_so_far s.stack s.done) → length (rows_of old.attributes) ≡ attributes_so_far s.stack s.done → m ≡ limit
-    → u.tables ≡ new → u.nodes_limit ≡ m → Adds end r u (with_item m s d.pos (Element s.at d.pos tag)) → Stepped limit end r d u (opened_by limit s tag true d.pos)
-empty_stepped limit end s d old new m u r t above tag h names attributes limit_is tables same adds =
+    → u.left ≡ left → u.tables ≡ new → u.nodes_limit ≡ m → Adds end r u (opened_by m s tag true left d.pos) → Stepped limit end r d u (lifted (opened_by limit s tag true left d.pos))
+empty_stepped limit end left s d old new m u r t above tag h names attributes limit_is left_is tables same adds =
     let i : Item = Element s.at d.pos tag in
-    let next : State = record { at = d.pos; done = join s.done (leaf i); stack = s.stack } in
+    let next : State = record { at = d.pos; done = join s.done (leaf i); stack = s.stack; left = left } in
     let a : Adds end r u (counted limit next) = subst (λ (n : ℕ). Adds end r u (counted n next)) limit_is adds in
     let p : pairs_so_far s.stack (join s.done (leaf i)) ≡ pairs_so_far s.stack s.done ++ listable tag = pairs_more s.stack s.done i Nil ∙ ap (λ xs. pairs_so_far s.stack s.done ++ xs) (nil_right (listable tag)) in
     let n = attributes_more s.stack s.done i Nil in
     let m = attributes_by old new t above tag h in
     let q : attributes_so_far s.stack (join s.done (leaf i)) ≡ length (rows_of new.attributes) = omega arith in
-    adds_stepped limit end next d u r a refl (same ∙ limit_is) (ap names_in tables ∙ names_by old new t above tag (pairs_so_far s.stack s.done) h names ∙ sym (ap distinct_pairs p)) (ap (λ (t : ElementTables). length (rows_of t.attributes)) tables ∙ sym q)
+    adds_stepped limit end next d u r a refl (same ∙ limit_is) (ap names_in tables ∙ names_by old new t above tag (pairs_so_far s.stack s.done) h names ∙ sym (ap distinct_pairs p)) (ap (λ (t : ElementTables). length (rows_of t.attributes)) tables ∙ sym q) left_is
   where
     nil_right : {A : Type 0} (xs : List A) → xs ++ [] ≡ xs
     nil_right [] = refl
     nil_right (x ∷ xs) = ap (λ ys. x ∷ ys) (nil_right xs)
 
 -- one that opens
-pub open_stepped : (limit end : ℕ) (s : State) (d : Cursor) (old new : ElementTables) (m : ℕ) (u : Builder) (r : Result (Unit {0}) Failure) (t : StartTag) (above : List Declaration) (tag : Tag)
+pub open_stepped : (limit end left : ℕ) (s : State) (d : Cursor) (old new : ElementTables) (m : ℕ) (u : Builder) (r : Result (Unit {0}) Failure) (t : StartTag) (above : List Declaration) (tag : Tag)
     → Tagged old new t above tag → names_in old ≡ distinct_pairs (pairs_so_far s.stack s.done) → length (rows_of old.attributes) ≡ attributes_so_far s.stack s.done → m ≡ limit
-    → u.tables ≡ new → u.nodes_limit ≡ m → Adds end r u (opened_by m s tag false d.pos) → Stepped limit end r d u (opened_by limit s tag false d.pos)
-open_stepped limit end s d old new m u r t above tag h names attributes limit_is tables same adds =
-    let next : State = record { at = d.pos; done = Nil; stack = inside s.at tag s.done s.stack } in
+    → u.left ≡ left → u.tables ≡ new → u.nodes_limit ≡ m → Adds end r u (opened_by m s tag false left d.pos) → Stepped limit end r d u (lifted (opened_by limit s tag false left d.pos))
+open_stepped limit end left s d old new m u r t above tag h names attributes limit_is left_is tables same adds =
+    let next : State = record { at = d.pos; done = Nil; stack = inside s.at tag s.done s.stack; left = left } in
     let a : Adds end r u (counted limit next) = subst (λ (n : ℕ). Adds end r u (counted n next)) limit_is adds in
     let p : pairs_so_far s.stack s.done ++ (listable tag ++ []) ≡ pairs_so_far s.stack s.done ++ listable tag = ap (λ xs. pairs_so_far s.stack s.done ++ xs) (nil_right (listable tag)) in
     let m = attributes_by old new t above tag h in
     let q : attributes_so_far s.stack s.done + (length tag.attributes + 0) ≡ length (rows_of new.attributes) = omega arith in
-    adds_stepped limit end next d u r a refl (same ∙ limit_is) (ap names_in tables ∙ names_by old new t above tag (pairs_so_far s.stack s.done) h names ∙ sym (ap distinct_pairs p)) (ap (λ (t : ElementTables). length (rows_of t.attributes)) tables ∙ sym q)
+    adds_stepped limit end next d u r a refl (same ∙ limit_is) (ap names_in tables ∙ names_by old new t above tag (pairs_so_far s.stack s.done) h names ∙ sym (ap distinct_pairs p)) (ap (λ (t : ElementTables). length (rows_of t.attributes)) tables ∙ sym q) left_is
   where
     nil_right : {A : Type 0} (xs : List A) → xs ++ [] ≡ xs
     nil_right [] = refl

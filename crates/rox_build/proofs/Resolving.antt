@@ -2,8 +2,8 @@
 use Rattle.std.proofs.Common.{◌≡◌, ℕ, ◌+◌, ◌<◌, ◌≤◌, List, [], ◌∷◌, ◌++◌, length, map, take, drop, get_or, add-one, drop-cons, refl, sym, ap, ◌∙◌, arith, subst, set, length-set, Option, Ok, Err}
 use Rattle.std.proofs.Math.ListN.{drop_of_length-le}
 use Rattle.std.proofs.Math.Seq.{drop-append_seam}
-use Rattle.std.specs.List.{AllByRecursion, slice_range}
-use Rattle.std.proofs.lemmas.List.{take_more, take_all, get_or_read, drop-set-lt, append_assoc, map-append}
+use Rattle.std.specs.List.{AllByRecursion}
+use Rattle.std.proofs.lemmas.List.{append-nil, take_more, take_all, get_or_read, drop-set-lt, append_assoc, map-append}
 use Rattle.rox_grammar.specs.declared.fault.Fault.{Fault}
 use Rattle.rox_grammar.specs.Written.{Attribute, Declaration}
 use Rattle.rox_grammar.specs.Tree as tree
@@ -11,7 +11,9 @@ use Rattle.rox_grammar.specs.Tree.{attribute_namespace, attribute_in}
 use Rattle.rox_reading.specs.Tags.{names_tested}
 use Rattle.rox_build.specs.declared.tables.AttributeNamespace.{AttributeNamespace}
 use Rattle.rox_build.specs.declared.taken.Taken.{Taken}
-use Rattle.rox_scan.specs.Gives.{name_view}
+use Rattle.rox_scan.specs.Gives.{name_view, Fails}
+use Rattle.rox_scan.specs.declared.failure.Failure.{Failure}
+use Rattle.rox_scan.specs.declared.failure.Failure.TheVariants as failure
 use Rattle.rox_build.specs.Storage.{storage_bytes, is_borrowed}
 use Rattle.rox_build.specs.Lines.{attribute, namespace_of, NamespaceWithin, AttributeRow}
 use Rattle.rox_build.specs.Tags.{taken_view}
@@ -119,3 +121,27 @@ moves n names scope initial old k now table t u x s row more h lt is step within
       left = drop-set-lt (k + 1) now k x (omega arith) ∙ st.left;
       long = length-set now k x ∙ h.long;
     }
+
+-- before the first
+pub starts : (n : ℕ) (names scope : List Declaration) (initial : List Taken) (old : List AttributeRow) → Resolving n names scope initial old 0 initial old
+starts n names scope initial old = record {
+  done = [];
+  table_is = sym (append-nil old);
+  shown = refl;
+  within = tt;
+  tested = refl;
+  left = refl;
+  long = refl;
+}
+
+-- why a name is not taken is why all are not, unless memory ran out
+pub refuses_or : (n : ℕ) (names scope : List Declaration) (initial : List Taken) (old : List AttributeRow) (k : ℕ) (now : List Taken) (table : List AttributeRow) (t : Taken) (e : Failure)
+    → Resolving n names scope initial old k now table → k < length now → t ≡ get_or now k t
+    → ((before rest : List Attribute) → map (attribute names) (drop (length old) table) ≡ map (attribute_in scope) before → Fails e (names_tested scope before (taken_view t ∷ rest)))
+    → Fails e (names_tested scope [] (map taken_view initial))
+refuses_or n names scope initial old k now table t failure.Memory h lt is step = tt
+refuses_or n names scope initial old k now table t (failure.Fault f) h lt is step = refuses n names scope initial old k now table t f h lt is step
+
+-- what is read again is the same
+pub read_again : (now : List Taken) (k : ℕ) (t u : Taken) → k < length now → t ≡ get_or now k t → u ≡ get_or now k u → u ≡ t
+read_again now k t u lt is looked = looked ∙ sym (get_or_read now k t lt is u)

@@ -9,7 +9,7 @@ use Rattle.rox_grammar.specs.Constructs.{has_mark}
 use Rattle.rox_grammar.specs.Content.{is_plain}
 use Rattle.rox_grammar.specs.Marks.{byte_from}
 use Rattle.rox_reading.specs.Lexical.{chars_up_to}
-use Rattle.rox_reading.specs.Values.{run_at}
+use Rattle.rox_reading.specs.Values.{raw_run_at}
 use Rattle.rox_scan.specs.Near.{AllPass, is_text_byte}
 use Rattle.rox_scan.proofs.NearLemmas.{near_found, near_chars, text_is_plain, none_among, read_among}
 use Rattle.rox_scan.proofs.MarkLemmas.{no_mark}
@@ -33,11 +33,12 @@ short_chars src i e utf8 start le cut all =
     rw (near_chars is_text_byte src i e utf8 start le cut all text_is_plain, le-ltb e e (omega arith)) refl
 
 -- what it is read as
-pub short_run : (src : List ℕ) (i e : ℕ) → IsUtf8 src → IsCharBoundary src i → i ≤ e → IsCharBoundary src e → AllPass is_text_byte src i e → (e < length src → get_or src e 0 ≡ 60) → run_at src i ≡ Ok (record { value = slice_range src i e; plain = true }, e)
-unfolding run_at
+pub short_run : (src : List ℕ) (i e : ℕ) → IsUtf8 src → IsCharBoundary src i → i ≤ e → IsCharBoundary src e → AllPass is_text_byte src i e → (e < length src → get_or src e 0 ≡ 60)
+    → (raw_run_at src i ≡ Ok (slice_range src i e, e)) × (is_plain (slice_range src i e) ≡ true)
+unfolding raw_run_at
 short_run src i e utf8 start le cut all here =
     let end : byte_from (λ c. c == 60) src i ≡ e = near_found is_text_byte (λ c. c == 60) src i e le cut.0 all text_apart (λ more. eq-eqb _ _ (here more)) in
     let clear : has_mark (word_text word.CDataEnd) (slice_range src i e) ≡ false =
     no_mark (word_text word.CDataEnd) (slice_range src i e) (omega arith) (λ j below. text_no_bracket _ (read_among is_text_byte src i e j cut.0 all below)) in
     let plain : is_plain (slice_range src i e) ≡ true = ap not (none_among is_text_byte (λ b. b == 38 || b == 13) src i e (e - i) (omega arith) cut.0 all text_plain) in
-    rw (end, short_chars src i e utf8 start le cut all, clear, plain) refl
+    (rw (end, short_chars src i e utf8 start le cut all, clear) refl, plain)

@@ -10,7 +10,8 @@ use Rattle.rox_grammar.specs.Forest.{Forest, Nil, Cons, join, size}
 use Rattle.rox_grammar.specs.Written.{Tag, Item, Element, Text, Declaration, merge, leaf}
 use Rattle.rox_grammar.specs.Tree as tree
 use Rattle.rox_grammar.specs.Tree.{Node, listed, node_in, scope_in, resolved}
-use Rattle.rox_reading.specs.State.{Open, root, inside, State, scope_of, nodes_so_far}
+use Rattle.rox_grammar.specs.State.{Open, root, inside, scope_of, nodes_so_far}
+use Rattle.rox_reading.specs.State.{State}
 use Rattle.rox_reading.specs.Machine.{counted}
 use Rattle.rox_reading.proofs.Forests.{is_text, add, join-nil, size-join, merge-piece, add-text, add_clean, merge-item, clean-item}
 use Rattle.rox_build.specs.Lines.{Line, line, lines, node, AttributeRow, rows_of}

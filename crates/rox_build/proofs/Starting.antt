@@ -9,10 +9,15 @@ use Rattle.rox_grammar.specs.Written.{Attribute, Name, Declaration}
 use Rattle.rox_grammar.specs.Tree.{listed, attribute_in, element_namespace}
 use Rattle.rox_grammar.specs.Document.{most_pairs}
 use Rattle.rox_reading.specs.Lexical.{◌>>=◌, qname_at}
-use Rattle.rox_reading.specs.Tags.{Held, attributes_at, tested_at, tag_tested, tag_at, listable_of}
+use Rattle.rox_grammar.specs.Document.{listable_of}
+use Rattle.rox_reading.specs.Refusals.{lifted}
+use Rattle.rox_reading.specs.Tags.{Held, Values, attributes_at, tested_at, tag_tested, tag_at}
 use Rattle.rox_scan.specs.Gives.{Fails, name_view}
 use Rattle.rox_scan.specs.declared.failure.Failure.{Failure}
 use Rattle.rox_scan.specs.declared.failure.Failure.TheVariants as failure
+use Rattle.rox_build.specs.Refusing.{Refuses, of_failure}
+use Rattle.rox_build.specs.declared.refused.Refused.{Refused}
+use Rattle.rox_build.proofs.PartLemmas.{refuses_by}
 use Rattle.rox_build.specs.declared.tables.ElementTables.{ElementTables}
 use Rattle.rox_build.specs.declared.tables.Scope.{Scope}
 use Rattle.rox_build.specs.declared.taken.Taken.{Taken}
@@ -32,20 +37,21 @@ holds_nothing names listed taken few none = record {
   attributes = ap (map taken_view) none;
 }
 
-tag_rest : (cut : Fault) (above : List Declaration) (count : ℕ) (known : List Declaration) (src : List ℕ) (i : ℕ) (name : Name) (n : ℕ) → qname_at src (i + 1) ≡ Ok (name, n)
+tag_rest : (how : Values) (cut : Fault) (above : List Declaration) (count : ℕ) (known : List Declaration) (src : List ℕ) (i left : ℕ) (name : Name) (n : ℕ) → qname_at src (i + 1) ≡ Ok (name, n)
     → bytes_eq name.prefix (word_text Xmlns) ≡ false
-    → tag_at cut above count known src i
-    ≡ (attributes_at (length src) cut known src n (record { own = []; attributes = [] }) >>= λ x.
-    tag_tested (listed above x.0.0.own) count i name x.0.0.attributes >>= λ _.
-    Ok ((record { name = name; name_end = n; declarations = x.0.0.own; attributes = x.0.0.attributes }, x.0.1), x.1))
+    → tag_at how cut above count known src i left
+    ≡ (attributes_at (length src) how cut known src n left (record { own = []; attributes = [] }) >>= λ x.
+    lifted (tag_tested (listed above x.0.held.own) count i name x.0.held.attributes) >>= λ _.
+    Ok (record { tag = record { name = name; name_end = n; declarations = x.0.held.own; attributes = x.0.held.attributes }; empty = x.0.empty; left = x.0.left }, x.1))
 unfolding tag_at
-tag_rest cut above count known src i name n is other = rw (is, other) refl
+tag_rest how cut above count known src i left name n is other = rw (is, other) refl
 
 -- its attributes are refused
-pub tag_unread : (cut : Fault) (above : List Declaration) (count : ℕ) (known : List Declaration) (src : List ℕ) (i : ℕ) (name : Name) (n : ℕ) (e : Failure) → qname_at src (i + 1) ≡ Ok (name, n)
-    → bytes_eq name.prefix (word_text Xmlns) ≡ false → Fails e (attributes_at (length src) cut known src n (record { own = []; attributes = [] })) → Fails e (tag_at cut above count known src i)
-tag_unread cut above count known src i name n failure.Memory is other h = tt
-tag_unread cut above count known src i name n (failure.Fault f) is other h = tag_rest cut above count known src i name n is other ∙ rw h refl
+pub tag_unread : (how : Values) (cut : Fault) (above : List Declaration) (count : ℕ) (known : List Declaration) (src : List ℕ) (i left : ℕ) (name : Name) (n : ℕ) (e : Refused) → qname_at src (i + 1) ≡ Ok (name, n)
+    → bytes_eq name.prefix (word_text Xmlns) ≡ false → Refuses e (attributes_at (length src) how cut known src n left (record { own = []; attributes = [] })) → Refuses e (tag_at how cut above count known src i left)
+tag_unread how cut above count known src i left name n e is other h =
+    refuses_by e (attributes_at (length src) how cut known src n left (record { own = []; attributes = [] })) (tag_at how cut above count known src i left)
+    (λ r err. tag_rest how cut above count known src i left name n is other ∙ rw err refl) h
 
 -- its names are tested where its own stands, right behind the `<`
 tested_is : (scope : List Declaration) (count i : ℕ) (name : Name) (as' : List Attribute) → tag_tested scope count i name as' ≡ tested_at scope count (i + 1) name as'
@@ -59,17 +65,17 @@ pub tested_passes : (scope : List Declaration) (count i : ℕ) (name : Name) (as
 tested_passes scope count i name as' h = tested_is scope count i name as' ∙ h
 
 -- its names are refused
-pub tag_untested : (cut : Fault) (above : List Declaration) (count : ℕ) (known : List Declaration) (src : List ℕ) (i : ℕ) (name : Name) (n j : ℕ) (h : Held) (empty : Bool) (e : Failure) → qname_at src (i + 1) ≡ Ok (name, n)
-    → bytes_eq name.prefix (word_text Xmlns) ≡ false → attributes_at (length src) cut known src n (record { own = []; attributes = [] }) ≡ Ok ((h, empty), j)
-    → Fails e (tag_tested (listed above h.own) count i name h.attributes) → Fails e (tag_at cut above count known src i)
-tag_untested cut above count known src i name n j h empty failure.Memory is other read fails = tt
-tag_untested cut above count known src i name n j h empty (failure.Fault f) is other read fails = tag_rest cut above count known src i name n is other ∙ rw (read, fails) refl
+pub tag_untested : (how : Values) (cut : Fault) (above : List Declaration) (count : ℕ) (known : List Declaration) (src : List ℕ) (i left : ℕ) (name : Name) (n j : ℕ) (h : Held) (empty : Bool) (l : ℕ) (e : Failure) → qname_at src (i + 1) ≡ Ok (name, n)
+    → bytes_eq name.prefix (word_text Xmlns) ≡ false → attributes_at (length src) how cut known src n left (record { own = []; attributes = [] }) ≡ Ok (record { held = h; empty = empty; left = l }, j)
+    → Fails e (tag_tested (listed above h.own) count i name h.attributes) → Refuses (of_failure e) (tag_at how cut above count known src i left)
+tag_untested how cut above count known src i left name n j h empty l failure.Memory is other read fails = tt
+tag_untested how cut above count known src i left name n j h empty l (failure.Fault f) is other read fails = tag_rest how cut above count known src i left name n is other ∙ rw (read, fails) refl
 
-pub tag_made : (cut : Fault) (above : List Declaration) (count : ℕ) (known : List Declaration) (src : List ℕ) (i : ℕ) (name : Name) (n j : ℕ) (h : Held) (empty : Bool) → qname_at src (i + 1) ≡ Ok (name, n)
-    → bytes_eq name.prefix (word_text Xmlns) ≡ false → attributes_at (length src) cut known src n (record { own = []; attributes = [] }) ≡ Ok ((h, empty), j)
+pub tag_made : (how : Values) (cut : Fault) (above : List Declaration) (count : ℕ) (known : List Declaration) (src : List ℕ) (i left : ℕ) (name : Name) (n j : ℕ) (h : Held) (empty : Bool) (l : ℕ) → qname_at src (i + 1) ≡ Ok (name, n)
+    → bytes_eq name.prefix (word_text Xmlns) ≡ false → attributes_at (length src) how cut known src n left (record { own = []; attributes = [] }) ≡ Ok (record { held = h; empty = empty; left = l }, j)
     → tag_tested (listed above h.own) count i name h.attributes ≡ Ok tt
-    → tag_at cut above count known src i ≡ Ok ((record { name = name; name_end = n; declarations = h.own; attributes = h.attributes }, empty), j)
-tag_made cut above count known src i name n j h empty is other read fine = tag_rest cut above count known src i name n is other ∙ rw (read, fine) refl
+    → tag_at how cut above count known src i left ≡ Ok (record { tag = record { name = name; name_end = n; declarations = h.own; attributes = h.attributes }; empty = empty; left = l }, j)
+tag_made how cut above count known src i left name n j h empty l is other read fine = tag_rest how cut above count known src i left name n is other ∙ rw (read, fine) refl
 
 pub tagged : (o a s e : ElementTables) (t : StartTag) (above : List Declaration) (name : Name) (n : ℕ) (h : Held) (xml : Bool) (taken : List Taken) (scope : Scope)
     → name_view t.name ≡ name → t.name_end ≡ n → a.attributes ≡ o.attributes

@@ -4,21 +4,24 @@ use Rattle.rox_grammar.specs.Marks.{stands}
 use Rattle.std.specs.List.{starts_with}
 use Rattle.rox_build.specs.Lines.{rows_of}
 use Rattle.rox_build.specs.Scopes.{entries}
-use Rattle.std.proofs.Common.{eqb, eq-eqb, ne_eqb, if◌then◌else◌, slice_index, slice_range, ◌≡◌, ℕ, zero, suc, ◌+◌, ◌<◌, Bool, true, false, List, [], ◌∷◌, ◌++◌, length, map, leb, refl, sym, ap, subst, ◌∙◌, arith, Result, Ok, Err, append_assoc}
-use Rattle.std.proofs.lemmas.List.{append-nil, map-append, same_from_push}
+use Rattle.std.proofs.Common.{eqb, eq-eqb, ne_eqb, if◌then◌else◌, slice_index, slice_range, ◌≡◌, ℕ, zero, suc, ◌+◌, ◌<◌, Bool, true, false, List, [], ◌∷◌, ◌++◌, length, map, leb, refl, sym, ap, subst, ◌∙◌, arith, Result, Ok, Err, append_assoc, length-append}
+use Rattle.std.proofs.lemmas.List.{append-nil, length-map, map-append, same_from_push}
 use Rattle.rox_grammar.specs.declared.fault.Fault.{Fault}
 use Rattle.rox_grammar.specs.declared.fault.Span.{Span}
 use Rattle.rox_grammar.specs.declared.fault.Fault.TheVariants as fault
 use Rattle.rox_grammar.specs.Forest.{Forest, Nil, Cons, join, size}
 use Rattle.rox_grammar.specs.Written.{Name, Tag, Item, Element, Text, Comment, PI, Declaration, merge, leaf}
 use Rattle.rox_grammar.specs.Document.{own_pairs, own_attributes, pairs, attribute_count, distinct_pairs, listable}
-use Rattle.rox_reading.specs.State.{Open, root, inside, State, scope_of, nodes_so_far, pairs_so_far, attributes_so_far}
-use Rattle.rox_reading.specs.Machine.{counted, with_item, comment_step, instruction_step, cdata_step, run_step, end_step, tag_step, step, closed_by, same_name, name_span}
+use Rattle.rox_reading.specs.State.{State, depth_of}
+use Rattle.rox_reading.specs.Refusals as refusal
+use Rattle.rox_reading.specs.Refusals.{lifted}
+use Rattle.rox_grammar.specs.State.{Open, root, inside, scope_of, nodes_so_far, pairs_so_far, attributes_so_far}
+use Rattle.rox_reading.specs.Machine.{How, run_parts, counted, with_item, comment_step, instruction_step, cdata_step, run_step, end_step, tag_step, step, closed_by, same_name, name_span}
 use Rattle.rox_reading.specs.Markup.{Instruction, EndTag, comment_at, instruction_at, cdata_at, end_tag_at}
-use Rattle.rox_reading.specs.Values.{RunText, run_at}
+use Rattle.rox_grammar.specs.Content.{is_plain}
+use Rattle.rox_reading.specs.Values.{RunText, raw_run_at}
 use Rattle.rox_reading.proofs.Forests.{pairs-join, attribute_count-join, pairs-merge, attribute_count-merge}
-use Rattle.rox_scan.specs.Gives.{Fails, name_view}
-use Rattle.rox_scan.specs.declared.failure.Failure.TheVariants as failure
+use Rattle.rox_scan.specs.Gives.{name_view}
 use Rattle.rox_build.specs.Values.{section_text}
 use Rattle.rox_build.specs.SoFar.{top}
 use Rattle.rox_build.specs.declared.tables.ElementTables.{ElementTables}
@@ -26,6 +29,7 @@ use Rattle.rox_build.specs.declared.builder.OpenElement.{OpenElement}
 use Rattle.rox_grammar.specs.Tree.{listed}
 use Rattle.rox_scan.specs.declared.cursor.Cursor.{Cursor}
 use Rattle.rox_scan.specs.declared.failure.Failure.{Failure}
+use Rattle.rox_build.proofs.Lifting.{refuses}
 use Rattle.rox_build.specs.Shown.{OpenLine, opened, opened_in, open_lines, names_in, Shows, Adds, Sees, Stepped}
 use Rattle.rox_build.specs.declared.builder.Builder.{Builder}
 
@@ -53,21 +57,22 @@ counted_is limit t s h = by_cases (leb (nodes_so_far t.stack t.done) limit) refl
 
 -- what a builder adds is what is read
 pub adds_stepped : (limit end : ℕ) (t : State) (c : Cursor) (u : Builder) (r : Result (Unit {0}) Failure) → Adds end r u (counted limit t) → c.pos ≡ t.at → u.nodes_limit ≡ limit
-    → names_in u.tables ≡ distinct_pairs (pairs_so_far t.stack t.done) → length (rows_of u.tables.attributes) ≡ attributes_so_far t.stack t.done → Stepped limit end r c u (counted limit t)
-adds_stepped limit end t c u (Ok x) (s, is, shows) here l names attributes =
+    → names_in u.tables ≡ distinct_pairs (pairs_so_far t.stack t.done) → length (rows_of u.tables.attributes) ≡ attributes_so_far t.stack t.done → u.left ≡ t.left
+    → Stepped limit end r c u (lifted (counted limit t))
+adds_stepped limit end t c u (Ok x) (s, is, shows) here l names attributes left =
     let e = counted_is limit t s is in
-    (t, is ∙ ap (λ (s : State). Ok s) e, record { here = here; limit_is = l; shows = subst (λ (s : State). Shows end s.stack s.done u) e shows; names = names; attributes = attributes })
-adds_stepped limit end t c u (Err e) h here l names attributes = h
+    (t, ap lifted (is ∙ ap (λ (s : State). Ok s) e), record { here = here; limit_is = l; shows = subst (λ (s : State). Shows end s.stack s.done u) e shows; names = names; attributes = attributes; left_is = left })
+adds_stepped limit end t c u (Err e) h here l names attributes left = refuses e (counted limit t) h
 
 -- an item with nothing below it that declares nothing
 pub item_stepped : (limit end : ℕ) (s : State) (c d : Cursor) (b u : Builder) (r : Result (Unit {0}) Failure) (i : Item) → Sees limit end s c b → own_pairs i ≡ [] → own_attributes i ≡ 0
-    → u.tables ≡ b.tables → u.nodes_limit ≡ b.nodes_limit → Adds end r u (with_item b.nodes_limit s d.pos i) → Stepped limit end r d u (with_item limit s d.pos i)
-item_stepped limit end s c d b u r i h no_pairs no_attributes tables same adds =
-    let t : State = record { at = d.pos; done = join s.done (leaf i); stack = s.stack } in
+    → u.tables ≡ b.tables → u.nodes_limit ≡ b.nodes_limit → u.left ≡ b.left → Adds end r u (with_item b.nodes_limit s d.pos i) → Stepped limit end r d u (lifted (with_item limit s d.pos i))
+item_stepped limit end s c d b u r i h no_pairs no_attributes tables same left adds =
+    let t : State = record { at = d.pos; done = join s.done (leaf i); stack = s.stack; left = s.left } in
     let a : Adds end r u (counted limit t) = subst (λ (n : ℕ). Adds end r u (counted n t)) h.limit_is adds in
     let p : pairs_so_far s.stack (join s.done (leaf i)) ≡ pairs_so_far s.stack s.done = pairs_more s.stack s.done i Nil ∙ ap (λ (xs : List Declaration). pairs_so_far s.stack s.done ++ (xs ++ [])) no_pairs ∙ append-nil (pairs_so_far s.stack s.done) in
     let n : attributes_so_far s.stack (join s.done (leaf i)) ≡ attributes_so_far s.stack s.done = omega (arith, attributes_more s.stack s.done i Nil) in
-    adds_stepped limit end t d u r a refl (same ∙ h.limit_is) (rw (tables, p) h.names) (rw (tables, n) h.attributes)
+    adds_stepped limit end t d u r a refl (same ∙ h.limit_is) (rw (tables, p) h.names) (rw (tables, n) h.attributes) (left ∙ h.left_is)
 
 -- ---- what one construct is read as
 
@@ -99,17 +104,23 @@ pub cdata_fails : (limit : ℕ) (src : List ℕ) (s : State) (i : ℕ) (f : Faul
 unfolding cdata_step
 cdata_fails limit src s i f e h = let k : cdata_at src s.at ≡ Err f = subst (λ (n : ℕ). cdata_at src n ≡ Err f) e h in rw k refl
 
-pub run_is : (limit : ℕ) (src : List ℕ) (s : State) (i j : ℕ) (t : RunText) → i ≡ s.at → run_at src i ≡ Ok (t, j) → run_step limit src s ≡ with_item limit s j (Text s.at j t.value t.plain)
+-- a run that is a slice of the source
+pub plain_run : (how : How) (src : List ℕ) (s : State) (i j : ℕ) (raw : List ℕ) → i ≡ s.at → raw_run_at src i ≡ Ok (raw, j) → is_plain raw ≡ true
+    → run_step how src s ≡ lifted (with_item how.limit s j (Text s.at j raw true))
 unfolding run_step
-run_is limit src s i j t e h = let k : run_at src s.at ≡ Ok (t, j) = subst (λ (n : ℕ). run_at src n ≡ Ok (t, j)) e h in rw k refl
+plain_run how src s i j raw e h plain = let k : raw_run_at src s.at ≡ Ok (raw, j) = subst (λ (n : ℕ). raw_run_at src n ≡ Ok (raw, j)) e h in rw (k, plain) refl
 
-pub run_fails : (limit : ℕ) (src : List ℕ) (s : State) (i : ℕ) (e : Failure) → i ≡ s.at → Fails e (run_at src i) → Fails e (run_step limit src s)
+-- one that is read by parts
+pub parted_run : (how : How) (src : List ℕ) (s : State) (i j : ℕ) (raw : List ℕ) → i ≡ s.at → raw_run_at src i ≡ Ok (raw, j) → is_plain raw ≡ false
+    → run_step how src s ≡ run_parts how (length src) src i j s
 unfolding run_step
-run_fails limit src s i failure.Memory e h = tt
-run_fails limit src s i (failure.Fault f) e h = failed limit src s f (subst (λ (n : ℕ). run_at src n ≡ Err f) e h)
-  where
-    failed : (limit : ℕ) (src : List ℕ) (s : State) (f : Fault) → run_at src s.at ≡ Err f → run_step limit src s ≡ Err f
-    failed limit src s f k = rw k refl
+parted_run how src s i j raw e h other =
+    let k : raw_run_at src s.at ≡ Ok (raw, j) = subst (λ (n : ℕ). raw_run_at src n ≡ Ok (raw, j)) e h in
+    rw (k, other) (ap (λ (n : ℕ). run_parts how (length src) src n j s) (sym e))
+
+pub run_fails : (how : How) (src : List ℕ) (s : State) (i : ℕ) (f : Fault) → i ≡ s.at → raw_run_at src i ≡ Err f → run_step how src s ≡ Err (refusal.here f)
+unfolding run_step
+run_fails how src s i f e h = let k : raw_run_at src s.at ≡ Err f = subst (λ (n : ℕ). raw_run_at src n ≡ Err f) e h in rw k refl
 
 pub same_shows : (end : ℕ) (o : Open) (done : Forest Item) (b u : Builder) → Shows end o done b → u.nodes ≡ b.nodes → u.tables ≡ b.tables → u.opened ≡ b.opened → u.pending ≡ b.pending → u.joined ≡ b.joined
     → Shows end o done u
@@ -125,21 +136,39 @@ same_shows end o done b u h nodes tables opens waits joined =
 
 -- ---- end tags
 
-pub end_fails : (src : List ℕ) (s : State) (i : ℕ) (f : Fault) → i ≡ s.at → end_tag_at src i ≡ Err f → end_step src s ≡ Err f
+pub end_fails : (how : How) (src : List ℕ) (s : State) (i : ℕ) (f : Fault) → i ≡ s.at → end_tag_at src i ≡ Err f → end_step how src s ≡ Err f
 unfolding end_step
-end_fails src s i f e h = let k : end_tag_at src s.at ≡ Err f = subst (λ (n : ℕ). end_tag_at src n ≡ Err f) e h in rw k refl
+end_fails how src s i f e h = let k : end_tag_at src s.at ≡ Err f = subst (λ (n : ℕ). end_tag_at src n ≡ Err f) e h in rw k refl
 
-pub end_is : (src : List ℕ) (s : State) (i j : ℕ) (t : EndTag) → i ≡ s.at → end_tag_at src i ≡ Ok (t, j) → end_step src s ≡ closed_by i t.name t.name_end j s.done s.stack
+-- it closes an element of its own text
+pub end_is : (how : How) (src : List ℕ) (s : State) (i j : ℕ) (t : EndTag) → i ≡ s.at → end_tag_at src i ≡ Ok (t, j) → leb (depth_of s.stack) how.base ≡ false
+    → end_step how src s ≡ closed_by i t.name t.name_end j s.done s.stack s.left
 unfolding end_step
-end_is src s i j t e h =
+end_is how src s i j t e h within =
     let k : end_tag_at src s.at ≡ Ok (t, j) = subst (λ (n : ℕ). end_tag_at src n ≡ Ok (t, j)) e h in
-    rw k (ap (λ (n : ℕ). closed_by n t.name t.name_end j s.done s.stack) (sym e))
+    rw (k, within) (ap (λ (n : ℕ). closed_by n t.name t.name_end j s.done s.stack s.left) (sym e))
+
+-- it would close one that was open before
+pub end_below : (how : How) (src : List ℕ) (s : State) (i j : ℕ) (t : EndTag) → i ≡ s.at → end_tag_at src i ≡ Ok (t, j) → leb (depth_of s.stack) how.base ≡ true
+    → end_step how src s ≡ Err (fault.UnexpectedEntityCloseTag i)
+unfolding end_step
+end_below how src s i j t e h below =
+    let k : end_tag_at src s.at ≡ Ok (t, j) = subst (λ (n : ℕ). end_tag_at src n ≡ Ok (t, j)) e h in
+    rw (k, below) (ap (λ (n : ℕ). Err (fault.UnexpectedEntityCloseTag n)) (sym e))
+
+-- how many elements are open
+lines_deep : (o : Open) → length (open_lines o) ≡ depth_of o
+lines_deep root = refl
+lines_deep (inside start tag before up) = length-append (open_lines up) _ ∙ ap (λ (n : ℕ). n + 1) (lines_deep up)
+
+pub opened_deep : (end : ℕ) (o : Open) (done : Forest Item) (b : Builder) → Shows end o done b → length b.opened.items ≡ depth_of o
+opened_deep end o done b h = sym (length-map b.opened.items (opened (names_in b.tables) b.tables.listed.items)) ∙ ap length h.open_rows ∙ lines_deep o
 
 -- no element is open
-pub closed_at_root : (t : ElementTables) (o : Open) (i n j : ℕ) (name : Name) (done : Forest Item) → opened_in t [] ≡ open_lines o → closed_by i name n j done o ≡ Err (fault.UnexpectedEntityCloseTag i)
+pub closed_at_root : (t : ElementTables) (o : Open) (i n j : ℕ) (name : Name) (done : Forest Item) (left : ℕ) → opened_in t [] ≡ open_lines o → closed_by i name n j done o left ≡ Err (fault.UnexpectedEntityCloseTag i)
 unfolding closed_by
-closed_at_root t root i n j name done h = refl
-closed_at_root t (inside start tag before up) i n j name done h = absurd (push_not_nil (open_lines up) _ (sym h))
+closed_at_root t root i n j name done left h = refl
+closed_at_root t (inside start tag before up) i n j name done left h = absurd (push_not_nil (open_lines up) _ (sym h))
   where
     push_not_nil : {A : Type 0} (xs : List A) (y : A) → xs ++ y ∷ [] ≡ [] → ⊥
     push_not_nil [] y h = cc h
@@ -155,12 +184,12 @@ outer_not_nil : (t : ElementTables) (outer : List OpenElement) (x : OpenElement)
 outer_not_nil t [] x h = cc h
 outer_not_nil t (y ∷ outer) x h = cc h
 
-pub closed_other : (t : ElementTables) (o : Open) (outer : List OpenElement) (x : OpenElement) (i n j : ℕ) (name : Name) (done : Forest Item) → opened_in t (outer ++ x ∷ []) ≡ open_lines o
+pub closed_other : (t : ElementTables) (o : Open) (outer : List OpenElement) (x : OpenElement) (i n j : ℕ) (name : Name) (done : Forest Item) (left : ℕ) → opened_in t (outer ++ x ∷ []) ≡ open_lines o
     → same_name (name_view x.name) name ≡ false
-    → closed_by i name n j done o ≡ Err (fault.UnexpectedCloseTag (name_span (name_view x.name) x.name_start x.name_end) (name_span name (i + 2) n) i)
+    → closed_by i name n j done o left ≡ Err (fault.UnexpectedCloseTag (name_span (name_view x.name) x.name_start x.name_end) (name_span name (i + 2) n) i)
 unfolding closed_by
-closed_other t root outer x i n j name done h other = absurd (outer_not_nil t outer x h)
-closed_other t (inside start tag before up) outer x i n j name done h other =
+closed_other t root outer x i n j name done left h other = absurd (outer_not_nil t outer x h)
+closed_other t (inside start tag before up) outer x i n j name done left h other =
     let v = top_view t start tag before up outer x h in
     let a : name_view x.name ≡ tag.name = ap (λ (l : OpenLine). l.name) v in
     let g : name_span (name_view x.name) x.name_start x.name_end ≡ name_span tag.name (start + 1) tag.name_end = ap (λ (l : OpenLine). name_span l.name l.name_start l.name_end) v in
@@ -168,13 +197,13 @@ closed_other t (inside start tag before up) outer x i n j name done h other =
     rw d (ap (λ (sp : Span). Err (fault.UnexpectedCloseTag sp (name_span name (i + 2) n) i)) (sym g))
 
 pub closed_stepped : (limit end : ℕ) (s : State) (c d : Cursor) (b u : Builder) (outer : List OpenElement) (x : OpenElement) (i n : ℕ) (name : Name) → Sees limit end s c b → b.opened.items ≡ outer ++ x ∷ []
-    → same_name (name_view x.name) name ≡ true → u.tables ≡ b.tables → u.nodes_limit ≡ b.nodes_limit
+    → same_name (name_view x.name) name ≡ true → u.tables ≡ b.tables → u.nodes_limit ≡ b.nodes_limit → u.left ≡ b.left
     → ((total start : ℕ) (t : Tag) (before : Forest Item) (up : Open) (done : Forest Item) → Shows total (inside start t before up) done b → Shows total up (join before (Cons (Element start d.pos t) (merge done) Nil)) u)
-    → (r : State) × (closed_by i name n d.pos s.done s.stack ≡ Ok r) × Sees limit end r d u
+    → (r : State) × (lifted (closed_by i name n d.pos s.done s.stack s.left) ≡ Ok r) × Sees limit end r d u
 unfolding closed_by
-closed_stepped limit end s c d b u outer x i n name h os same tables limits close = by_stack s.stack refl
+closed_stepped limit end s c d b u outer x i n name h os same tables limits left close = by_stack s.stack refl
   where
-    by_stack : (o : Open) → o ≡ s.stack → (r : State) × (closed_by i name n d.pos s.done o ≡ Ok r) × Sees limit end r d u
+    by_stack : (o : Open) → o ≡ s.stack → (r : State) × (lifted (closed_by i name n d.pos s.done o s.left) ≡ Ok r) × Sees limit end r d u
     by_stack root e = absurd (outer_not_nil b.tables outer x (sym (ap (opened_in b.tables) os) ∙ h.shows.open_rows ∙ ap open_lines (sym e)))
     by_stack (inside start tag before up) e =
         let v = top_view b.tables start tag before up outer x (sym (ap (opened_in b.tables) os) ∙ h.shows.open_rows ∙ ap open_lines (sym e)) in
@@ -188,9 +217,9 @@ closed_stepped limit end s c d b u outer x i n name h os same tables limits clos
         let q2 = attribute_count-merge s.done in
         let q3 : attributes_so_far (inside start tag before up) s.done ≡ attributes_so_far s.stack s.done = ap (λ (o : Open). attributes_so_far o s.done) e in
         let m : attributes_so_far up done ≡ attributes_so_far s.stack s.done = omega arith in (
-          record { at = d.pos; done = done; stack = up },
+          record { at = d.pos; done = done; stack = up; left = s.left },
           rw k refl,
-          record { here = refl; limit_is = limits ∙ h.limit_is; shows = sh; names = rw (tables, p) h.names; attributes = rw (tables, m) h.attributes },
+          record { here = refl; limit_is = limits ∙ h.limit_is; shows = sh; names = rw (tables, p) h.names; attributes = rw (tables, m) h.attributes; left_is = left ∙ h.left_is },
         )
 
 abbrev pub text_or : Result RunText Fault → RunText
@@ -198,10 +227,11 @@ text_or (Ok t) = t
 text_or (Err f) = record { value = []; plain = true }
 
 pub text_stepped : (limit end : ℕ) (s : State) (c d : Cursor) (b u : Builder) (r : Result (Unit {0}) Failure) (t : RunText) → Sees limit end s c b
-    → u.tables ≡ b.tables → u.nodes_limit ≡ b.nodes_limit → Adds end r u (with_item b.nodes_limit s d.pos (Text c.pos d.pos t.value t.plain)) → Stepped limit end r d u (with_item limit s d.pos (Text s.at d.pos t.value t.plain))
-text_stepped limit end s c d b u r t h tables limits adds =
-    subst (λ (n : ℕ). Stepped limit end r d u (with_item limit s d.pos (Text n d.pos t.value t.plain))) h.here
-    (item_stepped limit end s c d b u r (Text c.pos d.pos t.value t.plain) h refl refl tables limits adds)
+    → u.tables ≡ b.tables → u.nodes_limit ≡ b.nodes_limit → u.left ≡ b.left → Adds end r u (with_item b.nodes_limit s d.pos (Text c.pos d.pos t.value t.plain))
+    → Stepped limit end r d u (lifted (with_item limit s d.pos (Text s.at d.pos t.value t.plain)))
+text_stepped limit end s c d b u r t h tables limits left adds =
+    subst (λ (n : ℕ). Stepped limit end r d u (lifted (with_item limit s d.pos (Text n d.pos t.value t.plain)))) h.here
+    (item_stepped limit end s c d b u r (Text c.pos d.pos t.value t.plain) h refl refl tables limits left adds)
 
 -- ---- what the innermost open element lists
 
@@ -220,18 +250,18 @@ no_scope t (inside start tag before up) h = absurd (push_not_nil (open_lines up)
 
 -- ---- which construct a step is
 
-pub step_is_run : (limit : ℕ) (src xs : List ℕ) (s : State) (i : ℕ) → xs ≡ src → i ≡ s.at → (slice_index xs i ≡ 60 → ⊥) → step limit src s ≡ run_step limit src s
+pub step_is_run : (how : How) (src xs : List ℕ) (s : State) (i : ℕ) → xs ≡ src → i ≡ s.at → (slice_index xs i ≡ 60 → ⊥) → step how src s ≡ run_step how src s
 unfolding step
-step_is_run limit src xs s i same e other =
+step_is_run how src xs s i same e other =
     let x : slice_index xs i ≡ slice_index src s.at = ap (λ (ys : List ℕ). slice_index ys i) same ∙ ap (slice_index src) e in
     let k : eqb (slice_index src s.at) 60 ≡ false = subst (λ (n : ℕ). eqb n 60 ≡ false) x (ne_eqb (slice_index xs i) 60 other) in
     rw k refl
 
 -- `<` with a byte behind it that is no `!`
-pub step_is_markup : (limit : ℕ) (src xs : List ℕ) (s : State) (i b : ℕ) → xs ≡ src → i ≡ s.at → slice_index xs i ≡ 60 → i + 1 < length xs → slice_index xs (i + 1) ≡ b → (b ≡ 33 → ⊥)
-    → step limit src s ≡ (if eqb b 63 then instruction_step limit src s else if eqb b 47 then end_step src s else tag_step limit src s)
+pub step_is_markup : (how : How) (src xs : List ℕ) (s : State) (i b : ℕ) → xs ≡ src → i ≡ s.at → slice_index xs i ≡ 60 → i + 1 < length xs → slice_index xs (i + 1) ≡ b → (b ≡ 33 → ⊥)
+    → step how src s ≡ (if eqb b 63 then lifted (instruction_step how.limit src s) else if eqb b 47 then lifted (end_step how src s) else tag_step how src s)
 unfolding step
-step_is_markup limit src xs s i b same e here more next other =
+step_is_markup how src xs s i b same e here more next other =
     let x : slice_index src s.at ≡ 60 = sym (ap (λ (ys : List ℕ). slice_index ys i) same ∙ ap (slice_index src) e) ∙ here in
     let y : slice_index src (s.at + 1) ≡ b = sym (ap (λ (ys : List ℕ). slice_index ys (i + 1)) same ∙ ap (λ (n : ℕ). slice_index src (n + 1)) e) ∙ next in
     let z : s.at + 1 < length src = subst (λ (n : ℕ). n + 1 < length src) e (subst (λ (ys : List ℕ). i + 1 < length ys) same more) in

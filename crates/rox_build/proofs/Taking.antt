@@ -5,16 +5,20 @@ use Rattle.std.proofs.lemmas.Bool.{leb-false, lt-leb}
 use Rattle.rox_grammar.specs.declared.fault.Fault.{Fault}
 use Rattle.rox_grammar.specs.Written.{Attribute, Declaration, declares}
 use Rattle.rox_grammar.specs.Names.{spaces_end}
-use Rattle.rox_reading.specs.Lexical.{Read, ◌>>=◌, byte_at, quote_at, qname_at}
+use Rattle.rox_reading.specs.Refusals.{Refusal, here, lifted}
+use Rattle.rox_reading.specs.Lexical.{◌>>=◌, byte_at, quote_at, qname_at}
 use Rattle.rox_reading.specs.Markup.{RawAttribute, Turn, more, opened, closed, turn_at, attribute_at, raw_value_at}
 use Rattle.rox_reading.specs.Values.{RunText, value_at}
 use Rattle.rox_reading.specs.Tags as tags
-use Rattle.rox_reading.specs.Tags.{Held, declared, attribute_with, after_turn, attributes_at}
+use Rattle.rox_reading.specs.Tags.{Held, TagRest, Values, declared, attribute_with, after_turn, attributes_at}
 use Rattle.rox_scan.specs.Gives.{Fails, name_view}
 use Rattle.rox_scan.specs.Parts.{attribute_view}
 use Rattle.rox_scan.specs.declared.failure.Failure.{Failure}
 use Rattle.rox_scan.specs.declared.failure.Failure.TheVariants as failure
 use Rattle.rox_scan.specs.declared.markup.RawAttribute.{RawAttribute as CodeRaw}
+use Rattle.rox_build.specs.Refusing.{Refuses, of_failure}
+use Rattle.rox_build.specs.declared.refused.Refused.{Refused}
+use Rattle.rox_build.proofs.PartLemmas.{refuses_by}
 use Rattle.rox_build.specs.Storage.{storage_bytes, is_borrowed}
 use Rattle.rox_build.specs.declared.taken.Taken.{Taken}
 use Rattle.rox_build.specs.Tags.{taken_view, Declared, Holding, Took, one_more}
@@ -24,30 +28,48 @@ pub view_is : (raw : CodeRaw) (v : RunText) (t : Taken) → t.start ≡ raw.star
     → t.name ≡ raw.name → storage_bytes t.value ≡ v.value → is_borrowed t.value ≡ v.plain → attribute_with (attribute_view raw) v ≡ taken_view t
 view_is raw v t a b c d e f g = rw (a, b, c, d, e, f, g) refl
 
-one_is : (known : List Declaration) (src : List ℕ) (raw : RawAttribute) (h : Held) (v : RunText) (a : Attribute) → value_at src raw.value_start raw.value_end ≡ Ok v → attribute_with raw v ≡ a
-    → one_more known src raw h ≡ tags.taken known a h
-one_is known src raw h v a is view =
-    ap (λ (r : Result RunText Fault). r >>= λ v. tags.taken known (attribute_with raw v) h) is ∙ ap (λ (a : Attribute). tags.taken known a h) view
+-- what is read of one attribute, where so many may be opened behind it
+abbrev kept_left : ℕ → Result Held Fault → Result (Held × ℕ) Refusal
+kept_left left r = lifted r >>= λ held. Ok (held, left)
 
-pub took_declaration : (known : List Declaration) (before : List ℕ) (names : List Declaration) (listed : List ℕ) (taken : List Taken) (r : Result Bool Failure) (src : List ℕ) (raw : RawAttribute) (h : Held)
-    (v : RunText) (a : Attribute) → value_at src raw.value_start raw.value_end ≡ Ok v → attribute_with raw v ≡ a → declares a.name ≡ true → map taken_view taken ≡ h.attributes
-    → Declared known before names listed r h (declared known a h) → Took known before names listed taken r (one_more known src raw h)
-took_declaration known before names listed taken (Ok xml) src raw h v a is view dec same (own, read, d) =
-    (record { own = own; attributes = h.attributes }, one_is known src raw h v a is view ∙ rw dec read, record { declares = d; attributes = same })
-took_declaration known before names listed taken (Err e) src raw h v a is view dec same fails =
-    let k : declared known a h ≡ one_more known src raw h = sym (one_is known src raw h v a is view ∙ rw dec refl) in
-    subst (λ (r : Result Held Fault). Fails e r) k fails
+one_is : (how : Values) (known : List Declaration) (src : List ℕ) (raw : RawAttribute) (left l : ℕ) (h : Held) (v : RunText) (a : Attribute)
+    → value_at how.main how.entities how.opener src raw.value_start raw.value_end left ≡ Ok (v, l) → attribute_with raw v ≡ a
+    → one_more how known src raw left h ≡ kept_left l (tags.taken known a h)
+one_is how known src raw left l h v a is view =
+    ap (λ (r : Result (RunText × ℕ) Refusal). r >>= λ v. lifted (tags.taken known (attribute_with raw v.0) h) >>= λ held. Ok (held, v.1)) is ∙ ap (λ (a : Attribute). kept_left l (tags.taken known a h)) view
 
-pub took_attribute : (known : List Declaration) (before : List ℕ) (names : List Declaration) (listed : List ℕ) (xml : Bool) (taken kept : List Taken) (src : List ℕ) (raw : CodeRaw) (h : Held)
-    (v : RunText) (t : Taken) → kept ≡ taken ++ t ∷ [] → value_at src raw.value_start raw.value_end ≡ Ok v → t.start ≡ raw.start → t.name_end ≡ raw.name_end → t.value_start ≡ raw.value_start
+stops_left : (left : ℕ) (e : Failure) (r : Result Held Fault) → Fails e r → Refuses (of_failure e) (kept_left left r)
+stops_left left failure.Memory r h = tt
+stops_left left (failure.Fault f) r h = ap (kept_left left) h
+
+pub took_declaration : (how : Values) (known : List Declaration) (before : List ℕ) (names : List Declaration) (listed : List ℕ) (xml : Bool) (taken : List Taken) (src : List ℕ) (raw : RawAttribute) (left l : ℕ) (h : Held)
+    (v : RunText) (a : Attribute) → value_at how.main how.entities how.opener src raw.value_start raw.value_end left ≡ Ok (v, l) → attribute_with raw v ≡ a → declares a.name ≡ true → map taken_view taken ≡ h.attributes
+    → Declared known before names listed (Ok xml) h (declared known a h) → Took known before names listed taken (Ok (xml, l)) (one_more how known src raw left h)
+took_declaration how known before names listed xml taken src raw left l h v a is view dec same (own, read, d) =
+    (record { own = own; attributes = h.attributes }, one_is how known src raw left l h v a is view ∙ rw dec (ap (kept_left l) read), record { declares = d; attributes = same })
+
+pub refused_declaration : (how : Values) (known : List Declaration) (src : List ℕ) (raw : RawAttribute) (left l : ℕ) (h : Held) (v : RunText) (a : Attribute) (e : Failure)
+    → value_at how.main how.entities how.opener src raw.value_start raw.value_end left ≡ Ok (v, l) → attribute_with raw v ≡ a → declares a.name ≡ true
+    → Fails e (declared known a h) → Refuses (of_failure e) (one_more how known src raw left h)
+refused_declaration how known src raw left l h v a e is view dec fails =
+    let k : kept_left l (declared known a h) ≡ one_more how known src raw left h = sym (one_is how known src raw left l h v a is view ∙ rw dec refl) in
+    subst (λ (r : Result (Held × ℕ) Refusal). Refuses (of_failure e) r) k (stops_left l e (declared known a h) fails)
+
+-- its value is refused
+pub refused_value : (how : Values) (known : List Declaration) (src : List ℕ) (raw : RawAttribute) (left : ℕ) (h : Held) (e : Refused)
+    → Refuses e (value_at how.main how.entities how.opener src raw.value_start raw.value_end left) → Refuses e (one_more how known src raw left h)
+refused_value how known src raw left h e fails = refuses_by e (value_at how.main how.entities how.opener src raw.value_start raw.value_end left) (one_more how known src raw left h) (λ r is. rw is refl) fails
+
+pub took_attribute : (how : Values) (known : List Declaration) (before : List ℕ) (names : List Declaration) (listed : List ℕ) (xml : Bool) (taken kept : List Taken) (src : List ℕ) (raw : CodeRaw) (left l : ℕ) (h : Held)
+    (v : RunText) (t : Taken) → kept ≡ taken ++ t ∷ [] → value_at how.main how.entities how.opener src raw.value_start raw.value_end left ≡ Ok (v, l) → t.start ≡ raw.start → t.name_end ≡ raw.name_end → t.value_start ≡ raw.value_start
     → t.end ≡ raw.value_end + 1 → t.name ≡ raw.name → storage_bytes t.value ≡ v.value → is_borrowed t.value ≡ v.plain → declares (name_view raw.name) ≡ false
     → Holding known before names listed xml taken h
-    → (x : Held) × (one_more known src (attribute_view raw) h ≡ Ok x) × Holding known before names listed xml kept x
-took_attribute known before names listed xml taken kept src raw h v t push is a b d e n f g dec hold =
+    → (x : Held) × (one_more how known src (attribute_view raw) left h ≡ Ok (x, l)) × Holding known before names listed xml kept x
+took_attribute how known before names listed xml taken kept src raw left l h v t push is a b d e n f g dec hold =
     let view = view_is raw v t a b d e n f g in
     let other : declares (taken_view t).name ≡ false = ap (λ n. declares (name_view n)) n ∙ dec in (
       record { own = h.own; attributes = h.attributes ++ taken_view t ∷ [] },
-      one_is known src (attribute_view raw) h v (taken_view t) is view ∙ rw other refl,
+      one_is how known src (attribute_view raw) left l h v (taken_view t) is view ∙ rw other refl,
       record { declares = hold.declares; attributes = ap (map taken_view) push ∙ map-append taken_view taken (t ∷ []) ∙ ap (λ xs. xs ++ taken_view t ∷ []) hold.attributes },
     )
 
@@ -120,58 +142,63 @@ turn_gives src i raw j h =
 
 -- ---- the loop
 
-pub record Going (known : List Declaration) (before : List ℕ) (cut : Fault) (src : List ℕ) (whole : Read (Held × Bool)) (n i : ℕ) (names : List Declaration) (listed : List ℕ) (xml : Bool) (taken : List Taken) : Type 0 where
+pub record Going (how : Values) (known : List Declaration) (before : List ℕ) (cut : Fault) (src : List ℕ) (whole : Result (TagRest × ℕ) Refusal) (n i left : ℕ) (names : List Declaration) (listed : List ℕ) (xml : Bool) (taken : List Taken) : Type 0 where
   pub h : Held
   pub holding : Holding known before names listed xml taken h
-  pub same : attributes_at n cut known src i h ≡ whole
+  pub same : attributes_at n how cut known src i left h ≡ whole
 
 -- the text ends
-pub going_cut : (known : List Declaration) (before : List ℕ) (cut : Fault) (src : List ℕ) (whole : Read (Held × Bool)) (n i : ℕ) (names : List Declaration) (listed : List ℕ) (xml : Bool) (taken : List Taken)
-    → Going known before cut src whole n i names listed xml taken → length src ≤ i → whole ≡ Err cut
+pub going_cut : (how : Values) (known : List Declaration) (before : List ℕ) (cut : Fault) (src : List ℕ) (whole : Result (TagRest × ℕ) Refusal) (n i left : ℕ) (names : List Declaration) (listed : List ℕ) (xml : Bool) (taken : List Taken)
+    → Going how known before cut src whole n i left names listed xml taken → length src ≤ i → whole ≡ Err (here cut)
 unfolding attributes_at
-going_cut known before cut src whole zero i names listed xml taken g past = sym g.same
-going_cut known before cut src whole (suc n) i names listed xml taken g past = let k = le-leb _ _ past in sym g.same ∙ rw k refl
+going_cut how known before cut src whole zero i left names listed xml taken g past = sym g.same
+going_cut how known before cut src whole (suc n) i left names listed xml taken g past = let k = le-leb _ _ past in sym g.same ∙ rw k refl
 
 -- the turns are used up
-pub going_none : (known : List Declaration) (before : List ℕ) (cut : Fault) (src : List ℕ) (whole : Read (Held × Bool)) (n i : ℕ) (names : List Declaration) (listed : List ℕ) (xml : Bool) (taken : List Taken)
-    → Going known before cut src whole n i names listed xml taken → n ≡ 0 → whole ≡ Err cut
+pub going_none : (how : Values) (known : List Declaration) (before : List ℕ) (cut : Fault) (src : List ℕ) (whole : Result (TagRest × ℕ) Refusal) (n i left : ℕ) (names : List Declaration) (listed : List ℕ) (xml : Bool) (taken : List Taken)
+    → Going how known before cut src whole n i left names listed xml taken → n ≡ 0 → whole ≡ Err (here cut)
 unfolding attributes_at
-going_none known before cut src whole n i names listed xml taken g none = sym g.same ∙ rw none refl
+going_none how known before cut src whole n i left names listed xml taken g none = sym g.same ∙ rw none refl
 
-turned : (cut : Fault) (known : List Declaration) (src : List ℕ) (n m i : ℕ) (h : Held) → n ≡ suc m → i < length src
-    → attributes_at n cut known src i h ≡ (turn_at src i >>= λ x. after_turn (λ j held. attributes_at m cut known src j held) known src h x.0 x.1)
+turned : (how : Values) (cut : Fault) (known : List Declaration) (src : List ℕ) (n m i left : ℕ) (h : Held) → n ≡ suc m → i < length src
+    → attributes_at n how cut known src i left h ≡ (lifted (turn_at src i) >>= λ x. after_turn (λ j l held. attributes_at m how cut known src j l held) how known src left h x.0 x.1)
 unfolding attributes_at
-turned cut known src n m i h one inside = let k = lt-leb _ _ inside in rw (one, k) refl
+turned how cut known src n m i left h one inside = let k = lt-leb _ _ inside in rw (one, k) refl
 
-pub going_fails : (known : List Declaration) (before : List ℕ) (cut : Fault) (src : List ℕ) (whole : Read (Held × Bool)) (n m i : ℕ) (names : List Declaration) (listed : List ℕ) (xml : Bool) (taken : List Taken) (f : Fault)
-    → Going known before cut src whole n i names listed xml taken → n ≡ suc m → i < length src → turn_at src i ≡ Err f → whole ≡ Err f
-going_fails known before cut src whole n m i names listed xml taken f g one inside is = sym g.same ∙ turned cut known src n m i g.h one inside ∙ rw is refl
+pub going_fails : (how : Values) (known : List Declaration) (before : List ℕ) (cut : Fault) (src : List ℕ) (whole : Result (TagRest × ℕ) Refusal) (n m i left : ℕ) (names : List Declaration) (listed : List ℕ) (xml : Bool) (taken : List Taken) (f : Fault)
+    → Going how known before cut src whole n i left names listed xml taken → n ≡ suc m → i < length src → turn_at src i ≡ Err f → whole ≡ Err (here f)
+going_fails how known before cut src whole n m i left names listed xml taken f g one inside is = sym g.same ∙ turned how cut known src n m i left g.h one inside ∙ rw is refl
 
-pub going_ends : (known : List Declaration) (before : List ℕ) (cut : Fault) (src : List ℕ) (whole : Read (Held × Bool)) (n m i j : ℕ) (names : List Declaration) (listed : List ℕ) (xml empty : Bool) (taken : List Taken) (t : Turn)
-    → Going known before cut src whole n i names listed xml taken → n ≡ suc m → i < length src → turn_at src i ≡ Ok (t, j) → (t ≡ (if empty then closed else opened))
-    → (h : Held) × (whole ≡ Ok ((h, empty), j)) × Holding known before names listed xml taken h
-going_ends known before cut src whole n m i j names listed xml true taken t g one inside is kind = (g.h, sym g.same ∙ turned cut known src n m i g.h one inside ∙ rw (is, kind) refl, g.holding)
-going_ends known before cut src whole n m i j names listed xml false taken t g one inside is kind = (g.h, sym g.same ∙ turned cut known src n m i g.h one inside ∙ rw (is, kind) refl, g.holding)
+pub going_ends : (how : Values) (known : List Declaration) (before : List ℕ) (cut : Fault) (src : List ℕ) (whole : Result (TagRest × ℕ) Refusal) (n m i j left : ℕ) (names : List Declaration) (listed : List ℕ) (xml empty : Bool) (taken : List Taken) (t : Turn)
+    → Going how known before cut src whole n i left names listed xml taken → n ≡ suc m → i < length src → turn_at src i ≡ Ok (t, j) → (t ≡ (if empty then closed else opened))
+    → (h : Held) × (whole ≡ Ok (record { held = h; empty = empty; left = left }, j)) × Holding known before names listed xml taken h
+going_ends how known before cut src whole n m i j left names listed xml true taken t g one inside is kind = (g.h, sym g.same ∙ turned how cut known src n m i left g.h one inside ∙ rw (is, kind) refl, g.holding)
+going_ends how known before cut src whole n m i j left names listed xml false taken t g one inside is kind = (g.h, sym g.same ∙ turned how cut known src n m i left g.h one inside ∙ rw (is, kind) refl, g.holding)
 
 -- an attribute or a declaration, and then the others
-bind_assoc : {A B C : Type 0} (r : Result A Fault) (f : A → Result B Fault) (g : B → Result C Fault) → ((r >>= f) >>= g) ≡ (r >>= λ x. f x >>= g)
-bind_assoc (Ok x) f g = refl
-bind_assoc (Err e) f g = refl
+kept_on : {X : Type 0} (left : ℕ) (r : Result Held Fault) (next : ℕ → Held → Result X Refusal) → (lifted r >>= λ held. next left held) ≡ (kept_left left r >>= λ x. next x.1 x.0)
+kept_on left (Ok x) next = refl
+kept_on left (Err f) next = refl
 
-more_turn : (cut : Fault) (known : List Declaration) (src : List ℕ) (n m i j : ℕ) (h : Held) (raw : RawAttribute) → n ≡ suc m → i < length src → turn_at src i ≡ Ok (more raw, j)
-    → attributes_at n cut known src i h ≡ (one_more known src raw h >>= λ held. attributes_at m cut known src j held)
-more_turn cut known src n m i j h raw one inside is = turned cut known src n m i h one inside ∙ rw is refl
-    ∙ sym (bind_assoc (value_at src raw.value_start raw.value_end) (λ v. tags.taken known (attribute_with raw v) h) (λ held. attributes_at m cut known src j held))
+regrouped : {X : Type 0} (known : List Declaration) (raw : RawAttribute) (h : Held) (r : Result (RunText × ℕ) Refusal) (one : Result (Held × ℕ) Refusal) (next : ℕ → Held → Result X Refusal)
+    → one ≡ (r >>= λ v. kept_left v.1 (tags.taken known (attribute_with raw v.0) h))
+    → (r >>= λ v. lifted (tags.taken known (attribute_with raw v.0) h) >>= λ held. next v.1 held) ≡ (one >>= λ x. next x.1 x.0)
+regrouped known raw h (Err e) one next is = rw is refl
+regrouped known raw h (Ok v) one next is = kept_on v.1 (tags.taken known (attribute_with raw v.0) h) next ∙ rw is refl
 
-pub going_on : (known : List Declaration) (before : List ℕ) (cut : Fault) (src : List ℕ) (whole : Read (Held × Bool)) (n m i j : ℕ) (names next : List Declaration) (listed after : List ℕ) (xml now : Bool) (taken kept : List Taken) (raw : RawAttribute)
-    → (g : Going known before cut src whole n i names listed xml taken) → n ≡ suc m → i < length src → turn_at src i ≡ Ok (more raw, j)
-    → Took known before next after kept (Ok now) (one_more known src raw g.h) → Going known before cut src whole m j next after now kept
-going_on known before cut src whole n m i j names next listed after xml now taken kept raw g one inside is (h, read, hold) =
-    record { h = h; holding = hold; same = sym (more_turn cut known src n m i j g.h raw one inside is ∙ rw read refl) ∙ g.same }
+more_turn : (how : Values) (cut : Fault) (known : List Declaration) (src : List ℕ) (n m i j left : ℕ) (h : Held) (raw : RawAttribute) → n ≡ suc m → i < length src → turn_at src i ≡ Ok (more raw, j)
+    → attributes_at n how cut known src i left h ≡ (one_more how known src raw left h >>= λ x. attributes_at m how cut known src j x.1 x.0)
+more_turn how cut known src n m i j left h raw one inside is = turned how cut known src n m i left h one inside ∙ rw is refl
+    ∙ regrouped known raw h (value_at how.main how.entities how.opener src raw.value_start raw.value_end left) (one_more how known src raw left h) (λ l held. attributes_at m how cut known src j l held) refl
 
-pub going_stops : (known : List Declaration) (before : List ℕ) (cut : Fault) (src : List ℕ) (whole : Read (Held × Bool)) (n m i j : ℕ) (names : List Declaration) (listed : List ℕ) (xml : Bool) (taken : List Taken) (raw : RawAttribute) (e : Failure)
-    → (g : Going known before cut src whole n i names listed xml taken) → n ≡ suc m → i < length src → turn_at src i ≡ Ok (more raw, j)
-    → Fails e (one_more known src raw g.h) → Fails e whole
-going_stops known before cut src whole n m i j names listed xml taken raw failure.Memory g one inside is h = tt
-going_stops known before cut src whole n m i j names listed xml taken raw (failure.Fault f) g one inside is h =
-    sym g.same ∙ more_turn cut known src n m i j g.h raw one inside is ∙ rw h refl
+pub going_on : (how : Values) (known : List Declaration) (before : List ℕ) (cut : Fault) (src : List ℕ) (whole : Result (TagRest × ℕ) Refusal) (n m i j left l : ℕ) (names next : List Declaration) (listed after : List ℕ) (xml now : Bool) (taken kept : List Taken) (raw : RawAttribute)
+    → (g : Going how known before cut src whole n i left names listed xml taken) → n ≡ suc m → i < length src → turn_at src i ≡ Ok (more raw, j)
+    → Took known before next after kept (Ok (now, l)) (one_more how known src raw left g.h) → Going how known before cut src whole m j l next after now kept
+going_on how known before cut src whole n m i j left l names next listed after xml now taken kept raw g one inside is (h, read, hold) =
+    record { h = h; holding = hold; same = sym (more_turn how cut known src n m i j left g.h raw one inside is ∙ rw read refl) ∙ g.same }
+
+pub going_stops : (how : Values) (known : List Declaration) (before : List ℕ) (cut : Fault) (src : List ℕ) (whole : Result (TagRest × ℕ) Refusal) (n m i j left : ℕ) (names : List Declaration) (listed : List ℕ) (xml : Bool) (taken : List Taken) (raw : RawAttribute) (e : Refused)
+    → (g : Going how known before cut src whole n i left names listed xml taken) → n ≡ suc m → i < length src → turn_at src i ≡ Ok (more raw, j)
+    → Refuses e (one_more how known src raw left g.h) → Refuses e whole
+going_stops how known before cut src whole n m i j left names listed xml taken raw e g one inside is h =
+    refuses_by e (one_more how known src raw left g.h) whole (λ r err. sym g.same ∙ more_turn how cut known src n m i j left g.h raw one inside is ∙ rw err refl) h

@@ -1,53 +1,57 @@
 -- A root element with what follows it, and a whole text, are read as their parts are.
-use Rattle.std.proofs.Common.{◌≡◌, ℕ, zero, suc, ◌<◌, ◌≤◌, Bool, true, false, List, length, refl, ap, ◌∙◌, Result, Ok, Err, lt-ltb, le-ltb, slice_index, nat_le, nat_lt, if◌then◌else◌, ◌==◌}
+use Rattle.std.proofs.Common.{◌≡◌, ℕ, zero, suc, Bool, true, false, List, length, refl, sym, ap, subst, ◌∙◌, Result, Ok, Err, slice_index, nat_le, nat_lt, if◌then◌else◌, ◌==◌}
 use Rattle.std.proofs.lemmas.Bool.{ne_eqb, eq-eqb}
-use Rattle.rox_grammar.specs.declared.fault.Fault.{Fault}
-use Rattle.rox_grammar.specs.declared.fault.Fault.TheVariants as fault
 use Rattle.rox_grammar.specs.declared.fault.Word.TheVariants as word
 use Rattle.rox_grammar.specs.Names.{spaces_end}
 use Rattle.rox_grammar.specs.Constructs.{at}
-use Rattle.rox_grammar.specs.Forest.{Nil}
-use Rattle.rox_grammar.specs.Document.{after_bom}
-use Rattle.rox_reading.specs.Lexical.{Read, ◌>>=◌}
+use Rattle.rox_reading.specs.Refusals.{lifted}
+use Rattle.rox_reading.specs.Lexical.{◌>>=◌}
 use Rattle.rox_reading.specs.Markup.{comment_at, instruction_at}
-use Rattle.rox_reading.specs.State.{State, Open, root, inside, is_root, nodes_so_far}
-use Rattle.rox_reading.specs.Machine.{counted, comment_step, instruction_step, tag_step, step, drive, misc, body, finished, prolog, reading}
-use Rattle.rox_scan.specs.Gives.{Fails}
+use Rattle.rox_grammar.specs.State.{Open, root, inside, is_root, nodes_so_far}
+use Rattle.rox_reading.specs.State.{State}
+use Rattle.rox_reading.specs.Machine.{How, main_text, counted, comment_step, instruction_step, tag_step, step, drive}
+use Rattle.rox_reading.specs.Whole.{misc, body}
 use Rattle.rox_scan.specs.declared.failure.Failure.{Failure}
 use Rattle.rox_scan.specs.declared.failure.Failure.TheVariants as failure
-use Rattle.rox_build.specs.Shown.{prolog_at}
+use Rattle.rox_build.specs.Refusing.{Stops, Refuses, of_failure}
+use Rattle.rox_build.specs.declared.refused.Refused.{Refused}
+use Rattle.rox_build.proofs.PartLemmas.{refuses_by}
+use Rattle.rox_grammar.specs.Entities.{Entity}
+use Rattle.rox_build.proofs.Lifting.{lifted_ok, lifted_err}
 
 -- ---- the root element and what follows it
 
-pub no_body : (limit : ℕ) (src : List ℕ) (s : State) → (slice_index src s.at ≡ 60 → ⊥) → body limit src s ≡ Ok (s, false)
+pub no_body : (limit : ℕ) (es : List Entity) (src : List ℕ) (s : State) → (slice_index src s.at ≡ 60 → ⊥) → body limit es src s ≡ Ok (s, false)
 unfolding body
-no_body limit src s other = let k = ne_eqb _ _ other in rw k refl
+no_body limit es src s other = let k = ne_eqb _ _ other in rw k refl
 
-begun : (limit : ℕ) (src : List ℕ) (s : State) → slice_index src s.at ≡ 60
-    → body limit src s ≡ (tag_step limit src s >>= λ t. drive limit (length src) src t >>= λ u. misc limit (length src) src u >>= λ v. Ok (v, true))
+begun : (limit : ℕ) (es : List Entity) (how : How) (src : List ℕ) (s : State) → how ≡ main_text limit es → slice_index src s.at ≡ 60
+    → body limit es src s ≡ (tag_step how src s >>= λ t. drive how (length src) src t >>= λ u. lifted (misc limit (length src) src u) >>= λ v. Ok (v, true))
 unfolding body
-begun limit src s here = let k = eq-eqb _ _ here in rw k refl
+begun limit es how src s main here =
+    subst (λ (w : How). body limit es src s ≡ (tag_step w src s >>= λ t. drive w (length src) src t >>= λ u. lifted (misc limit (length src) src u) >>= λ v. Ok (v, true))) (sym main)
+    (let k = eq-eqb _ _ here in rw k refl)
 
-pub tag_fails_body : (limit : ℕ) (src : List ℕ) (s : State) (e : Failure) → slice_index src s.at ≡ 60 → Fails e (tag_step limit src s) → Fails e (body limit src s)
-tag_fails_body limit src s failure.Memory here h = tt
-tag_fails_body limit src s (failure.Fault f) here h = begun limit src s here ∙ rw h refl
+pub tag_fails_body : (limit : ℕ) (es : List Entity) (how : How) (src : List ℕ) (s : State) (e : Refused) → how ≡ main_text limit es → slice_index src s.at ≡ 60 → Refuses e (tag_step how src s) → Refuses e (body limit es src s)
+tag_fails_body limit es how src s e main here h = refuses_by e (tag_step how src s) (body limit es src s) (λ r err. begun limit es how src s main here ∙ rw err refl) h
 
-pub content_fails_body : (limit : ℕ) (src : List ℕ) (s t : State) (e : Failure) → slice_index src s.at ≡ 60 → tag_step limit src s ≡ Ok t → Fails e (drive limit (length src) src t) → Fails e (body limit src s)
-content_fails_body limit src s t failure.Memory here tag h = tt
-content_fails_body limit src s t (failure.Fault f) here tag h = begun limit src s here ∙ rw (tag, h) refl
+pub content_fails_body : (limit : ℕ) (es : List Entity) (how : How) (src : List ℕ) (s t : State) (e : Refused) → how ≡ main_text limit es → slice_index src s.at ≡ 60 → tag_step how src s ≡ Ok t
+    → Refuses e (drive how (length src) src t) → Refuses e (body limit es src s)
+content_fails_body limit es how src s t e main here tag h =
+    refuses_by e (drive how (length src) src t) (body limit es src s) (λ r err. begun limit es how src s main here ∙ rw (tag, err) refl) h
 
-pub misc_fails_body : (limit : ℕ) (src : List ℕ) (s t u : State) (e : Failure) → slice_index src s.at ≡ 60 → tag_step limit src s ≡ Ok t → drive limit (length src) src t ≡ Ok u
-    → Fails e (misc limit (length src) src u) → Fails e (body limit src s)
-misc_fails_body limit src s t u failure.Memory here tag inner h = tt
-misc_fails_body limit src s t u (failure.Fault f) here tag inner h = begun limit src s here ∙ rw (tag, inner, h) refl
+pub misc_fails_body : (limit : ℕ) (es : List Entity) (how : How) (src : List ℕ) (s t u : State) (e : Failure) → how ≡ main_text limit es → slice_index src s.at ≡ 60 → tag_step how src s ≡ Ok t
+    → drive how (length src) src t ≡ Ok u → Stops e (lifted (misc limit (length src) src u)) → Refuses (of_failure e) (body limit es src s)
+misc_fails_body limit es how src s t u failure.Memory main here tag inner h = tt
+misc_fails_body limit es how src s t u (failure.Fault f) main here tag inner h = let k = lifted_err (misc limit (length src) src u) f h in begun limit es how src s main here ∙ rw (tag, inner, k) refl
 
-pub a_body : (limit : ℕ) (src : List ℕ) (s t u v : State) → slice_index src s.at ≡ 60 → tag_step limit src s ≡ Ok t → drive limit (length src) src t ≡ Ok u → misc limit (length src) src u ≡ Ok v
-    → body limit src s ≡ Ok (v, true)
-a_body limit src s t u v here tag inner after = begun limit src s here ∙ rw (tag, inner, after) refl
+pub a_body : (limit : ℕ) (es : List Entity) (how : How) (src : List ℕ) (s t u v : State) → how ≡ main_text limit es → slice_index src s.at ≡ 60 → tag_step how src s ≡ Ok t → drive how (length src) src t ≡ Ok u
+    → lifted (misc limit (length src) src u) ≡ Ok v → body limit es src s ≡ Ok (v, true)
+a_body limit es how src s t u v main here tag inner after = let k = lifted_ok (misc limit (length src) src u) v after in begun limit es how src s main here ∙ rw (tag, inner, k) refl
 
 -- ---- nothing is open behind it
 
-bound : {A B P : Type 0} (r : Result A Fault) (f : A → Result B Fault) (y : B) → (r >>= f) ≡ Ok y → ((x : A) → r ≡ Ok x → f x ≡ Ok y → P) → P
+bound : {A B E P : Type 0} (r : Result A E) (f : A → Result B E) (y : B) → (r >>= f) ≡ Ok y → ((x : A) → r ≡ Ok x → f x ≡ Ok y → P) → P
 bound (Ok x) f y h go = go x refl h
 bound (Err e) f y h go = cc h
 
@@ -59,113 +63,48 @@ chosen : {X P : Type 0} (b : Bool) (x y z : X) → (if b then x else y) ≡ z �
 chosen true x y z h one other = one refl h
 chosen false x y z h one other = other refl h
 
-ok_is : {A : Type 0} (x y : A) → ◌≡◌ {A = Result A Fault} (Ok x) (Ok y) → y ≡ x
+ok_is : {A E : Type 0} (x y : A) → ◌≡◌ {A = Result A E} (Ok x) (Ok y) → y ≡ x
 ok_is x y h = cc h
 
 counted_open : (limit : ℕ) (s t : State) → counted limit s ≡ Ok t → t.stack ≡ s.stack
 counted_open limit s t h = branch_of (nat_le (nodes_so_far s.stack s.done) limit) _ _ _ h (λ e. cc) (λ e. cc)
 
-comment_open : (limit : ℕ) (src : List ℕ) (s t : State) → comment_step limit src s ≡ Ok t → t.stack ≡ s.stack
+pub comment_open : (limit : ℕ) (src : List ℕ) (s t : State) → comment_step limit src s ≡ Ok t → t.stack ≡ s.stack
 unfolding comment_step
 comment_open limit src s t h = bound (comment_at src s.at) _ t h (λ x is e. counted_open limit _ t e)
 
-instruction_open : (limit : ℕ) (src : List ℕ) (s t : State) → instruction_step limit src s ≡ Ok t → t.stack ≡ s.stack
+pub instruction_open : (limit : ℕ) (src : List ℕ) (s t : State) → instruction_step limit src s ≡ Ok t → t.stack ≡ s.stack
 unfolding instruction_step
 instruction_open limit src s t h = bound (instruction_at src s.at) _ t h (λ x is e. counted_open limit _ t e)
 
-misc_open : (limit n : ℕ) (src : List ℕ) (s t : State) → misc limit n src s ≡ Ok t → t.stack ≡ s.stack
+pub misc_open : (limit n : ℕ) (src : List ℕ) (s t : State) → misc limit n src s ≡ Ok t → t.stack ≡ s.stack
 unfolding misc
 misc_open limit zero src s t h = cc h
 misc_open limit (suc n) src s t h =
-    let a : State = record { at = spaces_end src s.at; done = s.done; stack = s.stack } in
+    let a : State = record { at = spaces_end src s.at; done = s.done; stack = s.stack; left = s.left } in
     branch_of (at word.CommentStart src a.at) _ _ _ h
     (λ one. bound (comment_step limit src a) (λ u. misc limit n src u) t one (λ u is e. misc_open limit n src u t e ∙ comment_open limit src a u is))
     (λ more. branch_of (at word.PIStart src a.at) _ _ _ more
     (λ one. bound (instruction_step limit src a) (λ u. misc limit n src u) t one (λ u is e. misc_open limit n src u t e ∙ instruction_open limit src a u is))
     (λ none. cc))
 
-drive_open : (limit n : ℕ) (src : List ℕ) (s t : State) → drive limit n src s ≡ Ok t → is_root t.stack ≡ true
+drive_open : (how : How) (n : ℕ) (src : List ℕ) (s t : State) → drive how n src s ≡ Ok t → is_root t.stack ≡ true
 unfolding drive
-drive_open limit zero src s t h = chosen (is_root s.stack) _ _ _ h (λ is e. cc) (λ is e. cc)
-drive_open limit (suc n) src s t h =
+drive_open how zero src s t h = chosen (is_root s.stack) _ _ _ h (λ is e. cc) (λ is e. cc)
+drive_open how (suc n) src s t h =
     chosen (is_root s.stack) _ _ _ h (λ is e. cc)
-    (λ inner more. branch_of (nat_lt s.at (length src)) _ _ _ more (λ on. bound (step limit src s) (λ u. drive limit n src u) t on (λ u is e. drive_open limit n src u t e)) (λ cut. cc))
+    (λ inner more. branch_of (nat_lt s.at (length src)) _ _ _ more (λ on. bound (step how src s) (λ u. drive how n src u) t on (λ u is e. drive_open how n src u t e)) (λ cut. cc))
 
 is_the_root : (o : Open) → is_root o ≡ true → o ≡ root
 is_the_root root h = refl
 is_the_root (inside start tag before up) h = cc h
 
-body_open : (limit : ℕ) (src : List ℕ) (s t : State) (some : Bool) → s.stack ≡ root → body limit src s ≡ Ok (t, some) → t.stack ≡ root
+pub body_open : (limit : ℕ) (es : List Entity) (src : List ℕ) (s t : State) (some : Bool) → s.stack ≡ root → body limit es src s ≡ Ok (t, some) → t.stack ≡ root
 unfolding body
-body_open limit src s t some here h =
+body_open limit es src s t some here h =
     branch_of (slice_index src s.at == 60) _ _ _ h
-    (λ begun. bound (tag_step limit src s) _ _ begun (λ u is e.
-    bound (drive limit (length src) src u) _ _ e (λ v done f.
-    bound (misc limit (length src) src v) _ _ f (λ w after g.
-    ap (λ (p : State × Bool). p.0.stack) (ok_is _ _ g) ∙ misc_open limit (length src) src v w after ∙ is_the_root v.stack (drive_open limit (length src) src u v done)))))
+    (λ begun. bound (tag_step (main_text limit es) src s) _ _ begun (λ u is e.
+    bound (drive (main_text limit es) (length src) src u) _ _ e (λ v done f.
+    bound (lifted (misc limit (length src) src v)) _ _ f (λ w after g.
+    ap (λ (p : State × Bool). p.0.stack) (ok_is _ _ g) ∙ misc_open limit (length src) src v w (lifted_ok _ _ after) ∙ is_the_root v.stack (drive_open (main_text limit es) (length src) src u v done)))))
     (λ none. ap (λ (p : State × Bool). p.0.stack) (ok_is _ _ none) ∙ here)
-
--- ---- a whole text
-
-abbrev pub start : ℕ → State
-start i = record { at = i; done = Nil; stack = root }
-
-abbrev placed : Result ℕ Fault → Read (Unit {0})
-placed r = r >>= λ j. Ok (tt, j)
-
-abbrev back : Read (Unit {0}) → Result ℕ Fault
-back r = r >>= λ p. Ok p.1
-
-place_of : (r : Result ℕ Fault) (x : Unit {0}) (j : ℕ) → placed r ≡ Ok (x, j) → r ≡ Ok j
-place_of (Ok k) x j e = ap back e
-place_of (Err f) x j e = ap back e
-
-failed : (r : Result ℕ Fault) (f : Fault) → placed r ≡ Err f → r ≡ Err f
-failed (Ok k) f e = cc e
-failed (Err g) f e = cc e
-
-pub declared : (src : List ℕ) (i j : ℕ) (x : Unit {0}) → prolog_at src i ≡ Ok (x, j) → prolog src i ≡ Ok j
-declared src i j x h = place_of (prolog src i) x j h
-
-pub prolog_fails : (limit : ℕ) (src : List ℕ) (e : Failure) → Fails e (prolog_at src (after_bom src)) → Fails e (reading limit src)
-unfolding reading
-prolog_fails limit src failure.Memory h = tt
-prolog_fails limit src (failure.Fault f) h = let k = failed (prolog src (after_bom src)) f h in rw k refl
-
-pub misc_fails : (limit : ℕ) (src : List ℕ) (i : ℕ) (e : Failure) → prolog src (after_bom src) ≡ Ok i → Fails e (misc limit (length src) src (start i)) → Fails e (reading limit src)
-unfolding reading
-misc_fails limit src i failure.Memory p h = tt
-misc_fails limit src i (failure.Fault f) p h = rw (p, h) refl
-
-pub declares_type : (limit : ℕ) (src : List ℕ) (i : ℕ) (s : State) → prolog src (after_bom src) ≡ Ok i → misc limit (length src) src (start i) ≡ Ok s → at word.DoctypeStart src s.at ≡ true
-    → reading limit src ≡ Err fault.DtdDetected
-unfolding reading
-declares_type limit src i s p m is = rw (p, m, is) refl
-
-pub body_fails : (limit : ℕ) (src : List ℕ) (i : ℕ) (s : State) (e : Failure) → prolog src (after_bom src) ≡ Ok i → misc limit (length src) src (start i) ≡ Ok s → at word.DoctypeStart src s.at ≡ false
-    → Fails e (body limit src s) → Fails e (reading limit src)
-unfolding reading
-body_fails limit src i s failure.Memory p m other h = tt
-body_fails limit src i s (failure.Fault f) p m other h = rw (p, m, other, h) refl
-
-read_to : (limit : ℕ) (src : List ℕ) (i : ℕ) (s t : State) (some : Bool) → prolog src (after_bom src) ≡ Ok i → misc limit (length src) src (start i) ≡ Ok s → at word.DoctypeStart src s.at ≡ false
-    → body limit src s ≡ Ok (t, some) → reading limit src ≡ finished src (t, some)
-unfolding reading
-read_to limit src i s t some p m other h = rw (p, m, other, h) refl
-
-pub more_stands : (limit : ℕ) (src : List ℕ) (i : ℕ) (s t : State) (some : Bool) → prolog src (after_bom src) ≡ Ok i → misc limit (length src) src (start i) ≡ Ok s → at word.DoctypeStart src s.at ≡ false
-    → body limit src s ≡ Ok (t, some) → t.at < length src → reading limit src ≡ Err (fault.UnknownToken t.at)
-unfolding finished
-more_stands limit src i s t some p m other h more = let k = lt-ltb _ _ more in read_to limit src i s t some p m other h ∙ rw k refl
-
-pub whole : (limit : ℕ) (src : List ℕ) (i : ℕ) (s t : State) → prolog src (after_bom src) ≡ Ok i → misc limit (length src) src (start i) ≡ Ok s → at word.DoctypeStart src s.at ≡ false
-    → body limit src s ≡ Ok (t, true) → length src ≤ t.at → (reading limit src ≡ Ok t.done) × (t.stack ≡ root)
-unfolding finished
-whole limit src i s t p m other h all =
-    let k = le-ltb _ _ all in
-    (read_to limit src i s t true p m other h ∙ rw k refl, body_open limit src s t true (misc_open limit (length src) src (start i) s m) h)
-
-pub no_element : (limit : ℕ) (src : List ℕ) (i : ℕ) (s t : State) → prolog src (after_bom src) ≡ Ok i → misc limit (length src) src (start i) ≡ Ok s → at word.DoctypeStart src s.at ≡ false
-    → body limit src s ≡ Ok (t, false) → length src ≤ t.at → reading limit src ≡ Err fault.NoRootNode
-unfolding finished
-no_element limit src i s t p m other h all = let k = le-ltb _ _ all in read_to limit src i s t false p m other h ∙ rw k refl

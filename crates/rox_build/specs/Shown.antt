@@ -1,5 +1,5 @@
 -- What the builder holds, against where reading stands.
-use Rattle.std.specs.Prelude.{◌≡◌, ℕ, ◌+◌, ◌<◌, ◌≤◌, Bool, true, false, List, [], ◌∷◌, ◌++◌, Result, Ok, Err, length, map, slice_range}
+use Rattle.std.specs.Prelude.{◌≡◌, ℕ, ◌+◌, ◌<◌, ◌≤◌, Bool, true, false, List, [], ◌∷◌, ◌++◌, Option, Result, Ok, Err, length, map, slice_range}
 use Rattle.std.specs.String.{string_bytes}
 use Rattle.std.specs.List.{AllByRecursion}
 use Rattle.rox_grammar.specs.declared.fault.Fault.{Fault}
@@ -8,13 +8,19 @@ use Rattle.rox_grammar.specs.Written.{Name, Declaration, Tag, Item, Element, Tex
 use Rattle.rox_grammar.specs.Tree.{listed, scope_in, node_in}
 use Rattle.rox_grammar.specs.Document.{distinct_pairs, most_pairs, most_attributes}
 use Rattle.rox_reading.specs.Lexical.{Read, ◌>>=◌}
-use Rattle.rox_reading.specs.Machine.{prolog}
-use Rattle.rox_reading.specs.State.{Open, root, inside, State, scope_of, pairs_so_far, attributes_so_far}
+use Rattle.rox_reading.specs.Refusals.{Refusal}
+use Rattle.rox_reading.specs.State.{State}
+use Rattle.rox_reading.specs.Whole.{prolog}
+use Rattle.rox_grammar.specs.State.{Open, root, inside, scope_of, pairs_so_far, attributes_so_far}
 use Rattle.rox_reading.proofs.Forests.{Clean, is_text}
 use Rattle.rox_scan.specs.Gives.{Fails, name_view}
 use Rattle.rox_scan.specs.declared.cursor.Cursor.{Cursor}
 use Rattle.rox_scan.specs.declared.failure.Failure.{Failure}
 use Rattle.rox_build.specs.Lines.{Line, line, node, declaration, NamespaceWithin, KindWithin, AttributeRow, rows_of}
+use Rattle.rox_reading.specs.Values.{Next, part_text}
+use Rattle.rox_build.specs.Refusing.{Stops, Refuses}
+use Rattle.rox_build.specs.Values.{next_view}
+use Rattle.rox_build.specs.declared.refused.Refused.{Refused}
 use Rattle.rox_build.specs.Scopes.{entries}
 use Rattle.rox_build.specs.SoFar.{top, so_far}
 use Rattle.rox_build.specs.declared.tables.NodeKind.{NodeKind}
@@ -137,25 +143,44 @@ pub record Sees (limit end : ℕ) (s : State) (c : Cursor) (b : Builder) : Type 
   pub shows : Shows end s.stack s.done b
   pub names : names_in b.tables ≡ distinct_pairs (pairs_so_far s.stack s.done)
   pub attributes : length (rows_of b.tables.attributes) ≡ attributes_so_far s.stack s.done
+  pub left_is : b.left ≡ s.left
 
 -- the same after a step, unless memory ran out
-abbrev pub Stepped : ℕ → ℕ → Result (Unit {0}) Failure → Cursor → Builder → Result State Fault → Type 0
+abbrev pub Stepped : ℕ → ℕ → Result (Unit {0}) Failure → Cursor → Builder → Result State Refusal → Type 0
 Stepped limit end (Ok x) c b read = (s : State) × (read ≡ Ok s) × Sees limit end s c b
-Stepped limit end (Err e) c b read = Fails e read
+Stepped limit end (Err e) c b read = Stops e read
+
+-- the same where entities may be opened
+abbrev pub Went : ℕ → ℕ → Result (Unit {0}) Refused → Cursor → Builder → Result State Refusal → Type 0
+Went limit end (Ok x) c b read = (s : State) × (read ≡ Ok s) × Sees limit end s c b
+Went limit end (Err e) c b read = Refuses e read
+
+-- the builder stands where reading does, whatever the source is and the place in it
+pub record Rests (limit end : ℕ) (s : State) (b : Builder) : Type 0 where
+  pub limit_is : b.nodes_limit ≡ limit
+  pub shows : Shows end s.stack s.done b
+  pub names : names_in b.tables ≡ distinct_pairs (pairs_so_far s.stack s.done)
+  pub attributes : length (rows_of b.tables.attributes) ≡ attributes_so_far s.stack s.done
+  pub left_is : b.left ≡ s.left
+
+-- the same after a replacement text
+abbrev pub Rested : ℕ → ℕ → Result (Unit {0}) Refused → Builder → Result State Refusal → Type 0
+Rested limit end (Ok x) b read = (s : State) × (read ≡ Ok s) × Rests limit end s b
+Rested limit end (Err e) b read = Refuses e read
 
 -- the same of the root element, with whether it stands there
-abbrev pub SteppedWith : ℕ → ℕ → Result Bool Failure → Cursor → Builder → Result (State × Bool) Fault → Type 0
-SteppedWith limit end (Ok x) c b read = (s : State) × (read ≡ Ok (s, x)) × Sees limit end s c b
-SteppedWith limit end (Err e) c b read = Fails e read
+abbrev pub WentWith : ℕ → ℕ → Result Bool Refused → Cursor → Builder → Result (State × Bool) Refusal → Type 0
+WentWith limit end (Ok x) c b read = (s : State) × (read ≡ Ok (s, x)) × Sees limit end s c b
+WentWith limit end (Err e) c b read = Refuses e read
 
 -- the place behind the declaration, if it stands here
 abbrev pub prolog_at : List ℕ → ℕ → Read (Unit {0})
 prolog_at src i = prolog src i >>= λ j. Ok (tt, j)
 
--- a whole text was read
-abbrev pub Completed : ℕ → Result (Unit {0}) Failure → Builder → Result (Forest Item) Fault → Type 0
-Completed end (Ok x) b read = (tops : Forest Item) × (read ≡ Ok tops) × Shows end root tops b
-Completed end (Err e) b read = Fails e read
+-- a part of a run stands in the buffer for values, up to the run's end or a reference
+abbrev pub GivesPart : Bool → List ℕ → Cursor → Result (Option Cursor) Failure → Result (List ℕ × Next) Fault → Type 0
+GivesPart main text after (Ok next) read = (bs : List ℕ) × (read ≡ Ok (bs, next_view next after.pos)) × (text ≡ part_text main bs)
+GivesPart main text after (Err e) read = Fails e read
 
 -- tables that have grown
 pub record Grown (old new : ElementTables) : Type 0 where

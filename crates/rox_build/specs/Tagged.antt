@@ -1,14 +1,16 @@
 -- What the code holds of a start tag that was read, against the tag.
-use Rattle.std.specs.Prelude.{◌≡◌, ℕ, Bool, ◌≤◌, List, ◌++◌, length, map, Result, Ok, Err, slice_range}
+use Rattle.std.specs.Prelude.{◌≡◌, ℕ, ◌≤◌, List, ◌++◌, length, map, Result, Ok, Err, slice_range}
 use Rattle.std.specs.List.{AllByRecursion}
 use Rattle.std.specs.Option.{option_map}
 use Rattle.rox_grammar.specs.Written.{Attribute, Name, Declaration, Tag}
 use Rattle.rox_grammar.specs.Tree.{listed, attribute_in, element_namespace}
 use Rattle.rox_grammar.specs.Document.{listable, with_new, most_pairs, most_attributes}
-use Rattle.rox_reading.specs.Lexical.{Read}
-use Rattle.rox_scan.specs.Gives.{Fails, name_view}
+use Rattle.rox_reading.specs.Refusals.{Refusal}
+use Rattle.rox_reading.specs.Tags.{TagRead}
+use Rattle.rox_scan.specs.Gives.{name_view}
 use Rattle.rox_scan.specs.declared.cursor.Cursor.{Cursor}
-use Rattle.rox_scan.specs.declared.failure.Failure.{Failure}
+use Rattle.rox_build.specs.Refusing.{Refuses}
+use Rattle.rox_build.specs.declared.refused.Refused.{Refused}
 use Rattle.rox_build.specs.Lines.{declaration, attribute, entry, NamespaceWithin, OptionWithin, AttributeRow, rows_of}
 use Rattle.rox_build.specs.Scopes.{entries, ArePlaces}
 use Rattle.rox_build.specs.declared.tables.ElementData.{ElementData}
@@ -47,9 +49,9 @@ pub record Tagged (old new : ElementTables) (t : StartTag) (above : List Declara
   pub element : IsElement old new t.element (listed above tag.declarations) tag.name tag.attributes
 
 -- a start tag was read, unless memory ran out
-abbrev pub GivesTag : ElementTables → ElementTables → Cursor → Result StartTag Failure → List Declaration → Read (Tag × Bool) → Type 0
-GivesTag old new after (Ok t) above read = (tag : Tag) × (read ≡ Ok ((tag, t.empty), after.pos)) × Tagged old new t above tag
-GivesTag old new after (Err e) above read = Fails e read
+abbrev pub GivesTag : ElementTables → ElementTables → Cursor → Result StartTag Refused → List Declaration → Result (TagRead × ℕ) Refusal → Type 0
+GivesTag old new after (Ok t) above read = (tag : Tag) × (read ≡ Ok (record { tag = tag; empty = t.empty; left = t.left }, after.pos)) × Tagged old new t above tag
+GivesTag old new after (Err e) above read = Refuses e read
 
 -- the namespaces at these listed places
 abbrev pub scope_in_tables : ElementTables → Scope → List Declaration

@@ -7,8 +7,10 @@ ghost use Rattle.rox_scan.specs.declared.failure.Failure.TheVariants as failure;
 ghost use Rattle.rox_build.specs.Waiting.{waiting};
 
 use crate::attributes::AttributeTable;
-use crate::growth::push;
+use crate::growth::{push, trim, with_room};
+use crate::how::MOST_WITHIN;
 use crate::names::NamespaceTable;
+use crate::node_rows;
 use crate::pending::Pending;
 use crate::storage::StringStorage;
 use crate::tables::{ElementTables, NodeData, NodeKind, Scope, Tables};
@@ -42,19 +44,24 @@ pub struct Builder<'input> {
     /// The text of `Pending::Joined`.
     pub joined: String,
     pub buffers: Buffers<'input>,
-    pub finders: Finders,
+    pub finders: Finders<'input>,
     pub nodes_limit: u32,
+    /// How many replacement texts may still be opened within the one that is read.
+    pub left: u32,
     pub ghost few: { vec_len nodes + waiting pending < 2 ^ 32 },
     pub ghost counted: { vec_len nodes + waiting pending ≤ max 1 nodes_limit },
     pub ghost shallow: { vec_len opened < vec_len nodes },
 }
 
-/// The row of the root node of a text of so many bytes, with room for more.
+/// How many rows a table begins with room for, at most.
+const FIRST_ROWS: usize = 65536;
+
+/// The row of the root node of a text of so many bytes, with some room for more.
 fn root_row<'input>(alloc: Global, bytes: usize) -> Result<Vec<NodeData<'input>>, Failure>
     ensures ok { IfOk result (λ nodes. nodes.items ≡ record { start = 0; end = bytes; parent = 0; next = 0; depth = 0; kind = kind.Root } ∷ []) }
     ensures err { IfErr result (λ e. e ≡ failure.Memory) }
 {
-    let mut nodes = Vec::with_capacity(alloc, bytes / 12 + 1)?;
+    let mut nodes = with_room(alloc, (bytes / 48 + 32).min(FIRST_ROWS));
     nodes.push(NodeData {
         start: 0,
         end: bytes,
@@ -95,7 +102,8 @@ impl<'input> Builder<'input> {
     ghost use Rattle.rox_grammar.specs.Forest.{Forest, Nil, Cons, join};
     ghost use Rattle.rox_grammar.specs.Written.{Item, Text, Element, Tag, merge, leaf};
     ghost use Rattle.rox_grammar.specs.declared.fault.Fault.TheVariants as fault;
-    ghost use Rattle.rox_reading.specs.State.{Open, root, inside, State, is_root, scope_of, nodes_so_far};
+    ghost use Rattle.rox_grammar.specs.State.{Open, root, inside, is_root, scope_of, nodes_so_far};
+    ghost use Rattle.rox_reading.specs.State.{State};
     ghost use Rattle.rox_reading.specs.Machine.{with_item, opened_by, counted};
     ghost use Rattle.rox_scan.specs.Gives.{Fails};
     ghost use Rattle.rox_build.specs.Values.{piece_view};
@@ -111,12 +119,16 @@ impl<'input> Builder<'input> {
         ensures fine { IfOk result (λ b. Fine b.tables b.opened.items) }
         ensures shows { IfOk result (λ b. Shows bytes root Nil b) }
         ensures limit { IfOk result (λ b. b.nodes_limit ≡ nodes_limit) }
+        ensures left { IfOk result (λ b. b.left ≡ 255) }
         ensures err { IfErr result (λ e. e ≡ failure.Memory) }
     {
+        // An allocator often gives places in turn, and a table behind which nothing stands grows where it is: the rows come last.
+        let attributes = AttributeTable::of_text(alloc, bytes)?;
+        let nodes = root_row(alloc, bytes)?;
         Ok(Builder {
-            nodes: root_row(alloc, bytes)?,
+            nodes,
             tables: ElementTables {
-                attributes: AttributeTable::with_capacity(alloc, bytes / 64)?,
+                attributes,
                 namespaces: NamespaceTable::new(alloc),
                 listed: Vec::new(alloc),
             },
@@ -125,10 +137,12 @@ impl<'input> Builder<'input> {
             joined: String::new(alloc),
             buffers: Buffers {
                 scratch: String::new(alloc),
+                raw: String::new(alloc),
                 taken: Vec::new(alloc),
             },
             finders: Finders::new(),
             nodes_limit,
+            left: MOST_WITHIN,
         })
     }
 
@@ -221,19 +235,20 @@ impl<'input> Builder<'input> {
         ensures tables { self.new.tables ≡ self.old.tables }
         ensures opened { self.new.opened ≡ self.old.opened }
         ensures limit { self.new.nodes_limit ≡ self.old.nodes_limit }
+        ensures left { self.new.left ≡ self.old.left }
         ensures err { IfErr result (λ e. e ≡ failure.Memory) }
     {
         match mem::replace(&mut self.pending, Pending::None) {
             Pending::None => Ok(()),
             Pending::Slice(start, end, text) => {
                 let row = self.row(start, end, NodeKind::Text(StringStorage::Borrowed(text)));
-                push(&mut self.nodes, row)?;
+                node_rows::push(&mut self.nodes, row)?;
                 Ok(())
             }
             Pending::Joined(start, end) => {
                 let text = StringStorage::new_owned(alloc, self.joined.as_str())?;
                 let row = self.row(start, end, NodeKind::Text(text));
-                push(&mut self.nodes, row)?;
+                node_rows::push(&mut self.nodes, row)?;
                 Ok(())
             }
         }
@@ -253,11 +268,12 @@ impl<'input> Builder<'input> {
         ensures tables { self.new.tables ≡ self.old.tables }
         ensures opened { self.new.opened ≡ self.old.opened }
         ensures limit { self.new.nodes_limit ≡ self.old.nodes_limit }
+        ensures left { self.new.left ≡ self.old.left }
     {
         self.flush(alloc)?;
         self.room()?;
         let row = self.row(start, end, kind);
-        push(&mut self.nodes, row)?;
+        node_rows::push(&mut self.nodes, row)?;
         Ok(())
     }
 
@@ -274,6 +290,7 @@ impl<'input> Builder<'input> {
         ensures tables { self.new.tables ≡ self.old.tables }
         ensures opened { self.new.opened ≡ self.old.opened }
         ensures limit { self.new.nodes_limit ≡ self.old.nodes_limit }
+        ensures left { self.new.left ≡ self.old.left }
     {
         match self.pending {
             Pending::None => {
@@ -298,6 +315,7 @@ impl<'input> Builder<'input> {
         ensures tables { self.new.tables ≡ self.old.tables }
         ensures opened { self.new.opened ≡ self.old.opened }
         ensures limit { self.new.nodes_limit ≡ self.old.nodes_limit }
+        ensures left { self.new.left ≡ self.old.left }
     {
         match self.pending {
             Pending::None => {
@@ -326,6 +344,7 @@ impl<'input> Builder<'input> {
         ensures tables { self.new.tables ≡ self.old.tables }
         ensures opened { self.new.opened ≡ self.old.opened }
         ensures limit { self.new.nodes_limit ≡ self.old.nodes_limit }
+        ensures left { self.new.left ≡ self.old.left }
     {
         match piece {
             Piece::Plain(text) => self.slice_piece(start, end, text),
@@ -341,18 +360,19 @@ impl<'input> Builder<'input> {
         start: usize,
         tag: &StartTag<'input>,
     ) -> Result<(), Failure>
-        ensures value { (total at : ℕ) (s : State) (t : Tag) → Shows total s.stack s.done self.old → s.at ≡ start → IsOpening self.old.tables (scope_of s.stack) start tag.now t
-            → Adds total result self.new (opened_by self.old.nodes_limit s t false at) }
+        ensures value { (total at left : ℕ) (s : State) (t : Tag) → Shows total s.stack s.done self.old → s.at ≡ start → IsOpening self.old.tables (scope_of s.stack) start tag.now t
+            → Adds total result self.new (opened_by self.old.nodes_limit s t false left at) }
         ensures tables { self.new.tables ≡ self.old.tables }
         ensures opened { OnOk result ((x : OpenElement) × (self.new.opened.items ≡ self.old.opened.items ++ x ∷ []) × (x.scope ≡ scope_in_table tag.now.element)) }
         ensures limit { self.new.nodes_limit ≡ self.old.nodes_limit }
+        ensures left { self.new.left ≡ self.old.left }
     {
         self.flush(alloc)?;
         self.room()?;
         let row = self.nodes.len() as u32;
         let mut opening = self.row(start, 0, NodeKind::Element(tag.element));
         opening.next = 0;
-        push(&mut self.nodes, opening)?;
+        node_rows::push(&mut self.nodes, opening)?;
         let element = OpenElement {
             row,
             name: tag.name,
@@ -375,6 +395,7 @@ impl<'input> Builder<'input> {
         ensures tables { self.new.tables ≡ self.old.tables }
         ensures opened { OnOk result (self.new.opened.items ≡ take (length self.old.opened.items - 1) self.old.opened.items) }
         ensures limit { self.new.nodes_limit ≡ self.old.nodes_limit }
+        ensures left { self.new.left ≡ self.old.left }
         ensures err { IfErr result (λ e. e ≡ failure.Memory) }
     {
         self.flush(alloc)?;
@@ -392,6 +413,7 @@ impl<'input> Builder<'input> {
         self.flush(alloc)?;
         let count = self.nodes.len() as u32;
         end_root(&mut self.nodes, count);
+        trim(&mut self.nodes);
         let Builder {
             nodes,
             tables,
@@ -401,9 +423,10 @@ impl<'input> Builder<'input> {
             buffers: _,
             finders: _,
             nodes_limit: _,
+            left: _,
         } = self;
         let ElementTables {
-            attributes,
+            mut attributes,
             namespaces,
             listed,
         } = tables;
@@ -411,6 +434,7 @@ impl<'input> Builder<'input> {
             items: namespaces,
             order: _,
         } = namespaces;
+        attributes.trim();
         Ok(Tables {
             nodes,
             attributes,

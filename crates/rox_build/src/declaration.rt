@@ -3,7 +3,7 @@
 ghost use Rattle.std.specs.Prelude.{◌≡◌, ◌<◌, ◌≤◌, ◌+◌, ◌-◌, ◌^◌, List, ℕ, length, map, Ok, Err, OnOk};
 ghost use Rattle.rox_grammar.specs.declared.fault.Span.{Span as SpecSpan};
 ghost use Rattle.rox_grammar.specs.Written.{Attribute, Declaration, Name, declares, local_span, prefix_span};
-ghost use Rattle.rox_grammar.specs.Document.{most_pairs};
+ghost use Rattle.rox_grammar.specs.Document.{listable_of, most_pairs};
 ghost use Rattle.rox_reading.specs.Tags as spec;
 ghost use Rattle.rox_scan.specs.Gives.{name_view};
 ghost use Rattle.rox_build.specs.Lines.{declaration};
@@ -121,7 +121,7 @@ impl<'input> Taken<'input> {
 #[inline]
 fn is_again(names: &[Namespace<'_>], own: &[u16], xml: bool, prefix: Option<&str>) -> bool
     requires { ArePlaces (length names.now) own.now }
-    ensures { (ds : List Declaration) → xml ≡ declares_xml ds → entries (map declaration names.now) own.now ≡ spec.listable_of ds
+    ensures { (ds : List Declaration) → xml ≡ declares_xml ds → entries (map declaration names.now) own.now ≡ listable_of ds
         → result ≡ is_declared (prefix_view prefix.entry) ds }
 {
     is_own(names, own, xml, prefix)

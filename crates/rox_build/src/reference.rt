@@ -1,21 +1,21 @@
 //! References to characters and to entities (XML 1.0 sections 4.1 and 4.6).
 
-ghost use Rattle.std.specs.Prelude.{◌≡◌, ◌^◌, ◌≤◌, ◌<◌, min, length, slice_index, slice_range};
+ghost use Rattle.std.specs.Prelude.{◌≡◌, ◌^◌, ◌≤◌, ◌<◌, IfOk, min, length, slice_index, slice_range};
 ghost use Rattle.rox_grammar.specs.References as spec;
 ghost use Rattle.rox_reading.specs.Values as reading;
 ghost use Rattle.rox_scan.specs.Gives.{Reads};
-ghost use Rattle.rox_build.specs.Values.{base_of, is_digit_of, reference_view};
+ghost use Rattle.rox_build.specs.Values.{IsNamed, base_of, is_digit_of, reference_view};
 
 use rox_grammar::fault::{Fault, Span};
 use rox_scan::chars::is_char;
 use rox_scan::cursor::Cursor;
 use rox_scan::runs::{NameChar, NameStart, after_byte, begins, is_at, run_end};
 
-/// What a reference names: a character, or an entity, by the place of its name.
+/// What a reference names: a character, or an entity, by its name and where that stands.
 #[derive(Clone, Copy, Debug)]
-pub enum Reference {
+pub enum Reference<'input> {
     Character(char),
-    Entity(Span),
+    Entity(Span, &'input str),
 }
 
 /// The least number that is too large for a reference.
@@ -89,12 +89,17 @@ fn character(number: u32) -> char
 /// number is 2^32 or more, and where it is that of no Char.
 #[inline(always)]
 #[tactic(auto, unfolding(rox_reading::specs::Values::number_at))]
-fn number(cursor: &mut Cursor<'_>, digits: usize, hexadecimal: bool) -> Result<Reference, Fault>
+fn number<'input>(
+    cursor: &mut Cursor<'input>,
+    digits: usize,
+    hexadecimal: bool,
+) -> Result<Reference<'input>, Fault>
     requires onward { cursor.old.pos ≤ digits }
     requires within { digits ≤ length cursor.old.text.now }
     ensures value { Reads reference_view cursor.new result (reading.number_at (base_of hexadecimal) (is_digit_of hexadecimal) cursor.old.text.now cursor.old.pos digits) }
     ensures source { cursor.new.text ≡ cursor.old.text }
     ensures onward { cursor.old.pos ≤ cursor.new.pos }
+    ensures name { IfOk result (IsNamed cursor.old.text.now) }
 {
     let start = cursor.pos;
     let text = cursor.text;
@@ -133,11 +138,12 @@ fn predefined(name: &str) -> Option<char>
 /// The name and the `;` of a reference that stands here, with its `&`.
 #[inline(always)]
 #[tactic(auto, unfolding(rox_reading::specs::Values::name_reference_at))]
-fn name_reference(cursor: &mut Cursor<'_>) -> Result<Reference, Fault>
+fn name_reference<'input>(cursor: &mut Cursor<'input>) -> Result<Reference<'input>, Fault>
     requires { slice_index cursor.old.text.now cursor.old.pos ≡ 38 }
     ensures value { Reads reference_view cursor.new result (reading.name_reference_at cursor.old.text.now cursor.old.pos) }
     ensures source { cursor.new.text ≡ cursor.old.text }
     ensures onward { cursor.old.pos ≤ cursor.new.pos }
+    ensures name { IfOk result (IsNamed cursor.old.text.now) }
 {
     let reference = cursor.pos;
     let text = cursor.text;
@@ -152,7 +158,7 @@ fn name_reference(cursor: &mut Cursor<'_>) -> Result<Reference, Fault>
     cursor.pos = after_byte(text, end, b';');
     Ok(match predefined(&text[start..end]) {
         Some(character) => Reference::Character(character),
-        None => Reference::Entity(Span { start, end }),
+        None => Reference::Entity(Span { start, end }, &text[start..end]),
     })
 }
 
@@ -160,11 +166,12 @@ fn name_reference(cursor: &mut Cursor<'_>) -> Result<Reference, Fault>
 /// formed is a fault at its start.
 #[inline(always)]
 #[tactic(auto, unfolding(rox_reading::specs::Values::reference_at))]
-pub fn read_reference(cursor: &mut Cursor<'_>) -> Result<Reference, Fault>
+pub fn read_reference<'input>(cursor: &mut Cursor<'input>) -> Result<Reference<'input>, Fault>
     requires { slice_index cursor.old.text.now cursor.old.pos ≡ 38 }
     ensures value { Reads reference_view cursor.new result (reading.reference_at cursor.old.text.now cursor.old.pos) }
     ensures source { cursor.new.text ≡ cursor.old.text }
     ensures onward { cursor.old.pos ≤ cursor.new.pos }
+    ensures name { IfOk result (IsNamed cursor.old.text.now) }
 {
     let start = cursor.pos;
     let text = cursor.text;

@@ -1,7 +1,7 @@
 //! The names of a start tag in their namespaces (Namespaces in XML 1.0, sections 5, 6.2 and 6.3). They are resolved at the
 //! end of the tag, since a declaration holds for the whole of it.
 
-ghost use Rattle.std.specs.Prelude.{◌≡◌, ◌<◌, ◌^◌, ◌++◌, [], List, length, map, true, false, IfOk, OnOk, IfErr, IfSome, IfNone, Ok};
+ghost use Rattle.std.specs.Prelude.{◌≡◌, ◌<◌, ◌^◌, ◌++◌, ◌∷◌, [], List, length, map, true, false, IfOk, OnOk, IfErr, IfSome, IfNone, Ok};
 ghost use Rattle.std.specs.List.{AllByRecursion, list_any};
 ghost use Rattle.std.specs.Option.{option_map};
 ghost use Rattle.rox_grammar.specs.declared.fault.Fault.TheVariants as fault;
@@ -15,10 +15,12 @@ ghost use Rattle.rox_build.specs.Lines.{AttributeRow, declaration, entry, attrib
 ghost use Rattle.rox_build.specs.Scopes.{entries, prefix_view, ArePlaces};
 ghost use Rattle.rox_build.specs.Tags.{taken_view};
 ghost use Rattle.rox_build.specs.Resolved.{row_of, has_expanded, Tested};
+ghost use Rattle.rox_build.specs.Seen.{Sees, TestedOr};
 
 use crate::attributes::AttributeTable;
 use crate::declaration::{local_span, prefix_span};
 use crate::scope::{XML_URI, default_place, place_of, same_prefix};
+use crate::seen::repeats;
 use crate::storage::StringStorage;
 use crate::tables::{AttributeData, AttributeNamespace, AttributePlaces, Namespace};
 use crate::taken::Taken;
@@ -26,6 +28,11 @@ use rox_grammar::fault::Fault;
 use rox_scan::alike::same_text;
 use rox_scan::cursor::QName;
 use rox_scan::failure::Failure;
+use std::alloc::Global;
+use std::collections::BTreeSet;
+
+/// Up to so many attributes of a tag are compared one with another.
+const FEW: usize = 16;
 
 /// The namespace of an attribute's name in this scope: none without a prefix, and its own for `xml`. Answers `None` where
 /// the prefix is not known.
@@ -129,6 +136,37 @@ fn tested_namespace(
     Ok(namespace)
 }
 
+/// The same of an attribute of a tag that has many: the names of those before it are `seen`, and its own is put there.
+fn seen_namespace<'a>(
+    names: &'a [Namespace<'_>],
+    places: &[u16],
+    seen: &mut BTreeSet<(&'a str, Option<&'a str>)>,
+    taken: &Taken<'a>,
+) -> Result<AttributeNamespace, Failure>
+    requires places { ArePlaces (length names.now) places.now }
+    ensures within { IfOk result (λ s. NamespaceWithin (length names.now) s) }
+    ensures there { IfOk result (λ s. namespace_of (map declaration names.now) s ≡ tree.attribute_namespace (entries (map declaration names.now) places.now) (name_view taken.now.name)) }
+    ensures tested { (rows : List AttributeRow) (before rest : List Attribute) → Sees (map declaration names.now) seen.old.keys (map (λ r. r.0) rows) → map (attribute (map declaration names.now)) rows ≡ map (attribute_in (entries (map declaration names.now) places.now)) before
+        → TestedOr (entries (map declaration names.now) places.now) before (taken_view taken.now) rest result }
+    ensures more { IfOk result (λ s. (done : List AttributeData) (a : AttributeData) → Sees (map declaration names.now) seen.old.keys done → a.namespace ≡ s → a.local ≡ taken.now.name.local
+        → Sees (map declaration names.now) seen.new.keys (done ++ a ∷ [])) }
+{
+    let name = taken.name;
+    let Some(namespace) = attribute_namespace(names, places, name) else {
+        return Err(Failure::Fault(Fault::UnknownNamespace(
+            prefix_span(name.prefix, taken.start),
+            taken.start,
+        )));
+    };
+    if repeats(seen, name.local, namespace_uri(names, namespace))? {
+        return Err(Failure::Fault(Fault::DuplicatedAttribute(
+            local_span(name.local, taken.name_end),
+            taken.start,
+        )));
+    }
+    Ok(namespace)
+}
+
 /// The row of an attribute with this namespace. Its value moves into the row.
 #[inline]
 fn move_row<'input>(
@@ -152,10 +190,11 @@ fn move_row<'input>(
     (data, places)
 }
 
-/// Moves the attributes of a tag into the table, each with its namespace in this scope. A prefix that is not known, or an
-/// expanded name that comes twice, is refused.
-#[inline(always)]
-pub fn resolve<'input>(
+/// As `resolve`, of a tag with many attributes: their names are kept in a set, in time n log n.
+#[cold]
+#[inline(never)]
+fn resolve_many<'input>(
+    alloc: Global,
     names: &[Namespace<'input>],
     places: &[u16],
     taken: &mut Vec<Taken<'input>>,
@@ -168,6 +207,35 @@ pub fn resolve<'input>(
         × AllByRecursion (λ a. NamespaceWithin (length names.now) a.0.namespace) more)) }
     ensures err { IfErr result (λ e. Fails e (names_tested (entries (map declaration names.now) places.now) [] (map taken_view taken.old.items))) }
 {
+    let mut seen = BTreeSet::new(alloc);
+    for turn in 0..taken.len() {
+        let namespace = seen_namespace(names, places, &mut seen, &taken[turn])?;
+        let row = move_row(&mut taken[turn], namespace);
+        attributes.push(row)?;
+    }
+    Ok(())
+}
+
+/// Moves the attributes of a tag into the table, each with its namespace in this scope. A prefix that is not known, or an
+/// expanded name that comes twice, is refused.
+#[inline(always)]
+pub fn resolve<'input>(
+    alloc: Global,
+    names: &[Namespace<'input>],
+    places: &[u16],
+    taken: &mut Vec<Taken<'input>>,
+    attributes: &mut AttributeTable<'input>,
+) -> Result<(), Failure>
+    requires { ArePlaces (length names.now) places.now }
+    ensures ok { OnOk result ((names_tested (entries (map declaration names.now) places.now) [] (map taken_view taken.old.items) ≡ Ok tt)
+        × ((more : List AttributeRow) × (rows_of attributes.new ≡ rows_of attributes.old ++ more)
+        × (map (attribute (map declaration names.now)) more ≡ map (attribute_in (entries (map declaration names.now) places.now)) (map taken_view taken.old.items))
+        × AllByRecursion (λ a. NamespaceWithin (length names.now) a.0.namespace) more)) }
+    ensures err { IfErr result (λ e. Fails e (names_tested (entries (map declaration names.now) places.now) [] (map taken_view taken.old.items))) }
+{
+    if taken.len() > FEW {
+        return resolve_many(alloc, names, places, taken, attributes);
+    }
     let from = attributes.len();
     for turn in 0..taken.len() {
         let namespace = tested_namespace(names, places, &attributes.items[from..], &taken[turn])?;

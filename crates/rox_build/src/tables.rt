@@ -14,8 +14,8 @@ pub struct PI<'input> {
 /// A namespace that an element lists: a prefix, or none for the default, and its URI.
 #[derive(Debug, Drop)]
 pub struct Namespace<'input> {
-    pub name: Option<&'input str>,
-    pub uri: StringStorage<'input>,
+    pub(crate) name: Option<&'input str>,
+    pub(crate) uri: StringStorage<'input>,
 }
 
 /// The namespace of an attribute's name.

@@ -7,6 +7,8 @@ ghost use Rattle.rox_reading.specs.Tags.{Held, attributes_at, tag_at, tested_at}
 ghost use Rattle.rox_scan.specs.Gives.{Fails, name_view};
 ghost use Rattle.rox_build.specs.Tagged.{IsElement, GivesTag, scope_in_tables};
 ghost use Rattle.rox_scan.specs.Parts.{HasValue, attribute_view};
+ghost use Rattle.rox_grammar.specs.Entities.{Entity};
+ghost use Rattle.rox_build.specs.Named.{AreDeclared, values_in};
 ghost use Rattle.rox_build.specs.Values.{piece_view};
 ghost use Rattle.rox_build.specs.Storage.{storage_bytes, is_borrowed};
 ghost use Rattle.rox_build.specs.Lines.{declaration, rows_of};
@@ -16,6 +18,8 @@ ghost use Rattle.rox_grammar.specs.Tree.{listed};
 
 use crate::declaration::{declares, take_declaration};
 use crate::growth::push;
+use crate::how::How;
+use crate::refused::Refused;
 use crate::resolve::{element_namespace, resolve};
 use crate::scope::inherit;
 use crate::storage::StringStorage;
@@ -38,6 +42,8 @@ pub struct StartTag<'input> {
     pub element: ElementData<'input>,
     /// It ends with `/>`.
     pub empty: bool,
+    /// How many replacement texts may be opened behind it.
+    pub left: u32,
 }
 
 /// What is used again for each start tag.
@@ -45,6 +51,8 @@ pub struct StartTag<'input> {
 pub struct Buffers<'input> {
     /// The text that is read, where it is no slice of the source.
     pub scratch: String,
+    /// A part of a run of a replacement text, with its line ends as they stand.
+    pub raw: String,
     /// The attributes of the tag.
     pub taken: Vec<Taken<'input>>,
 }
@@ -70,7 +78,7 @@ pub fn stored<'input>(
 }
 
 /// One attribute or declaration as written, which ends at `end`; `own` is where the listed places of the tag begin. Answers
-/// whether the tag declares `xml` now.
+/// whether the tag declares `xml` now, and how many replacement texts may be opened behind it, where so many could before.
 fn take<'input>(
     alloc: Global,
     text: &'input str,
@@ -80,7 +88,9 @@ fn take<'input>(
     buffers: &mut Buffers<'input>,
     own: usize,
     xml: bool,
-) -> Result<bool, Failure>
+    how: How<'_, 'input>,
+    left: u32,
+) -> Result<(bool, u32), Refused<'input>>
     requires value { HasValue text.now raw.now }
     requires placed { raw.now.start < 2 ^ 63 }
     requires end { end ≡ raw.now.value_end + 1 }
@@ -91,11 +101,11 @@ fn take<'input>(
     ensures own { OnOk result (own ≤ length elements.new.listed.items) }
     ensures few { OnOk result (length elements.new.namespaces.items.items ≤ most_pairs) }
     ensures attributes { elements.new.attributes ≡ elements.old.attributes }
-    ensures took { (known : List Declaration) (before : List ℕ) (h : Held) → own ≡ length before
+    ensures took { (es : List Entity) (known : List Declaration) (before : List ℕ) (h : Held) → AreDeclared es how.entry.entities.now → own ≡ length before
         → Holding known before (map declaration elements.old.namespaces.items.items) elements.old.listed.items xml buffers.old.taken.items h
-        → Took known before (map declaration elements.new.namespaces.items.items) elements.new.listed.items buffers.new.taken.items result (one_more known text.now (attribute_view raw.now) h) }
+        → Took known before (map declaration elements.new.namespaces.items.items) elements.new.listed.items buffers.new.taken.items result (one_more (values_in es how.entry) known text.now (attribute_view raw.now) left h) }
 {
-    let piece = value(text, raw, &mut buffers.scratch)?;
+    let (piece, left) = value(text, raw, how, left, &mut buffers.scratch)?;
     let value = stored(alloc, piece, buffers.scratch.as_str())?;
     let one = Taken {
         start: raw.start,
@@ -106,16 +116,17 @@ fn take<'input>(
         value,
     };
     if declares(raw.name) {
-        return take_declaration(
+        let xml = take_declaration(
             &mut elements.namespaces,
             &mut elements.listed,
             own,
             xml,
             one,
-        );
+        )?;
+        return Ok((xml, left));
     }
     push(&mut buffers.taken, one)?;
-    Ok(xml)
+    Ok((xml, left))
 }
 
 /// How many bytes a text has, which is always less than 2^63.
@@ -129,8 +140,8 @@ pub fn byte_count(text: &str) -> usize
 }
 
 /// Attributes and declarations, up to the end of the tag; `own` is where the listed places of the tag begin. Answers whether
-/// the tag declares `xml`, and whether it is empty. A tag that is cut off right behind its name or an attribute is refused as
-/// `cut`.
+/// the tag declares `xml`, whether it is empty, and how many replacement texts may be opened behind it, where so many could
+/// before. A tag that is cut off right behind its name or an attribute is refused as `cut`.
 #[inline(always)]
 #[tactic(auto, unfolding(rox_reading::specs::Tags::attributes_at))]
 fn attributes<'input>(
@@ -140,7 +151,9 @@ fn attributes<'input>(
     buffers: &mut Buffers<'input>,
     own: usize,
     cut: Fault,
-) -> Result<(bool, bool), Failure>
+    how: How<'_, 'input>,
+    mut left: u32,
+) -> Result<(bool, bool, u32), Refused<'input>>
     requires places { ArePlaces (length elements.old.namespaces.items.items) elements.old.listed.items }
     requires own { own ≤ length elements.old.listed.items }
     requires few { length elements.old.namespaces.items.items ≤ most_pairs }
@@ -149,20 +162,20 @@ fn attributes<'input>(
     ensures few { OnOk result (length elements.new.namespaces.items.items ≤ most_pairs) }
     ensures attributes { elements.new.attributes ≡ elements.old.attributes }
     ensures source { cursor.new.text ≡ cursor.old.text }
-    ensures took { (known : List Declaration) (before : List ℕ) (h : Held) → own ≡ length before
+    ensures took { (es : List Entity) (known : List Declaration) (before : List ℕ) (h : Held) → AreDeclared es how.entry.entities.now → own ≡ length before
         → Holding known before (map declaration elements.old.namespaces.items.items) elements.old.listed.items false buffers.old.taken.items h
         → TookAll known before (map declaration elements.new.namespaces.items.items) elements.new.listed.items buffers.new.taken.items cursor.new result
-        (attributes_at (length cursor.old.text.now) cut known cursor.old.text.now cursor.old.pos h) }
+        (attributes_at (length cursor.old.text.now) (values_in es how.entry) cut known cursor.old.text.now cursor.old.pos left h) }
 {
     let mut xml = false;
     let count = byte_count(cursor.text);
     'attributes: for _turn in 0..count {
         if cursor.is_at_end() {
-            return Err(Failure::Fault(cut));
+            return Err(Refused::Fault(cut));
         }
         match cursor.turn()? {
             Turn::More(raw) => {
-                xml = take(
+                (xml, left) = take(
                     alloc,
                     cursor.text,
                     &raw,
@@ -171,13 +184,15 @@ fn attributes<'input>(
                     buffers,
                     own,
                     xml,
+                    how,
+                    left,
                 )?;
             }
-            Turn::Open => return Ok((xml, false)),
-            Turn::Empty => return Ok((xml, true)),
+            Turn::Open => return Ok((xml, false, left)),
+            Turn::Empty => return Ok((xml, true, left)),
         }
     }
-    Err(Failure::Fault(cut))
+    Err(Refused::Fault(cut))
 }
 
 /// What an element lists whose own declarations are those behind `own`, and `xml` if the flag says so, below one that lists
@@ -227,6 +242,7 @@ const MOST_ATTRIBUTES: usize = 4294967294;
 /// `at`.
 #[inline(always)]
 fn element_data<'input>(
+    alloc: Global,
     elements: &mut ElementTables<'input>,
     taken: &mut Vec<Taken<'input>>,
     name: QName<'input>,
@@ -248,6 +264,7 @@ fn element_data<'input>(
         return Err(Failure::Fault(Fault::AttributesLimitReached));
     }
     resolve(
+        alloc,
         elements.namespaces.as_slice(),
         &elements.listed[scope.from..scope.until],
         taken,
@@ -270,7 +287,7 @@ fn element_data<'input>(
 }
 
 /// A start tag, from its `<`, of an element whose parent lists `above`. A tag that is cut off by the end of the text right
-/// behind its name or an attribute is refused as `cut`.
+/// behind its name or an attribute is refused as `cut`. So many replacement texts may be opened in it.
 #[inline(always)]
 #[tactic(auto, unfolding(rox_reading::specs::Tags::tag_at))]
 pub fn start_tag<'input>(
@@ -280,7 +297,9 @@ pub fn start_tag<'input>(
     buffers: &mut Buffers<'input>,
     above: Scope,
     cut: Fault,
-) -> Result<StartTag<'input>, Failure>
+    how: How<'_, 'input>,
+    left: u32,
+) -> Result<StartTag<'input>, Refused<'input>>
     requires there { cursor.old.pos < length cursor.old.text.now }
     requires here { slice_index cursor.old.text.now cursor.old.pos ≡ 60 }
     requires places { ArePlaces (length elements.old.namespaces.items.items) elements.old.listed.items }
@@ -289,8 +308,8 @@ pub fn start_tag<'input>(
     requires above { (above.from ≤ above.until) × (above.until ≤ length elements.old.listed.items) }
     ensures source { cursor.new.text ≡ cursor.old.text }
     ensures starts { IfOk result (λ t. t.name_start ≡ cursor.old.pos + 1) }
-    ensures value { GivesTag elements.old elements.new cursor.new result (scope_in_tables elements.old above)
-        (tag_at cut (scope_in_tables elements.old above) (length (rows_of elements.old.attributes)) (map declaration elements.old.namespaces.items.items) cursor.old.text.now cursor.old.pos) }
+    ensures value { (es : List Entity) → AreDeclared es how.entry.entities.now → GivesTag elements.old elements.new cursor.new result (scope_in_tables elements.old above)
+        (tag_at (values_in es how.entry) cut (scope_in_tables elements.old above) (length (rows_of elements.old.attributes)) (map declaration elements.old.namespaces.items.items) cursor.old.text.now cursor.old.pos left) }
 {
     let small = byte_count(cursor.text);
     cursor.advance();
@@ -298,18 +317,19 @@ pub fn start_tag<'input>(
     let name = cursor.qname()?;
     let name_end = cursor.pos;
     if same_text(name.prefix, "xmlns") {
-        return Err(Failure::Fault(Fault::InvalidElementNamePrefix(name_start)));
+        return Err(Refused::Fault(Fault::InvalidElementNamePrefix(name_start)));
     }
     let own = elements.listed.len();
     buffers.taken.clear();
-    let (xml, empty) = attributes(alloc, cursor, elements, buffers, own, cut)?;
+    let (xml, empty, left) = attributes(alloc, cursor, elements, buffers, own, cut, how, left)?;
     let scope = scope_of_tag(elements, above, own, xml)?;
-    let element = element_data(elements, &mut buffers.taken, name, name_start, scope)?;
+    let element = element_data(alloc, elements, &mut buffers.taken, name, name_start, scope)?;
     Ok(StartTag {
         name,
         name_start,
         name_end,
         element,
         empty,
+        left,
     })
 }

@@ -1,7 +1,7 @@
 use Rattle.std.proofs.Common.{◌&&◌, ◌||◌, sym, ap, ◌∙◌}
 use Rattle.rox_grammar.specs.Tree.{is_declared}
 use Rattle.rox_grammar.specs.WellNamed.{is_xml}
-use Rattle.rox_reading.specs.Tags.{listable_of}
+use Rattle.rox_grammar.specs.Document.{listable_of}
 use Rattle.rox_build.specs.Scopes.{prefix_view}
 use Rattle.rox_build.proofs.Listing.{is_declared-own}
 use Rattle.rox_build.proofs.declaration.is_again.Goals as goal

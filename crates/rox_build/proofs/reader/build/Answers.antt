@@ -1,41 +1,53 @@
-use Rattle.std.proofs.Common.{◌≡◌, Ok, Err, IfOk, Result, refl, sym, ap, ◌∙◌, length}
+use Rattle.std.proofs.Common.{ℕ, Bool, List, refl, sym, ap, ◌∙◌, length}
 use Rattle.std.proofs.lemmas.Result.{err_from_is_err_and}
-use Rattle.rox_grammar.specs.declared.fault.Fault.{Fault}
-use Rattle.rox_grammar.specs.Document.{after_bom}
-use Rattle.rox_reading.specs.Machine.{reading}
-use Rattle.rox_scan.specs.Gives.{Fails}
-use Rattle.rox_scan.specs.declared.failure.Failure.{Failure}
-use Rattle.rox_scan.specs.declared.failure.Failure.TheVariants as failure
+use Rattle.rox_grammar.specs.Start.{after_bom}
+use Rattle.rox_grammar.specs.Doctype.{Request, Asked}
+use Rattle.rox_resolver.specs.Requests.{Reply, Allows}
+use Rattle.rox_build.specs.Asking.{AreGiven, StopsBy}
+use Rattle.rox_build.specs.Built.{BuiltRefusal}
 use Rattle.rox_build.specs.Shown.{Sees}
-use Rattle.rox_build.proofs.Wholes.{start}
+use Rattle.rox_build.specs.Wholes.{start_at}
+use Rattle.rox_build.specs.declared.refused.Refused.{Refused}
+use Rattle.rox_build.specs.declared.refused.Refused.TheVariants as code
+use Rattle.rox_reading.proofs.Settling.{whole_run}
 use Rattle.rox_build.proofs.reader.build.Goals as goal
 
-if_ok_map : {A B : Type 0} (P Q : A → Type 0) (r : Result A B) → ((t : A) → P t → Q t) → IfOk r P → IfOk r Q
-if_ok_map P Q (Ok t) f h = f t h
-if_ok_map P Q (Err e) f h = h
+refusal_of : (limit : ℕ) (allow : Bool) (allows : Request → Reply → Type 0) (text : List ℕ) (asked : List Asked) (e : Refused) → AreGiven allows asked → StopsBy allows (whole_run limit allow text) asked e
+    → BuiltRefusal limit allow allows text e
+refusal_of limit allow allows text asked code.Memory given h = tt
+refusal_of limit allow allows text asked (code.Fault f) given h = record { asked = asked; allowed = given.allowed; texts = given.texts; stops = h }
+refusal_of limit allow allows text asked (code.Elsewhere source f) given h = record { asked = asked; allowed = given.allowed; texts = given.texts; stops = h }
+refusal_of limit allow allows text asked (code.Resolver at message) given h =
+    (h.0, h.1, record { asked = asked; allowed = given.allowed; texts = given.texts; stops = h.2 })
 
-fault_of : {A : Type 0} (e : Failure) (f : Fault) (r : Result A Fault) → e ≡ failure.Fault f → Fails e r → r ≡ Err f
-fault_of failure.Memory f r is h = cc is
-fault_of (failure.Fault g) f r is h = h ∙ cc is
-
-err_is : {A B : Type 0} (x y : B) → ◌≡◌ {A = Result A B} (Err x) (Err y) → x ≡ y
-err_is x y h = cc h
-
-pub returns-in_err-document-clause-fault : goal.returns-in_err-document-clause-fault
-returns-in_err-document-clause-fault c = λ f is.
+pub returns-in_err-dtd-clause-refused : goal.returns-in_err-dtd-clause-refused
+returns-in_err-dtd-clause-refused g c =
+    let allows = Allows g.R.EntityResolver.allows c.args.resolver.now in
+    let limit = c.args.options.nodes_limit in
     let src = c.args.text.now in
     let cursor = c.start_of-cursor in
+    let same = ap (λ t. t.now) cursor.ensures.source in
     let b = c.in_ok-builder.ensures in
-    let sees : Sees c.args.options.nodes_limit (length src) (start cursor.result.pos) cursor.result c.in_ok-builder.builder = record { here = refl; limit_is = b.limit; shows = b.shows; names = b.empty.0; attributes = b.empty.1 } in
-    let q = err_from_is_err_and c.from_residual-in_err-document.result c.from_residual-in_err-document.ensures.1 in
-    let fails : Fails c.in_err-document.field-0.0 (reading c.args.options.nodes_limit src) = rw cursor.ensures.source at (c.in_err-document.ensures.value c.args.options.nodes_limit (length src) sees (cursor.ensures.place ∙ ap after_bom (sym cursor.ensures.source))) in
-    fault_of c.in_err-document.field-0.0 f (reading c.args.options.nodes_limit src) (sym q.2 ∙ err_is _ _ (sym q.1 ∙ is)) fails
+    let sees : Sees limit (length src) (start_at cursor.result.pos) cursor.result c.in_ok-builder.builder = record { here = refl; limit_is = b.limit; shows = b.shows; names = b.empty.0; attributes = b.empty.1; left_is = b.left } in
+    let q = err_from_is_err_and c.from_residual-in_err-dtd.result c.from_residual-in_err-dtd.ensures.1 in
+    let x = rw same at (c.in_err-dtd.ensures.value limit (length src) (cursor.ensures.place ∙ ap after_bom (sym same)) sees) in
+    rw (q.1, q.2) (refusal_of limit c.args.options.allow_dtd allows src x.0 c.in_err-dtd.field-0.0 x.1 x.2)
 
 pub returns-clause-ok : goal.returns-clause-ok
-returns-clause-ok c =
+returns-clause-ok g c =
+    let limit = c.args.options.nodes_limit in
     let src = c.args.text.now in
     let cursor = c.start_of-cursor in
+    let same = ap (λ t. t.now) cursor.ensures.source in
     let b = c.in_ok-builder.ensures in
-    let sees : Sees c.args.options.nodes_limit (length src) (start cursor.result.pos) cursor.result c.in_ok-builder.builder = record { here = refl; limit_is = b.limit; shows = b.shows; names = b.empty.0; attributes = b.empty.1 } in
-    let done = c.in_ok-document.ensures.value c.args.options.nodes_limit (length src) sees (cursor.ensures.place ∙ ap after_bom (sym cursor.ensures.source)) in
-    if_ok_map _ _ c.finish.result (λ t holds. (done.0, ap (reading c.args.options.nodes_limit) (sym cursor.ensures.source) ∙ done.1, holds (length src) done.0 done.2 c.in_ok-document.ensures.fine.sound)) c.finish.ensures.ok
+    let sees : Sees limit (length src) (start_at cursor.result.pos) cursor.result c.in_ok-builder.builder = record { here = refl; limit_is = b.limit; shows = b.shows; names = b.empty.0; attributes = b.empty.1; left_is = b.left } in
+    let x = rw same at (c.in_ok-dtd.ensures.value limit (length src) (cursor.ensures.place ∙ ap after_bom (sym same)) sees) in
+    record {
+      asked = x.0;
+      allowed = x.1.allowed;
+      texts = x.1.texts;
+      tops = x.2.tops;
+      read = x.2.read;
+      seen = x.2.told;
+      holds = c.in_ok-tables.ensures.ok (length src) x.2.tops x.2.shows c.in_ok-dtd.ensures.fine.sound;
+    }

@@ -2,6 +2,7 @@ use Rattle.std.proofs.Common.{◌≡◌, refl, ap}
 use Rattle.std.proofs.lemmas.Result.{err_from_is_err_and}
 use Rattle.std.specs.String.{string_bytes}
 use Rattle.rox_build.specs.Values.{piece_view, section_text}
+use Rattle.rox_reading.specs.Refusals.{lifted}
 use Rattle.rox_build.proofs.Stepping.{cdata_is, cdata_fails, text_stepped, text_or, same_shows}
 use Rattle.rox_build.proofs.reader.cdata.Goals as goal
 
@@ -15,9 +16,9 @@ returns-clause-value c = λ limit end s h.
     let k : section_text raw ≡ t = ap text_or c.in_ok-piece.ensures in
     let a = c.piece.ensures.value end j s (same_shows end s.stack s.done b _ h.shows refl refl refl refl refl) in
     rw (cdata_is limit src s c.args.cursor.now.pos j raw t h.here c.in_ok-raw.ensures.value k)
-    (text_stepped limit end s c.args.cursor.now c.cdata.new.self b c.piece.new.self c.piece.result t h c.piece.ensures.tables c.piece.ensures.limit a)
+    (text_stepped limit end s c.args.cursor.now c.cdata.new.self b c.piece.new.self c.piece.result t h c.piece.ensures.tables c.piece.ensures.limit c.piece.ensures.left a)
 
 pub returns-in_err-raw-clause-value : goal.returns-in_err-raw-clause-value
 returns-in_err-raw-clause-value c = λ limit end s h.
     let p = err_from_is_err_and c.from_residual.result c.from_residual.ensures.1 in
-    rw (p.1, p.2) (cdata_fails limit c.args.cursor.now.text.now s c.args.cursor.now.pos c.in_err-raw.field-0.0 h.here c.in_err-raw.ensures.value)
+    rw (p.1, p.2) (ap lifted (cdata_fails limit c.args.cursor.now.text.now s c.args.cursor.now.pos c.in_err-raw.field-0.0 h.here c.in_err-raw.ensures.value))

@@ -2,6 +2,7 @@ use Rattle.std.proofs.Common.{refl, ap, ℕ}
 use Rattle.std.proofs.lemmas.Result.{err_from_is_err_and}
 use Rattle.rox_grammar.specs.Tree as tree
 use Rattle.rox_grammar.specs.Written.{Item, Comment}
+use Rattle.rox_reading.specs.Refusals.{lifted}
 use Rattle.rox_build.proofs.Stepping.{comment_is, comment_fails, item_stepped}
 use Rattle.rox_build.proofs.reader.comment.Goals as goal
 
@@ -14,9 +15,9 @@ returns-clause-value c = λ limit end s h.
     let i : Item = Comment s.at j text in
     let a = c.leaf.ensures.value end j s i h.shows (record { is = ap (λ (n : ℕ). tree.Comment n j text) h.here; within = refl; no_text = refl }) in
     rw (comment_is limit src s c.args.cursor.now.pos j text h.here c.in_ok-text.ensures.value)
-    (item_stepped limit end s c.args.cursor.now c.comment.new.self b c.leaf.new.self c.leaf.result i h refl refl c.leaf.ensures.tables c.leaf.ensures.limit a)
+    (item_stepped limit end s c.args.cursor.now c.comment.new.self b c.leaf.new.self c.leaf.result i h refl refl c.leaf.ensures.tables c.leaf.ensures.limit c.leaf.ensures.left a)
 
 pub returns-in_err-text-clause-value : goal.returns-in_err-text-clause-value
 returns-in_err-text-clause-value c = λ limit end s h.
     let p = err_from_is_err_and c.from_residual.result c.from_residual.ensures.1 in
-    rw (p.1, p.2) (comment_fails limit c.args.cursor.now.text.now s c.args.cursor.now.pos c.in_err-text.field-0.0 h.here c.in_err-text.ensures.value)
+    rw (p.1, p.2) (ap lifted (comment_fails limit c.args.cursor.now.text.now s c.args.cursor.now.pos c.in_err-text.field-0.0 h.here c.in_err-text.ensures.value))

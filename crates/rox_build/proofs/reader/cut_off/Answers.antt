@@ -1,19 +1,28 @@
-use Rattle.std.proofs.Common.{◌≡◌, true, false, refl, sym}
+use Rattle.std.proofs.Common.{◌≡◌, Bool, true, false, refl, sym}
 use Rattle.rox_grammar.specs.declared.fault.Fault.TheVariants as fault
-use Rattle.rox_reading.specs.State.{Open, root, inside, is_root}
+use Rattle.rox_grammar.specs.State.{Open, root, inside, is_root}
 use Rattle.rox_reading.specs.Machine.{cut_off}
 use Rattle.rox_build.proofs.reader.cut_off.Goals as goal
 
-at_root : (o : Open) → is_root o ≡ true → fault.NoRootNode ≡ cut_off o
-at_root root e = refl
-at_root (inside s t b up) e = cc e
+at_root : (main : Bool) (o : Open) → main ≡ true → is_root o ≡ true → fault.NoRootNode ≡ cut_off main o
+at_root true root m e = refl
+at_root true (inside s t b up) m e = cc e
+at_root false o m e = cc m
 
-not_at_root : (o : Open) → is_root o ≡ false → fault.UnclosedRootNode ≡ cut_off o
-not_at_root root e = cc e
-not_at_root (inside s t b up) e = refl
+not_at_root : (main : Bool) (o : Open) → main ≡ true → is_root o ≡ false → fault.UnclosedRootNode ≡ cut_off main o
+not_at_root true root m e = cc e
+not_at_root true (inside s t b up) m e = refl
+not_at_root false o m e = cc m
+
+replaced : (main : Bool) (o : Open) → main ≡ false → fault.UnexpectedEndOfStream ≡ cut_off main o
+replaced true o m = cc m
+replaced false o m = refl
+
+pub returns-then-not-how : goal.returns-then-not-how
+returns-then-not-how c = λ end o done sh. replaced c.args.how.main o c.if-not-how.true
 
 pub returns-then-is_at_root : goal.returns-then-is_at_root
-returns-then-is_at_root c = λ end o done sh. at_root o (sym (c.if-is_at_root.ensures end o done sh))
+returns-then-is_at_root c = λ end o done sh. at_root c.args.how.main o c.if-not-how.false (sym (c.if-is_at_root.ensures end o done sh))
 
 pub returns-else-is_at_root : goal.returns-else-is_at_root
-returns-else-is_at_root c = λ end o done sh. not_at_root o (sym (c.if-is_at_root.ensures end o done sh))
+returns-else-is_at_root c = λ end o done sh. not_at_root c.args.how.main o c.if-not-how.false (sym (c.if-is_at_root.ensures end o done sh))

@@ -1,107 +1,80 @@
-use Rattle.std.proofs.Common.{◌≡◌, ◌<◌, ◌≤◌, Ok, true, false, refl, sym, ap, ◌∙◌, length, leb-true, leb-false}
+use Rattle.std.proofs.Common.{◌≡◌, ℕ, List, [], ◌++◌, Bool, Ok, length, sym, ap, ◌∙◌}
 use Rattle.std.proofs.lemmas.Result.{err_from_is_err_and}
-use Rattle.rox_grammar.specs.declared.fault.Word.TheVariants as word
-use Rattle.rox_grammar.specs.Constructs.{at}
-use Rattle.rox_grammar.specs.Document.{after_bom}
-use Rattle.rox_scan.specs.Gives.{Fails}
-use Rattle.rox_reading.specs.Machine.{misc, body, prolog}
-use Rattle.rox_build.specs.Shown.{Sees}
-use Rattle.rox_build.proofs.Wholes.{start, declared, prolog_fails, misc_fails, declares_type, body_fails, more_stands, whole, no_element}
+use Rattle.rox_grammar.specs.State.{root}
+use Rattle.rox_reading.specs.State.{State}
+use Rattle.rox_reading.specs.Doctype.{Dtd, replies_of}
+use Rattle.rox_reading.specs.Answering.{left_with, Answered}
+use Rattle.rox_reading.specs.Whole.{misc, doctype}
+use Rattle.rox_reading.proofs.Settling.{doctype_run, whole_run, whole_doctype_stops}
+use Rattle.rox_resolver.specs.Requests.{Allows}
+use Rattle.rox_build.specs.Wholes.{start_at, beginning}
+use Rattle.rox_build.proofs.Asking.{none_given, stops_by}
+use Rattle.rox_build.proofs.Lifting.{lifted_ok}
+use Rattle.rox_build.proofs.Wholes.{misc_open}
+use Rattle.rox_build.proofs.Rooted.{doctype_open}
+use Rattle.rox_build.proofs.Documents.{beginning_fails, beginning_parts, told, root_fails, root_ends}
 use Rattle.rox_build.proofs.reader.document.Goals as goal
 
-pub returns-in_err-prolog-clause-value : goal.returns-in_err-prolog-clause-value
-returns-in_err-prolog-clause-value c = λ limit end sees here.
-    let src = c.args.cursor.now.text.now in
+-- where nothing is declared yet
+abbrev undeclared : State → Dtd
+undeclared s = record { state = s; entities = []; replies = [] }
+
+-- no element is open behind the document type declaration
+top : (limit : ℕ) (allow : Bool) (src : List ℕ) (i : ℕ) (s : State) (asked : _) (d : Dtd) → misc limit (length src) src (start_at i) ≡ Ok s
+    → Answered (λ replies. doctype limit allow src (left_with replies (undeclared s))) asked d → d.state.stack ≡ root
+top limit allow src i s asked d before read =
+    doctype_open limit allow src (left_with (replies_of asked ++ []) (undeclared s)) (left_with [] d) root (misc_open limit (length src) src (start_at i) s before) (ap (λ p. p.1) (read []))
+
+pub returns-in_err-lead-clause-value : goal.returns-in_err-lead-clause-value
+returns-in_err-lead-clause-value g c = λ limit end here sees.
+    let allows = Allows g.R.EntityResolver.allows c.args.resolver.now in
     let q = err_from_is_err_and c.from_residual.result c.from_residual.ensures.1 in
-    rw (q.1, q.2) (prolog_fails limit src c.in_err-prolog.field-0.0 (rw here at c.in_err-prolog.ensures.value))
+    ([], none_given allows, rw (q.1, q.2) (beginning_fails allows limit c.args.allow c.args.cursor.now.text.now c.in_err-lead.field-0.0 (c.in_err-lead.ensures.value limit end here sees)))
 
-pub returns-in_err-misc-clause-value : goal.returns-in_err-misc-clause-value
-returns-in_err-misc-clause-value c = λ limit end sees here.
+pub returns-in_err-dtd-clause-value : goal.returns-in_err-dtd-clause-value
+returns-in_err-dtd-clause-value g c = λ limit end here sees.
+    let allows = Allows g.R.EntityResolver.allows c.args.resolver.now in
+    let q = err_from_is_err_and c.from_residual-in_err-dtd.result c.from_residual-in_err-dtd.ensures.1 in
     let src = c.args.cursor.now.text.now in
-    let i = c.prolog.new.cursor.pos in
-    let p : prolog src (after_bom src) ≡ Ok i = declared src (after_bom src) i _ (rw here at c.in_ok-prolog.ensures.value) in
-    let s1 = ap (λ t. t.now) c.in_ok-prolog.ensures.source in
-    let sees1 : Sees limit end (start i) c.prolog.new.cursor c.args.builder.now = record { here = refl; limit_is = sees.limit_is; shows = sees.shows; names = sees.names; attributes = sees.attributes } in
-    let q = err_from_is_err_and c.from_residual-in_err-misc.result c.from_residual-in_err-misc.ensures.1 in
-    let fails : Fails c.in_err-misc.field-0.0 (misc limit (length src) src (start i)) = rw s1 at (c.in_err-misc.ensures.value limit end (start i) sees1) in
-    rw (q.1, q.2) (misc_fails limit src i c.in_err-misc.field-0.0 p fails)
+    let l = c.in_ok-lead.ensures.value limit end here sees in
+    let same = ap (λ t. t.now) c.in_ok-lead.ensures.source in
+    let x = rw same at (c.in_err-dtd.ensures.value limit end (undeclared l.0) l.2 c.new-entities.ensures) in
+    beginning_parts limit src l.0 (lifted_ok (beginning limit src) l.0 l.1) (λ i is before. (
+      x.0,
+      x.1,
+      rw (q.1, q.2)
+          (stops_by allows (doctype_run limit c.args.allow src (undeclared l.0)) (whole_run limit c.args.allow src) x.0 x.0
+          (λ f k. whole_doctype_stops limit c.args.allow src i is l.0 before x.0 f k) c.in_err-dtd.field-0.0 x.2),
+    ))
 
-pub returns-then-starts-clause-value : goal.returns-then-starts-clause-value
-returns-then-starts-clause-value c = λ limit end sees here.
+pub returns-in_err-rest-clause-value : goal.returns-in_err-rest-clause-value
+returns-in_err-rest-clause-value g c = λ limit end here sees.
+    let allows = Allows g.R.EntityResolver.allows c.args.resolver.now in
+    let q = err_from_is_err_and c.from_residual-in_err-rest.result c.from_residual-in_err-rest.ensures.1 in
     let src = c.args.cursor.now.text.now in
-    let i = c.prolog.new.cursor.pos in
-    let p : prolog src (after_bom src) ≡ Ok i = declared src (after_bom src) i _ (rw here at c.in_ok-prolog.ensures.value) in
-    let s1 = ap (λ t. t.now) c.in_ok-prolog.ensures.source in
-    let sees1 : Sees limit end (start i) c.prolog.new.cursor c.args.builder.now = record { here = refl; limit_is = sees.limit_is; shows = sees.shows; names = sees.names; attributes = sees.attributes } in
-    let e2 = c.in_ok-misc.ensures.value limit end (start i) sees1 in
-    let s2 = ap (λ t. t.now) c.in_ok-misc.ensures.source ∙ s1 in
-    let m : misc limit (length src) src (start i) ≡ Ok e2.0 = rw s1 at e2.1 in
-    let is : at word.DoctypeStart src e2.0.at ≡ true = rw (s2, e2.2.here) at (sym c.starts.ensures ∙ c.if-starts.true) in
-    declares_type limit src i e2.0 p m is
+    let l = c.in_ok-lead.ensures.value limit end here sees in
+    let same = ap (λ t. t.now) c.in_ok-lead.ensures.source in
+    let x = rw same at (c.in_ok-dtd.ensures.value limit end (undeclared l.0) l.2 c.new-entities.ensures) in
+    let d = x.2.read.dtd in
+    let text = ap (λ t. t.now) c.in_ok-dtd.ensures.source ∙ same in
+    beginning_parts limit src l.0 (lifted_ok (beginning limit src) l.0 l.1) (λ i is before.
+    let none = top limit c.args.allow src i l.0 x.0 d before x.2.read.answered in
+    let k = rw text at (c.in_err-rest.ensures.value limit end d.entities d.state x.2.read.declared x.2.read.sees none) in
+    (x.0, x.1, rw (q.1, q.2) (root_fails limit c.args.allow src i is l.0 before x.0 d x.2.read.answered allows c.in_err-rest.field-0.0 k)))
 
-pub returns-in_err-some-clause-value : goal.returns-in_err-some-clause-value
-returns-in_err-some-clause-value c = λ limit end sees here.
+pub returns-clause-value : goal.returns-clause-value
+returns-clause-value g c = λ limit end here sees.
     let src = c.args.cursor.now.text.now in
-    let i = c.prolog.new.cursor.pos in
-    let p : prolog src (after_bom src) ≡ Ok i = declared src (after_bom src) i _ (rw here at c.in_ok-prolog.ensures.value) in
-    let s1 = ap (λ t. t.now) c.in_ok-prolog.ensures.source in
-    let sees1 : Sees limit end (start i) c.prolog.new.cursor c.args.builder.now = record { here = refl; limit_is = sees.limit_is; shows = sees.shows; names = sees.names; attributes = sees.attributes } in
-    let e2 = c.in_ok-misc.ensures.value limit end (start i) sees1 in
-    let s2 = ap (λ t. t.now) c.in_ok-misc.ensures.source ∙ s1 in
-    let m : misc limit (length src) src (start i) ≡ Ok e2.0 = rw s1 at e2.1 in
-    let other : at word.DoctypeStart src e2.0.at ≡ false = rw (s2, e2.2.here) at (sym c.starts.ensures ∙ c.if-starts.false) in
-    let q = err_from_is_err_and c.from_residual-in_err-some.result c.from_residual-in_err-some.ensures.1 in
-    let fails : Fails c.in_err-some.field-0.0 (body limit src e2.0) = rw s2 at (c.in_err-some.ensures.value limit end e2.0 e2.2) in
-    rw (q.1, q.2) (body_fails limit src i e2.0 c.in_err-some.field-0.0 p m other fails)
-
-pub returns-then-not-is_at_end-clause-value : goal.returns-then-not-is_at_end-clause-value
-returns-then-not-is_at_end-clause-value c = λ limit end sees here.
-    let src = c.args.cursor.now.text.now in
-    let i = c.prolog.new.cursor.pos in
-    let p : prolog src (after_bom src) ≡ Ok i = declared src (after_bom src) i _ (rw here at c.in_ok-prolog.ensures.value) in
-    let s1 = ap (λ t. t.now) c.in_ok-prolog.ensures.source in
-    let sees1 : Sees limit end (start i) c.prolog.new.cursor c.args.builder.now = record { here = refl; limit_is = sees.limit_is; shows = sees.shows; names = sees.names; attributes = sees.attributes } in
-    let e2 = c.in_ok-misc.ensures.value limit end (start i) sees1 in
-    let s2 = ap (λ t. t.now) c.in_ok-misc.ensures.source ∙ s1 in
-    let m : misc limit (length src) src (start i) ≡ Ok e2.0 = rw s1 at e2.1 in
-    let other : at word.DoctypeStart src e2.0.at ≡ false = rw (s2, e2.2.here) at (sym c.starts.ensures ∙ c.if-starts.false) in
-    let e3 = c.in_ok-some.ensures.value limit end e2.0 e2.2 in
-    let s3 = ap (λ t. t.now) c.in_ok-some.ensures.source ∙ s2 in
-    let b = rw s2 at e3.1 in
-    let more : e3.0.at < length src = rw (s3, e3.2.here) at (leb-false _ _ (sym c.is_at_end.ensures ∙ c.if-not-is_at_end.true)) in
-    rw e3.2.here (more_stands limit src i e2.0 e3.0 _ p m other b more)
-
-pub returns-then-some-clause-value : goal.returns-then-some-clause-value
-returns-then-some-clause-value c = λ limit end sees here.
-    let src = c.args.cursor.now.text.now in
-    let i = c.prolog.new.cursor.pos in
-    let p : prolog src (after_bom src) ≡ Ok i = declared src (after_bom src) i _ (rw here at c.in_ok-prolog.ensures.value) in
-    let s1 = ap (λ t. t.now) c.in_ok-prolog.ensures.source in
-    let sees1 : Sees limit end (start i) c.prolog.new.cursor c.args.builder.now = record { here = refl; limit_is = sees.limit_is; shows = sees.shows; names = sees.names; attributes = sees.attributes } in
-    let e2 = c.in_ok-misc.ensures.value limit end (start i) sees1 in
-    let s2 = ap (λ t. t.now) c.in_ok-misc.ensures.source ∙ s1 in
-    let m : misc limit (length src) src (start i) ≡ Ok e2.0 = rw s1 at e2.1 in
-    let other : at word.DoctypeStart src e2.0.at ≡ false = rw (s2, e2.2.here) at (sym c.starts.ensures ∙ c.if-starts.false) in
-    let e3 = c.in_ok-some.ensures.value limit end e2.0 e2.2 in
-    let s3 = ap (λ t. t.now) c.in_ok-some.ensures.source ∙ s2 in
-    let b = rw s2 at e3.1 in
-    let all : length src ≤ e3.0.at = rw (s3, e3.2.here) at (leb-true _ _ (sym c.is_at_end.ensures ∙ c.if-not-is_at_end.false)) in
-    let done = whole limit src i e2.0 e3.0 p m other (rw c.if-some.true at b) all in
-    (e3.0.done, done.0, rw done.1 at e3.2.shows)
-
-pub returns-else-some-clause-value : goal.returns-else-some-clause-value
-returns-else-some-clause-value c = λ limit end sees here.
-    let src = c.args.cursor.now.text.now in
-    let i = c.prolog.new.cursor.pos in
-    let p : prolog src (after_bom src) ≡ Ok i = declared src (after_bom src) i _ (rw here at c.in_ok-prolog.ensures.value) in
-    let s1 = ap (λ t. t.now) c.in_ok-prolog.ensures.source in
-    let sees1 : Sees limit end (start i) c.prolog.new.cursor c.args.builder.now = record { here = refl; limit_is = sees.limit_is; shows = sees.shows; names = sees.names; attributes = sees.attributes } in
-    let e2 = c.in_ok-misc.ensures.value limit end (start i) sees1 in
-    let s2 = ap (λ t. t.now) c.in_ok-misc.ensures.source ∙ s1 in
-    let m : misc limit (length src) src (start i) ≡ Ok e2.0 = rw s1 at e2.1 in
-    let other : at word.DoctypeStart src e2.0.at ≡ false = rw (s2, e2.2.here) at (sym c.starts.ensures ∙ c.if-starts.false) in
-    let e3 = c.in_ok-some.ensures.value limit end e2.0 e2.2 in
-    let s3 = ap (λ t. t.now) c.in_ok-some.ensures.source ∙ s2 in
-    let b = rw s2 at e3.1 in
-    let all : length src ≤ e3.0.at = rw (s3, e3.2.here) at (leb-true _ _ (sym c.is_at_end.ensures ∙ c.if-not-is_at_end.false)) in
-    no_element limit src i e2.0 e3.0 p m other (rw c.if-some.false at b) all
+    let l = c.in_ok-lead.ensures.value limit end here sees in
+    let same = ap (λ t. t.now) c.in_ok-lead.ensures.source in
+    let x = rw same at (c.in_ok-dtd.ensures.value limit end (undeclared l.0) l.2 c.new-entities.ensures) in
+    let d = x.2.read.dtd in
+    let text = ap (λ t. t.now) c.in_ok-dtd.ensures.source ∙ same in
+    let begun = lifted_ok (beginning limit src) l.0 l.1 in
+    beginning_parts limit src l.0 begun (λ i is before.
+    let none = top limit c.args.allow src i l.0 x.0 d before x.2.read.answered in
+    let k = rw text at (c.in_ok-rest.ensures.value limit end d.entities d.state x.2.read.declared x.2.read.sees none) in (
+      x.0,
+      x.1,
+      record { tops = k.0; read = root_ends limit c.args.allow src i is l.0 before x.0 d x.2.read.answered k.0 k.1; told = x.2.told ∙ sym (told limit src l.0 begun); shows = k.2 },
+    ))

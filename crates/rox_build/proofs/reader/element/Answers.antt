@@ -2,24 +2,32 @@ use Rattle.std.specs.Prelude.{OnOk}
 use Rattle.std.proofs.Common.{ℕ, true, false, Bool, refl, sym, ap, subst, ◌∙◌, List}
 use Rattle.std.proofs.lemmas.Result.{err_from_is_err_and}
 use Rattle.rox_grammar.specs.Written.{Element, Declaration}
-use Rattle.rox_reading.specs.State.{scope_of}
+use Rattle.rox_grammar.specs.State.{scope_of}
+use Rattle.rox_reading.specs.State.{State}
 use Rattle.rox_reading.specs.Machine.{opened_by}
+use Rattle.rox_reading.specs.Refusals.{lifted}
+use Rattle.rox_build.specs.Hows.{how_of}
 use Rattle.rox_build.specs.Tagged.{Tagged}
 use Rattle.rox_build.specs.Shown.{IsNode, Fine, Stepped}
 use Rattle.rox_build.specs.declared.tables.NodeKind.TheVariants as kind
+use Rattle.rox_build.proofs.Declared.{some_declare}
+use Rattle.rox_build.proofs.Lifting.{refused_too}
 use Rattle.rox_build.proofs.Growing.{grown_shows}
 use Rattle.rox_build.proofs.Opening.{grown_by, is_node, is_opening, fine_by, fine_kept, fine_more, tag_fails, tag_is, empty_stepped, open_stepped}
 use Rattle.rox_build.proofs.reader.element.Goals as goal
 
-pub returns-in_err-tag-clause-value : goal.returns-in_err-tag-clause-value
-returns-in_err-tag-clause-value c = λ limit end s h.
-    let p = err_from_is_err_and c.from_residual.result c.from_residual.ensures.1 in
-    rw (p.1, p.2) (tag_fails limit c.args.cursor.now.text.now s c.args.cursor.now.pos _ _ _ _ c.in_err-tag.field-0.0 h.here (c.cut_off-cut.ensures end s.stack s.done h.shows)
-    (c.scope-above.ensures.value end s.stack s.done h.shows) h.attributes h.names c.in_err-tag.ensures.value)
+abbrev with_left : ℕ → State → State
+with_left left s = record { at = s.at; done = s.done; stack = s.stack; left = left }
 
-pub returns-in_ok-leaf-clause-value : goal.returns-in_ok-leaf-clause-value
-returns-in_ok-leaf-clause-value c = λ limit end s h.
-    let v = c.in_ok-tag.ensures.value in
+pub returns-in_err-tag-clause-value : goal.returns-in_err-tag-clause-value
+returns-in_err-tag-clause-value c = λ limit end es s declared h.
+    let p = err_from_is_err_and c.from_residual.result c.from_residual.ensures.1 in
+    rw (p.1, p.2) (tag_fails (how_of limit es c.args.how) c.args.cursor.now.text.now s c.args.cursor.now.pos _ _ _ _ c.in_err-tag.field-0.0 h.here (c.cut_off-cut.ensures end s.stack s.done h.shows)
+    (c.scope-above.ensures.value end s.stack s.done h.shows) h.attributes h.names (rw h.left_is at (c.in_err-tag.ensures.value es declared)))
+
+pub returns-then-tag-clause-value : goal.returns-then-tag-clause-value
+returns-then-tag-clause-value c = λ limit end es s declared h.
+    let v = rw h.left_is at (c.in_ok-tag.ensures.value es declared) in
     let b = c.args.builder.now in
     let old = b.tables in
     let new = c.start_tag.new.elements in
@@ -31,15 +39,15 @@ returns-in_ok-leaf-clause-value c = λ limit end s h.
     let shows = grown_shows end s.stack s.done b _ h.shows c.requires.fine.sound c.requires.fine.elements (grown_by old new t (scope_of s.stack) v.0 tg) refl refl refl refl in
     let node : IsNode new (scope_of s.stack) pos d.pos (kind.Element t.element) (Element s.at d.pos v.0) =
     subst (λ (n : ℕ). IsNode new (scope_of s.stack) pos d.pos (kind.Element t.element) (Element n d.pos v.0)) h.here (is_node old new t (scope_of s.stack) v.0 pos d.pos tg) in
-    let adds = c.leaf.ensures.value end d.pos s (Element s.at d.pos v.0) shows node in
-    rw (tag_is limit c.args.cursor.now.text.now s pos _ _ _ _ v.0 t.empty d.pos h.here (c.cut_off-cut.ensures end s.stack s.done h.shows) sc h.attributes h.names v.1
-    ∙ ap (λ (e : Bool). opened_by limit s v.0 e d.pos) c.if-tag.true)
-    (subst (λ r. Stepped limit end r d c.leaf.new.self (opened_by limit s v.0 true d.pos)) c.in_ok-leaf.was
-    (empty_stepped limit end s d old new b.nodes_limit c.leaf.new.self c.leaf.result t (scope_of s.stack) v.0 tg h.names h.attributes h.limit_is c.leaf.ensures.tables c.leaf.ensures.limit adds))
+    let adds = c.leaf.ensures.value end d.pos (with_left t.left s) (Element s.at d.pos v.0) shows node in
+    rw (tag_is (how_of limit es c.args.how) c.args.cursor.now.text.now s pos _ _ _ _ v.0 t.empty t.left d.pos h.here (c.cut_off-cut.ensures end s.stack s.done h.shows) sc h.attributes h.names v.1
+    ∙ ap (λ (e : Bool). lifted (opened_by limit s v.0 e t.left d.pos)) c.if-tag.true)
+    (subst (λ r. Stepped limit end r d c.leaf.new.self (lifted (opened_by limit s v.0 true t.left d.pos))) c.in_ok-leaf.was
+    (empty_stepped limit end t.left s d old new b.nodes_limit c.leaf.new.self c.leaf.result t (scope_of s.stack) v.0 tg h.names h.attributes h.limit_is c.leaf.ensures.left c.leaf.ensures.tables c.leaf.ensures.limit adds))
 
 pub returns-in_err-leaf-clause-value : goal.returns-in_err-leaf-clause-value
-returns-in_err-leaf-clause-value c = λ limit end s h.
-    let v = c.in_ok-tag.ensures.value in
+returns-in_err-leaf-clause-value c = λ limit end es s declared h.
+    let v = rw h.left_is at (c.in_ok-tag.ensures.value es declared) in
     let b = c.args.builder.now in
     let old = b.tables in
     let new = c.start_tag.new.elements in
@@ -51,20 +59,20 @@ returns-in_err-leaf-clause-value c = λ limit end s h.
     let shows = grown_shows end s.stack s.done b _ h.shows c.requires.fine.sound c.requires.fine.elements (grown_by old new t (scope_of s.stack) v.0 tg) refl refl refl refl in
     let node : IsNode new (scope_of s.stack) pos d.pos (kind.Element t.element) (Element s.at d.pos v.0) =
     subst (λ (n : ℕ). IsNode new (scope_of s.stack) pos d.pos (kind.Element t.element) (Element n d.pos v.0)) h.here (is_node old new t (scope_of s.stack) v.0 pos d.pos tg) in
-    let adds = c.leaf.ensures.value end d.pos s (Element s.at d.pos v.0) shows node in
+    let adds = c.leaf.ensures.value end d.pos (with_left t.left s) (Element s.at d.pos v.0) shows node in
     let p = err_from_is_err_and c.from_residual-in_err-leaf.result c.from_residual-in_err-leaf.ensures.1 in
     rw (
       p.1,
       p.2,
-      tag_is limit c.args.cursor.now.text.now s pos _ _ _ _ v.0 t.empty d.pos h.here (c.cut_off-cut.ensures end s.stack s.done h.shows) sc h.attributes h.names v.1
-          ∙ ap (λ (e : Bool). opened_by limit s v.0 e d.pos) c.if-tag.true,
+      tag_is (how_of limit es c.args.how) c.args.cursor.now.text.now s pos _ _ _ _ v.0 t.empty t.left d.pos h.here (c.cut_off-cut.ensures end s.stack s.done h.shows) sc h.attributes h.names v.1
+          ∙ ap (λ (e : Bool). lifted (opened_by limit s v.0 e t.left d.pos)) c.if-tag.true,
     )
-    (subst (λ r. Stepped limit end r d c.leaf.new.self (opened_by limit s v.0 true d.pos)) c.in_err-leaf.was
-    (empty_stepped limit end s d old new b.nodes_limit c.leaf.new.self c.leaf.result t (scope_of s.stack) v.0 tg h.names h.attributes h.limit_is c.leaf.ensures.tables c.leaf.ensures.limit adds))
+    (refused_too c.in_err-leaf.field-0.0 (lifted (opened_by limit s v.0 true t.left d.pos)) (subst (λ r. Stepped limit end r d c.leaf.new.self (lifted (opened_by limit s v.0 true t.left d.pos))) c.in_err-leaf.was
+    (empty_stepped limit end t.left s d old new b.nodes_limit c.leaf.new.self c.leaf.result t (scope_of s.stack) v.0 tg h.names h.attributes h.limit_is c.leaf.ensures.left c.leaf.ensures.tables c.leaf.ensures.limit adds)))
 
-pub returns-in_ok-open_element-clause-value : goal.returns-in_ok-open_element-clause-value
-returns-in_ok-open_element-clause-value c = λ limit end s h.
-    let v = c.in_ok-tag.ensures.value in
+pub returns-clause-value : goal.returns-clause-value
+returns-clause-value c = λ limit end es s declared h.
+    let v = rw h.left_is at (c.in_ok-tag.ensures.value es declared) in
     let b = c.args.builder.now in
     let old = b.tables in
     let new = c.start_tag.new.elements in
@@ -74,15 +82,15 @@ returns-in_ok-open_element-clause-value c = λ limit end s h.
     let sc = c.scope-above.ensures.value end s.stack s.done h.shows in
     let tg : Tagged old new t (scope_of s.stack) v.0 = subst (λ (a : List Declaration). Tagged old new t a v.0) sc v.2 in
     let shows = grown_shows end s.stack s.done b _ h.shows c.requires.fine.sound c.requires.fine.elements (grown_by old new t (scope_of s.stack) v.0 tg) refl refl refl refl in
-    let adds = c.open_element.ensures.value end d.pos s v.0 shows (sym h.here) (is_opening old new t (scope_of s.stack) v.0 pos tg c.in_ok-tag.ensures.starts) in
-    rw (tag_is limit c.args.cursor.now.text.now s pos _ _ _ _ v.0 t.empty d.pos h.here (c.cut_off-cut.ensures end s.stack s.done h.shows) sc h.attributes h.names v.1
-    ∙ ap (λ (e : Bool). opened_by limit s v.0 e d.pos) c.if-tag.false)
-    (subst (λ r. Stepped limit end r d c.open_element.new.self (opened_by limit s v.0 false d.pos)) c.in_ok-open_element.was
-    (open_stepped limit end s d old new b.nodes_limit c.open_element.new.self c.open_element.result t (scope_of s.stack) v.0 tg h.names h.attributes h.limit_is c.open_element.ensures.tables c.open_element.ensures.limit adds))
+    let adds = c.open_element.ensures.value end d.pos t.left s v.0 shows (sym h.here) (is_opening old new t (scope_of s.stack) v.0 pos tg c.in_ok-tag.ensures.starts) in
+    rw (tag_is (how_of limit es c.args.how) c.args.cursor.now.text.now s pos _ _ _ _ v.0 t.empty t.left d.pos h.here (c.cut_off-cut.ensures end s.stack s.done h.shows) sc h.attributes h.names v.1
+    ∙ ap (λ (e : Bool). lifted (opened_by limit s v.0 e t.left d.pos)) c.if-tag.false)
+    (subst (λ r. Stepped limit end r d c.open_element.new.self (lifted (opened_by limit s v.0 false t.left d.pos))) c.in_ok-open_element.was
+    (open_stepped limit end t.left s d old new b.nodes_limit c.open_element.new.self c.open_element.result t (scope_of s.stack) v.0 tg h.names h.attributes h.limit_is c.open_element.ensures.left c.open_element.ensures.tables c.open_element.ensures.limit adds))
 
 pub returns-in_err-open_element-clause-value : goal.returns-in_err-open_element-clause-value
-returns-in_err-open_element-clause-value c = λ limit end s h.
-    let v = c.in_ok-tag.ensures.value in
+returns-in_err-open_element-clause-value c = λ limit end es s declared h.
+    let v = rw h.left_is at (c.in_ok-tag.ensures.value es declared) in
     let b = c.args.builder.now in
     let old = b.tables in
     let new = c.start_tag.new.elements in
@@ -92,28 +100,30 @@ returns-in_err-open_element-clause-value c = λ limit end s h.
     let sc = c.scope-above.ensures.value end s.stack s.done h.shows in
     let tg : Tagged old new t (scope_of s.stack) v.0 = subst (λ (a : List Declaration). Tagged old new t a v.0) sc v.2 in
     let shows = grown_shows end s.stack s.done b _ h.shows c.requires.fine.sound c.requires.fine.elements (grown_by old new t (scope_of s.stack) v.0 tg) refl refl refl refl in
-    let adds = c.open_element.ensures.value end d.pos s v.0 shows (sym h.here) (is_opening old new t (scope_of s.stack) v.0 pos tg c.in_ok-tag.ensures.starts) in
+    let adds = c.open_element.ensures.value end d.pos t.left s v.0 shows (sym h.here) (is_opening old new t (scope_of s.stack) v.0 pos tg c.in_ok-tag.ensures.starts) in
     let p = err_from_is_err_and c.from_residual-in_err-open_element.result c.from_residual-in_err-open_element.ensures.1 in
     rw (
       p.1,
       p.2,
-      tag_is limit c.args.cursor.now.text.now s pos _ _ _ _ v.0 t.empty d.pos h.here (c.cut_off-cut.ensures end s.stack s.done h.shows) sc h.attributes h.names v.1
-          ∙ ap (λ (e : Bool). opened_by limit s v.0 e d.pos) c.if-tag.false,
+      tag_is (how_of limit es c.args.how) c.args.cursor.now.text.now s pos _ _ _ _ v.0 t.empty t.left d.pos h.here (c.cut_off-cut.ensures end s.stack s.done h.shows) sc h.attributes h.names v.1
+          ∙ ap (λ (e : Bool). lifted (opened_by limit s v.0 e t.left d.pos)) c.if-tag.false,
     )
-    (subst (λ r. Stepped limit end r d c.open_element.new.self (opened_by limit s v.0 false d.pos)) c.in_err-open_element.was
-    (open_stepped limit end s d old new b.nodes_limit c.open_element.new.self c.open_element.result t (scope_of s.stack) v.0 tg h.names h.attributes h.limit_is c.open_element.ensures.tables c.open_element.ensures.limit adds))
+    (refused_too c.in_err-open_element.field-0.0 (lifted (opened_by limit s v.0 false t.left d.pos)) (subst (λ r. Stepped limit end r d c.open_element.new.self (lifted (opened_by limit s v.0 false t.left d.pos))) c.in_err-open_element.was
+    (open_stepped limit end t.left s d old new b.nodes_limit c.open_element.new.self c.open_element.result t (scope_of s.stack) v.0 tg h.names h.attributes h.limit_is c.open_element.ensures.left c.open_element.ensures.tables c.open_element.ensures.limit adds)))
 
-pub returns-in_ok-leaf-clause-fine : goal.returns-in_ok-leaf-clause-fine
-returns-in_ok-leaf-clause-fine c =
-    let v = c.in_ok-tag.ensures.value in
+pub returns-then-tag-clause-fine : goal.returns-then-tag-clause-fine
+returns-then-tag-clause-fine c =
+    let d = some_declare c.args.how.entities.now in
+    let v = c.in_ok-tag.ensures.value d.0 d.1 in
     let b = c.args.builder.now in
     subst (λ r. OnOk r (Fine c.leaf.new.self.tables c.leaf.new.self.opened.items)) c.in_ok-leaf.was
     (fine_kept c.leaf.result c.start_tag.new.elements b.opened.items c.leaf.new.self (fine_by b.tables c.start_tag.new.elements c.in_ok-tag.tag _ v.0 b.opened.items v.2 c.requires.fine) c.leaf.ensures.tables
     (ap (λ x. x.items) c.leaf.ensures.opened))
 
-pub returns-in_ok-open_element-clause-fine : goal.returns-in_ok-open_element-clause-fine
-returns-in_ok-open_element-clause-fine c =
-    let v = c.in_ok-tag.ensures.value in
+pub returns-clause-fine : goal.returns-clause-fine
+returns-clause-fine c =
+    let d = some_declare c.args.how.entities.now in
+    let v = c.in_ok-tag.ensures.value d.0 d.1 in
     let b = c.args.builder.now in
     subst (λ r. OnOk r (Fine c.open_element.new.self.tables c.open_element.new.self.opened.items)) c.in_ok-open_element.was
     (fine_more c.open_element.result c.start_tag.new.elements b.opened.items c.open_element.new.self c.in_ok-tag.tag

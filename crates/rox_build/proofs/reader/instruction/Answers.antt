@@ -3,6 +3,7 @@ use Rattle.std.proofs.lemmas.Result.{err_from_is_err_and}
 use Rattle.rox_grammar.specs.Tree as tree
 use Rattle.rox_grammar.specs.Written.{Item, PI}
 use Rattle.rox_scan.specs.Parts.{instruction_view}
+use Rattle.rox_reading.specs.Refusals.{lifted}
 use Rattle.rox_build.proofs.Stepping.{instruction_is, instruction_fails, item_stepped}
 use Rattle.rox_build.proofs.reader.instruction.Goals as goal
 
@@ -15,9 +16,9 @@ returns-clause-value c = λ limit end s h.
     let i : Item = PI s.at j p.target p.value in
     let a = c.leaf.ensures.value end j s i h.shows (record { is = ap (λ (n : ℕ). tree.PI n j p.target p.value) h.here; within = tt; no_text = refl }) in
     rw (instruction_is limit src s c.args.cursor.now.pos j p h.here c.in_ok-pi.ensures.value)
-    (item_stepped limit end s c.args.cursor.now c.instruction.new.self b c.leaf.new.self c.leaf.result i h refl refl c.leaf.ensures.tables c.leaf.ensures.limit a)
+    (item_stepped limit end s c.args.cursor.now c.instruction.new.self b c.leaf.new.self c.leaf.result i h refl refl c.leaf.ensures.tables c.leaf.ensures.limit c.leaf.ensures.left a)
 
 pub returns-in_err-pi-clause-value : goal.returns-in_err-pi-clause-value
 returns-in_err-pi-clause-value c = λ limit end s h.
     let p = err_from_is_err_and c.from_residual.result c.from_residual.ensures.1 in
-    rw (p.1, p.2) (instruction_fails limit c.args.cursor.now.text.now s c.args.cursor.now.pos c.in_err-pi.field-0.0 h.here c.in_err-pi.ensures.value)
+    rw (p.1, p.2) (ap lifted (instruction_fails limit c.args.cursor.now.text.now s c.args.cursor.now.pos c.in_err-pi.field-0.0 h.here c.in_err-pi.ensures.value))

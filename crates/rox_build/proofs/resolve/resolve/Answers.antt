@@ -1,6 +1,6 @@
-use Rattle.std.proofs.Common.{◌≡◌, ◌<◌, ◌≤◌, length, map, drop, ap, ◌∙◌, arith}
+use Rattle.std.proofs.Common.{◌≡◌, ◌<◌, ◌≤◌, length, map, drop, arith}
 use Rattle.std.proofs.lemmas.Result.{err_from_is_err_and}
-use Rattle.rox_build.specs.Lines.{attribute, declaration, rows_of, NamespaceWithin}
+use Rattle.rox_build.specs.Lines.{declaration, rows_of, NamespaceWithin}
 use Rattle.rox_build.specs.Scopes.{entries}
 use Rattle.rox_build.proofs.Columns.{data_behind, old_within, all_behind}
 use Rattle.rox_build.proofs.Resolving.{ends, refuses, moves}

@@ -2,32 +2,33 @@ use Rattle.std.proofs.Common.{◌≡◌, ◌<◌, ◌≤◌, ◌+◌, ◌-◌, s
 use Rattle.std.proofs.lemmas.Result.{err_from_is_err_and}
 use Rattle.std.proofs.lemmas.Bool.{leb-true, leb-false}
 use Rattle.rox_reading.specs.Markup.{turn_at, more}
-use Rattle.rox_scan.specs.Gives.{Fails}
 use Rattle.rox_scan.specs.Parts.{attribute_view, turn_view}
 use Rattle.rox_scan.specs.declared.markup.Turn.{Turn as CodeTurn}
+use Rattle.rox_build.specs.Refusing.{Refuses}
+use Rattle.rox_build.specs.Named.{values_in}
 use Rattle.rox_build.specs.Tags.{one_more}
 use Rattle.rox_build.proofs.Taking.{turn_gives, going_cut, going_none, going_fails, going_ends, going_on, going_stops}
 use Rattle.rox_build.proofs.tag.attributes.Goals as goal
 
 pub returns-then-is_at_end-clause-took : goal.returns-then-is_at_end-clause-took
-returns-then-is_at_end-clause-took c = λ known before h o hold.
+returns-then-is_at_end-clause-took c = λ es known before h declared o hold.
     let src = c.args.cursor.now.text.now in
     let s = ap (λ t. t.now) c.attributes.invariant.source in
-    let g = c.attributes.invariant.reads known before h o hold in
+    let g = c.attributes.invariant.reads es known before h declared o hold in
     let past : length src ≤ c.attributes.cursor.pos = rw s at (leb-true _ _ (sym c.is_at_end.ensures ∙ c.if-is_at_end.true)) in
-    going_cut known before c.args.cut src _ _ c.attributes.cursor.pos _ _ _ _ g past
+    going_cut (values_in es c.args.how) known before c.args.cut src _ _ c.attributes.cursor.pos c.attributes.left _ _ _ _ g past
 
 pub returns-in_err-raw-clause-took : goal.returns-in_err-raw-clause-took
-returns-in_err-raw-clause-took c = λ known before h o hold.
+returns-in_err-raw-clause-took c = λ es known before h declared o hold.
     let src = c.args.cursor.now.text.now in
     let n = length src - c.attributes._turn in
     let s = ap (λ t. t.now) c.attributes.invariant.source in
-    let g = c.attributes.invariant.reads known before h o hold in
+    let g = c.attributes.invariant.reads es known before h declared o hold in
     let inside : c.attributes.cursor.pos < length src = rw s at (leb-false _ _ (sym c.is_at_end.ensures ∙ c.if-is_at_end.false)) in
     let is : turn_at src c.attributes.cursor.pos ≡ Err c.in_err-raw.field-0.0 = rw s at c.in_err-raw.ensures.value in
     let p = err_from_is_err_and c.from_residual.result c.from_residual.ensures.1 in
     let one : n ≡ suc (n - 1) = omega arith in
-    rw (p.1, p.2) (going_fails known before c.args.cut src _ n (n - 1) c.attributes.cursor.pos _ _ _ _ c.in_err-raw.field-0.0 g one inside is)
+    rw (p.1, p.2) (going_fails (values_in es c.args.how) known before c.args.cut src _ n (n - 1) c.attributes.cursor.pos c.attributes.left _ _ _ _ c.in_err-raw.field-0.0 g one inside is)
 
 pub take-requires-clause-placed : goal.take-requires-clause-placed
 take-requires-clause-placed c =
@@ -48,11 +49,11 @@ take-requires-clause-end c =
     (turn_gives c.attributes.cursor.text.now c.attributes.cursor.pos (attribute_view c.in-More.raw) c.turn.new.self.pos is).end
 
 pub returns-in_err-xml-in-More-clause-took : goal.returns-in_err-xml-in-More-clause-took
-returns-in_err-xml-in-More-clause-took c = λ known before h o hold.
+returns-in_err-xml-in-More-clause-took c = λ es known before h declared o hold.
     let src = c.args.cursor.now.text.now in
     let n = length src - c.attributes._turn in
     let s = ap (λ t. t.now) c.attributes.invariant.source in
-    let g = c.attributes.invariant.reads known before h o hold in
+    let g = c.attributes.invariant.reads es known before h declared o hold in
     let inside : c.attributes.cursor.pos < length src = rw s at (leb-false _ _ (sym c.is_at_end.ensures ∙ c.if-is_at_end.false)) in
     let is0 : turn_at c.attributes.cursor.text.now c.attributes.cursor.pos ≡ Ok (more (attribute_view c.in-More.raw), c.turn.new.self.pos) =
     c.in_ok-raw.ensures.value ∙ ap (λ (t : CodeTurn). Ok (turn_view t, c.turn.new.self.pos)) c.in-More.is in
@@ -60,31 +61,31 @@ returns-in_err-xml-in-More-clause-took c = λ known before h o hold.
     let p = err_from_is_err_and c.from_residual-in_err-xml-in-More.result c.from_residual-in_err-xml-in-More.ensures.1 in
     let one : n ≡ suc (n - 1) = omega arith in
     let after = ap (λ t. t.now) c.turn.ensures.source ∙ s in
-    let took : Fails c.in_err-xml-in-More.field-0.0 (one_more known src (attribute_view c.in-More.raw) g.h) = rw after at (c.in_err-xml-in-More.ensures.took known before g.h o g.holding) in
-    let fails = going_stops known before c.args.cut src _ n (n - 1) c.attributes.cursor.pos c.turn.new.self.pos _ _ _ _ (attribute_view c.in-More.raw) c.in_err-xml-in-More.field-0.0 g one inside is took in
+    let took : Refuses c.in_err-xml-in-More.field-0.0 (one_more (values_in es c.args.how) known src (attribute_view c.in-More.raw) c.attributes.left g.h) = rw after at (c.in_err-xml-in-More.ensures.took es known before g.h declared o g.holding) in
+    let fails = going_stops (values_in es c.args.how) known before c.args.cut src _ n (n - 1) c.attributes.cursor.pos c.turn.new.self.pos c.attributes.left _ _ _ _ (attribute_view c.in-More.raw) c.in_err-xml-in-More.field-0.0 g one inside is took in
     rw (p.1, p.2) fails
 
 pub returns-in-Open-clause-took : goal.returns-in-Open-clause-took
-returns-in-Open-clause-took c = λ known before h o hold.
+returns-in-Open-clause-took c = λ es known before h declared o hold.
     let src = c.args.cursor.now.text.now in
     let n = length src - c.attributes._turn in
     let s = ap (λ t. t.now) c.attributes.invariant.source in
-    let g = c.attributes.invariant.reads known before h o hold in
+    let g = c.attributes.invariant.reads es known before h declared o hold in
     let inside : c.attributes.cursor.pos < length src = rw s at (leb-false _ _ (sym c.is_at_end.ensures ∙ c.if-is_at_end.false)) in
     let is = rw s at c.in_ok-raw.ensures.value in
     let one : n ≡ suc (n - 1) = omega arith in
-    going_ends known before c.args.cut src _ n (n - 1) c.attributes.cursor.pos c.turn.new.self.pos _ _ _ false _ (turn_view c.in_ok-raw.field-0) g one inside is (ap turn_view c.in-Open.is)
+    going_ends (values_in es c.args.how) known before c.args.cut src _ n (n - 1) c.attributes.cursor.pos c.turn.new.self.pos c.attributes.left _ _ _ false _ (turn_view c.in_ok-raw.field-0) g one inside is (ap turn_view c.in-Open.is)
 
 pub returns-in-Empty-clause-took : goal.returns-in-Empty-clause-took
-returns-in-Empty-clause-took c = λ known before h o hold.
+returns-in-Empty-clause-took c = λ es known before h declared o hold.
     let src = c.args.cursor.now.text.now in
     let n = length src - c.attributes._turn in
     let s = ap (λ t. t.now) c.attributes.invariant.source in
-    let g = c.attributes.invariant.reads known before h o hold in
+    let g = c.attributes.invariant.reads es known before h declared o hold in
     let inside : c.attributes.cursor.pos < length src = rw s at (leb-false _ _ (sym c.is_at_end.ensures ∙ c.if-is_at_end.false)) in
     let is = rw s at c.in_ok-raw.ensures.value in
     let one : n ≡ suc (n - 1) = omega arith in
-    going_ends known before c.args.cut src _ n (n - 1) c.attributes.cursor.pos c.turn.new.self.pos _ _ _ true _ (turn_view c.in_ok-raw.field-0) g one inside is (ap turn_view c.in-Empty.is)
+    going_ends (values_in es c.args.how) known before c.args.cut src _ n (n - 1) c.attributes.cursor.pos c.turn.new.self.pos c.attributes.left _ _ _ true _ (turn_view c.in_ok-raw.field-0) g one inside is (ap turn_view c.in-Empty.is)
 
 pub attributes-preserved : goal.attributes-preserved
 attributes-preserved c = record {
@@ -93,25 +94,25 @@ attributes-preserved c = record {
   places = c.in_ok-xml-in-More.ensures.places;
   own = c.in_ok-xml-in-More.ensures.own;
   few = c.in_ok-xml-in-More.ensures.few;
-  reads = λ known before h o hold.
+  reads = λ es known before h declared o hold.
       let src = c.args.cursor.now.text.now in
       let n = length src - c.attributes._turn in
       let s = ap (λ t. t.now) c.attributes.invariant.source in
-      let g = c.attributes.invariant.reads known before h o hold in
+      let g = c.attributes.invariant.reads es known before h declared o hold in
       let inside : c.attributes.cursor.pos < length src = rw s at (leb-false _ _ (sym c.is_at_end.ensures ∙ c.if-is_at_end.false)) in
       let is0 : turn_at c.attributes.cursor.text.now c.attributes.cursor.pos ≡ Ok (more (attribute_view c.in-More.raw), c.turn.new.self.pos) =
       c.in_ok-raw.ensures.value ∙ ap (λ (t : CodeTurn). Ok (turn_view t, c.turn.new.self.pos)) c.in-More.is in
       let is = rw s at is0 in
       let one : n ≡ suc (length src - (c.attributes._turn + 1)) = omega arith in
       let after = ap (λ t. t.now) c.turn.ensures.source ∙ s in
-      let took = rw after at (c.in_ok-xml-in-More.ensures.took known before g.h o g.holding) in
-      going_on known before c.args.cut src _ n (length src - (c.attributes._turn + 1)) c.attributes.cursor.pos c.turn.new.self.pos _ _ _ _ _ _ _ _ (attribute_view c.in-More.raw) g one inside is took;
+      let took = rw after at (c.in_ok-xml-in-More.ensures.took es known before g.h declared o g.holding) in
+      going_on (values_in es c.args.how) known before c.args.cut src _ n (length src - (c.attributes._turn + 1)) c.attributes.cursor.pos c.turn.new.self.pos c.attributes.left _ _ _ _ _ _ _ _ _ (attribute_view c.in-More.raw) g one inside is took;
 }
 
 pub returns-clause-took : goal.returns-clause-took
-returns-clause-took c = λ known before h o hold.
+returns-clause-took c = λ es known before h declared o hold.
     let src = c.args.cursor.now.text.now in
-    let g = c.attributes.invariant.reads known before h o hold in
+    let g = c.attributes.invariant.reads es known before h declared o hold in
     let t = c.attributes-test.false in
     let none : length src - c.attributes._turn ≡ 0 = omega arith in
-    going_none known before c.args.cut src _ _ c.attributes.cursor.pos _ _ _ _ g none
+    going_none (values_in es c.args.how) known before c.args.cut src _ _ c.attributes.cursor.pos c.attributes.left _ _ _ _ g none

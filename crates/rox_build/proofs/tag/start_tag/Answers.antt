@@ -8,13 +8,14 @@ use Rattle.rox_grammar.specs.Document.{most_pairs}
 use Rattle.rox_reading.specs.Lexical.{qname_at}
 use Rattle.rox_reading.specs.Tags.{Held, attributes_at, tag_tested}
 use Rattle.rox_scan.specs.Gives.{Fails, name_view}
+use Rattle.rox_build.specs.Named.{values_in}
 use Rattle.rox_build.specs.Lines.{declaration, rows_of}
 use Rattle.rox_build.specs.Tagged.{scope_in_tables}
 use Rattle.rox_build.proofs.Starting.{holds_nothing, tag_unread, tag_untested, tag_made, tagged, scope_stays, tested_fails, tested_passes}
 use Rattle.rox_build.proofs.tag.start_tag.Goals as goal
 
 pub returns-in_err-xml-clause-value : goal.returns-in_err-xml-clause-value
-returns-in_err-xml-clause-value c =
+returns-in_err-xml-clause-value c = λ es declared.
     let old = c.args.elements.now in
     let src = c.args.cursor.now.text.now in
     let i = c.args.cursor.now.pos in
@@ -31,12 +32,12 @@ returns-in_err-xml-clause-value c =
     let few : length known ≤ most_pairs = rw (length-map old.namespaces.items.items declaration) c.requires.few in
     let start : Held = record { own = []; attributes = [] } in
     let nothing = holds_nothing known old.listed.items _ few c.clear.ensures.items in
-    let took = c.in_err-xml.ensures.took known old.listed.items start own nothing in
+    let took = c.in_err-xml.ensures.took es known old.listed.items start declared own nothing in
     let p = err_from_is_err_and c.from_residual-in_err-xml.result c.from_residual-in_err-xml.ensures.1 in
-    rw (p.1, p.2) (tag_unread c.args.cut above (length (rows_of old.attributes)) known src i name n c.in_err-xml.field-0.0 is other (rw s2 at took))
+    rw (p.1, p.2) (tag_unread (values_in es c.args.how) c.args.cut above (length (rows_of old.attributes)) known src i c.args.left name n c.in_err-xml.field-0.0 is other (rw s2 at took))
 
 pub returns-in_err-element-clause-value : goal.returns-in_err-element-clause-value
-returns-in_err-element-clause-value c =
+returns-in_err-element-clause-value c = λ es declared.
     let old = c.args.elements.now in
     let src = c.args.cursor.now.text.now in
     let i = c.args.cursor.now.pos in
@@ -53,9 +54,9 @@ returns-in_err-element-clause-value c =
     let few : length known ≤ most_pairs = rw (length-map old.namespaces.items.items declaration) c.requires.few in
     let start : Held = record { own = []; attributes = [] } in
     let nothing = holds_nothing known old.listed.items _ few c.clear.ensures.items in
-    let took = c.in_ok-xml.ensures.took known old.listed.items start own nothing in
+    let took = c.in_ok-xml.ensures.took es known old.listed.items start declared own nothing in
     let h = took.0 in
-    let read : attributes_at (length src) c.args.cut known src n start ≡ Ok ((h, c.in_ok-xml.empty), c.attributes.new.cursor.pos) = rw s2 at took.1 in
+    let read : attributes_at (length src) (values_in es c.args.how) c.args.cut known src n c.args.left start ≡ Ok (record { held = h; empty = c.in_ok-xml.empty; left = c.in_ok-xml.left }, c.attributes.new.cursor.pos) = rw s2 at took.1 in
     let scopes : scope_in_tables c.scope_of_tag.new.elements c.in_ok-scope.scope ≡ listed above h.own =
     c.in_ok-scope.ensures.lists known old.listed.items h.own own took.2.declares
     ∙ ap (λ xs. listed xs h.own) (scope_stays old c.attributes.new.elements c.args.above c.in_ok-xml.xml _ h took.2 c.requires.places c.requires.above) in
@@ -65,10 +66,10 @@ returns-in_err-element-clause-value c =
     let p = err_from_is_err_and c.from_residual-in_err-element.result c.from_residual-in_err-element.ensures.1 in
     let fails : Fails c.in_err-element.field-0.0 (tag_tested (listed above h.own) (length (rows_of old.attributes)) i name h.attributes) =
     tested_fails c.in_err-element.field-0.0 (listed above h.own) (length (rows_of old.attributes)) i name h.attributes (rw (scopes, count, written, c.advance.ensures.place) at c.in_err-element.ensures.err) in
-    rw (p.1, p.2) (tag_untested c.args.cut above (length (rows_of old.attributes)) known src i name n c.attributes.new.cursor.pos h c.in_ok-xml.empty c.in_err-element.field-0.0 is other read fails)
+    rw (p.1, p.2) (tag_untested (values_in es c.args.how) c.args.cut above (length (rows_of old.attributes)) known src i c.args.left name n c.attributes.new.cursor.pos h c.in_ok-xml.empty c.in_ok-xml.left c.in_err-element.field-0.0 is other read fails)
 
 pub returns-clause-value : goal.returns-clause-value
-returns-clause-value c =
+returns-clause-value c = λ es declared.
     let old = c.args.elements.now in
     let src = c.args.cursor.now.text.now in
     let i = c.args.cursor.now.pos in
@@ -85,9 +86,9 @@ returns-clause-value c =
     let few : length known ≤ most_pairs = rw (length-map old.namespaces.items.items declaration) c.requires.few in
     let start : Held = record { own = []; attributes = [] } in
     let nothing = holds_nothing known old.listed.items _ few c.clear.ensures.items in
-    let took = c.in_ok-xml.ensures.took known old.listed.items start own nothing in
+    let took = c.in_ok-xml.ensures.took es known old.listed.items start declared own nothing in
     let h = took.0 in
-    let read : attributes_at (length src) c.args.cut known src n start ≡ Ok ((h, c.in_ok-xml.empty), c.attributes.new.cursor.pos) = rw s2 at took.1 in
+    let read : attributes_at (length src) (values_in es c.args.how) c.args.cut known src n c.args.left start ≡ Ok (record { held = h; empty = c.in_ok-xml.empty; left = c.in_ok-xml.left }, c.attributes.new.cursor.pos) = rw s2 at took.1 in
     let scopes : scope_in_tables c.scope_of_tag.new.elements c.in_ok-scope.scope ≡ listed above h.own =
     c.in_ok-scope.ensures.lists known old.listed.items h.own own took.2.declares
     ∙ ap (λ xs. listed xs h.own) (scope_stays old c.attributes.new.elements c.args.above c.in_ok-xml.xml _ h took.2 c.requires.places c.requires.above) in
@@ -97,7 +98,7 @@ returns-clause-value c =
     let fine : tag_tested (listed above h.own) (length (rows_of old.attributes)) i name h.attributes ≡ Ok tt =
     tested_passes (listed above h.own) (length (rows_of old.attributes)) i name h.attributes (rw (scopes, count, written, c.advance.ensures.place) at c.in_ok-element.ensures.tested) in (
       record { name = name; name_end = n; declarations = h.own; attributes = h.attributes },
-      tag_made c.args.cut above (length (rows_of old.attributes)) known src i name n c.attributes.new.cursor.pos h c.in_ok-xml.empty is other read fine,
+      tag_made (values_in es c.args.how) c.args.cut above (length (rows_of old.attributes)) known src i c.args.left name n c.attributes.new.cursor.pos h c.in_ok-xml.empty c.in_ok-xml.left is other read fine,
       tagged old c.attributes.new.elements c.scope_of_tag.new.elements c.element_data.new.elements _ above name n h c.in_ok-xml.xml _ c.in_ok-scope.scope refl refl
           c.in_ok-xml.ensures.attributes took.2 c.in_ok-xml.ensures.few c.in_ok-scope.ensures.names c.in_ok-scope.ensures.attributes c.in_ok-scope.ensures.more c.in_ok-scope.ensures.places
           scopes c.in_ok-element.ensures.names c.in_ok-element.ensures.listed c.in_ok-element.ensures.element,

@@ -6,6 +6,7 @@ use Rattle.rox_build.proofs.attributes.AttributeTable.push.Goals as goal
 pub returns-clause-rows : goal.returns-clause-rows
 returns-clause-rows c =
     let old = c.args.self.now in
-    let places = rw c.if-is_err.ensures.negation at c.push-2.ensures.items in
-    ap (λ xs. zip xs c.push-2.new.self.items) c.in_ok-push.ensures.items
+    let items = c.push_reserved.ensures.items ∙ ap (λ xs. xs ++ c.args.row.0 ∷ []) c.foresee.ensures.items in
+    let places = c.push_reserved-2.ensures.items ∙ ap (λ xs. xs ++ c.args.row.1 ∷ []) c.foresee.ensures.places in
+    ap (λ xs. zip xs c.push_reserved-2.new.self.items) items
     ∙ ap (zip (old.items.items ++ c.args.row.0 ∷ [])) places ∙ zip_push old.items.items old.places.items c.args.row.0 c.args.row.1 old.even

@@ -1,6 +1,7 @@
 use Rattle.std.proofs.Common.{◌≡◌, refl, ap, ◌∙◌, arith, length, set, get_or, ℕ}
 use Rattle.rox_build.specs.Shown.{AreSound}
-use Rattle.rox_build.proofs.Finishing.{finish_holds}
+use Rattle.rox_build.specs.declared.tables.Tables.{Tables}
+use Rattle.rox_build.proofs.Finishing.{finish_holds, same_held}
 use Rattle.rox_build.proofs.builder.Builder.finish.Goals as goal
 
 pub returns-clause-ok : goal.returns-clause-ok
@@ -11,5 +12,7 @@ returns-clause-ok c = λ end done sh sound.
     let len = b.nodes.ok.0 in
     let few = b.few in
     let count : c.len-count.result ≡ length b.nodes.items = omega (arith, c.len-count.ensures) in
-    finish_holds end done b _ st fine (omega arith)
-    (λ d. c.end_root.ensures.rows d ∙ ap (λ (n : ℕ). set b.nodes.items 0 (record (get_or b.nodes.items 0 d) { next = n })) count) refl refl refl
+    let whole : Tables = record { nodes = c.end_root.new.nodes; attributes = b.tables.attributes; namespaces = b.tables.namespaces.items; listed = b.tables.listed } in
+    same_held whole _ _ c.trim.ensures.items c.trim-2.ensures refl refl
+    (finish_holds end done b whole st fine (omega arith)
+    (λ d. c.end_root.ensures.rows d ∙ ap (λ (n : ℕ). set b.nodes.items 0 (record (get_or b.nodes.items 0 d) { next = n })) count) refl refl refl)

@@ -1,7 +1,7 @@
 use Rattle.std.proofs.Common.{◌≡◌, ◌++◌, ◌∷◌, [], true, false, refl, sym, ap, ◌∙◌}
 use Rattle.rox_grammar.specs.Tree.{node_in}
 use Rattle.rox_grammar.specs.Written.{Text}
-use Rattle.rox_reading.specs.State.{scope_of}
+use Rattle.rox_grammar.specs.State.{scope_of}
 use Rattle.rox_build.specs.Lines.{node, rows_of}
 use Rattle.rox_build.specs.Shown.{pending_text, names_in}
 use Rattle.rox_build.specs.declared.pending.Pending.{Pending}

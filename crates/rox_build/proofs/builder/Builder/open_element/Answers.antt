@@ -2,7 +2,8 @@ use Rattle.std.proofs.Common.{◌≡◌, ◌++◌, ◌∷◌, [], ◌+◌, refl,
 use Rattle.std.proofs.lemmas.Result.{err_from_is_err_and}
 use Rattle.rox_grammar.specs.Forest.{Nil}
 use Rattle.rox_grammar.specs.Tree.{listed}
-use Rattle.rox_reading.specs.State.{State, inside, scope_of}
+use Rattle.rox_grammar.specs.State.{inside, scope_of}
+use Rattle.rox_reading.specs.State.{State}
 use Rattle.rox_build.specs.Shown.{IsOpening, opened, names_in}
 use Rattle.rox_build.specs.declared.tables.Scope.{Scope}
 use Rattle.rox_build.specs.declared.builder.OpenElement.{OpenElement}
@@ -13,12 +14,12 @@ use Rattle.rox_build.proofs.Showing.{row_open, open_shows, open_count, settled_c
 use Rattle.rox_build.proofs.builder.Builder.open_element.Goals as goal
 
 pub returns-clause-value : goal.returns-clause-value
-returns-clause-value c = λ total at s t sh here is.
+returns-clause-value c = λ total at left s t sh here is.
     let f = c.flush.new.self in
     let tag = c.args.tag.now in
     let st = c.in_ok-flush.ensures.ok total s.stack s.done sh in
     let op : IsOpening f.tables (scope_of s.stack) s.at tag t = rw (c.flush.ensures.tables, here) is in
-    let next : State = record { at = at; done = Nil; stack = inside s.at t s.done s.stack } in
+    let next : State = record { at = at; done = Nil; stack = inside s.at t s.done s.stack; left = left } in
     let n = settled_count total s.stack s.done f st in
     let m = open_count s.stack s.at t s.done in
     let room = c.in_ok-room.ensures.ok in
@@ -39,11 +40,11 @@ returns-clause-value c = λ total at s t sh here is.
     )
 
 pub returns-in_err-room-clause-value : goal.returns-in_err-room-clause-value
-returns-in_err-room-clause-value c = λ total at s t sh here is.
+returns-in_err-room-clause-value c = λ total at left s t sh here is.
     let p = err_from_is_err_and c.from_residual-in_err-room.result c.from_residual-in_err-room.ensures.1 in
     let f = c.flush.new.self in
     let st = c.in_ok-flush.ensures.ok total s.stack s.done sh in
-    let next : State = record { at = at; done = Nil; stack = inside s.at t s.done s.stack } in
+    let next : State = record { at = at; done = Nil; stack = inside s.at t s.done s.stack; left = left } in
     let n = settled_count total s.stack s.done f st in
     let m = open_count s.stack s.at t s.done in
     let e = c.in_err-room.ensures.err in

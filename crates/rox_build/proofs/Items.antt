@@ -1,0 +1,275 @@
+-- Items of the internal subset: one turn of the code is one of the reading.
+use Rattle.std.proofs.Common.{◌≡◌, ℕ, suc, ◌+◌, ◌<◌, ◌≤◌, ◌==◌, Bool, true, false, cond, List, [], ◌∷◌, ◌++◌, length, ltb, leb, eqb, refl, ap, ◌∙◌, subst, Result, Ok, Err, arith, inl, inr}
+use Rattle.std.specs.Prelude.{slice_index}
+use Rattle.std.proofs.lemmas.Bool.{ltb-true, ltb-false, leb-true, leb-false, eqb-true, cases_lt}
+use Rattle.std.proofs.lemmas.List.{get_or_past}
+use Rattle.rox_grammar.specs.declared.fault.Fault.{Fault}
+use Rattle.rox_grammar.specs.declared.fault.Fault.TheVariants as fault
+use Rattle.rox_grammar.specs.declared.fault.Word.{Word}
+use Rattle.rox_grammar.specs.declared.fault.Word.TheVariants as word
+use Rattle.rox_grammar.specs.Marks.{byte_from, stands}
+use Rattle.rox_grammar.specs.Names.{spaces_end}
+use Rattle.rox_grammar.specs.Constructs.{at}
+use Rattle.rox_grammar.specs.Words.{word_text}
+use Rattle.rox_grammar.specs.Doctype.{Request, Asked}
+use Rattle.rox_reading.specs.Refusals.{here, lifted}
+use Rattle.rox_reading.specs.State.{State}
+use Rattle.rox_reading.specs.Machine.{at_place, comment_step, instruction_step}
+use Rattle.rox_reading.specs.Doctype.{Reply, Asks, Dtd, replies_of, AreTextReplies, with_state, entity_step, subset, doctype_head_at}
+use Rattle.rox_reading.specs.Answering.{left_with, Stops, Continues}
+use Rattle.rox_reading.proofs.Answering as turn
+use Rattle.rox_reading.proofs.Answering.{spaced}
+use Rattle.rox_reading.proofs.Settling.{step_run, subset_run, doctype_subset, doctype_subset_stops}
+use Rattle.rox_resolver.specs.Requests.{AreAllowed}
+use Rattle.rox_scan.specs.declared.cursor.Cursor.{Cursor}
+use Rattle.rox_scan.specs.declared.failure.Failure.{Failure}
+use Rattle.rox_scan.specs.declared.failure.Failure.TheVariants as failure
+use Rattle.rox_scan.specs.Doctypes.{is_passed_over, passed_over_at, subset_end_at}
+use Rattle.rox_build.specs.Asking.{AreGiven, Comes, IsEntityRead, IsRead, IsGoing, Turns}
+use Rattle.rox_build.specs.Named.{AreDeclared}
+use Rattle.rox_build.specs.Refusing.{of_failure}
+use Rattle.rox_build.specs.Shown.{Sees, Stepped}
+use Rattle.rox_build.specs.declared.builder.Builder.{Builder}
+use Rattle.rox_build.specs.declared.entities.Entities.{Entities}
+use Rattle.rox_build.specs.declared.refused.Refused.{Refused}
+use Rattle.rox_build.proofs.Asking.{none_given, stops_by}
+use Rattle.rox_build.proofs.Lifting.{lifted_ok, lifted_err}
+
+-- ---- answers of two parts
+
+allowed_both : (allows : Request → Reply → Type 0) (a b : List Asked) → AreAllowed allows a → AreAllowed allows b → AreAllowed allows (a ++ b)
+allowed_both allows [] b h k = k
+allowed_both allows (x ∷ a) b h k = (h.0, allowed_both allows a b h.1 k)
+
+texts_both : (a b : List Asked) → AreTextReplies (replies_of a) → AreTextReplies (replies_of b) → AreTextReplies (replies_of (a ++ b))
+texts_both [] b h k = k
+texts_both (x ∷ a) b h k = (h.0, texts_both a b h.1 k)
+
+given_both : (allows : Request → Reply → Type 0) (a b : List Asked) → AreGiven allows a → AreGiven allows b → AreGiven allows (a ++ b)
+given_both allows a b h k = record { allowed = allowed_both allows a b h.allowed k.allowed; texts = texts_both a b h.texts k.texts }
+
+-- ---- the state at another place
+
+pub sees_at : (limit end : ℕ) (s : State) (c e : Cursor) (b : Builder) (j : ℕ) → Sees limit end s c b → e.pos ≡ j → Sees limit end (at_place j s) e b
+sees_at limit end s c e b j h is = record { here = is; limit_is = h.limit_is; shows = h.shows; names = h.names; attributes = h.attributes; left_is = h.left_is }
+
+-- ---- what has no value of its own
+
+-- a choice is what was chosen
+by_test : {X P : Type 0} (b : Bool) (x y z : X) → cond b x y ≡ z → (b ≡ true → x ≡ z → P) → (b ≡ false → y ≡ z → P) → P
+by_test true x y z h holds fails = holds refl h
+by_test false x y z h holds fails = fails refl h
+
+same_place : (x y : Unit {0} × ℕ) → ◌≡◌ {A = Result (Unit {0} × ℕ) Fault} (Ok x) (Ok y) → y.1 ≡ x.1
+same_place x y h = let e : y ≡ x = cc in ap (λ p. p.1) e
+
+same_fault : (f g : Fault) → ◌≡◌ {A = Result (Unit {0} × ℕ) Fault} (Err f) (Err g) → g ≡ f
+same_fault f g h = cc
+
+-- how an item ended that no more is said of
+abbrev pub ended : Result (Unit {0}) Refused → Result Bool Refused
+ended (Ok x) = Ok false
+ended (Err e) = Err e
+
+abbrev pub ended_plainly : Result (Unit {0}) Failure → Result Bool Refused
+ended_plainly (Ok x) = Ok false
+ended_plainly (Err e) = Err (of_failure e)
+
+-- ---- a turn
+
+module _ (limit end i n m : ℕ) (src : List ℕ) (allows : Request → Reply → Type 0) (run : List Reply → Asks Dtd) (one : n ≡ suc m) (old c : Cursor) (b : Builder) (es : Entities)
+    (going : IsGoing limit end i n src allows run old b es) (within : old.pos < length src) (same : c.text.now ≡ src) (next : c.pos ≡ spaces_end src old.pos) where
+  abbrev d : Dtd
+  d = going.dtd
+
+  abbrev s : State
+  s = at_place (spaces_end src d.state.at) d.state
+
+  place : c.pos ≡ s.at
+  place = next ∙ ap (spaces_end src) going.sees.here
+
+  inside : d.state.at < length src
+  inside = subst (λ (k : ℕ). k < length src) going.sees.here within
+
+  found : (w : Word) (t : Bool) → stands (word_text w) c.text.now c.pos ≡ t → at w src s.at ≡ t
+  found w t h = rw (same, place) at h
+
+  sees_here : Sees limit end s c b
+  sees_here = sees_at limit end d.state old c b s.at going.sees place
+
+  -- nothing more is asked
+  goes_on : (t : State) (e : Cursor) (u : Builder) → Continues run going.asked limit i m src (with_state d t) → Sees limit end t e u → IsGoing limit end i m src allows run e u es
+  goes_on t e u on sees = record { asked = going.asked; given = going.given; dtd = with_state d t; continues = on; sees = sees; declared = going.declared }
+
+  module _ (r : Result (Unit {0}) Refused) (is : stands (word_text word.EntityStart) c.text.now c.pos ≡ true) where
+    pub entity_turn : (e : Cursor) (fs : Entities)
+        → ((d : Dtd) → c.pos ≡ d.state.at → AreDeclared d.entities es
+        → Comes allows (λ replies. entity_step c.text.now (left_with replies d)) (λ asked x. IsEntityRead (λ replies. entity_step c.text.now (left_with replies d)) d e fs asked) r)
+        → Turns limit end i m src allows run e b fs (ended r)
+    entity_turn e fs comes = by_result r (subst (λ (text : List ℕ). Came text r) same (comes (spaced src d) place going.declared))
+      where
+        Came : List ℕ → Result (Unit {0}) Refused → Type 0
+        Came text q =
+            Comes allows (λ replies. entity_step text (left_with replies (spaced src d))) (λ asked x. IsEntityRead (λ replies. entity_step text (left_with replies (spaced src d))) (spaced src d) e fs asked) q
+
+        by_result : (q : Result (Unit {0}) Refused) → Came src q → Turns limit end i m src allows run e b fs (ended q)
+        by_result (Ok x) k = record {
+          asked = going.asked ++ k.0;
+          given = given_both allows going.asked k.0 going.given k.1;
+          dtd = k.2.dtd;
+          continues = turn.turn_entity run going.asked limit i n m src d going.continues one inside k.0 k.2.dtd (found word.EntityStart true is) k.2.answered;
+          sees = rw k.2.state (sees_at limit end s c e b e.pos sees_here refl);
+          declared = k.2.declared;
+        }
+        by_result (Err q) k = (
+          going.asked ++ k.0,
+          given_both allows going.asked k.0 going.given k.1,
+          stops_by allows (λ replies. entity_step src (left_with replies (spaced src d))) run k.0 (going.asked ++ k.0)
+              (λ f h. turn.entity_stops run going.asked limit i n m src d going.continues one inside k.0 f (found word.EntityStart true is) h) q k.2,
+        )
+
+  module _ (no_entity : stands (word_text word.EntityStart) c.text.now c.pos ≡ false) where
+    pub comment_turn : (e : Cursor) (u : Builder) (r : Result (Unit {0}) Failure) → stands (word_text word.CommentStart) c.text.now c.pos ≡ true
+        → (Sees limit end s c b → Stepped limit end r e u (lifted (comment_step limit c.text.now s))) → Turns limit end i m src allows run e u es (ended_plainly r)
+    comment_turn e u r is steps = by_result r (subst (λ (text : List ℕ). Stepped limit end r e u (lifted (comment_step limit text s))) same (steps sees_here))
+      where
+        by_result : (q : Result (Unit {0}) Failure) → Stepped limit end q e u (lifted (comment_step limit src s)) → Turns limit end i m src allows run e u es (ended_plainly q)
+        by_result (Ok x) k =
+            goes_on k.0 e u
+            (turn.turn_comment run going.asked limit i n m src d going.continues one inside (found word.EntityStart false no_entity) k.0 (found word.CommentStart true is) (lifted_ok _ k.0 k.1)) k.2
+        by_result (Err failure.Memory) k = (going.asked, going.given, tt)
+        by_result (Err (failure.Fault f)) k = (
+          going.asked,
+          going.given,
+          turn.comment_stops run going.asked limit i n m src d going.continues one inside (found word.EntityStart false no_entity) f (found word.CommentStart true is) (lifted_err _ f k),
+        )
+
+    module _ (no_comment : stands (word_text word.CommentStart) c.text.now c.pos ≡ false) where
+      pub instruction_turn : (e : Cursor) (u : Builder) (r : Result (Unit {0}) Failure) → stands (word_text word.PIStart) c.text.now c.pos ≡ true
+          → (Sees limit end s c b → Stepped limit end r e u (lifted (instruction_step limit c.text.now s))) → Turns limit end i m src allows run e u es (ended_plainly r)
+      instruction_turn e u r is steps = by_result r (subst (λ (text : List ℕ). Stepped limit end r e u (lifted (instruction_step limit text s))) same (steps sees_here))
+        where
+          by_result : (q : Result (Unit {0}) Failure) → Stepped limit end q e u (lifted (instruction_step limit src s)) → Turns limit end i m src allows run e u es (ended_plainly q)
+          by_result (Ok x) k =
+              goes_on k.0 e u
+              (turn.turn_instruction run going.asked limit i n m src d going.continues one inside (found word.EntityStart false no_entity) (found word.CommentStart false no_comment) k.0
+              (found word.PIStart true is) (lifted_ok _ k.0 k.1))
+              k.2
+          by_result (Err failure.Memory) k = (going.asked, going.given, tt)
+          by_result (Err (failure.Fault f)) k = (
+            going.asked,
+            going.given,
+            turn.instruction_stops run going.asked limit i n m src d going.continues one inside (found word.EntityStart false no_entity) (found word.CommentStart false no_comment) f
+                (found word.PIStart true is) (lifted_err _ f k),
+          )
+
+      module _ (no_instruction : stands (word_text word.PIStart) c.text.now c.pos ≡ false) where
+        -- none of the first three
+        skipped : (t : Bool) → is_passed_over c.text.now c.pos ≡ t → is_passed_over src s.at ≡ t
+        skipped t h = rw (same, place) at h
+
+        pub passed_turn : (e : Cursor) → is_passed_over c.text.now c.pos ≡ true → passed_over_at i c.text.now c.pos ≡ Ok (tt, e.pos) → Turns limit end i m src allows run e b es (Ok false)
+        passed_turn e is h =
+            let stop = byte_from (λ k. k == 62) src s.at in
+            let k : passed_over_at i src s.at ≡ Ok (tt, e.pos) = rw (same, place) at h in
+            by_test (ltb stop (length src)) _ _ _ k
+            (λ closes r. goes_on (at_place (stop + 1) d.state) e b
+            (turn.turn_passed run going.asked limit i n m src d going.continues one inside (found word.EntityStart false no_entity) (found word.CommentStart false no_comment)
+            (found word.PIStart false no_instruction) (skipped true is) (ltb-true _ _ closes))
+            (sees_at limit end d.state old e b (stop + 1) going.sees (same_place _ _ r)))
+            (λ out r. cc)
+
+        pub passed_stops : (f : Fault) → is_passed_over c.text.now c.pos ≡ true → passed_over_at i c.text.now c.pos ≡ Err f → Stops run going.asked (here f)
+        passed_stops f is h =
+            let stop = byte_from (λ k. k == 62) src s.at in
+            let k : passed_over_at i src s.at ≡ Err f = rw (same, place) at h in
+            by_test (ltb stop (length src)) _ _ _ k (λ closes r. cc)
+            (λ out r. rw (same_fault _ _ r)
+            (turn.passed_stops run going.asked limit i n m src d going.continues one inside (found word.EntityStart false no_entity) (found word.CommentStart false no_comment)
+            (found word.PIStart false no_instruction) (skipped true is) (ltb-false _ _ out)))
+
+        module _ (no_skipped : is_passed_over c.text.now c.pos ≡ false) where
+          pub unknown_stops : (slice_index c.text.now c.pos == 93) ≡ false → Stops run going.asked (here (fault.UnknownToken c.pos))
+          unknown_stops other =
+              let o : (slice_index src s.at == 93) ≡ false = rw (same, place) at other in
+              rw place
+              (turn.unknown_stops run going.asked limit i n m src d going.continues one inside (found word.EntityStart false no_entity) (found word.CommentStart false no_comment)
+              (found word.PIStart false no_instruction) (skipped false no_skipped) o)
+
+          module _ (is : slice_index c.text.now c.pos ≡ 93) where
+            bracket : slice_index src s.at ≡ 93
+            bracket = rw (same, place) at is
+
+            pub end_turn : (e : Cursor) → subset_end_at c.text.now c.pos ≡ Ok (tt, e.pos) → IsRead limit end run e b es going.asked
+            end_turn e h =
+                let stop = spaces_end src (s.at + 1) in
+                let k : subset_end_at src s.at ≡ Ok (tt, e.pos) = rw (same, place) at h in
+                by_test (leb (length src) stop) _ _ _ k (λ cut r. cc)
+                (λ more k. by_test (eqb (slice_index src stop) 62) _ _ _ k
+                (λ closes r. record {
+                  dtd = with_state d (at_place (stop + 1) d.state);
+                  answered = turn.turn_end run going.asked limit i n m src d going.continues one inside (found word.EntityStart false no_entity) (found word.CommentStart false no_comment)
+                      (found word.PIStart false no_instruction) (skipped false no_skipped) bracket (leb-false _ _ more) (eqb-true _ _ closes);
+                  sees = sees_at limit end d.state old e b (stop + 1) going.sees (same_place _ _ r);
+                  declared = going.declared;
+                })
+                (λ other r. cc))
+
+            pub end_stops : (f : Fault) → subset_end_at c.text.now c.pos ≡ Err f → Stops run going.asked (here f)
+            end_stops f h =
+                let stop = spaces_end src (s.at + 1) in
+                let k : subset_end_at src s.at ≡ Err f = rw (same, place) at h in
+                by_test (leb (length src) stop) _ _ _ k
+                (λ cut r. rw (same_fault _ _ r)
+                (turn.end_cut_stops run going.asked limit i n m src d going.continues one inside (found word.EntityStart false no_entity) (found word.CommentStart false no_comment)
+                (found word.PIStart false no_instruction) (skipped false no_skipped) bracket (leb-true _ _ cut)))
+                (λ more k. by_test (eqb (slice_index src stop) 62) _ _ _ k (λ closes r. cc)
+                (λ other r. rw (same_fault _ _ r)
+                (turn.end_stops run going.asked limit i n m src d going.continues one inside (found word.EntityStart false no_entity) (found word.CommentStart false no_comment)
+                (found word.PIStart false no_instruction) (skipped false no_skipped) bracket (leb-false _ _ more) other)))
+
+-- ---- the items, one after the other
+
+-- before the first
+pub none_yet : (limit end i n : ℕ) (src : List ℕ) (allows : Request → Reply → Type 0) (d : Dtd) (c : Cursor) (b : Builder) (es : Entities) → n ≡ length src → Sees limit end d.state c b
+    → AreDeclared d.entities es → IsGoing limit end i n src allows (λ replies. subset limit i (length src) src (left_with replies d)) c b es
+none_yet limit end i n src allows d c b es all sees declared =
+    record { asked = []; given = none_given allows; dtd = d; continues = rw all (turn.none_yet limit i (length src) src d); sees = sees; declared = declared }
+
+module _ (limit end i n : ℕ) (src : List ℕ) (allows : Request → Reply → Type 0) (run : List Reply → Asks Dtd) (c : Cursor) (b : Builder) (es : Entities)
+    (going : IsGoing limit end i n src allows run c b es) where
+  -- the text ends here
+  pub text_ends : (m : ℕ) → n ≡ suc m → length src ≤ c.pos → IsRead limit end run c b es going.asked
+  text_ends m one out = record {
+    dtd = going.dtd;
+    answered = turn.turn_out run going.asked limit i n m src going.dtd going.continues one (subst (λ (k : ℕ). length src ≤ k) going.sees.here out);
+    sees = going.sees;
+    declared = going.declared;
+  }
+
+  -- there may be no more
+  pub turns_end : n ≡ 0 → IsRead limit end run c b es going.asked
+  turns_end none = record { dtd = going.dtd; answered = turn.turn_spent run going.asked limit i n src going.dtd going.continues none; sees = going.sees; declared = going.declared }
+
+-- ---- the declaration around its subset
+
+-- a byte but 0 stands in the text
+pub stands_within : (src : List ℕ) (p b : ℕ) → slice_index src p ≡ b → 0 < b → p < length src
+stands_within src p b is some =
+    elim (cases_lt p (length src)) as (λ x. p < length src) [ inl l ↦ l | inr l ↦ let out : slice_index src p ≡ 0 = get_or_past src p 0 l in absurd (omega arith) ]
+
+-- with a subset, whose `[` stands at p
+pub with_subset : (limit end : ℕ) (src : List ℕ) (allows : Request → Reply → Type 0) (x : Dtd) (p : ℕ) (c : Cursor) (b : Builder) (es : Entities) (r : Result (Unit {0}) Refused)
+    → (is : doctype_head_at src x.state.at ≡ Ok (tt, p)) → (fits : p < length src) → slice_index src p ≡ 91
+    → Comes allows (subset_run limit src x tt p is fits) (λ asked u. IsRead limit end (subset_run limit src x tt p is fits) c b es asked) r
+    → Comes allows (step_run limit src x) (λ asked u. IsRead limit end (step_run limit src x) c b es asked) r
+with_subset limit end src allows x p c b es (Ok u) is fits opens k = (
+  k.0,
+  k.1,
+  record { dtd = k.2.dtd; answered = doctype_subset limit src x tt p is fits k.0 k.2.dtd opens k.2.answered; sees = k.2.sees; declared = k.2.declared },
+)
+with_subset limit end src allows x p c b es (Err e) is fits opens k = (
+  k.0,
+  k.1,
+  stops_by allows (subset_run limit src x tt p is fits) (step_run limit src x) k.0 k.0 (λ f h. doctype_subset_stops limit src x tt p is fits k.0 f opens h) e k.2,
+)

@@ -1,0 +1,271 @@
+use Rattle.std.proofs.Common.{◌≡◌, ◌<◌, ◌≤◌, ◌==◌, ◌||◌, ◌+◌, ◌-◌, suc, ℕ, Bool, true, false, List, Ok, Err, get_or, length, slice_index, slice_range, refl, sym, ap, ◌∙◌, arith}
+use Rattle.std.proofs.lemmas.Bool.{eqb-true, ne_eqb, leb-true, leb-false}
+use Rattle.std.proofs.lemmas.Result.{err_from_is_err_and}
+use Rattle.rox_grammar.specs.Content.{is_plain}
+use Rattle.rox_reading.specs.State.{depth_of}
+use Rattle.rox_reading.specs.Values.{RunText}
+use Rattle.rox_scan.specs.Doctypes.{replacement_view}
+use Rattle.rox_scan.proofs.NearLemmas.{text_cut}
+use Rattle.rox_build.specs.Hows.{how_of}
+use Rattle.rox_build.proofs.Lifting.{refused_too}
+use Rattle.rox_build.proofs.Stepping.{two_stand, step_is_run, step_is_markup, plain_run, parted_run, run_fails, text_stepped, same_shows}
+use Rattle.rox_build.proofs.ShortLemmas.{short_run}
+use Rattle.rox_build.proofs.Parting.{rests_of, parting_ends, parting_on, parting_fails, parting_stops, parting_out}
+use Rattle.rox_build.proofs.TextLooping.{opened_depth, text_on, text_fails, text_at_end, text_spent}
+use Rattle.rox_build.proofs.TextOpening.{inner_state, outer_state, opens_err, opens_reads, opens_refuses, opener_at}
+use Rattle.rox_build.proofs.reader.+content.Goals as goal
+
+-- ---- a run
+
+stands_here : (ends : Bool) (b : ℕ) → (ends || b == 60) ≡ true → ends ≡ false → b ≡ 60
+stands_here true b h other = cc other
+stands_here false b h other = eqb-true b 60 h
+
+pub character_data-returns-then-is_run_end-clause-value : goal.character_data-returns-then-is_run_end-clause-value
+character_data-returns-then-is_run_end-clause-value t c = λ limit end es s declared h.
+    let src = c.args.cursor.now.text.now in
+    let b = c.args.builder.now in
+    let i = c.args.cursor.now.pos in
+    let e = c.near_end-near.result in
+    let n = c.near_end-near.ensures in
+    let cut = text_cut src e n.within n.stops in
+    let here : e < length src → get_or src e 0 ≡ 60 = λ more. stands_here _ _ (sym c.is_run_end.ensures ∙ c.if-is_run_end.true) (ne_eqb e (length src) (λ same. absurd (omega arith))) in
+    let r = short_run src i e c.args.cursor.now.utf8 c.args.cursor.now.cut n.onward cut n.passes here in
+    let text : RunText = record { value = slice_range src i e; plain = true } in
+    rw (plain_run (how_of limit es c.args.how) src s i e (slice_range src i e) h.here r.0 r.1)
+    (text_stepped limit end s c.args.cursor.now _ b c.slice_piece.new.self (Ok c.in_ok-slice_piece.field-0) text h c.slice_piece.ensures.tables c.slice_piece.ensures.limit c.slice_piece.ensures.left
+    (rw c.range.ensures.value at (c.in_ok-slice_piece.ensures.value end e s h.shows)))
+
+pub character_data-returns-in_err-slice_piece-clause-value : goal.character_data-returns-in_err-slice_piece-clause-value
+character_data-returns-in_err-slice_piece-clause-value t c = λ limit end es s declared h.
+    let src = c.args.cursor.now.text.now in
+    let b = c.args.builder.now in
+    let i = c.args.cursor.now.pos in
+    let e = c.near_end-near.result in
+    let n = c.near_end-near.ensures in
+    let cut = text_cut src e n.within n.stops in
+    let here : e < length src → get_or src e 0 ≡ 60 = λ more. stands_here _ _ (sym c.is_run_end.ensures ∙ c.if-is_run_end.true) (ne_eqb e (length src) (λ same. absurd (omega arith))) in
+    let r = short_run src i e c.args.cursor.now.utf8 c.args.cursor.now.cut n.onward cut n.passes here in
+    let text : RunText = record { value = slice_range src i e; plain = true } in
+    let p = err_from_is_err_and c.from_residual.result c.from_residual.ensures.1 in
+    rw (p.1, p.2, plain_run (how_of limit es c.args.how) src s i e (slice_range src i e) h.here r.0 r.1)
+    (refused_too c.in_err-slice_piece.field-0.0 _
+    (text_stepped limit end s c.args.cursor.now (record { text = c.args.cursor.now.text; pos = e; utf8 = c.args.cursor.now.utf8; cut = cut }) b c.slice_piece.new.self (Err c.in_err-slice_piece.field-0.0) text h c.slice_piece.ensures.tables c.slice_piece.ensures.limit c.slice_piece.ensures.left
+    (rw c.range.ensures.value at (c.in_err-slice_piece.ensures.value end e s h.shows))))
+
+pub far_run-returns-in_err-raw-clause-value : goal.far_run-returns-in_err-raw-clause-value
+far_run-returns-in_err-raw-clause-value t c = λ limit end es s declared h.
+    let p = err_from_is_err_and c.from_residual.result c.from_residual.ensures.1 in
+    rw (p.1, p.2) (run_fails (how_of limit es c.args.how) c.args.cursor.now.text.now s c.args.cursor.now.pos c.in_err-raw.field-0.0 h.here c.in_err-raw.ensures.value)
+
+pub far_run-returns-then-is_plain-clause-value : goal.far_run-returns-then-is_plain-clause-value
+far_run-returns-then-is_plain-clause-value t c = λ limit end es s declared h.
+    let src = c.args.cursor.now.text.now in
+    let b = c.args.builder.now in
+    let raw = c.in_ok-raw.raw.now in
+    let j = c.raw_run.new.cursor.pos in
+    let plain : is_plain raw ≡ true = ap is_plain (sym c.as_bytes.ensures.value) ∙ sym c.is_plain.ensures ∙ c.if-is_plain.true in
+    let text : RunText = record { value = raw; plain = true } in
+    rw (plain_run (how_of limit es c.args.how) src s c.args.cursor.now.pos j raw h.here c.in_ok-raw.ensures.value plain)
+    (text_stepped limit end s c.args.cursor.now c.raw_run.new.cursor b c.slice_piece.new.self (Ok c.in_ok-slice_piece.field-0) text h c.slice_piece.ensures.tables c.slice_piece.ensures.limit c.slice_piece.ensures.left
+    (c.in_ok-slice_piece.ensures.value end j s h.shows))
+
+pub far_run-returns-in_err-slice_piece-clause-value : goal.far_run-returns-in_err-slice_piece-clause-value
+far_run-returns-in_err-slice_piece-clause-value t c = λ limit end es s declared h.
+    let src = c.args.cursor.now.text.now in
+    let b = c.args.builder.now in
+    let raw = c.in_ok-raw.raw.now in
+    let j = c.raw_run.new.cursor.pos in
+    let plain : is_plain raw ≡ true = ap is_plain (sym c.as_bytes.ensures.value) ∙ sym c.is_plain.ensures ∙ c.if-is_plain.true in
+    let text : RunText = record { value = raw; plain = true } in
+    let p = err_from_is_err_and c.from_residual-in_err-slice_piece.result c.from_residual-in_err-slice_piece.ensures.1 in
+    rw (p.1, p.2, plain_run (how_of limit es c.args.how) src s c.args.cursor.now.pos j raw h.here c.in_ok-raw.ensures.value plain)
+    (refused_too c.in_err-slice_piece.field-0.0 _
+    (text_stepped limit end s c.args.cursor.now c.raw_run.new.cursor b c.slice_piece.new.self (Err c.in_err-slice_piece.field-0.0) text h c.slice_piece.ensures.tables c.slice_piece.ensures.limit c.slice_piece.ensures.left
+    (c.in_err-slice_piece.ensures.value end j s h.shows)))
+
+pub far_run-returns-clause-value : goal.far_run-returns-clause-value
+far_run-returns-clause-value t c = λ limit end es s declared h.
+    let src = c.args.cursor.now.text.now in
+    let raw = c.in_ok-raw.raw.now in
+    let j = c.raw_run.new.cursor.pos in
+    let same = ap (λ t. t.now) c.in_ok-raw.ensures.source in
+    let other : is_plain raw ≡ false = ap is_plain (sym c.as_bytes.ensures.value) ∙ sym c.is_plain.ensures ∙ c.if-is_plain.false in
+    rw (parted_run (how_of limit es c.args.how) src s c.args.cursor.now.pos j raw h.here c.in_ok-raw.ensures.value other, ← same)
+    (c.run_parts.ensures.value limit end es s declared (record { here = h.here; limit_is = h.limit_is; shows = h.shows; names = h.names; attributes = h.attributes; left_is = h.left_is }))
+
+-- ---- its parts
+
+pub run_parts-returns-in_err-text-clause-value : goal.run_parts-returns-in_err-text-clause-value
+run_parts-returns-in_err-text-clause-value t c = λ limit end es s declared h.
+    let src = c.args.cursor.now.text.now in
+    let how = how_of limit es c.args.how in
+    let n = length src - c.loop-turn._turn in
+    let one : n ≡ suc (n - 1) = omega arith in
+    let s0 = ap (λ t. t.now) c.loop-turn.invariant.source in
+    let g = c.loop-turn.invariant.reads limit end es s declared h in
+    let p = err_from_is_err_and c.from_residual.result c.from_residual.ensures.1 in
+    rw (p.1, p.2) (parting_fails how end src c.args.start c.args.stop _ n (n - 1) c.loop-turn.cursor c.loop-turn.builder c.in_err-text.field-0.0 g one (rw s0 at (c.in_err-text.ensures.value limit end es g.s declared g.sees)))
+
+pub run_parts-returns-in_err-open_text-in-Some-clause-value : goal.run_parts-returns-in_err-open_text-in-Some-clause-value
+run_parts-returns-in_err-open_text-in-Some-clause-value t c = λ limit end es s declared h.
+    let src = c.args.cursor.now.text.now in
+    let how = how_of limit es c.args.how in
+    let n = length src - c.loop-turn._turn in
+    let one : n ≡ suc (n - 1) = omega arith in
+    let s0 = ap (λ t. t.now) c.loop-turn.invariant.source in
+    let g = c.loop-turn.invariant.reads limit end es s declared h in
+    let part = rw (s0, c.in-Some.is) at (c.in_ok-text.ensures.value limit end es g.s declared g.sees) in
+    let p = err_from_is_err_and c.from_residual-in_err-open_text-in-Some.result c.from_residual-in_err-open_text-in-Some.ensures.1 in
+    rw (p.1, p.2) (parting_stops how end src c.args.start c.args.stop _ n (n - 1) c.loop-turn.cursor c.loop-turn.builder part.0 (replacement_view c.in-Some.text) c.part_piece.new.cursor.pos c.in_err-open_text-in-Some.field-0.0 g one part.1
+    (c.in_err-open_text-in-Some.ensures.value limit end es part.0 declared part.2))
+
+pub run_parts-returns-in-None-clause-value : goal.run_parts-returns-in-None-clause-value
+run_parts-returns-in-None-clause-value t c = λ limit end es s declared h.
+    let src = c.args.cursor.now.text.now in
+    let how = how_of limit es c.args.how in
+    let n = length src - c.loop-turn._turn in
+    let one : n ≡ suc (n - 1) = omega arith in
+    let s0 = ap (λ t. t.now) c.loop-turn.invariant.source in
+    let g = c.loop-turn.invariant.reads limit end es s declared h in
+    let part = rw (s0, c.in-None.is) at (c.in_ok-text.ensures.value limit end es g.s declared g.sees) in
+    parting_ends how end src c.args.start c.args.stop _ n (n - 1) c.loop-turn.cursor _ c.loop-turn.builder c.part_piece.new.builder part.0 g one part.1 part.2 refl
+
+pub run_parts-loop-turn-preserved : goal.run_parts-loop-turn-preserved
+run_parts-loop-turn-preserved t c = record {
+  source = c.in_ok-text.ensures.source ∙ c.loop-turn.invariant.source;
+  fine = c.in_ok-open_text-in-Some.ensures.fine;
+  reads = λ limit end es s declared h.
+      let src = c.args.cursor.now.text.now in
+      let how = how_of limit es c.args.how in
+      let n = length src - c.loop-turn._turn in
+      let one : n ≡ suc (length src - (c.loop-turn._turn + 1)) = omega arith in
+      let s0 = ap (λ t. t.now) c.loop-turn.invariant.source in
+      let g = c.loop-turn.invariant.reads limit end es s declared h in
+      let part = rw (s0, c.in-Some.is) at (c.in_ok-text.ensures.value limit end es g.s declared g.sees) in
+      let text = replacement_view c.in-Some.text in
+      let after = c.part_piece.new.cursor.pos in
+      let opened = c.in_ok-open_text-in-Some.ensures.value limit end es part.0 declared part.2 in
+      parting_on how end src c.args.start c.args.stop _ n (length src - (c.loop-turn._turn + 1)) c.loop-turn.cursor c.part_piece.new.cursor c.loop-turn.builder c.open_text.new.builder part.0 opened.0 text after g one part.1 opened.1
+      (sym (opener_at limit es c.args.how.deep c.args.how.main text after part.0 opened.0 opened.1)) opened.2;
+}
+
+pub run_parts-returns-clause-value : goal.run_parts-returns-clause-value
+run_parts-returns-clause-value t c = λ limit end es s declared h.
+    let src = c.args.cursor.now.text.now in
+    let over = c.loop-turn-test.false in
+    let none : length src - c.loop-turn._turn ≡ 0 = omega arith in
+    parting_out (how_of limit es c.args.how) end src c.args.start c.args.stop _ _ c.loop-turn.cursor _ c.loop-turn.builder (c.loop-turn.invariant.reads limit end es s declared h) none refl
+
+-- ---- a replacement text
+
+pub open_text-returns-in_err-within-clause-value : goal.open_text-returns-in_err-within-clause-value
+open_text-returns-in_err-within-clause-value t c = λ limit end es s declared h.
+    let p = err_from_is_err_and c.from_residual.result c.from_residual.ensures.1 in
+    rw (p.1, p.2) (opens_err limit es c.args.how.deep c.args.how.main (replacement_view c.args.text) c.args.after s c.in_err-within.field-0.0 (rw h.left_is at c.in_err-within.ensures.value))
+
+pub open_text-returns-in-Ok-clause-value : goal.open_text-returns-in-Ok-clause-value
+open_text-returns-in-Ok-clause-value t c = λ limit end es s declared h.
+    let b = c.args.builder.now in
+    let w = c.in_ok-within.ensures.how in
+    let k = b.opened.ok.0 in
+    let deep = opened_depth limit end s b h in
+    let base : c.len.result ≡ depth_of s.stack = omega arith in
+    let text = replacement_view c.args.text in
+    let read = rw (w, base) at (c.in-Ok.ensures.value limit end es (inner_state text s c.in_ok-within.inner) (rw w declared)
+    (record { limit_is = h.limit_is; shows = same_shows end s.stack s.done b _ h.shows refl refl refl refl refl; names = h.names; attributes = h.attributes; left_is = refl }) refl) in
+    let u = read.0 in (
+      outer_state c.args.how.main c.args.after s u,
+      opens_reads limit es c.args.how.deep (c.args.how.deep - 1) c.args.how.main text c.args.after s u c.in_ok-within.inner refl (rw h.left_is at c.in_ok-within.ensures.value) read.1,
+      record {
+        limit_is = read.2.limit_is;
+        shows = same_shows end u.stack u.done c.content_text.new.builder _ read.2.shows refl refl refl refl refl;
+        names = read.2.names;
+        attributes = read.2.attributes;
+        left_is = rw (h.left_is, read.2.left_is) at c.left_behind-builder.ensures;
+      },
+    )
+
+pub open_text-returns-in-Err-clause-value : goal.open_text-returns-in-Err-clause-value
+open_text-returns-in-Err-clause-value t c = λ limit end es s declared h.
+    let b = c.args.builder.now in
+    let w = c.in_ok-within.ensures.how in
+    let k = b.opened.ok.0 in
+    let deep = opened_depth limit end s b h in
+    let base : c.len.result ≡ depth_of s.stack = omega arith in
+    let text = replacement_view c.args.text in
+    let read = rw (w, base) at (c.in-Err.ensures.value limit end es (inner_state text s c.in_ok-within.inner) (rw w declared)
+    (record { limit_is = h.limit_is; shows = same_shows end s.stack s.done b _ h.shows refl refl refl refl refl; names = h.names; attributes = h.attributes; left_is = refl }) refl) in
+    rw c.within.ensures
+    (opens_refuses limit es c.args.how.deep (c.args.how.deep - 1) c.args.how.main c.args.text.text c.args.text.pos c.args.after s c.in_ok-within.inner c.in-Err.refused refl (rw h.left_is at c.in_ok-within.ensures.value) read)
+
+pub content_text-returns-then-is_at_end-clause-value : goal.content_text-returns-then-is_at_end-clause-value
+content_text-returns-then-is_at_end-clause-value t c = λ limit end es s declared h at.
+    let src = c.args.text.text.now in
+    let s0 = ap (λ t. t.now) c.loop-turn.invariant.source in
+    let g = c.loop-turn.invariant.reads limit end es s declared h at in
+    let past : length src ≤ g.s.at = rw (s0, g.sees.here) at (leb-true _ _ (sym c.is_at_end.ensures ∙ c.if-is_at_end.true)) in
+    text_at_end (how_of limit es c.args.how) end src _ _ c.loop-turn.cursor c.loop-turn.builder c.text_end.result g past (c.text_end.ensures limit end es g.s (rests_of limit end g.s c.loop-turn.cursor c.loop-turn.builder g.sees))
+
+pub content_text-returns-in_err-step-clause-value : goal.content_text-returns-in_err-step-clause-value
+content_text-returns-in_err-step-clause-value t c = λ limit end es s declared h at.
+    let src = c.args.text.text.now in
+    let n = length src - c.loop-turn._turn in
+    let one : n ≡ suc (n - 1) = omega arith in
+    let s0 = ap (λ t. t.now) c.loop-turn.invariant.source in
+    let g = c.loop-turn.invariant.reads limit end es s declared h at in
+    let more : g.s.at < length src = rw (s0, g.sees.here) at (leb-false _ _ (sym c.is_at_end.ensures ∙ c.if-is_at_end.false)) in
+    let p = err_from_is_err_and c.from_residual.result c.from_residual.ensures.1 in
+    rw (p.1, p.2) (text_fails (how_of limit es c.args.how) end src _ n (n - 1) c.loop-turn.cursor c.loop-turn.builder c.in_err-step.field-0.0 g one more (rw s0 at (c.in_err-step.ensures.value limit end es g.s declared g.sees)))
+
+pub content_text-loop-turn-preserved : goal.content_text-loop-turn-preserved
+content_text-loop-turn-preserved t c = record {
+  source = c.in_ok-step.ensures.source ∙ c.loop-turn.invariant.source;
+  fine = c.in_ok-step.ensures.fine;
+  reads = λ limit end es s declared h at.
+      let src = c.args.text.text.now in
+      let n = length src - c.loop-turn._turn in
+      let one : n ≡ suc (length src - (c.loop-turn._turn + 1)) = omega arith in
+      let s0 = ap (λ t. t.now) c.loop-turn.invariant.source in
+      let g = c.loop-turn.invariant.reads limit end es s declared h at in
+      let more : g.s.at < length src = rw (s0, g.sees.here) at (leb-false _ _ (sym c.is_at_end.ensures ∙ c.if-is_at_end.false)) in
+      let went = rw s0 at (c.in_ok-step.ensures.value limit end es g.s declared g.sees) in
+      text_on (how_of limit es c.args.how) end src _ n (length src - (c.loop-turn._turn + 1)) c.loop-turn.cursor _ c.loop-turn.builder _ _ g one more went;
+}
+
+pub content_text-returns-clause-value : goal.content_text-returns-clause-value
+content_text-returns-clause-value t c = λ limit end es s declared h at.
+    let src = c.args.text.text.now in
+    let g = c.loop-turn.invariant.reads limit end es s declared h at in
+    let over = c.loop-turn-test.false in
+    let none : length src - c.loop-turn._turn ≡ 0 = omega arith in
+    text_spent (how_of limit es c.args.how) end src _ _ c.loop-turn.cursor c.loop-turn.builder c.text_end-2.result g none (c.text_end-2.ensures limit end es g.s (rests_of limit end g.s c.loop-turn.cursor c.loop-turn.builder g.sees))
+
+-- ---- one construct
+
+pub step-end_tag-requires-clause-here : goal.step-end_tag-requires-clause-here
+step-end_tag-requires-clause-here t c =
+    let e = c.as_bytes-bytes.ensures.value in
+    let i = c.args.cursor.now.pos in
+    let l = c.as_bytes-bytes.ensures.len in
+    let more = c.if-cursor-bytes.false in
+    two_stand c.args.cursor.now.text.now i 60 47 (omega arith) (ap (λ (xs : List ℕ). slice_index xs i) (sym e) ∙ c.if-bytes-cursor-ne60.false) (ap (λ (xs : List ℕ). slice_index xs (i + 1)) (sym e) ∙ c.if-next-eq47.true)
+
+pub step-returns-then-bytes-cursor-ne60-clause-value : goal.step-returns-then-bytes-cursor-ne60-clause-value
+step-returns-then-bytes-cursor-ne60-clause-value t c = λ limit end es s declared h.
+    rw (step_is_run (how_of limit es c.args.how) c.args.cursor.now.text.now _ s c.args.cursor.now.pos c.as_bytes-bytes.ensures.value h.here c.if-bytes-cursor-ne60.true) (c.character_data.ensures.value limit end es s declared h)
+
+pub step-returns-in_err-end_tag-clause-value : goal.step-returns-in_err-end_tag-clause-value
+step-returns-in_err-end_tag-clause-value t c = λ limit end es s declared h.
+    let p = err_from_is_err_and c.from_residual.result c.from_residual.ensures.1 in
+    rw (
+      p.1,
+      p.2,
+      step_is_markup (how_of limit es c.args.how) c.args.cursor.now.text.now _ s c.args.cursor.now.pos 47 c.as_bytes-bytes.ensures.value h.here c.if-bytes-cursor-ne60.false c.if-cursor-bytes.false c.if-next-eq47.true (λ e. cc e),
+    )
+    (refused_too c.in_err-end_tag.field-0.0 _ (c.in_err-end_tag.ensures.value limit end es s h))
+
+pub step-returns-then-next-eq47-clause-value : goal.step-returns-then-next-eq47-clause-value
+step-returns-then-next-eq47-clause-value t c = λ limit end es s declared h.
+    rw (step_is_markup (how_of limit es c.args.how) c.args.cursor.now.text.now _ s c.args.cursor.now.pos 47 c.as_bytes-bytes.ensures.value h.here c.if-bytes-cursor-ne60.false c.if-cursor-bytes.false c.if-next-eq47.true (λ e. cc e))
+    (c.in_ok-end_tag.ensures.value limit end es s h)

@@ -1,0 +1,70 @@
+-- What comes of a document type declaration, where a resolver is asked as reading goes.
+use Rattle.std.specs.Prelude.{◌≡◌, ℕ, Bool, true, false, List, ◌++◌, Option, Result, Ok, Err, option_map, string_bytes}
+use Rattle.rox_grammar.specs.Doctype.{Request, Asked}
+use Rattle.rox_reading.specs.Refusals.{here, there, refused}
+use Rattle.rox_reading.specs.Doctype.{Asks, Definition, Dtd, defined, replies_of, AreTextReplies}
+use Rattle.rox_reading.specs.Machine.{at_place}
+use Rattle.rox_reading.specs.Answering.{Answered, Stops, Continues}
+use Rattle.rox_resolver.specs.Requests.{Reply, AreAllowed}
+use Rattle.rox_scan.specs.Doctypes.{replacement_view}
+use Rattle.rox_scan.specs.declared.cursor.Cursor.{Cursor}
+use Rattle.rox_build.specs.Named.{AreDeclared}
+use Rattle.rox_build.specs.Shown.{Sees}
+use Rattle.rox_build.specs.declared.builder.Builder.{Builder}
+use Rattle.rox_build.specs.declared.entities.Entities.{Entities}
+use Rattle.rox_build.specs.declared.refused.Refused.{Refused}
+use Rattle.rox_build.specs.declared.refused.Refused.TheVariants as code
+
+-- each answer may be given to its request, and is a text
+pub record AreGiven (allows : Request → Reply → Type 0) (asked : List Asked) : Type 0 where
+  pub allowed : AreAllowed allows asked
+  pub texts : AreTextReplies (replies_of asked)
+
+-- why a run stopped that asked for this, whatever replies follow. Nothing is said where memory ran out.
+abbrev pub StopsBy : {A : Type 0} → (Request → Reply → Type 0) → (run : List Reply → Asks A) → List Asked → Refused → Type 0
+StopsBy allows run asked code.Memory = Unit {0}
+StopsBy allows run asked (code.Fault f) = Stops run asked (here f)
+StopsBy allows run asked (code.Elsewhere source f) = Stops run asked (there source.now f)
+StopsBy allows run asked (code.Resolver at message) =
+    (request : Request) × allows request (Err (string_bytes message)) × Stops run asked (refused request at (string_bytes message))
+
+-- How it ended: what holds of what was asked and of the value, or why it stopped.
+abbrev pub Ends : {A T : Type 0} → (Request → Reply → Type 0) → (run : List Reply → Asks A) → List Asked → (T → Type 0) → Result T Refused → Type 0
+Ends allows run asked ok (Ok x) = ok x
+Ends allows run asked ok (Err e) = StopsBy allows run asked e
+
+abbrev pub Comes : {A T : Type 0} → (Request → Reply → Type 0) → (run : List Reply → Asks A) → (List Asked → T → Type 0) → Result T Refused → Type 0
+Comes allows run ok result = (asked : List Asked) × AreGiven allows asked × Ends allows run asked (ok asked) result
+
+-- an entity's definition was this text, or none, whatever replies follow
+abbrev pub IsDefined : Definition → ℕ → List Asked → Option Cursor → Type 0
+IsDefined d at asked text = (more : List Reply) → defined d at (replies_of asked ++ more) ≡ (asked, Ok (option_map replacement_view text, more))
+
+-- an entity was declared, up to the cursor's place
+pub record IsEntityRead (run : List Reply → Asks Dtd) (d : Dtd) (c : Cursor) (es : Entities) (asked : List Asked) : Type 0 where
+  pub dtd : Dtd
+  pub answered : Answered run asked dtd
+  pub state : dtd.state ≡ at_place c.pos d.state
+  pub declared : AreDeclared dtd.entities es
+
+-- a declaration was read, up to where the cursor, the builder and the entities stand
+pub record IsRead (limit end : ℕ) (run : List Reply → Asks Dtd) (c : Cursor) (b : Builder) (es : Entities) (asked : List Asked) : Type 0 where
+  pub dtd : Dtd
+  pub answered : Answered run asked dtd
+  pub sees : Sees limit end dtd.state c b
+  pub declared : AreDeclared dtd.entities es
+
+-- the same of a declaration that begins at i, of whose subset n more items may be read
+pub record IsGoing (limit end i n : ℕ) (src : List ℕ) (allows : Request → Reply → Type 0) (run : List Reply → Asks Dtd) (c : Cursor) (b : Builder) (es : Entities) : Type 0 where
+  pub asked : List Asked
+  pub given : AreGiven allows asked
+  pub dtd : Dtd
+  pub continues : Continues run asked limit i n src dtd
+  pub sees : Sees limit end dtd.state c b
+  pub declared : AreDeclared dtd.entities es
+
+-- how an item ended: the declaration is read, or goes on with one item less
+abbrev pub Turns : (limit end i n : ℕ) → List ℕ → (Request → Reply → Type 0) → (run : List Reply → Asks Dtd) → Cursor → Builder → Entities → Result Bool Refused → Type 0
+Turns limit end i n src allows run c b es (Ok true) = (asked : List Asked) × AreGiven allows asked × IsRead limit end run c b es asked
+Turns limit end i n src allows run c b es (Ok false) = IsGoing limit end i n src allows run c b es
+Turns limit end i n src allows run c b es (Err e) = (asked : List Asked) × AreGiven allows asked × StopsBy allows run asked e

@@ -1,0 +1,43 @@
+-- What the tables of a text are, and why there are none, where a resolver answers for external entities.
+use Rattle.std.specs.Prelude.{◌≡◌, ◌++◌, ℕ, Bool, List, Ok, Err, length}
+use Rattle.std.specs.String.{string_bytes}
+use Rattle.rox_grammar.specs.Forest.{Forest}
+use Rattle.rox_grammar.specs.Written.{Item, merge}
+use Rattle.rox_grammar.specs.Tree.{document_tree}
+use Rattle.rox_grammar.specs.Doctype.{Request, Asked}
+use Rattle.rox_reading.specs.Refusals as refusal
+use Rattle.rox_reading.specs.Refusals.{Refusal}
+use Rattle.rox_reading.specs.Doctype.{Reply, replies_of, AreTextReplies}
+use Rattle.rox_reading.specs.Answering.{Stops}
+use Rattle.rox_reading.specs.Whole.{has_doctype, reading}
+use Rattle.rox_resolver.specs.Requests.{AreAllowed}
+use Rattle.rox_build.specs.Lines.{Holds}
+use Rattle.rox_build.specs.declared.tables.Tables.{Tables}
+use Rattle.rox_build.specs.declared.refused.Refused.{Refused}
+use Rattle.rox_build.specs.declared.refused.Refused.TheVariants as refused
+
+-- These were asked, and the answers are allowed and are text. With them the text is read to these items, whatever replies follow;
+-- the tables are those of their tree, and it is told whether there is a document type declaration.
+pub record Built (limit : ℕ) (allow : Bool) (allows : Request → Reply → Type 0) (text : List ℕ) (tables : Tables) (dtd : Bool) : Type 0 where
+  pub asked : List Asked
+  pub allowed : AreAllowed allows asked
+  pub texts : AreTextReplies (replies_of asked)
+  pub tops : Forest Item
+  pub read : (more : List Reply) → reading limit allow (replies_of asked ++ more) text ≡ (asked, Ok tops)
+  pub seen : dtd ≡ has_doctype limit text
+  pub holds : Holds tables (document_tree (length text) (merge tops))
+
+-- the same of a text that is refused so, whatever replies follow
+pub record BuiltNone (limit : ℕ) (allow : Bool) (allows : Request → Reply → Type 0) (text : List ℕ) (e : Refusal) : Type 0 where
+  pub asked : List Asked
+  pub allowed : AreAllowed allows asked
+  pub texts : AreTextReplies (replies_of asked)
+  pub stops : Stops (λ replies. reading limit allow replies text) asked e
+
+-- Nothing is said where memory ran out. The resolver's own refusal is one that it may reply to that request.
+abbrev pub BuiltRefusal : (limit : ℕ) (allow : Bool) (allows : Request → Reply → Type 0) (text : List ℕ) → Refused → Type 0
+BuiltRefusal limit allow allows text refused.Memory = Unit {0}
+BuiltRefusal limit allow allows text (refused.Fault f) = BuiltNone limit allow allows text (refusal.here f)
+BuiltRefusal limit allow allows text (refused.Elsewhere source f) = BuiltNone limit allow allows text (refusal.there source.now f)
+BuiltRefusal limit allow allows text (refused.Resolver at message) =
+    (request : Request) × allows request (Err (string_bytes message)) × BuiltNone limit allow allows text (refusal.refused request at (string_bytes message))

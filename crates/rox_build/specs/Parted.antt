@@ -1,0 +1,24 @@
+-- A part of a run, and its piece.
+use Rattle.std.specs.Prelude.{◌≡◌, ℕ, ◌-◌, List, Option, Result, Ok, Err}
+use Rattle.rox_grammar.specs.declared.fault.Fault.{Fault}
+use Rattle.rox_reading.specs.Lexical.{◌>>=◌}
+use Rattle.rox_reading.specs.State.{State}
+use Rattle.rox_reading.specs.Values.{Next, run_part, part_text}
+use Rattle.rox_reading.specs.Machine.{How, with_piece}
+use Rattle.rox_scan.specs.Gives.{Fails}
+use Rattle.rox_scan.specs.declared.cursor.Cursor.{Cursor}
+use Rattle.rox_scan.specs.declared.failure.Failure.{Failure}
+use Rattle.rox_build.specs.Values.{next_view}
+use Rattle.rox_build.specs.Shown.{Rests}
+use Rattle.rox_build.specs.declared.builder.Builder.{Builder}
+
+-- a part of the run from start up to stop, from the state's place on: the state with its piece, if it has one, and what ends it
+abbrev pub next_part : How → List ℕ → (start stop : ℕ) → State → Result (State × Next) Fault
+next_part how src start stop s =
+    run_part how.values.main how.values.entities (stop - s.at) src stop s.at >>= λ x.
+    with_piece how.limit s start stop (part_text how.values.main x.0) >>= λ t. Ok (t, x.1)
+
+-- it was read
+abbrev pub Parted : ℕ → ℕ → Result (Option Cursor) Failure → Cursor → Builder → Result (State × Next) Fault → Type 0
+Parted limit end (Ok next) c b read = (t : State) × (read ≡ Ok (t, next_view next c.pos)) × Rests limit end t b
+Parted limit end (Err e) c b read = Fails e read

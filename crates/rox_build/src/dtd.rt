@@ -1,0 +1,190 @@
+//! Document type declarations (XML 1.0 section 2.8): their entities, and the comments and processing instructions of their
+//! internal subsets, which are children of the root node. A resolver is asked for each external entity, at its declaration.
+
+ghost use Rattle.std.specs.Prelude.{◌≡◌, ◌<◌, ◌++◌, ℕ, suc, Bool, List, OnOk, length, slice_index, true};
+ghost use Rattle.rox_grammar.specs.Marks.{stands};
+ghost use Rattle.rox_grammar.specs.Words.{word_text};
+ghost use Rattle.rox_grammar.specs.declared.fault.Word.TheVariants as word;
+ghost use Rattle.rox_reading.specs.Doctype as reading;
+ghost use Rattle.rox_reading.specs.Doctype.{Asks, Dtd};
+ghost use Rattle.rox_reading.specs.Answering.{left_with};
+ghost use Rattle.rox_resolver.specs.Requests.{Reply, Allows, MayAsk};
+ghost use Rattle.rox_scan.specs.Doctypes.{definition_view, request_view};
+ghost use Rattle.rox_build.specs.Asking.{Comes, IsDefined, IsEntityRead, IsGoing, IsRead, Turns};
+ghost use Rattle.rox_build.specs.Named.{AreDeclared};
+ghost use Rattle.rox_build.specs.Shown.{Fine, Sees};
+
+use crate::builder::Builder;
+use crate::entities::Entities;
+use crate::reader::{comment, instruction};
+use crate::refused::Refused;
+use rox_grammar::fault::{Due, Fault, Word};
+use rox_resolver::resolver::{EntityResolver, ask};
+use rox_scan::cursor::Cursor;
+use rox_scan::doctype::{Definition, ExternalId, replacement_in};
+use rox_scan::runs::is_at;
+use std::alloc::Global;
+
+/// The replacement text that is answered for an external entity, if any is. The request ends at `at`.
+fn answer_for<'input, R: EntityResolver<'input>>(
+    id: ExternalId<'input>,
+    at: usize,
+    resolver: &Option<R>,
+) -> Result<Option<Cursor<'input>>, Refused<'input>>
+    requires { MayAsk R.can_resolve resolver.now }
+    ensures { Comes (Allows R.allows resolver.now) (reading.defined (reading.outer (request_view id.entry)) at) (IsDefined (reading.outer (request_view id.entry)) at) result }
+{
+    match ask(resolver, id.public_id, id.uri) {
+        Ok(Some(answer)) => match replacement_in(answer) {
+            Ok(text) => Ok(Some(text)),
+            Err(fault) => Err(Refused::Elsewhere(answer, fault)),
+        },
+        Ok(None) => Ok(None),
+        Err(message) => Err(Refused::Resolver(at, message)),
+    }
+}
+
+/// The replacement text of a definition that ends at `at`, if it has one.
+fn text_of<'input, R: EntityResolver<'input>>(
+    definition: Definition<'input>,
+    at: usize,
+    resolver: &Option<R>,
+) -> Result<Option<Cursor<'input>>, Refused<'input>>
+    requires { MayAsk R.can_resolve resolver.now }
+    ensures { Comes (Allows R.allows resolver.now) (reading.defined (definition_view definition.entry) at) (IsDefined (definition_view definition.entry) at) result }
+{
+    match definition {
+        Definition::Inner(text) => Ok(Some(text)),
+        Definition::Outer(id) => answer_for(id, at, resolver),
+    }
+}
+
+/// The declaration of an entity, from `<!ENTITY` (XML 1.0 [70] EntityDecl).
+fn entity<'input, R: EntityResolver<'input>>(
+    cursor: &mut Cursor<'input>,
+    entities: &mut Entities<'input>,
+    resolver: &Option<R>,
+) -> Result<(), Refused<'input>>
+    requires here { stands (word_text word.EntityStart) cursor.old.text.now cursor.old.pos ≡ true }
+    requires may { MayAsk R.can_resolve resolver.now }
+    ensures value { (d : Dtd) → cursor.old.pos ≡ d.state.at → AreDeclared d.entities entities.old
+        → Comes (Allows R.allows resolver.now) (λ replies. reading.entity_step cursor.old.text.now (left_with replies d))
+        (λ asked x. IsEntityRead (λ replies. reading.entity_step cursor.old.text.now (left_with replies d)) d cursor.new entities.new asked) result }
+    ensures source { cursor.new.text ≡ cursor.old.text }
+{
+    let head = cursor.entity_head()?;
+    let definition = cursor.definition(head.parameter)?;
+    let text = text_of(definition, cursor.pos, resolver)?;
+    cursor.spaces();
+    cursor.byte(b'>')?;
+    if let Some(text) = text {
+        entities.declare(head.name, text)?;
+    }
+    Ok(())
+}
+
+/// An item of the internal subset, behind any white space, or the subset's end (XML 1.0 [28b] intSubset). Answers whether that
+/// is the end of the declaration, which begins at `start`.
+fn item<'input, R: EntityResolver<'input>>(
+    alloc: Global,
+    cursor: &mut Cursor<'input>,
+    builder: &mut Builder<'input>,
+    entities: &mut Entities<'input>,
+    resolver: &Option<R>,
+    start: usize,
+) -> Result<bool, Refused<'input>>
+    requires inside { cursor.old.pos < length cursor.old.text.now }
+    requires may { MayAsk R.can_resolve resolver.now }
+    requires fine { Fine builder.old.tables builder.old.opened.items }
+    ensures value { (limit end n m : ℕ) (run : List Reply → Asks Dtd) → n ≡ suc m
+        → IsGoing limit end start n cursor.old.text.now (Allows R.allows resolver.now) run cursor.old builder.old entities.old
+        → Turns limit end start m cursor.old.text.now (Allows R.allows resolver.now) run cursor.new builder.new entities.new result }
+    ensures fine { OnOk result (Fine builder.new.tables builder.new.opened.items) }
+    ensures source { cursor.new.text ≡ cursor.old.text }
+{
+    cursor.spaces();
+    if cursor.starts(Word::EntityStart) {
+        entity(cursor, entities, resolver)?;
+        return Ok(false);
+    }
+    if cursor.starts(Word::CommentStart) {
+        comment(alloc, cursor, builder)?;
+        return Ok(false);
+    }
+    if cursor.starts(Word::PIStart) {
+        instruction(alloc, cursor, builder)?;
+        return Ok(false);
+    }
+    if cursor.is_passed_over() {
+        cursor.pass_over(start)?;
+        return Ok(false);
+    }
+    if !is_at(cursor.text, cursor.pos, b']') {
+        return Err(Refused::Fault(Fault::UnknownToken(cursor.pos)));
+    }
+    cursor.subset_end()?;
+    Ok(true)
+}
+
+/// The internal subset, from behind its `[` to the end of the declaration, which begins at `start`. It ends without a fault
+/// where the text does right behind `[` or an item: what has to follow the declaration is missing then.
+fn subset<'input, R: EntityResolver<'input>>(
+    alloc: Global,
+    cursor: &mut Cursor<'input>,
+    builder: &mut Builder<'input>,
+    entities: &mut Entities<'input>,
+    resolver: &Option<R>,
+    start: usize,
+) -> Result<(), Refused<'input>>
+    requires may { MayAsk R.can_resolve resolver.now }
+    requires fine { Fine builder.old.tables builder.old.opened.items }
+    ensures value { (limit end : ℕ) (d : Dtd) → Sees limit end d.state cursor.old builder.old → AreDeclared d.entities entities.old
+        → Comes (Allows R.allows resolver.now) (λ replies. reading.subset limit start (length cursor.old.text.now) cursor.old.text.now (left_with replies d))
+        (λ asked x. IsRead limit end (λ replies. reading.subset limit start (length cursor.old.text.now) cursor.old.text.now (left_with replies d)) cursor.new builder.new entities.new asked) result }
+    ensures fine { OnOk result (Fine builder.new.tables builder.new.opened.items) }
+    ensures source { cursor.new.text ≡ cursor.old.text }
+{
+    for _turn in 0..cursor.text.len() {
+        if cursor.is_at_end() {
+            return Ok(());
+        }
+        if item(alloc, cursor, builder, entities, resolver, start)? {
+            return Ok(());
+        }
+    }
+    Ok(())
+}
+
+/// A document type declaration, from `<!DOCTYPE` (XML 1.0 [28] doctypedecl).
+pub fn document_type<'input, R: EntityResolver<'input>>(
+    alloc: Global,
+    cursor: &mut Cursor<'input>,
+    builder: &mut Builder<'input>,
+    entities: &mut Entities<'input>,
+    resolver: &Option<R>,
+) -> Result<(), Refused<'input>>
+    requires here { stands (word_text word.DoctypeStart) cursor.old.text.now cursor.old.pos ≡ true }
+    requires may { MayAsk R.can_resolve resolver.now }
+    requires fine { Fine builder.old.tables builder.old.opened.items }
+    ensures value { (limit end : ℕ) (d : Dtd) → Sees limit end d.state cursor.old builder.old → AreDeclared d.entities entities.old
+        → Comes (Allows R.allows resolver.now) (λ replies. reading.doctype_step limit cursor.old.text.now (left_with replies d))
+        (λ asked x. IsRead limit end (λ replies. reading.doctype_step limit cursor.old.text.now (left_with replies d)) cursor.new builder.new entities.new asked) result }
+    ensures fine { OnOk result (Fine builder.new.tables builder.new.opened.items) }
+    ensures source { cursor.new.text ≡ cursor.old.text }
+{
+    let start = cursor.pos;
+    cursor.doctype_head()?;
+    if is_at(cursor.text, cursor.pos, b'[') {
+        cursor.advance();
+        return subset(alloc, cursor, builder, entities, resolver, start);
+    }
+    if cursor.is_at_end() {
+        return Err(Refused::Fault(Fault::UnexpectedEndOfStream));
+    }
+    let here = cursor.text.as_bytes()[cursor.pos];
+    if here != b'>' {
+        return Err(Refused::Fault(Fault::InvalidChar2(Due::SubsetOrEnd, here, cursor.pos)));
+    }
+    cursor.advance();
+    Ok(())
+}
