@@ -11,8 +11,10 @@ use Rattle.rox_grammar.specs.Forest.{Forest, Nil, Cons}
 use Rattle.rox_grammar.specs.Written as written
 use Rattle.rox_grammar.specs.Written.{Name, Declaration, Tag, Item}
 use Rattle.rox_grammar.specs.Tree.{Node, xml_uri, same_prefix, is_declared, listed, uri_of, none_if_empty, attribute_namespace, attribute_in, resolved}
+use Rattle.rox_grammar.specs.Doctype.{Asked}
 use Rattle.rox_grammar.specs.Document.{IsTreeOf}
-use Rattle.roxmltree.proofs.CharItems.{WrittenChars, ItemsChars, parse_items}
+use Rattle.rox_theory.specs.CharItems.{WrittenChars, ItemsChars}
+use Rattle.rox_theory.proofs.CharItems.{parse_items}
 use Rattle.roxmltree.specs.Lawful.{IsCharText, DeclarationChars, AttributeChars, AllChars}
 
 -- the URI of `xml`
@@ -65,7 +67,7 @@ resolved_chars above (Cons (written.Comment a e t) c r) h k = (k.0, resolved_cha
 resolved_chars above (Cons (written.PI a e t o) c r) h k = (k.0, resolved_chars above c h k.1, resolved_chars above r h k.2)
 
 -- in a document
-pub tree_chars : (src : List ℕ) (limit : ℕ) (tree : Forest Node) → IsUtf8 src → IsTreeOf src limit tree → AllChars tree
+pub tree_chars : {dtd : Bool} {asked : List Asked} (src : List ℕ) (limit : ℕ) (tree : Forest Node) → IsUtf8 src → IsTreeOf src dtd asked limit tree → AllChars tree
 tree_chars src limit tree utf8 h =
     subst (λ (f : Forest Node). AllChars f) (sym h.shown)
-    (tt, resolved_chars [] h.written (All-nil DeclarationChars) (parse_items src h.written utf8 h.parse), tt)
+    (tt, resolved_chars [] h.written (All-nil DeclarationChars) (parse_items src _ _ h.written utf8 h.parse), tt)

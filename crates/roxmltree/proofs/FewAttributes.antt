@@ -1,10 +1,11 @@
 -- How many attributes an element has: no more than its document may have.
-use Rattle.std.proofs.Common.{ℕ, ◌^◌, ◌<◌, ◌≤◌, List, [], length, sym, subst, arith}
+use Rattle.std.proofs.Common.{Bool, ℕ, ◌^◌, ◌<◌, ◌≤◌, List, [], length, sym, subst, arith}
 use Rattle.std.proofs.lemmas.List.{length-map}
 use Rattle.rox_grammar.specs.Forest.{Forest, Nil, Cons}
 use Rattle.rox_grammar.specs.Written as written
 use Rattle.rox_grammar.specs.Written.{Declaration, Item}
 use Rattle.rox_grammar.specs.Tree.{Node, attribute_in, listed, resolved}
+use Rattle.rox_grammar.specs.Doctype.{Asked}
 use Rattle.rox_grammar.specs.Document.{attribute_count, most_attributes, IsTreeOf}
 use Rattle.roxmltree.specs.Says.{node_at, attributes_of}
 use Rattle.roxmltree.specs.Each.{Each}
@@ -24,7 +25,7 @@ few_resolved most above (Cons (written.Comment a e t) c r) h = (omega arith, few
 few_resolved most above (Cons (written.PI a e t o) c r) h = (omega arith, few_resolved most above c (omega arith), few_resolved most above r (omega arith))
 
 -- in a document
-pub few_attributes : (src : List ℕ) (limit : ℕ) (tree : Forest Node) (id : ℕ) → IsTreeOf src limit tree → length (attributes_of (node_at tree id)) < 2 ^ 32
+pub few_attributes : {dtd : Bool} {asked : List Asked} (src : List ℕ) (limit : ℕ) (tree : Forest Node) (id : ℕ) → IsTreeOf src dtd asked limit tree → length (attributes_of (node_at tree id)) < 2 ^ 32
 few_attributes src limit tree id h =
     let all : Each (HasFew most_attributes) tree =
     subst (λ (f : Forest Node). Each (HasFew most_attributes) f) (sym h.shown) (omega arith, few_resolved most_attributes [] h.written h.within.attributes, tt) in

@@ -7,7 +7,7 @@ use Rattle.rox_grammar.specs.Written.{Name, Attribute, Tag, Item}
 use Rattle.rox_grammar.specs.Names.{spaces_end}
 use Rattle.rox_grammar.specs.Constructs.{IsCData, IsEnd}
 use Rattle.rox_grammar.specs.Content.{IsAttribute, Attributes, no_more, one_more, TagEnds, opened, closed, IsTag, IsMisc, comment, instruction}
-use Rattle.rox_grammar.specs.Document.{no_entities}
+use Rattle.rox_grammar.specs.Entities.{no_entities}
 use Rattle.rox_theory.proofs.Basics.{mark_from_le, run_end_le}
 use Rattle.rox_theory.proofs.NameLemmas.{qname_le}
 use Rattle.rox_theory.proofs.LiteralLemmas.{literal_le}

@@ -4,6 +4,9 @@ pub mod Rows
 pub mod Bare
 pub mod Tops
 pub mod Parsed
+pub mod Telling
+pub mod Plain
+pub mod Bounded
 pub mod Apart
 pub mod Once
 pub mod Entries
@@ -14,9 +17,6 @@ pub mod Stretches
 pub mod Ranges
 pub mod Few
 pub mod FewAttributes
-pub mod CharTexts
-pub mod CharRuns
-pub mod CharItems
 pub mod CharNodes
 pub mod Forward
 pub mod Nested
@@ -28,3 +28,5 @@ pub mod Everywhere
 pub mod Scopes
 pub mod Nearest
 pub mod OnlyOne
+pub mod Contained
+pub mod Sliced

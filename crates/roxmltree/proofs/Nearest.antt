@@ -9,6 +9,7 @@ use Rattle.rox_grammar.specs.Written.{Declaration, Item, Element, Text, Comment,
 use Rattle.rox_grammar.specs.Tree as tree
 use Rattle.rox_grammar.specs.Tree.{Node, is_declared, uri_of, scope_in, node_in, resolved, document_tree}
 use Rattle.rox_grammar.specs.WellNamed.{AreDeclarable, AreWellNamed}
+use Rattle.rox_grammar.specs.Doctype.{Asked}
 use Rattle.rox_grammar.specs.Document.{ParseOf}
 use Rattle.rox_reading.proofs.Forests.{size-resolved}
 use Rattle.roxmltree.specs.Places.{Place, nowhere, preorder, place}
@@ -222,7 +223,7 @@ listed_by_none (tree.PI start end target value) p h = refl
 -- ---- the tree of a document, however it is given
 
 module _ (src : List ℕ) (tops : Forest Item) (tree : Forest Node) (shown : tree ≡ document_tree (length src) tops) where
-  pub found_is_nearest : ParseOf src tops → (id : ℕ) (p : Option (List ℕ)) (u : List ℕ) → IsElementAt tree id → p ≢ xml → (listed_uri tree id p ≡ Some u) ↔ IsNearest tops tree id p u
+  pub found_is_nearest : {dtd : Bool} {asked : List Asked} → ParseOf src dtd asked tops → (id : ℕ) (p : Option (List ℕ)) (u : List ℕ) → IsElementAt tree id → p ≢ xml → (listed_uri tree id p ≡ Some u) ↔ IsNearest tops tree id p u
   found_is_nearest parse id p u =
       subst (λ (t : Forest Node). IsElementAt t id → p ≢ xml → (listed_uri t id p ≡ Some u) ↔ IsNearest tops t id p u) (sym shown) (found_in (length src) tops parse.well_named id p u)
 

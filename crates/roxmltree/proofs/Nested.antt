@@ -4,7 +4,9 @@ use Rattle.rox_grammar.specs.Forest.{Forest, Nil, Cons, join}
 use Rattle.rox_grammar.specs.Written.{Declaration, Item, Element, Text, Comment, PI, glue, merge}
 use Rattle.rox_grammar.specs.Tree.{Node, scope_in, resolved}
 use Rattle.rox_grammar.specs.Content.{Sign, piece, Parts, last_part, then_entity, IsMisc, comment, instruction, IsElement, empty, nest, Content, ends, run, cdata, misc, node}
-use Rattle.rox_grammar.specs.Document.{no_entities, Misc, no_misc, space, an_item, ParseOf, IsTreeOf}
+use Rattle.rox_grammar.specs.Document.{Misc, no_misc, space, an_item, ParseOf, IsTreeOf}
+use Rattle.rox_theory.proofs.Without.{parse_without}
+use Rattle.rox_grammar.specs.Entities.{no_entities}
 use Rattle.rox_reading.proofs.Forests.{join-nil}
 use Rattle.roxmltree.specs.Located.{RangesNested}
 use Rattle.roxmltree.proofs.Forward.{misc_forward, cdata_forward, end_forward, tag_forward}
@@ -109,8 +111,9 @@ top_nested src i j items (no_misc _) = omega arith
 top_nested src i j items (space _ _ _ is rest) = from_before i (i + 1) j items (omega arith) (top_nested src (i + 1) j items rest)
 top_nested src i j items (an_item _ k _ item others is rest) = misc_nested src i k j item others is (top_nested src k j others rest)
 
-parse_nested : (src : List ℕ) (tops : Forest Item) → ParseOf src tops → Nested 0 (length src) tops
-parse_nested src tops p =
+parse_nested : (src : List ℕ) (tops : Forest Item) → ParseOf src false [] tops → Nested 0 (length src) tops
+parse_nested src tops q =
+    let p = (parse_without src [] tops q).1 in
     let front = from_before 0 p.declared_to p.start p.before (omega arith) (top_nested src p.declared_to p.start p.before p.misc_before) in
     let one = element_nested src p.start p.end 255 p.left p.one p.element in
     let back = top_nested src p.end (length src) p.after p.misc_after in
@@ -118,8 +121,9 @@ parse_nested src tops p =
     subst (λ (f : Forest Item). Nested 0 (length src) f) (sym p.is_tree) all
 
 -- a text with a parse has a byte
-parse_some : (src : List ℕ) (tops : Forest Item) → ParseOf src tops → 0 < length src
-parse_some src tops p =
+parse_some : (src : List ℕ) (tops : Forest Item) → ParseOf src false [] tops → 0 < length src
+parse_some src tops q =
+    let p = (parse_without src [] tops q).1 in
     let back = nested_le p.end (length src) p.after (top_nested src p.end (length src) p.after p.misc_after) in
     omega (arith, back, element_some p.start p.end 255 p.left p.one p.element)
   where
@@ -143,7 +147,7 @@ resolved_nested above from to (Cons (Comment a e t) c r) h = (h.0, h.1, resolved
 resolved_nested above from to (Cons (PI a e t o) c r) h = (h.0, h.1, resolved_nested above a e c h.2, resolved_nested above e to r h.3)
 
 -- in a document
-pub ranges_nested : (src : List ℕ) (limit : ℕ) (tree : Forest Node) → IsTreeOf src limit tree → RangesNested 0 (length src) tree
+pub ranges_nested : (src : List ℕ) (limit : ℕ) (tree : Forest Node) → IsTreeOf src false [] limit tree → RangesNested 0 (length src) tree
 ranges_nested src limit tree h =
     let tops = resolved_nested [] 0 (length src) h.written (parse_nested src h.written h.parse) in
     subst (λ (f : Forest Node). RangesNested 0 (length src) f) (sym h.shown) (omega arith, parse_some src h.written h.parse, tops, omega arith)

@@ -10,6 +10,7 @@ use Rattle.rox_grammar.specs.Written as written
 use Rattle.rox_grammar.specs.Written.{Declaration, Item}
 use Rattle.rox_grammar.specs.Tree.{Node, Attribute, same_prefix, is_declared, listed, attribute_in, resolved}
 use Rattle.rox_grammar.specs.WellNamed.{AreDeclarable, AreDistinct, AreWellNamed}
+use Rattle.rox_grammar.specs.Doctype.{Asked}
 use Rattle.rox_grammar.specs.Document.{IsTreeOf}
 use Rattle.roxmltree.specs.Lawful.{PrefixesOnce, same_expanded, NamesOnce, NamesDistinct}
 
@@ -101,6 +102,6 @@ resolved_distinct above (Cons (written.Comment a e t) c r) once h = ((tt, tt), r
 resolved_distinct above (Cons (written.PI a e t o) c r) once h = ((tt, tt), resolved_distinct above c once h.1, resolved_distinct above r once h.2)
 
 -- in a document
-pub names_distinct : (src : List ℕ) (limit : ℕ) (tree : Forest Node) → IsTreeOf src limit tree → NamesDistinct tree
+pub names_distinct : {dtd : Bool} {asked : List Asked} (src : List ℕ) (limit : ℕ) (tree : Forest Node) → IsTreeOf src dtd asked limit tree → NamesDistinct tree
 names_distinct src limit tree h =
     subst (λ (f : Forest Node). NamesDistinct f) (sym h.shown) ((tt, tt), resolved_distinct [] h.written tt h.parse.well_named, tt)

@@ -1,54 +1,107 @@
 -- What is read of a text is its tree, and what is refused has none.
-use Rattle.std.proofs.Common.{◌≡◌, ℕ, ◌+◌, ◌≤◌, List, [], length, refl, ap, ◌∙◌, arith}
-use Rattle.std.specs.Prelude.{IsUtf8, Ok, Err}
+use Rattle.std.proofs.Common.{true, false, ◌≡◌, ℕ, ◌+◌, ◌≤◌, Bool, List, [], ◌++◌, length, refl, ap, sym, subst, ◌∙◌, arith, true≢false}
+use Rattle.std.proofs.lemmas.List.{append-nil}
+use Rattle.std.specs.Prelude.{IsUtf8, Result, Ok, Err}
 use Rattle.rox_grammar.specs.declared.fault.Fault.{Fault}
 use Rattle.rox_grammar.specs.Forest.{Forest, size}
 use Rattle.rox_grammar.specs.Written.{Item}
 use Rattle.rox_grammar.specs.Tree.{Node, document_tree}
-use Rattle.rox_grammar.specs.Document.{ParseOf, IsTreeOf}
-use Rattle.rox_reading.specs.Machine.{reading}
-use Rattle.rox_theory.proofs.Constructs.{agrees}
-use Rattle.rox_theory.proofs.Whole.{read_is_parse, refused_has_none}
-use Rattle.rox_theory.proofs.Whole as theory
-use Rattle.rox_theory.proofs.TagOnce.{one_tag}
+use Rattle.rox_grammar.specs.Doctype.{Request, Asked}
+use Rattle.rox_grammar.specs.Document.{ParseOf, IsTreeOf, IsWithinLimits, Permits}
+use Rattle.rox_reading.specs.Refusals.{Refusal, here}
+use Rattle.rox_reading.specs.Doctype.{Reply, replies_of, AreTextReplies}
+use Rattle.rox_reading.specs.Whole.{has_doctype, reading}
+use Rattle.rox_reading.proofs.Forests.{size-resolved}
+use Rattle.rox_theory.proofs.DoctypeAgreement.{doctypes_agree}
+use Rattle.rox_theory.proofs.OneParse as once
+use Rattle.rox_theory.proofs.OneParse.{one_plain_parse}
+use Rattle.rox_theory.proofs.Tops.{parse_merged}
+use Rattle.rox_theory.proofs.Whole.{seen_parse, doctype_seen, plain_refused, asks_nothing_there}
+use Rattle.rox_resolver.specs.Requests.{AreAllowed}
+use Rattle.rox_build.specs.Built.{Built}
 use Rattle.rox_build.specs.Lines.{Holds}
 use Rattle.rox_build.specs.declared.tables.Tables.{Tables}
-use Rattle.rox_reading.proofs.Forests.{size-resolved}
+use Rattle.roxmltree.specs.Doc.{Doc}
+use Rattle.roxmltree.specs.Told.{IsRead}
 use Rattle.roxmltree.specs.Whole.{HoldsDocument}
 use Rattle.roxmltree.proofs.Rows.{row_count}
 
--- what is read is the tree
-pub read_tree : (limit : ℕ) (src : List ℕ) (tops : Forest Item) → IsUtf8 src → reading limit src ≡ Ok tops → IsTreeOf src limit (document_tree (length src) tops)
-read_tree limit src tops utf8 h =
-    let p = read_is_parse src (agrees src utf8) limit tops utf8 h in
-    record { written = tops; parse = p.0; within = p.1; shown = refl }
+-- ---- what is read
 
--- tables of what is read are a document's: there are fewer than 2^32 rows, whatever the limit is
-pub read_holds : (limit : ℕ) (src : List ℕ) (tops : Forest Item) (t : Tables) → IsUtf8 src → reading limit src ≡ Ok tops → Holds t (document_tree (length src) tops)
-    → HoldsDocument src t
-read_holds limit src tops t utf8 h holds =
-    let p = read_is_parse src (agrees src utf8) limit tops utf8 h in
-    let nodes : size tops + 1 ≤ 4294967295 = omega (arith, holds.few, row_count t (document_tree (length src) tops) holds, size-resolved [] tops) in
-    record {
-      tree = document_tree (length src) tops;
-      holds = holds;
-      parsed = record {
-        written = tops;
-        parse = p.0;
-        within = record { nodes = nodes; attributes = p.1.attributes; namespaces = p.1.namespaces };
-        shown = refl;
-      };
-      utf8 = utf8;
-    }
+module _ (limit : ℕ) (allow : Bool) (allows : Request → Reply → Type 0) (src : List ℕ) (utf8 : IsUtf8 src) where
+  -- where nothing is replied beyond the answers
+  pub read_alone : (asked : List Asked) (x : Result (Forest Item) Refusal) → reading limit allow (replies_of asked ++ []) src ≡ (asked, x) → reading limit allow (replies_of asked) src ≡ (asked, x)
+  read_alone asked x h = ap (λ (rs : List Reply). reading limit allow rs src) (sym (append-nil (replies_of asked))) ∙ h
 
--- what is refused has no tree
-pub refused_tree : (limit : ℕ) (src : List ℕ) (f : Fault) (tree : Forest Node) → IsUtf8 src → reading limit src ≡ Err f → IsTreeOf src limit tree → ⊥
-refused_tree limit src f tree utf8 h p = refused_has_none src (agrees src utf8) limit f p.written h p.parse p.within
+  -- it is a parse
+  parse_read : (asked : List Asked) (tops : Forest Item) → AreTextReplies (replies_of asked) → reading limit allow (replies_of asked ++ []) src ≡ (asked, Ok tops)
+      → ParseOf src (has_doctype limit src) asked tops × IsWithinLimits limit tops × Permits allow (has_doctype limit src)
+  parse_read asked tops texts h = seen_parse src utf8 allow (doctypes_agree src utf8 allow) limit (replies_of asked) asked tops texts (read_alone asked (Ok tops) h)
 
--- a text has one tree
-pub one_tree : (src : List ℕ) (limit most : ℕ) (s t : Forest Node) → IsUtf8 src → IsTreeOf src limit s → IsTreeOf src most t → s ≡ t
-one_tree src limit most s t utf8 = theory.one_tree src (agrees src utf8) (one_tag src utf8) limit most s t
+  -- and the tree of what is read
+  pub read_tree : (d : Doc) → IsRead limit allow allows src d → (asked : List Asked) × AreAllowed allows asked × Permits allow d.dtd × IsTreeOf src d.dtd asked limit d.tree
+  read_tree d r =
+      let p = parse_read r.asked r.tops r.texts (r.read []) in (
+        r.asked,
+        r.allowed,
+        subst (Permits allow) (sym r.seen) p.2,
+        record { written = r.tops; parse = subst (λ (dtd : Bool). ParseOf src dtd r.asked r.tops) (sym r.seen) p.0; within = p.1; shown = r.shown },
+      )
+
+  -- the tables have no two texts to join at the top
+  pub built_holds : (t : Tables) (dtd : Bool) (b : Built limit allow allows src t dtd) → Holds t (document_tree (length src) b.tops)
+  built_holds t dtd b =
+      let p = parse_read b.asked b.tops b.texts (b.read []) in
+      subst (λ (f : Forest Item). Holds t (document_tree (length src) f)) (parse_merged src (has_doctype limit src) b.asked b.tops p.0) b.holds
+
+  -- tables of what is read are a document's: there are fewer than 2^32 rows, whatever the limit is
+  pub built_document : (t : Tables) (dtd : Bool) → Built limit allow allows src t dtd → HoldsDocument src dtd t
+  built_document t dtd b =
+      let p = parse_read b.asked b.tops b.texts (b.read []) in
+      let holds = built_holds t dtd b in
+      let nodes : size b.tops + 1 ≤ 4294967295 = omega (arith, holds.few, row_count t (document_tree (length src) b.tops) holds, size-resolved [] b.tops) in
+      record {
+        tree = document_tree (length src) b.tops;
+        holds = holds;
+        asked = b.asked;
+        parsed = record {
+          written = b.tops;
+          parse = subst (λ (dtd : Bool). ParseOf src dtd b.asked b.tops) (sym b.seen) p.0;
+          within = record { nodes = nodes; attributes = p.1.attributes; namespaces = p.1.namespaces };
+          shown = refl;
+        };
+        utf8 = utf8;
+      }
+
+-- ---- trees
+
+-- what is refused where no document type declaration may stand has no tree without one
+pub refused_tree : (limit : ℕ) (src : List ℕ) (f : Fault) (tree : Forest Node) → IsUtf8 src → reading limit false [] src ≡ ([], Err (here f)) → IsTreeOf src false [] limit tree → ⊥
+refused_tree limit src f tree utf8 h p = plain_refused src utf8 limit [] [] (here f) p.written h p.parse p.within
+
+-- without a document type declaration nothing was asked
+pub plain_tree : (src : List ℕ) (dtd : Bool) (asked : List Asked) (limit : ℕ) (tree : Forest Node) → IsUtf8 src → dtd ≡ false → IsTreeOf src dtd asked limit tree → IsTreeOf src false [] limit tree
+plain_tree src dtd asked limit tree utf8 none h =
+    let plain : IsTreeOf src false asked limit tree = subst (λ (dtd : Bool). IsTreeOf src dtd asked limit tree) none h in
+    subst (λ (asked : List Asked). IsTreeOf src false asked limit tree) (asks_nothing_there src utf8 asked plain.written plain.parse) plain
+
+-- nor has one where none may stand
+pub permitted_tree : (src : List ℕ) (dtd : Bool) (asked : List Asked) (limit : ℕ) (tree : Forest Node) → IsUtf8 src → Permits false dtd → IsTreeOf src dtd asked limit tree
+    → (dtd ≡ false) × IsTreeOf src false [] limit tree
+permitted_tree src true asked limit tree utf8 permits h = absurd (true≢false (sym (permits refl)))
+permitted_tree src false asked limit tree utf8 permits h = (refl, plain_tree src false asked limit tree utf8 refl h)
+
+-- a text has one tree for the same answers
+pub one_tree : (src : List ℕ) (d e : Bool) (asked : List Asked) (limit most : ℕ) (s t : Forest Node) → IsUtf8 src → IsTreeOf src d asked limit s → IsTreeOf src e asked most t → s ≡ t
+one_tree src d e asked limit most s t utf8 h k = once.one_tree src utf8 true (doctypes_agree src utf8 true) limit most d e asked asked s t h k (λ may. refl) (λ may. refl) refl
+
+-- it tells whether there is a document type declaration, whatever is answered
+pub one_dtd : (src : List ℕ) (d e : Bool) (a b : List Asked) (limit most : ℕ) (s t : Forest Node) → IsUtf8 src → IsTreeOf src d a limit s → IsTreeOf src e b most t → d ≡ e
+one_dtd src d e a b limit most s t utf8 h k =
+    let within : IsWithinLimits (limit + most) h.written = record { nodes = omega (arith, h.within.nodes); attributes = h.within.attributes; namespaces = h.within.namespaces } in
+    let within' : IsWithinLimits (limit + most) k.written = record { nodes = omega (arith, k.within.nodes); attributes = k.within.attributes; namespaces = k.within.namespaces } in
+    sym (doctype_seen src utf8 (limit + most) d a h.written h.parse within) ∙ doctype_seen src utf8 (limit + most) e b k.written k.parse within'
 
 -- which is that of its one parse
-pub parse_shown : (src : List ℕ) (limit : ℕ) (tree : Forest Node) (tops : Forest Item) → IsUtf8 src → IsTreeOf src limit tree → ParseOf src tops → tree ≡ document_tree (length src) tops
-parse_shown src limit tree tops utf8 h p = h.shown ∙ ap (document_tree (length src)) (theory.one_parse src (agrees src utf8) (one_tag src utf8) h.written tops h.parse p)
+pub parse_shown : (src : List ℕ) (limit : ℕ) (tree : Forest Node) (tops : Forest Item) → IsUtf8 src → IsTreeOf src false [] limit tree → ParseOf src false [] tops → tree ≡ document_tree (length src) tops
+parse_shown src limit tree tops utf8 h p = h.shown ∙ ap (document_tree (length src)) (one_plain_parse src utf8 [] [] h.written tops h.parse p)

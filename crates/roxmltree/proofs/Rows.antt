@@ -1,5 +1,5 @@
 -- The rows of a tree hold that tree and no other, and what a row says of its node.
-use Rattle.std.proofs.Common.{◌≡◌, ℕ, suc, ◌+◌, ◌-◌, ◌<◌, List, [], ◌∷◌, ◌++◌, Some, None, length, get_or, map, refl, sym, ap, ◌∙◌, arith}
+use Rattle.std.proofs.Common.{◌≡◌, ℕ, suc, ◌+◌, ◌-◌, ◌<◌, Bool, List, [], ◌∷◌, ◌++◌, Some, None, length, get_or, map, refl, sym, ap, ◌∙◌, arith}
 use Rattle.std.proofs.lemmas.List.{get_or-map, length-map, map-append}
 use Rattle.rox_grammar.specs.Forest.{Forest, Nil, Cons, size}
 use Rattle.rox_grammar.specs.Tree.{Node}
@@ -71,10 +71,10 @@ same_tree t f h =
     ∙ unflat-flat f
 
 -- tables of a text's tree are whole
-pub is_whole : (text : List ℕ) (t : Tables) → HoldsDocument text t → IsWhole text t
-is_whole text t h =
+pub is_whole : (text : List ℕ) (dtd : Bool) (t : Tables) → HoldsDocument text dtd t → IsWhole text dtd t
+is_whole text dtd t h =
     let e = same_tree t h.tree h.holds in
-    record { holds = rw e h.holds; parsed = rw e h.parsed; utf8 = h.utf8 }
+    record { holds = rw e h.holds; asked = h.asked; parsed = rw e h.parsed; utf8 = h.utf8 }
 
 -- there are as many rows as nodes
 pub row_count : (t : Tables) (f : Forest Node) → Holds t f → length t.nodes.items ≡ size f

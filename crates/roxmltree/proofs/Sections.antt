@@ -10,7 +10,9 @@ use Rattle.rox_grammar.specs.Tree.{Node, node_in}
 use Rattle.rox_grammar.specs.Names.{byte, slice}
 use Rattle.rox_grammar.specs.Constructs.{at, IsCData, IsEnd}
 use Rattle.rox_grammar.specs.Content.{Sign, literal, kept, signs_of, literals, line_ends, piece, Part, part_ends, as_written, from_reference, Parts, last_part, then_entity, IsTag, IsMisc, comment, instruction, IsElement, empty, nest, Content, ends, run, cdata, misc, node}
-use Rattle.rox_grammar.specs.Document.{no_entities, Misc, no_misc, space, an_item, ParseOf, IsTreeOf}
+use Rattle.rox_grammar.specs.Document.{Misc, no_misc, space, an_item, ParseOf, IsTreeOf}
+use Rattle.rox_theory.proofs.Without.{parse_without}
+use Rattle.rox_grammar.specs.Entities.{no_entities}
 use Rattle.rox_theory.proofs.Basics.{mark_from_le}
 use Rattle.rox_theory.proofs.DeclarationLemmas.{stands_reads, stands_fits}
 use Rattle.rox_theory.proofs.StretchLemmas.{slice_length}
@@ -218,8 +220,9 @@ top_sound src i j items (no_misc _) = tt
 top_sound src i j items (space _ _ _ is rest) = top_sound src (i + 1) j items rest
 top_sound src i j items (an_item _ k _ item others is rest) = (misc_sound src i k item is, tt, top_sound src k j others rest)
 
-parse_sound : (src : List ℕ) (tops : Forest Item) → ParseOf src tops → Each (Sound src) tops
-parse_sound src tops p =
+parse_sound : (src : List ℕ) (tops : Forest Item) → ParseOf src false [] tops → Each (Sound src) tops
+parse_sound src tops q =
+    let p = (parse_without src [] tops q).1 in
     let front = top_sound src p.declared_to p.start p.before p.misc_before in
     let one = element_sound src p.start p.end 255 p.left p.one p.element in
     let back = top_sound src p.end (length src) p.after p.misc_after in
@@ -227,7 +230,7 @@ parse_sound src tops p =
     (each_join (Sound src) p.before (join p.one p.after) front (each_join (Sound src) p.one p.after one back))
 
 -- in a document
-pub empty_texts : (src : List ℕ) (limit : ℕ) (f : Forest Node) → IsTreeOf src limit f → EmptyTextsAreSections src f
+pub empty_texts : (src : List ℕ) (limit : ℕ) (f : Forest Node) → IsTreeOf src false [] limit f → EmptyTextsAreSections src f
 empty_texts src limit f h =
     subst (λ (f : Forest Node). Each (EmptyIsSections src) f) (sym h.shown)
     (tt, each_resolved (Sound src) (EmptyIsSections src) has [] h.written (parse_sound src h.written h.parse), tt)

@@ -11,7 +11,9 @@ use Rattle.rox_grammar.specs.Tree.{Node, attribute_in, node_in, resolved}
 use Rattle.rox_grammar.specs.Names.{byte, slice, spaces_end, IsQName, unprefixed, prefixed, colon_first}
 use Rattle.rox_grammar.specs.Constructs.{IsLiteral}
 use Rattle.rox_grammar.specs.Content.{is_plain_value, Value, value_ends, line_end, white, other, a_character, an_entity, IsAttribute, Attributes, no_more, one_more, IsTag, Sign, piece, Parts, last_part, then_entity, IsMisc, comment, instruction, IsElement, empty, nest, Content, ends, run, cdata, misc, node}
-use Rattle.rox_grammar.specs.Document.{no_entities, Misc, no_misc, space, an_item, ParseOf, IsTreeOf}
+use Rattle.rox_grammar.specs.Document.{Misc, no_misc, space, an_item, ParseOf, IsTreeOf}
+use Rattle.rox_theory.proofs.Without.{parse_without}
+use Rattle.rox_grammar.specs.Entities.{no_entities}
 use Rattle.rox_theory.proofs.Basics.{run_end_le}
 use Rattle.rox_theory.proofs.NameLemmas.{slice_nil, qname_le}
 use Rattle.rox_theory.proofs.LiteralLemmas.{from_before, literal_plain, literal_closes, literal_le}
@@ -213,8 +215,9 @@ top_has src i j items (no_misc _) = tt
 top_has src i j items (space _ _ _ is rest) = top_has src (i + 1) j items rest
 top_has src i j items (an_item _ k _ item others is rest) = (misc_has src i k item is, tt, top_has src k j others rest)
 
-parse_has : (src : List ℕ) (tops : Forest Item) → ParseOf src tops → Each (Has src) tops
-parse_has src tops p =
+parse_has : (src : List ℕ) (tops : Forest Item) → ParseOf src false [] tops → Each (Has src) tops
+parse_has src tops q =
+    let p = (parse_without src [] tops q).1 in
     let front = top_has src p.declared_to p.start p.before p.misc_before in
     let one = element_has src p.start p.end 255 p.left p.one p.element in
     let back = top_has src p.end (length src) p.after p.misc_after in
@@ -231,12 +234,12 @@ all_resolved src scope P holds from to [] h = All-nil P
 all_resolved src scope P holds from to (w ∷ ws) h = All-cons P _ _ (holds w h.2) (all_resolved src scope P holds w.end to ws h.3)
 
 -- of what a document's nodes have, what follows of each node of its own
-each_node : (src : List ℕ) (limit : ℕ) (f : Forest Node) (Q : Node → Type 0) → IsTreeOf src limit f → Q (tree.Root (length src))
+each_node : (src : List ℕ) (limit : ℕ) (f : Forest Node) (Q : Node → Type 0) → IsTreeOf src false [] limit f → Q (tree.Root (length src))
     → ((scope : List Declaration) (item : Item) → Has src item → Q (node_in scope item)) → Each Q f
 each_node src limit f Q h root has =
     subst (λ (f : Forest Node). Each Q f) (sym h.shown) (root, each_resolved (Has src) Q has [] h.written (parse_has src h.written h.parse), tt)
 
-pub attributes_written : (src : List ℕ) (limit : ℕ) (f : Forest Node) → IsTreeOf src limit f → AttributesWritten src f
+pub attributes_written : (src : List ℕ) (limit : ℕ) (f : Forest Node) → IsTreeOf src false [] limit f → AttributesWritten src f
 attributes_written src limit f h = each_node src limit f _ h (All-nil _) has
   where
     has : (scope : List Declaration) (item : Item) → Has src item → All (IsWritten src (says.listed_of (node_in scope item))) (says.attributes_of (node_in scope item))
@@ -245,7 +248,7 @@ attributes_written src limit f h = each_node src limit f _ h (All-nil _) has
     has scope (Comment a e t) own = All-nil _
     has scope (PI a e t o) own = All-nil _
 
-pub ranges_select : (src : List ℕ) (limit : ℕ) (f : Forest Node) → IsTreeOf src limit f → RangesSelect src f
+pub ranges_select : (src : List ℕ) (limit : ℕ) (f : Forest Node) → IsTreeOf src false [] limit f → RangesSelect src f
 ranges_select src limit f h = each_node src limit f _ h (All-nil _) has
   where
     has : (scope : List Declaration) (item : Item) → Has src item → All (Selects src) (says.attributes_of (node_in scope item))
@@ -254,7 +257,7 @@ ranges_select src limit f h = each_node src limit f _ h (All-nil _) has
     has scope (Comment a e t) own = All-nil _
     has scope (PI a e t o) own = All-nil _
 
-pub attributes_in_order : (src : List ℕ) (limit : ℕ) (f : Forest Node) → IsTreeOf src limit f → AttributesInOrder f
+pub attributes_in_order : (src : List ℕ) (limit : ℕ) (f : Forest Node) → IsTreeOf src false [] limit f → AttributesInOrder f
 attributes_in_order src limit f h = each_node src limit f _ h tt has
   where
     in_order : (scope : List Declaration) (from to : ℕ) (ws : List Attribute) → Stand src from to ws → AreInOrder from to (map (attribute_in scope) ws)

@@ -1,13 +1,13 @@
 -- Rows of siblings, from both ends.
-use Rattle.std.proofs.Common.{◌≡◌, ℕ, suc, zero, ◌+◌, ◌-◌, ◌<◌, ◌≤◌, List, [], ◌∷◌, ◌++◌, Some, None, length, get_or, take, drop, refl, sym, ap, ◌∙◌, subst, arith, append_assoc, ⊎_elim}
+use Rattle.std.proofs.Common.{◌≡◌, ℕ, suc, zero, ◌+◌, ◌-◌, ◌<◌, ◌≤◌, List, [], ◌∷◌, ◌++◌, Some, None, length, get_or, take, drop, refl, sym, ap, ◌∙◌, subst, arith, append_assoc, ◌⊎◌, ⊎_elim, inl, inr}
 use Rattle.std.proofs.lemmas.Bool.{cases_lt, cases_eq}
 use Rattle.std.proofs.Math.Seq.{take-suc, drop-cons}
-use Rattle.std.specs.List.{range_with_len}
+use Rattle.std.specs.List.{Contains, range_with_len}
 use Rattle.rox_grammar.specs.Forest.{Forest, Nil, Cons, size}
 use Rattle.rox_grammar.specs.Tree.{Node}
-use Rattle.roxmltree.specs.Places.{ids, all_ids, first_line, last_line, Place, preorder, place, first, last, parent, first_child, last_child, next_sibling, prev_sibling}
+use Rattle.roxmltree.specs.Places.{ids, all_ids, first_line, last_line, Place, places, preorder, place, first, last, parent, first_child, last_child, next_sibling, prev_sibling}
 use Rattle.roxmltree.specs.Walk.{row_from, apart, run, IsRun}
-use Rattle.roxmltree.proofs.Preorder.{no_first, at, Prior, Sits, Here, here, place_is, length-preorder}
+use Rattle.roxmltree.proofs.Preorder.{no_first, at, Prior, Sits, sits, length-places, Here, here, place_is, length-preorder}
 
 -- the k-th of nodes side by side
 record Sib (T : List Place) (up left : List ℕ) (b : ℕ) (f : Forest Node) (k : ℕ) : Type 0 where
@@ -309,3 +309,37 @@ unfolding place
 below_leads f i j l m =
     let h = here f i l in
     rw h.is (λ n. above_ends (preorder f) (i ∷ h.up) [] (i + 1) h.below h.under j (omega arith) (omega arith))
+
+-- the first of a list, or one of the others
+among : (b : ℕ) (up : List ℕ) (i : ℕ) → Contains (b ∷ up) i → (i ≡ b) ⊎ Contains up i
+among b up i (zero, l, e) = inl (sym e)
+among b up i (suc k, l, e) = inr (k, omega arith, e)
+
+-- a node below the first of these has it above, or one of the others
+step_up : (T : List Place) (up : List ℕ) (b j i : ℕ) → b < j → j < b + (at T b).count → Contains (b ∷ up) i ⊎ ((i < j) × (j < i + (at T i).count)) → Contains up i ⊎ ((i < j) × (j < i + (at T i).count))
+step_up T up b j i l m (inl near) = ⊎_elim (λ same. inr (rw same (l, m))) (λ far. inl far) (among b up i near)
+step_up T up b j i l m (inr inside) = inr inside
+
+-- what stands above a node of a forest stands above the forest, or has the node in its subtree
+above_is : (T : List Place) (up left : List ℕ) (b : ℕ) (f : Forest Node) → Sits T up left b f → (j : ℕ) → b ≤ j → j < b + size f → (i : ℕ) → Contains (at T j).above i → Contains up i ⊎ ((i < j) × (j < i + (at T i).count))
+above_is T up left b Nil s j l m i h = absurd (omega arith)
+above_is T up left b (Cons x c r) s j l m i h =
+    ⊎_elim
+    (λ same. let e : (at T j).above ≡ up = rw same (ap (λ p. p.above) s.0) in inl (rw e at h))
+    (λ (other : j ≡ b → ⊥). ⊎_elim
+    (λ (low : j < b + (1 + size c)).
+    let n : (at T b).count ≡ 1 + size c = ap (λ p. p.count) s.0 in
+    step_up T up b j i (omega arith) (omega (arith, n)) (above_is T (b ∷ up) [] (b + 1) c s.2 j (omega arith) (omega arith) i h))
+    (λ high. above_is T up (b ∷ left) (b + (1 + size c)) r s.3 j high (omega arith) i h)
+    (cases_lt j (b + (1 + size c))))
+    (cases_eq j b)
+
+all_sit : (f : Forest Node) → Sits (preorder f) [] [] 0 f
+unfolding preorder
+all_sit f = sits (places [] [] 0 f) [] [] 0 f (λ k m. let e : 0 + k ≡ k = omega arith in rw e refl) (omega (arith, length-places [] [] 0 f))
+
+-- a node is in the subtrees of all nodes above it
+pub above_holds : (f : Forest Node) (i j : ℕ) → j < size f → Contains (place f j).above i → (i < j) × (j < i + (place f i).count)
+unfolding place
+above_holds f i j l h =
+    ⊎_elim (λ none. absurd (omega (arith, none.1))) (λ inside. inside) (above_is (preorder f) [] [] 0 f (all_sit f) j (omega arith) (omega arith) i h)

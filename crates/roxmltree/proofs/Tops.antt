@@ -1,11 +1,13 @@
 -- An element is among the top nodes of a document.
-use Rattle.std.proofs.Common.{◌≡◌, ℕ, ◌+◌, List, [], ◌∷◌, length, None, Some, true, false, refl, ap, subst, arith}
-use Rattle.rox_grammar.specs.Forest.{Forest, Nil, Cons, join, size}
+use Rattle.std.proofs.Common.{◌≡◌, ℕ, ◌+◌, Bool, List, [], ◌∷◌, length, None, Some, true, false, refl, ap, subst, arith}
+use Rattle.rox_grammar.specs.Forest.{Forest, Nil, Cons, size}
 use Rattle.rox_grammar.specs.Written as written
 use Rattle.rox_grammar.specs.Written.{Declaration}
 use Rattle.rox_grammar.specs.Tree.{Node, Root, Element, Text, Comment, PI, resolved}
-use Rattle.rox_grammar.specs.Content.{IsElement, empty, nest}
-use Rattle.rox_grammar.specs.Document.{no_entities, ParseOf, IsTreeOf}
+use Rattle.rox_grammar.specs.Document.{IsTreeOf}
+use Rattle.rox_theory.specs.Apart.{AnyElement}
+use Rattle.rox_theory.proofs.Apart.{parse_has}
+use Rattle.rox_grammar.specs.Doctype.{Asked}
 use Rattle.roxmltree.specs.Doc.{Doc}
 use Rattle.roxmltree.specs.Places.{places, preorder, place, ids, children}
 use Rattle.roxmltree.specs.Says.{says_element}
@@ -67,15 +69,7 @@ root_element_there d n w h =
     let c : children d.tree 0 ≡ ids 1 w.tops = ap (λ p. p.children) s.0 in
     none_among d (0 ∷ []) [] 1 w.tops s.2 w.element (rw c at h)
 
--- an element is among these items side by side
-abbrev pub AnyElement : Forest written.Item → Type 0
-AnyElement Nil = ⊥
-AnyElement (Cons (written.Element start end tag) children rest) = Unit {0}
-AnyElement (Cons (written.Text start end value borrowed) children rest) = AnyElement rest
-AnyElement (Cons (written.Comment start end text) children rest) = AnyElement rest
-AnyElement (Cons (written.PI start end target value) children rest) = AnyElement rest
-
--- and is one still with the names resolved
+-- an element is one still with the names resolved
 element_stays : (above : List Declaration) (f : Forest written.Item) → AnyElement f → HasElement (resolved above f)
 element_stays above Nil h = h
 element_stays above (Cons (written.Element start end tag) c r) h = tt
@@ -83,26 +77,7 @@ element_stays above (Cons (written.Text start end value borrowed) c r) h = eleme
 element_stays above (Cons (written.Comment start end text) c r) h = element_stays above r h
 element_stays above (Cons (written.PI start end target value) c r) h = element_stays above r h
 
--- each element is one
-element_is : (src : List ℕ) (i j b c : ℕ) (one back : Forest written.Item) → IsElement true no_entities src i j b c one → AnyElement (join one back)
-element_is src i j b c one back (empty _ _ _ _ t tag) = tt
-element_is src i j b c one back (nest _ k m p _ _ d _ t kids tag inner end) = tt
-
--- what stands behind stays there
-any_behind : (front back : Forest written.Item) → AnyElement back → AnyElement (join front back)
-any_behind Nil back h = h
-any_behind (Cons (written.Element start end tag) c r) back h = tt
-any_behind (Cons (written.Text start end value borrowed) c r) back h = any_behind r back h
-any_behind (Cons (written.Comment start end text) c r) back h = any_behind r back h
-any_behind (Cons (written.PI start end target value) c r) back h = any_behind r back h
-
--- a parse has an element at its top
-parse_has : (src : List ℕ) (tops : Forest written.Item) → ParseOf src tops → AnyElement tops
-parse_has src tops p =
-    let h = any_behind p.before (join p.one p.after) (element_is src p.start p.end 255 p.left p.one p.after p.element) in
-    rw p.is_tree h
-
 -- the tree of a text is a document
-pub is_document : (src : List ℕ) (limit : ℕ) (tree : Forest Node) → IsTreeOf src limit tree → IsDocument (length src) tree
+pub is_document : {dtd : Bool} {asked : List Asked} (src : List ℕ) (limit : ℕ) (tree : Forest Node) → IsTreeOf src dtd asked limit tree → IsDocument (length src) tree
 is_document src limit tree h =
-    record { tops = resolved [] h.written; rooted = h.shown; element = element_stays [] h.written (parse_has src h.written h.parse) }
+    record { tops = resolved [] h.written; rooted = h.shown; element = element_stays [] h.written (parse_has src _ _ h.written h.parse) }

@@ -1,5 +1,8 @@
 -- Elements among nodes.
 use Rattle.std.specs.Prelude.{ℕ, List, [], ◌∷◌, Bool, Option, None, Some, if◌then◌else◌}
+use Rattle.rox_grammar.specs.Forest.{Forest}
+use Rattle.rox_grammar.specs.Tree.{Node}
+use Rattle.roxmltree.specs.Places.{children}
 use Rattle.roxmltree.specs.Says.{says_element, node_at}
 use Rattle.roxmltree.specs.Doc.{Doc}
 
@@ -10,3 +13,12 @@ is_element spot = says_element (node_at spot.0.tree spot.1)
 abbrev pub nearest_element : List (Doc × ℕ) → Option (Doc × ℕ)
 nearest_element [] = None
 nearest_element (node ∷ nodes) = if is_element node then Some node else nearest_element nodes
+
+-- the first element of the nodes of these ids, or 0
+abbrev pub first_element : Forest Node → List ℕ → ℕ
+first_element tree [] = 0
+first_element tree (id ∷ ids) = if says_element (node_at tree id) then id else first_element tree ids
+
+-- the outermost element of a document
+abbrev pub root_id : Forest Node → ℕ
+root_id tree = first_element tree (children tree 0)

@@ -1,7 +1,7 @@
 -- What is true of the tree of every document.
-use Rattle.std.specs.Prelude.{◌≡◌, ℕ, Bool, true, false, ◌&&◌, List, [], ◌∷◌, ◌++◌, bytes_eq, All, IfSome, IsUtf8, chars}
-use Rattle.std.specs.List.{list_any, list_all}
-use Rattle.rox_grammar.specs.Chars.{is_char}
+use Rattle.std.specs.Prelude.{◌≡◌, Bool, false, ◌&&◌, List, [], ◌∷◌, ◌++◌, bytes_eq, All, IfSome}
+use Rattle.std.specs.List.{list_any}
+pub use Rattle.rox_grammar.specs.CharText.{IsCharText, DeclarationChars}
 use Rattle.rox_grammar.specs.Forest.{Forest, Nil, Cons}
 use Rattle.rox_grammar.specs.Written.{Declaration}
 use Rattle.rox_grammar.specs.Tree.{Node, Attribute, Root, Element, Text, Comment, PI, same_prefix, is_declared}
@@ -36,17 +36,7 @@ NamesDistinct Nil = Unit {0}
 NamesDistinct (Cons node children rest) =
     (PrefixesOnce [] (listed_of node) × NamesOnce [] (attributes_of node)) × NamesDistinct children × NamesDistinct rest
 
--- XML 2.2 [2]: a text in UTF-8, which has no surrogates, and each of its characters is a Char
-pub record IsCharText (bytes : List ℕ) : Type 0 where
-  pub utf8 : IsUtf8 bytes
-  pub all : list_all is_char (chars bytes) ≡ true
-
--- so are a prefix, if there is one, and the URI that it stands for
-pub record DeclarationChars (d : Declaration) : Type 0 where
-  pub prefix : IfSome d.prefix IsCharText
-  pub uri : IsCharText d.uri
-
--- and the namespace of an attribute, if it has one, its local name and its value
+-- the namespace of an attribute, if it has one, its local name and its value are texts of Chars
 pub record AttributeChars (a : Attribute) : Type 0 where
   pub namespace : IfSome a.namespace IsCharText
   pub local : IsCharText a.local

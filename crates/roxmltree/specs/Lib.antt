@@ -21,3 +21,29 @@ pub mod Walk
 pub mod Left
 pub mod Range
 pub mod Axis
+pub mod Told
+pub mod Alone
+pub mod Bounded
+-- what the public clauses cite of the crates below
+pub use Rattle.rox_grammar.specs.Forest
+pub use Rattle.rox_grammar.specs.Written
+pub use Rattle.rox_grammar.specs.Tree
+pub use Rattle.rox_grammar.specs.Document
+pub use Rattle.rox_grammar.specs.Doctype
+pub use Rattle.rox_grammar.specs.Entities
+pub use Rattle.rox_grammar.specs.Expansion
+pub use Rattle.rox_grammar.specs.Exchange
+pub use Rattle.rox_grammar.specs.Faults
+pub use Rattle.rox_grammar.specs.Refused
+pub use Rattle.rox_grammar.specs.Spans
+pub use Rattle.rox_grammar.specs.Positions
+pub use Rattle.rox_grammar.specs.declared.fault.Fault
+pub use Rattle.rox_reading.specs.Whole as Reading
+pub use Rattle.rox_reading.specs.Refusals
+pub use Rattle.rox_reading.specs.Doctype as Replies
+pub use Rattle.rox_reading.specs.Answering
+pub use Rattle.rox_resolver.specs.Requests
+pub use Rattle.rox_error.specs.Telling
+pub use Rattle.rox_error.specs.Messages
+pub use Rattle.rox_build.specs.Lines
+pub use Rattle.rox_build.specs.Storage

@@ -6,7 +6,7 @@ use Rattle.rox_grammar.specs.Written.{Declaration}
 use Rattle.rox_grammar.specs.Tree.{Node, Attribute, attribute_in}
 use Rattle.rox_grammar.specs.Names.{byte, slice}
 use Rattle.rox_grammar.specs.Content.{IsAttribute}
-use Rattle.rox_grammar.specs.Document.{no_entities}
+use Rattle.rox_grammar.specs.Entities.{no_entities}
 use Rattle.roxmltree.specs.Says.{start_of, end_of, listed_of, attributes_of}
 use Rattle.roxmltree.specs.Each.{Each}
 

@@ -1,7 +1,8 @@
 -- The tree that a document's tables hold.
-use Rattle.std.specs.Prelude.{ℕ, ◌+◌, ◌-◌, List, [], ◌∷◌, IsUtf8}
+use Rattle.std.specs.Prelude.{ℕ, ◌+◌, ◌-◌, Bool, List, [], ◌∷◌, IsUtf8}
 use Rattle.rox_grammar.specs.Forest.{Forest}
 use Rattle.rox_grammar.specs.Tree.{Node}
+use Rattle.rox_grammar.specs.Doctype.{Asked}
 use Rattle.rox_grammar.specs.Document.{IsTreeOf}
 use Rattle.rox_build.specs.Lines.{Line, lines_of, Holds}
 use Rattle.rox_build.specs.declared.tables.Tables.{Tables}
@@ -18,21 +19,23 @@ nodes_from id (row ∷ rows) = (row.next - (id + 1), row.node) ∷ nodes_from (i
 abbrev pub tree_in : Tables → Forest Node
 tree_in t = unflat (nodes_from 0 (lines_of t))
 
--- the tables are those of the tree of this text
-pub record HoldsDocument (text : List ℕ) (t : Tables) : Type 0 where
+-- the tables are those of the tree of this text, with what was answered for its external entities
+pub record HoldsDocument (text : List ℕ) (dtd : Bool) (t : Tables) : Type 0 where
   pub tree : Forest Node
   pub holds : Holds t tree
-  pub parsed : IsTreeOf text 4294967295 tree
+  pub asked : List Asked
+  pub parsed : IsTreeOf text dtd asked 4294967295 tree
   pub utf8 : IsUtf8 text
 
 -- the tables hold the tree that they are read as, which is that of the text
-pub record IsWhole (text : List ℕ) (t : Tables) : Type 0 where
+pub record IsWhole (text : List ℕ) (dtd : Bool) (t : Tables) : Type 0 where
   pub holds : Holds t (tree_in t)
-  pub parsed : IsTreeOf text 4294967295 (tree_in t)
+  pub asked : List Asked
+  pub parsed : IsTreeOf text dtd asked 4294967295 (tree_in t)
   pub utf8 : IsUtf8 text
 
 abbrev pub doc_of : Inside → Doc
-doc_of d = record { tree = tree_in d.tables; text = d.text.now; key = d.key }
+doc_of d = record { tree = tree_in d.tables; text = d.text.now; key = d.key; dtd = d.dtd }
 
 abbrev pub IsSound : Inside → Type 0
-IsSound d = IsWhole d.text.now d.tables
+IsSound d = IsWhole d.text.now d.dtd d.tables

@@ -99,7 +99,8 @@ impl<'a, 'input> Node<'a, 'input> {
         }
     }
 
-    /// Where it stands in its source, in bytes: an element from its `<` to the end of its end tag.
+    /// Where it stands in its source, in bytes: an element from its `<` to the end of its end tag, and the root node the whole
+    /// text. A text node that was merged of several runs and CDATA sections has the range of the first of them alone.
     #[inline]
     #[tactic(auto, using(crate::proofs::Bare::start_of_bare, crate::proofs::Bare::end_of_bare))]
     pub fn range(&self) -> Range<usize>

@@ -199,7 +199,9 @@ impl fmt::Debug for Attributes<'_, '_> {
 impl<'a, 'input> Iterator for Attributes<'a, 'input> {
     type Item = Attribute<'a, 'input>;
 
-    ghost use Rattle.std.specs.Iterator.{YieldsFirstBy, item_count};
+    ghost use Rattle.std.specs.Prelude.{Some, IfSome, length};
+    ghost use Rattle.std.specs.Iterator.{YieldsFirstBy, item_count, UpTo};
+    ghost use Rattle.std.specs.Iterator.SizeHint.{IsWithinCount};
     ghost use Rattle.roxmltree.specs.Listed.{attribute_of};
 
     ghost next_gives = { YieldsFirstBy attribute_of (λ s. s) };
@@ -218,6 +220,15 @@ impl<'a, 'input> Iterator for Attributes<'a, 'input> {
             places: &self.places[place],
             names: self.names,
         })
+    }
+
+    fn size_hint(&self) -> (usize, Option<usize>)
+        ensures lower { IsWithinCount result.0 (item_count (λ s. s) self.now) }
+        ensures upper { IfSome result.1 (UpTo (item_count (λ s. s) self.now)) }
+        ensures exact { result ≡ (length self.now, Some (length self.now)) }
+    {
+        let left = self.len();
+        (left, Some(left))
     }
 }
 
@@ -307,7 +318,9 @@ impl fmt::Debug for NamespaceIter<'_, '_> {
 impl<'a, 'input> Iterator for NamespaceIter<'a, 'input> {
     type Item = &'a Namespace<'input>;
 
-    ghost use Rattle.std.specs.Iterator.{YieldsFirstBy, item_count};
+    ghost use Rattle.std.specs.Prelude.{Some, IfSome, length};
+    ghost use Rattle.std.specs.Iterator.{YieldsFirstBy, item_count, UpTo};
+    ghost use Rattle.std.specs.Iterator.SizeHint.{IsWithinCount};
 
     ghost next_gives = { YieldsFirstBy (λ n. declaration n.now) (λ s. s) };
 
@@ -320,6 +333,15 @@ impl<'a, 'input> Iterator for NamespaceIter<'a, 'input> {
             return None;
         };
         Some(&names[*place as usize])
+    }
+
+    fn size_hint(&self) -> (usize, Option<usize>)
+        ensures lower { IsWithinCount result.0 (item_count (λ s. s) self.now) }
+        ensures upper { IfSome result.1 (UpTo (item_count (λ s. s) self.now)) }
+        ensures exact { result ≡ (length self.now, Some (length self.now)) }
+    {
+        let left = self.len();
+        (left, Some(left))
     }
 }
 

@@ -1,11 +1,13 @@
 //! Laws of the calls, each a function whose contract is the law.
 
 ghost use Rattle.std.specs.Prelude.{◌≡◌, ◌≢◌, ◌↔◌, ℕ, ◌+◌, ◌<◌, ◌≤◌, ◌∷◌, ◌++◌, List, Some, None, IsTrue, IfSome, IsUtf8, length, slice_index, slice_get, count_by, if◌then◌else◌};
-ghost use Rattle.std.specs.List.{range_with_len, last_or};
+ghost use Rattle.std.specs.List.{Contains, range_with_len, last_or};
 ghost use Rattle.std.specs.Option.{option_map, is_some};
 ghost use Rattle.std.specs.Ordering.{nat_cmp, on, then_cmp};
 ghost use Rattle.rox_grammar.specs.Forest.{Forest, size};
 ghost use Rattle.rox_grammar.specs.Written.{Item};
+ghost use Rattle.rox_grammar.specs.Tree.{document_tree};
+ghost use Rattle.rox_grammar.specs.Doctype.{Asked};
 ghost use Rattle.rox_grammar.specs.Document.{ParseOf, IsTreeOf};
 ghost use Rattle.roxmltree.specs.Places.{place, parent, children, first_child, last_child, next_sibling, prev_sibling};
 ghost use Rattle.roxmltree.specs.Spot.{id_of, document_of, tree_of, item_of, spot};
@@ -47,8 +49,10 @@ pub fn descendants_are_in_order(document: &Document<'_>)
 }
 
 /// From each node of a subtree but its top one comes up to the top: above it are some nodes, the top, and those above that.
+/// And a node is in the subtrees of all nodes above it.
 pub fn descendants_are_below(document: &Document<'_>)
-    ensures { (i j : ℕ) → i < size document.now.tree → i < j → j < i + (place document.now.tree i).count → (between : List ℕ) × ((place document.now.tree j).above ≡ between ++ i ∷ (place document.now.tree i).above) }
+    ensures leads { (i j : ℕ) → i < size document.now.tree → i < j → j < i + (place document.now.tree i).count → (between : List ℕ) × ((place document.now.tree j).above ≡ between ++ i ∷ (place document.now.tree i).above) }
+    ensures inside { (i j : ℕ) → j < size document.now.tree → Contains (place document.now.tree j).above i → (i < j) × (j < i + (place document.now.tree i).count) }
 {
     let _ = document;
 }
@@ -108,7 +112,7 @@ pub fn order_is_by_document(a: Node<'_, '_>, b: Node<'_, '_>) -> Ordering
 
 /// What is true of the document that a node is in.
 fn whole(node: Node<'_, '_>)
-    ensures parsed { IsTreeOf (document_of node.entry).text 4294967295 (tree_of node.entry) }
+    ensures parsed { (asked : List Asked) × IsTreeOf (document_of node.entry).text (document_of node.entry).dtd asked 4294967295 (tree_of node.entry) }
     ensures utf8 { IsUtf8 (document_of node.entry).text }
 {
     node.document().whole();
@@ -144,9 +148,10 @@ pub fn one_attribute_or_none(node: Node<'_, '_>, name: ExpandedName<'_, '_>) -> 
 
 /// What `lookup_namespace_uri` answers on an element is the URI of the nearest declaration in the text as written, by the
 /// element itself or by one above it. It answers None where none of them declares the prefix, for `xml`, and on other nodes.
+/// `tops` is what is written, replacement texts in the place of their references: one parse whose tree is the document's.
 pub fn the_nearest_declaration<'a>(node: Node<'a, '_>, prefix: Option<&str>) -> Option<&'a str>
-    ensures found { (tops : Forest Item) → ParseOf (document_of node.entry).text tops → (uri : List ℕ) → IsElementAt (tree_of node.entry) (id_of node.entry) → option_map (λ s. s.now) prefix.entry ≢ xml → (option_map (λ s. s.now) result ≡ Some uri) ↔ IsNearest tops (tree_of node.entry) (id_of node.entry) (option_map (λ s. s.now) prefix.entry) uri }
-    ensures none { (tops : Forest Item) → ParseOf (document_of node.entry).text tops → IsElementAt (tree_of node.entry) (id_of node.entry) → option_map (λ s. s.now) prefix.entry ≢ xml → (option_map (λ s. s.now) result ≡ None) ↔ NoneDeclares tops (option_map (λ s. s.now) prefix.entry) (upwards (tree_of node.entry) (id_of node.entry)) }
+    ensures found { (asked : List Asked) (tops : Forest Item) → ParseOf (document_of node.entry).text (document_of node.entry).dtd asked tops → tree_of node.entry ≡ document_tree (length (document_of node.entry).text) tops → (uri : List ℕ) → IsElementAt (tree_of node.entry) (id_of node.entry) → option_map (λ s. s.now) prefix.entry ≢ xml → (option_map (λ s. s.now) result ≡ Some uri) ↔ IsNearest tops (tree_of node.entry) (id_of node.entry) (option_map (λ s. s.now) prefix.entry) uri }
+    ensures none { (asked : List Asked) (tops : Forest Item) → ParseOf (document_of node.entry).text (document_of node.entry).dtd asked tops → tree_of node.entry ≡ document_tree (length (document_of node.entry).text) tops → IsElementAt (tree_of node.entry) (id_of node.entry) → option_map (λ s. s.now) prefix.entry ≢ xml → (option_map (λ s. s.now) result ≡ None) ↔ NoneDeclares tops (option_map (λ s. s.now) prefix.entry) (upwards (tree_of node.entry) (id_of node.entry)) }
     ensures never_xml { option_map (λ s. s.now) prefix.entry ≡ xml → option_map (λ s. s.now) result ≡ None }
     ensures others { ¬ IsElementAt (tree_of node.entry) (id_of node.entry) → option_map (λ s. s.now) result ≡ None }
 {

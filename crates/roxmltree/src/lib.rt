@@ -1,20 +1,22 @@
 //! A read-only tree of an XML document, in document order.
 #![tactic(auto)]
 
-pub mod contents;
+mod contents;
 mod debug;
-pub mod elements;
+mod elements;
+pub mod exchanges;
 pub mod laws;
 mod lookups;
-pub mod names;
-pub mod nodes;
-pub mod options;
+mod names;
+mod nodes;
+mod options;
 mod order;
-pub mod parse;
-pub mod positions;
+mod parse;
+mod positions;
+mod slices;
 pub mod theorem;
-pub mod tree;
-pub mod walks;
+mod tree;
+mod walks;
 
 pub use crate::contents::NodeType;
 pub use crate::elements::{Attribute, Attributes, NamespaceIter};
@@ -25,5 +27,8 @@ pub use crate::tree::Document;
 pub use crate::walks::{AxisIter, Children, Descendants};
 pub use rox_build::storage::StringStorage;
 pub use rox_build::tables::{Namespace, PI};
-pub use rox_error::error::Error;
 pub use rox_error::position::TextPos;
+pub use rox_resolver::resolver::{EntityResolver, NoResolver, ResolveWith};
+
+/// Why a text is refused.
+pub type Error = rox_error::error::Error<'static>;

@@ -51,7 +51,7 @@ impl<'a, 'input> Node<'a, 'input> {
         self.is_element() && self.local_name() == local
     }
 
-    /// The attributes of an element, as written. None for other nodes.
+    /// The attributes of an element, as written. An empty iterator for other nodes.
     #[inline]
     pub fn attributes(&self) -> Attributes<'a, 'input>
         ensures value { result ≡ attributes_of (item_of self.now) }
@@ -62,7 +62,7 @@ impl<'a, 'input> Node<'a, 'input> {
     }
 
     /// The namespaces that an element lists: its own as written, and then those of its parent whose prefix it does not
-    /// declare (Namespaces in XML 1.0 section 6). None for other nodes.
+    /// declare (Namespaces in XML 1.0 section 6). An empty iterator for other nodes.
     #[inline]
     pub fn namespaces(&self) -> NamespaceIter<'a, 'input>
         ensures value { result ≡ listed_of (item_of self.now) }
@@ -112,14 +112,17 @@ impl<'a, 'input> Node<'a, 'input> {
         None
     }
 
-    /// The URI that is listed for the default namespace.
+    /// The URI that is listed for the default namespace: `Some("")` where it was undeclared by `xmlns=''`, None where none is
+    /// listed, as on nodes that are no element.
     pub fn default_namespace(&self) -> Option<&'a str>
         ensures { option_map (λ s. s.now) result ≡ uri_of (listed_of (item_of self.now)) None }
     {
         self.lookup_namespace_uri(None)
     }
 
-    /// The URI that is listed for this prefix, or for the default namespace.
+    /// The URI that is listed for this prefix, or, for None, for the default namespace. It is `Some("")` where the empty text
+    /// is declared. `xml` is never listed, so for it the answer is None; and so it is for `Some("")`, since no prefix is empty,
+    /// and on nodes that are no element.
     #[tactic(auto, using(crate::proofs::Prefixes::option_eq_same))]
     pub fn lookup_namespace_uri(&self, prefix: Option<&str>) -> Option<&'a str>
         ensures { option_map (λ s. s.now) result ≡ uri_of (listed_of (item_of self.now)) (option_map (λ s. s.now) prefix.entry) }
@@ -132,8 +135,8 @@ impl<'a, 'input> Node<'a, 'input> {
         None
     }
 
-    /// The prefix of the first listed namespace of this URI. `xml` for its own, on every node (Namespaces in XML 1.0
-    /// section 3).
+    /// The prefix of the first listed namespace of this URI: None where that is the default, and where none is listed, as on
+    /// nodes that are no element. `xml` for the URI of `xml`, on every node (Namespaces in XML 1.0 section 3).
     pub fn lookup_prefix(&self, uri: &str) -> Option<&'input str>
         ensures { option_map (λ s. s.now) result ≡ prefix_of uri.now (listed_of (item_of self.now)) }
     {

@@ -7,6 +7,7 @@ ghost use Rattle.roxmltree.specs.Places.{place, parent, children, first_child, l
 
 use crate::tree::Document;
 use crate::walks::{Axis, AxisIter, Children, Descendants};
+use std::fmt;
 
 /// The place of a node in document order: the root node has 0.
 #[derive(Clone, Copy, PartialEq, Eq, PartialOrd, Ord, Hash, Debug)]
@@ -70,7 +71,20 @@ impl TryFrom<usize> for NodeId {
     }
 }
 
-/// A node of a document.
+impl fmt::Display for NodeIdTooLarge {
+    ghost use Rattle.std.specs.Prelude.{Some, codes};
+
+    ghost output = { λ _. Some (codes "a node's id is at most 4294967295") };
+
+    fn fmt<W: fmt::Write>(&self, f: &mut fmt::Formatter<W>) -> fmt::Result {
+        write!(f, "a node's id is at most 4294967295")
+    }
+}
+
+impl std::error::Error for NodeIdTooLarge {}
+
+/// A node of a document. Nodes are equal, ordered and hashed by the key of their document (`ParsingOptions::document_key`) and
+/// by their id. The key is 0 where none is given, so nodes of two documents may be equal: give each its own to tell them apart.
 #[derive(Clone, Copy)]
 pub struct Node<'a, 'input> {
     pub(crate) document: &'a Document<'input>,

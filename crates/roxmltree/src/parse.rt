@@ -1,85 +1,113 @@
 //! From a text to its document.
 
-ghost use Rattle.std.specs.Prelude.{◌≡◌, ◌≢◌, Ok, Err, IfOk, IfErr, length};
+ghost use Rattle.std.specs.Prelude.{◌≡◌, ◌≢◌, ◌++◌, ℕ, Bool, false, true, List, [], Err, IfOk, IfErr};
+ghost use Rattle.std.specs.Prelude.{String, string_bytes};
+ghost use Rattle.std.specs.declared.alloc.Global.{Global};
 ghost use Rattle.rox_grammar.specs.declared.fault.Fault.{Fault};
 ghost use Rattle.rox_grammar.specs.Forest.{Forest};
-ghost use Rattle.rox_grammar.specs.Written.{Item};
 ghost use Rattle.rox_grammar.specs.Spans.{NamesText};
+ghost use Rattle.rox_grammar.specs.Faults.{FaultOf};
+ghost use Rattle.rox_grammar.specs.Refused.{RefusalOf};
 ghost use Rattle.rox_grammar.specs.Tree as grammar;
-ghost use Rattle.rox_grammar.specs.Document.{IsTreeOf};
-ghost use Rattle.rox_reading.specs.Machine.{reading};
-ghost use Rattle.rox_error.specs.Telling.{IsErrorOf};
+ghost use Rattle.rox_grammar.specs.Doctype.{Request, Asked};
+ghost use Rattle.rox_grammar.specs.Document.{IsTreeOf, Permits, HasAsked, AsksNext};
+ghost use Rattle.rox_reading.specs.Refusals.{here};
+ghost use Rattle.rox_reading.specs.Whole.{reading};
+ghost use Rattle.rox_resolver.specs.Requests.{Allows, AreAllowed, MayAsk};
+ghost use Rattle.rox_error.specs.Telling.{position_at, IsErrorOf};
+ghost use Rattle.roxmltree.specs.Told.{SpeaksOfText, IsFirst, IsRead, Tells};
 
 use crate::options::ParsingOptions;
 use crate::tree::Document;
 use rox_build::reader::{Options, build};
+use rox_build::refused::Refused;
 use rox_error::error::Error;
-use rox_scan::failure::Failure;
+use rox_error::position::TextPos;
+use rox_resolver::resolver::EntityResolver;
 use std::alloc::Global;
 
 impl<'input> Document<'input> {
-    /// The document of a text, which is a well-formed document (XML 1.0 section 2.1) with well-formed namespaces
-    /// (Namespaces in XML section 7), without a document type declaration. Its key is 0.
+    /// The document of a text, which is a document of XML 1.0 with namespaces as `docs/RULES.md` says it: well formed (XML 1.0
+    /// section 2.1) with well-formed namespaces (Namespaces in XML section 7) but for what `docs/DIFFERENCES.md` lists under
+    /// "Departures from the standards", and without a document type declaration. Its key is 0.
     ///
     /// An `Err` says that the text is none, or has more than 4,294,967,295 nodes, 4,294,967,294 attributes or 65,535
     /// distinct pairs of a prefix and its namespace; but for `Error::OutOfMemory`, which says nothing of the text. Any other
-    /// error is that of the fault which reading from left to right meets first: its kind, its position and its names.
-    pub fn parse(alloc: Global, text: &'input str) -> Result<Document<'input>, Error>
-        ensures is_parse { IfOk result (λ document. IsTreeOf text.now 4294967295 document.tree) }
+    /// error is that of a fault: its kind, its position and its names. By the clause `fault` it stands there by the grammar:
+    /// all before the construct that it is found in is as it should be and within the limits. By the clause `first`, the one
+    /// that speaks of `reading`, it is the fault which reading from left to right meets first.
+    pub fn parse(alloc: Global, text: &'input str) -> Result<Document<'input>, Error<'static>>
+        ensures is_parse { IfOk result (λ document. IsTreeOf text.now false [] 4294967295 document.tree) }
+        ensures dtd { IfOk result (λ document. document.dtd ≡ false) }
         ensures text { IfOk result (λ document. document.text ≡ text.now) }
         ensures key { IfOk result (λ document. document.key ≡ 0) }
-        ensures no_parse { IfErr result (λ e. e ≢ Error.OutOfMemory → (tree : Forest grammar.Node) → IsTreeOf text.now 4294967295 tree → ⊥) }
-        ensures fault { IfErr result (λ e. e ≢ Error.OutOfMemory → (f : Fault) × (reading 4294967295 text.now ≡ Err f) × NamesText text.now f × IsErrorOf text.now f e) }
+        ensures no_parse { IfErr result (λ e. e ≢ Error.OutOfMemory → (tree : Forest grammar.Node) → IsTreeOf text.now false [] 4294967295 tree → ⊥) }
+        ensures fault { IfErr result (λ e. e ≢ Error.OutOfMemory → (f : Fault) × FaultOf 4294967295 text.now f × NamesText text.now f × IsErrorOf text.now f e) }
+        ensures first { IfErr result (λ e. e ≢ Error.OutOfMemory → (f : Fault) × (reading 4294967295 false [] text.now ≡ ([], Err (here f))) × FaultOf 4294967295 text.now f × NamesText text.now f × IsErrorOf text.now f e) }
     {
         Document::parse_with_options(alloc, text, ParsingOptions::default())
     }
 
-    /// The same with at most `opt.nodes_limit` nodes, the root node counted, and with the key `opt.document_key`. The error
-    /// is that of the first fault under this limit.
-    pub fn parse_with_options(
+    /// The same by options. A document type declaration may stand where `opt.allow_dtd` says so. Then each external entity that
+    /// it declares is asked of the resolver, in order, and there are answers, allowed by its relation `allows`, with which the
+    /// tree is the text's (`is_parse`). There are at most `opt.nodes_limit` nodes, the root node counted, and the key is
+    /// `opt.document_key`.
+    ///
+    /// An `Err` but `Error::OutOfMemory` and `Error::EntityResolver` says that no parse within the limits has answers that begin
+    /// with those that were given for what the text had asked (`no_parse`). `Error::EntityResolver` has words that the
+    /// resolver may refuse that request with, and stands at its end (`resolver`). By the clause `fault` any other error is that of
+    /// a fault which stands there by the grammar, after what was asked until then. Its kind, its position and its names are those
+    /// of the source that it counts in: this text, or a replacement text of an entity, or an answer. By the clause `first` each
+    /// error is that of what reading from left to right meets first.
+    pub fn parse_with_options<'w, R: EntityResolver<'input> + Drop>(
         alloc: Global,
         text: &'input str,
-        opt: ParsingOptions,
-    ) -> Result<Document<'input>, Error>
-        ensures is_parse { IfOk result (λ document. IsTreeOf text.now opt.nodes_limit document.tree) }
+        opt: ParsingOptions<R>,
+    ) -> Result<Document<'input>, Error<'w>>
+        requires may { MayAsk R.can_resolve opt.entity_resolver }
+        ensures is_parse { IfOk result (λ document. (asked : List Asked) × AreAllowed (Allows R.allows opt.entity_resolver) asked × Permits opt.allow_dtd document.dtd × IsTreeOf text.now document.dtd asked opt.nodes_limit document.tree) }
         ensures text { IfOk result (λ document. document.text ≡ text.now) }
         ensures key { IfOk result (λ document. document.key ≡ opt.document_key) }
-        ensures no_parse { IfErr result (λ e. e ≢ Error.OutOfMemory → (tree : Forest grammar.Node) → IsTreeOf text.now opt.nodes_limit tree → ⊥) }
-        ensures fault { IfErr result (λ e. e ≢ Error.OutOfMemory → (f : Fault) × (reading opt.nodes_limit text.now ≡ Err f) × NamesText text.now f × IsErrorOf text.now f e) }
+        ensures no_parse { IfErr result (λ e. SpeaksOfText e → (asked : List Asked) × HasAsked text.now opt.allow_dtd asked × AreAllowed (Allows R.allows opt.entity_resolver) asked × ((dtd : Bool) (later : List Asked) (tree : Forest grammar.Node) → Permits opt.allow_dtd dtd → IsTreeOf text.now dtd (asked ++ later) opt.nodes_limit tree → ⊥)) }
+        ensures resolver { IfErr result (λ e. (p : TextPos) (words : String Global) → e ≡ Error.EntityResolver p words → (asked : List Asked) × (request : Request) × (at : ℕ) × (opt.allow_dtd ≡ true) × AreAllowed (Allows R.allows opt.entity_resolver) asked × AsksNext text.now asked request at × Allows R.allows opt.entity_resolver request (Err (string_bytes words)) × (p ≡ position_at text.now at)) }
+        ensures fault { IfErr result (λ e. SpeaksOfText e → (asked : List Asked) × (source : List ℕ) × (f : Fault) × AreAllowed (Allows R.allows opt.entity_resolver) asked × RefusalOf opt.nodes_limit opt.allow_dtd text.now asked source f × NamesText source f × IsErrorOf source f e) }
+        ensures first { IfErr result (λ e. e ≢ Error.OutOfMemory → IsFirst opt.nodes_limit opt.allow_dtd (Allows R.allows opt.entity_resolver) text.now e) }
     {
         read(alloc, text, opt)
     }
 }
 
 /// The document of a text, as it is read.
-fn read<'input>(
+fn read<'input, 'w, R: EntityResolver<'input> + Drop>(
     alloc: Global,
     text: &'input str,
-    opt: ParsingOptions,
-) -> Result<Document<'input>, Error>
-    ensures tree { IfOk result (λ document. (tops : Forest Item) × (reading opt.nodes_limit text.now ≡ Ok tops) × (document.tree ≡ grammar.document_tree (length text.now) tops)) }
+    opt: ParsingOptions<R>,
+) -> Result<Document<'input>, Error<'w>>
+    requires may { MayAsk R.can_resolve opt.entity_resolver }
+    ensures tree { IfOk result (λ document. IsRead opt.nodes_limit opt.allow_dtd (Allows R.allows opt.entity_resolver) text.now document) }
     ensures text { IfOk result (λ document. document.text ≡ text.now) }
     ensures key { IfOk result (λ document. document.key ≡ opt.document_key) }
-    ensures told { IfErr result (λ e. e ≢ Error.OutOfMemory → (f : Fault) × (reading opt.nodes_limit text.now ≡ Err f) × NamesText text.now f × IsErrorOf text.now f e) }
+    ensures told { IfErr result (λ e. e ≢ Error.OutOfMemory → IsFirst opt.nodes_limit opt.allow_dtd (Allows R.allows opt.entity_resolver) text.now e) }
 {
     let options = Options {
         nodes_limit: opt.nodes_limit,
         allow_dtd: opt.allow_dtd,
     };
-    match build(alloc, text, options) {
-        Ok(tables) => Ok(Document::from_tables(text, opt.document_key, tables)),
-        Err(failure) => Err(told(alloc, text, failure)),
+    match build(alloc, text, options, &opt.entity_resolver) {
+        Ok((tables, dtd)) => Ok(Document::from_tables(text, opt.document_key, dtd, tables)),
+        Err(refused) => Err(told(alloc, text, refused)),
     }
 }
 
-/// What a caller is told of a failure.
+/// What a caller is told of a refusal.
 #[cold]
-fn told(alloc: Global, text: &str, failure: Failure) -> Error
-    ensures memory { failure ≡ Failure.Memory → result ≡ Error.OutOfMemory }
-    ensures fault { (f : Fault) → failure ≡ Failure.Fault f → IsErrorOf text.now f result }
+fn told<'w>(alloc: Global, text: &str, refused: Refused<'_>) -> Error<'w>
+    ensures { Tells text.now refused.entry result }
 {
-    match failure {
-        Failure::Memory => Error::OutOfMemory,
-        Failure::Fault(fault) => Error::from_fault(alloc, text, fault),
+    match refused {
+        Refused::Memory => Error::OutOfMemory,
+        Refused::Fault(fault) => Error::from_fault(alloc, text, fault),
+        Refused::Elsewhere(source, fault) => Error::from_fault(alloc, source, fault),
+        Refused::Resolver(at, words) => Error::from_resolver(text, at, words),
     }
 }

@@ -1,11 +1,17 @@
 //! What users of a document rest on, each a function whose contract is the law.
 
-ghost use Rattle.std.specs.Prelude.{◌≡◌, ◌≢◌, ◌↔◌, ℕ, ◌<◌, ◌≤◌, List, Option, Some, None, IsUtf8, length};
+ghost use Rattle.std.specs.Prelude.{false, [], ◌≡◌, ◌≢◌, ◌↔◌, ℕ, Bool, ◌<◌, ◌≤◌, List, Option, Some, None, IsUtf8, length};
+ghost use Rattle.rox_grammar.specs.declared.fault.Fault.{Fault};
 ghost use Rattle.rox_grammar.specs.Forest.{Forest, size};
 ghost use Rattle.rox_grammar.specs.Written.{Item};
 ghost use Rattle.rox_grammar.specs.Tree as grammar;
 ghost use Rattle.rox_grammar.specs.Tree.{document_tree};
+ghost use Rattle.rox_grammar.specs.Entities.{opens_main, most_open};
+ghost use Rattle.rox_grammar.specs.Doctype.{Asked};
 ghost use Rattle.rox_grammar.specs.Document.{ParseOf, IsTreeOf};
+ghost use Rattle.rox_grammar.specs.Expansion.{Counts};
+ghost use Rattle.roxmltree.specs.Bounded.{IsBounded};
+ghost use Rattle.rox_grammar.specs.Faults.{FaultOf};
 ghost use Rattle.roxmltree.specs.Lawful.{TextsApart, NamesDistinct, AllChars};
 ghost use Rattle.roxmltree.specs.Located.{RangesNested, AttributesInOrder, AttributesWritten, RangesSelect};
 ghost use Rattle.roxmltree.specs.Sections.{EmptyTextsAreSections};
@@ -16,21 +22,31 @@ ghost use Rattle.roxmltree.specs.Nearest.{upwards, NoneDeclares, IsNearest, IsEl
 
 use crate::tree::Document;
 
-/// A text has one tree at most, whatever the limits are.
+/// A text has one tree at most for one list of answers, whatever the limits are. Whether it has a document type declaration is
+/// seen in the text alone.
 pub fn one_tree()
-    ensures { (text : List ℕ) (limit most : ℕ) (s t : Forest grammar.Node) → IsUtf8 text → IsTreeOf text limit s → IsTreeOf text most t → s ≡ t }
+    ensures tree { (text : List ℕ) (one other : Bool) (asked : List Asked) (limit most : ℕ) (s t : Forest grammar.Node) → IsUtf8 text → IsTreeOf text one asked limit s → IsTreeOf text other asked most t → s ≡ t }
+    ensures dtd { (text : List ℕ) (one other : Bool) (asked answered : List Asked) (limit most : ℕ) (s t : Forest grammar.Node) → IsUtf8 text → IsTreeOf text one asked limit s → IsTreeOf text other answered most t → one ≡ other }
 {}
 
-/// The tree of every document is the one of its text.
+/// A text in which a fault stands has no tree within the limits. So a refusal, but for want of memory, is true.
+pub fn faults_refuse()
+    ensures { (text : List ℕ) (limit : ℕ) (f : Fault) (tree : Forest grammar.Node) → IsUtf8 text → FaultOf limit text f → IsTreeOf text false [] limit tree → ⊥ }
+{}
+
+/// The tree of every document is that of its text, with what was answered for its external entities. Without a document type
+/// declaration nothing was asked.
 pub fn document_is_a_parse(document: &Document<'_>)
-    ensures { IsTreeOf document.now.text 4294967295 document.now.tree }
+    ensures any { (asked : List Asked) × IsTreeOf document.now.text document.now.dtd asked 4294967295 document.now.tree }
+    ensures plain { document.now.dtd ≡ false → IsTreeOf document.now.text false [] 4294967295 document.now.tree }
 {
     document.whole();
 }
 
-/// Documents of one text have one tree.
+/// Whether there is a document type declaration is seen in the text; and documents of one text without one have one tree.
 pub fn documents_of_one_text(one: &Document<'_>, other: &Document<'_>)
-    ensures { one.now.text ≡ other.now.text → one.now.tree ≡ other.now.tree }
+    ensures dtd { one.now.text ≡ other.now.text → one.now.dtd ≡ other.now.dtd }
+    ensures tree { one.now.text ≡ other.now.text → one.now.dtd ≡ false → one.now.tree ≡ other.now.tree }
 {
     one.whole();
     other.whole();
@@ -60,11 +76,13 @@ pub fn attributes_have_their_own_names(document: &Document<'_>)
 
 /// The URI that an element lists for a prefix, or for the default, is that of the nearest declaration of it in the text as
 /// written, by the element itself or by one above it. There is none where none of them declares it, nor for `xml`, nor on
-/// other nodes (Namespaces in XML 1.0 section 6.1).
+/// other nodes (Namespaces in XML 1.0 section 6.1). What is written is the parse that the tree is of, replacement texts in the
+/// place of their references.
 pub fn nearest_declaration_is_listed(document: &Document<'_>)
-    ensures written { (tops : Forest Item) → ParseOf document.now.text tops → document.now.tree ≡ document_tree (length document.now.text) tops }
-    ensures found { (tops : Forest Item) → ParseOf document.now.text tops → (id : ℕ) (prefix : Option (List ℕ)) (uri : List ℕ) → IsElementAt document.now.tree id → prefix ≢ xml → (listed_uri document.now.tree id prefix ≡ Some uri) ↔ IsNearest tops document.now.tree id prefix uri }
-    ensures none { (tops : Forest Item) → ParseOf document.now.text tops → (id : ℕ) (prefix : Option (List ℕ)) → IsElementAt document.now.tree id → prefix ≢ xml → (listed_uri document.now.tree id prefix ≡ None) ↔ NoneDeclares tops prefix (upwards document.now.tree id) }
+    ensures written { (asked : List Asked) × (tops : Forest Item) × ParseOf document.now.text document.now.dtd asked tops × (document.now.tree ≡ document_tree (length document.now.text) tops) }
+    ensures only { document.now.dtd ≡ false → (tops : Forest Item) → ParseOf document.now.text false [] tops → document.now.tree ≡ document_tree (length document.now.text) tops }
+    ensures found { (asked : List Asked) (tops : Forest Item) → ParseOf document.now.text document.now.dtd asked tops → document.now.tree ≡ document_tree (length document.now.text) tops → (id : ℕ) (prefix : Option (List ℕ)) (uri : List ℕ) → IsElementAt document.now.tree id → prefix ≢ xml → (listed_uri document.now.tree id prefix ≡ Some uri) ↔ IsNearest tops document.now.tree id prefix uri }
+    ensures none { (asked : List Asked) (tops : Forest Item) → ParseOf document.now.text document.now.dtd asked tops → document.now.tree ≡ document_tree (length document.now.text) tops → (id : ℕ) (prefix : Option (List ℕ)) → IsElementAt document.now.tree id → prefix ≢ xml → (listed_uri document.now.tree id prefix ≡ None) ↔ NoneDeclares tops prefix (upwards document.now.tree id) }
     ensures never_xml { (id : ℕ) → listed_uri document.now.tree id xml ≡ None }
     ensures others { (id : ℕ) (prefix : Option (List ℕ)) → ¬ IsElementAt document.now.tree id → listed_uri document.now.tree id prefix ≡ None }
 {
@@ -79,30 +97,49 @@ pub fn characters_are_chars(document: &Document<'_>)
     document.whole();
 }
 
-/// A text is empty only where all its pieces are empty CDATA sections: from its start on such sections stand, one at least,
-/// and then markup that is none.
+/// Without a document type declaration a text is empty only where all its pieces are empty CDATA sections: from its start on such
+/// sections stand, one at least, and then markup that is none.
 pub fn empty_texts_are_sections(document: &Document<'_>)
-    ensures { EmptyTextsAreSections document.now.text document.now.tree }
+    ensures { document.now.dtd ≡ false → EmptyTextsAreSections document.now.text document.now.tree }
 {
     document.whole();
 }
 
-/// A node's range lies in its parent's, and those of siblings are in order and disjoint: each ends where the next starts, or
-/// before. A text that was merged has the range of its first piece.
+/// Without a document type declaration a node's range lies in its parent's, and those of siblings are in order and disjoint: each
+/// ends where the next starts, or before. A text that was merged has the range of its first piece. (What a reference opens has
+/// ranges of its own: they count in the replacement text.)
 pub fn ranges_are_nested(document: &Document<'_>)
-    ensures nested { RangesNested 0 (length document.now.text) document.now.tree }
-    ensures in_parent { (i q : ℕ) → i < size document.now.tree → parent document.now.tree i ≡ Some q → (start_of (node_at document.now.tree q) ≤ start_of (node_at document.now.tree i)) × (end_of (node_at document.now.tree i) ≤ end_of (node_at document.now.tree q)) }
-    ensures before_next { (i j : ℕ) → i < size document.now.tree → next_sibling document.now.tree i ≡ Some j → end_of (node_at document.now.tree i) ≤ start_of (node_at document.now.tree j) }
+    ensures nested { document.now.dtd ≡ false → RangesNested 0 (length document.now.text) document.now.tree }
+    ensures in_parent { document.now.dtd ≡ false → (i q : ℕ) → i < size document.now.tree → parent document.now.tree i ≡ Some q → (start_of (node_at document.now.tree q) ≤ start_of (node_at document.now.tree i)) × (end_of (node_at document.now.tree i) ≤ end_of (node_at document.now.tree q)) }
+    ensures before_next { document.now.dtd ≡ false → (i j : ℕ) → i < size document.now.tree → next_sibling document.now.tree i ≡ Some j → end_of (node_at document.now.tree i) ≤ start_of (node_at document.now.tree j) }
 {
     document.whole();
 }
 
-/// The ranges of an attribute select its name as it is written and the raw value between its quotes (XML 1.0 section 3.1).
-/// Attributes are in order within their element.
+/// Without a document type declaration the ranges of an attribute select its name as it is written and the raw value between its
+/// quotes (XML 1.0 section 3.1). Attributes are in order within their element.
 pub fn attributes_are_written(document: &Document<'_>)
-    ensures selected { RangesSelect document.now.text document.now.tree }
-    ensures grammar { AttributesWritten document.now.text document.now.tree }
-    ensures ordered { AttributesInOrder document.now.tree }
+    ensures selected { document.now.dtd ≡ false → RangesSelect document.now.text document.now.tree }
+    ensures grammar { document.now.dtd ≡ false → AttributesWritten document.now.text document.now.tree }
+    ensures ordered { document.now.dtd ≡ false → AttributesInOrder document.now.tree }
 {
     document.whole();
+}
+
+/// However much entities add, a tree is bounded by its text: the values of all texts and attributes together have at most the
+/// bytes of the text, and for each `&` in it 256 times those of the longest replacement text that it declares. There are no more
+/// nodes, the root node aside, and attributes together than that.
+pub fn trees_are_bounded(document: &Document<'_>)
+    ensures { (asked : List Asked) × (tops : Forest Item) × (p : ParseOf document.now.text document.now.dtd asked tops) × (document.now.tree ≡ document_tree (length document.now.text) tops) × IsBounded document.now.text p.entities document.now.tree }
+{
+    document.whole();
+}
+
+/// Under one reference of the text at most 256 replacement texts are opened, at most ten within one another: in content, and in
+/// the value of an attribute or declaration. They are those of the entities that the text declares.
+pub fn openings_are_few(document: &Document<'_>)
+    ensures in_content { (asked : List Asked) (tops : Forest Item) (p : ParseOf document.now.text document.now.dtd asked tops) (name : List ℕ) (b c : ℕ) (items : Forest Item) → (opens_main p.entities).content name b items c → (n : ℕ) × (Counts p.entities most_open).content name 0 items n × (n ≤ 256) }
+    ensures in_value { (asked : List Asked) (tops : Forest Item) (p : ParseOf document.now.text document.now.dtd asked tops) (name : List ℕ) (b c : ℕ) (v : List ℕ) → (opens_main p.entities).value name b v c → (n : ℕ) × (Counts p.entities most_open).value name 0 v n × (n ≤ 256) }
+{
+    let _ = document;
 }

@@ -1,6 +1,6 @@
 //! A document: the tables of its nodes, seen by callers as the one tree that they hold.
 
-ghost use Rattle.std.specs.Prelude.{◌≡◌, ◌+◌, ◌^◌, ◌<◌, ◌≤◌, ℕ, length, Some, None, IfSome, IfNone};
+ghost use Rattle.std.specs.Prelude.{◌≡◌, ◌+◌, ◌^◌, ◌<◌, ◌≤◌, ℕ, List, length, Some, None, IfSome, IfNone};
 ghost use Rattle.std.specs.Option.{option_map};
 ghost use Rattle.rox_grammar.specs.Forest.{Forest, size};
 ghost use Rattle.roxmltree.specs.Places.{place, parent, children};
@@ -18,6 +18,7 @@ pub struct Document<'input> {
     text: &'input str,
     tables: Tables<'input>,
     key: u64,
+    dtd: bool,
 }
 
 impl<'input> Model for Document<'input> {
@@ -36,6 +37,7 @@ impl<'input> Model for Document<'input> {
 
 impl<'input> Document<'input> {
     ghost use Rattle.rox_grammar.specs.Tree as grammar;
+    ghost use Rattle.rox_grammar.specs.Doctype.{Asked};
     ghost use Rattle.rox_grammar.specs.Document.{IsTreeOf};
     ghost use Rattle.std.specs.Prelude.{IsUtf8};
     ghost use Rattle.rox_build.specs.Lines.{Holds};
@@ -43,26 +45,33 @@ impl<'input> Document<'input> {
     ghost use Rattle.roxmltree.specs.Bare.{bare, bare_row};
     ghost use Rattle.roxmltree.specs.Stored.{content_in};
     ghost use Rattle.roxmltree.specs.Spot.{number, spot, spots, id_of, document_of};
-    ghost use Rattle.roxmltree.specs.Elements.{nearest_element};
+    ghost use Rattle.roxmltree.specs.Elements.{nearest_element, root_id};
 
-    /// The document of a text, from the tables of its tree.
+    /// The document of a text, from the tables of its tree, where it is known whether it has a document type declaration.
     pub(crate) fn from_tables(
         text: &'input str,
         key: u64,
+        dtd: bool,
         tables: Tables<'input>,
     ) -> Document<'input>
-        requires { HoldsDocument text.now tables }
+        requires { HoldsDocument text.now dtd tables }
         ensures tree { (tree : Forest grammar.Node) → Holds tables.entry tree → result.tree ≡ tree }
         ensures text { result.text ≡ text.now }
         ensures key { result.key ≡ key }
+        ensures dtd { result.dtd ≡ dtd }
     {
-        Document { text, tables, key }
+        Document {
+            text,
+            tables,
+            key,
+            dtd,
+        }
     }
 
     /// What is true of every document.
     #[inline]
     pub(crate) fn whole(&self)
-        ensures parsed { IsTreeOf self.now.text 4294967295 self.now.tree }
+        ensures parsed { (asked : List Asked) × IsTreeOf self.now.text self.now.dtd asked 4294967295 self.now.tree }
         ensures utf8 { IsUtf8 self.now.text }
     {
         let _ = &self.text;
@@ -100,6 +109,14 @@ impl<'input> Document<'input> {
         self.key
     }
 
+    /// Whether its text has a document type declaration.
+    #[inline]
+    pub(crate) fn has_doctype(&self) -> bool
+        ensures { result ≡ self.now.dtd }
+    {
+        self.dtd
+    }
+
     /// The text that was parsed.
     #[inline]
     pub fn input_text(&self) -> &'input str
@@ -122,9 +139,11 @@ impl<'input> Document<'input> {
     }
 
     /// The outermost element (XML 1.0 section 2.1).
-    #[tactic(auto, using(crate::proofs::Tops::root_element_there))]
+    #[tactic(auto, using(crate::proofs::Tops::root_element_there, crate::proofs::Contained::nearest_is))]
     pub fn root_element(&self) -> Node<'_, 'input>
-        ensures { Some (spot result) ≡ nearest_element (spots self.now (children self.now.tree 0)) }
+        ensures element { Some (spot result) ≡ nearest_element (spots self.now (children self.now.tree 0)) }
+        ensures id { id_of result ≡ root_id self.now.tree }
+        ensures document { document_of result ≡ self.now }
     {
         let _ = &self.tables;
         let root = self.root();

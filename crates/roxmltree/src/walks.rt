@@ -134,7 +134,9 @@ impl fmt::Debug for Descendants<'_, '_> {
 impl<'a, 'input> Iterator for Descendants<'a, 'input> {
     type Item = Node<'a, 'input>;
 
-    ghost use Rattle.std.specs.Iterator.{YieldsFirstBy, item_count};
+    ghost use Rattle.std.specs.Prelude.{Some, IfSome, length};
+    ghost use Rattle.std.specs.Iterator.{YieldsFirstBy, item_count, UpTo};
+    ghost use Rattle.std.specs.Iterator.SizeHint.{IsWithinCount};
     ghost use Rattle.roxmltree.specs.Spot.{spot};
 
     ghost next_gives = { YieldsFirstBy spot (λ s. s) };
@@ -152,6 +154,15 @@ impl<'a, 'input> Iterator for Descendants<'a, 'input> {
         };
         self.from = NodeId(self.from.0 + 1);
         Some(node)
+    }
+
+    fn size_hint(&self) -> (usize, Option<usize>)
+        ensures lower { IsWithinCount result.0 (item_count (λ s. s) self.now) }
+        ensures upper { IfSome result.1 (UpTo (item_count (λ s. s) self.now)) }
+        ensures exact { result ≡ (length self.now, Some (length self.now)) }
+    {
+        let left = self.len();
+        (left, Some(left))
     }
 }
 

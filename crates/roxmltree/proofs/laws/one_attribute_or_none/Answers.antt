@@ -9,7 +9,7 @@ use Rattle.roxmltree.proofs.laws.one_attribute_or_none.Goals as goal
 pub loop-attribute-init : goal.loop-attribute-init
 loop-attribute-init c =
     let all = ap (how_many (expanded c.args.name)) (c.into_iter-attribute-iterator.ensures.into_iter_gives ∙ c.attributes-attribute-items.ensures.value) in
-    (omega (arith, all), one_at_most (tree_of c.args.node) (names_distinct _ _ _ c.whole.ensures.parsed) (id_of c.args.node) (expanded c.args.name))
+    (omega (arith, all), one_at_most (tree_of c.args.node) (names_distinct _ _ _ c.whole.ensures.parsed.1) (id_of c.args.node) (expanded c.args.name))
 
 pub returns-clause-count : goal.returns-clause-count
 returns-clause-count c =
@@ -18,4 +18,4 @@ returns-clause-count c =
 
 pub returns-clause-one_or_none : goal.returns-clause-one_or_none
 returns-clause-one_or_none c =
-    returns-clause-count c ∙ counted_one (tree_of c.args.node) (names_distinct _ _ _ c.whole.ensures.parsed) (id_of c.args.node) (expanded c.args.name)
+    returns-clause-count c ∙ counted_one (tree_of c.args.node) (names_distinct _ _ _ c.whole.ensures.parsed.1) (id_of c.args.node) (expanded c.args.name)

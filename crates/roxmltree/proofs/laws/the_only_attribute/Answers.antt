@@ -12,4 +12,4 @@ returns-clause-named c = answer_is_one attribute_of _ (expanded c.args.name) (at
 
 pub returns-clause-only : goal.returns-clause-only
 returns-clause-only c i named =
-    only_named (tree_of c.args.node) (names_distinct _ _ _ c.whole.ensures.parsed) (id_of c.args.node) (expanded c.args.name) i named ∙ sym c.attribute_node.ensures
+    only_named (tree_of c.args.node) (names_distinct _ _ _ c.whole.ensures.parsed.1) (id_of c.args.node) (expanded c.args.name) i named ∙ sym c.attribute_node.ensures

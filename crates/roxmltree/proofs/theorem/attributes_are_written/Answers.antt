@@ -1,11 +1,12 @@
 use Rattle.roxmltree.proofs.Selected.{ranges_select, attributes_written, attributes_in_order}
+use Rattle.roxmltree.proofs.Plain.{plain_document}
 use Rattle.roxmltree.proofs.theorem.attributes_are_written.Goals as goal
 
 pub returns-clause-selected : goal.returns-clause-selected
-returns-clause-selected c = ranges_select _ _ _ c.whole.ensures.parsed
+returns-clause-selected c none = ranges_select _ _ _ (plain_document c.args.document.now c.whole.ensures.utf8 none c.whole.ensures.parsed)
 
 pub returns-clause-grammar : goal.returns-clause-grammar
-returns-clause-grammar c = attributes_written _ _ _ c.whole.ensures.parsed
+returns-clause-grammar c none = attributes_written _ _ _ (plain_document c.args.document.now c.whole.ensures.utf8 none c.whole.ensures.parsed)
 
 pub returns-clause-ordered : goal.returns-clause-ordered
-returns-clause-ordered c = attributes_in_order _ _ _ c.whole.ensures.parsed
+returns-clause-ordered c none = attributes_in_order _ _ _ (plain_document c.args.document.now c.whole.ensures.utf8 none c.whole.ensures.parsed)

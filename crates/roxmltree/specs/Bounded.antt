@@ -1,0 +1,41 @@
+-- How much the nodes of a tree say, and how many they are, against their text.
+use Rattle.std.specs.Prelude.{ℕ, ◌+◌, ◌≤◌, List, [], ◌∷◌, length}
+use Rattle.rox_grammar.specs.Forest.{Forest, Nil, Cons, size}
+use Rattle.rox_grammar.specs.Tree.{Attribute, Node, Root, Element, Text, Comment, PI}
+use Rattle.rox_grammar.specs.Entities.{Entity}
+use Rattle.rox_grammar.specs.Expansion.{most_bytes}
+
+abbrev pub value_bytes : List Attribute → ℕ
+value_bytes [] = 0
+value_bytes (a ∷ as') = length a.value + value_bytes as'
+
+-- the bytes of the value of a text, or of those of an element's attributes
+abbrev pub bytes_of : Node → ℕ
+bytes_of (Root end) = 0
+bytes_of (Element start end namespace local listed attributes) = value_bytes attributes
+bytes_of (Text start end value borrowed) = length value
+bytes_of (Comment start end text) = 0
+bytes_of (PI start end target value) = 0
+
+abbrev pub count_of : Node → ℕ
+count_of (Root end) = 0
+count_of (Element start end namespace local listed attributes) = length attributes
+count_of (Text start end value borrowed) = 0
+count_of (Comment start end text) = 0
+count_of (PI start end target value) = 0
+
+-- the values of all texts and attributes together
+abbrev pub all_bytes : Forest Node → ℕ
+all_bytes Nil = 0
+all_bytes (Cons node children rest) = bytes_of node + (all_bytes children + all_bytes rest)
+
+-- how many attributes there are
+abbrev pub all_attributes : Forest Node → ℕ
+all_attributes Nil = 0
+all_attributes (Cons node children rest) = count_of node + all_attributes children + all_attributes rest
+
+-- The values have at most the bytes of the text, and for each `&` in it 256 times those of the longest replacement text of these
+-- entities; nodes, the root node aside, and attributes together are no more than that.
+pub record IsBounded (text : List ℕ) (entities : List Entity) (tree : Forest Node) : Type 0 where
+  pub bytes : all_bytes tree ≤ most_bytes text entities
+  pub nodes : size tree + all_attributes tree ≤ most_bytes text entities + 1

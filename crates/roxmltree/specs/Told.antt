@@ -1,0 +1,65 @@
+-- What a caller is told of a text that is refused.
+use Rattle.std.specs.Prelude.{◌≡◌, ◌≢◌, ◌++◌, ℕ, Bool, List, Ok, Err, String, string_bytes, length}
+use Rattle.std.specs.declared.alloc.Global.{Global}
+use Rattle.rox_grammar.specs.Spans.{NamesText}
+use Rattle.rox_grammar.specs.Doctype.{Request, Asked}
+use Rattle.rox_grammar.specs.Written.{Item}
+use Rattle.rox_grammar.specs.Forest.{Forest}
+use Rattle.rox_grammar.specs.Tree.{document_tree}
+use Rattle.rox_reading.specs.Refusals.{Refusal, here, there, refused}
+use Rattle.rox_reading.specs.Doctype.{Reply, replies_of, AreTextReplies}
+use Rattle.rox_reading.specs.Answering.{Stops}
+use Rattle.rox_reading.specs.Whole.{has_doctype, reading}
+use Rattle.rox_resolver.specs.Requests.{AreAllowed}
+use Rattle.rox_error.specs.Telling.{position_at, IsErrorOf}
+use Rattle.rox_error.specs.declared.error.Error.{Error}
+use Rattle.rox_error.specs.declared.error.Error.TheVariants as error
+use Rattle.rox_error.specs.declared.position.TextPos.{TextPos}
+use Rattle.rox_build.specs.declared.refused.Refused.{Refused}
+use Rattle.rox_build.specs.declared.refused.Refused.TheVariants as why
+use Rattle.roxmltree.specs.Doc.{Doc}
+
+-- The error is one of the text: it is neither want of memory nor the resolver's own.
+abbrev pub SpeaksOfText : Error → Type 0
+SpeaksOfText e = (e ≢ error.OutOfMemory) × ((p : TextPos) (words : String Global) → e ≢ error.EntityResolver p words)
+
+-- The error is what a caller is told of the refusal of this text: of a fault its kind, its names and its position in the source
+-- that it counts in, of the resolver's own its words, at the end of the request in the text.
+abbrev pub IsTold : (text : List ℕ) → Refusal → Error → Type 0
+IsTold text (here f) e = NamesText text f × IsErrorOf text f e
+IsTold text (there source f) e = NamesText source f × IsErrorOf source f e
+IsTold text (refused request at message) e = (words : String Global) × (string_bytes words ≡ message) × (e ≡ error.EntityResolver (position_at text at) words)
+
+-- the resolver's own is one that it may reply to that request
+abbrev pub MayRefuse : (allows : Request → Reply → Type 0) → Refusal → Type 0
+MayRefuse allows (here f) = Unit {0}
+MayRefuse allows (there source f) = Unit {0}
+MayRefuse allows (refused request at message) = allows request (Err message)
+
+-- The error is that of what stops reading from left to right, after these were asked and answered as is allowed, whatever would
+-- be replied next.
+pub record IsFirst (limit : ℕ) (allow : Bool) (allows : Request → Reply → Type 0) (text : List ℕ) (e : Error) : Type 0 where
+  pub asked : List Asked
+  pub allowed : AreAllowed allows asked
+  pub texts : AreTextReplies (replies_of asked)
+  pub refusal : Refusal
+  pub may : MayRefuse allows refusal
+  pub stops : Stops (λ replies. reading limit allow replies text) asked refusal
+  pub told : IsTold text refusal e
+
+-- the document is what is read of the text, after these were asked
+pub record IsRead (limit : ℕ) (allow : Bool) (allows : Request → Reply → Type 0) (text : List ℕ) (d : Doc) : Type 0 where
+  pub asked : List Asked
+  pub allowed : AreAllowed allows asked
+  pub texts : AreTextReplies (replies_of asked)
+  pub tops : Forest Item
+  pub read : (more : List Reply) → reading limit allow (replies_of asked ++ more) text ≡ (asked, Ok tops)
+  pub seen : d.dtd ≡ has_doctype limit text
+  pub shown : d.tree ≡ document_tree (length text) tops
+
+-- what the error says, by the reason that there are no tables
+abbrev pub Tells : (text : List ℕ) → Refused → Error → Type 0
+Tells text why.Memory e = e ≡ error.OutOfMemory
+Tells text (why.Fault f) e = IsErrorOf text f e
+Tells text (why.Elsewhere source f) e = IsErrorOf source.now f e
+Tells text (why.Resolver at words) e = e ≡ error.EntityResolver (position_at text at) words
