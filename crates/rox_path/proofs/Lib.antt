@@ -1,0 +1,3 @@
+pub mod PathLemmas
+pub mod Around
+pub mod MarkLemmas

@@ -1,0 +1,46 @@
+use Rattle.std.proofs.Common.{◌≡◌, Bool, List, map, take, ◌∙◌, sym, subst, ap, Vec, Global}
+use Rattle.std.specs.List.{filter}
+use Rattle.std.proofs.lemmas.Result.{IfOk-weaker}
+use Rattle.std.proofs.lemmas.List.{take_all}
+use Rattle.roxmltree.specs.Names.{expanded}
+use Rattle.roxmltree.specs.Spot.{id_of, document_of, spot}
+use Rattle.rox_path.specs.Steps.{PathStep, step_of}
+use Rattle.rox_path.specs.Marks.{subtree_of, is_child, is_descendant, has_mark}
+use Rattle.rox_path.proofs.MarkLemmas.{Shows, start_shows, child_shows, descendant_shows, nodes_selected, one_more_step}
+use Rattle.rox_path.proofs.selection.select.Goals as goal
+use Rattle.rox_path.proofs.selection.select.Goals.{in-Child+in_ok-marks-in-Child, in-Descendant+in_ok-marks-in-Descendant}
+
+pub loop-step-init : goal.loop-step-init
+loop-step-init c = start_shows (document_of c.args.start) (id_of c.args.start) _ c.laws.ensures c.args.start.in_tree c.in_ok-marks.ensures
+
+pub loop-step-preserved : goal.loop-step-preserved
+loop-step-preserved c =
+    let doc = document_of c.args.start in
+    let top = id_of c.args.start in
+    let so_far = map step_of (take c.loop-step.step-index c.args.steps.now) in
+    elim c.match-step.branch [
+      | in-Child+in_ok-marks-in-Child w ↦
+          let name = expanded w.in-Child.name in
+          let marks = ap (λ (v : Vec Bool Global). v.items) w.marks-is ∙ w.in_ok-marks-in-Child.ensures ∙ ap (λ (m : List Bool). map (is_child top m name) (subtree_of c.args.start)) w.deref.ensures.value in
+          subst (λ (s : List PathStep). Shows doc.tree top s c.match-step.marks.items)
+          (sym (one_more_step c.args.steps.now c.loop-step.step-index _ _ c.loop-step-test.true w.in-Child.is))
+          (child_shows doc top so_far name c.loop-step.marks.items c.match-step.marks.items c.laws.ensures c.args.start.in_tree c.loop-step.invariant marks)
+      | in-Descendant+in_ok-marks-in-Descendant w ↦
+          let name = expanded w.in-Descendant.name in
+          let marks = ap (λ (v : Vec Bool Global). v.items) w.marks-is ∙ w.in_ok-marks-in-Descendant.ensures ∙ ap (λ (m : List Bool). map (is_descendant top m name) (subtree_of c.args.start)) w.deref-in-Descendant.ensures.value in
+          subst (λ (s : List PathStep). Shows doc.tree top s c.match-step.marks.items)
+          (sym (one_more_step c.args.steps.now c.loop-step.step-index _ _ c.loop-step-test.true w.in-Descendant.is))
+          (descendant_shows doc top so_far name c.loop-step.marks.items c.match-step.marks.items c.laws.ensures c.args.start.in_tree c.loop-step.invariant marks)
+    ]
+
+pub returns : goal.returns
+returns c =
+    let doc = document_of c.args.start in
+    let top = id_of c.args.start in
+    let all : take c.loop-step.step-index c.args.steps.now ≡ c.args.steps.now = take_all c.loop-step.step-index c.args.steps.now c.loop-step-test.false in
+    let shows = subst (λ (s : List PathStep). Shows doc.tree top s c.loop-step.marks.items) (ap (map step_of) all) c.loop-step.invariant in
+    IfOk-weaker c.marked_nodes.result _ _
+    (λ nodes is.
+    nodes_selected doc top (map step_of c.args.steps.now) c.loop-step.marks.items (map spot nodes.items) c.laws.ensures c.args.start.in_tree shows
+    (is ∙ ap (λ (m : List Bool). filter (has_mark top m) (subtree_of c.args.start)) c.deref-2.ensures.value))
+    c.marked_nodes.ensures

@@ -1,0 +1,32 @@
+-- Which nodes steps lead to.
+use Rattle.std.specs.Prelude.{◌≡◌, ◌↔◌, ℕ, ◌<◌, List, [], ◌∷◌, ◌++◌, Some, Contains, IsTrue}
+use Rattle.rox_grammar.specs.Forest.{Forest}
+use Rattle.rox_grammar.specs.Tree.{Node}
+use Rattle.roxmltree.specs.Places.{place, parent}
+use Rattle.roxmltree.specs.Says.{node_at, says_element, local_of, namespace_of}
+use Rattle.rox_path.specs.Steps.{Expanded, PathStep, child, descendant}
+
+-- the node of this id is an element of this name: no namespace and the empty URI differ
+pub record IsElementOf (tree : Forest Node) (id : ℕ) (name : Expanded) : Type 0 where
+  pub is_element : IsTrue (says_element (node_at tree id))
+  pub namespace : namespace_of (node_at tree id) ≡ name.0
+  pub local : local_of (node_at tree id) ≡ name.1
+
+-- no steps lead to the start alone; with a last step, to the elements of its name whose parent, or one of the nodes above
+-- which, the steps before it lead to
+pub data Match (tree : Forest Node) (start : ℕ) : List PathStep → ℕ → Type 0 where
+  at_start : Match tree start [] start
+  by_child : (steps : List PathStep) (name : Expanded) (id p : ℕ) → Match tree start steps p → parent tree id ≡ Some p → IsElementOf tree id name
+      → Match tree start (steps ++ child name ∷ []) id
+  by_descendant : (steps : List PathStep) (name : Expanded) (id a : ℕ) → Match tree start steps a → Contains (place tree id).above a → IsElementOf tree id name
+      → Match tree start (steps ++ descendant name ∷ []) id
+
+-- each is less than those behind it
+abbrev pub Ascends : List ℕ → Type 0
+Ascends [] = Unit {0}
+Ascends (i ∷ is) = ((j : ℕ) → Contains is j → i < j) × Ascends is
+
+-- the ids of exactly the nodes that the steps lead to, in document order, each once
+pub record Selects (tree : Forest Node) (start : ℕ) (steps : List PathStep) (ids : List ℕ) : Type 0 where
+  pub in_order : Ascends ids
+  pub exactly : (id : ℕ) → Contains ids id ↔ Match tree start steps id

@@ -1,0 +1,56 @@
+-- Paths as they are written: places in the bytes of a text, from 0.
+use Rattle.std.specs.Prelude.{◌≡◌, ◌≢◌, ◌⊎◌, ℕ, ◌+◌, ◌<◌, ◌==◌, ◌||◌, List, [], ◌∷◌, Some, None, length}
+use Rattle.rox_grammar.specs.Marks.{byte_from}
+use Rattle.rox_grammar.specs.Names.{byte, slice}
+use Rattle.rox_path.specs.Steps.{Expanded, PathStep, child, descendant}
+
+-- where a local name ends that begins at i: at the next `/`, `{` or `}`, or at the end of the text
+abbrev pub local_end : List ℕ → ℕ → ℕ
+local_end text i = byte_from (λ c. c == 47 || c == 123 || c == 125) text i
+
+-- where a URI ends that begins at i: at the next `}`, or at the end of the text
+abbrev pub uri_end : List ℕ → ℕ → ℕ
+uri_end text i = byte_from (λ c. c == 125) text i
+
+-- a name from i up to j: a local name, which is not empty, or `{`, a URI, `}` and a local name
+pub data IsStepName (text : List ℕ) (i : ℕ) : ℕ → Expanded → Type 0 where
+  local_alone : i < local_end text i → IsStepName text i (local_end text i) (None, slice text i (local_end text i))
+  with_uri : (u : ℕ) → byte text i ≡ 123 → u ≡ uri_end text (i + 1) → u < length text → u + 1 < local_end text (u + 1)
+      → IsStepName text i (local_end text (u + 1)) (Some (slice text (i + 1) u), slice text (u + 1) (local_end text (u + 1)))
+
+-- a step from i up to j: `/` or `//`, and a name
+pub data IsStep (text : List ℕ) (i j : ℕ) : PathStep → Type 0 where
+  one_slash : (name : Expanded) → byte text i ≡ 47 → IsStepName text (i + 1) j name → IsStep text i j (child name)
+  two_slashes : (name : Expanded) → byte text i ≡ 47 → byte text (i + 1) ≡ 47 → IsStepName text (i + 2) j name → IsStep text i j (descendant name)
+
+-- one or more steps from i up to the end
+pub data IsPath (text : List ℕ) : ℕ → List PathStep → Type 0 where
+  last_step : (i : ℕ) (s : PathStep) → IsStep text i (length text) s → IsPath text i (s ∷ [])
+  then_steps : (i j : ℕ) (s : PathStep) (steps : List PathStep) → IsStep text i j s → IsPath text j steps → IsPath text i (s ∷ steps)
+
+-- steps lead from the start of the text up to here
+pub data StepsTo (text : List ℕ) : ℕ → Type 0 where
+  no_step : StepsTo text 0
+  one_more : (i j : ℕ) (s : PathStep) → StepsTo text i → IsStep text i j s → StepsTo text j
+
+-- in a step that begins at i a name is due at n
+pub data NameDue (text : List ℕ) (i : ℕ) : ℕ → Type 0 where
+  behind_one : byte text i ≡ 47 → byte text (i + 1) ≢ 47 → NameDue text i (i + 1)
+  behind_two : byte text i ≡ 47 → byte text (i + 1) ≡ 47 → NameDue text i (i + 2)
+
+-- a name is due at n, and from k on none goes on: where a local name is due and is empty, or at a `{` without `}`
+pub data IsBadName (text : List ℕ) (n : ℕ) : ℕ → Type 0 where
+  no_local : byte text n ≢ 123 → local_end text n ≡ n → IsBadName text n n
+  no_brace : byte text n ≡ 123 → uri_end text (n + 1) ≡ length text → IsBadName text n n
+  no_local_behind : (u : ℕ) → byte text n ≡ 123 → u ≡ uri_end text (n + 1) → u < length text → local_end text (u + 1) ≡ u + 1
+      → IsBadName text n (u + 1)
+
+-- a step is due at i, and from k on none goes on
+pub data IsBadStep (text : List ℕ) (i : ℕ) : ℕ → Type 0 where
+  no_slash : byte text i ≢ 47 → IsBadStep text i i
+  no_name : (n k : ℕ) → NameDue text i n → IsBadName text n k → IsBadStep text i k
+
+-- where a text is no path: the first place from the left that no path goes on from. A step is due at the start, and where
+-- one ends before the end of the text.
+pub data IsBadAt (text : List ℕ) : ℕ → Type 0 where
+  bad_step : (i k : ℕ) → StepsTo text i → (i ≡ 0) ⊎ (i < length text) → IsBadStep text i k → IsBadAt text k

@@ -1,0 +1,163 @@
+//! Paths as they are written: `//item/{urn:x}name`.
+
+ghost use Rattle.std.specs.Prelude.{◌≡◌, ◌≢◌, ℕ, ◌+◌, ◌<◌, ◌≤◌, true, false, List, map, IfOk, IfErr, Err, Some, length};
+ghost use Rattle.std.specs.Str.{IsCharBoundary};
+ghost use Rattle.rox_grammar.specs.Names.{byte, slice};
+ghost use Rattle.roxmltree.specs.Names.{expanded};
+ghost use Rattle.rox_path.specs.Steps.{PathStep, step_of};
+ghost use Rattle.rox_path.specs.Paths.{local_end, uri_end, IsStepName, IsStep, IsPath, IsBadName, IsBadStep, IsBadAt};
+ghost use Rattle.rox_path.specs.Told.{ToldAt};
+ghost use Rattle.rox_path.specs.declared.parse.PathError.TheVariants.{OutOfMemory};
+
+use crate::steps::Step;
+use memchr::{memchr, memchr3};
+use roxmltree::ExpandedName;
+use std::alloc::{AllocError, AllocFailed, Global};
+use std::fmt;
+
+/// Why a path is not read.
+#[derive(Clone, Copy, Debug, PartialEq, Eq)]
+pub enum PathError {
+    /// The text is no path. The byte is the first place from the left that no path goes on from.
+    BadPath(usize),
+    /// There is no memory.
+    OutOfMemory,
+}
+
+impl fmt::Display for PathError {
+    ghost use Rattle.rox_path.specs.Told.{message};
+
+    ghost output = { λ e. Some (message e) };
+
+    fn fmt<W: fmt::Write>(&self, f: &mut fmt::Formatter<W>) -> fmt::Result {
+        match self {
+            PathError::BadPath(place) => write!(f, "bad path at byte {place}"),
+            PathError::OutOfMemory => write!(f, "out of memory"),
+        }
+    }
+}
+
+impl std::error::Error for PathError {}
+
+impl From<AllocError> for PathError {
+    ghost from_gives = { λ _ e. e ≡ OutOfMemory };
+
+    fn from(_error: AllocError) -> PathError {
+        PathError::OutOfMemory
+    }
+}
+
+impl<T: Drop> From<AllocFailed<T>> for PathError {
+    ghost from_gives = { λ _ e. e ≡ OutOfMemory };
+
+    fn from(_error: AllocFailed<T>) -> PathError {
+        PathError::OutOfMemory
+    }
+}
+
+/// The steps of a path: one or more, each `/` or `//` and a name. A name is a local name, or `{`, the URI of its namespace,
+/// `}` and a local name. The steps borrow from the text.
+pub fn parse_path<'q>(alloc: Global, text: &'q str) -> Result<Vec<Step<'q>>, PathError>
+    ensures ok { IfOk result (λ steps. IsPath text.now 0 (map step_of steps.items)) }
+    ensures bad { (k : ℕ) → result ≡ Err (PathError.BadPath k) → IsBadAt text.now k }
+    ensures no_path { (k : ℕ) → result ≡ Err (PathError.BadPath k) → (steps : List PathStep) → IsPath text.now 0 steps → ⊥ }
+{
+    let mut steps = Vec::new(alloc);
+    let mut at = 0;
+    while at == 0 || at < text.len() {
+        let (step, end) = step_at(text, at)?;
+        steps.push(step)?;
+        at = end;
+    }
+    Ok(steps)
+}
+
+/// The step that begins at this place, and where it ends.
+fn step_at<'q>(text: &'q str, at: usize) -> Result<(Step<'q>, usize), PathError>
+    requires { IsCharBoundary text.now at }
+    ensures step { IfOk result (λ r. IsStep text.now at r.1 (step_of r.0)) }
+    ensures onward { IfOk result (λ r. at < r.1) }
+    ensures cut { IfOk result (λ r. IsCharBoundary text.now r.1) }
+    ensures bad { IfErr result (ToldAt (IsBadStep text.now at)) }
+{
+    if !is_at(text, at, b'/') {
+        return Err(PathError::BadPath(at));
+    }
+    if is_at(text, at + 1, b'/') {
+        let (name, end) = name_at(text, at + 2)?;
+        Ok((Step::Descendant(name), end))
+    } else {
+        let (name, end) = name_at(text, at + 1)?;
+        Ok((Step::Child(name), end))
+    }
+}
+
+/// The name that begins at this place, and where it ends.
+fn name_at<'q>(text: &'q str, at: usize) -> Result<(ExpandedName<'q, 'q>, usize), PathError>
+    requires { IsCharBoundary text.now at }
+    ensures name { IfOk result (λ r. IsStepName text.now at r.1 (expanded r.0)) }
+    ensures onward { IfOk result (λ r. at < r.1) }
+    ensures cut { IfOk result (λ r. IsCharBoundary text.now r.1) }
+    ensures bad { IfErr result (ToldAt (IsBadName text.now at)) }
+{
+    if !is_at(text, at, b'{') {
+        let (local, end) = local_at(text, at)?;
+        return Ok((ExpandedName::from(local), end));
+    }
+    let close = uri_end(text, at + 1);
+    if close == text.len() {
+        return Err(PathError::BadPath(at));
+    }
+    let (local, end) = local_at(text, close + 1)?;
+    Ok((ExpandedName::from((&text[at + 1..close], local)), end))
+}
+
+/// The local name that begins at this place, and where it ends.
+fn local_at(text: &str, at: usize) -> Result<(&str, usize), PathError>
+    requires { IsCharBoundary text.now at }
+    ensures end { IfOk result (λ r. r.1 ≡ local_end text.now at) }
+    ensures onward { IfOk result (λ r. at < r.1) }
+    ensures local { IfOk result (λ r. r.0.now ≡ slice text.now at r.1) }
+    ensures cut { IfOk result (λ r. IsCharBoundary text.now r.1) }
+    ensures bad { IfErr result (ToldAt (λ k. (k ≡ at) × (local_end text.now at ≡ at))) }
+{
+    let end = local_end(text, at);
+    if end == at {
+        return Err(PathError::BadPath(at));
+    }
+    Ok((&text[at..end], end))
+}
+
+/// Where a local name ends that begins at this place: at the next `/`, `{` or `}`, or at the end.
+#[tactic(auto, unfolding(rox_grammar::specs::Marks::byte_from))]
+fn local_end(text: &str, at: usize) -> usize
+    requires { at ≤ length text.now }
+    ensures value { result ≡ local_end text.now at }
+    ensures onward { at ≤ result }
+    ensures cut { IsCharBoundary text.now result }
+{
+    let rest = text.as_bytes().split_at(at).1;
+    at + memchr3(b'/', b'{', b'}', rest).unwrap_or(rest.len())
+}
+
+/// Where a URI ends that begins at this place: at the next `}`, or at the end.
+#[tactic(auto, unfolding(rox_grammar::specs::Marks::byte_from))]
+fn uri_end(text: &str, at: usize) -> usize
+    requires { at ≤ length text.now }
+    ensures value { result ≡ uri_end text.now at }
+    ensures onward { at ≤ result }
+    ensures within { result ≤ length text.now }
+    ensures found { result < length text.now → byte text.now result ≡ 125 }
+{
+    let rest = text.as_bytes().split_at(at).1;
+    at + memchr(b'}', rest).unwrap_or(rest.len())
+}
+
+/// Whether this byte stands at this place.
+fn is_at(text: &str, at: usize, wanted: u8) -> bool
+    requires { wanted ≢ 0 }
+    ensures yes { result ≡ true → (at < length text.now) × (byte text.now at ≡ wanted) }
+    ensures no { result ≡ false → byte text.now at ≢ wanted }
+{
+    text.as_bytes().get(at) == Some(&wanted)
+}
