@@ -1,14 +1,13 @@
 -- What words ask for, a word after another.
-use Rattle.std.proofs.Common.{◌≡◌, ℕ, List, [], ◌∷◌, Some, None, true, false, rules, codes, bytes_eq}
-use Rattle.xmldump.specs.declared.options.Options.{Options}
-use Rattle.xmldump.specs.Command.{with_flag, with_file, limit_of, command_with}
+use Rattle.std.proofs.Common.{◌≡◌, ℕ, List, [], ◌∷◌, Some, None, rules}
+use Rattle.xmldump.specs.Command.{Asked, with_flag, with_value, with_file, command_with}
 
-flag_is_no_file : (o p : Options) (word : List ℕ) → with_flag o word ≡ Some p → with_file o word ≡ None
-flag_is_no_file o p word e = search rules
+flag_is_no_file : (a b : Asked) (word : List ℕ) → with_flag a word ≡ Some b → with_file a word ≡ None
+flag_is_no_file a b word e = search rules
 
-pub command_with_flag : (o p : Options) (word : List ℕ) (words : List (List ℕ)) → bytes_eq word (codes "--nodes-limit") ≡ false → with_flag o word ≡ Some p → command_with o (word ∷ words) ≡ command_with p words
-command_with_flag o p word [] other e = flag_is_no_file o p word e
-command_with_flag o p word (next ∷ words) other e = search rules
+pub command_with_flag : (a b : Asked) (word : List ℕ) (words : List (List ℕ)) → with_flag a word ≡ Some b → command_with a (word ∷ words) ≡ command_with b words
+command_with_flag a b word [] e = flag_is_no_file a b word e
+command_with_flag a b word (next ∷ words) e = search rules
 
-pub command_with_limit : (o : Options) (n : ℕ) (word number : List ℕ) (words : List (List ℕ)) → bytes_eq word (codes "--nodes-limit") ≡ true → limit_of number ≡ Some n → command_with o (word ∷ number ∷ words) ≡ command_with (record o { nodes_limit = n }) words
-command_with_limit o n word number words is e = search rules
+pub command_with_value : (a b : Asked) (word value : List ℕ) (words : List (List ℕ)) → with_flag a word ≡ None → with_value a word value ≡ Some b → command_with a (word ∷ value ∷ words) ≡ command_with b words
+command_with_value a b word value words f e = search rules

@@ -36,8 +36,8 @@ fn write_elements<W: Write>(node: Node<'_, '_>, out: &mut W) -> io::Result<()> {
     write_link("lec", node.last_element_child(), out)
 }
 
-// A label and a list of ids.
-fn write_ids<I: Iterator<Item = NodeId>, W: Write>(
+/// Writes a label and a list of ids.
+pub fn write_ids<I: Iterator<Item = NodeId>, W: Write>(
     label: &str,
     ids: I,
     out: &mut W,

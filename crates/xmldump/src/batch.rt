@@ -3,9 +3,9 @@
 ghost use Rattle.std.specs.Prelude.{◌≡◌};
 
 use crate::cases::first_case;
-use crate::dump::write_dump;
 use crate::fault::Fault;
 use crate::options::Options;
+use crate::sources::{Sources, write_text};
 use std::alloc::Global;
 use std::io::Write;
 
@@ -14,6 +14,7 @@ use std::io::Write;
 pub fn write_batch<W: Write>(
     alloc: Global,
     batch: &[u8],
+    sources: &Sources,
     options: Options,
     out: &mut W,
 ) -> Result<(), Fault> {
@@ -25,7 +26,7 @@ pub fn write_batch<W: Write>(
         };
         let length = case.text.len();
         writeln!(out, "CASE {count} {length}")?;
-        write_case(alloc, case.text, options, out)?;
+        write_case(alloc, case.text, sources, options, out)?;
         count += 1;
         rest = case.rest;
     }
@@ -36,11 +37,12 @@ pub fn write_batch<W: Write>(
 fn write_case<W: Write>(
     alloc: Global,
     text: &[u8],
+    sources: &Sources,
     options: Options,
     out: &mut W,
 ) -> Result<(), Fault> {
     match str::from_utf8(text) {
-        Ok(text) => write_dump(alloc, text, options, out),
+        Ok(text) => write_text(alloc, text, sources, options, out),
         Err(_) => {
             out.write_all(b"NOTUTF8\n")?;
             Ok(())

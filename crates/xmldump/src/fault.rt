@@ -3,7 +3,7 @@
 ghost use Rattle.std.specs.Prelude.{◌≡◌};
 ghost use Rattle.xmldump.specs.declared.fault.Fault.TheVariants.{CannotWrite, OutOfMemory};
 
-use std::alloc::AllocError;
+use std::alloc::{AllocError, AllocFailed};
 use std::{fmt, io};
 
 /// Why the program could not do what it was asked. A text that the library refuses is none: the refusal is written.
@@ -38,6 +38,14 @@ impl From<AllocError> for Fault {
     ghost from_gives = { λ _ fault. fault ≡ OutOfMemory };
 
     fn from(_error: AllocError) -> Fault {
+        Fault::OutOfMemory
+    }
+}
+
+impl<T: Drop> From<AllocFailed<T>> for Fault {
+    ghost from_gives = { λ _ fault. fault ≡ OutOfMemory };
+
+    fn from(_error: AllocFailed<T>) -> Fault {
         Fault::OutOfMemory
     }
 }

@@ -1,6 +1,8 @@
-//! Writes what the library answers of XML texts: `xmldump [--allow-dtd] [--nodes-limit N] [--axes] [--batch] FILE`.
+//! Writes what the library answers of XML texts: `xmldump [--allow-dtd] [--nodes-limit N] [--axes] [--lookups] [--batch]
+//! [--ans-file PATH] [--ans-none] [--ans-err TEXT] [--main MAIN] FILE`.
 #![tactic(auto)]
 
+mod answers;
 mod arguments;
 mod axes;
 mod batch;
@@ -8,28 +10,34 @@ mod cases;
 mod dump;
 mod escape;
 mod fault;
+mod lookups;
 mod node;
 mod numbers;
 mod options;
 mod refusal;
 mod run;
+mod sources;
 #[cfg(test)]
 mod tests;
 
+use crate::answers::Answer;
 use crate::arguments::command;
 use crate::fault::Fault;
-use crate::options::Command;
+use crate::options::{AnswerWord, Command};
+use crate::run::read_text;
+use crate::sources::Sources;
 use std::env;
 use std::fs::File;
 use std::io::{ErrorKind, Write};
 use std::process::ExitCode;
 
-const USAGE: &str = "usage: xmldump [--allow-dtd] [--nodes-limit N] [--axes] [--batch] FILE";
+const USAGE: &str =
+    "usage: xmldump [--allow-dtd] [--nodes-limit N] [--axes] [--lookups] [--batch] [--ans-file PATH] [--ans-none] \
+[--ans-err TEXT] [--main MAIN] FILE";
 
 fn main(rt: HostRuntime) -> ExitCode {
-    let status = match asked_for(&rt) {
-        Ok(Some(command)) => run_with_files(&rt, &command),
-        Ok(None) => refuse(&rt),
+    let status = match run_words(&rt) {
+        Ok(status) => status,
         Err(fault) => {
             let _ = writeln!(rt.stderr(), "error: {fault}");
             fault.status()
@@ -38,15 +46,17 @@ fn main(rt: HostRuntime) -> ExitCode {
     ExitCode::from(status)
 }
 
-// The command of the program's arguments. One that is not UTF-8 is a wrong argument.
-fn asked_for(rt: &HostRuntime) -> Result<Option<Command>, Fault> {
-    match env::args(rt) {
-        Ok(words) => {
-            let words: Vec<String> = words.skip(1).collect(rt.alloc())?;
-            Ok(command(rt.alloc(), &words)?)
-        }
-        Err(error) if error.kind() == ErrorKind::OutOfMemory => Err(Fault::OutOfMemory),
-        Err(_) => Ok(None),
+// An argument that is not UTF-8 is wrong.
+fn run_words(rt: &HostRuntime) -> Result<u8, Fault> {
+    let words = match env::args(rt) {
+        Ok(words) => words,
+        Err(error) if error.kind() == ErrorKind::OutOfMemory => return Err(Fault::OutOfMemory),
+        Err(_) => return Ok(refuse(rt)),
+    };
+    let words: Vec<String> = words.skip(1).collect(rt.alloc())?;
+    match command(rt.alloc(), &words)? {
+        Some(command) => run_with_files(rt, &command),
+        None => Ok(refuse(rt)),
     }
 }
 
@@ -55,13 +65,43 @@ fn refuse(rt: &HostRuntime) -> u8 {
     2
 }
 
-fn run_with_files(rt: &HostRuntime, command: &Command) -> u8 {
+// The files of the resolver's answers and of the main text are read before the input.
+fn run_with_files(rt: &HostRuntime, command: &Command<'_>) -> Result<u8, Fault> {
+    let sources = read_sources(rt, command)?;
     let (mut out, mut err) = (rt.stdout(), rt.stderr());
-    match &command.file {
+    let (alloc, options) = (rt.alloc(), command.options);
+    match command.file {
         Some(path) => {
-            let input = File::open(rt, path.as_str()).ok();
-            run::run(rt.alloc(), command, input, &mut out, &mut err)
+            let input = File::open(rt, path).ok();
+            Ok(run::run(alloc, options, &sources, input, &mut out, &mut err))
         }
-        None => run::run(rt.alloc(), command, Some(rt.stdin()), &mut out, &mut err),
+        None => {
+            let input = Some(rt.stdin());
+            Ok(run::run(alloc, options, &sources, input, &mut out, &mut err))
+        }
     }
+}
+
+fn read_sources(rt: &HostRuntime, command: &Command<'_>) -> Result<Sources, Fault> {
+    let mut answers = Vec::new(rt.alloc());
+    for word in &command.answers {
+        answers.push(answer(rt, *word)?)?;
+    }
+    let main = match command.main {
+        Some(path) => Some(file_text(rt, path)?),
+        None => None,
+    };
+    Ok(Sources { answers, main })
+}
+
+fn answer(rt: &HostRuntime, word: AnswerWord<'_>) -> Result<Answer, Fault> {
+    match word {
+        AnswerWord::File(path) => Ok(Answer::Text(file_text(rt, path)?)),
+        AnswerWord::Nothing => Ok(Answer::Nothing),
+        AnswerWord::Refusal(words) => Ok(Answer::Refusal(String::from_str(rt.alloc(), words)?)),
+    }
+}
+
+fn file_text(rt: &HostRuntime, path: &str) -> Result<String, Fault> {
+    read_text(rt.alloc(), File::open(rt, path).ok())
 }

@@ -116,14 +116,16 @@ fn write_pi<W: Write>(pi: PI<'_>, out: &mut W) -> io::Result<()> {
     write_text(pi.value, out)
 }
 
-fn write_name<W: Write>(namespace: Option<&str>, local: &str, out: &mut W) -> io::Result<()> {
+/// Writes a name: its namespace and its local part.
+pub fn write_name<W: Write>(namespace: Option<&str>, local: &str, out: &mut W) -> io::Result<()> {
     out.write_all(b"{")?;
     write_text(namespace, out)?;
     out.write_all(b"}")?;
     write_quoted(local, out)
 }
 
-fn write_text<W: Write>(text: Option<&str>, out: &mut W) -> io::Result<()> {
+/// Writes a text, or that there is none.
+pub fn write_text<W: Write>(text: Option<&str>, out: &mut W) -> io::Result<()> {
     match text {
         None => out.write_all(b"-"),
         Some(text) => write_quoted(text, out),

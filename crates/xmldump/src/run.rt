@@ -3,9 +3,9 @@
 ghost use Rattle.std.specs.Prelude.{◌≡◌, ◌≤◌, IfOk, IfSome, IsNone, IsErrOf};
 
 use crate::batch::write_batch;
-use crate::dump::write_dump;
 use crate::fault::Fault;
-use crate::options::{Command, Options};
+use crate::options::Options;
+use crate::sources::{Sources, write_text};
 use std::alloc::Global;
 use std::io::{BufWriter, ErrorKind, Read, Write};
 
@@ -17,7 +17,8 @@ const BUFFER: usize = 65536;
 /// that cannot be written. An `input` of None is a file that could not be opened.
 pub fn run<I: Read + Drop, O: Write, E: Write>(
     alloc: Global,
-    command: &Command,
+    options: Options,
+    sources: &Sources,
     input: Option<I>,
     out: &mut O,
     err: &mut E,
@@ -25,7 +26,7 @@ pub fn run<I: Read + Drop, O: Write, E: Write>(
     ensures status { result ≤ 2 }
     ensures none { IsNone input → result ≡ 2 }
 {
-    match write_input(alloc, command.options, input, out) {
+    match write_input(alloc, options, sources, input, out) {
         Ok(()) => 0,
         Err(fault) => {
             let status = fault.status();
@@ -39,13 +40,22 @@ pub fn run<I: Read + Drop, O: Write, E: Write>(
 fn write_input<I: Read + Drop, O: Write>(
     alloc: Global,
     options: Options,
+    sources: &Sources,
     input: Option<I>,
     out: &mut O,
 ) -> Result<(), Fault>
     ensures { IsNone input → IsErrOf result Fault.CannotRead }
 {
     let bytes = read_all(alloc, input)?;
-    write_buffered(alloc, &bytes, options, out)
+    write_buffered(alloc, &bytes, sources, options, out)
+}
+
+/// The text of a file.
+pub fn read_text<I: Read + Drop>(alloc: Global, input: Option<I>) -> Result<String, Fault>
+    ensures { IsNone input → IsErrOf result Fault.CannotRead }
+{
+    let bytes = read_all(alloc, input)?;
+    String::from_utf8(bytes).map_err(|_| Fault::NotUtf8)
 }
 
 /// The bytes of the input, to its end.
@@ -68,6 +78,7 @@ fn read_all<I: Read + Drop>(alloc: Global, input: Option<I>) -> Result<Vec<u8>, 
 fn write_buffered<O: Write>(
     alloc: Global,
     bytes: &[u8],
+    sources: &Sources,
     options: Options,
     out: &mut O,
 ) -> Result<(), Fault> {
@@ -75,7 +86,7 @@ fn write_buffered<O: Write>(
         Ok(buffered) => buffered,
         Err(_) => return Err(Fault::OutOfMemory),
     };
-    let written = match write_dumps(alloc, bytes, options, &mut buffered) {
+    let written = match write_dumps(alloc, bytes, sources, options, &mut buffered) {
         Ok(()) => buffered.flush().map_err(|_| Fault::CannotWrite),
         Err(fault) => Err(fault),
     };
@@ -86,14 +97,15 @@ fn write_buffered<O: Write>(
 fn write_dumps<W: Write>(
     alloc: Global,
     bytes: &[u8],
+    sources: &Sources,
     options: Options,
     out: &mut W,
 ) -> Result<(), Fault> {
     if options.batch {
-        return write_batch(alloc, bytes, options, out);
+        return write_batch(alloc, bytes, sources, options, out);
     }
     match str::from_utf8(bytes) {
-        Ok(text) => write_dump(alloc, text, options, out),
+        Ok(text) => write_text(alloc, text, sources, options, out),
         Err(_) => Err(Fault::NotUtf8),
     }
 }

@@ -30,6 +30,18 @@ pub fn write_document<W: Write>(
     Ok(())
 }
 
+/// Writes a line for each of these elements: its range and its name.
+pub fn write_elements<W: Write>(elements: &[Node<'_, '_>], out: &mut W) -> Result<(), Fault> {
+    for element in elements {
+        let range = element.range();
+        let start = range.start;
+        let end = range.end;
+        write!(out, "{start}..{end} ")?;
+        write_name(*element, out)?;
+    }
+    Ok(())
+}
+
 // Keeps the elements up to this one: none, where it is the root node.
 fn leave(open: &mut Vec<NodeId>, parent: NodeId) {
     let kept = match open.iter().rposition(|id| *id == parent) {
@@ -74,12 +86,17 @@ fn write_element<W: Write>(
 
 // A tag name has no `@` where its URI is empty.
 fn write_tag_name<W: Write>(node: Node<'_, '_>, depth: usize, out: &mut W) -> Result<(), Fault> {
+    indent(out, depth, 3)?;
+    out.write_all(b"tag_name: ")?;
+    write_name(node, out)
+}
+
+fn write_name<W: Write>(node: Node<'_, '_>, out: &mut W) -> Result<(), Fault> {
     let name = node.tag_name();
     let local = name.name();
-    indent(out, depth, 3)?;
     match name.namespace() {
-        Some(uri) if !uri.is_empty() => writeln!(out, "tag_name: {local}@{uri}")?,
-        _ => writeln!(out, "tag_name: {local}")?,
+        Some(uri) if !uri.is_empty() => writeln!(out, "{local}@{uri}")?,
+        _ => writeln!(out, "{local}")?,
     }
     Ok(())
 }

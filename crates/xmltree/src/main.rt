@@ -1,4 +1,4 @@
-//! Prints the tree of an XML document: `xmltree [--allow-dtd] [FILE]`.
+//! Prints the tree of an XML document, or the elements of a path: `xmltree [--allow-dtd] [--path P] [FILE]`.
 #![tactic(auto)]
 
 mod arguments;

@@ -5,6 +5,8 @@
 pub struct Command {
     /// Whether a document with a DOCTYPE is read.
     pub allow_dtd: bool,
+    /// The path of the nodes that are printed, or None for the whole tree.
+    pub path: Option<String>,
     /// The file that is read, or None for standard input.
     pub file: Option<String>,
 }

@@ -1,10 +1,14 @@
 //! What the program does, from its input to its status.
 
-ghost use Rattle.std.specs.Prelude.{◌≡◌, ◌≤◌, IsNone, IsErrOf};
+ghost use Rattle.std.specs.Prelude.{◌≡◌, ◌<◌, ◌≤◌, List, None, map, string_bytes, IsNone, IsSome, IfSome, IfOk, IsOk, IsErrOf};
+ghost use Rattle.std.specs.Result.{IsErr};
+ghost use Rattle.rox_path.specs.Steps.{PathStep, step_of};
+ghost use Rattle.rox_path.specs.Paths.{IsPath};
 
 use crate::fault::Fault;
 use crate::options::Command;
 use crate::{input, listing};
+use rox_path::{PathError, Step, parse_path, select};
 use roxmltree::{Document, ParsingOptions};
 use std::alloc::Global;
 use std::io::{BufWriter, Read, Write};
@@ -12,9 +16,10 @@ use std::io::{BufWriter, Read, Write};
 /// How many bytes are gathered before they are written.
 const BUFFER: usize = 65536;
 
-/// Reads the input, parses it and prints the listing of its tree. The answer is the exit status. A fault is a line on
-/// `err`: status 1 for a text that is refused and for want of memory, 2 for input that cannot be read or is not UTF-8
-/// and for output that cannot be written. An `input` of None is a file that could not be opened.
+/// Reads the path, if there is one, and the input, parses it and prints the listing of its tree, or a line for each node that
+/// the path leads to from the root node. The answer is the exit status. A fault is a line on `err`: status 1 for a text that
+/// is refused and for want of memory, 2 for a bad path, for input that cannot be read or is not UTF-8 and for output that
+/// cannot be written. An `input` of None is a file that could not be opened.
 pub fn run<I: Read + Drop, O: Write, E: Write>(
     alloc: Global,
     command: &Command,
@@ -23,9 +28,11 @@ pub fn run<I: Read + Drop, O: Write, E: Write>(
     err: &mut E,
 ) -> u8
     ensures status { result ≤ 2 }
-    ensures none { IsNone input → result ≡ 2 }
+    ensures none { IsNone input → 0 < result }
+    ensures unopened { IsNone input → command.now.path ≡ None → result ≡ 2 }
+    ensures bad_path { IfSome command.now.path (λ p. ((steps : List PathStep) → IsPath (string_bytes p) 0 steps → ⊥) → 0 < result) }
 {
-    match print_tree(alloc, command, input, out) {
+    match print(alloc, command, input, out) {
         Ok(()) => 0,
         Err(fault) => {
             let status = fault.status();
@@ -36,14 +43,17 @@ pub fn run<I: Read + Drop, O: Write, E: Write>(
     }
 }
 
-fn print_tree<I: Read + Drop, O: Write>(
+fn print<I: Read + Drop, O: Write>(
     alloc: Global,
     command: &Command,
     input: Option<I>,
     out: &mut O,
 ) -> Result<(), Fault>
-    ensures { IsNone input → IsErrOf result Fault.CannotRead }
+    ensures none { IsNone input → IsErr result }
+    ensures unopened { IsNone input → command.now.path ≡ None → IsErrOf result Fault.CannotRead }
+    ensures bad_path { IfSome command.now.path (λ p. ((steps : List PathStep) → IsPath (string_bytes p) 0 steps → ⊥) → IsErr result) }
 {
+    let steps = steps_of(alloc, command)?;
     let bytes = input::read_all(alloc, input)?;
     let text = input::decode(&bytes)?;
     let mut options = ParsingOptions::default();
@@ -52,23 +62,51 @@ fn print_tree<I: Read + Drop, O: Write>(
         Ok(document) => document,
         Err(error) => return Err(Fault::Refused(error)),
     };
-    write_buffered(alloc, &document, out)
+    write_buffered(alloc, &document, steps.as_ref(), out)
+}
+
+/// The steps of the path that is asked for, if one is.
+fn steps_of(alloc: Global, command: &Command) -> Result<Option<Vec<Step<'_>>>, PathError>
+    ensures none { command.now.path ≡ None → IsOk result }
+    ensures path { IfSome command.now.path (λ p. IfOk result (λ steps. IfSome steps (λ v. IsPath (string_bytes p) 0 (map step_of v.items)))) }
+    ensures read { IfSome command.now.path (λ p. IfOk result IsSome) }
+{
+    match &command.path {
+        Some(path) => Ok(Some(parse_path(alloc, path.as_str())?)),
+        None => Ok(None),
+    }
 }
 
 // After a fault nothing more is written: what is still in the buffer is let go.
 fn write_buffered<O: Write>(
     alloc: Global,
     document: &Document<'_>,
+    steps: Option<&Vec<Step<'_>>>,
     out: &mut O,
 ) -> Result<(), Fault> {
     let mut buffered = match BufWriter::with_capacity(alloc, BUFFER, out) {
         Ok(buffered) => buffered,
         Err(_) => return Err(Fault::OutOfMemory),
     };
-    let written = match listing::write_document(alloc, document, &mut buffered) {
+    let written = match write_asked(alloc, document, steps, &mut buffered) {
         Ok(()) => buffered.flush().map_err(|_| Fault::CannotWrite),
         Err(fault) => Err(fault),
     };
     let (_out, _unwritten) = buffered.into_parts();
     written
+}
+
+fn write_asked<O: Write>(
+    alloc: Global,
+    document: &Document<'_>,
+    steps: Option<&Vec<Step<'_>>>,
+    out: &mut O,
+) -> Result<(), Fault> {
+    match steps {
+        Some(steps) => {
+            let elements = select(alloc, document.root(), steps)?;
+            listing::write_elements(&elements, out)
+        }
+        None => listing::write_document(alloc, document, out),
+    }
 }

@@ -57,8 +57,19 @@ fn words(alloc: Global, line: &str) -> Result<Vec<String>, AllocError> {
 fn no_options() -> Command {
     Command {
         allow_dtd: false,
+        path: None,
         file: None,
     }
+}
+
+/// Asks for the elements of a path.
+fn with_path(alloc: Global, path: &str) -> Result<Command, AllocError> {
+    let path = String::from_str(alloc, path)?;
+    Ok(Command {
+        allow_dtd: false,
+        path: Some(path),
+        file: None,
+    })
 }
 
 /// Runs on a text, and wants this status, and these texts on standard output and standard error.
@@ -73,14 +84,27 @@ fn wants(rt: &impl Abort, alloc: Global, text: &[u8], status: u8, out: &str, err
 #[test]
 fn reads_arguments(rt: HostRuntime) -> Result<(), Fail> {
     let alloc = rt.alloc();
-    for (line, allow_dtd, file) in [
-        ("", false, None),
-        ("--allow-dtd", true, None),
-        ("a.xml", false, Some("a.xml")),
-        ("--allow-dtd ./-", true, Some("./-")),
+    for (line, allow_dtd, path, file) in [
+        ("", false, None, None),
+        ("--allow-dtd", true, None, None),
+        ("a.xml", false, None, Some("a.xml")),
+        ("--allow-dtd ./-", true, None, Some("./-")),
+        ("--path /r", false, Some("/r"), None),
+        ("--path --path", false, Some("--path"), None),
+        (
+            "--allow-dtd --path -x a.xml",
+            true,
+            Some("-x"),
+            Some("a.xml"),
+        ),
     ] {
         let asked = command(alloc, &words(alloc, line)?)?.ok_or("a wrong argument")?;
         assert_eq!(rt; asked.allow_dtd, allow_dtd, "{line}");
+        assert_eq!(rt;
+            asked.path.as_ref().map(|path| path.as_str()),
+            path,
+            "{line}"
+        );
         assert_eq!(rt;
             asked.file.as_ref().map(|name| name.as_str()),
             file,
@@ -91,7 +115,12 @@ fn reads_arguments(rt: HostRuntime) -> Result<(), Fail> {
         "-",
         "-x",
         "--path",
-        "--path /r",
+        "--allow-dtd --path",
+        "--path /r -x",
+        "--path /r --allow-dtd",
+        "--path /r --path /s",
+        "--path /r a.xml b.xml",
+        "a.xml --path /r",
         "a.xml --allow-dtd",
         "a.xml b.xml",
         "--allow-dtd --allow-dtd",
@@ -218,6 +247,55 @@ fn passes_over_faults_of_standard_error(rt: HostRuntime) {
     assert!(rt; out.is_empty());
 }
 
+/// Runs on a text that may have a document type declaration, and wants this status, and these texts on standard output and
+/// standard error.
+fn declared_wants(rt: &impl Abort, alloc: Global, text: &str, status: u8, out: &str, err: &str) {
+    let mut command = no_options();
+    command.allow_dtd = true;
+    let (mut got_out, mut got_err) = (Vec::new(alloc), Vec::new(alloc));
+    let input = Some(text.as_bytes());
+    let got = run(alloc, &command, input, &mut got_out, &mut got_err);
+    assert_eq!(rt; str::from_utf8(&got_err).unwrap_or("?"), err);
+    assert_eq!(rt; str::from_utf8(&got_out).unwrap_or("?"), out);
+    assert_eq!(rt; got, status);
+}
+
+#[test]
+fn lists_what_entities_stand_for(rt: HostRuntime) {
+    let text =
+        "<!DOCTYPE r [<!ENTITY e 'x<b c=\"&f;\"/>'><!--top--><!ENTITY f '1'><?p?>]><r>&e;y&f;</r>";
+    let listing = "Document:
+  - Comment: \"top\"
+  - Element:
+      tag_name: r
+      children:
+        - Text: \"x\"
+        - Element:
+            tag_name: b
+            attributes:
+              c: \"1\"
+        - Text: \"y1\"
+";
+    declared_wants(&rt, rt.alloc(), text, 0, listing, "");
+}
+
+#[test]
+fn tells_faults_of_entities(rt: HostRuntime) {
+    for (text, message) in [
+        (
+            "<!DOCTYPE r [<!ENTITY a '&a;'>]><r>&a;</r>",
+            "error: a possible entity reference loop is detected at 1:29\n",
+        ),
+        (
+            "<!DOCTYPE r [<!ENTITY a SYSTEM 'a.xml'>]><r>&a;</r>",
+            "error: unknown entity reference 'a' at 1:45\n",
+        ),
+        ("<!DOCTYPE r", "error: unexpected end of stream\n"),
+    ] {
+        declared_wants(&rt, rt.alloc(), text, 1, "", message);
+    }
+}
+
 /// So many elements, each in the one before it.
 fn nested(alloc: Global, count: usize) -> Result<String, AllocError> {
     let mut text = String::new(alloc);
@@ -239,5 +317,80 @@ fn lists_nested_elements(rt: HostRuntime) -> Result<(), Fail> {
     let status = run(alloc, &no_options(), input, &mut out, &mut err);
     assert_eq!(rt; status, 0);
     assert_eq!(rt; out.iter().filter(|byte| **byte == b'\n').count(), 900);
+    Ok(())
+}
+
+/// Runs on a text with a path, and wants this status, and these texts on standard output and standard error.
+fn path_wants(
+    rt: &impl Abort,
+    alloc: Global,
+    (path, text): (&str, &str),
+    status: u8,
+    out: &str,
+    err: &str,
+) -> Result<(), Fail> {
+    let command = with_path(alloc, path)?;
+    let (mut got_out, mut got_err) = (Vec::new(alloc), Vec::new(alloc));
+    let input = Some(text.as_bytes());
+    let got = run(alloc, &command, input, &mut got_out, &mut got_err);
+    assert_eq!(rt; str::from_utf8(&got_err).unwrap_or("?"), err, "{path}");
+    assert_eq!(rt; str::from_utf8(&got_out).unwrap_or("?"), out, "{path}");
+    assert_eq!(rt; got, status, "{path}");
+    Ok(())
+}
+
+#[test]
+fn lists_the_elements_of_a_path(rt: HostRuntime) -> Result<(), Fail> {
+    let text = "<r><a><b i='1'/></a><b i='2'><b i='3'/></b></r>";
+    for (path, out) in [
+        ("/r/b", "20..43 b\n"),
+        ("//b", "6..16 b\n20..43 b\n29..39 b\n"),
+        ("/r//b", "6..16 b\n20..43 b\n29..39 b\n"),
+        ("//b//b", "29..39 b\n"),
+        ("//a/b", "6..16 b\n"),
+        ("/b", ""),
+    ] {
+        path_wants(&rt, rt.alloc(), (path, text), 0, out, "")?;
+    }
+    for (path, text, out) in [
+        ("//a//c", "<a><a><c/></a></a>", "6..10 c\n"),
+        ("/{u}e", "<e xmlns='u'/>", "0..14 e@u\n"),
+        ("/e", "<e xmlns='u'/>", ""),
+        ("/{}e", "<e xmlns=''/>", "0..13 e\n"),
+    ] {
+        path_wants(&rt, rt.alloc(), (path, text), 0, out, "")?;
+    }
+    Ok(())
+}
+
+#[test]
+fn tells_bad_paths(rt: HostRuntime) -> Result<(), Fail> {
+    for (path, err) in [
+        ("", "error: bad path at byte 0\n"),
+        ("r", "error: bad path at byte 0\n"),
+        ("///a", "error: bad path at byte 2\n"),
+        ("/{u", "error: bad path at byte 1\n"),
+        ("/a}", "error: bad path at byte 2\n"),
+    ] {
+        path_wants(&rt, rt.alloc(), (path, "<r>"), 2, "", err)?;
+    }
+    let err = "error: the root node was opened but never closed\n";
+    path_wants(&rt, rt.alloc(), ("/r", "<r>"), 1, "", err)
+}
+
+#[test]
+fn reads_the_path_before_the_input(rt: HostRuntime) -> Result<(), Fail> {
+    let alloc = rt.alloc();
+    for (path, message) in [
+        ("r", b"error: bad path at byte 0\n".as_slice()),
+        ("/r", b"error: cannot read input\n".as_slice()),
+    ] {
+        let command = with_path(alloc, path)?;
+        let (mut out, mut err) = (Vec::new(alloc), Vec::new(alloc));
+        let input: Option<&[u8]> = None;
+        assert_eq!(rt; run(alloc, &command, input, &mut out, &mut err), 2);
+        assert_eq!(rt; err.as_slice(), message);
+        assert!(rt; out.is_empty());
+    }
     Ok(())
 }

@@ -1,0 +1,37 @@
+//! What is read beside the input, and the texts that are read with it.
+
+use crate::answers::{Answer, Answers};
+use crate::dump::write_dump;
+use crate::fault::Fault;
+use crate::options::Options;
+use std::alloc::Global;
+use std::io::Write;
+
+/// What is read beside the input.
+#[derive(Debug, Drop)]
+pub struct Sources {
+    /// What the resolver of external entities answers.
+    pub answers: Vec<Answer>,
+    /// The text that is read in the place of the input's, which answer for its external entities.
+    pub main: Option<String>,
+}
+
+/// Writes the dump of a text, or that of the main text with this one for its external entities.
+pub fn write_text<W: Write>(
+    alloc: Global,
+    text: &str,
+    sources: &Sources,
+    options: Options,
+    out: &mut W,
+) -> Result<(), Fault> {
+    match &sources.main {
+        Some(main) => write_dump(alloc, main.as_str(), Answers::Each(text), options, out),
+        None => write_dump(
+            alloc,
+            text,
+            Answers::InOrder(&sources.answers),
+            options,
+            out,
+        ),
+    }
+}
