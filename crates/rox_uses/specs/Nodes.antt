@@ -1,7 +1,7 @@
 -- Nodes of a document, and what they say in their attributes.
 use Rattle.std.specs.Prelude.{ℕ, List, Option, None}
 use Rattle.std.specs.Option.{option_map}
-use Rattle.rox_grammar.specs.Tree as tree
+use Rattle.roxmltree.specs.Tree as tree
 use Rattle.roxmltree.specs.Doc.{Doc}
 use Rattle.roxmltree.specs.Names.{named}
 use Rattle.roxmltree.specs.Places.{place, children}

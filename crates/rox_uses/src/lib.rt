@@ -2,11 +2,13 @@
 #![tactic(auto)]
 
 pub mod ids;
+pub mod paths;
 pub mod qualified;
 pub mod records;
 #[cfg(test)]
 mod tests;
 
 pub use crate::ids::element_by_id;
+pub use crate::paths::{QueryError, records_at};
 pub use crate::qualified::resolve;
 pub use crate::records::{Record, RecordsError, read_records};

@@ -3,7 +3,7 @@
 ghost use Rattle.std.specs.Prelude.{◌≡◌, Some, None};
 ghost use Rattle.std.specs.Option.{option_map};
 ghost use Rattle.std.specs.List.{Contains};
-ghost use Rattle.rox_grammar.specs.Tree.{uri_of};
+ghost use Rattle.roxmltree.specs.Tree.{uri_of};
 ghost use Rattle.roxmltree.specs.Names.{expanded};
 ghost use Rattle.roxmltree.specs.Says.{listed_of};
 ghost use Rattle.roxmltree.specs.Spot.{item_of};

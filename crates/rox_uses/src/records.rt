@@ -74,7 +74,7 @@ pub fn read_records(alloc: Global, table: Node<'_, '_>) -> Result<Vec<Record>, R
     Ok(records)
 }
 
-fn read_record(alloc: Global, row: Node<'_, '_>) -> Result<Record, RecordsError>
+pub(crate) fn read_record(alloc: Global, row: Node<'_, '_>) -> Result<Record, RecordsError>
     ensures ok { IfOk result (λ record'. written record' ≡ said (spot row.entry)) }
     ensures incomplete { (start : ℕ) → result ≡ Err (RecordsError.Incomplete start)
         → (is_incomplete (spot row.entry) ≡ true) × (start_of (item_at (spot row.entry)) ≡ start) }

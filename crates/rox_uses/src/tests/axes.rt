@@ -63,6 +63,23 @@ fn neighbouring_elements(rt: HostRuntime) {
 }
 
 #[test]
+fn tails_are_the_texts_behind_elements(rt: HostRuntime) {
+    let document = document_of(&rt, SMALL);
+    for (id, text, tail) in [
+        (0, None, None),
+        (1, None, None),
+        (2, None, Some("t")),
+        (3, Some("t"), None),
+        (4, None, None),
+        (5, Some("c"), None),
+    ] {
+        let node = node_of(&rt, &document, id);
+        assert_eq!(rt; node.text(), text, "{id}");
+        assert_eq!(rt; node.tail(), tail, "{id}");
+    }
+}
+
+#[test]
 fn whether_there_are_neighbours(rt: HostRuntime) {
     let document = document_of(&rt, SMALL);
     for (id, siblings, children) in [

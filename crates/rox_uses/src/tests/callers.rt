@@ -1,7 +1,8 @@
 //! The callers.
 
 use super::{document_of, node_of, number};
-use crate::{RecordsError, element_by_id, read_records, resolve};
+use crate::{QueryError, RecordsError, element_by_id, read_records, records_at, resolve};
+use rox_path::PathError;
 use roxmltree::ExpandedName;
 use std::test::Fail;
 
@@ -37,6 +38,22 @@ fn tables_with_incomplete_rows(rt: HostRuntime) {
         let error = read_records(rt.alloc(), document.root_element()).err();
         assert_eq!(rt; error, Some(RecordsError::Incomplete(start)), "{text}");
     }
+}
+
+#[test]
+fn records_by_a_path(rt: HostRuntime) -> Result<(), Fail> {
+    let text = "<t><s><row name='a' value='1'/></s><row name='b' value='2'/><row/></t>";
+    let document = document_of(&rt, text);
+    let records = records_at(rt.alloc(), &document, "/t/s//row")?;
+    assert_eq!(rt; records.len(), 1);
+    for (path, wanted) in [
+        ("//row", QueryError::Row(RecordsError::Incomplete(60))),
+        ("//row/", QueryError::Path(PathError::BadPath(6))),
+    ] {
+        let error = records_at(rt.alloc(), &document, path).err();
+        assert_eq!(rt; error, Some(wanted), "{path}");
+    }
+    Ok(())
 }
 
 #[test]

@@ -4,7 +4,7 @@ use super::axes::{leads_over, nearest, nearest_elements};
 use super::memory::read;
 use super::namespaces::{attributes_are_in, finds_prefix, finds_uri, lists};
 use super::text::has;
-use super::{child_count, node_of, number};
+use super::{child_count, document_of, node_of, number};
 use roxmltree::{Attribute, Document, Node, NodeId, NodeType, PI, TextPos};
 use std::alloc::AllocError;
 use std::cmp::Ordering;
@@ -20,18 +20,37 @@ const TEXT: &str = "<!--c--><r xmlns='u' xmlns:n='v' a='1' n:b='2&#51;'>x&amp;y<
 #[test]
 fn calls_take_no_memory(rt: HostRuntime) -> Result<(), Fail> {
     let document = read(&rt, TEXT);
-    document_has(&rt, &document);
-    let (r, e) = (node_of(&rt, &document, 2), node_of(&rt, &document, 4));
-    nodes_have(&rt, &document);
-    nodes_have_texts(&rt, &document);
-    nodes_are_near(&rt, r, e);
-    assert_eq!(rt; e.tag_name(), ("v", "e").into());
-    element_has_its_name(&rt, e);
-    attributes_have(&rt, r);
-    namespaces_have(&rt, r, e)?;
-    both_ends(&rt, &document, r)?;
-    nodes_are_compared(&rt, r, e);
-    all_is_printed(&rt, &document, r)?;
+    assert_eq!(rt; node_of(&rt, &document, 4).tag_name(), ("v", "e").into());
+    each_call(&rt, &document)
+}
+
+/// This parse is not asked again, so a growth of its that is refused is its answer.
+#[test]
+fn a_parse_alone(rt: HostRuntime) {
+    let document = document_of(&rt, TEXT);
+    assert_eq!(rt; document.input_text(), TEXT);
+}
+
+/// Where the calls took memory, one of their growths would be refused when those of the parse are not.
+#[test]
+fn a_parse_and_each_call(rt: HostRuntime) -> Result<(), Fail> {
+    let document = document_of(&rt, TEXT);
+    assert_eq!(rt; node_of(&rt, &document, 4).tag_name(), ("v", "e").into());
+    each_call(&rt, &document)
+}
+
+fn each_call(rt: &impl Abort, document: &Document<'_>) -> Result<(), Fail> {
+    document_has(rt, document);
+    let (r, e) = (node_of(rt, document, 2), node_of(rt, document, 4));
+    nodes_have(rt, document);
+    nodes_have_texts(rt, document);
+    nodes_are_near(rt, r, e);
+    element_has_its_name(rt, e);
+    attributes_have(rt, r);
+    namespaces_have(rt, r, e)?;
+    both_ends(rt, document, r)?;
+    nodes_are_compared(rt, r, e);
+    all_is_printed(rt, document, r)?;
     Ok(())
 }
 

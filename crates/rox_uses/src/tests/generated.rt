@@ -1,7 +1,8 @@
-//! Every text `<r>`..`</r>` of up to four pieces.
+//! Every text `<r>`..`</r>` of up to four pieces, and what stands in it as the text of an entity.
 
-use super::{child_count, document_of, refusal_of};
-use roxmltree::Error;
+use super::slices::{exchanged, reparsed};
+use super::{answered_by, child_count, declared, declared_refusal, document_of, refusal_of};
+use roxmltree::{Document, Error, ResolveWith};
 use std::alloc::{AllocError, Global};
 use std::process::Abort;
 use std::test::Fail;
@@ -26,9 +27,10 @@ struct Case {
     children: usize,
 }
 
-/// The text of a row of pieces: the digits of its number from the last, 1 to 6 in base 6.
-fn case_of(alloc: Global, row: usize) -> Result<Case, AllocError> {
-    let mut text = String::from_str(alloc, "<r>")?;
+/// The text of a row of pieces between two others: the digits of its number from the last, 1 to 6 in base 6. A piece `x` is
+/// written as another text.
+fn case_within(alloc: Global, row: usize, [open, x, close]: [&str; 3]) -> Result<Case, AllocError> {
+    let mut text = String::from_str(alloc, open)?;
     let mut children: usize = 0;
     let mut in_text = false;
     let mut left = row;
@@ -38,19 +40,30 @@ fn case_of(alloc: Global, row: usize) -> Result<Case, AllocError> {
         }
         let (piece, is_node) = PIECES[(left - 1) % 6];
         left = (left - 1) / 6;
-        text.push_str(piece)?;
+        text.push_str(if piece == "x" { x } else { piece })?;
         if is_node || !in_text {
             children = children.saturating_add(1);
         }
         in_text = !is_node;
     }
-    text.push_str("</r>")?;
+    text.push_str(close)?;
     Ok(Case { text, children })
+}
+
+/// The text whose root element has a row of pieces.
+fn case_of(alloc: Global, row: usize) -> Result<Case, AllocError> {
+    case_within(alloc, row, ["<r>", "x", "</r>"])
 }
 
 /// How many children the root element of this text has.
 fn children_of(rt: &(impl Abort + AllocGlobal), text: &str) -> usize {
     let document = document_of(rt, text);
+    child_count(document.root_element())
+}
+
+/// The same of a text that may have a document type declaration.
+fn declared_children_of(rt: &(impl Abort + AllocGlobal), text: &str) -> usize {
+    let document = declared(rt, text);
     child_count(document.root_element())
 }
 
@@ -63,6 +76,68 @@ fn texts_of_pieces(rt: HostRuntime) -> Result<(), Fail> {
         text.pop();
         let error = refusal_of(&rt, text.as_str());
         assert_eq!(rt; error, Error::UnexpectedEndOfStream, "{text:?}");
+    }
+    Ok(())
+}
+
+#[test]
+fn texts_of_pieces_and_an_entity(rt: HostRuntime) -> Result<(), Fail> {
+    let alloc = rt.alloc();
+    let parts = ["<!DOCTYPE r [<!ENTITY a 'x'>]><r>", "&a;", "</r>"];
+    for row in 0..ROWS {
+        let Case { mut text, children } = case_within(alloc, row, parts)?;
+        let count = declared_children_of(&rt, text.as_str());
+        assert_eq!(rt; count, children, "{text:?}");
+        text.pop();
+        let error = declared_refusal(&rt, text.as_str());
+        assert_eq!(rt; error, Error::UnexpectedEndOfStream, "{text:?}");
+    }
+    Ok(())
+}
+
+#[test]
+fn pieces_in_an_entity(rt: HostRuntime) -> Result<(), Fail> {
+    let parts = ["<!DOCTYPE r [<!ENTITY a '", "x", "'>]><r>&a;</r>"];
+    for row in 0..ROWS {
+        let case = case_within(rt.alloc(), row, parts)?;
+        let count = declared_children_of(&rt, case.text.as_str());
+        assert_eq!(rt; count, case.children, "{}", case.text);
+    }
+    Ok(())
+}
+
+#[test]
+fn pieces_in_an_answer(rt: HostRuntime) -> Result<(), Fail> {
+    let main = "<!DOCTYPE r [<!ENTITY a SYSTEM 'u'>]><r>&a;</r>";
+    for row in 0..ROWS {
+        let case = case_within(rt.alloc(), row, ["", "x", ""])?;
+        let answer = case.text.as_str();
+        let options = answered_by(ResolveWith {
+            by: |_id: Option<&str>, _uri: &str| -> Result<Option<&str>, String> {
+                Ok(Some(answer))
+            },
+        });
+        let document = Document::parse_with_options(rt.alloc(), main, options).expect(&rt, answer);
+        let count = child_count(document.root_element());
+        assert_eq!(rt; count, case.children, "{answer:?}");
+    }
+    Ok(())
+}
+
+#[test]
+fn root_elements_of_pieces(rt: HostRuntime) -> Result<(), Fail> {
+    for row in 0..ROWS {
+        let case = case_of(rt.alloc(), row)?;
+        let text = case.text.as_str();
+        let document = document_of(&rt, text);
+        let root = document.root_element();
+        let alone = reparsed(&rt, root);
+        assert_eq!(rt;
+            child_count(alone.root_element()),
+            case.children,
+            "{text:?}"
+        );
+        assert_eq!(rt; exchanged(&rt, root, &document).as_str(), text, "{text:?}");
     }
     Ok(())
 }

@@ -39,6 +39,7 @@ fn descendants(rt: HostRuntime) -> Result<(), Fail> {
         assert_eq!(rt; nodes.next().map(number), front);
         assert_eq!(rt; nodes.next_back().map(number), back);
         assert_eq!(rt; nodes.len(), left);
+        assert_eq!(rt; nodes.size_hint(), (left, Some(left)));
     }
     assert_eq!(rt; copy.len(), 6);
     assert_eq!(rt; copy.next_back().map(number), Some(5));
@@ -79,6 +80,7 @@ fn attributes(rt: HostRuntime) -> Result<(), Fail> {
         assert_eq!(rt; attributes.next().map(position), front);
         assert_eq!(rt; attributes.next_back().map(position), back);
         assert_eq!(rt; attributes.len(), left);
+        assert_eq!(rt; attributes.size_hint(), (left, Some(left)));
     }
     assert_eq!(rt; copy.len(), 3);
     assert_eq!(rt; copy.next_back().map(position), Some(26));
@@ -102,6 +104,7 @@ fn namespaces(rt: HostRuntime) -> Result<(), Fail> {
     for (wanted, left) in [(Some(b'q'), 1), (Some(b'p'), 0), (None, 0), (None, 0)] {
         assert_eq!(rt; namespaces.next_back().map(initial), wanted);
         assert_eq!(rt; namespaces.len(), left);
+        assert_eq!(rt; namespaces.size_hint(), (left, Some(left)));
     }
     assert!(rt; namespaces.next().is_none());
     assert_eq!(rt; copy.len(), 2);

@@ -26,6 +26,12 @@ fn nodes(rt: HostRuntime) {
             1,
             "attribute 'a' at 1:10 is already defined",
         ),
+        ("<r><!--c--></s>", 2, limit),
+        ("<r><!--c--></s>", 3, "expected 'r' tag, not 's' at 1:12"),
+        ("<!--c--><?p?>", 2, limit),
+        ("<r/><!--c-->t", 2, limit),
+        ("<r/><!--c-->t", 3, "unknown token at 1:13"),
+        ("t", 0, "unknown token at 1:1"),
     ] {
         match limited(&rt, text, nodes_limit) {
             Some(error) => prints(&rt, &error, wanted),

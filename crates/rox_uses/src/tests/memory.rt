@@ -1,7 +1,10 @@
 //! Want of memory. The answers hold with ample memory, and as well where any one growth is refused: each parse is then asked
 //! again.
 
-use roxmltree::{Document, Error, ExpandedName, Node, StringStorage, TextPos};
+use super::answered_by;
+use roxmltree::{Document, Error, ExpandedName, Node, ResolveWith, StringStorage, TextPos};
+use std::alloc::{AllocError, Global};
+use std::cell::Cell;
 use std::process::Abort;
 use std::test::Fail;
 
@@ -67,6 +70,7 @@ fn name_in(error: &Error) -> Option<&str> {
     match error {
         Error::DuplicatedNamespace(name, _)
         | Error::UnknownNamespace(name, _)
+        | Error::UnknownEntityReference(name, _)
         | Error::DuplicatedAttribute(name, _)
         | Error::UnexpectedCloseTag(_, name, _) => Some(name.as_str()),
         _ => None,
@@ -85,6 +89,183 @@ fn names_in_errors(rt: HostRuntime) {
         assert_eq!(rt; name_in(&error), Some(name), "{text:?}");
         assert_eq!(rt; error.pos(), TextPos::new(1, col), "{text:?}");
     }
+}
+
+/// The answer for a text that may have a document type declaration, asked again where a growth was refused.
+fn declared<'input>(rt: &impl AllocGlobal, text: &'input str) -> Result<Document<'input>, Error> {
+    match super::answer(rt, text) {
+        Err(Error::OutOfMemory) => super::answer(rt, text),
+        answer => answer,
+    }
+}
+
+/// An entity that opens another so many times.
+fn opening(alloc: Global, count: usize) -> Result<String, AllocError> {
+    let mut text = String::with_capacity(alloc, 1000)?;
+    text.push_str("<!DOCTYPE r [<!ENTITY a 'x'><!ENTITY b '")?;
+    for _ in 0..count {
+        text.push_str("&a;")?;
+    }
+    text.push_str("'>]><r>&b;</r>")?;
+    Ok(text)
+}
+
+#[test]
+fn entities(rt: HostRuntime) -> Result<(), Fail> {
+    let text = match opening(rt.alloc(), 255) {
+        Ok(text) => text,
+        Err(_) => opening(rt.alloc(), 255)?,
+    };
+    let document = declared(&rt, text.as_str()).expect(&rt, "entities");
+    let found = document.root_element().text().unwrap_or("");
+    assert_eq!(rt; found.len(), 255);
+    assert!(rt; found.bytes().all(|byte| byte == b'x'));
+    Ok(())
+}
+
+#[test]
+fn entities_too_often(rt: HostRuntime) -> Result<(), Fail> {
+    let text = match opening(rt.alloc(), 256) {
+        Ok(text) => text,
+        Err(_) => opening(rt.alloc(), 256)?,
+    };
+    let error = declared(&rt, text.as_str()).expect_err(&rt, "a loop");
+    let wanted = Error::EntityReferenceLoop(TextPos::new(1, 809));
+    assert_eq!(rt; error, wanted);
+    Ok(())
+}
+
+#[test]
+fn entities_in_one_another(rt: HostRuntime) {
+    let text =
+        "<!DOCTYPE r [<!ENTITY e1 '&e2;'><!ENTITY e2 '&e3;'><!ENTITY e3 '&e4;'><!ENTITY e4 '&e5;'>\
+<!ENTITY e5 '&e6;'><!ENTITY e6 '&e7;'><!ENTITY e7 '&e8;'><!ENTITY e8 '&e9;'><!ENTITY e9 '&e10;'><!ENTITY e10 'x'>]><r>&e1;</r>";
+    let document = declared(&rt, text).expect(&rt, "entities");
+    assert_eq!(rt; document.root_element().text(), Some("x"));
+}
+
+#[test]
+fn entities_in_one_another_too_deep(rt: HostRuntime) {
+    let text =
+        "<!DOCTYPE r [<!ENTITY e1 '&e2;'><!ENTITY e2 '&e3;'><!ENTITY e3 '&e4;'><!ENTITY e4 '&e5;'>\
+<!ENTITY e5 '&e6;'><!ENTITY e6 '&e7;'><!ENTITY e7 '&e8;'><!ENTITY e8 '&e9;'><!ENTITY e9 '&e10;'><!ENTITY e10 '&e11;'>\
+<!ENTITY e11 'x'>]><r>&e1;</r>";
+    let error = declared(&rt, text).expect_err(&rt, "a loop");
+    let wanted = Error::EntityReferenceLoop(TextPos::new(1, 205));
+    assert_eq!(rt; error, wanted);
+}
+
+/// An external entity.
+const EXTERNAL: &str = "<!DOCTYPE foo [<!ENTITY bar SYSTEM \"baz.xml\">]> <qux>&bar;</qux>";
+
+/// The answer where the external entity has this text, asked again where a growth was refused.
+fn answered<'input>(
+    rt: &impl AllocGlobal,
+    answer: Option<&'input str>,
+) -> Result<Document<'input>, Error> {
+    let resolver = ResolveWith {
+        by: |_id: Option<&str>, _uri: &str| -> Result<Option<&str>, String> { Ok(answer) },
+    };
+    match Document::parse_with_options(rt.alloc(), EXTERNAL, answered_by(resolver)) {
+        Err(Error::OutOfMemory) => {
+            Document::parse_with_options(rt.alloc(), EXTERNAL, answered_by(resolver))
+        }
+        answer => answer,
+    }
+}
+
+#[test]
+fn external_entities(rt: HostRuntime) {
+    let answer = Some("<?xml version=\"1.0\"?><foobar/>");
+    let document = answered(&rt, answer).expect(&rt, "an answer");
+    let foobar = first_child(&rt, &document);
+    assert!(rt; foobar.has_tag_name("foobar".into()));
+    assert_eq!(rt; foobar.range(), 0..9);
+}
+
+#[test]
+fn external_entities_that_refer_to_others(rt: HostRuntime) {
+    let error = answered(&rt, Some("<a>&x;</a>")).expect_err(&rt, "an answer");
+    assert_eq!(rt; name_in(&error), Some("x"));
+    assert_eq!(rt; error.pos(), TextPos::new(1, 4));
+}
+
+#[test]
+fn external_entities_without_a_text(rt: HostRuntime) {
+    let error = answered(&rt, None).expect_err(&rt, "no answer");
+    assert_eq!(rt; name_in(&error), Some("bar"));
+    assert_eq!(rt; error.pos(), TextPos::new(1, 54));
+}
+
+/// What a resolver's own refusal becomes.
+fn refused_by_resolver(rt: &(impl Abort + AllocGlobal), words: String) -> Error {
+    let words = Cell::new(Some(words));
+    let options = answered_by(ResolveWith {
+        by: |_id: Option<&str>, _uri: &str| -> Result<Option<&str>, String> {
+            match words.take() {
+                Some(words) => Err(words),
+                None => Ok(None),
+            }
+        },
+    });
+    Document::parse_with_options(rt.alloc(), EXTERNAL, options).expect_err(rt, "a refusal")
+}
+
+/// A text of its own, made again where a growth was refused.
+fn own_text(rt: &(impl Abort + AllocGlobal), text: &str) -> String {
+    match String::from_str(rt.alloc(), text) {
+        Ok(text) => text,
+        Err(_) => String::from_str(rt.alloc(), text).expect(rt, "memory"),
+    }
+}
+
+#[test]
+fn refusals_of_a_resolver(rt: HostRuntime) {
+    let (one, other) = (own_text(&rt, "no"), own_text(&rt, "no"));
+    let error = match refused_by_resolver(&rt, one) {
+        Error::OutOfMemory => refused_by_resolver(&rt, other),
+        error => error,
+    };
+    match error {
+        Error::EntityResolver(pos, words) => {
+            assert_eq!(rt; pos, TextPos::new(1, 45));
+            assert_eq!(rt; words.as_str(), "no");
+        }
+        _ => assert!(rt; false, "another refusal"),
+    }
+}
+
+/// The text with one element in the place of another, asked again where a growth was refused.
+fn exchanged(rt: &(impl Abort + AllocGlobal), node: Node<'_, '_>, other: &Document<'_>) -> String {
+    assert!(rt; node.is_self_contained());
+    assert!(rt; other.root_element().is_self_contained());
+    match node.exchange(rt.alloc(), other) {
+        Ok(text) => text,
+        Err(_) => node.exchange(rt.alloc(), other).expect(rt, "exchange"),
+    }
+}
+
+/// The document of an element alone, asked again where a growth was refused.
+fn reparsed<'input>(rt: &(impl Abort + AllocGlobal), node: Node<'_, 'input>) -> Document<'input> {
+    assert!(rt; node.is_self_contained());
+    match node.reparse(rt.alloc()) {
+        Err(Error::OutOfMemory) => node.reparse(rt.alloc()).expect(rt, "reparse"),
+        answer => answer.expect(rt, "reparse"),
+    }
+}
+
+#[test]
+fn slices(rt: HostRuntime) {
+    let document = read(&rt, "<r>a<b xmlns:n='u' n:a='&lt;'>&gt;</b>c</r>");
+    let other = read(&rt, "<x/>");
+    let b = document
+        .root_element()
+        .last_element_child()
+        .expect(&rt, "b");
+    assert_eq!(rt; exchanged(&rt, b, &other).as_str(), "<r>a<x/>c</r>");
+    let alone = reparsed(&rt, b);
+    says(&rt, alone.root_element(), ("u", "a").into(), "<");
+    assert_eq!(rt; first_child(&rt, &alone).text(), Some(">"));
 }
 
 #[test]

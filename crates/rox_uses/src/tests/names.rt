@@ -11,6 +11,7 @@ fn names_of_elements(rt: HostRuntime) {
         ("<:e></e>", None),
         ("<e xmlns='u'/>", Some("u")),
         ("<e xmlns=''/>", Some("")),
+        ("<e p:xmlns='u'/>", Some("u")),
         ("<p:e xmlns:p='u'/>", Some("u")),
         ("<e xmlns:p='u'/>", None),
     ] {

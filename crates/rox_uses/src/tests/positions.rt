@@ -55,4 +55,5 @@ fn ids_are_numbers(rt: HostRuntime) {
         Err(NodeIdTooLarge)
     );
     assert!(rt; NodeId::new(1) < NodeId::new(2));
+    prints(&rt, &NodeIdTooLarge, "a node's id is at most 4294967295");
 }

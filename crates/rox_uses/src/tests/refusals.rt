@@ -196,6 +196,98 @@ fn the_first_of_several_faults(rt: HostRuntime) {
                 "an unknown namespace prefix 'p' at 1:5",
                 5,
             ),
+            (
+                "<e xmlns:n='u' xmlns:n='v' a='&x;'/>",
+                "namespace 'n' at 1:16 is already defined",
+                16,
+            ),
+            (
+                "<e xmlns:xml='http://www.w3.org/2000/xmlns/'/>",
+                "the 'xmlns' URI is used at 1:4, but it must not be declared",
+                4,
+            ),
+            (
+                "<r>&a;\u{1}</r>",
+                "a non-XML character '\\u{1}' found at 1:7",
+                7,
+            ),
+            (
+                "<r>&a;]]></r>",
+                "']]>' at 1:10 is not allowed inside a character data",
+                10,
+            ),
+            ("<r>&a;&;</r>", "unknown entity reference 'a' at 1:4", 4),
+            (
+                "<!--\u{1}--\u{2}",
+                "a non-XML character '\\u{1}' found at 1:5",
+                5,
+            ),
+            ("<e a='\u{1}", "unexpected end of stream", 1),
+        ],
+    );
+}
+
+#[test]
+fn before_and_behind_the_root_element(rt: HostRuntime) {
+    let none = "the document does not have a root node";
+    refused(
+        &rt,
+        &[
+            (" <!--c--> ", none, 1),
+            (" t<r/>", "unknown token at 1:2", 2),
+            ("<!DOCTYPE r><r/>", "XML with DTD detected", 1),
+            ("<?p?><? t?><r/>", "invalid name token at 1:8", 8),
+            ("<?p t<r/>", "expected '?>' at 1:10", 10),
+            ("<r/><!-- - --- -->", "comment at 1:5 contains '--'", 5),
+            ("<r/><?xml ?>", "unexpected XML declaration at 1:5", 5),
+            ("<r/>t", "unknown token at 1:5", 5),
+            ("<r/><r/>", "unknown token at 1:5", 5),
+        ],
+    );
+}
+
+#[test]
+fn what_is_due(rt: HostRuntime) {
+    let ends = "unexpected end of stream";
+    refused(
+        &rt,
+        &[
+            ("<1/>", "invalid name token at 1:2", 2),
+            ("<a:b:c/>", "invalid name token at 1:2", 2),
+            ("<e 1='v'/>", "invalid name token at 1:4", 4),
+            ("<e a/>", "expected '=' not '/' at 1:5", 5),
+            ("<e a", ends, 1),
+            ("<e a=", ends, 1),
+            ("<e a='v", ends, 1),
+            ("<e a='v'/ >", "expected '>' not ' ' at 1:10", 10),
+            ("<e a='v'/", ends, 1),
+            (
+                "<e a='\u{FFFF}'/>",
+                "a non-XML character '\\u{ffff}' found at 1:7",
+                7,
+            ),
+            ("<r></r", ends, 1),
+            ("<r></:/r>", "invalid name token at 1:6", 6),
+            ("<r><![CDATA[t</r>", "expected ']]>' at 1:18", 18),
+            (
+                "<r><![CDATA[\u{B}]]></r>",
+                "a non-XML character '\\u{b}' found at 1:13",
+                13,
+            ),
+            ("<r><!t></r>", "unknown token at 1:4", 4),
+            ("<r><?xml ?></r>", "unexpected XML declaration at 1:4", 4),
+            ("<?xml version", ends, 1),
+            ("<?xml version=1?>", "expected a quote not '1' at 1:15", 15),
+            (
+                "<?xml version='1.0' encoding='a'b?>",
+                "expected a whitespace not 'b' at 1:33",
+                33,
+            ),
+            (
+                "<?xml version='1.0' standalone='a'b?>",
+                "expected '?>' at 1:35",
+                35,
+            ),
         ],
     );
 }

@@ -1,4 +1,4 @@
-//! What is searched for, at each place of texts of up to 130 bytes, whose characters have one byte, or three.
+//! What is searched for, at each place of texts of up to 130 bytes and nowhere in them. Their characters have one byte, or three.
 
 use super::{document_of, refusal_of};
 use roxmltree::{Document, Error, TextPos};
@@ -101,6 +101,58 @@ fn in_values(rt: HostRuntime) -> Result<(), Fail> {
 fn in_comments_and_instructions(rt: HostRuntime) -> Result<(), Fail> {
     is_found(&rt, Place::Comment, ["<!--", "->", "--><r/>"], "->")?;
     is_found(&rt, Place::Instruction, ["<?p ", "?", "?><r/>"], "?")?;
+    Ok(())
+}
+
+/// Wants a text to be read as it is where nothing that is sought stands in it.
+fn is_read(
+    rt: &(impl Abort + AllocGlobal),
+    place: Place,
+    [open, close]: [&str; 2],
+) -> Result<(), AllocError> {
+    let alloc = rt.alloc();
+    for (filler, most) in FILLERS {
+        for count in 1..=most {
+            let fill = filler.repeat(alloc, count)?;
+            let text = filled(alloc, [open, "", close], fill.as_str(), fill.len(), 0)?;
+            let document = document_of(rt, text.as_str());
+            assert_eq!(rt; read(&document, place), Some(fill.as_str()), "{text:?}");
+        }
+    }
+    Ok(())
+}
+
+#[test]
+fn nothing_is_found(rt: HostRuntime) -> Result<(), Fail> {
+    is_read(&rt, Place::Content, ["<r>", "</r>"])?;
+    is_read(&rt, Place::Content, ["<r><![CDATA[", "]]></r>"])?;
+    is_read(&rt, Place::Value, ["<r a='", "'/>"])?;
+    is_read(&rt, Place::Comment, ["<!--", "--><r/>"])?;
+    is_read(&rt, Place::Instruction, ["<?p ", "?><r/>"])?;
+    Ok(())
+}
+
+/// Wants a text to be refused that ends where something is sought: its error there, which is told without its column.
+fn is_cut_off(rt: &(impl Abort + AllocGlobal), open: &str, wanted: &str) -> Result<(), AllocError> {
+    let alloc = rt.alloc();
+    for (filler, most) in FILLERS {
+        for count in 0..=most {
+            let fill = filler.repeat(alloc, count)?;
+            let text = filled(alloc, [open, "", ""], fill.as_str(), fill.len(), 0)?;
+            let told = refusal_of(rt, text.as_str()).to_string(alloc)?;
+            assert!(rt; told.as_str().starts_with(wanted), "{text:?}: {told}");
+        }
+    }
+    Ok(())
+}
+
+#[test]
+fn ends_are_nowhere(rt: HostRuntime) -> Result<(), Fail> {
+    is_cut_off(&rt, "<!--", "expected '-->' at 1:")?;
+    is_cut_off(&rt, "<?p ", "expected '?>' at 1:")?;
+    is_cut_off(&rt, "<r><![CDATA[", "expected ']]>' at 1:")?;
+    is_cut_off(&rt, "<r a='", "unexpected end of stream")?;
+    is_cut_off(&rt, "<r>", "the root node was opened but never closed")?;
     Ok(())
 }
 

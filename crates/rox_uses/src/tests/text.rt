@@ -6,7 +6,8 @@ use std::alloc::{AllocError, Global};
 use std::process::Abort;
 use std::test::Fail;
 
-fn is_owned(storage: &StringStorage<'_>) -> bool {
+/// Whether a text is no slice of the input.
+pub(super) fn is_owned(storage: &StringStorage<'_>) -> bool {
     match storage {
         StringStorage::Owned(_) => true,
         StringStorage::Borrowed(_) => false,

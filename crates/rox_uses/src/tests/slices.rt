@@ -1,0 +1,146 @@
+//! Elements parsed alone, and put in the place of others.
+
+use super::{child_count, declared, document_of, node_of, refusal_of};
+use roxmltree::{Document, Error, Node};
+use std::process::Abort;
+use std::test::Fail;
+
+/// The text that a node is in, with the root element of another text in its place.
+pub(super) fn exchanged(
+    rt: &(impl Abort + AllocGlobal),
+    node: Node<'_, '_>,
+    other: &Document<'_>,
+) -> String {
+    assert!(rt; node.is_self_contained());
+    assert!(rt; other.root_element().is_self_contained());
+    node.exchange(rt.alloc(), other).expect(rt, "memory")
+}
+
+/// The document of a node alone.
+pub(super) fn reparsed<'input>(
+    rt: &(impl Abort + AllocGlobal),
+    node: Node<'_, 'input>,
+) -> Document<'input> {
+    assert!(rt; node.is_self_contained());
+    node.reparse(rt.alloc()).expect(rt, "memory")
+}
+
+/// Wants a node to stand from one byte up to another.
+fn stands(rt: &impl Abort, node: Node<'_, '_>, start: usize, end: usize) {
+    assert_eq!(rt; node.range().start, start);
+    assert_eq!(rt; node.range().end, end);
+}
+
+#[test]
+fn which_are_self_contained(rt: HostRuntime) {
+    let namespaces = "<a xmlns:p='1'><b/></a>";
+    let xml = "<a xmlns:xml='http://www.w3.org/XML/1998/namespace'><b/></a>";
+    for (text, id, wanted) in [
+        (namespaces, 0, false),
+        (namespaces, 1, true),
+        (namespaces, 2, false),
+        (xml, 1, true),
+        (xml, 2, true),
+        ("<a><b xmlns:p='1'><c/></b><d/></a>", 2, true),
+        ("<a><b xmlns:p='1'><c/></b><d/></a>", 3, false),
+        ("<a><b xmlns:p='1'><c/></b><d/></a>", 4, true),
+        ("<r>t<!--c--><?p?></r>", 2, false),
+        ("<r>t<!--c--><?p?></r>", 3, false),
+        ("<r>t<!--c--><?p?></r>", 4, false),
+    ] {
+        let document = document_of(&rt, text);
+        let node = node_of(&rt, &document, id);
+        assert_eq!(rt; node.is_self_contained(), wanted, "{text} {id}");
+    }
+}
+
+/// In a document with a document type declaration no element is: what its references stand for is said outside it.
+#[test]
+fn none_with_a_document_type(rt: HostRuntime) {
+    for (text, wanted) in [
+        ("<!DOCTYPE r><r/>", false),
+        ("<!DOCTYPE r [<!ENTITY a '<b/>'>]><r>&a;</r>", false),
+        ("<r/>", true),
+    ] {
+        let document = declared(&rt, text);
+        let is_contained = document.root_element().is_self_contained();
+        assert_eq!(rt; is_contained, wanted, "{text}");
+    }
+}
+
+#[test]
+fn exchanges(rt: HostRuntime) {
+    let row = "<?xml version='1.0'?><r>a<b/>c</r>";
+    let put = "<?xml version='1.0'?><r>a<x y='1'>&lt;</x>c</r>";
+    for (text, id, other, wanted) in [
+        (row, 3, "<!--z--><x y='1'>&lt;</x>", put),
+        (put, 3, "<b/>", row),
+        ("<!--k--><r/>", 2, "<x a='1'/>", "<!--k--><x a='1'/>"),
+        (
+            "<r><b/></r>",
+            2,
+            "<n:x xmlns:n='u'/>",
+            "<r><n:x xmlns:n='u'/></r>",
+        ),
+        ("<r>\r<b/>\n</r>", 3, "<x/>", "<r>\r<x/>\n</r>"),
+    ] {
+        let document = document_of(&rt, text);
+        let other = document_of(&rt, other);
+        let answer = exchanged(&rt, node_of(&rt, &document, id), &other);
+        assert_eq!(rt; answer.as_str(), wanted, "{text}");
+    }
+}
+
+#[test]
+fn places_after_an_exchange(rt: HostRuntime) {
+    let document = document_of(&rt, "<?xml version='1.0'?><r>a<x y='1'>&lt;</x>c</r>");
+    stands(&rt, document.root_element(), 21, 47);
+    let x = node_of(&rt, &document, 3);
+    stands(&rt, x, 25, 42);
+    stands(&rt, node_of(&rt, &document, 5), 42, 43);
+    let alone = reparsed(&rt, x);
+    stands(&rt, alone.root_element(), 0, 17);
+    stands(&rt, node_of(&rt, &alone, 2), 9, 13);
+    assert_eq!(rt; alone.input_text(), "<x y='1'>&lt;</x>");
+}
+
+#[test]
+fn line_ends_around_an_exchange(rt: HostRuntime) {
+    let text = "<r>\r<x/>\n</r>";
+    let document = document_of(&rt, text);
+    for (id, start, end, wanted) in [(2, 3, 4, "\n"), (4, 8, 9, "\n")] {
+        let node = node_of(&rt, &document, id);
+        stands(&rt, node, start, end);
+        assert_eq!(rt; node.text(), Some(wanted), "{text:?}");
+    }
+    stands(&rt, node_of(&rt, &document, 3), 4, 8);
+}
+
+#[test]
+fn too_many_namespaces_after_an_exchange(rt: HostRuntime) -> Result<(), Fail> {
+    let mut text = String::from_str(rt.alloc(), "<r><b/>")?;
+    for uri in 1..=65535 {
+        write!(text, "<e xmlns:n='{uri}'/>")?;
+    }
+    text.push_str("</r>")?;
+    let document = document_of(&rt, text.as_str());
+    let other = document_of(&rt, "<e xmlns:n='65536'/>");
+    let answer = exchanged(&rt, node_of(&rt, &document, 2), &other);
+    assert_eq!(rt;
+        refusal_of(&rt, answer.as_str()),
+        Error::NamespacesLimitReached
+    );
+    Ok(())
+}
+
+#[test]
+fn an_element_alone(rt: HostRuntime) {
+    let text = "<r>x<a n:b='1' xmlns:n='u'><c/>\r\n</a></r>";
+    let document = document_of(&rt, text);
+    let alone = reparsed(&rt, node_of(&rt, &document, 3));
+    let a = alone.root_element();
+    assert_eq!(rt; alone.input_text(), "<a n:b='1' xmlns:n='u'><c/>\r\n</a>");
+    assert_eq!(rt; a.attribute(("u", "b").into()), Some("1"));
+    assert_eq!(rt; child_count(a), 2);
+    stands(&rt, a, 0, 33);
+}
