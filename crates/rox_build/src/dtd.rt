@@ -15,8 +15,8 @@ ghost use Rattle.rox_build.specs.Named.{AreDeclared};
 ghost use Rattle.rox_build.specs.Shown.{Fine, Sees};
 
 use crate::builder::Builder;
+use crate::constructs::{comment, instruction};
 use crate::entities::Entities;
-use crate::reader::{comment, instruction};
 use crate::refused::Refused;
 use rox_grammar::fault::{Due, Fault, Word};
 use rox_resolver::resolver::{EntityResolver, ask};

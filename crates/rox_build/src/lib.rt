@@ -3,6 +3,8 @@
 
 pub mod attributes;
 pub mod builder;
+pub mod constructs;
+pub mod content;
 pub mod declaration;
 pub mod dtd;
 pub mod entities;

@@ -4,7 +4,7 @@ use Rattle.rox_grammar.specs.Tree as tree
 use Rattle.rox_grammar.specs.Written.{Item, Comment}
 use Rattle.rox_reading.specs.Refusals.{lifted}
 use Rattle.rox_build.proofs.Stepping.{comment_is, comment_fails, item_stepped}
-use Rattle.rox_build.proofs.reader.comment.Goals as goal
+use Rattle.rox_build.proofs.constructs.comment.Goals as goal
 
 pub returns-clause-value : goal.returns-clause-value
 returns-clause-value c = λ limit end s h.

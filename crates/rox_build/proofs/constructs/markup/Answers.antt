@@ -4,7 +4,7 @@ use Rattle.std.proofs.lemmas.Result.{err_from_is_err_and}
 use Rattle.rox_build.proofs.Lifting.{refused_too}
 use Rattle.rox_build.specs.Hows.{how_of}
 use Rattle.rox_build.proofs.Stepping.{two_stand, step_is_markup}
-use Rattle.rox_build.proofs.reader.markup.Goals as goal
+use Rattle.rox_build.proofs.constructs.markup.Goals as goal
 
 pub instruction-requires-clause-here : goal.instruction-requires-clause-here
 instruction-requires-clause-here c =

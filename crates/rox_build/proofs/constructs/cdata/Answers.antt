@@ -4,7 +4,7 @@ use Rattle.std.specs.String.{string_bytes}
 use Rattle.rox_build.specs.Values.{piece_view, section_text}
 use Rattle.rox_reading.specs.Refusals.{lifted}
 use Rattle.rox_build.proofs.Stepping.{cdata_is, cdata_fails, text_stepped, text_or, same_shows}
-use Rattle.rox_build.proofs.reader.cdata.Goals as goal
+use Rattle.rox_build.proofs.constructs.cdata.Goals as goal
 
 pub returns-clause-value : goal.returns-clause-value
 returns-clause-value c = λ limit end s h.

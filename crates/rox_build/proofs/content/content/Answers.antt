@@ -6,7 +6,7 @@ use Rattle.rox_grammar.specs.State.{is_root}
 use Rattle.rox_reading.specs.Machine.{step}
 use Rattle.rox_build.specs.Hows.{how_of}
 use Rattle.rox_build.proofs.Looping.{drives_on, drive_fails, drive_done, drive_cut, drive_spent}
-use Rattle.rox_build.proofs.reader.content.Goals as goal
+use Rattle.rox_build.proofs.content.content.Goals as goal
 
 pub returns-then-is_at_root-clause-value : goal.returns-then-is_at_root-clause-value
 returns-then-is_at_root-clause-value c = λ limit end es s declared sees.

@@ -13,7 +13,7 @@ use Rattle.rox_build.proofs.ShortLemmas.{short_run}
 use Rattle.rox_build.proofs.Parting.{rests_of, parting_ends, parting_on, parting_fails, parting_stops, parting_out}
 use Rattle.rox_build.proofs.TextLooping.{opened_depth, text_on, text_fails, text_at_end, text_spent}
 use Rattle.rox_build.proofs.TextOpening.{inner_state, outer_state, opens_err, opens_reads, opens_refuses, opener_at}
-use Rattle.rox_build.proofs.reader.+content.Goals as goal
+use Rattle.rox_build.proofs.content.+content.Goals as goal
 
 -- ---- a run
 

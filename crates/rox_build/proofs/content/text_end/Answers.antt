@@ -1,7 +1,7 @@
 use Rattle.std.proofs.Common.{arith}
 use Rattle.rox_build.specs.Hows.{how_of}
 use Rattle.rox_build.proofs.TextLooping.{opened_depth, text_closed, text_open}
-use Rattle.rox_build.proofs.reader.text_end.Goals as goal
+use Rattle.rox_build.proofs.content.text_end.Goals as goal
 
 pub returns-then-len-how : goal.returns-then-len-how
 returns-then-len-how c = λ limit end es s h.

@@ -7,7 +7,7 @@ use Rattle.rox_build.specs.Hows.{how_of}
 use Rattle.rox_build.specs.Values.{next_view}
 use Rattle.rox_build.proofs.Stepping.{same_shows}
 use Rattle.rox_build.proofs.Parting.{rests_of, text_rests, text_refused, part_piece_is, part_piece_fails}
-use Rattle.rox_build.proofs.reader.part_piece.Goals as goal
+use Rattle.rox_build.proofs.content.part_piece.Goals as goal
 
 pub returns-in_err-buffered_piece-clause-value : goal.returns-in_err-buffered_piece-clause-value
 returns-in_err-buffered_piece-clause-value c = λ limit end es s declared h.

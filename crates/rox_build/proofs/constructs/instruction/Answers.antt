@@ -5,7 +5,7 @@ use Rattle.rox_grammar.specs.Written.{Item, PI}
 use Rattle.rox_scan.specs.Parts.{instruction_view}
 use Rattle.rox_reading.specs.Refusals.{lifted}
 use Rattle.rox_build.proofs.Stepping.{instruction_is, instruction_fails, item_stepped}
-use Rattle.rox_build.proofs.reader.instruction.Goals as goal
+use Rattle.rox_build.proofs.constructs.instruction.Goals as goal
 
 pub returns-clause-value : goal.returns-clause-value
 returns-clause-value c = λ limit end s h.

@@ -6,7 +6,7 @@ use Rattle.rox_build.specs.Named.{AreDeclared}
 use Rattle.rox_build.specs.Hows.{how_of}
 use Rattle.rox_build.specs.Shown.{Fine, Sees}
 use Rattle.rox_build.proofs.Looping.{Driving}
-use Rattle.rox_build.proofs.reader.content.Given as goal
+use Rattle.rox_build.proofs.content.content.Given as goal
 
 abbrev pub invariant-loop-turn : goal.invariant-loop-turn
 invariant-loop-turn l = record {

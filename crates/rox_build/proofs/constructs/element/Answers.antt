@@ -14,7 +14,7 @@ use Rattle.rox_build.proofs.Declared.{some_declare}
 use Rattle.rox_build.proofs.Lifting.{refused_too}
 use Rattle.rox_build.proofs.Growing.{grown_shows}
 use Rattle.rox_build.proofs.Opening.{grown_by, is_node, is_opening, fine_by, fine_kept, fine_more, tag_fails, tag_is, empty_stepped, open_stepped}
-use Rattle.rox_build.proofs.reader.element.Goals as goal
+use Rattle.rox_build.proofs.constructs.element.Goals as goal
 
 abbrev with_left : ℕ → State → State
 with_left left s = record { at = s.at; done = s.done; stack = s.stack; left = left }

@@ -7,7 +7,7 @@ use Rattle.rox_build.specs.Hows.{how_of}
 use Rattle.rox_build.specs.Shown.{Fine, Sees, Rests}
 use Rattle.rox_build.proofs.Parting.{Parting}
 use Rattle.rox_build.proofs.TextLooping.{Texting}
-use Rattle.rox_build.proofs.reader.+content.Given as goal
+use Rattle.rox_build.proofs.content.+content.Given as goal
 
 abbrev pub decreases-open_text : goal.decreases-open_text
 decreases-open_text l = 8 * l.how.deep

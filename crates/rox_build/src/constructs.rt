@@ -1,0 +1,265 @@
+//! The constructs that have marks, read one by one into the builder: comments, processing instructions, CDATA sections and tags
+//! (XML 1.0 sections 2.5, 2.6, 2.7, 3.1).
+
+ghost use Rattle.std.specs.Prelude.{◌≡◌, ◌≢◌, ◌<◌, ◌+◌, ℕ, List, OnOk, length, slice_index, true};
+ghost use Rattle.rox_grammar.specs.Marks.{stands};
+ghost use Rattle.rox_grammar.specs.Words.{word_text};
+ghost use Rattle.rox_grammar.specs.declared.fault.Word.TheVariants as word;
+ghost use Rattle.rox_reading.specs.State.{State};
+ghost use Rattle.rox_reading.specs.Machine as machine;
+ghost use Rattle.rox_scan.specs.Gives.{name_view};
+ghost use Rattle.rox_grammar.specs.Forest.{Forest};
+ghost use Rattle.rox_grammar.specs.Written.{Item, local_span};
+ghost use Rattle.rox_grammar.specs.State.{Open};
+ghost use Rattle.rox_grammar.specs.Entities.{Entity};
+ghost use Rattle.rox_reading.specs.Refusals.{lifted};
+ghost use Rattle.rox_build.specs.Named.{AreDeclared};
+ghost use Rattle.rox_build.specs.Hows.{how_of};
+ghost use Rattle.rox_build.specs.Shown.{Fine, Sees, Stepped, Went, Shows};
+
+use crate::builder::Builder;
+use crate::how::How;
+use crate::refused::Refused;
+use crate::storage::StringStorage;
+use crate::tables::{NodeKind, PI};
+use crate::tag::start_tag;
+use crate::value::cdata_text;
+use rox_grammar::fault::{Fault, Span, Word};
+use rox_scan::alike::same_text;
+use rox_scan::cursor::{Cursor, QName};
+use rox_scan::failure::Failure;
+use std::alloc::Global;
+
+/// A comment, from `<!--`.
+pub fn comment<'input>(
+    alloc: Global,
+    cursor: &mut Cursor<'input>,
+    builder: &mut Builder<'input>,
+) -> Result<(), Failure>
+    requires here { stands (word_text word.CommentStart) cursor.old.text.now cursor.old.pos ≡ true }
+    requires fine { Fine builder.old.tables builder.old.opened.items }
+    ensures value { (limit end : ℕ) (s : State) → Sees limit end s cursor.old builder.old
+        → Stepped limit end result cursor.new builder.new (lifted (machine.comment_step limit cursor.old.text.now s)) }
+    ensures fine { OnOk result (Fine builder.new.tables builder.new.opened.items) }
+    ensures source { cursor.new.text ≡ cursor.old.text }
+{
+    let start = cursor.pos;
+    let text = cursor.comment(&builder.finders)?;
+    builder.leaf(
+        alloc,
+        start,
+        cursor.pos,
+        NodeKind::Comment(StringStorage::Borrowed(text)),
+    )
+}
+
+/// A processing instruction, from `<?`.
+pub fn instruction<'input>(
+    alloc: Global,
+    cursor: &mut Cursor<'input>,
+    builder: &mut Builder<'input>,
+) -> Result<(), Failure>
+    requires here { stands (word_text word.PIStart) cursor.old.text.now cursor.old.pos ≡ true }
+    requires fine { Fine builder.old.tables builder.old.opened.items }
+    ensures value { (limit end : ℕ) (s : State) → Sees limit end s cursor.old builder.old
+        → Stepped limit end result cursor.new builder.new (lifted (machine.instruction_step limit cursor.old.text.now s)) }
+    ensures fine { OnOk result (Fine builder.new.tables builder.new.opened.items) }
+    ensures source { cursor.new.text ≡ cursor.old.text }
+{
+    let start = cursor.pos;
+    let pi = cursor.instruction(&builder.finders)?;
+    builder.leaf(
+        alloc,
+        start,
+        cursor.pos,
+        NodeKind::PI(PI {
+            target: pi.target,
+            value: pi.value,
+        }),
+    )
+}
+
+/// A CDATA section, from `<![CDATA[`.
+fn cdata<'input>(cursor: &mut Cursor<'input>, builder: &mut Builder<'input>) -> Result<(), Failure>
+    requires here { stands (word_text word.CDataStart) cursor.old.text.now cursor.old.pos ≡ true }
+    requires fine { Fine builder.old.tables builder.old.opened.items }
+    ensures value { (limit end : ℕ) (s : State) → Sees limit end s cursor.old builder.old
+        → Stepped limit end result cursor.new builder.new (lifted (machine.cdata_step limit cursor.old.text.now s)) }
+    ensures fine { OnOk result (Fine builder.new.tables builder.new.opened.items) }
+    ensures source { cursor.new.text ≡ cursor.old.text }
+{
+    let start = cursor.pos;
+    let raw = cursor.cdata(&builder.finders)?;
+    let piece = cdata_text(raw, &mut builder.buffers.scratch)?;
+    builder.piece(start, cursor.pos, piece)
+}
+
+/// What `<!` begins.
+#[tactic(auto, unfolding(rox_reading::specs::Machine::step))]
+fn comment_or_section<'input>(
+    alloc: Global,
+    cursor: &mut Cursor<'input>,
+    builder: &mut Builder<'input>,
+) -> Result<(), Failure>
+    requires there { cursor.old.pos + 1 < length cursor.old.text.now }
+    requires here { slice_index cursor.old.text.now cursor.old.pos ≡ 60 }
+    requires next { slice_index cursor.old.text.now (cursor.old.pos + 1) ≡ 33 }
+    requires fine { Fine builder.old.tables builder.old.opened.items }
+    ensures value { (how : machine.How) (end : ℕ) (s : State) → Sees how.limit end s cursor.old builder.old
+        → Stepped how.limit end result cursor.new builder.new (machine.step how cursor.old.text.now s) }
+    ensures fine { OnOk result (Fine builder.new.tables builder.new.opened.items) }
+    ensures source { cursor.new.text ≡ cursor.old.text }
+{
+    if cursor.starts(Word::CommentStart) {
+        return comment(alloc, cursor, builder);
+    }
+    if cursor.starts(Word::CDataStart) {
+        return cdata(cursor, builder);
+    }
+    Err(Failure::Fault(Fault::UnknownToken(cursor.pos)))
+}
+
+/// The fault of a start tag that is cut off by the end of the text.
+fn cut_off(builder: &Builder<'_>, how: How<'_, '_>) -> Fault
+    ensures { (end : ℕ) (stack : Open) (done : Forest Item) → Shows end stack done builder.now → result ≡ machine.cut_off how.entry.main stack }
+{
+    if !how.main {
+        Fault::UnexpectedEndOfStream
+    } else if builder.is_at_root() {
+        Fault::NoRootNode
+    } else {
+        Fault::UnclosedRootNode
+    }
+}
+
+/// A start tag, from its `<`.
+pub fn element<'input>(
+    alloc: Global,
+    cursor: &mut Cursor<'input>,
+    builder: &mut Builder<'input>,
+    how: How<'_, 'input>,
+) -> Result<(), Refused<'input>>
+    requires there { cursor.old.pos < length cursor.old.text.now }
+    requires here { slice_index cursor.old.text.now cursor.old.pos ≡ 60 }
+    requires fine { Fine builder.old.tables builder.old.opened.items }
+    ensures value { (limit end : ℕ) (es : List Entity) (s : State) → AreDeclared es how.entry.entities.now → Sees limit end s cursor.old builder.old
+        → Went limit end result cursor.new builder.new (machine.tag_step (how_of limit es how.entry) cursor.old.text.now s) }
+    ensures fine { OnOk result (Fine builder.new.tables builder.new.opened.items) }
+    ensures source { cursor.new.text ≡ cursor.old.text }
+{
+    let start = cursor.pos;
+    let cut = cut_off(builder, how);
+    let left = builder.left;
+    let above = builder.scope();
+    let tag = start_tag(
+        alloc,
+        cursor,
+        &mut builder.tables,
+        &mut builder.buffers,
+        above,
+        cut,
+        how,
+        left,
+    )?;
+    builder.left = tag.left;
+    if tag.empty {
+        builder.leaf(alloc, start, cursor.pos, NodeKind::Element(tag.element))?;
+        return Ok(());
+    }
+    builder.open_element(alloc, start, &tag)?;
+    Ok(())
+}
+
+/// Where the local part of a name stands that ends at `end`.
+fn local_span(name: QName<'_>, end: usize) -> Span
+    ensures { result ≡ local_span (name_view name.entry) end }
+{
+    Span {
+        start: end.saturating_sub(name.local.len()),
+        end,
+    }
+}
+
+/// Where a name is written, which ends at `end` in a tag whose name may begin at `start`: without the colon if there is no
+/// prefix.
+fn name_span(name: QName<'_>, start: usize, end: usize) -> Span
+    ensures { result ≡ machine.name_span (name_view name.entry) start end }
+{
+    if name.prefix.is_empty() {
+        local_span(name, end)
+    } else {
+        Span { start, end }
+    }
+}
+
+/// Whether two names are written alike.
+#[inline(always)]
+fn same_name(one: QName<'_>, other: QName<'_>) -> bool
+    ensures { result ≡ machine.same_name (name_view one.entry) (name_view other.entry) }
+{
+    same_text(one.prefix, other.prefix) && same_text(one.local, other.local)
+}
+
+/// An end tag, from `</`.
+#[inline(always)]
+pub fn end_tag<'input>(
+    alloc: Global,
+    cursor: &mut Cursor<'input>,
+    builder: &mut Builder<'input>,
+    how: How<'_, 'input>,
+) -> Result<(), Failure>
+    requires here { stands (word_text word.EndTagStart) cursor.old.text.now cursor.old.pos ≡ true }
+    requires fine { Fine builder.old.tables builder.old.opened.items }
+    ensures value { (limit end : ℕ) (es : List Entity) (s : State) → Sees limit end s cursor.old builder.old
+        → Stepped limit end result cursor.new builder.new (lifted (machine.end_step (how_of limit es how.entry) cursor.old.text.now s)) }
+    ensures fine { OnOk result (Fine builder.new.tables builder.new.opened.items) }
+    ensures source { cursor.new.text ≡ cursor.old.text }
+{
+    let start = cursor.pos;
+    let tag = cursor.end_tag()?;
+    if builder.opened.len() <= how.base {
+        return Err(Failure::Fault(Fault::UnexpectedEntityCloseTag(start)));
+    }
+    let Some(open) = builder.opened.last() else {
+        return Err(Failure::Fault(Fault::UnexpectedEntityCloseTag(start)));
+    };
+    if !same_name(open.name, tag.name) {
+        let expected = name_span(open.name, open.name_start, open.name_end);
+        let found = name_span(tag.name, start + 2, tag.name_end);
+        return Err(Failure::Fault(Fault::UnexpectedCloseTag(expected, found, start)));
+    }
+    builder.close(alloc, cursor.pos)?;
+    Ok(())
+}
+
+/// What `<` begins, but for an end tag.
+#[tactic(auto, unfolding(rox_reading::specs::Machine::step))]
+#[inline(always)]
+pub fn markup<'input>(
+    alloc: Global,
+    cursor: &mut Cursor<'input>,
+    builder: &mut Builder<'input>,
+    how: How<'_, 'input>,
+) -> Result<(), Refused<'input>>
+    requires there { cursor.old.pos + 1 < length cursor.old.text.now }
+    requires here { slice_index cursor.old.text.now cursor.old.pos ≡ 60 }
+    requires no_end_tag { slice_index cursor.old.text.now (cursor.old.pos + 1) ≢ 47 }
+    requires fine { Fine builder.old.tables builder.old.opened.items }
+    ensures value { (limit end : ℕ) (es : List Entity) (s : State) → AreDeclared es how.entry.entities.now → Sees limit end s cursor.old builder.old
+        → Went limit end result cursor.new builder.new (machine.step (how_of limit es how.entry) cursor.old.text.now s) }
+    ensures fine { OnOk result (Fine builder.new.tables builder.new.opened.items) }
+    ensures source { cursor.new.text ≡ cursor.old.text }
+{
+    let bytes = cursor.text.as_bytes();
+    let next = bytes[cursor.pos + 1];
+    if next == b'!' {
+        comment_or_section(alloc, cursor, builder)?;
+        return Ok(());
+    }
+    if next == b'?' {
+        instruction(alloc, cursor, builder)?;
+        return Ok(());
+    }
+    element(alloc, cursor, builder, how)?;
+    Ok(())
+}

@@ -1,0 +1,278 @@
+//! Content: character data and replacement texts, one construct after another (XML 1.0 sections 2.4, 3.1, 4.3.2, 4.4.2).
+
+ghost use Rattle.std.specs.Prelude.{◌≡◌, ◌<◌, ◌-◌, ℕ, List, OnOk, length};
+ghost use Rattle.std.specs.Str.{IsCharBoundary};
+ghost use Rattle.std.specs.String.{string_bytes};
+ghost use Rattle.rox_reading.specs.State.{State};
+ghost use Rattle.rox_reading.specs.Machine as machine;
+ghost use Rattle.rox_grammar.specs.Entities.{Entity};
+ghost use Rattle.rox_reading.specs.Values as spec;
+ghost use Rattle.rox_scan.specs.Doctypes.{replacement_view};
+ghost use Rattle.rox_build.specs.Named.{AreDeclared};
+ghost use Rattle.rox_build.specs.Hows.{how_of};
+ghost use Rattle.rox_build.specs.Shown.{Fine, Sees, Went, Rests, Rested, GivesPart};
+ghost use Rattle.rox_build.specs.Parted.{Parted, next_part};
+
+use crate::builder::Builder;
+use crate::constructs::{end_tag, markup};
+use crate::how::How;
+use crate::refused::Refused;
+use crate::tag::Buffers;
+use crate::value::{is_plain, is_run_end, line_feeds, raw_run, run_part};
+use rox_grammar::fault::Fault;
+use rox_scan::cursor::Cursor;
+use rox_scan::failure::Failure;
+use rox_scan::near::{TextByte, near_end};
+use std::alloc::Global;
+
+/// Character data, up to the next `<` or the end, which is no slice of the source as far as a quick look tells.
+#[cycle(content)]
+#[inline(never)]
+fn far_run<'input>(
+    alloc: Global,
+    cursor: &mut Cursor<'input>,
+    builder: &mut Builder<'input>,
+    how: How<'_, 'input>,
+) -> Result<(), Refused<'input>>
+    requires fine { Fine builder.old.tables builder.old.opened.items }
+    ensures value { (limit end : ℕ) (es : List Entity) (s : State) → AreDeclared es how.entry.entities.now → Sees limit end s cursor.old builder.old
+        → Went limit end result cursor.new builder.new (machine.run_step (how_of limit es how.entry) cursor.old.text.now s) }
+    ensures fine { OnOk result (Fine builder.new.tables builder.new.opened.items) }
+    ensures source { cursor.new.text ≡ cursor.old.text }
+{
+    let start = cursor.pos;
+    let raw = raw_run(cursor)?;
+    if is_plain(raw.as_bytes()) {
+        builder.slice_piece(start, cursor.pos, raw)?;
+        return Ok(());
+    }
+    let stop = cursor.pos;
+    cursor.pos = start;
+    run_parts(alloc, cursor, builder, how, start, stop)
+}
+
+/// Character data, up to the next `<` or the end.
+#[cycle(content)]
+#[inline(always)]
+fn character_data<'input>(
+    alloc: Global,
+    cursor: &mut Cursor<'input>,
+    builder: &mut Builder<'input>,
+    how: How<'_, 'input>,
+) -> Result<(), Refused<'input>>
+    requires fine { Fine builder.old.tables builder.old.opened.items }
+    ensures value { (limit end : ℕ) (es : List Entity) (s : State) → AreDeclared es how.entry.entities.now → Sees limit end s cursor.old builder.old
+        → Went limit end result cursor.new builder.new (machine.run_step (how_of limit es how.entry) cursor.old.text.now s) }
+    ensures fine { OnOk result (Fine builder.new.tables builder.new.opened.items) }
+    ensures source { cursor.new.text ≡ cursor.old.text }
+{
+    let start = cursor.pos;
+    let text = cursor.text;
+    let near = near_end::<TextByte>(text, start);
+    if is_run_end(text, near) {
+        cursor.pos = near;
+        builder.slice_piece(start, near, &text[start..near])?;
+        return Ok(());
+    }
+    far_run(alloc, cursor, builder, how)
+}
+
+/// The parts of a run from `start` up to `stop`, from here on, and the replacement texts between them.
+#[cycle(content)]
+fn run_parts<'input>(
+    alloc: Global,
+    cursor: &mut Cursor<'input>,
+    builder: &mut Builder<'input>,
+    how: How<'_, 'input>,
+    start: usize,
+    stop: usize,
+) -> Result<(), Refused<'input>>
+    requires stop { IsCharBoundary cursor.old.text.now stop }
+    requires fine { Fine builder.old.tables builder.old.opened.items }
+    ensures value { (limit end : ℕ) (es : List Entity) (s : State) → AreDeclared es how.entry.entities.now → Sees limit end s cursor.old builder.old
+        → Went limit end result cursor.new builder.new (machine.run_parts (how_of limit es how.entry) (length cursor.old.text.now) cursor.old.text.now start stop s) }
+    ensures fine { OnOk result (Fine builder.new.tables builder.new.opened.items) }
+    ensures source { cursor.new.text ≡ cursor.old.text }
+{
+    for _turn in 0..cursor.text.len() {
+        match part_piece(cursor, builder, how, start, stop)? {
+            Some(text) => open_text(alloc, cursor.pos, builder, how, text)?,
+            None => {
+                cursor.pos = stop;
+                return Ok(());
+            }
+        }
+    }
+    cursor.pos = stop;
+    Ok(())
+}
+
+/// A part of a run, into the buffer for values, up to the run's end or a reference to an entity, whose replacement text it answers.
+fn part<'input>(
+    cursor: &mut Cursor<'input>,
+    buffers: &mut Buffers<'input>,
+    how: How<'_, 'input>,
+    stop: usize,
+) -> Result<Option<Cursor<'input>>, Failure>
+    requires { IsCharBoundary cursor.old.text.now stop }
+    ensures value { (es : List Entity) → AreDeclared es how.entry.entities.now
+        → GivesPart how.entry.main (string_bytes buffers.new.scratch) cursor.new result (spec.run_part how.entry.main es (stop - cursor.old.pos) cursor.old.text.now stop cursor.old.pos) }
+    ensures source { cursor.new.text ≡ cursor.old.text }
+{
+    buffers.scratch.clear();
+    if how.main {
+        return run_part(cursor, stop, how, &mut buffers.scratch);
+    }
+    buffers.raw.clear();
+    let next = run_part(cursor, stop, how, &mut buffers.raw)?;
+    line_feeds(buffers.raw.as_str(), &mut buffers.scratch)?;
+    Ok(next)
+}
+
+/// A part of a run from `start` up to `stop`: its piece, if it has a character. It ends at the run's end or a reference to an
+/// entity, whose replacement text it answers.
+fn part_piece<'input>(
+    cursor: &mut Cursor<'input>,
+    builder: &mut Builder<'input>,
+    how: How<'_, 'input>,
+    start: usize,
+    stop: usize,
+) -> Result<Option<Cursor<'input>>, Failure>
+    requires stop { IsCharBoundary cursor.old.text.now stop }
+    requires fine { Fine builder.old.tables builder.old.opened.items }
+    ensures value { (limit end : ℕ) (es : List Entity) (s : State) → AreDeclared es how.entry.entities.now → Sees limit end s cursor.old builder.old
+        → Parted limit end result cursor.new builder.new (next_part (how_of limit es how.entry) cursor.old.text.now start stop s) }
+    ensures fine { OnOk result (Fine builder.new.tables builder.new.opened.items) }
+    ensures source { cursor.new.text ≡ cursor.old.text }
+{
+    let next = part(cursor, &mut builder.buffers, how, stop)?;
+    if builder.buffers.scratch.is_empty() {
+        return Ok(next);
+    }
+    builder.buffered_piece(start, stop)?;
+    Ok(next)
+}
+
+/// A replacement text, in content. Its reference ends at `after`.
+#[cycle(content)]
+#[cold]
+#[inline(never)]
+fn open_text<'input>(
+    alloc: Global,
+    after: usize,
+    builder: &mut Builder<'input>,
+    how: How<'_, 'input>,
+    text: Cursor<'input>,
+) -> Result<(), Refused<'input>>
+    requires fine { Fine builder.old.tables builder.old.opened.items }
+    ensures value { (limit end : ℕ) (es : List Entity) (s : State) → AreDeclared es how.entry.entities.now → Rests limit end s builder.old
+        → Rested limit end result builder.new (machine.opener limit es how.entry.deep how.entry.main (replacement_view text.entry) after s) }
+    ensures fine { OnOk result (Fine builder.new.tables builder.new.opened.items) }
+{
+    let before = builder.left;
+    let (within, inner) = how.opened(after, before, builder.opened.len())?;
+    builder.left = inner;
+    match content_text(alloc, builder, within, text) {
+        Ok(()) => {
+            builder.left = how.left_behind(before, builder.left);
+            Ok(())
+        }
+        Err(refused) => Err(refused.within(text.text)),
+    }
+}
+
+/// Content of a replacement text, up to its end.
+#[cycle(content)]
+fn content_text<'input>(
+    alloc: Global,
+    builder: &mut Builder<'input>,
+    how: How<'_, 'input>,
+    text: Cursor<'input>,
+) -> Result<(), Refused<'input>>
+    requires fine { Fine builder.old.tables builder.old.opened.items }
+    ensures value { (limit end : ℕ) (es : List Entity) (s : State) → AreDeclared es how.entry.entities.now → Rests limit end s builder.old → s.at ≡ text.entry.pos
+        → Rested limit end result builder.new (machine.drive_text (how_of limit es how.entry) (length text.entry.text.now) text.entry.text.now s) }
+    ensures fine { OnOk result (Fine builder.new.tables builder.new.opened.items) }
+{
+    let mut cursor = text;
+    for _turn in 0..text.text.len() {
+        if cursor.is_at_end() {
+            return text_end(builder, how);
+        }
+        step(alloc, &mut cursor, builder, how)?;
+    }
+    text_end(builder, how)
+}
+
+/// The end of a replacement text: no element may be open that it opened.
+fn text_end<'input>(builder: &Builder<'input>, how: How<'_, 'input>) -> Result<(), Refused<'input>>
+    ensures { (limit end : ℕ) (es : List Entity) (s : State) → Rests limit end s builder.now → Rested limit end result builder.now (machine.text_ends (how_of limit es how.entry) s) }
+{
+    if builder.opened.len() == how.base {
+        Ok(())
+    } else {
+        Err(Refused::Fault(Fault::UnexpectedEndOfStream))
+    }
+}
+
+/// One construct of content.
+#[tactic(auto, unfolding(rox_reading::specs::Machine::step))]
+#[cycle(content)]
+#[inline(always)]
+fn step<'input>(
+    alloc: Global,
+    cursor: &mut Cursor<'input>,
+    builder: &mut Builder<'input>,
+    how: How<'_, 'input>,
+) -> Result<(), Refused<'input>>
+    requires there { cursor.old.pos < length cursor.old.text.now }
+    requires fine { Fine builder.old.tables builder.old.opened.items }
+    ensures value { (limit end : ℕ) (es : List Entity) (s : State) → AreDeclared es how.entry.entities.now → Sees limit end s cursor.old builder.old
+        → Went limit end result cursor.new builder.new (machine.step (how_of limit es how.entry) cursor.old.text.now s) }
+    ensures fine { OnOk result (Fine builder.new.tables builder.new.opened.items) }
+    ensures source { cursor.new.text ≡ cursor.old.text }
+{
+    let bytes = cursor.text.as_bytes();
+    if bytes[cursor.pos] != b'<' {
+        return character_data(alloc, cursor, builder, how);
+    }
+    if cursor.pos + 1 >= bytes.len() {
+        return Err(Refused::Fault(Fault::UnknownToken(cursor.pos)));
+    }
+    let next = bytes[cursor.pos + 1];
+    if next == b'/' {
+        end_tag(alloc, cursor, builder, how)?;
+        return Ok(());
+    }
+    markup(alloc, cursor, builder, how)?;
+    Ok(())
+}
+
+/// Content up to the end tag of the root element.
+pub fn content<'input>(
+    alloc: Global,
+    cursor: &mut Cursor<'input>,
+    builder: &mut Builder<'input>,
+    how: How<'_, 'input>,
+) -> Result<(), Refused<'input>>
+    requires fine { Fine builder.old.tables builder.old.opened.items }
+    ensures value { (limit end : ℕ) (es : List Entity) (s : State) → AreDeclared es how.entry.entities.now → Sees limit end s cursor.old builder.old
+        → Went limit end result cursor.new builder.new (machine.drive (how_of limit es how.entry) (length cursor.old.text.now) cursor.old.text.now s) }
+    ensures fine { OnOk result (Fine builder.new.tables builder.new.opened.items) }
+    ensures source { cursor.new.text ≡ cursor.old.text }
+{
+    for _turn in 0..cursor.text.len() {
+        if builder.is_at_root() {
+            return Ok(());
+        }
+        if cursor.is_at_end() {
+            return Err(Refused::Fault(Fault::UnclosedRootNode));
+        }
+        step(alloc, cursor, builder, how)?;
+    }
+    if builder.is_at_root() {
+        Ok(())
+    } else {
+        Err(Refused::Fault(Fault::UnclosedRootNode))
+    }
+}
