@@ -7,10 +7,8 @@ use Rattle.rox_grammar.specs.Forest.{Forest, Nil, join, size}
 use Rattle.rox_grammar.specs.Written.{Name, Declaration, Tag, Item, Element, Text, merge, leaf}
 use Rattle.rox_grammar.specs.Tree.{listed, scope_in, node_in}
 use Rattle.rox_grammar.specs.Document.{distinct_pairs, most_pairs, most_attributes}
-use Rattle.rox_reading.specs.Lexical.{Read, ◌>>=◌}
 use Rattle.rox_reading.specs.Refusals.{Refusal}
 use Rattle.rox_reading.specs.State.{State}
-use Rattle.rox_reading.specs.Whole.{prolog}
 use Rattle.rox_grammar.specs.State.{Open, root, inside, scope_of, pairs_so_far, attributes_so_far}
 use Rattle.rox_reading.proofs.Forests.{Clean, is_text}
 use Rattle.rox_scan.specs.Gives.{Fails, name_view}
@@ -172,10 +170,6 @@ Rested limit end (Err e) b read = Refuses e read
 abbrev pub WentWith : ℕ → ℕ → Result Bool Refused → Cursor → Builder → Result (State × Bool) Refusal → Type 0
 WentWith limit end (Ok x) c b read = (s : State) × (read ≡ Ok (s, x)) × Sees limit end s c b
 WentWith limit end (Err e) c b read = Refuses e read
-
--- the place behind the declaration, if it stands here
-abbrev pub prolog_at : List ℕ → ℕ → Read (Unit {0})
-prolog_at src i = prolog src i >>= λ j. Ok (tt, j)
 
 -- a part of a run stands in the buffer for values, up to the run's end or a reference
 abbrev pub GivesPart : Bool → List ℕ → Cursor → Result (Option Cursor) Failure → Result (List ℕ × Next) Fault → Type 0
