@@ -101,13 +101,13 @@ quoted_complete src i e j q =
 -- ---- what is asked for
 
 -- a character begins behind a word whose last byte is this
-word_cut : (w : Word) (src : List ℕ) (i n b : ℕ) → IsUtf8 src → at w src i ≡ true → n < length (word_text w) → byte (word_text w) n ≡ b → 0 < b → b < 128 → IsCharBoundary src (i + n + 1)
+pub word_cut : (w : Word) (src : List ℕ) (i n b : ℕ) → IsUtf8 src → at w src i ≡ true → n < length (word_text w) → byte (word_text w) n ≡ b → 0 < b → b < 128 → IsCharBoundary src (i + n + 1)
 word_cut w src i n b utf8 is here last some low =
     let e = stands_reads (word_text w) src i n is here in
     cut_behind src (i + n) b (i + n + 1) utf8 (e ∙ last) some low refl
 
 -- six bytes
-six_cut : (w : Word) (src : List ℕ) (i b : ℕ) → IsUtf8 src → at w src i ≡ true → 5 < length (word_text w) → byte (word_text w) 5 ≡ b → 0 < b → b < 128 → IsCharBoundary src (i + 6)
+pub six_cut : (w : Word) (src : List ℕ) (i b : ℕ) → IsUtf8 src → at w src i ≡ true → 5 < length (word_text w) → byte (word_text w) 5 ≡ b → 0 < b → b < 128 → IsCharBoundary src (i + 6)
 six_cut w src i b utf8 is here last some low = let e : i + 5 + 1 ≡ i + 6 = omega arith in subst (IsCharBoundary src) e (word_cut w src i 5 b utf8 is here last some low)
 
 -- what is read stands there
@@ -279,7 +279,7 @@ kind_sound src i x h =
     subst (λ (x : Bool × ℕ). IsKind src i x.0 x.1) (ok_same _ _ h) (grammar.of_parameter i s.1 (eqb-true _ _ is) (space_sound src (i + 1) s spaced))))
     (λ none h. subst (λ (x : Bool × ℕ). IsKind src i x.0 x.1) (ok_same _ _ h) (grammar.general i (eqb-false _ _ none)))
 
-kind_complete : (src : List ℕ) (i : ℕ) (parameter : Bool) (j : ℕ) → IsUtf8 src → IsKind src i parameter j → kind_at src i ≡ Ok (parameter, j)
+pub kind_complete : (src : List ℕ) (i : ℕ) (parameter : Bool) (j : ℕ) → IsUtf8 src → IsKind src i parameter j → kind_at src i ≡ Ok (parameter, j)
 unfolding kind_at
 kind_complete src i parameter j utf8 (grammar.of_parameter _ _ is sp) =
     let a = space_complete src (i + 1) j utf8 (cut_behind src i 37 (i + 1) utf8 is (omega arith) (omega arith) refl) sp in
@@ -308,15 +308,15 @@ head_sound src i x opens h =
     )))))
 
 -- a character begins at each of its places
-record HeadCuts (src : List ℕ) (i : ℕ) (parameter : Bool) (n m d : ℕ) (b : BeginsEntity src i parameter n m d) : Type 0 where
-  at_word : IsCharBoundary src (i + 8)
-  at_kind : IsCharBoundary src b.k
-  at_name : IsCharBoundary src n
-  behind_name : IsCharBoundary src m
-  at_definition : IsCharBoundary src d
-  forward : i < d
+pub record HeadCuts (src : List ℕ) (i : ℕ) (parameter : Bool) (n m d : ℕ) (b : BeginsEntity src i parameter n m d) : Type 0 where
+  pub at_word : IsCharBoundary src (i + 8)
+  pub at_kind : IsCharBoundary src b.k
+  pub at_name : IsCharBoundary src n
+  pub behind_name : IsCharBoundary src m
+  pub at_definition : IsCharBoundary src d
+  pub forward : i < d
 
-head_cuts : (src : List ℕ) (i : ℕ) (parameter : Bool) (n m d : ℕ) → IsUtf8 src → (b : BeginsEntity src i parameter n m d) → HeadCuts src i parameter n m d b
+pub head_cuts : (src : List ℕ) (i : ℕ) (parameter : Bool) (n m d : ℕ) → IsUtf8 src → (b : BeginsEntity src i parameter n m d) → HeadCuts src i parameter n m d b
 head_cuts src i parameter n m d utf8 b =
     let last : i + 7 + 1 ≡ i + 8 = omega arith in
     let one = subst (IsCharBoundary src) last (word_cut word.EntityStart src i 7 89 utf8 b.opens (omega arith) refl (omega arith) (omega arith)) in
@@ -365,7 +365,7 @@ external_word : (src : List ℕ) (i : ℕ) (request : Request) (j : ℕ) → IsE
 external_word src i request j (system _ s e _ is sp q) = or_left _ _ is
 external_word src i request j (public _ p d k s e _ is sp q sp' q') = or_right _ _ is
 
-if_complete : (src : List ℕ) (i j : ℕ) → IsUtf8 src → MayHaveExternalID src i j → external_id_if src i ≡ Ok (tt, j)
+pub if_complete : (src : List ℕ) (i j : ℕ) → IsUtf8 src → MayHaveExternalID src i j → external_id_if src i ≡ Ok (tt, j)
 unfolding external_id_if
 if_complete src i j utf8 (external_id _ _ request is) =
     let w = external_word src i request j is in

@@ -11,13 +11,15 @@ use Rattle.rox_grammar.specs.Written.{Name, Item}
 use Rattle.rox_grammar.specs.Names.{byte, slice, spaces_end, IsName, IsQName}
 use Rattle.rox_grammar.specs.Constructs.{at, first, double_dash, has_mark, AreChars, IsComment, IsPI}
 use Rattle.rox_grammar.specs.Content.{IsMisc, comment, instruction}
-use Rattle.rox_grammar.specs.Due.{Thing, a_name, a_qname, a_byte, a_word, chars_to, Lacks, no_name, no_qname, other_byte, other_word, no_char, ends_before, DueInComment, DueInPI}
+use Rattle.rox_grammar.specs.Due.{Thing, a_name, a_qname, a_byte, a_word, a_space, chars_to, Lacks, no_name, no_qname, other_byte, other_word, no_char, no_space, ends_before, DueInComment, DueInPI}
 use Rattle.rox_grammar.specs.Due as due
 use Rattle.rox_grammar.specs.Faults.{InMisc, comment_lacks, double_dashes, a_declaration, instruction_lacks}
 use Rattle.rox_theory.proofs.Basics.{within, run_end_le}
+use Rattle.rox_theory.proofs.NameLemmas.{run_past}
+use Rattle.rox_theory.proofs.CharLemmas.{begins_byte, some_run}
 use Rattle.rox_theory.proofs.NameSpans.{run_cut}
 use Rattle.rox_theory.proofs.DeclarationLemmas.{stands_reads, stands_fits}
-use Rattle.rox_theory.proofs.Places.{stands_two}
+use Rattle.rox_theory.proofs.Places.{space_ascii, stands_two}
 use Rattle.rox_theory.proofs.Constructions.{comment_bytes, instruction_bytes}
 use Rattle.rox_theory.proofs.FaultBasics.{chars_refuse}
 use Rattle.rox_theory.proofs.FaultRows.{mark_cut, behind}
@@ -55,6 +57,12 @@ word_stands src w q f is (other_word _ none) = true≢false (sym is ∙ none)
 word_stands src w q f is (ends_before _ byte' past) = cc byte'
 
 module _ (src : List ℕ) (utf8 : IsUtf8 src) where
+  -- white space
+  pub space_stands : (p : ℕ) (f : Fault) → IsCharBoundary src p → p < spaces_end src p → Lacks src p a_space f → ⊥
+  space_stands p f cut some (no_space inside none) =
+      true≢false (sym (begins_byte is_space (λ c h. space_ascii c h) src p utf8 cut (some_run is_space src p some)) ∙ none)
+  space_stands p f cut some (ends_before _ byte' past) = let e = run_past is_space src p past in absurd (omega arith)
+
   -- Chars
   pub chars_stand : (i e : ℕ) (f : Fault) → IsCharBoundary src i → IsCharBoundary src e → AreChars src i e → Lacks src i (chars_to e) f → ⊥
   chars_stand i e f cut end are (no_char _ q c is below standing ill) = chars_refuse src i e q c utf8 cut end (let le = run_end_le is_char (take e src) i in omega arith) below are standing ill

@@ -21,17 +21,15 @@ use Rattle.rox_grammar.specs.WellNamed.{is_xml, may_declare, AreDeclarable, is_k
 use Rattle.rox_grammar.specs.Document.{listable_of, with_new, distinct_pairs, most_attributes, most_pairs}
 use Rattle.rox_grammar.specs.Entities.{no_entities}
 use Rattle.rox_grammar.specs.State.{State, scope_of, attributes_so_far, pairs_so_far}
-use Rattle.rox_grammar.specs.Due.{Thing, a_byte, a_space, Lacks, no_space, ends_before, DueInPair}
+use Rattle.rox_grammar.specs.Due.{Thing, a_byte, a_space, Lacks, ends_before, DueInPair}
 use Rattle.rox_grammar.specs.Places.{TagTo}
 use Rattle.rox_grammar.specs.Faults.{IllDeclared, other_uri, uri_of_xml, uri_of_xmlns, again, IllNamed, unknown_attribute, twice, unknown_element, InTag, no_name, xmlns_prefix, cut, cut_in_replacement, no_rest, not_closed, in_pair, ill_declared, too_many_pairs, too_many_attributes, ill_named, InReferences}
 use Rattle.rox_grammar.specs.Faults as faults
 use Rattle.rox_reading.specs.Markup as markup
 use Rattle.rox_reading.specs.Markup.{Turn, turn_at}
 use Rattle.rox_theory.proofs.Basics.{within, run_end_le}
-use Rattle.rox_theory.proofs.NameLemmas.{begins_here, run_past}
+use Rattle.rox_theory.proofs.NameLemmas.{begins_here}
 use Rattle.rox_theory.proofs.NameSpans.{cut_behind, qname_text}
-use Rattle.rox_theory.proofs.CharLemmas.{begins_byte, some_run}
-use Rattle.rox_theory.proofs.Places.{space_ascii}
 use Rattle.rox_theory.proofs.LiteralLemmas.{literal_complete}
 use Rattle.rox_theory.proofs.AttributeLemmas.{end_complete}
 use Rattle.rox_theory.proofs.DeclaredLemmas.{pairs_more}
@@ -40,7 +38,7 @@ use Rattle.rox_theory.proofs.NoEntities.{no_values, alone}
 use Rattle.rox_theory.proofs.FaultBasics.{ok_one}
 use Rattle.rox_theory.proofs.TagOnce.{apart, same_more, Reads, turn_is, one_attribute, one_tag}
 use Rattle.rox_theory.proofs.FaultTags.{attribute_cut}
-use Rattle.rox_theory.proofs.FaultApart.{qname_stands, byte_stands}
+use Rattle.rox_theory.proofs.FaultApart.{qname_stands, byte_stands, space_stands}
 use Rattle.rox_theory.proofs.FaultPairs.{one_qname, eq_one, pair_apart}
 use Rattle.rox_theory.proofs.FaultReferences.{value_reference_apart}
 
@@ -155,12 +153,6 @@ module _ (src : List ℕ) (utf8 : IsUtf8 src) where
   attributes_cut i p b c as' cut' (no_more _ _) = cut'
   attributes_cut i p b c as' cut' (one_more _ k _ _ d _ a rest spaces is others) = attributes_cut k p d c rest (attribute_cut true no_entities src utf8 (spaces_end src i) k b d a is) others
 
-  -- white space is due and stands there
-  space_stands : (p : ℕ) (f : Fault) → IsCharBoundary src p → p < spaces_end src p → Lacks src p a_space f → ⊥
-  space_stands p f cut' some (no_space inside none) =
-      true≢false (sym (begins_byte is_space (λ c h. space_ascii c h) src p utf8 cut' (some_run is_space src p some)) ∙ none)
-  space_stands p f cut' some (ends_before _ byte' past) = let e = run_past is_space src p past in absurd (omega arith)
-
   -- what follows begins within the source
   next_within : (p j b : ℕ) (empty : Bool) (rest : List Attribute) → Next src p empty j b rest → spaces_end src p < length src
   next_within p j b empty rest (it_ends ends) = elim (end_byte src p j empty ends) as (λ s. spaces_end src p < length src) [ inl is ↦ within src (spaces_end src p) (λ z. omega arith) | inr is ↦ within src (spaces_end src p) (λ z. omega arith) ]
@@ -206,8 +198,8 @@ module _ (src : List ℕ) (utf8 : IsUtf8 src) where
         let le = run_end_le is_space src p in
         let apart' : spaces_end src p ≢ p = λ same.
         elim (end_byte src p j empty ends) as (λ s. ⊥) [ inl close ↦ no_close (ap (byte src) (sym same) ∙ close) | inr slash ↦ no_slash (ap (byte src) (sym same) ∙ slash) ] in
-        space_stands p f cut' (omega arith) lack
-    space_apart p c rest f cut' (it_goes q d a more spaces is') no_slash no_close lack = space_stands p f cut' spaces lack
+        space_stands src utf8 p f cut' (omega arith) lack
+    space_apart p c rest f cut' (it_goes q d a more spaces is') no_slash no_close lack = space_stands src utf8 p f cut' spaces lack
 
     -- nor an attribute that lacks something
     pair_in : (p q c : ℕ) (rest : List Attribute) (t : Thing) (f : Fault) → Next src p empty j c rest → byte src (spaces_end src p) ≢ 47 → byte src (spaces_end src p) ≢ 62 → DueInPair src (spaces_end src p) q t → Lacks src q t f → ⊥

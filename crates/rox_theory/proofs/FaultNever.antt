@@ -54,7 +54,7 @@ module _ (src : List ℕ) (utf8 : IsUtf8 src) where
   -- ---- comments and processing instructions, one after the other
 
   -- one of them stands in one way
-  one_item : (i j k : ℕ) (x y : Item) → IsMisc src i j x → IsMisc src i k y → (j ≡ k) × (x ≡ y)
+  pub one_item : (i j k : ℕ) (x y : Item) → IsMisc src i j x → IsMisc src i k y → (j ≡ k) × (x ≡ y)
   one_item i j k x y (comment _ e _ is) (comment _ e' _ is') =
       let same = ok_one (slice src (i + 4) e, j) (slice src (i + 4) e', k) (comment_at src i) (markup.comment_complete src i e j is) (markup.comment_complete src i e' k is') in
       (ap (λ (p : List ℕ × ℕ). p.1) same, ap (λ (p : List ℕ × ℕ). Comment i p.1 p.0) same)
@@ -67,12 +67,12 @@ module _ (src : List ℕ) (utf8 : IsUtf8 src) where
       (ap (λ (p : Instruction × ℕ). p.1) same, ap (λ (p : Instruction × ℕ). PI i p.1 p.0.target p.0.value) same)
 
   -- each begins with `<`
-  item_byte : (i j : ℕ) (x : Item) → IsMisc src i j x → byte src i ≡ 60
+  pub item_byte : (i j : ℕ) (x : Item) → IsMisc src i j x → byte src i ≡ 60
   item_byte i j x (comment _ e _ is) = (comment_bytes src i is.opens).1
   item_byte i j x (instruction _ n e _ is) = (instruction_bytes src i is.opens).1
 
   -- which is no white space
-  less_no_space : (i : ℕ) → byte src i ≡ 60 → is_space (byte src i) ≡ true → ⊥
+  pub less_no_space : (i : ℕ) → byte src i ≡ 60 → is_space (byte src i) ≡ true → ⊥
   less_no_space i here white = let z : is_space 60 ≡ true = subst (λ (b : ℕ). is_space b ≡ true) here white in cc z
 
   -- where they stop no white space stands

@@ -18,15 +18,17 @@ use Rattle.rox_grammar.specs.State as grammar
 use Rattle.rox_grammar.specs.Places.{Ahead, AheadDeclared, Behind, RootBegins, Place, begins, goes, enters}
 use Rattle.rox_grammar.specs.Faults.{FaultOf, FaultFrom, in_misc_ahead, too_many_ahead, no_root, unknown_ahead, at_place, in_value, in_misc_behind, too_many_behind, unknown_behind}
 use Rattle.rox_grammar.specs.Faults as faults
-use Rattle.rox_grammar.specs.Refused.{RefusalOf, in_declaration, without, not_allowed, in_doctype, behind}
+use Rattle.rox_grammar.specs.Refused.{InDoctype, RefusalOf, in_declaration, without, not_allowed, in_doctype, behind}
 use Rattle.rox_reading.specs.Whole.{prolog}
 use Rattle.rox_reading.proofs.Forests.{join_assoc, merge-more}
+use Rattle.rox_theory.specs.Answers.{SameAnswers}
 use Rattle.rox_theory.proofs.Constructions.{doctype_bytes}
 use Rattle.rox_theory.proofs.Tops.{tops_merged}
 use Rattle.rox_theory.proofs.Around.{Stops, no_spaces, element_stops, doctype_stops, prolog_complete, doctype_opens}
 use Rattle.rox_theory.proofs.FaultBasics.{ok_one}
 use Rattle.rox_theory.proofs.FaultWhole.{ahead_on}
 use Rattle.rox_theory.proofs.FaultPairs.{declaration_apart}
+use Rattle.rox_theory.proofs.FaultInDoctype.{in_doctype_apart}
 use Rattle.rox_theory.proofs.FaultNever.{misc_front, misc_at, before_end, other_at, one_misc, no_false_faults, no_doctype_there}
 
 -- what stands before a place
@@ -134,6 +136,26 @@ module _ (limit : ℕ) (src : List ℕ) (utf8 : IsUtf8 src) (given : List Asked)
       declared_apart : (d : ℕ) → MayDeclare src (after_bom src) d → ⊥
       declared_apart d (declared _ _ is) = declaration_apart src utf8 (after_bom src) d q t f is due lack
       declared_apart d (not_declared _ none) = true≢false (sym here' ∙ none)
+
+  -- nor a fault in it, met after the same answers
+  inside_never : (i : ℕ) (before : Forest Item) (asked : List Asked) (source : List ℕ) (f : Fault) → Ahead src i before → at word.DoctypeStart src i ≡ true → SameAnswers asked given → InDoctype limit src i before asked source f → ⊥
+  inside_never i before asked source f ahead is same ill =
+      let there = one_misc src utf8 ahead.declared_to p.declared_to i p.begun before p.before (one_declaration ahead.declared_to ahead.declaration) ahead.misc (doctype_stops src i is) p.misc_before (doctype_stops src p.begun begins_here) in
+      let ill' : InDoctype limit src p.begun p.before asked source f = subst (λ (i : ℕ). InDoctype limit src i p.before asked source f) there.0 (subst (λ (b : Forest Item). InDoctype limit src i b asked source f) (sym there.1) ill) in
+      by_doctype p.start true p.nodes given p.entities refl p.doctype (subst (λ (t : Forest Item). 1 + size (merge t) ≤ limit) p.is_tree few_nodes) same ill'
+    where
+      by_doctype : (k : ℕ) (dtd : Bool) (nodes : Forest Item) (given : List Asked) (es : List Entity) → dtd ≡ true → MayHaveDoctype src p.begun k dtd nodes given es
+          → 1 + size (merge (join p.before (join nodes (join p.one p.after)))) ≤ limit → SameAnswers asked given → InDoctype limit src p.begun p.before asked source f → ⊥
+      by_doctype k dtd nodes given es has (doctype _ j _ items more _ _ one rest) nodes_few same ill =
+          let all : 1 + size (merge (join p.before (join items (join more (join p.one p.after))))) ≤ limit =
+          subst (λ (t : Forest Item). 1 + size (merge (join p.before t)) ≤ limit) (join_assoc items more (join p.one p.after)) nodes_few in
+          in_doctype_apart src utf8 limit p.begun j p.before items (join more (join p.one p.after)) asked given es source f one all same ill
+      by_doctype k dtd nodes given es has (no_doctype _) nodes_few same ill = cc has
+
+-- no fault stands in a document type declaration of a text that has a parse with one
+pub doctype_never : (limit : ℕ) (src source : List ℕ) (asked given : List Asked) (i : ℕ) (before : Forest Item) (f : Fault) (tree : Forest Item) → IsUtf8 src → Ahead src i before → at word.DoctypeStart src i ≡ true
+    → InDoctype limit src i before asked source f → SameAnswers asked given → ParseOf src true given tree → IsWithinLimits limit tree → ⊥
+doctype_never limit src source asked given i before f tree utf8 ahead is ill same parse few = inside_never limit src utf8 given tree parse few i before asked source f ahead is same ill
 
 -- of the faults of a text in which no document type declaration may stand, that one alone stands in a text with a parse with one
 pub declared_never : (limit : ℕ) (src : List ℕ) (f : Fault) (given : List Asked) (tree : Forest Item) → IsUtf8 src → FaultOf limit src f → ParseOf src true given tree → IsWithinLimits limit tree → f ≡ fault.DtdDetected

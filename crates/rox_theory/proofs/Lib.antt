@@ -74,3 +74,5 @@ pub mod SameReplies
 pub mod ValueSpans
 pub mod TagSpans
 pub mod FaultSpans
+pub mod SubsetFronts
+pub mod FaultInDoctype

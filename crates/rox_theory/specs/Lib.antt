@@ -3,3 +3,4 @@ pub mod Openers
 pub mod Without
 pub mod CharItems
 pub mod Apart
+pub mod Answers
