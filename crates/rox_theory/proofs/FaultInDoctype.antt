@@ -31,7 +31,7 @@ use Rattle.rox_theory.proofs.LiteralLemmas.{quote_ascii}
 use Rattle.rox_theory.proofs.DoctypeLemmas.{quoted_closes, quoted_cut, word_cut, six_cut, external_cut, external_byte, HeadCuts, head_cuts}
 use Rattle.rox_theory.proofs.FaultApart.{name_stands, byte_stands, space_stands, misc_begins, misc_apart}
 use Rattle.rox_theory.proofs.FaultPairs.{declaration_apart}
-use Rattle.rox_theory.proofs.FaultNever.{one_item}
+use Rattle.rox_theory.proofs.FaultMisc.{one_item}
 use Rattle.rox_theory.proofs.SubsetFronts.{OpensItem, misc_opens, item_less, entity_less, passed_less, space_once, quoted_once, quoted_no_external, kind_once, external_once, begins_once, doctype_once, definition_end, item_there, passed_there, entity_there, nothing_there, Front, subset_front}
 
 -- a quote that is due and stands there

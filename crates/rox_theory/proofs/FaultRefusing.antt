@@ -1,39 +1,48 @@
--- A refusal that stands refuses the parses without a document type declaration; and one before a document type declaration those with one.
-use Rattle.std.proofs.Common.{◌≡◌, ℕ, ◌+◌, ◌≤◌, Bool, true, false, List, [], length, refl, sym, ap, ◌∙◌, subst, arith}
+-- A refusal that stands in a text refuses its parses within the limits, where the answers are the same as far as both go.
+use Rattle.std.proofs.Common.{◌≡◌, ℕ, zero, suc, ◌+◌, ◌-◌, ◌<◌, ◌≤◌, Bool, true, false, List, [], length, Some, refl, sym, ap, ◌∙◌, subst, arith}
 use Rattle.std.specs.Str.{IsUtf8}
 use Rattle.std.proofs.lemmas.Bool.{true≢false}
 use Rattle.rox_grammar.specs.declared.fault.Fault.{Fault}
-use Rattle.rox_grammar.specs.declared.fault.Fault.TheVariants as fault
+use Rattle.rox_grammar.specs.declared.fault.Word.TheVariants as word
 use Rattle.rox_grammar.specs.Start.{after_bom, MayDeclare, declared, not_declared}
 use Rattle.rox_grammar.specs.Due.{Thing, Lacks, DueInDeclaration}
-use Rattle.rox_grammar.specs.declared.fault.Word.TheVariants as word
 use Rattle.rox_grammar.specs.Forest.{Forest, Nil, join, size}
 use Rattle.rox_grammar.specs.Written.{Item, merge, leaf}
-use Rattle.rox_grammar.specs.Constructs.{at}
-use Rattle.rox_grammar.specs.Content.{Opener}
-use Rattle.rox_grammar.specs.Entities.{Entity, no_entities, opens_main}
-use Rattle.rox_grammar.specs.Doctype.{Asked}
-use Rattle.rox_grammar.specs.Document.{Misc, no_misc, an_item, MayHaveDoctype, doctype, no_doctype, ParseOf, IsWithinLimits}
+use Rattle.rox_grammar.specs.Names.{byte}
+use Rattle.rox_grammar.specs.Constructs.{at, AreChars}
+use Rattle.rox_grammar.specs.Content.{Opener, Value, Content}
+use Rattle.rox_grammar.specs.Entities.{Replacement, Entity, text_of, Spends, no_entities, Opens, most_open, opens_main}
+use Rattle.rox_grammar.specs.Doctype.{Asked, IsDoctype}
+use Rattle.rox_grammar.specs.Document.{Misc, no_misc, an_item, MayHaveDoctype, doctype, no_doctype, ParseOf, IsWithinLimits, Permits}
 use Rattle.rox_grammar.specs.State as grammar
-use Rattle.rox_grammar.specs.Places.{Ahead, AheadDeclared, Behind, RootBegins, Place, begins, goes, enters}
-use Rattle.rox_grammar.specs.Faults.{FaultOf, FaultFrom, in_misc_ahead, too_many_ahead, no_root, unknown_ahead, at_place, in_value, in_misc_behind, too_many_behind, unknown_behind}
+use Rattle.rox_grammar.specs.State.{root}
+use Rattle.rox_grammar.specs.Places.{is_main, Ahead, AheadDeclared, Behind, MayOpen, RootBegins, Place, begins, goes, enters}
+use Rattle.rox_grammar.specs.Faults.{FaultFrom, in_misc_ahead, too_many_ahead, no_root, unknown_ahead, at_place, in_value, in_misc_behind, too_many_behind, unknown_behind}
 use Rattle.rox_grammar.specs.Faults as faults
-use Rattle.rox_grammar.specs.Refused.{InDoctype, RefusalOf, in_declaration, without, not_allowed, in_doctype, behind}
+use Rattle.rox_grammar.specs.Refused.{InDoctype, opens_at, RefusalOf, in_declaration, without, not_allowed, in_doctype, behind}
 use Rattle.rox_reading.specs.Whole.{prolog}
 use Rattle.rox_reading.proofs.Forests.{join_assoc, merge-more}
 use Rattle.rox_theory.specs.Answers.{SameAnswers}
+use Rattle.rox_theory.specs.Openers.{AreTexts}
+use Rattle.rox_theory.specs.Fine.{IsFine, state}
 use Rattle.rox_theory.proofs.Constructions.{doctype_bytes}
 use Rattle.rox_theory.proofs.Tops.{tops_merged}
+use Rattle.rox_theory.proofs.Once.{opens_once}
 use Rattle.rox_theory.proofs.Around.{Stops, no_spaces, element_stops, doctype_stops, prolog_complete, doctype_opens}
+use Rattle.rox_theory.proofs.DoctypeAgreement.{texts_agree}
 use Rattle.rox_theory.proofs.FaultBasics.{ok_one}
 use Rattle.rox_theory.proofs.FaultWhole.{ahead_on}
+use Rattle.rox_theory.proofs.FaultRefused.{values_at, contents_at, declared_on}
 use Rattle.rox_theory.proofs.FaultPairs.{declaration_apart}
+use Rattle.rox_theory.proofs.SubsetFronts.{doctypes_once}
 use Rattle.rox_theory.proofs.FaultInDoctype.{in_doctype_apart}
-use Rattle.rox_theory.proofs.FaultNever.{misc_front, misc_at, before_end, other_at, one_misc, no_false_faults, no_doctype_there}
+use Rattle.rox_theory.proofs.FaultMisc.{misc_front, misc_at, before_end, other_at, one_misc}
+use Rattle.rox_theory.proofs.FaultWay.{OpensAt}
+use Rattle.rox_theory.proofs.FaultNever.{Parsed, never, no_false_faults, no_doctype_there}
 
 -- what stands before a place
 place_front : (opens : ℕ → Opener) (es : List Entity) (text : List ℕ) (Root : ℕ → Forest Item → Type 0) (k base b : ℕ) (src : List ℕ) (s : grammar.State) → Place opens es text Root k base src b s → (p : ℕ) × (items : Forest Item) × Root p items
-place_front opens es text Root k base b src s (begins p items root) = (p, items, root)
+place_front opens es text Root k base b src s (begins p items is) = (p, items, is)
 place_front opens es text Root k base b src s (goes _ _ d _ _ r _ place takes content deep) = place_front opens es text Root k base d src r place
 place_front opens es text Root k base b src s (enters l other d c r stop q j source t front text' place inner run to named below refers may) = place_front opens es text Root l other d source t place
 
@@ -58,7 +67,7 @@ begins_there src i p dtd nodes asked es is (doctype _ j _ items more _ _ one res
 begins_there src i p dtd nodes asked es is (no_doctype _) = cc is
 
 -- no refusal stands in a text that has a parse without one
-pub plain_never : (limit : ℕ) (allow : Bool) (src source : List ℕ) (asked given : List Asked) (f : Fault) (tree : Forest Item) → IsUtf8 src → RefusalOf limit allow src asked source f → ParseOf src false given tree → IsWithinLimits limit tree → ⊥
+plain_never : (limit : ℕ) (allow : Bool) (src source : List ℕ) (asked given : List Asked) (f : Fault) (tree : Forest Item) → IsUtf8 src → RefusalOf limit allow src asked source f → ParseOf src false given tree → IsWithinLimits limit tree → ⊥
 plain_never limit allow src source asked given f tree utf8 (in_declaration p t _ is due lack) parse few = no_false_faults limit src f given tree utf8 (faults.FaultOf.in_declaration p t f is due lack) parse few
 plain_never limit allow src source asked given f tree utf8 (without _ ill) parse few = no_false_faults limit src f given tree utf8 (faults.FaultOf.without f ill) parse few
 plain_never limit allow src source asked given f tree utf8 (not_allowed i before _ ahead fits is) parse few = no_doctype_there limit src given tree i before utf8 ahead is parse few
@@ -152,13 +161,110 @@ module _ (limit : ℕ) (src : List ℕ) (utf8 : IsUtf8 src) (given : List Asked)
           in_doctype_apart src utf8 limit p.begun j p.before items (join more (join p.one p.after)) asked given es source f one all same ill
       by_doctype k dtd nodes given es has (no_doctype _) nodes_few same ill = cc has
 
--- no fault stands in a document type declaration of a text that has a parse with one
-pub doctype_never : (limit : ℕ) (src source : List ℕ) (asked given : List Asked) (i : ℕ) (before : Forest Item) (f : Fault) (tree : Forest Item) → IsUtf8 src → Ahead src i before → at word.DoctypeStart src i ≡ true
-    → InDoctype limit src i before asked source f → SameAnswers asked given → ParseOf src true given tree → IsWithinLimits limit tree → ⊥
-doctype_never limit src source asked given i before f tree utf8 ahead is ill same parse few = inside_never limit src utf8 given tree parse few i before asked source f ahead is same ill
+-- ---- behind one
 
--- of the faults of a text in which no document type declaration may stand, that one alone stands in a text with a parse with one
-pub declared_never : (limit : ℕ) (src : List ℕ) (f : Fault) (given : List Asked) (tree : Forest Item) → IsUtf8 src → FaultOf limit src f → ParseOf src true given tree → IsWithinLimits limit tree → f ≡ fault.DtdDetected
-declared_never limit src f given tree utf8 (faults.FaultOf.in_declaration q t _ is due lack) parse few = absurd (declaration_never limit src utf8 given tree parse few q t f is due lack)
-declared_never limit src f given tree utf8 (faults.FaultOf.doctype i before ahead fits is) parse few = refl
-declared_never limit src f given tree utf8 (faults.FaultOf.without _ ill) parse few = absurd (ahead_never limit src utf8 given tree parse few src f ill)
+-- what is spent may be opened
+may_by : (k b r l c : ℕ) → k < most_open → Spends (is_main k) b r l c → MayOpen k b r
+may_by zero b r l c more (fresh, same) = fresh
+may_by (suc k) b r l c more (before, same) = (before, more)
+
+-- what references open, by the entities that are declared
+opened_at : (es : List Entity) (n k b c : ℕ) (name : List ℕ) (items : Forest Item) → n ≡ most_open - k → (Opens es n (is_main k)).content name b items c
+    → (t : Replacement) × (r : ℕ) × (l : ℕ) × (text_of es name ≡ Some t) × MayOpen k b r × Content false (opens_at es (suc k)) t.source t.start (length t.source) r l items
+opened_at es zero k b c name items deep h = absurd h
+opened_at es (suc n) k b c name items deep (t, r, l, found, spends, content) =
+    let less : n ≡ most_open - suc k = omega arith in
+    (t, r, l, found, may_by k b r l c (omega arith) spends, subst (λ (n : ℕ). Content false (Opens es n false) t.source t.start (length t.source) r l items) less content)
+
+given_at : (es : List Entity) (n k b c : ℕ) (name : List ℕ) (v : List ℕ) → n ≡ most_open - k → (Opens es n (is_main k)).value name b v c
+    → (t : Replacement) × (r : ℕ) × (l : ℕ) × (text_of es name ≡ Some t) × MayOpen k b r × AreChars t.source t.start (length t.source) × Value false (opens_at es (suc k)) t.source (length t.source) t.start r l v
+given_at es zero k b c name v deep h = absurd h
+given_at es (suc n) k b c name v deep (t, r, l, found, spends, chars, value) =
+    let less : n ≡ most_open - suc k = omega arith in
+    (t, r, l, found, may_by k b r l c (omega arith) spends, chars, subst (λ (n : ℕ). Value false (Opens es n false) t.source (length t.source) t.start r l v) less value)
+
+declared_opens : (es : List Entity) → AreTexts es → OpensAt (opens_at es) es
+declared_opens es texts = record {
+  texts = texts;
+  values = values_at es texts;
+  contents = λ limit. contents_at limit es texts;
+  once = λ k. opens_once es texts (most_open - k) (is_main k);
+  content = λ k b c name items h. opened_at es (most_open - k) k b c name items refl h;
+  value = λ k b c name v h. given_at es (most_open - k) k b c name v refl h;
+}
+
+module _ (src : List ℕ) (utf8 : IsUtf8 src) where
+  -- of two ways to read a document type declaration and what follows it, with the same answers, one is a front of the other
+  doctype_front : (h i p q : ℕ) (d e : Bool) (xs ys : Forest Item) (a b : List Asked) (es fs : List Entity) → d ≡ true → e ≡ true → h ≡ i → SameAnswers a b → MayHaveDoctype src h p d xs a es → MayHaveDoctype src i q e ys b fs → Stops src q
+      → (rest : Forest Item) × Misc src p q rest × (ys ≡ join xs rest) × (es ≡ fs)
+  doctype_front h i p q d e xs ys a b es fs has has' begin same (no_doctype _) other stops = cc has
+  doctype_front h i p q d e xs ys a b es fs has has' begin same one (no_doctype _) stops = cc has'
+  doctype_front h i p q d e xs ys a b es fs has has' begin same (doctype _ j _ items more _ _ one rest) (doctype _ k _ items' more' _ _ one' rest') stops =
+      let both = doctypes_once src utf8 i j k items items' a b es fs (subst (λ (i : ℕ). IsDoctype src i j items a es) begin one) one' same in
+      let r = misc_front src utf8 k p q more more' (subst (λ (j : ℕ). Misc src j p more) both.0 rest) rest' stops in
+      (r.0, r.1, ap (join items') r.2 ∙ ap (λ (f : Forest Item). join f (join more r.0)) (sym both.1) ∙ sym (join_assoc items more r.0), both.3)
+
+module _ (limit : ℕ) (src : List ℕ) (utf8 : IsUtf8 src) (given : List Asked) (tree : Forest Item) (p : ParseOf src true given tree) (few : IsWithinLimits limit tree) where
+  -- what stands before the root element
+  abbrev before_root : Forest Item
+  before_root = join p.before p.nodes
+
+  root_stops : (byte src p.start ≡ 60) × (at word.DoctypeStart src p.start ≡ false) × Stops src p.start
+  root_stops = element_stops true (opens_main p.entities) src p.start p.end 255 p.left p.one p.element
+
+  -- the whole is within the limits
+  all_fine : IsFine limit (state (length src) (join (join before_root p.one) p.after) root p.left)
+  all_fine =
+      let same : tree ≡ join (join before_root p.one) p.after = p.is_tree ∙ sym (join_assoc p.before p.nodes (join p.one p.after)) ∙ sym (join_assoc before_root p.one p.after) in
+      let whole : IsFine limit (state (length src) tree root p.left) =
+      record { nodes = few_nodes limit src utf8 given tree p few; attributes = few.attributes; pairs = few.namespaces; named = p.well_named } in
+      subst (λ (f : Forest Item). IsFine limit (state (length src) f root p.left)) same whole
+
+  -- the entities are text
+  entities_texts : AreTexts p.entities
+  entities_texts = texts_agree src utf8 p.begun p.start true p.nodes given p.entities p.doctype
+
+  module _ (asked : List Asked) (same : SameAnswers asked given) where
+    -- what is left up to the root element, and the entities are those of the parse
+    declared_rest : (es : List Entity) (q : ℕ) (items : Forest Item) → AheadDeclared src asked es q items → ((rest : Forest Item) × Misc src q p.start rest × (before_root ≡ join items rest)) × (es ≡ p.entities)
+    declared_rest es q items a =
+        let begun = one_misc src utf8 a.ahead.declared_to p.declared_to a.begun p.begun a.before p.before (one_declaration limit src utf8 given tree p few a.ahead.declared_to a.ahead.declaration) a.ahead.misc
+        (doctype_stops src a.begun (begins_there src a.begun q true a.nodes asked es refl a.doctype)) p.misc_before (doctype_stops src p.begun (begins_here limit src utf8 given tree p few)) in
+        let r = doctype_front src utf8 a.begun p.begun q p.start true true a.nodes p.nodes asked given es p.entities refl refl begun.0 same a.doctype p.doctype root_stops.2 in
+        let whole : before_root ≡ join items r.0 =
+        ap (λ (b : Forest Item). join b p.nodes) begun.1 ∙ ap (join a.before) r.2 ∙ sym (join_assoc a.before a.nodes r.0) ∙ ap (λ (f : Forest Item). join f r.0) (sym a.all) in
+        ((r.0, r.1, whole), r.3)
+
+    declared_parsed : Parsed (opens_at p.entities) limit src (AheadDeclared src asked p.entities)
+    declared_parsed =
+        record {
+          start = p.start;
+          before = before_root;
+          ahead = λ q items a. (declared_rest p.entities q items a).0;
+          on = declared_on src utf8 asked p.entities;
+          end = p.end;
+          left = p.left;
+          one = p.one;
+          element = p.element;
+          after = p.after;
+          misc_after = p.misc_after;
+          fine = all_fine;
+        }
+
+    -- so no fault stands behind it
+    behind_never : (es : List Entity) (source : List ℕ) (f : Fault) → FaultFrom (opens_at es) es limit src true (AheadDeclared src asked es) source f → ⊥
+    behind_never es source f ill =
+        let front = front_of (opens_at es) es limit src true (AheadDeclared src asked es) source f ill in
+        let entities_are : es ≡ p.entities = (declared_rest es front.0 front.1 front.2).1 in
+        never (opens_at p.entities) p.entities (declared_opens p.entities entities_texts) limit src utf8 (AheadDeclared src asked p.entities) declared_parsed true source f
+        (subst (λ (es : List Entity). FaultFrom (opens_at es) es limit src true (AheadDeclared src asked es) source f) entities_are ill)
+
+-- no refusal stands in a text that has a parse, where what was asked until then had the answers that the parse has
+pub refused_never : (limit : ℕ) (allow dtd : Bool) (src source : List ℕ) (asked given : List Asked) (f : Fault) (tree : Forest Item) → IsUtf8 src → RefusalOf limit allow src asked source f → ParseOf src dtd given tree
+    → IsWithinLimits limit tree → Permits allow dtd → SameAnswers asked given → ⊥
+refused_never limit allow false src source asked given f tree utf8 ill parse few permits same = plain_never limit allow src source asked given f tree utf8 ill parse few
+refused_never limit allow true src source asked given f tree utf8 (in_declaration q t _ is due lack) parse few permits same = declaration_never limit src utf8 given tree parse few q t f is due lack
+refused_never limit allow true src source asked given f tree utf8 (without _ ill) parse few permits same = ahead_never limit src utf8 given tree parse few src f ill
+refused_never limit allow true src source asked given f tree utf8 (not_allowed i before none ahead fits is) parse few permits same = true≢false (sym (permits refl) ∙ none)
+refused_never limit allow true src source asked given f tree utf8 (in_doctype i before _ _ _ may ahead fits is ill) parse few permits same = inside_never limit src utf8 given tree parse few i before asked source f ahead is same ill
+refused_never limit allow true src source asked given f tree utf8 (behind _ es _ _ may ill) parse few permits same = behind_never limit src utf8 given tree parse few asked same es source f ill

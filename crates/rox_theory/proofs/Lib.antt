@@ -63,7 +63,6 @@ pub mod FaultRefused
 pub mod TagOnce
 pub mod FaultInTags
 pub mod Apart
-pub mod FaultNone
 pub mod Answering
 pub mod Once
 pub mod PartOnce
@@ -76,3 +75,7 @@ pub mod TagSpans
 pub mod FaultSpans
 pub mod SubsetFronts
 pub mod FaultInDoctype
+pub mod PartFronts
+pub mod FaultMisc
+pub mod FaultWay
+pub mod FaultAtPlaces

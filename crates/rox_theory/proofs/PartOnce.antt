@@ -15,11 +15,11 @@ use Rattle.rox_theory.proofs.PartLemmas.{part_le}
 -- ---- runs
 
 -- where a part ends: at the stop, or where a reference to an entity stands
-abbrev PartEnds : List ℕ → ℕ → ℕ → Type 0
+abbrev pub PartEnds : List ℕ → ℕ → ℕ → Type 0
 PartEnds src stop p = (p ≡ stop) ⊎ ((n : ℕ) × (j : ℕ) × IsReference src p n j × (predefined (slice src (p + 1) n) ≡ None))
 
 -- a character from a reference is no entity
-no_entity_here : (src : List ℕ) (i c m n j : ℕ) → IsCharacter src i c m → IsReference src i n j → predefined (slice src (i + 1) n) ≡ None → ⊥
+pub no_entity_here : (src : List ℕ) (i c m n j : ℕ) → IsCharacter src i c m → IsReference src i n j → predefined (slice src (i + 1) n) ≡ None → ⊥
 no_entity_here src i c m n j is r none =
     let e : ◌≡◌ {A = Reference × ℕ} (character_of c, m) (entity_at (record { start = i + 1; end = n }), j) = ok_one _ _ (reference_at src i) (character_complete src i c m is) (entity_complete src i n j r none) in
     let f : character_of c ≡ entity_at (record { start = i + 1; end = n }) = ap (λ (x : Reference × ℕ). x.0) e in
@@ -45,8 +45,19 @@ name_end_in : Reference → ℕ
 name_end_in (character_of c) = 0
 name_end_in (entity_at span) = span.end
 
+-- a reference gives one character, up to one place
+pub character_ends : (src : List ℕ) (i c d n m : ℕ) → IsCharacter src i c n → IsCharacter src i d m → (c ≡ d) × (n ≡ m)
+unfolding character_in
+character_ends src i c d n m a b =
+    let e : ◌≡◌ {A = Reference × ℕ} (character_of c, n) (character_of d, m) = ok_one _ _ (reference_at src i) (character_complete src i c n a) (character_complete src i d m b) in
+    (ap (λ (x : Reference × ℕ). character_in x.0) e, ap (λ (x : Reference × ℕ). x.1) e)
+
+-- and the name of an entity ends in one place
+pub entity_ends : (src : List ℕ) (i n m j k : ℕ) → IsReference src i n j → IsReference src i m k → (n ≡ m) × (j ≡ k)
+entity_ends src i n m j k a b = let same : n ≡ m = a.name.longest ∙ sym b.name.longest in (same, a.next ∙ ap (λ (n : ℕ). n + 1) same ∙ sym b.next)
+
 -- there is one part at most
-part_once : (main : Bool) (src : List ℕ) (stop p q i : ℕ) (ss rs : List Sign) → Part main src p i ss → Part main src q i rs → PartEnds src stop p → PartEnds src stop q → p ≤ stop → q ≤ stop
+pub part_once : (main : Bool) (src : List ℕ) (stop p q i : ℕ) (ss rs : List Sign) → Part main src p i ss → Part main src q i rs → PartEnds src stop p → PartEnds src stop q → p ≤ stop → q ≤ stop
     → (p ≡ q) × (ss ≡ rs)
 unfolding character_in
 part_once main src stop p q i ss rs part_ends part_ends end end' to to' = (refl, refl)
@@ -67,7 +78,7 @@ part_once main src stop p q i ss rs (from_reference _ n c rest r inside part) (f
     (ih.0, ap (λ (k : ℕ). signs_of main (encode_utf8 k) ++ rest) same ∙ ap (λ (more : List Sign). signs_of main (encode_utf8 d) ++ more) ih.1)
 
 -- parts begin at the stop or before
-parts_le : (main : Bool) (O : Opener) (src : List ℕ) (start stop i b c : ℕ) (items : Forest Item) → Parts main O src start stop i b c items → i ≤ stop
+pub parts_le : (main : Bool) (O : Opener) (src : List ℕ) (start stop i b c : ℕ) (items : Forest Item) → Parts main O src start stop i b c items → i ≤ stop
 parts_le main O src start stop i b c items (last_part _ _ ss part) = part_le main src stop i ss part
 parts_le main O src start stop i b d items (then_entity _ p n j _ c _ ss front more part r none opened rest) =
     omega (arith, part_le main src p i ss part, reference_opens src p n j r, parts_le main O src start stop j c d more rest)

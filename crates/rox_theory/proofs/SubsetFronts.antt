@@ -4,27 +4,29 @@ use Rattle.std.proofs.Common.{◌≡◌, ℕ, ◌+◌, ◌⊎◌, Bool, true, fa
 use Rattle.std.specs.Prelude.{Option}
 use Rattle.std.specs.Str.{IsUtf8}
 use Rattle.std.proofs.lemmas.Bool.{true≢false}
+use Rattle.std.proofs.lemmas.List.{append-nil}
 use Rattle.rox_grammar.specs.declared.fault.Word.{Word}
 use Rattle.rox_grammar.specs.declared.fault.Word.TheVariants as word
 use Rattle.rox_grammar.specs.Words.{word_text}
 use Rattle.rox_grammar.specs.Chars.{is_space, is_name_char}
 use Rattle.rox_grammar.specs.Runs.{run_end}
-use Rattle.rox_grammar.specs.Forest.{Forest, join}
+use Rattle.rox_grammar.specs.Forest.{Forest, Nil, join}
 use Rattle.rox_grammar.specs.Written.{Item, leaf}
 use Rattle.rox_grammar.specs.Names.{byte, slice, spaces_end}
 use Rattle.rox_grammar.specs.Constructs.{at}
 use Rattle.rox_grammar.specs.Content.{IsMisc, comment, instruction}
 use Rattle.rox_grammar.specs.Entities.{Replacement, Entity}
-use Rattle.rox_grammar.specs.Doctype.{Request, Asked, IsQuoted, IsSpace, IsExternalID, MayHaveNotation, Gives, IsDefinition, internal, external, IsKind, BeginsEntity, entry, IsEntityDeclaration, IsPassedOver, Subset, no_more, space, an_item, passed_over, an_entity, MayHaveExternalID, BeginsDoctype}
+use Rattle.rox_grammar.specs.Doctype.{Request, Asked, IsQuoted, IsSpace, IsExternalID, MayHaveNotation, Gives, IsDefinition, internal, external, IsKind, BeginsEntity, entry, IsEntityDeclaration, IsPassedOver, Subset, no_more, space, an_item, passed_over, an_entity, MayHaveExternalID, BeginsDoctype, IsDoctype, no_subset, with_subset}
 use Rattle.rox_grammar.specs.Refused.{IsPassed}
 use Rattle.rox_reading.specs.Doctype.{external_id_at, notation_at, kind_at, external_id_if, answer_text}
+use Rattle.rox_reading.proofs.Forests.{join-nil}
 use Rattle.rox_theory.specs.Answers.{SameAnswers}
 use Rattle.rox_theory.proofs.DeclarationLemmas.{stands_reads}
 use Rattle.rox_theory.proofs.Constructions.{comment_bytes, instruction_bytes}
 use Rattle.rox_theory.proofs.DoctypeLemmas.{external_complete, external_byte, notation_complete, kind_complete, if_complete}
 use Rattle.rox_theory.proofs.EntityLemmas.{answer_complete}
 use Rattle.rox_theory.proofs.FaultBasics.{ok_one}
-use Rattle.rox_theory.proofs.FaultNever.{one_item, less_no_space}
+use Rattle.rox_theory.proofs.FaultMisc.{one_item, less_no_space}
 
 -- a comment or a processing instruction begins here
 abbrev pub OpensItem : List ℕ → ℕ → Type 0
@@ -272,3 +274,32 @@ module _ (src : List ℕ) where
             entities = there.8 ∙ ap (λ (f : List Entity). f ++ there.4) (sym once.2) ∙ ap (λ (l : List Entity). one ++ l) next.entities ∙ sym (append_assoc one others next.gs);
             same = next.same;
           }
+
+    -- ---- to the end
+
+    -- at the `]` nothing is left
+    left_ends : (p k : ℕ) (rest : Forest Item) (more : List Asked) (gs : List Entity) → byte src k ≡ 93 → Subset src p k rest more gs → byte src p ≡ 93 → (p ≡ k) × (rest ≡ Nil) × (more ≡ []) × (gs ≡ [])
+    left_ends p k rest more gs end (no_more _) here = (refl, refl, refl, refl)
+    left_ends p k rest more gs end (space _ _ _ _ _ white _) here = absurd (let z : is_space 93 ≡ true = subst (λ (b : ℕ). is_space b ≡ true) here white in cc z)
+    left_ends p k rest more gs end (an_item _ j _ x others _ _ one left) here = absurd (let less = item_less p (misc_opens p j x one) in omega arith)
+    left_ends p k rest more gs end (passed_over _ j _ _ _ _ one left) here = absurd (let less = passed_less p one.opens in omega arith)
+    left_ends p k rest more gs end (an_entity _ j _ _ _ _ _ _ one left) here = absurd (let less = entity_less p one.begins.opens in omega arith)
+
+    -- a document type declaration is read in one way
+    pub doctypes_once : (i j k : ℕ) (xs ys : Forest Item) (a b : List Asked) (es fs : List Entity) → IsDoctype src i j xs a es → IsDoctype src i k ys b fs → SameAnswers a b → (j ≡ k) × (xs ≡ ys) × (a ≡ b) × (es ≡ fs)
+    doctypes_once i j k xs ys a b es fs (no_subset _ s begins closes) (no_subset _ t begins' closes') same = (ap (λ (s : ℕ). s + 1) (doctype_once i s t begins begins').2, refl, refl, refl)
+    doctypes_once i j k xs ys a b es fs (no_subset _ s begins closes) (with_subset _ t l _ _ _ begins' opens subset bracket closes') same =
+        let at = (doctype_once i s t begins begins').2 in let here : byte src t ≡ 62 = subst (λ (s : ℕ). byte src s ≡ 62) at closes in absurd (omega arith)
+    doctypes_once i j k xs ys a b es fs (with_subset _ t l _ _ _ begins opens subset bracket closes) (no_subset _ s begins' closes') same =
+        let at = (doctype_once i t s begins begins').2 in let here : byte src s ≡ 91 = subst (λ (t : ℕ). byte src t ≡ 91) at opens in absurd (omega arith)
+    doctypes_once i j k xs ys a b es fs (with_subset _ s m _ _ _ begins opens subset bracket closes) (with_subset _ t l _ _ _ begins' opens' subset' bracket' closes') same =
+        let at = (doctype_once i s t begins begins').2 in
+        let first : Subset src (t + 1) m xs a es = subst (λ (s : ℕ). Subset src (s + 1) m xs a es) at subset in
+        let same' : SameAnswers (a ++ []) b = subst (λ (a : List Asked). SameAnswers a b) (sym (append-nil a)) same in
+        let r = subset_front l bracket' (t + 1) m xs ys a b [] es fs first subset' same' in
+        let none = left_ends m l r.rest r.more r.gs bracket' r.left bracket in (
+          ap (λ (m : ℕ). spaces_end src (m + 1) + 1) none.0,
+          sym (r.items ∙ ap (join xs) none.1 ∙ join-nil xs),
+          sym (r.asked ∙ ap (λ (m : List Asked). a ++ m) none.2 ∙ append-nil a),
+          sym (r.entities ∙ ap (λ (g : List Entity). es ++ g) none.3 ∙ append-nil es),
+        )

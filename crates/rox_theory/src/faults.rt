@@ -4,16 +4,12 @@
 ghost use Rattle.std.specs.Prelude.{◌≡◌, ◌⊎◌, ℕ, Bool, true, false, List, [], Err};
 ghost use Rattle.std.specs.Str.{IsUtf8};
 ghost use Rattle.rox_grammar.specs.declared.fault.Fault.{Fault};
-ghost use Rattle.rox_grammar.specs.declared.fault.Fault.TheVariants as fault;
-ghost use Rattle.rox_grammar.specs.declared.fault.Word.TheVariants as word;
-ghost use Rattle.rox_grammar.specs.Constructs.{at};
 ghost use Rattle.rox_grammar.specs.Forest.{Forest};
 ghost use Rattle.rox_grammar.specs.Written.{Item};
 ghost use Rattle.rox_grammar.specs.Doctype.{Asked};
-ghost use Rattle.rox_grammar.specs.Document.{ParseOf, IsWithinLimits};
-ghost use Rattle.rox_grammar.specs.Places.{Ahead};
+ghost use Rattle.rox_grammar.specs.Document.{ParseOf, IsWithinLimits, Permits};
 ghost use Rattle.rox_grammar.specs.Faults.{FaultOf};
-ghost use Rattle.rox_grammar.specs.Refused.{InDoctype, RefusalOf};
+ghost use Rattle.rox_grammar.specs.Refused.{RefusalOf};
 ghost use Rattle.rox_grammar.specs.Spans.{NamesText};
 ghost use Rattle.rox_reading.specs.Refusals.{Refusal, here, there};
 ghost use Rattle.rox_reading.specs.Doctype.{Reply, AreTextReplies};
@@ -46,14 +42,11 @@ pub fn refusals_stand()
         → reading limit allow replies src ≡ (asked, Err (there source f)) → RefusalOf limit allow src asked source f }
 {}
 
-/// A refusal that stands in a text is one, as far as parses without a document type declaration go: there is none within the limits.
-/// And where there is a parse with one, no fault stands before it, but that a document type declaration is found where none may stand;
-/// nor in it, if what was asked until then had the answers that the parse has.
+/// A refusal that stands in a text is one: the text has no parse within the limits, with a document type declaration where one may
+/// stand or without, if the answers are those that were given until then, one after the other, as far as both go.
 pub fn no_false_refusals()
-    ensures plain { (limit : ℕ) (allow : Bool) (src source : List ℕ) (asked given : List Asked) (f : Fault) (t : Forest Item) → IsUtf8 src → RefusalOf limit allow src asked source f → ParseOf src false given t → IsWithinLimits limit t → ⊥ }
-    ensures before { (limit : ℕ) (src : List ℕ) (f : Fault) (given : List Asked) (t : Forest Item) → IsUtf8 src → FaultOf limit src f → ParseOf src true given t → IsWithinLimits limit t → f ≡ fault.DtdDetected }
-    ensures inside { (limit : ℕ) (src source : List ℕ) (asked given : List Asked) (i : ℕ) (before : Forest Item) (f : Fault) (t : Forest Item) → IsUtf8 src → Ahead src i before → at word.DoctypeStart src i ≡ true
-        → InDoctype limit src i before asked source f → SameAnswers asked given → ParseOf src true given t → IsWithinLimits limit t → ⊥ }
+    ensures { (limit : ℕ) (allow dtd : Bool) (src source : List ℕ) (asked given : List Asked) (f : Fault) (t : Forest Item) → IsUtf8 src → RefusalOf limit allow src asked source f → ParseOf src dtd given t
+        → IsWithinLimits limit t → Permits allow dtd → SameAnswers asked given → ⊥ }
 {}
 
 /// Where no document type declaration may stand, the refusals are the faults of the text: nothing is asked, and they stand in the

@@ -1,0 +1,130 @@
+-- What is read of a run or of a value up to a reference is a front of it: so where it is read whole, the reference opens a text there.
+use Rattle.std.proofs.Common.{◌≡◌, ◌≢◌, ℕ, ◌+◌, ◌<◌, ◌≤◌, ◌⊎◌, Bool, false, List, refl, sym, ap, ◌∙◌, subst, arith, inl, inr}
+use Rattle.std.specs.Prelude.{None}
+use Rattle.rox_grammar.specs.Forest.{Forest, join}
+use Rattle.rox_grammar.specs.Written.{Item}
+use Rattle.rox_grammar.specs.Names.{byte, slice}
+use Rattle.rox_grammar.specs.References.{IsReference, predefined}
+use Rattle.rox_grammar.specs.Content.{Opener, Sign, Parts, last_part, then_entity, piece, Value, value_ends, line_end, white, other, a_character, an_entity}
+use Rattle.rox_grammar.specs.Places.{PartsTo, one_part, ValueTo, to_here, a_byte}
+use Rattle.rox_grammar.specs.Places as places
+use Rattle.rox_reading.proofs.Forests.{join_assoc}
+use Rattle.rox_theory.proofs.ReferenceLemmas.{character_opens, reference_opens}
+use Rattle.rox_theory.proofs.PartLemmas.{part_le}
+use Rattle.rox_theory.proofs.PartOnce.{no_entity_here, character_ends, entity_ends, part_once, parts_le, OpensOnce}
+
+-- ---- runs
+
+module _ (main : Bool) (O : Opener) (once : OpensOnce O) (src : List ℕ) (start stop : ℕ) where
+  -- what is read does not go back
+  parts_to_le : (i p b c : ℕ) (front : Forest Item) → PartsTo main O src start stop i p b c front → i ≤ p
+  parts_to_le i p b c front (one_part _ _ _ ss part) = part_le main src p i ss part
+  parts_to_le i p b d front (places.PartsTo.then_entity _ q n j _ _ c _ ss one more part r none opens to) =
+      omega (arith, part_le main src q i ss part, reference_opens src q n j r, parts_to_le j p c d more to)
+
+  -- the reference at p opens these items there, behind those in front
+  pub record OpenedThere (p n j c d : ℕ) (front items : Forest Item) : Type 0 where
+    pub opened : Forest Item
+    pub left : ℕ
+    pub rest : Forest Item
+    pub opens : O.content (slice src (p + 1) n) c opened left
+    pub parts : Parts main O src start stop j left d rest
+    pub all : items ≡ join front (join opened rest)
+
+  pub parts_front : (i p n j b c d : ℕ) (front items : Forest Item) → PartsTo main O src start stop i p b c front → Parts main O src start stop i b d items → p < stop → IsReference src p n j
+      → predefined (slice src (p + 1) n) ≡ None → OpenedThere p n j c d front items
+  parts_front i p n j b c d front items (one_part _ _ _ ss part) (last_part _ _ rs part') below r none =
+      let same = part_once main src stop p stop i ss rs part part' (inr (n, j, r, none)) (inl refl) (omega arith) (omega arith) in absurd (omega (arith, same.0))
+  parts_front i p n j b c d front items (one_part _ _ _ ss part) (then_entity _ q m k _ e _ rs one more part' r' none' opens rest) below r none =
+      let inside : q ≤ stop = omega (arith, reference_opens src q m k r', parts_le main O src start stop k e d more rest) in
+      let same = part_once main src stop p q i ss rs part part' (inr (n, j, r, none)) (inr (m, k, r', none')) (omega arith) inside in
+      let ends = entity_ends src p m n k j (subst (λ (q : ℕ). IsReference src q m k) (sym same.0) r') r in
+      record {
+        opened = one;
+        left = e;
+        rest = more;
+        opens = subst (λ (m : ℕ). O.content (slice src (p + 1) m) b one e) ends.0 (subst (λ (q : ℕ). O.content (slice src (q + 1) m) b one e) (sym same.0) opens);
+        parts = subst (λ (k : ℕ). Parts main O src start stop k e d more) ends.1 rest;
+        all = ap (λ (ss : List Sign). join (piece start stop false ss) (join one more)) (sym same.1);
+      }
+  parts_front i p n j b c d front items (places.PartsTo.then_entity _ q m k _ _ e _ ss one more part r' none' opens to) (last_part _ _ rs part') below r none =
+      let le = parts_to_le k p e c more to in
+      let some = reference_opens src q m k r' in
+      let same = part_once main src stop q stop i ss rs part part' (inr (m, k, r', none')) (inl refl) (omega arith) (omega arith) in
+      absurd (omega (arith, same.0))
+  parts_front i p n j b c d front items (places.PartsTo.then_entity _ q m k _ _ e _ ss one more part r' none' opens to) (then_entity _ q' m' k' _ e' _ rs one' more' part' r'' none'' opens' rest) below r none =
+      let le = parts_to_le k p e c more to in
+      let some = reference_opens src q m k r' in
+      let inside : q' ≤ stop = omega (arith, reference_opens src q' m' k' r'', parts_le main O src start stop k' e' d more' rest) in
+      let same = part_once main src stop q q' i ss rs part part' (inr (m, k, r', none')) (inr (m', k', r'', none'')) (omega arith) inside in
+      let ends = entity_ends src q m' m k' k (subst (λ (q : ℕ). IsReference src q m' k') (sym same.0) r'') r' in
+      let opens'' : O.content (slice src (q + 1) m) b one' e' = subst (λ (m : ℕ). O.content (slice src (q + 1) m) b one' e') ends.0 (subst (λ (q : ℕ). O.content (slice src (q + 1) m') b one' e') (sym same.0) opens') in
+      let text = once (slice src (q + 1) m) b e' e one' one opens'' opens in
+      let rest' : Parts main O src start stop k e d more' = subst (λ (e : ℕ). Parts main O src start stop k e d more') text.1 (subst (λ (k : ℕ). Parts main O src start stop k e' d more') ends.1 rest) in
+      let next = parts_front k p n j e c d more more' to rest' below r none in
+      record {
+        opened = next.opened;
+        left = next.left;
+        rest = next.rest;
+        opens = next.opens;
+        parts = next.parts;
+        all = ap (λ (ss : List Sign). join (piece start stop false ss) (join one' more')) (sym same.1) ∙ ap (λ (f : Forest Item). join (piece start stop false ss) (join f more')) text.0
+            ∙ ap (λ (f : Forest Item). join (piece start stop false ss) (join one f)) next.all ∙ ap (join (piece start stop false ss)) (sym (join_assoc one more (join next.opened next.rest)))
+            ∙ sym (join_assoc (piece start stop false ss) (join one more) (join next.opened next.rest));
+      }
+
+-- ---- values
+
+-- as many texts may be opened behind what a reference opens in a value
+abbrev pub SpendsOnce : Opener → Type 0
+SpendsOnce O = (name : List ℕ) (b c d : ℕ) (v w : List ℕ) → O.value name b v c → O.value name b w d → c ≡ d
+
+module _ (main : Bool) (O : Opener) (once : SpendsOnce O) (src : List ℕ) where
+  value_to_le : (i p b c : ℕ) → ValueTo O src i p b c → i ≤ p
+  value_to_le i p b c (to_here _ _) = omega arith
+  value_to_le i p b c (a_byte _ _ _ _ no_amp to) = let le = value_to_le (i + 1) p b c to in omega arith
+  value_to_le i p b c (places.ValueTo.a_character _ n x _ _ _ is to) = omega (arith, character_opens src i x n is, value_to_le n p b c to)
+  value_to_le i p b d (places.ValueTo.an_entity _ n j _ _ c _ w r none opens to) = omega (arith, reference_opens src i n j r, value_to_le j p c d to)
+
+  -- white space is no `&`
+  white_no_amp : (stop i : ℕ) → (byte src i ≡ 9) ⊎ ((byte src i ≡ 10) ⊎ ((byte src i ≡ 13) × ((stop ≡ i + 1) ⊎ (byte src (i + 1) ≢ 10)))) → byte src i ≢ 38
+  white_no_amp stop i (inl is) amp = absurd (omega arith)
+  white_no_amp stop i (inr (inl is)) amp = absurd (omega arith)
+  white_no_amp stop i (inr (inr (is, end))) amp = absurd (omega arith)
+
+  -- what the reference at p opens there
+  abbrev pub OpensThere : (p n c : ℕ) → Type 0
+  OpensThere p n c = (w : List ℕ) × (e : ℕ) × O.value (slice src (p + 1) n) c w e
+
+  pub value_front : (stop i p n j b c d : ℕ) (v : List ℕ) → ValueTo O src i p b c → Value main O src stop i b d v → p < stop → IsReference src p n j → predefined (slice src (p + 1) n) ≡ None → OpensThere p n c
+  value_front stop i p n j b c d v (to_here _ _) (value_ends _) below r none = absurd (omega arith)
+  value_front stop i p n j b c d v (to_here _ _) (line_end _ _ _ _ more cr lf rest) below r none = let amp = r.opens in absurd (omega arith)
+  value_front stop i p n j b c d v (to_here _ _) (white _ _ _ w more is rest) below r none = absurd (white_no_amp stop i is r.opens)
+  value_front stop i p n j b c d v (to_here _ _) (other _ _ _ w more no_amp x₂ x₃ x₄ x₅ rest) below r none = absurd (no_amp r.opens)
+  value_front stop i p n j b c d v (to_here _ _) (a_character _ m x _ _ w is less allowed rest) below r none = absurd (no_entity_here src i x m n j is r none)
+  value_front stop i p n j b c d v (to_here _ _) (an_entity _ m k _ e _ u w r' none' less opens rest) below r none =
+      let ends = entity_ends src i m n k j r' r in (u, e, subst (λ (m : ℕ). O.value (slice src (i + 1) m) b u e) ends.0 opens)
+  value_front stop i p n j b c d v (a_byte _ _ _ _ no_amp to) (value_ends _) below r none = let le = value_to_le (i + 1) p b c to in absurd (omega arith)
+  value_front stop i p n j b c d v (a_byte _ _ _ _ no_amp to) (line_end _ _ _ _ more cr lf rest) below r none = value_front stop (i + 1) p n j b c d v to rest below r none
+  value_front stop i p n j b c d v (a_byte _ _ _ _ no_amp to) (white _ _ _ w more is rest) below r none = value_front stop (i + 1) p n j b c d w to rest below r none
+  value_front stop i p n j b c d v (a_byte _ _ _ _ no_amp to) (other _ _ _ w more x₁ x₂ x₃ x₄ x₅ rest) below r none = value_front stop (i + 1) p n j b c d w to rest below r none
+  value_front stop i p n j b c d v (a_byte _ _ _ _ no_amp to) (a_character _ m x _ _ w is less allowed rest) below r none = absurd (no_amp (character_opens src i x m is).0)
+  value_front stop i p n j b c d v (a_byte _ _ _ _ no_amp to) (an_entity _ m k _ e _ u w r' none' less opens rest) below r none = absurd (no_amp r'.opens)
+  value_front stop i p n j b c d v (places.ValueTo.a_character _ m x _ _ _ is to) (value_ends _) below r none = absurd (omega (arith, character_opens src i x m is, value_to_le m p b c to))
+  value_front stop i p n j b c d v (places.ValueTo.a_character _ m x _ _ _ is to) (line_end _ _ _ _ more cr lf rest) below r none = let amp = (character_opens src i x m is).0 in absurd (omega arith)
+  value_front stop i p n j b c d v (places.ValueTo.a_character _ m x _ _ _ is to) (white _ _ _ w more is' rest) below r none = absurd (white_no_amp stop i is' (character_opens src i x m is).0)
+  value_front stop i p n j b c d v (places.ValueTo.a_character _ m x _ _ _ is to) (other _ _ _ w more no_amp x₂ x₃ x₄ x₅ rest) below r none = absurd (no_amp (character_opens src i x m is).0)
+  value_front stop i p n j b c d v (places.ValueTo.a_character _ m x _ _ _ is to) (a_character _ m' x' _ _ w is' less allowed rest) below r none =
+      let same = (character_ends src i x' x m' m is' is).1 in value_front stop m p n j b c d w to (subst (λ (m : ℕ). Value main O src stop m b d w) same rest) below r none
+  value_front stop i p n j b c d v (places.ValueTo.a_character _ m x _ _ _ is to) (an_entity _ m' k _ e _ u w r' none' less opens rest) below r none = absurd (no_entity_here src i x m m' k is r' none')
+  value_front stop i p n j b c d v (places.ValueTo.an_entity _ m k _ _ e _ u r' none' opens to) (value_ends _) below r none = absurd (omega (arith, reference_opens src i m k r', value_to_le k p e c to))
+  value_front stop i p n j b c d v (places.ValueTo.an_entity _ m k _ _ e _ u r' none' opens to) (line_end _ _ _ _ more cr lf rest) below r none = let amp = r'.opens in absurd (omega arith)
+  value_front stop i p n j b c d v (places.ValueTo.an_entity _ m k _ _ e _ u r' none' opens to) (white _ _ _ w more is rest) below r none = absurd (white_no_amp stop i is r'.opens)
+  value_front stop i p n j b c d v (places.ValueTo.an_entity _ m k _ _ e _ u r' none' opens to) (other _ _ _ w more no_amp x₂ x₃ x₄ x₅ rest) below r none = absurd (no_amp r'.opens)
+  value_front stop i p n j b c d v (places.ValueTo.an_entity _ m k _ _ e _ u r' none' opens to) (a_character _ m' x _ _ w is less allowed rest) below r none = absurd (no_entity_here src i x m' m k is r' none')
+  value_front stop i p n j b c d v (places.ValueTo.an_entity _ m k _ _ e _ u r' none' opens to) (an_entity _ m' k' _ e' _ u' w r'' none'' less opens' rest) below r none =
+      let ends = entity_ends src i m' m k' k r'' r' in
+      let opens'' : O.value (slice src (i + 1) m) b u' e' = subst (λ (m : ℕ). O.value (slice src (i + 1) m) b u' e') ends.0 opens' in
+      let same = once (slice src (i + 1) m) b e' e u' u opens'' opens in
+      let rest' : Value main O src stop k e d w = subst (λ (e : ℕ). Value main O src stop k e d w) same (subst (λ (k : ℕ). Value main O src stop k e' d w) ends.1 rest) in
+      value_front stop k p n j e c d w to rest' below r none
