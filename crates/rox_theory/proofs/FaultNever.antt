@@ -32,9 +32,8 @@ use Rattle.rox_theory.proofs.Leaves.{fine_before}
 use Rattle.rox_theory.proofs.StepLemmas as steps
 use Rattle.rox_theory.proofs.Steps.{after}
 use Rattle.rox_theory.proofs.Flat.{Takes}
-use Rattle.rox_theory.proofs.Chains.{Drives, root_drives}
-use Rattle.rox_theory.proofs.Chains as chains
-use Rattle.rox_theory.proofs.Once.{takes_once}
+use Rattle.rox_theory.proofs.Chains.{root_drives}
+use Rattle.rox_theory.proofs.Once.{one_element}
 use Rattle.rox_theory.proofs.Tops.{tops_merged}
 use Rattle.rox_theory.proofs.NoEntities.{no_values, no_contents}
 use Rattle.rox_theory.proofs.Around.{Stops, no_spaces, element_stops, end_stops, prolog_complete}
@@ -73,29 +72,6 @@ module _ (opens : ℕ → Opener) (es : List Entity) (all : OpensAt opens es) (l
   trail_le : (s u : State) → Trail true (opens 0) text 0 s u → s.at ≤ u.at
   trail_le s u (stays _) = omega arith
   trail_le s u (follows _ t _ takes rest) = omega (arith, main_moves s t takes, trail_le t u rest)
-
-  -- one construct stands at a place
-  main_once : (s t u : State) → Takes true (opens 0) text 0 s t → Takes true (opens 0) text 0 s u → t ≡ u
-  main_once s t u takes takes' = takes_once (how_at limit es most_open 0 0).values (opens 0) agrees (all.once 0) text utf8 0 s t u takes takes'
-
-  -- and one element
-  drives_once : (s t u : State) → Drives (opens 0) text s t → Drives (opens 0) text s u → t ≡ u
-  drives_once s t u (chains.arrives _ h) (chains.arrives _ k) = refl
-  drives_once s t u (chains.arrives _ h) (chains.goes _ v _ inner takes rest) = absurd (true≢false (sym h ∙ inner))
-  drives_once s t u (chains.goes _ v _ inner takes rest) (chains.arrives _ h) = absurd (true≢false (sym h ∙ inner))
-  drives_once s t u (chains.goes _ v _ inner takes rest) (chains.goes _ w _ inner' takes' rest') =
-      drives_once v t u rest (subst (λ (w : State). Drives (opens 0) text w u) (main_once s w v takes' takes) rest')
-
-  one_element : (i j k b c d : ℕ) (one other : Forest Item) → IsElement true (opens 0) text i j b c one → IsElement true (opens 0) text i k b d other → (j ≡ k) × (one ≡ other)
-  one_element i j k b c d one other x y =
-      let p = root_drives (opens 0) text i j b c one Nil x in
-      let q = root_drives (opens 0) text i k b d other Nil y in
-      let s = state i Nil root b in
-      let t = after s p.0 p.2 p.3 p.1 in
-      let v = after s q.0 q.2 q.3 q.1 in
-      let first : v ≡ t = main_once s v t (tagged_takes true (opens 0) text 0 s v (q.0, q.1, q.2, q.3, q.4, refl)) (tagged_takes true (opens 0) text 0 s t (p.0, p.1, p.2, p.3, p.4, refl)) in
-      let u = drives_once t (state j one root c) (state k other root d) p.5 (subst (λ (t : State). Drives (opens 0) text t (state k other root d)) first q.5) in
-      (ap (λ (s : State). s.at) u, ap (λ (s : State). s.done) u)
 
   module _ (Front : ℕ → Forest Item → Type 0) (p : Parsed opens limit text Front) where
     -- up to the end of the root element all is within the limits
@@ -162,7 +138,7 @@ module _ (opens : ℕ → Opener) (es : List Entity) (all : OpensAt opens es) (l
         let there = element_stops true (opens 0) text behind.start behind.end 255 behind.left behind.one behind.element in
         let same = start_there behind.start behind.before behind.ahead there.2 in
         let element : IsElement true (opens 0) text p.start behind.end 255 behind.left behind.one = subst (λ (i : ℕ). IsElement true (opens 0) text i behind.end 255 behind.left behind.one) (sym same.0) behind.element in
-        let one = one_element p.start behind.end p.end 255 behind.left p.left behind.one p.one element p.element in
+        let one = one_element es most_open (opens 0) agrees (all.once 0) text utf8 p.start behind.end p.end 255 behind.left p.left behind.one p.one element p.element in
         let misc : Misc text p.end q behind.after = subst (λ (e : ℕ). Misc text e q behind.after) one.0 behind.misc in
         let r = misc_front text utf8 p.end q (length text) behind.after p.after misc p.misc_after (end_stops text) in
         let front_is : items ≡ join (join p.before p.one) behind.after =

@@ -13,7 +13,7 @@ use Rattle.rox_grammar.specs.State.{Open, root, inside}
 use Rattle.rox_reading.specs.Markup.{comment_at, Instruction, instruction_at, cdata_at, EndTag, end_tag_at}
 use Rattle.rox_reading.specs.Tags.{Values}
 use Rattle.rox_reading.specs.State.{State}
-use Rattle.rox_reading.specs.Machine.{values_of}
+use Rattle.rox_reading.specs.Machine.{value_opener, values_of}
 use Rattle.rox_theory.specs.Openers.{AreTexts, AgreesValue}
 use Rattle.rox_theory.specs.Fine.{state}
 use Rattle.rox_theory.proofs.MarkupLemmas.{comment_complete, instruction_complete, cdata_complete, end_complete}
@@ -141,24 +141,29 @@ opens_once es texts (suc d) main name b c e items more (t, r, l, found, spends, 
 
 -- ---- the root element
 
-module _ (es : List Entity) (texts : AreTexts es) (src : List ℕ) (utf8 : IsUtf8 src) where
+module _ (es : List Entity) (d : ℕ) (O : Opener) (agrees : AgreesValue es O (value_opener es d true)) (once : OpensOnce O) (src : List ℕ) (utf8 : IsUtf8 src) where
   -- there is one chain up to its end
-  drives_once : (s t u : State) → Drives (opens_main es) src s t → Drives (opens_main es) src s u → t ≡ u
+  drives_once : (s t u : State) → Drives O src s t → Drives O src s u → t ≡ u
   drives_once s t u (chains.arrives _ h) (chains.arrives _ k) = refl
   drives_once s t u (chains.arrives _ h) (chains.goes _ v _ inner takes rest) = absurd (true≢false (sym h ∙ inner))
   drives_once s t u (chains.goes _ v _ inner takes rest) (chains.arrives _ h) = absurd (true≢false (sym h ∙ inner))
   drives_once s t u (chains.goes _ v _ inner takes rest) (chains.goes _ w _ inner' takes' rest') =
-      let e : w ≡ v = takes_once (values_of es most_open true) (opens_main es) (values_agree es texts most_open true) (opens_once es texts most_open true) src utf8 0 s w v takes' takes in
-      drives_once v t u rest (subst (λ (w : State). Drives (opens_main es) src w u) e rest')
+      let e : w ≡ v = takes_once (values_of es d true) O agrees once src utf8 0 s w v takes' takes in
+      drives_once v t u rest (subst (λ (w : State). Drives O src w u) e rest')
 
   -- there is one element
-  pub element_once : (i j k b c d : ℕ) (one other : Forest Item) → IsElement true (opens_main es) src i j b c one → IsElement true (opens_main es) src i k b d other → (j ≡ k) × (one ≡ other)
-  element_once i j k b c d one other x y =
-      let p = root_drives (opens_main es) src i j b c one Nil x in
-      let q = root_drives (opens_main es) src i k b d other Nil y in
+  pub one_element : (i j k b c e : ℕ) (one other : Forest Item) → IsElement true O src i j b c one → IsElement true O src i k b e other → (j ≡ k) × (one ≡ other)
+  one_element i j k b c e one other x y =
+      let p = root_drives O src i j b c one Nil x in
+      let q = root_drives O src i k b e other Nil y in
       let s = state i Nil root b in
       let t : after s q.0 q.2 q.3 q.1 ≡ after s p.0 p.2 p.3 p.1 =
-      tags_once (values_of es most_open true) (opens_main es) (values_agree es texts most_open true) (opens_once es texts most_open true) src utf8 s (after s q.0 q.2 q.3 q.1) (after s p.0 p.2 p.3 p.1)
+      tags_once (values_of es d true) O agrees once src utf8 s (after s q.0 q.2 q.3 q.1) (after s p.0 p.2 p.3 p.1)
       (q.0, q.1, q.2, q.3, q.4, refl) (p.0, p.1, p.2, p.3, p.4, refl) in
-      let u = drives_once (after s p.0 p.2 p.3 p.1) (state j one root c) (state k other root d) p.5 (subst (λ (t : State). Drives (opens_main es) src t (state k other root d)) t q.5) in
+      let u = drives_once (after s p.0 p.2 p.3 p.1) (state j one root c) (state k other root e) p.5 (subst (λ (t : State). Drives O src t (state k other root e)) t q.5) in
       (ap (λ (s : State). s.at) u, ap (λ (s : State). s.done) u)
+
+-- whatever the entities are
+pub element_once : (es : List Entity) → AreTexts es → (src : List ℕ) → IsUtf8 src → (i j k b c d : ℕ) (one other : Forest Item) → IsElement true (opens_main es) src i j b c one → IsElement true (opens_main es) src i k b d other
+    → (j ≡ k) × (one ≡ other)
+element_once es texts src utf8 = one_element es most_open (opens_main es) (values_agree es texts most_open true) (opens_once es texts most_open true) src utf8
