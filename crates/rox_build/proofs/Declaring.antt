@@ -1,7 +1,7 @@
 -- A declaration of a start tag, step by step.
-use Rattle.std.proofs.Common.{◌≡◌, ℕ, ◌+◌, ◌<◌, ◌≤◌, ◌||◌, not, Bool, true, false, List, [], ◌∷◌, ◌++◌, length, drop, refl, sym, ap, ◌∙◌, arith, Result, Ok, Err, length-append, append_assoc, le-ltb, lt-ltb}
+use Rattle.std.proofs.Common.{◌≡◌, ℕ, map, ◌+◌, ◌<◌, ◌≤◌, ◌||◌, not, Bool, true, false, List, [], ◌∷◌, ◌++◌, length, drop, refl, sym, ap, ◌∙◌, arith, Result, Ok, Err, length-append, append_assoc, le-ltb, lt-ltb}
 use Rattle.std.specs.List.{slice_range}
-use Rattle.std.proofs.lemmas.List.{append-nil, map-append}
+use Rattle.std.proofs.lemmas.List.{append-nil, map-append, length-map}
 use Rattle.std.proofs.lemmas.List.Elements.{filter-append}
 use Rattle.std.proofs.lemmas.List.Folds.{list_any-append}
 use Rattle.rox_grammar.specs.declared.fault.Fault.{Fault}
@@ -15,12 +15,15 @@ use Rattle.rox_reading.specs.Tags.{Held, uri_tested, declared}
 use Rattle.rox_scan.specs.Gives.{Fails}
 use Rattle.rox_scan.specs.declared.failure.Failure.{Failure}
 use Rattle.rox_scan.specs.declared.failure.Failure.TheVariants as failure
-use Rattle.rox_build.specs.Lines.{entry}
-use Rattle.rox_build.specs.Scopes.{entries, others}
+use Rattle.rox_build.specs.declared.tables.Namespace.{Namespace}
+use Rattle.rox_build.specs.Lines.{declaration, entry}
+use Rattle.rox_build.specs.Prefixes.{Remembers}
+use Rattle.rox_build.specs.Scopes.{entries, others, ArePlaces}
 use Rattle.rox_build.specs.Tags.{declares_xml, Declares, Declared}
-use Rattle.rox_build.proofs.Listing.{with_new-append, with_new-front, declares_nothing, listed-none, listed-others}
+use Rattle.rox_build.proofs.Remembering.{Key, remembers_same}
+use Rattle.rox_build.proofs.Listing.{with_new-append, with_new-more, with_new-front, declares_nothing, listed-none, listed-others}
 use Rattle.rox_build.proofs.Inherits.{slice-rest}
-use Rattle.rox_build.proofs.Stable.{all_append, all_weaker, map_same, entry-append}
+use Rattle.rox_build.proofs.Stable.{all_append, all_drop, all_weaker, map_same, entry-append}
 
 -- the URI is refused
 pub uri_refused : (known : List Declaration) (a : Attribute) (h : Held) (f : Fault) → uri_tested a ≡ Err f → declared known a h ≡ Err f
@@ -181,3 +184,24 @@ lists_both known before names seen old new more xml ds own from until end o s e 
     let gets : entries names more ≡ others (listable_of ds) (declares_xml ds) above =
     rw s at inherits ∙ ap (λ xs. others (entries names xs) xml above) mine ∙ ap (λ xs. others xs xml above) d.same ∙ ap (λ b. others (listable_of ds) b above) d.xml_is in
     ap (entries names) rest ∙ map-append (entry names) d.mine more ∙ ap (λ xs. xs ++ entries names more) d.same ∙ ap (λ xs. listable_of ds ++ xs) gets ∙ sym (listed-others above ds)
+
+-- the listed places with one more, where the table has a pair more or is as before
+pub places_after : (old rows : List Namespace) (listed after : List ℕ) (d : Declaration) (place : ℕ) → map declaration rows ≡ with_new (map declaration old) (d ∷ []) → place < length rows
+    → after ≡ listed ++ place ∷ [] → ArePlaces (length old) listed → ArePlaces (length rows) after
+places_after old rows listed after d place grown here push ok =
+    let long = length-map rows declaration in
+    let was = length-map old declaration in
+    let more : length old ≤ length rows = omega (arith, with_new-more (map declaration old) (d ∷ []), ap length grown) in
+    rw push (all_append (λ i. i < length rows) listed (place ∷ []) (all_weaker (λ i. i < length old) (λ i. i < length rows) listed (λ i h. omega arith) ok) (here, tt))
+
+-- the set of prefixes, where the table has a pair more
+pub remembers_after : (old rows : List Namespace) (listed : List ℕ) (d : Declaration) (own : ℕ) (keys : List Key) → map declaration rows ≡ with_new (map declaration old) (d ∷ [])
+    → ArePlaces (length old) listed → Remembers (map declaration old) (drop own listed) keys → Remembers (map declaration rows) (drop own listed) keys
+remembers_after old rows listed d own keys grown ok h =
+    let names = map declaration old in
+    let front = with_new-front names (d ∷ []) in
+    let was = length-map old declaration in
+    let mine : ArePlaces (length names) (drop own listed) = rw was (all_drop (λ i. i < length old) own listed ok) in
+    let stays : entries (map declaration rows) (drop own listed) ≡ entries names (drop own listed) =
+    ap (λ ns. entries ns (drop own listed)) (grown ∙ front.1) ∙ map_same (entry (names ++ front.0)) (entry names) (λ i. i < length names) (drop own listed) (entry-append names front.0) mine in
+    remembers_same names (map declaration rows) (drop own listed) keys stays h

@@ -30,6 +30,7 @@ pub mod TextOpening
 pub mod Looping
 pub mod Wholes
 pub mod Seeing
+pub mod Remembering
 pub mod Asking
 pub mod Items
 pub mod Rooted

@@ -15,6 +15,7 @@ pub mod Tagged
 pub mod Resolved
 pub mod Index
 pub mod Seen
+pub mod Prefixes
 pub mod Asking
 pub mod Built
 pub mod Wholes

@@ -21,6 +21,7 @@ use rox_scan::cursor::QName;
 use rox_scan::failure::Failure;
 use rox_scan::marks::Finders;
 use std::alloc::Global;
+use std::collections::BTreeSet;
 use std::mem;
 
 /// An element that is open: its row, its name, which stands from `name_start` up to `name_end`, and what it lists.
@@ -139,6 +140,7 @@ impl<'input> Builder<'input> {
                 scratch: String::new(alloc),
                 raw: String::new(alloc),
                 taken: Vec::new(alloc),
+                many: BTreeSet::new(alloc),
             },
             finders: Finders::new(),
             nodes_limit,

@@ -1,6 +1,6 @@
 //! The declarations of a start tag, one by one (XML 1.0 section 3.1, Namespaces in XML 1.0 section 3).
 
-ghost use Rattle.std.specs.Prelude.{◌≡◌, ◌<◌, ◌≤◌, ◌+◌, ◌-◌, ◌^◌, List, ℕ, length, map, Ok, Err, OnOk};
+ghost use Rattle.std.specs.Prelude.{◌≡◌, ◌<◌, ◌≤◌, ◌+◌, ◌-◌, ◌^◌, List, ℕ, length, map, drop, Ok, Err, OnOk};
 ghost use Rattle.rox_grammar.specs.declared.fault.Span.{Span as SpecSpan};
 ghost use Rattle.rox_grammar.specs.Written.{Attribute, Declaration, Name, declares, local_span, prefix_span};
 ghost use Rattle.rox_grammar.specs.Document.{listable_of, most_pairs};
@@ -8,11 +8,13 @@ ghost use Rattle.rox_reading.specs.Tags as spec;
 ghost use Rattle.rox_scan.specs.Gives.{name_view};
 ghost use Rattle.rox_build.specs.Lines.{declaration};
 ghost use Rattle.rox_build.specs.Scopes.{ArePlaces, entries, prefix_view};
+ghost use Rattle.rox_build.specs.Prefixes.{Remembers};
 ghost use Rattle.rox_build.specs.Tags.{taken_view, declares_xml, Declares, Declared};
 ghost use Rattle.rox_grammar.specs.Tree.{is_declared};
 ghost use Rattle.rox_reading.specs.Tags.{Held};
 
 use crate::names::NamespaceTable;
+use crate::prefixes::remember;
 use crate::scope::{XML_URI, XMLNS_URI, is_own, is_xml};
 use crate::tables::Namespace;
 use crate::taken::Taken;
@@ -20,6 +22,7 @@ use rox_grammar::fault::{Fault, Span};
 use rox_scan::alike::same_text;
 use rox_scan::cursor::QName;
 use rox_scan::failure::Failure;
+use std::collections::BTreeSet;
 
 /// Where the local part of a name stands that ends at `end`.
 #[inline]
@@ -117,21 +120,29 @@ impl<'input> Taken<'input> {
 }
 
 /// Whether the tag, whose own declarations are these listed places and `xml` if the flag says so, declares this prefix, or
-/// the default, already.
+/// the default, already. Where they are many the set has their prefixes.
 #[inline]
-fn is_again(names: &[Namespace<'_>], own: &[u16], xml: bool, prefix: Option<&str>) -> bool
-    requires { ArePlaces (length names.now) own.now }
+fn is_again<'a>(
+    names: &[Namespace<'a>],
+    own: &[u16],
+    many: &BTreeSet<Option<&'a str>>,
+    xml: bool,
+    prefix: Option<&'a str>,
+) -> bool
+    requires places { ArePlaces (length names.now) own.now }
+    requires many { Remembers (map declaration names.now) own.now many.now.keys }
     ensures { (ds : List Declaration) → xml ≡ declares_xml ds → entries (map declaration names.now) own.now ≡ listable_of ds
         → result ≡ is_declared (prefix_view prefix.entry) ds }
 {
-    is_own(names, own, xml, prefix)
+    is_own(names, own, many, xml, prefix)
 }
 
-/// A declaration, which is listed unless it is that of `xml`; `own` is where the listed places of the tag begin. Answers
-/// whether the tag declares `xml` now.
+/// A declaration, which is listed unless it is that of `xml`; `own` is where the listed places of the tag begin, whose prefixes
+/// the set has where they are many. Answers whether the tag declares `xml` now.
 pub fn take_declaration<'input>(
     names: &mut NamespaceTable<'input>,
     listed: &mut Vec<u16>,
+    many: &mut BTreeSet<Option<&'input str>>,
     own: usize,
     xml: bool,
     taken: Taken<'input>,
@@ -139,16 +150,18 @@ pub fn take_declaration<'input>(
     requires places { ArePlaces (length names.old.items.items) listed.old.items }
     requires own { own ≤ length listed.old.items }
     requires few { length names.old.items.items ≤ most_pairs }
+    requires many { Remembers (map declaration names.old.items.items) (drop own listed.old.items) many.old.keys }
     ensures places { OnOk result (ArePlaces (length names.new.items.items) listed.new.items) }
     ensures own { OnOk result (own ≤ length listed.new.items) }
     ensures few { OnOk result (length names.new.items.items ≤ most_pairs) }
+    ensures many { OnOk result (Remembers (map declaration names.new.items.items) (drop own listed.new.items) many.new.keys) }
     ensures value { (known : List Declaration) (before : List ℕ) (h : Held) → own ≡ length before
         → Declares known before (map declaration names.old.items.items) listed.old.items xml h.own
         → Declared known before (map declaration names.new.items.items) listed.new.items result h (spec.declared known (taken_view taken.entry) h) }
 {
     taken.test_uri()?;
     let prefix = taken.declared_prefix();
-    if is_again(names.as_slice(), &listed[own..], xml, prefix) {
+    if is_again(names.as_slice(), &listed[own..], many, xml, prefix) {
         return Err(Failure::Fault(Fault::DuplicatedNamespace(
             local_span(taken.name.local, taken.name_end),
             taken.start,
@@ -159,5 +172,6 @@ pub fn take_declaration<'input>(
     }
     let place = names.place(prefix, taken.value)?;
     listed.push(place)?;
+    remember(many, names.as_slice(), &listed[own..], prefix)?;
     Ok(xml)
 }

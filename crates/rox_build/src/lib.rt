@@ -14,6 +14,7 @@ pub mod names;
 pub mod namespaces;
 pub mod node_rows;
 pub mod pending;
+pub mod prefixes;
 pub mod reader;
 pub mod reference;
 pub mod refused;

@@ -6,10 +6,13 @@ ghost use Rattle.rox_grammar.specs.Tree.{same_prefix, is_declared, uri_of};
 ghost use Rattle.rox_grammar.specs.WellNamed.{is_xml};
 ghost use Rattle.rox_build.specs.Lines.{declaration, entry};
 ghost use Rattle.rox_build.specs.Scopes.{prefix_view, entries, ArePlaces, others};
+ghost use Rattle.rox_build.specs.Prefixes.{Remembers};
 
+use crate::prefixes::{FEW, has_prefix};
 use crate::tables::Namespace;
 use rox_scan::alike::same_text;
 use rox_scan::failure::Failure;
+use std::collections::BTreeSet;
 
 /// The URI of the prefix `xml`.
 pub const XML_URI: &str = "http://www.w3.org/XML/1998/namespace";
@@ -83,26 +86,54 @@ pub fn is_xml(prefix: Option<&str>) -> bool
     }
 }
 
-/// Whether an element that declares those behind `own`, and `xml` if the flag says so, declares this prefix.
+/// Whether one of these has this prefix, or is the default. Where they are many the set has their prefixes.
 #[inline]
-pub fn is_own(names: &[Namespace<'_>], own: &[u16], xml: bool, prefix: Option<&str>) -> bool
-    requires { ArePlaces (length names.now) own.now }
+fn is_among<'a>(
+    names: &[Namespace<'a>],
+    own: &[u16],
+    many: &BTreeSet<Option<&'a str>>,
+    prefix: Option<&'a str>,
+) -> bool
+    requires places { ArePlaces (length names.now) own.now }
+    requires many { Remembers (map declaration names.now) own.now many.now.keys }
+    ensures { result ≡ is_declared (prefix_view prefix.entry) (entries (map declaration names.now) own.now) }
+{
+    if own.len() > FEW {
+        return has_prefix(many, prefix);
+    }
+    is_declared(names, own, prefix)
+}
+
+/// Whether an element that declares those at these places, and `xml` if the flag says so, declares this prefix. Where they are
+/// many the set has their prefixes.
+#[inline]
+pub fn is_own<'a>(
+    names: &[Namespace<'a>],
+    own: &[u16],
+    many: &BTreeSet<Option<&'a str>>,
+    xml: bool,
+    prefix: Option<&'a str>,
+) -> bool
+    requires places { ArePlaces (length names.now) own.now }
+    requires many { Remembers (map declaration names.now) own.now many.now.keys }
     ensures { result ≡ (is_declared (prefix_view prefix.entry) (entries (map declaration names.now) own.now) || (xml && is_xml (prefix_view prefix.entry))) }
 {
-    is_declared(names, own, prefix) || (xml && is_xml(prefix))
+    is_among(names, own, many, prefix) || (xml && is_xml(prefix))
 }
 
 /// Lists, behind what an element declares itself, what its parent lists from `from` up to `until` and it does not declare.
-pub fn inherit(
-    names: &[Namespace<'_>],
+pub fn inherit<'a>(
+    names: &[Namespace<'a>],
     listed: &mut Vec<u16>,
     own: usize,
+    many: &BTreeSet<Option<&'a str>>,
     xml: bool,
     from: usize,
     until: usize,
 ) -> Result<(), Failure>
     requires places { ArePlaces (length names.now) listed.old.items }
     requires own { own ≤ length listed.old.items }
+    requires many { Remembers (map declaration names.now) (drop own listed.old.items) many.now.keys }
     requires parent { (from ≤ until) × (until ≤ own) }
     ensures ok { OnOk result ((more : List ℕ) × (listed.new.items ≡ listed.old.items ++ more) × ArePlaces (length names.now) more
         × (entries (map declaration names.now) more
@@ -112,7 +143,13 @@ pub fn inherit(
     let end = listed.len();
     for turn in from..until {
         let place = listed[turn];
-        if !is_own(names, &listed[own..end], xml, names[place as usize].name) {
+        if !is_own(
+            names,
+            &listed[own..end],
+            many,
+            xml,
+            names[place as usize].name,
+        ) {
             listed.push(place)?;
         }
     }

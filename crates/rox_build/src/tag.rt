@@ -1,6 +1,6 @@
 //! Start tags: attributes and declarations, each tested in order (XML 1.0 section 3.1, Namespaces in XML 1.0).
 
-ghost use Rattle.std.specs.Prelude.{◌≡◌, ◌<◌, ◌≤◌, ◌+◌, ◌-◌, ◌^◌, ◌∷◌, [], Bool, false, true, List, ℕ, length, map, Ok, Err, OnOk, IfOk, slice_index, slice_range, IfErr, ◌++◌};
+ghost use Rattle.std.specs.Prelude.{◌≡◌, ◌<◌, ◌≤◌, ◌+◌, ◌-◌, ◌^◌, ◌∷◌, [], Bool, false, true, List, ℕ, length, map, drop, Ok, Err, OnOk, IfOk, slice_index, slice_range, IfErr, ◌++◌};
 ghost use Rattle.rox_grammar.specs.Written.{Declaration};
 ghost use Rattle.rox_grammar.specs.Document.{most_pairs, most_attributes};
 ghost use Rattle.rox_reading.specs.Tags.{Held, attributes_at, tag_at, tested_at};
@@ -13,6 +13,7 @@ ghost use Rattle.rox_build.specs.Values.{piece_view};
 ghost use Rattle.rox_build.specs.Storage.{storage_bytes, is_borrowed};
 ghost use Rattle.rox_build.specs.Lines.{declaration, rows_of};
 ghost use Rattle.rox_build.specs.Scopes.{ArePlaces, entries};
+ghost use Rattle.rox_build.specs.Prefixes.{Remembers};
 ghost use Rattle.rox_build.specs.Tags.{Declares, Holding, Took, TookAll, one_more, taken_view};
 ghost use Rattle.rox_grammar.specs.Tree.{listed};
 
@@ -32,6 +33,7 @@ use rox_scan::cursor::{Cursor, QName};
 use rox_scan::failure::Failure;
 use rox_scan::markup::{RawAttribute, Turn};
 use std::alloc::Global;
+use std::collections::BTreeSet;
 
 /// A start tag that was read: its name, from `name_start` up to `name_end`, and what its element has.
 #[derive(Clone, Copy, Debug)]
@@ -55,6 +57,8 @@ pub struct Buffers<'input> {
     pub raw: String,
     /// The attributes of the tag.
     pub taken: Vec<Taken<'input>>,
+    /// The prefixes that the tag declares, where these are many.
+    pub many: BTreeSet<Option<&'input str>>,
 }
 
 /// A text to keep: a slice of the source where it is one, else a copy of the buffer.
@@ -97,9 +101,11 @@ fn take<'input>(
     requires places { ArePlaces (length elements.old.namespaces.items.items) elements.old.listed.items }
     requires own { own ≤ length elements.old.listed.items }
     requires few { length elements.old.namespaces.items.items ≤ most_pairs }
+    requires many { Remembers (map declaration elements.old.namespaces.items.items) (drop own elements.old.listed.items) buffers.old.many.keys }
     ensures places { OnOk result (ArePlaces (length elements.new.namespaces.items.items) elements.new.listed.items) }
     ensures own { OnOk result (own ≤ length elements.new.listed.items) }
     ensures few { OnOk result (length elements.new.namespaces.items.items ≤ most_pairs) }
+    ensures many { OnOk result (Remembers (map declaration elements.new.namespaces.items.items) (drop own elements.new.listed.items) buffers.new.many.keys) }
     ensures attributes { elements.new.attributes ≡ elements.old.attributes }
     ensures took { (es : List Entity) (known : List Declaration) (before : List ℕ) (h : Held) → AreDeclared es how.entry.entities.now → own ≡ length before
         → Holding known before (map declaration elements.old.namespaces.items.items) elements.old.listed.items xml buffers.old.taken.items h
@@ -119,6 +125,7 @@ fn take<'input>(
         let xml = take_declaration(
             &mut elements.namespaces,
             &mut elements.listed,
+            &mut buffers.many,
             own,
             xml,
             one,
@@ -157,9 +164,11 @@ fn attributes<'input>(
     requires places { ArePlaces (length elements.old.namespaces.items.items) elements.old.listed.items }
     requires own { own ≤ length elements.old.listed.items }
     requires few { length elements.old.namespaces.items.items ≤ most_pairs }
+    requires many { Remembers (map declaration elements.old.namespaces.items.items) (drop own elements.old.listed.items) buffers.old.many.keys }
     ensures places { OnOk result (ArePlaces (length elements.new.namespaces.items.items) elements.new.listed.items) }
     ensures own { OnOk result (own ≤ length elements.new.listed.items) }
     ensures few { OnOk result (length elements.new.namespaces.items.items ≤ most_pairs) }
+    ensures many { OnOk result (Remembers (map declaration elements.new.namespaces.items.items) (drop own elements.new.listed.items) buffers.new.many.keys) }
     ensures attributes { elements.new.attributes ≡ elements.old.attributes }
     ensures source { cursor.new.text ≡ cursor.old.text }
     ensures took { (es : List Entity) (known : List Declaration) (before : List ℕ) (h : Held) → AreDeclared es how.entry.entities.now → own ≡ length before
@@ -196,16 +205,18 @@ fn attributes<'input>(
 }
 
 /// What an element lists whose own declarations are those behind `own`, and `xml` if the flag says so, below one that lists
-/// `above`: a stretch of its own, or its parent's where it declares nothing.
+/// `above`: a stretch of its own, or its parent's where it declares nothing. The set has its prefixes where they are many.
 #[inline(always)]
-fn scope_of_tag(
-    elements: &mut ElementTables<'_>,
+fn scope_of_tag<'input>(
+    elements: &mut ElementTables<'input>,
+    many: &BTreeSet<Option<&'input str>>,
     above: Scope,
     own: usize,
     xml: bool,
 ) -> Result<Scope, Failure>
     requires places { ArePlaces (length elements.old.namespaces.items.items) elements.old.listed.items }
     requires own { own ≤ length elements.old.listed.items }
+    requires many { Remembers (map declaration elements.old.namespaces.items.items) (drop own elements.old.listed.items) many.now.keys }
     requires above { (above.from ≤ above.until) × (above.until ≤ own) }
     ensures names { elements.new.namespaces ≡ elements.old.namespaces }
     ensures attributes { elements.new.attributes ≡ elements.old.attributes }
@@ -225,6 +236,7 @@ fn scope_of_tag(
         elements.namespaces.as_slice(),
         &mut elements.listed,
         own,
+        many,
         xml,
         above.from,
         above.until,
@@ -322,7 +334,7 @@ pub fn start_tag<'input>(
     let own = elements.listed.len();
     buffers.taken.clear();
     let (xml, empty, left) = attributes(alloc, cursor, elements, buffers, own, cut, how, left)?;
-    let scope = scope_of_tag(elements, above, own, xml)?;
+    let scope = scope_of_tag(elements, &buffers.many, above, own, xml)?;
     let element = element_data(alloc, elements, &mut buffers.taken, name, name_start, scope)?;
     Ok(StartTag {
         name,

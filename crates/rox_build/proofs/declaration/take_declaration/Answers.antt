@@ -1,4 +1,5 @@
-use Rattle.std.proofs.Common.{◌≡◌, ◌<◌, ◌≤◌, ◌∷◌, [], true, false, refl, sym, ap, ◌∙◌, subst, map, length, arith, Err}
+use Rattle.std.proofs.Common.{◌≡◌, ◌<◌, ◌≤◌, ◌∷◌, ◌++◌, [], drop, true, false, refl, sym, ap, ◌∙◌, subst, map, length, Err}
+use Rattle.std.proofs.lemmas.List.{drop-append-le}
 use Rattle.std.proofs.lemmas.Result.{err_from_is_err_and}
 use Rattle.std.proofs.lemmas.List.{length-map}
 use Rattle.rox_grammar.specs.declared.fault.Fault.TheVariants as fault
@@ -9,19 +10,25 @@ use Rattle.rox_grammar.specs.Tree.{is_declared}
 use Rattle.rox_grammar.specs.WellNamed.{is_xml}
 use Rattle.rox_grammar.specs.Document.{with_new, most_pairs}
 use Rattle.rox_reading.specs.Tags.{uri_tested, declared}
-use Rattle.rox_build.specs.Lines.{declaration}
+use Rattle.std.specs.List.{slice_range}
+use Rattle.rox_build.specs.Lines.{declaration, entry}
 use Rattle.rox_build.specs.Scopes.{prefix_view, pair}
 use Rattle.rox_build.specs.Tags.{taken_view}
 use Rattle.rox_build.specs.Storage.{storage_bytes}
-use Rattle.rox_build.proofs.Listing.{with_new-more}
-use Rattle.rox_build.proofs.Stable.{all_slice, all_append, all_weaker}
-use Rattle.rox_build.proofs.Declaring.{uri_refused, declared_again, declared_many, declares_prefix_xml, declares_other, own_listed, fails_by, many_pairs}
+use Rattle.rox_build.specs.Prefixes.{Remembers}
+use Rattle.rox_build.proofs.Inherits.{slice-rest}
+use Rattle.rox_build.proofs.Stable.{all_slice}
+use Rattle.rox_build.proofs.Declaring.{uri_refused, declared_again, declared_many, declares_prefix_xml, declares_other, own_listed, fails_by, many_pairs, places_after, remembers_after}
 use Rattle.rox_build.proofs.declaration.take_declaration.Goals as goal
 
 pub is_again-requires : goal.is_again-requires
 is_again-requires c =
     let listed = c.args.listed.now.items in
-    rw (c.as_slice.ensures.value, c.deref.ensures.value) (all_slice (λ i. i < length c.args.names.now.items.items) listed c.args.own (length listed) c.requires.places)
+    let names = map declaration c.args.names.now.items.items in
+    rw (c.as_slice.ensures.value, c.deref.ensures.value) (record {
+      places = all_slice (λ i. i < length c.args.names.now.items.items) listed c.args.own (length listed) c.requires.places;
+      many = subst (λ xs. Remembers names xs c.args.many.now.keys) (sym (slice-rest listed c.args.own)) c.requires.many;
+    })
 
 pub returns-in_err-test_uri-clause-value : goal.returns-in_err-test_uri-clause-value
 returns-in_err-test_uri-clause-value c = λ known before h o d.
@@ -91,14 +98,32 @@ returns-clause-value c = λ known before h o d.
 
 pub returns-clause-places : goal.returns-clause-places
 returns-clause-places c =
-    let old = c.args.names.now.items.items in
+    places_after c.args.names.now.items.items c.place.new.self.items.items c.args.listed.now.items c.push.new.self.items (pair (prefix_view c.declared_prefix-prefix.result) (storage_bytes c.args.taken.value)) c.in_ok-place.place
+    c.in_ok-place.ensures.table c.in_ok-place.ensures.there.0 c.in_ok-push.ensures.items c.requires.places
+
+pub remember-requires : goal.remember-requires
+remember-requires c =
     let rows = c.place.new.self.items.items in
-    let long = length-map rows declaration in
-    let was = length-map old declaration in
-    let more : length old ≤ length rows = omega (
-      arith,
-      with_new-more (map declaration old) (pair (prefix_view c.declared_prefix-prefix.result) (storage_bytes c.args.taken.value) ∷ []),
-      ap length c.in_ok-place.ensures.table,
-    ) in
-    rw c.in_ok-push.ensures.items (all_append (λ i. i < length rows) c.args.listed.now.items (c.in_ok-place.place ∷ [])
-    (all_weaker (λ i. i < length old) (λ i. i < length rows) c.args.listed.now.items (λ i h. omega arith) c.requires.places) (c.in_ok-place.ensures.there.0, tt))
+    let after = c.push.new.self.items in
+    rw (c.as_slice-2.ensures.value, c.deref-2.ensures.value) (all_slice (λ i. i < length rows) after c.args.own (length after)
+    (places_after c.args.names.now.items.items rows c.args.listed.now.items after (pair (prefix_view c.declared_prefix-prefix.result) (storage_bytes c.args.taken.value)) c.in_ok-place.place
+    c.in_ok-place.ensures.table c.in_ok-place.ensures.there.0 c.in_ok-push.ensures.items c.requires.places))
+
+pub returns-clause-many : goal.returns-clause-many
+returns-clause-many c =
+    let rows = c.place.new.self.items.items in
+    let names = map declaration rows in
+    let listed = c.args.listed.now.items in
+    let after = c.push.new.self.items in
+    let before = drop c.args.own listed in
+    let mine : drop c.args.own after ≡ before ++ c.in_ok-place.place ∷ [] = ap (drop c.args.own) c.in_ok-push.ensures.items ∙ drop-append-le c.args.own listed (c.in_ok-place.place ∷ []) c.requires.own in
+    let seen : slice_range c.deref-2.result.now c.args.own (length c.deref-2.result.now) ≡ drop c.args.own after = slice-rest c.deref-2.result.now c.args.own ∙ ap (drop c.args.own) c.deref-2.ensures.value in
+    let old : Remembers names before c.args.many.now.keys =
+    remembers_after c.args.names.now.items.items rows listed (pair (prefix_view c.declared_prefix-prefix.result) (storage_bytes c.args.taken.value)) c.args.own c.args.many.now.keys c.in_ok-place.ensures.table c.requires.places c.requires.many in
+    let table = ap (map declaration) c.as_slice-2.ensures.value in
+    let prefix_is = ap (λ (d : Declaration). d.prefix) c.in_ok-place.ensures.there.1 in
+    subst (λ xs. Remembers names xs c.remember.new.prefixes.keys) seen
+    (subst (λ ns. Remembers ns (slice_range c.deref-2.result.now c.args.own (length c.deref-2.result.now)) c.remember.new.prefixes.keys) table
+    (c.in_ok-remember.ensures.value before c.in_ok-place.place (seen ∙ mine)
+    (subst (λ ns. (entry ns c.in_ok-place.place).prefix ≡ prefix_view c.declared_prefix-prefix.result) (sym table) prefix_is)
+    (subst (λ ns. Remembers ns before c.args.many.now.keys) (sym table) old)))

@@ -1,4 +1,4 @@
-use Rattle.std.proofs.Common.{◌≡◌, ◌≤◌, ◌-◌, ℕ, List, length, map, false}
+use Rattle.std.proofs.Common.{◌≡◌, ◌≤◌, ◌-◌, ℕ, List, length, map, drop, false}
 use Rattle.rox_grammar.specs.Written.{Declaration}
 use Rattle.rox_grammar.specs.Document.{most_pairs}
 use Rattle.rox_reading.specs.Tags.{Held, attributes_at}
@@ -6,6 +6,7 @@ use Rattle.rox_build.specs.Lines.{declaration}
 use Rattle.rox_grammar.specs.Entities.{Entity}
 use Rattle.rox_build.specs.Named.{AreDeclared, values_in}
 use Rattle.rox_build.specs.Scopes.{ArePlaces}
+use Rattle.rox_build.specs.Prefixes.{Remembers}
 use Rattle.rox_build.specs.Tags.{Holding}
 use Rattle.rox_build.proofs.Taking.{Going}
 use Rattle.rox_build.proofs.tag.attributes.Given as goal
@@ -17,6 +18,7 @@ invariant-attributes l = record {
   places : ArePlaces (length l.elements.namespaces.items.items) l.elements.listed.items;
   own : l.own ≤ length l.elements.listed.items;
   few : length l.elements.namespaces.items.items ≤ most_pairs;
+  many : Remembers (map declaration l.elements.namespaces.items.items) (drop l.own l.elements.listed.items) l.buffers.many.keys;
   reads : (es : List Entity) (known : List Declaration) (before : List ℕ) (h : Held) → AreDeclared es l.how.entities.now → l.own ≡ length before
       → Holding known before (map declaration l.fn.elements.namespaces.items.items) l.fn.elements.listed.items false l.fn.buffers.taken.items h
       → Going (values_in es l.how) known before l.cut l.fn.cursor.text.now (attributes_at (length l.fn.cursor.text.now) (values_in es l.how) l.cut known l.fn.cursor.text.now l.fn.cursor.pos l.fn.left h)

@@ -11,8 +11,16 @@ use Rattle.rox_scan.specs.Gives.{Fails, name_view}
 use Rattle.rox_build.specs.Named.{values_in}
 use Rattle.rox_build.specs.Lines.{declaration, rows_of}
 use Rattle.rox_build.specs.Tagged.{scope_in_tables}
+use Rattle.rox_build.proofs.Remembering.{remembers_none}
 use Rattle.rox_build.proofs.Starting.{holds_nothing, tag_unread, tag_untested, tag_made, tagged, scope_stays, tested_fails, tested_passes}
 use Rattle.rox_build.proofs.tag.start_tag.Goals as goal
+
+pub attributes-requires-clause-many : goal.attributes-requires-clause-many
+attributes-requires-clause-many c =
+    let listed = c.args.elements.now.listed.items in
+    let k = c.args.elements.now.listed.ok.0 in
+    let own : c.len-own.result ≡ length listed = omega arith in
+    remembers_none (map declaration c.args.elements.now.namespaces.items.items) listed c.len-own.result c.args.buffers.now.many.keys own
 
 pub returns-in_err-xml-clause-value : goal.returns-in_err-xml-clause-value
 returns-in_err-xml-clause-value c = λ es declared.
