@@ -38,6 +38,7 @@ pub use Rattle.rox_grammar.specs.Refused
 pub use Rattle.rox_grammar.specs.Spans
 pub use Rattle.rox_grammar.specs.Positions
 pub use Rattle.rox_grammar.specs.declared.fault.Fault
+pub use Rattle.rox_theory.specs.Answers
 pub use Rattle.rox_reading.specs.Whole as Reading
 pub use Rattle.rox_reading.specs.Refusals
 pub use Rattle.rox_reading.specs.Doctype as Replies

@@ -8,10 +8,12 @@ ghost use Rattle.rox_grammar.specs.Tree as grammar;
 ghost use Rattle.rox_grammar.specs.Tree.{document_tree};
 ghost use Rattle.rox_grammar.specs.Entities.{opens_main, most_open};
 ghost use Rattle.rox_grammar.specs.Doctype.{Asked};
-ghost use Rattle.rox_grammar.specs.Document.{ParseOf, IsTreeOf};
+ghost use Rattle.rox_grammar.specs.Document.{ParseOf, IsTreeOf, Permits};
 ghost use Rattle.rox_grammar.specs.Expansion.{Counts};
 ghost use Rattle.roxmltree.specs.Bounded.{IsBounded};
 ghost use Rattle.rox_grammar.specs.Faults.{FaultOf};
+ghost use Rattle.rox_grammar.specs.Refused.{RefusalOf};
+ghost use Rattle.rox_theory.specs.Answers.{SameAnswers};
 ghost use Rattle.roxmltree.specs.Lawful.{TextsApart, NamesDistinct, AllChars};
 ghost use Rattle.roxmltree.specs.Located.{RangesNested, AttributesInOrder, AttributesWritten, RangesSelect};
 ghost use Rattle.roxmltree.specs.Sections.{EmptyTextsAreSections};
@@ -32,6 +34,12 @@ pub fn one_tree()
 /// A text in which a fault stands has no tree within the limits. So a refusal, but for want of memory, is true.
 pub fn faults_refuse()
     ensures { (text : List ℕ) (limit : ℕ) (f : Fault) (tree : Forest grammar.Node) → IsUtf8 text → FaultOf limit text f → IsTreeOf text false [] limit tree → ⊥ }
+{}
+
+/// Nor has one in which a fault stands once these answers were given, with a document type declaration where one may stand or
+/// without, if the answers of the tree are the same, one after the other, as far as both go.
+pub fn refusals_refuse()
+    ensures { (text source : List ℕ) (limit : ℕ) (allow dtd : Bool) (asked given : List Asked) (f : Fault) (tree : Forest grammar.Node) → IsUtf8 text → RefusalOf limit allow text asked source f → IsTreeOf text dtd given limit tree → Permits allow dtd → SameAnswers asked given → ⊥ }
 {}
 
 /// The tree of every document is that of its text, with what was answered for its external entities. Without a document type
