@@ -1,7 +1,7 @@
 -- A run of plain bytes.
-use Rattle.std.proofs.Common.{◌≡◌, ◌≢◌, ℕ, ◌-◌, ◌<◌, ◌≤◌, ◌==◌, ◌||◌, true, false, not, List, Ok, length, get_or, slice_range, refl, ap, arith}
+use Rattle.std.proofs.Common.{◌≡◌, ◌≢◌, ℕ, ◌-◌, ◌<◌, ◌≤◌, ◌==◌, ◌||◌, Bool, true, false, not, List, Ok, length, get_or, slice_range, refl, ap, arith}
 use Rattle.std.specs.Str.{IsUtf8, IsCharBoundary}
-use Rattle.std.proofs.lemmas.Bool.{le-ltb, eq-eqb}
+use Rattle.std.proofs.lemmas.Bool.{le-ltb, eq-eqb, eqb-true, ne_eqb}
 use Rattle.std.proofs.lemmas.Bool.Decides.{nat_tests}
 use Rattle.rox_grammar.specs.declared.fault.Word.TheVariants as word
 use Rattle.rox_grammar.specs.Words.{word_text}
@@ -13,6 +13,8 @@ use Rattle.rox_reading.specs.Values.{raw_run_at}
 use Rattle.rox_scan.specs.Near.{AllPass, is_text_byte}
 use Rattle.rox_scan.proofs.NearLemmas.{near_found, near_chars, text_is_plain, none_among, read_among}
 use Rattle.rox_scan.proofs.MarkLemmas.{no_mark}
+use Rattle.rox_scan.specs.Longer.{Looked, ends_run, changes_run}
+use Rattle.rox_scan.proofs.LongerLemmas.{looked_run}
 
 text_apart : (b : ℕ) → is_text_byte b ≡ true → (b == 60) ≡ false
 unfolding is_text_byte
@@ -25,6 +27,10 @@ text_no_bracket b h = grind (arith, nat_tests)
 text_plain : (b : ℕ) → is_text_byte b ≡ true → (b == 38 || b == 13) ≡ false
 unfolding is_text_byte
 text_plain b h = grind (arith, nat_tests)
+
+or_second : (a b : Bool) → (a || b) ≡ true → a ≡ false → b ≡ true
+or_second true b h other = cc other
+or_second false b h other = h
 
 -- its Chars
 short_chars : (src : List ℕ) (i e : ℕ) → IsUtf8 src → IsCharBoundary src i → i ≤ e → IsCharBoundary src e → AllPass is_text_byte src i e → chars_up_to e src i ≡ Ok (slice_range src i e, e)
@@ -42,3 +48,11 @@ short_run src i e utf8 start le cut all here =
     no_mark (word_text word.CDataEnd) (slice_range src i e) (omega arith) (λ j below. text_no_bracket _ (read_among is_text_byte src i e j cut.0 all below)) in
     let plain : is_plain (slice_range src i e) ≡ true = ap not (none_among is_text_byte (λ b. b == 38 || b == 13) src i e (e - i) (omega arith) cut.0 all text_plain) in
     (rw (end, short_chars src i e utf8 start le cut all, clear) refl, plain)
+
+-- and a run that a longer look passes
+pub longer_run : (src : List ℕ) (i e : ℕ) (plain : Bool) → Looked (ends_run src) changes_run src i e plain → (e == length src || get_or src e 0 == 60) ≡ true → raw_run_at src i ≡ Ok (slice_range src i e, e)
+unfolding raw_run_at
+longer_run src i e plain f here =
+    let at : e < length src → get_or src e 0 ≡ 60 = λ more. eqb-true _ _ (or_second _ _ here (ne_eqb e (length src) (λ same. absurd (omega arith)))) in
+    let read = looked_run src i e plain f at in
+    rw (read.0, read.1, read.2) refl

@@ -18,7 +18,7 @@ use crate::constructs::{end_tag, markup};
 use crate::how::How;
 use crate::refused::Refused;
 use crate::tag::Buffers;
-use crate::value::{is_plain, is_run_end, line_feeds, raw_run, run_part};
+use crate::value::{is_run_end, line_feeds, raw_run, run_part};
 use rox_grammar::fault::Fault;
 use rox_scan::cursor::Cursor;
 use rox_scan::failure::Failure;
@@ -42,8 +42,8 @@ fn far_run<'input>(
 {
     let start = cursor.pos;
     let raw = raw_run(cursor)?;
-    if is_plain(raw.as_bytes()) {
-        builder.slice_piece(start, cursor.pos, raw)?;
+    if raw.plain {
+        builder.slice_piece(start, cursor.pos, raw.text)?;
         return Ok(());
     }
     let stop = cursor.pos;

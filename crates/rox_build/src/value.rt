@@ -24,6 +24,7 @@ use crate::refused::Refused;
 use rox_grammar::fault::{Fault, Span};
 use rox_scan::cursor::Cursor;
 use rox_scan::failure::Failure;
+use rox_scan::longer::run_look;
 use rox_scan::marks::{before_byte, before_either, byte_from, either_from, has_mark};
 use rox_scan::markup::RawAttribute;
 use rox_scan::near::{ValueByte, near_end};
@@ -83,20 +84,10 @@ fn expand<'input>(
 
 /// Whether the bytes are a run's text as they stand: they have no `&` and no CR.
 #[inline]
-pub fn is_plain(bytes: &[u8]) -> bool
+fn is_plain(bytes: &[u8]) -> bool
     ensures { result ≡ content.is_plain bytes.now }
 {
     before_either(bytes, b'&', b'\r') == bytes.len()
-}
-
-/// Whether the bytes are a value as they stand: they have no `&`, and no white space but space.
-#[inline]
-fn is_plain_value(bytes: &[u8]) -> bool
-    ensures { result ≡ content.is_plain_value bytes.now }
-{
-    let one = before_either(bytes, b'&', b'\r') == bytes.len();
-    let other = before_either(bytes, b'\t', b'\n') == bytes.len();
-    one & other
 }
 
 /// `&`, or white space that is no space.
@@ -473,11 +464,41 @@ pub fn is_run_end(text: &str, at: usize) -> bool
     at == text.len() || text.as_bytes()[at] == b'<'
 }
 
+/// A run of character data as it stands. `plain` says that it has no reference and no carriage return.
+#[derive(Clone, Copy, Debug)]
+pub struct RawRun<'input> {
+    pub text: &'input str,
+    pub plain: bool,
+}
+
 /// A run of character data, up to the next `<` or the end (XML 1.0 section 2.4), as it stands: of Chars, and without `]]>`,
 /// which is a fault at its end.
+pub fn raw_run<'input>(cursor: &mut Cursor<'input>) -> Result<RawRun<'input>, Fault>
+    ensures value { Reads (λ raw. raw.text.now) cursor.new result (spec.raw_run_at cursor.old.text.now cursor.old.pos) }
+    ensures plain { IfOk result (λ raw. raw.plain ≡ content.is_plain raw.text.now) }
+    ensures source { cursor.new.text ≡ cursor.old.text }
+    ensures cut { OnOk result (IsCharBoundary cursor.old.text.now cursor.new.pos) }
+{
+    let start = cursor.pos;
+    let text = cursor.text;
+    let look = run_look(text, start);
+    if is_run_end(text, look.end) {
+        cursor.pos = look.end;
+        return Ok(RawRun {
+            text: &text[start..look.end],
+            plain: look.plain,
+        });
+    }
+    faulty_run(cursor)
+}
+
+/// The same of a run that is not in order.
+#[cold]
+#[inline(never)]
 #[tactic(auto, unfolding(rox_reading::specs::Values::raw_run_at))]
-pub fn raw_run<'input>(cursor: &mut Cursor<'input>) -> Result<&'input str, Fault>
-    ensures value { Reads (λ raw. raw.now) cursor.new result (spec.raw_run_at cursor.old.text.now cursor.old.pos) }
+fn faulty_run<'input>(cursor: &mut Cursor<'input>) -> Result<RawRun<'input>, Fault>
+    ensures value { Reads (λ raw. raw.text.now) cursor.new result (spec.raw_run_at cursor.old.text.now cursor.old.pos) }
+    ensures plain { IfOk result (λ raw. raw.plain ≡ content.is_plain raw.text.now) }
     ensures source { cursor.new.text ≡ cursor.old.text }
     ensures cut { OnOk result (IsCharBoundary cursor.old.text.now cursor.new.pos) }
 {
@@ -486,7 +507,10 @@ pub fn raw_run<'input>(cursor: &mut Cursor<'input>) -> Result<&'input str, Fault
     if has_mark(raw.as_bytes(), b"]]>") {
         return Err(Fault::InvalidCharacterData(end));
     }
-    Ok(raw)
+    Ok(RawRun {
+        text: raw,
+        plain: is_plain(raw.as_bytes()),
+    })
 }
 
 /// An attribute's value (XML 1.0 section 3.3.3): a slice of the source where it has no reference and no white space but
@@ -505,7 +529,7 @@ pub fn value<'input>(
     ensures { (es : List Entity) → AreDeclared es how.entry.entities.now → GivesValue (λ p. piece_view p (string_bytes scratch.new)) result
         (spec.value_at how.entry.main es (value_opener es how.entry.deep how.entry.main) text.entry.now raw.now.value_start raw.now.value_end left) }
 {
-    if raw.plain || is_plain_value(raw.value.as_bytes()) {
+    if raw.plain {
         return Ok((Piece::Plain(raw.value), left));
     }
     scratch.clear();

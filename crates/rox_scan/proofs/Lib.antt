@@ -6,3 +6,5 @@ pub mod RunLemmas
 pub mod TableLemmas
 pub mod Marking
 pub mod QuoteLemmas
+pub mod CharLemmas
+pub mod LongerLemmas

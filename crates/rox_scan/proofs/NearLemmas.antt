@@ -2,26 +2,22 @@
 use Rattle.std.proofs.Common.{◌≡◌, ℕ, zero, suc, ◌+◌, ◌-◌, ◌<◌, ◌≤◌, ◌==◌, ◌||◌, Bool, true, false, not, List, Ok, length, get_or, take, drop, slice_range, refl, sym, ap, subst, ◌∙◌, arith, inl, inr, get_or-drop, length-drop}
 use Rattle.std.specs.List.{list_any, list_all}
 use Rattle.std.specs.Str.{IsUtf8, IsCharBoundary}
-use Rattle.std.proofs.lemmas.Bool.{cases_eq, cases_lt, eqb-true, le-ltb, lt-leb, ne_eqb}
+use Rattle.std.proofs.lemmas.Bool.{cases_eq, cases_lt, eqb-true, le-ltb, lt-leb}
 use Rattle.std.proofs.lemmas.Bool.Decides.{nat_tests}
-use Rattle.std.proofs.lemmas.List.{length-take, get_or-take, drop_more, drop_all, drop-drop, get_or_past}
+use Rattle.std.proofs.lemmas.List.{length-take, get_or-take, drop_more, drop_all, get_or_past}
 use Rattle.std.proofs.lemmas.List.Sums.{position_or_len_is}
 use Rattle.std.proofs.lemmas.Str.{IsUtf8-take, IsCharBoundary-after_ascii}
 use Rattle.rox_grammar.specs.Chars.{is_char, is_part_char, is_plain}
 use Rattle.rox_grammar.specs.Content.{is_plain_value}
 use Rattle.rox_grammar.specs.Runs.{run_end}
-use Rattle.rox_grammar.specs.Marks.{byte_from, mark_from, stands}
-use Rattle.rox_grammar.specs.declared.fault.Word.TheVariants as word
-use Rattle.rox_grammar.specs.Words.{word_text}
-use Rattle.rox_grammar.specs.Constructs.{double_dash}
-use Rattle.rox_reading.specs.Lexical.{chars_up_to, string_at, text_to}
-use Rattle.rox_reading.specs.Markup.{comment_at, raw_value_at}
+use Rattle.rox_grammar.specs.Marks.{byte_from}
+use Rattle.rox_reading.specs.Lexical.{chars_up_to}
+use Rattle.rox_reading.specs.Markup.{raw_value_at}
 use Rattle.rox_scan.specs.Near.{AllPass, is_value_byte, is_text_byte, is_comment_byte, is_part_byte}
-use Rattle.rox_scan.proofs.MarkLemmas.{before_mark_is, not_from_first, no_mark}
 use Rattle.rox_scan.proofs.RunLemmas.{run_on_ascii, run_stops_ascii, run_at_end}
 use Rattle.rox_scan.proofs.PlainLemmas.{plain_run}
 
-value_is_plain : (b : ℕ) → is_value_byte b ≡ true → is_plain b ≡ true
+pub value_is_plain : (b : ℕ) → is_value_byte b ≡ true → is_plain b ≡ true
 unfolding is_value_byte
 value_is_plain b h = grind (arith, nat_tests)
 
@@ -29,7 +25,7 @@ pub text_is_plain : (b : ℕ) → is_text_byte b ≡ true → is_plain b ≡ tru
 unfolding is_text_byte
 text_is_plain b h = grind (arith, nat_tests)
 
-comment_is_plain : (b : ℕ) → is_comment_byte b ≡ true → is_plain b ≡ true
+pub comment_is_plain : (b : ℕ) → is_comment_byte b ≡ true → is_plain b ≡ true
 unfolding is_comment_byte
 comment_is_plain b h = grind (arith, nat_tests)
 
@@ -186,36 +182,3 @@ read_among p src i e j within all below =
     let long = length-take (e - i) (drop i src) in
     let at : get_or (slice_range src i e) j 0 ≡ get_or src (i + j) 0 = get_or-take (e - i) (drop i src) j 0 (omega (arith, long)) ∙ get_or-drop i src j 0 in
     rw at (all (i + j) (omega arith) (omega (arith, long)))
-
-comment_no_dash : (b : ℕ) → is_comment_byte b ≡ true → b ≡ 45 → ⊥
-unfolding is_comment_byte
-comment_no_dash b h is = grind (arith, nat_tests)
-
--- no dash is the last of such a slice
-no_last_dash : (src : List ℕ) (i e : ℕ) → e ≤ length src → AllPass is_comment_byte src i e → (get_or (slice_range src i e) (length (slice_range src i e) - 1) 0 == 45) ≡ false
-no_last_dash src i e within all =
-    let text = slice_range src i e in
-    elim (cases_lt 0 (length text)) [
-      | inl some ↦ ne_eqb _ 45 (comment_no_dash _ (read_among is_comment_byte src i e (length text - 1) within all (omega arith)))
-      | inr empty ↦ ne_eqb _ 45 (λ h. absurd (omega (arith, h, get_or_past text (length text - 1) 0 (omega arith))))
-    ]
-
--- the first mark of a text whose bytes before it are not that of the mark
-near_mark : (mark src : List ℕ) (i e : ℕ) → 0 < length mark → i ≤ e → e ≤ length src → ((k : ℕ) → i ≤ k → k < e → get_or src k 0 ≡ get_or mark 0 0 → ⊥) → stands mark src e ≡ true → mark_from mark src i ≡ e
-unfolding mark_from stands
-near_mark mark src i e some le within apart here =
-    let at : i + (e - i) ≡ e = omega arith in
-    let long = length-drop i src in
-    let found = before_mark_is mark (drop i src) (e - i) (omega (arith, long))
-    (λ j below. not_from_first mark (drop i src) j some (λ h. apart (i + j) (omega arith) (omega arith) (sym (get_or-drop i src j 0) ∙ h)))
-    (λ more. rw (drop-drop (e - i) i src, at) here) in
-    omega (arith, found)
-
--- a comment whose text has no dash
-pub short_comment : (src : List ℕ) (i s e : ℕ) → s ≡ i + 4 → IsUtf8 src → IsCharBoundary src s → s ≤ e → IsCharBoundary src e → AllPass is_comment_byte src s e → stands (word_text word.CommentEnd) src e ≡ true → comment_at src i ≡ Ok (slice_range src s e, e + 3)
-unfolding comment_at text_to chars_up_to string_at
-short_comment src i s e start utf8 first le cut all here =
-    let end = near_mark (word_text word.CommentEnd) src s e (omega arith) le cut.0 (λ k low high. comment_no_dash _ (all k low high)) here in
-    let chars = near_chars is_comment_byte src s e utf8 first le cut all comment_is_plain in
-    let clear = no_mark double_dash (slice_range src s e) (omega arith) (λ j below. comment_no_dash _ (read_among is_comment_byte src s e j cut.0 all below)) in
-    rw (← start, end, chars, le-ltb e e (omega arith), here, clear, no_last_dash src s e cut.0 all) refl

@@ -1,5 +1,5 @@
 -- A quote is one byte.
-use Rattle.std.proofs.Common.{◌≡◌, ℕ, ◌+◌, ◌==◌, ◌||◌, Bool, true, false, cond, List, Ok, length, nat_le, slice_index, leb, ap, Result}
+use Rattle.std.proofs.Common.{◌≡◌, ℕ, ◌+◌, ◌==◌, ◌||◌, Bool, true, false, cond, List, Ok, length, slice_index, leb, ap, Result}
 use Rattle.rox_grammar.specs.declared.fault.Fault.{Fault}
 use Rattle.rox_reading.specs.Lexical.{quote_at}
 

@@ -3,3 +3,4 @@ pub mod Parts
 pub mod Near
 pub mod Halves
 pub mod Doctypes
+pub mod Longer

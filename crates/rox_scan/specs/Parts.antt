@@ -1,5 +1,5 @@
 -- What the scanner's values are without where they lie in memory.
-use Rattle.std.specs.Prelude.{◌≡◌, ◌≤◌, true, List, ℕ, Option, option_map, slice_range}
+use Rattle.std.specs.Prelude.{◌≡◌, ◌≤◌, List, ℕ, Option, option_map, slice_range}
 use Rattle.std.specs.Borrow.{Bor}
 use Rattle.std.specs.Str.{IsCharBoundary}
 use Rattle.rox_grammar.specs.Content.{is_plain_value}
@@ -34,8 +34,8 @@ pub record HasValue (text : List ℕ) (a : RawAttribute) : Type 0 where
   pub from : IsCharBoundary text a.value_start
   pub until : IsCharBoundary text a.value_end
   pub is : a.value.now ≡ slice_range text a.value_start a.value_end
-  -- where it says that it has nothing to change
-  pub plain : a.plain ≡ true → is_plain_value a.value.now ≡ true
+  -- it says whether it has nothing to change
+  pub plain : a.plain ≡ is_plain_value a.value.now
 
 -- the same of an attribute that a start tag holds next
 abbrev pub TurnHasValue : List ℕ → Turn → Type 0

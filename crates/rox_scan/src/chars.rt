@@ -16,11 +16,12 @@ pub fn is_char(c: char) -> bool
 }
 
 /// White space (XML 1.0 [3] S).
-#[inline]
+#[inline(always)]
 pub fn is_space(byte: u8) -> bool
     ensures { result ≡ spec.is_space byte }
 {
-    matches!(byte, b' ' | b'\t' | b'\n' | b'\r')
+    // One comparison tells most bytes.
+    byte <= b' ' && matches!(byte, b' ' | b'\t' | b'\n' | b'\r')
 }
 
 /// A character that may begin a name (XML 1.0 [4] NameStartChar).

@@ -8,6 +8,7 @@ pub mod cursor;
 pub mod doctype;
 pub mod failure;
 pub mod halves;
+pub mod longer;
 pub mod marks;
 pub mod markup;
 pub mod near;

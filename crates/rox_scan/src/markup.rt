@@ -13,8 +13,9 @@ ghost use Rattle.rox_scan.specs.Parts.{HasValue, TurnHasValue, attribute_view, e
 
 use crate::chars::is_space;
 use crate::cursor::{Cursor, QName};
+use crate::longer::{comment_end, is_plain_value, value_look};
 use crate::marks::{Finders, either_from, has_mark, mark_from};
-use crate::near::{CommentByte, ValueByte, near_end};
+use crate::near::{ValueByte, near_end};
 use crate::runs::is_at;
 use memchr::memmem::Finder;
 use rox_grammar::fault::{Due, Fault, Word};
@@ -34,8 +35,8 @@ pub struct EndTag<'input> {
 }
 
 /// An attribute before its value is looked at. Its name stands from `start` up to `name_end`, and its value from
-/// `value_start` up to `value_end`, where the closing quote stands. Where `plain` is set the value is known to have no
-/// reference and no white space but spaces.
+/// `value_start` up to `value_end`, where the closing quote stands. `plain` says that it has no reference and no white space but
+/// spaces.
 #[derive(Clone, Copy, Debug)]
 pub struct RawAttribute<'input> {
     pub start: usize,
@@ -47,7 +48,7 @@ pub struct RawAttribute<'input> {
     pub plain: bool,
 }
 
-/// An attribute's value as it is written. Where `plain` is set it has no reference and no white space but spaces.
+/// An attribute's value as it is written. `plain` says that it has no reference and no white space but spaces.
 #[derive(Clone, Copy)]
 struct RawValue<'input> {
     text: &'input str,
@@ -91,7 +92,6 @@ impl<'input> Cursor<'input> {
     /// A comment, from `<!--` to its end `-->` (XML 1.0 section 2.5). It answers the text between these. Two dashes within
     /// the text, or one at its end, are a fault at the comment's start.
     #[inline]
-    #[tactic(auto, using(crate::proofs::NearLemmas::comment_cut))]
     pub fn comment(&mut self, finders: &Finders<'_>) -> Result<&'input str, Fault>
         requires { stands (word_text word.CommentStart) self.old.text.now self.old.pos ≡ true }
         ensures value { Reads (λ x. x.now) self.new result (spec.comment_at self.old.text.now self.old.pos) }
@@ -102,17 +102,19 @@ impl<'input> Cursor<'input> {
         self.skip(Word::CommentStart);
         let text = self.text;
         let from = self.pos;
-        let near = near_end::<CommentByte>(text, from);
-        let mut behind = Cursor::at(text, near);
+        let end = comment_end(text, from);
+        let mut behind = Cursor::at(text, end);
         if !behind.starts(Word::CommentEnd) {
             return self.far_comment(start, finders);
         }
         behind.skip(Word::CommentEnd);
         self.pos = behind.pos;
-        Ok(&text[from..near])
+        Ok(&text[from..end])
     }
 
-    /// The same, behind its `<!--`, of a comment with a dash, or a byte that may begin what is no Char.
+    /// The same, behind its `<!--`, of a comment that is not in order.
+    #[cold]
+    #[inline(never)]
     #[tactic(auto, unfolding(rox_reading::specs::Markup::comment_at))]
     fn far_comment(&mut self, start: usize, finders: &Finders<'_>) -> Result<&'input str, Fault>
         requires { self.old.pos ≡ start + 4 }
@@ -182,7 +184,7 @@ impl<'input> Cursor<'input> {
 
     /// The text up to the quote or a `<`, one of which has to follow.
     #[inline]
-    #[tactic(auto, using(crate::proofs::NearLemmas::near_plain, crate::proofs::NearLemmas::value_cut), unfolding(rox_reading::specs::Markup::raw_value_at))]
+    #[tactic(auto, using(crate::proofs::NearLemmas::near_plain, crate::proofs::NearLemmas::value_cut))]
     fn raw_value(&mut self, quote: u8) -> Result<RawValue<'input>, Fault>
         requires ascii { quote < 128 }
         requires quote { (quote == 39 || quote == 34) ≡ true }
@@ -190,7 +192,7 @@ impl<'input> Cursor<'input> {
         ensures source { self.new.text ≡ self.old.text }
         ensures onward { self.old.pos ≤ self.new.pos }
         ensures text { IfOk result (λ x. x.text.now ≡ slice_range self.old.text.now self.old.pos self.new.pos) }
-        ensures plain { IfOk result (λ x. x.plain ≡ true → is_plain_value x.text.now ≡ true) }
+        ensures plain { IfOk result (λ x. x.plain ≡ is_plain_value x.text.now) }
     {
         let start = self.pos;
         let near = near_end::<ValueByte>(self.text, start);
@@ -201,12 +203,48 @@ impl<'input> Cursor<'input> {
                 plain: true,
             });
         }
-        let end = either_from(self.text, start, quote, b'<');
+        let plain = self.longer_value(quote)?;
+        Ok(RawValue {
+            text: &self.text[start..self.pos],
+            plain,
+        })
+    }
+
+    /// The same, by a longer look. It moves to the end of the value, and answers whether that has no reference and no white
+    /// space but spaces.
+    #[inline(never)]
+    fn longer_value(&mut self, quote: u8) -> Result<bool, Fault>
+        requires ascii { quote < 128 }
+        requires quote { (quote == 39 || quote == 34) ≡ true }
+        ensures value { Reads (λ _. slice_range self.old.text.now self.old.pos self.new.pos) self.new result (spec.raw_value_at quote self.old.text.now self.old.pos) }
+        ensures source { self.new.text ≡ self.old.text }
+        ensures onward { self.old.pos ≤ self.new.pos }
+        ensures plain { IfOk result (λ plain. plain ≡ is_plain_value (slice_range self.old.text.now self.old.pos self.new.pos)) }
+    {
+        let look = value_look(self.text, self.pos, quote);
+        if is_at(self.text, look.end, quote) {
+            self.pos = look.end;
+            return Ok(look.plain);
+        }
+        self.far_value(quote)
+    }
+
+    /// The same of a value with a reference, of one that is not in order, and of one that no quote of its own ends.
+    #[inline(never)]
+    #[tactic(auto, unfolding(rox_reading::specs::Markup::raw_value_at))]
+    fn far_value(&mut self, quote: u8) -> Result<bool, Fault>
+        requires ascii { quote < 128 }
+        ensures value { Reads (λ _. slice_range self.old.text.now self.old.pos self.new.pos) self.new result (spec.raw_value_at quote self.old.text.now self.old.pos) }
+        ensures source { self.new.text ≡ self.old.text }
+        ensures onward { self.old.pos ≤ self.new.pos }
+        ensures plain { IfOk result (λ plain. plain ≡ is_plain_value (slice_range self.old.text.now self.old.pos self.new.pos)) }
+    {
+        let end = either_from(self.text, self.pos, quote, b'<');
         if end >= self.text.len() {
             return Err(Fault::UnexpectedEndOfStream);
         }
         let text = self.chars_up_to(end)?;
-        Ok(RawValue { text, plain: false })
+        Ok(is_plain_value(text.as_bytes()))
     }
 
     /// An attribute as it is written: a name, `=`, and a value in quotes (XML 1.0 [41] Attribute). A `<` in the value is a

@@ -58,13 +58,13 @@ far_run-returns-in_err-raw-clause-value t c = λ limit end es s declared h.
     let p = err_from_is_err_and c.from_residual.result c.from_residual.ensures.1 in
     rw (p.1, p.2) (run_fails (how_of limit es c.args.how) c.args.cursor.now.text.now s c.args.cursor.now.pos c.in_err-raw.field-0.0 h.here c.in_err-raw.ensures.value)
 
-pub far_run-returns-then-is_plain-clause-value : goal.far_run-returns-then-is_plain-clause-value
-far_run-returns-then-is_plain-clause-value t c = λ limit end es s declared h.
+pub far_run-returns-then-raw-clause-value : goal.far_run-returns-then-raw-clause-value
+far_run-returns-then-raw-clause-value t c = λ limit end es s declared h.
     let src = c.args.cursor.now.text.now in
     let b = c.args.builder.now in
-    let raw = c.in_ok-raw.raw.now in
+    let raw = c.in_ok-raw.raw.text.now in
     let j = c.raw_run.new.cursor.pos in
-    let plain : is_plain raw ≡ true = ap is_plain (sym c.as_bytes.ensures.value) ∙ sym c.is_plain.ensures ∙ c.if-is_plain.true in
+    let plain : is_plain raw ≡ true = sym c.in_ok-raw.ensures.plain ∙ c.if-raw.true in
     let text : RunText = record { value = raw; plain = true } in
     rw (plain_run (how_of limit es c.args.how) src s c.args.cursor.now.pos j raw h.here c.in_ok-raw.ensures.value plain)
     (text_stepped limit end s c.args.cursor.now c.raw_run.new.cursor b c.slice_piece.new.self (Ok c.in_ok-slice_piece.field-0) text h c.slice_piece.ensures.tables c.slice_piece.ensures.limit c.slice_piece.ensures.left
@@ -74,9 +74,9 @@ pub far_run-returns-in_err-slice_piece-clause-value : goal.far_run-returns-in_er
 far_run-returns-in_err-slice_piece-clause-value t c = λ limit end es s declared h.
     let src = c.args.cursor.now.text.now in
     let b = c.args.builder.now in
-    let raw = c.in_ok-raw.raw.now in
+    let raw = c.in_ok-raw.raw.text.now in
     let j = c.raw_run.new.cursor.pos in
-    let plain : is_plain raw ≡ true = ap is_plain (sym c.as_bytes.ensures.value) ∙ sym c.is_plain.ensures ∙ c.if-is_plain.true in
+    let plain : is_plain raw ≡ true = sym c.in_ok-raw.ensures.plain ∙ c.if-raw.true in
     let text : RunText = record { value = raw; plain = true } in
     let p = err_from_is_err_and c.from_residual-in_err-slice_piece.result c.from_residual-in_err-slice_piece.ensures.1 in
     rw (p.1, p.2, plain_run (how_of limit es c.args.how) src s c.args.cursor.now.pos j raw h.here c.in_ok-raw.ensures.value plain)
@@ -87,10 +87,10 @@ far_run-returns-in_err-slice_piece-clause-value t c = λ limit end es s declared
 pub far_run-returns-clause-value : goal.far_run-returns-clause-value
 far_run-returns-clause-value t c = λ limit end es s declared h.
     let src = c.args.cursor.now.text.now in
-    let raw = c.in_ok-raw.raw.now in
+    let raw = c.in_ok-raw.raw.text.now in
     let j = c.raw_run.new.cursor.pos in
     let same = ap (λ t. t.now) c.in_ok-raw.ensures.source in
-    let other : is_plain raw ≡ false = ap is_plain (sym c.as_bytes.ensures.value) ∙ sym c.is_plain.ensures ∙ c.if-is_plain.false in
+    let other : is_plain raw ≡ false = sym c.in_ok-raw.ensures.plain ∙ c.if-raw.false in
     rw (parted_run (how_of limit es c.args.how) src s c.args.cursor.now.pos j raw h.here c.in_ok-raw.ensures.value other, ← same)
     (c.run_parts.ensures.value limit end es s declared (record { here = h.here; limit_is = h.limit_is; shows = h.shows; names = h.names; attributes = h.attributes; left_is = h.left_is }))
 

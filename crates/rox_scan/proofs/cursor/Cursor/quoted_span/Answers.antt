@@ -1,4 +1,3 @@
-use Rattle.std.proofs.Common.{ap, ◌∙◌}
 use Rattle.rox_scan.proofs.QuoteLemmas.{quote_next}
 use Rattle.rox_scan.proofs.cursor.Cursor.quoted_span.Goals as goal
 

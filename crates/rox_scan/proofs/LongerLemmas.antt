@@ -1,0 +1,282 @@
+-- What longer looks tell of a text, step by step.
+use Rattle.std.proofs.Common.{◌≡◌, ◌≢◌, ◌++◌, append_assoc, ℕ, suc, ◌+◌, ◌-◌, ◌<◌, ◌≤◌, ◌==◌, ◌||◌, ◌&&◌, leb, Bool, true, false, not, List, ◌∷◌, Ok, length, length-drop, get_or-drop, get_or, drop, slice_range, refl, sym, ap, ◌∙◌, arith, inl, inr}
+use Rattle.std.specs.List.{list_any, starts_with}
+use Rattle.std.specs.Str.{IsUtf8, IsCharBoundary}
+use Rattle.std.proofs.lemmas.Bool.{cases_eq, cases_lt, eqb-true, le-leb, leb-true, le-ltb, lt-leb, ne_eqb, eq-eqb, false≢true}
+use Rattle.std.proofs.lemmas.Bool.Decides.{nat_tests, Decides-eqb}
+use Rattle.std.proofs.lemmas.Slice.Eq.{starts_is}
+use Rattle.std.proofs.lemmas.List.{drop_more, get_or_past, get_or-take, drop-drop, take-append-drop, drop-append-le}
+use Rattle.std.proofs.lemmas.List.Folds.{list_any-append}
+use Rattle.rox_grammar.specs.Chars.{is_plain}
+use Rattle.rox_grammar.specs.Constructs.{AreChars, has_mark, double_dash}
+use Rattle.rox_grammar.specs.Marks.{byte_from, mark_from, stands}
+use Rattle.rox_grammar.specs.declared.fault.Word.TheVariants as word
+use Rattle.rox_grammar.specs.Words.{word_text}
+use Rattle.rox_reading.specs.Lexical.{chars_up_to, text_to, string_at}
+use Rattle.rox_reading.specs.Markup.{raw_value_at, comment_at}
+use Rattle.rox_scan.specs.Near.{AllPass, is_value_byte, is_text_byte, is_comment_byte}
+use Rattle.rox_scan.specs.Longer.{Looked, ends_value, changes_value, ends_run, changes_run, ends_comment, changes_comment}
+use Rattle.rox_scan.proofs.NearLemmas.{near_chars, near_found, none_among, value_is_plain, value_cut, text_is_plain, text_cut, comment_is_plain, comment_cut}
+use Rattle.rox_scan.proofs.MarkLemmas.{before_mark_is, not_from_first, fails, stands_split, stands_from_split}
+use Rattle.rox_scan.proofs.CharLemmas.{chars_joined, range_parts, range_length}
+
+or_false : (b : Bool) → (b || false) ≡ b
+or_false true = refl
+or_false false = refl
+
+and_true : (b : Bool) → (b && true) ≡ b
+and_true true = refl
+and_true false = refl
+
+not_either : (a b : Bool) → not (a || b) ≡ (not a && not b)
+not_either true b = refl
+not_either false b = refl
+
+not_true : (b : Bool) → not b ≡ true → b ≡ false
+not_true true h = cc h
+not_true false h = refl
+
+or_left : (a b : Bool) → (a || b) ≡ false → a ≡ false
+or_left true b h = cc h
+or_left false b h = refl
+
+or_more : (a b : Bool) → (a || b) ≡ false → b ≡ false
+or_more true b h = cc h
+or_more false b h = h
+
+-- a text that does not begin with the mark has no front that does
+no_front : (mark front whole rest : List ℕ) → whole ≡ front ++ rest → starts_with ◌==◌ whole mark ≡ false → starts_with ◌==◌ front mark ≡ false
+no_front mark front whole rest split none =
+    fails (starts_with ◌==◌ front mark) (λ h.
+    let begins = (starts_is Decides-eqb front mark true (sym h)).0 refl in
+    let longer = split ∙ ap (λ (l : List ℕ). l ++ rest) begins ∙ append_assoc mark (drop (length mark) front) rest in
+    false≢true (sym none ∙ (starts_is Decides-eqb whole mark _ refl).1 _ longer))
+
+-- what stands behind a place of a slice
+behind : (src : List ℕ) (i e j : ℕ) → j ≤ length (slice_range src i e) → drop (i + j) src ≡ drop j (slice_range src i e) ++ drop (e - i) (drop i src)
+behind src i e j le =
+    sym (drop-drop j i src)
+    ∙ ap (drop j) (sym (take-append-drop (e - i) (drop i src)))
+    ∙ drop-append-le j (slice_range src i e) (drop (e - i) (drop i src)) le
+
+-- the mark does not stand where its first byte does not
+pub apart_from : (mark src : List ℕ) (k : ℕ) → 0 < length mark → get_or src k 0 ≢ get_or mark 0 0 → stands mark src k ≡ false
+unfolding stands
+apart_from mark src k some apart = not_from_first mark src k some apart
+
+-- bytes that the first look passes
+pub near_looked : (p changes ends : ℕ → Bool) (src : List ℕ) (i e : ℕ) → IsUtf8 src → IsCharBoundary src i → i ≤ e → IsCharBoundary src e → AllPass p src i e
+    → ((b : ℕ) → p b ≡ true → is_plain b ≡ true) → ((b : ℕ) → p b ≡ true → changes b ≡ false) → ((k : ℕ) → p (get_or src k 0) ≡ true → ends k ≡ false)
+    → Looked ends changes src i e true
+near_looked p changes ends src i e utf8 start le cut all plain same free = record {
+  onward = le;
+  cut = cut;
+  chars = near_chars p src i e utf8 start le cut all plain;
+  apart = λ k low high. free k (all k low high);
+  plain_is = sym (ap not (none_among p changes src i e (e - i) (omega arith) cut.0 all same));
+}
+
+-- a character
+pub char_looked : (changes ends : ℕ → Bool) (src : List ℕ) (i j : ℕ) → i < j → IsCharBoundary src j → AreChars src i j → ((k : ℕ) → i < k → k < j → 128 ≤ get_or src k 0)
+    → ((b : ℕ) → 128 ≤ b → changes b ≡ false) → ((k : ℕ) → 128 ≤ get_or src k 0 → ends k ≡ false) → ends i ≡ false
+    → Looked ends changes src i j (not (changes (get_or src i 0)))
+char_looked changes ends src i j some cut chars wide same free here =
+    let none : list_any changes (slice_range src (i + 1) j) ≡ false =
+    none_among (λ b. leb 128 b) changes src (i + 1) j (j - (i + 1)) (omega arith) cut.0 (λ k low high. le-leb 128 _ (wide k (omega arith) high)) (λ b h. same b (leb-true 128 b h)) in
+    let first : j - i ≡ suc (j - (i + 1)) = omega arith in
+    record {
+      onward = omega arith;
+      cut = cut;
+      chars = chars;
+      apart = λ k low high. elim (cases_eq k i) [ inl same ↦ rw same here | inr other ↦ free k (wide k (omega arith) high) ];
+      plain_is = rw (first, drop_more src i 0 (omega (arith, cut.0)), none, or_false (changes (get_or src i 0))) refl;
+    }
+
+-- one stretch behind another
+pub looked_on : (changes ends : ℕ → Bool) (src : List ℕ) (i j k : ℕ) (a b : Bool) → IsUtf8 src → IsCharBoundary src i → Looked ends changes src i j a → Looked ends changes src j k b
+    → Looked ends changes src i k (a && b)
+looked_on changes ends src i j k a b utf8 start f g =
+    let parts = range_parts src i j k f.onward g.onward g.cut.0 in
+    record {
+      onward = omega (arith, f.onward, g.onward);
+      cut = g.cut;
+      chars = chars_joined src i j k utf8 start f.cut g.cut f.onward g.onward f.chars g.chars;
+      apart = λ n low high. elim (cases_lt n j) [ inl before ↦ f.apart n low before | inr behind ↦ g.apart n behind high ];
+      plain_is = rw (parts, list_any-append changes (slice_range src i j) (slice_range src j k), f.plain_is, g.plain_is) (sym (not_either (list_any changes (slice_range src i j)) (list_any changes (slice_range src j k))));
+    }
+
+-- ---- values
+
+value_same : (b : ℕ) → is_value_byte b ≡ true → changes_value b ≡ false
+unfolding is_value_byte
+value_same b h = grind (arith, nat_tests)
+
+value_open : (quote b : ℕ) → (quote == 39 || quote == 34) ≡ true → is_value_byte b ≡ true → (b == quote || b == 60) ≡ false
+unfolding is_value_byte
+value_open quote b q h = grind (arith, nat_tests)
+
+wide_same : (b : ℕ) → 128 ≤ b → changes_value b ≡ false
+wide_same b wide = grind (arith, nat_tests)
+
+wide_open : (quote b : ℕ) → (quote == 39 || quote == 34) ≡ true → 128 ≤ b → (b == quote || b == 60) ≡ false
+wide_open quote b q wide = grind (arith, nat_tests)
+
+-- the bytes of a value from i on that the first look passes
+pub value_near : (src : List ℕ) (quote i e : ℕ) → IsUtf8 src → (quote == 39 || quote == 34) ≡ true → IsCharBoundary src i → i ≤ e → e ≤ length src → AllPass is_value_byte src i e → (e < length src → is_value_byte (get_or src e 0) ≡ false)
+    → Looked (ends_value quote src) changes_value src i e true
+value_near src quote i e utf8 q start le within all stops =
+    near_looked is_value_byte changes_value (ends_value quote src) src i e utf8 start le (value_cut src e within stops) all value_is_plain value_same (λ k h. value_open quote _ q h)
+
+-- and a character behind them, and the bytes behind that
+pub value_on : (src : List ℕ) (quote i j n e : ℕ) (plain : Bool) → IsUtf8 src → (quote == 39 || quote == 34) ≡ true → IsCharBoundary src i → Looked (ends_value quote src) changes_value src i j plain
+    → j < n → IsCharBoundary src n → AreChars src j n → ((k : ℕ) → j < k → k < n → 128 ≤ get_or src k 0) → ends_value quote src j ≡ false
+    → n ≤ e → e ≤ length src → AllPass is_value_byte src n e → (e < length src → is_value_byte (get_or src e 0) ≡ false)
+    → Looked (ends_value quote src) changes_value src i e (plain && not (changes_value (get_or src j 0)))
+value_on src quote i j n e plain utf8 q start f some cut chars wide here le within all stops =
+    let ends = ends_value quote src in
+    let one = char_looked changes_value ends src j n some cut chars wide wide_same (λ k h. wide_open quote _ q h) here in
+    let two = looked_on changes_value ends src i j n plain _ utf8 start f one in
+    let three = looked_on changes_value ends src i n e _ true utf8 start two (value_near src quote n e utf8 q cut le within all stops) in
+    rw (and_true (plain && not (changes_value (get_or src j 0)))) at three
+
+not_zero : (quote : ℕ) → (quote == 39 || quote == 34) ≡ true → 0 < quote
+not_zero quote q = grind (arith, nat_tests)
+
+either_first : (q : ℕ) → (q == q || q == 60) ≡ true
+either_first q = grind (arith, nat_tests)
+
+-- what a value is read as whose quote stands behind it
+pub looked_value : (src : List ℕ) (quote i e : ℕ) (plain : Bool) → (quote == 39 || quote == 34) ≡ true → Looked (ends_value quote src) changes_value src i e plain → (get_or src e 0 == quote) ≡ true
+    → raw_value_at quote src i ≡ Ok (slice_range src i e, e)
+unfolding raw_value_at chars_up_to
+looked_value src quote i e plain q f here =
+    let at : get_or src e 0 ≡ quote = eqb-true _ _ here in
+    let within : e < length src = elim (cases_lt e (length src)) [ inl more ↦ more | inr past ↦ absurd (omega (arith, at, get_or_past src e 0 past, not_zero quote q)) ] in
+    let found = near_found (λ b. not (b == quote || b == 60)) (λ c. c == quote || c == 60) src i e f.onward f.cut.0 (λ k low high. ap not (f.apart k low high)) (λ b h. not_true (b == quote || b == 60) h) (λ more. rw at (either_first quote)) in
+    rw (found, lt-leb (length src) e within, f.chars, le-ltb e e (omega arith)) refl
+
+-- ---- runs
+
+run_same : (b : ℕ) → is_text_byte b ≡ true → changes_run b ≡ false
+unfolding is_text_byte
+run_same b h = grind (arith, nat_tests)
+
+text_no_tag : (b : ℕ) → is_text_byte b ≡ true → (b == 60) ≡ false
+unfolding is_text_byte
+text_no_tag b h = grind (arith, nat_tests)
+
+text_no_bracket : (b : ℕ) → is_text_byte b ≡ true → b ≢ 93
+unfolding is_text_byte
+text_no_bracket b h = grind (arith, nat_tests)
+
+wide_run : (b : ℕ) → 128 ≤ b → changes_run b ≡ false
+wide_run b wide = grind (arith, nat_tests)
+
+-- neither stands where its first byte does not
+no_run_end : (src : List ℕ) (k : ℕ) → (get_or src k 0 == 60) ≡ false → get_or src k 0 ≢ 93 → ends_run src k ≡ false
+no_run_end src k other apart = rw (other, apart_from (word_text word.CDataEnd) src k (omega arith) apart) refl
+
+pub run_near : (src : List ℕ) (i e : ℕ) → IsUtf8 src → IsCharBoundary src i → i ≤ e → e ≤ length src → AllPass is_text_byte src i e → (e < length src → is_text_byte (get_or src e 0) ≡ false)
+    → Looked (ends_run src) changes_run src i e true
+run_near src i e utf8 start le within all stops =
+    near_looked is_text_byte changes_run (ends_run src) src i e utf8 start le (text_cut src e within stops) all text_is_plain run_same (λ k h. no_run_end src k (text_no_tag _ h) (text_no_bracket _ h))
+
+wide_no_run_end : (src : List ℕ) (k : ℕ) → 128 ≤ get_or src k 0 → ends_run src k ≡ false
+wide_no_run_end src k wide = no_run_end src k (ne_eqb (get_or src k 0) 60 (λ h. absurd (omega arith))) (λ h. absurd (omega arith))
+
+pub run_on : (src : List ℕ) (i j n e : ℕ) (plain : Bool) → IsUtf8 src → IsCharBoundary src i → Looked (ends_run src) changes_run src i j plain
+    → j < n → IsCharBoundary src n → AreChars src j n → ((k : ℕ) → j < k → k < n → 128 ≤ get_or src k 0) → ends_run src j ≡ false
+    → n ≤ e → e ≤ length src → AllPass is_text_byte src n e → (e < length src → is_text_byte (get_or src e 0) ≡ false)
+    → Looked (ends_run src) changes_run src i e (plain && not (changes_run (get_or src j 0)))
+run_on src i j n e plain utf8 start f some cut chars wide here le within all stops =
+    let ends = ends_run src in
+    let one = char_looked changes_run ends src j n some cut chars wide wide_run (wide_no_run_end src) here in
+    let two = looked_on changes_run ends src i j n plain _ utf8 start f one in
+    let three = looked_on changes_run ends src i n e _ true utf8 start two (run_near src n e utf8 cut le within all stops) in
+    rw (and_true (plain && not (changes_run (get_or src j 0)))) at three
+
+-- a mark stands in a slice only where it stands in the text
+mark_within : (mark src : List ℕ) (i e : ℕ) → 0 < length mark → e ≤ length src → i ≤ e → ((k : ℕ) → i ≤ k → k < e → stands mark src k ≡ false) → has_mark mark (slice_range src i e) ≡ false
+unfolding stands
+mark_within mark src i e some within le none =
+    let long = range_length src i e le within in
+    let all = before_mark_is mark (slice_range src i e) (length (slice_range src i e)) (omega arith)
+    (λ j below. no_front mark (drop j (slice_range src i e)) (drop (i + j) src) (drop (e - i) (drop i src)) (behind src i e j (omega (arith, long))) (none (i + j) (omega arith) (omega (arith, long))))
+    (λ more. absurd (omega arith)) in
+    rw all (le-ltb (length (slice_range src i e)) (length (slice_range src i e)) (omega arith))
+
+-- what a run is read as whose end stands there
+pub looked_run : (src : List ℕ) (i e : ℕ) (plain : Bool) → Looked (ends_run src) changes_run src i e plain → (e < length src → get_or src e 0 ≡ 60)
+    → (byte_from (λ c. c == 60) src i ≡ e) × (chars_up_to e src i ≡ Ok (slice_range src i e, e)) × (has_mark (word_text word.CDataEnd) (slice_range src i e) ≡ false)
+unfolding chars_up_to
+looked_run src i e plain f here =
+    let found = near_found (λ b. not (b == 60)) (λ c. c == 60) src i e f.onward f.cut.0 (λ k low high. ap not (or_left _ _ (f.apart k low high))) (λ b h. not_true (b == 60) h) (λ more. eq-eqb _ _ (here more)) in
+    let clear : has_mark (word_text word.CDataEnd) (slice_range src i e) ≡ false = mark_within (word_text word.CDataEnd) src i e (omega arith) f.cut.0 f.onward (λ k low high. or_more _ _ (f.apart k low high)) in
+    (found, rw (f.chars, le-ltb e e (omega arith)) refl, clear)
+
+-- ---- comments
+
+comment_no_dash : (b : ℕ) → is_comment_byte b ≡ true → b ≢ 45
+unfolding is_comment_byte
+comment_no_dash b h is = grind (arith, nat_tests)
+
+pub comment_near : (src : List ℕ) (i e : ℕ) → IsUtf8 src → IsCharBoundary src i → i ≤ e → e ≤ length src → AllPass is_comment_byte src i e → (e < length src → is_comment_byte (get_or src e 0) ≡ false)
+    → Looked (ends_comment src) changes_comment src i e true
+comment_near src i e utf8 start le within all stops =
+    near_looked is_comment_byte changes_comment (ends_comment src) src i e utf8 start le (comment_cut src e within stops) all comment_is_plain (λ b h. refl) (λ k h. apart_from double_dash src k (omega arith) (comment_no_dash _ h))
+
+pub comment_on : (src : List ℕ) (i j n e : ℕ) → IsUtf8 src → IsCharBoundary src i → Looked (ends_comment src) changes_comment src i j true
+    → j < n → IsCharBoundary src n → AreChars src j n → ((k : ℕ) → j < k → k < n → 128 ≤ get_or src k 0) → ends_comment src j ≡ false
+    → n ≤ e → e ≤ length src → AllPass is_comment_byte src n e → (e < length src → is_comment_byte (get_or src e 0) ≡ false)
+    → Looked (ends_comment src) changes_comment src i e true
+comment_on src i j n e utf8 start f some cut chars wide here le within all stops =
+    let ends = ends_comment src in
+    let one = char_looked changes_comment ends src j n some cut chars wide (λ b h. refl) (λ k h. apart_from double_dash src k (omega arith) (λ is. absurd (omega arith))) here in
+    let two = looked_on changes_comment ends src i j n true true utf8 start f one in
+    looked_on changes_comment ends src i n e true true utf8 start two (comment_near src n e utf8 cut le within all stops)
+
+-- two dashes begin where `-->` does
+front_dashes : (src : List ℕ) (k : ℕ) → stands (word_text word.CommentEnd) src k ≡ true → stands double_dash src k ≡ true
+front_dashes src k h = stands_from_split double_dash src _ k (stands_split (word_text word.CommentEnd) src k h)
+
+-- the first `-->`
+first_mark : (src : List ℕ) (s e : ℕ) → Looked (ends_comment src) changes_comment src s e true → stands (word_text word.CommentEnd) src e ≡ true → mark_from (word_text word.CommentEnd) src s ≡ e
+unfolding mark_from stands
+first_mark src s e f here =
+    let at : s + (e - s) ≡ e = omega (arith, f.onward) in
+    let long = length-drop s src in
+    let found = before_mark_is (word_text word.CommentEnd) (drop s src) (e - s) (omega (arith, long, f.cut.0))
+    (λ j below. rw (drop-drop j s src) (fails _ (λ h. false≢true (sym (f.apart (s + j) (omega arith) (omega (arith, f.onward))) ∙ front_dashes src (s + j) h))))
+    (λ more. rw (drop-drop (e - s) s src, at) here) in
+    omega (arith, found, f.onward)
+
+read_last : (src : List ℕ) (i e : ℕ) → i ≤ e → e ≤ length src → i < e → get_or (slice_range src i e) (length (slice_range src i e) - 1) 0 ≡ get_or src (e - 1) 0
+read_last src i e le within some =
+    let long = range_length src i e le within in
+    let at : i + (length (slice_range src i e) - 1) ≡ e - 1 = omega (arith, long) in
+    get_or-take (e - i) (drop i src) (length (slice_range src i e) - 1) 0 (omega (arith, long)) ∙ get_or-drop i src (length (slice_range src i e) - 1) 0 ∙ ap (λ (n : ℕ). get_or src n 0) at
+
+-- a dash and `-->` begin with two dashes
+two_dashes : (src : List ℕ) (k e : ℕ) → e ≡ k + 1 → get_or src k 0 ≡ 45 → stands (word_text word.CommentEnd) src e ≡ true → stands double_dash src k ≡ true
+two_dashes src k e next first closes =
+    let within : k < length src = elim (cases_lt k (length src)) [ inl more ↦ more | inr past ↦ absurd (omega (arith, first, get_or_past src k 0 past)) ] in
+    let rest : drop (k + 1) src ≡ word_text word.CommentEnd ++ drop 3 (drop (k + 1) src) = rw next at (stands_split (word_text word.CommentEnd) src e closes) in
+    stands_from_split double_dash src (45 ∷ 62 ∷ drop 3 (drop (k + 1) src)) k (drop_more src k 0 within ∙ ap (λ (b : ℕ). b ∷ drop (k + 1) src) first ∙ ap (λ (l : List ℕ). 45 ∷ l) rest)
+
+-- no dash is the last of a text that two dashes stand behind, none of which begin in it
+no_last : (src : List ℕ) (i e : ℕ) → Looked (ends_comment src) changes_comment src i e true → stands (word_text word.CommentEnd) src e ≡ true → (get_or (slice_range src i e) (length (slice_range src i e) - 1) 0 == 45) ≡ false
+no_last src i e f closes =
+    let text = slice_range src i e in
+    let long = range_length src i e f.onward f.cut.0 in
+    elim (cases_lt 0 (length text)) [
+      | inl some ↦ ne_eqb _ 45 (λ h. absurd (false≢true (sym (f.apart (e - 1) (omega (arith, long, f.onward)) (omega (arith, long))) ∙ two_dashes src (e - 1) e (omega (arith, long)) (sym (read_last src i e f.onward f.cut.0 (omega (arith, long))) ∙ h) closes)))
+      | inr empty ↦ ne_eqb _ 45 (λ h. absurd (omega (arith, h, get_or_past text (length text - 1) 0 (omega arith))))
+    ]
+
+-- what a comment is read as whose end stands behind it
+pub looked_comment : (src : List ℕ) (i s e : ℕ) → s ≡ i + 4 → Looked (ends_comment src) changes_comment src s e true → stands (word_text word.CommentEnd) src e ≡ true → comment_at src i ≡ Ok (slice_range src s e, e + 3)
+unfolding comment_at text_to chars_up_to string_at
+looked_comment src i s e start f here =
+    let end = first_mark src s e f here in
+    let clear = mark_within double_dash src s e (omega arith) f.cut.0 f.onward (λ k low high. f.apart k low high) in
+    rw (← start, end, f.chars, le-ltb e e (omega arith), here, clear, no_last src s e f here) refl

@@ -1,0 +1,149 @@
+//! A longer look at a value, a run or a comment, where the first look stops at a byte that may be in order: a reference, white
+//! space, the other quote, a bracket, a dash, or a character that begins with 239.
+
+ghost use Rattle.std.specs.Prelude.{◌≡◌, ◌==◌, ◌||◌, ◌+◌, ◌<◌, ◌≤◌, ℕ, true, length, slice_index};
+ghost use Rattle.std.specs.Str.{IsCharBoundary};
+ghost use Rattle.rox_grammar.specs.Constructs.{AreChars};
+ghost use Rattle.rox_grammar.specs.Marks.{stands};
+ghost use Rattle.rox_grammar.specs.Content as content;
+ghost use Rattle.rox_scan.specs.Longer as longer;
+ghost use Rattle.rox_scan.specs.Longer.{Looked};
+
+use crate::near::{CommentByte, TextByte, ValueByte, near_end};
+use crate::runs::{Class, XmlChar, char_at};
+
+/// What a longer look tells: up to `end` all is in order, and whether it stands for itself.
+#[derive(Clone, Copy, Debug)]
+pub struct Look {
+    pub end: usize,
+    pub plain: bool,
+}
+
+/// The place behind the Char that begins at `at`, or `at` where a character begins that is none.
+#[inline(always)]
+fn after_char(text: &str, at: usize) -> usize
+    requires cut { IsCharBoundary text.now at }
+    requires within { at < length text.now }
+    ensures onward { at ≤ result }
+    ensures chars { AreChars text.now at result }
+    ensures cut { IsCharBoundary text.now result }
+    ensures wide { (k : ℕ) → at < k → k < result → 128 ≤ slice_index text.now k }
+{
+    let here = text.as_bytes()[at];
+    if here < 128 {
+        return if XmlChar::has_byte(here) { at + 1 } else { at };
+    }
+    let c = char_at(text, at);
+    if XmlChar::has(c) {
+        at + c.len_utf8()
+    } else {
+        at
+    }
+}
+
+/// Whether the mark stands at `at`. Where its first byte does not, no other is looked at.
+#[inline(always)]
+#[tactic(auto, using(crate::proofs::LongerLemmas::apart_from), unfolding(rox_grammar::specs::Marks::stands))]
+fn is_mark_at(text: &str, at: usize, mark: &[u8]) -> bool
+    requires within { at < length text.now }
+    requires some { 0 < length mark.now }
+    ensures { result ≡ stands mark.now text.now at }
+{
+    let bytes = text.as_bytes();
+    bytes[at] == mark[0] && bytes[at..].starts_with(mark)
+}
+
+/// `&`, or white space that is no space.
+#[inline(always)]
+fn changes_value(byte: u8) -> bool
+    ensures { result ≡ longer.changes_value byte }
+{
+    (byte == b'&') | ((byte == b'\t') | ((byte == b'\n') | (byte == b'\r')))
+}
+
+/// A value as far as it is in order, up to its quote, a `<` or a `&`: where there is one reference there are often many, and a search
+/// for the quote is quicker then.
+pub fn value_look(text: &str, at: usize, quote: u8) -> Look
+    requires cut { IsCharBoundary text.now at }
+    requires quote { (quote == 39 || quote == 34) ≡ true }
+    ensures { Looked (longer.ends_value quote text.now) longer.changes_value text.now at result.end result.plain }
+{
+    let bytes = text.as_bytes();
+    let mut plain = true;
+    let mut end = near_end::<ValueByte>(text, at);
+    while end < bytes.len() {
+        let here = bytes[end];
+        if here == quote || here == b'<' || here == b'&' {
+            break;
+        }
+        let next = after_char(text, end);
+        if next == end {
+            break;
+        }
+        plain &= !changes_value(here);
+        end = near_end::<ValueByte>(text, next);
+    }
+    Look { end, plain }
+}
+
+/// `&` or a carriage return.
+#[inline(always)]
+fn changes_run(byte: u8) -> bool
+    ensures { result ≡ longer.changes_run byte }
+{
+    (byte == b'&') | (byte == b'\r')
+}
+
+/// A run of character data as far as it is in order, up to a `<`, a `]]>` or the end.
+pub fn run_look(text: &str, at: usize) -> Look
+    requires { IsCharBoundary text.now at }
+    ensures { Looked (longer.ends_run text.now) longer.changes_run text.now at result.end result.plain }
+{
+    let bytes = text.as_bytes();
+    let mut plain = true;
+    let mut end = near_end::<TextByte>(text, at);
+    while end < bytes.len() {
+        let here = bytes[end];
+        if here == b'<' || is_mark_at(text, end, b"]]>") {
+            break;
+        }
+        let next = after_char(text, end);
+        if next == end {
+            break;
+        }
+        plain &= !changes_run(here);
+        end = near_end::<TextByte>(text, next);
+    }
+    Look { end, plain }
+}
+
+/// A comment as far as it is in order, up to two dashes or the end.
+pub fn comment_end(text: &str, at: usize) -> usize
+    requires { IsCharBoundary text.now at }
+    ensures { Looked (longer.ends_comment text.now) longer.changes_comment text.now at result true }
+{
+    let bytes = text.as_bytes();
+    let mut end = near_end::<CommentByte>(text, at);
+    while end < bytes.len() {
+        if is_mark_at(text, end, b"--") {
+            break;
+        }
+        let next = after_char(text, end);
+        if next == end {
+            break;
+        }
+        end = near_end::<CommentByte>(text, next);
+    }
+    end
+}
+
+/// Whether a value has no `&` and no white space but spaces.
+pub fn is_plain_value(bytes: &[u8]) -> bool
+    ensures { result ≡ content.is_plain_value bytes.now }
+{
+    let mut plain = true;
+    for byte in bytes {
+        plain &= !changes_value(*byte);
+    }
+    plain
+}
