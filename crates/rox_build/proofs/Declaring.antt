@@ -1,7 +1,7 @@
 -- A declaration of a start tag, step by step.
-use Rattle.std.proofs.Common.{◌≡◌, ℕ, map, ◌+◌, ◌<◌, ◌≤◌, ◌||◌, not, Bool, true, false, List, [], ◌∷◌, ◌++◌, length, drop, refl, sym, ap, ◌∙◌, arith, Result, Ok, Err, length-append, append_assoc, le-ltb, lt-ltb}
+use Rattle.std.proofs.Common.{◌≡◌, ℕ, zero, suc, ◌-◌, take, subst, map, ◌+◌, ◌<◌, ◌≤◌, ◌||◌, not, Bool, true, false, List, [], ◌∷◌, ◌++◌, length, drop, refl, sym, ap, ◌∙◌, arith, Result, Ok, Err, length-append, append_assoc, le-ltb, lt-ltb}
 use Rattle.std.specs.List.{slice_range}
-use Rattle.std.proofs.lemmas.List.{append-nil, map-append, length-map}
+use Rattle.std.proofs.lemmas.List.{append-nil, map-append, length-map, drop-append-le}
 use Rattle.std.proofs.lemmas.List.Elements.{filter-append}
 use Rattle.std.proofs.lemmas.List.Folds.{list_any-append}
 use Rattle.rox_grammar.specs.declared.fault.Fault.{Fault}
@@ -20,10 +20,17 @@ use Rattle.rox_build.specs.Lines.{declaration, entry}
 use Rattle.rox_build.specs.Prefixes.{Remembers}
 use Rattle.rox_build.specs.Scopes.{entries, others, ArePlaces}
 use Rattle.rox_build.specs.Tags.{declares_xml, Declares, Declared}
+use Rattle.std.proofs.Math.ListN.{drop_of_length-le}
+use Rattle.rox_build.specs.declared.tables.Scope.{Scope}
+use Rattle.rox_build.specs.declared.tables.ElementTables.{ElementTables}
+use Rattle.rox_build.specs.Tagged.{KeepsPlaces}
+use Rattle.rox_build.specs.Present.{Keeps, IsEntered}
+use Rattle.rox_build.specs.declared.present.Present.{Present}
+use Rattle.rox_build.proofs.Presenting.{keeps_grown}
 use Rattle.rox_build.proofs.Remembering.{Key, remembers_same}
 use Rattle.rox_build.proofs.Listing.{with_new-append, with_new-more, with_new-front, declares_nothing, listed-none, listed-others}
 use Rattle.rox_build.proofs.Inherits.{slice-rest}
-use Rattle.rox_build.proofs.Stable.{all_append, all_drop, all_weaker, map_same, entry-append}
+use Rattle.rox_build.proofs.Stable.{slice-append, all_append, all_drop, all_weaker, map_same, entry-append}
 
 -- the URI is refused
 pub uri_refused : (known : List Declaration) (a : Attribute) (h : Held) (f : Fault) → uri_tested a ≡ Err f → declared known a h ≡ Err f
@@ -205,3 +212,70 @@ remembers_after old rows listed d own keys grown ok h =
     let stays : entries (map declaration rows) (drop own listed) ≡ entries names (drop own listed) =
     ap (λ ns. entries ns (drop own listed)) (grown ∙ front.1) ∙ map_same (entry (names ++ front.0)) (entry names) (λ i. i < length names) (drop own listed) (entry-append names front.0) mine in
     remembers_same names (map declaration rows) (drop own listed) keys stays h
+
+-- the places of prefixes, where the table has a pair more and one more is listed
+pub kept_after : (old rows : List Namespace) (listed after : List ℕ) (d : Declaration) (place : ℕ) (x : Present) → map declaration rows ≡ with_new (map declaration old) (d ∷ [])
+    → after ≡ listed ++ place ∷ [] → ArePlaces (length old) listed → Keeps (map declaration old) listed x → Keeps (map declaration rows) after x
+kept_after old rows listed after d place x grown push ok h =
+    let front = with_new-front (map declaration old) (d ∷ []) in
+    keeps_grown (map declaration old) (map declaration rows) listed after x front.0 (place ∷ []) (grown ∙ front.1) push (rw (length-map old declaration) ok) h
+
+-- ---- the scope that a tag enters
+
+others_none : (ds : List Declaration) → ds ≡ others [] false ds
+others_none [] = refl
+others_none (d ∷ ds) = ap (λ xs. d ∷ xs) (others_none ds)
+
+-- that of its parent, where it declares nothing
+pub enters_above : (names : List Declaration) (listed : List ℕ) (own : ℕ) (xml : Bool) (above : Scope) → length listed ≤ own → xml ≡ false → above.from ≤ above.until → above.until ≤ length listed
+    → IsEntered names listed (drop own listed) (slice_range listed above.from above.until) xml above above
+enters_above names listed own xml above none off ordered within =
+    let scope = entries names (slice_range listed above.from above.until) in
+    let empty : drop own listed ≡ [] = drop_of_length-le listed none in
+    record {
+      is = refl;
+      ordered = ordered;
+      within = within;
+      lists = rw (empty, off) (others_none scope);
+    }
+
+-- its own
+pub enters_own : (names seen : List Declaration) (old new more : List ℕ) (own end : ℕ) (xml : Bool) (above : Scope) → seen ≡ names → own ≤ length old → above.from ≤ above.until → above.until ≤ own → end ≡ length new
+    → new ≡ old ++ more → entries seen more ≡ others (entries seen (drop own old)) xml (entries seen (slice_range old above.from above.until))
+    → IsEntered names new (drop own old) (slice_range new own end) xml above (record { from = own; until = end })
+enters_own names seen old new more own end xml above s here ordered below e grown inherits =
+    let n : length new ≡ length old + length more = ap length grown ∙ length-append old more in
+    let rest : slice_range new own end ≡ drop own old ++ more =
+    ap (slice_range new own) e ∙ slice-rest new own ∙ ap (drop own) grown ∙ drop-append-le own old more here in
+    let stays : slice_range old above.from above.until ≡ slice_range new above.from above.until =
+    sym (ap (λ xs. slice_range xs above.from above.until) grown ∙ slice-append old more above.from above.until ordered (omega arith)) in
+    let gets : entries names more ≡ others (entries names (drop own old)) xml (entries names (slice_range new above.from above.until)) =
+    rw s at inherits ∙ ap (λ xs. others (entries names (drop own old)) xml (entries names xs)) stays in
+    record {
+      is = refl;
+      ordered = omega arith;
+      within = omega arith;
+      lists = ap (entries names) rest ∙ map-append (entry names) (drop own old) more ∙ ap (λ xs. entries names (drop own old) ++ xs) gets;
+    }
+
+-- what is listed behind others
+pub own_slice : (old new seen more : List ℕ) (own end : ℕ) → own ≤ length old → end ≡ length old → seen ≡ new → new ≡ old ++ more → drop own old ≡ slice_range seen own end
+own_slice old new seen more own end here e is grown =
+    sym (ap (λ xs. slice_range xs own end) (is ∙ grown) ∙ ap (slice_range (old ++ more) own) e ∙ slice-append old more own (length old) here (omega arith) ∙ slice-rest old own)
+
+pub slice_short : (xs : List ℕ) (i j n : ℕ) → j ≤ i + n → length (slice_range xs i j) ≤ n
+slice_short xs i j n le = let t = take_short (j - i) (drop i xs) in omega arith
+  where
+    take_short : (n : ℕ) (xs : List ℕ) → length (take n xs) ≤ n
+    take_short zero xs = omega arith
+    take_short (suc n) [] = omega arith
+    take_short (suc n) (x ∷ xs) = let t = take_short n xs in omega arith
+
+-- the places of prefixes, where more is listed
+pub kept_listed : (a b : ElementTables) → b.namespaces ≡ a.namespaces → b.present ≡ a.present → (more : List ℕ) × (b.listed.items ≡ a.listed.items ++ more)
+    → ArePlaces (length a.namespaces.items.items) a.listed.items → KeepsPlaces a → KeepsPlaces b
+kept_listed a b n p (more, l) ok h =
+    let names = map declaration a.namespaces.items.items in
+    let next = map declaration b.namespaces.items.items in
+    let same : next ≡ names ++ [] = ap (λ v. map declaration v.items.items) n ∙ sym (append-nil names) in
+    keeps_grown names next a.listed.items b.listed.items b.present [] more same l (rw (length-map a.namespaces.items.items declaration) ok) (subst (Keeps names a.listed.items) (sym p) h)

@@ -31,6 +31,7 @@ pub mod Looping
 pub mod Wholes
 pub mod Seeing
 pub mod Remembering
+pub mod Presenting
 pub mod Asking
 pub mod Items
 pub mod Rooted

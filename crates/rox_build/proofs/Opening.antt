@@ -98,13 +98,14 @@ fine_by old new t above tag os h f =
     record {
       sound = sound_by old new t above tag h f.sound;
       elements = grown_elements old new os (grown_by old new t above tag h) f.elements;
+      kept = h.kept;
       few_names = h.few;
       few_attributes = h.element.few;
     }
 
 pub fine_opened : (t : ElementTables) (os qs : List OpenElement) (x : OpenElement) → Fine t os → qs ≡ os ++ x ∷ [] → (x.scope.from ≤ x.scope.until) × (x.scope.until ≤ length t.listed.items) → Fine t qs
 fine_opened t os qs x f is within =
-    record { sound = f.sound; elements = rw is (all_append (IsOpenWithin t) os (x ∷ []) f.elements (within, tt)); few_names = f.few_names; few_attributes = f.few_attributes }
+    record { sound = f.sound; elements = rw is (all_append (IsOpenWithin t) os (x ∷ []) f.elements (within, tt)); kept = f.kept; few_names = f.few_names; few_attributes = f.few_attributes }
 
 -- the counts after a tag
 pub names_by : (old new : ElementTables) (t : StartTag) (above : List Declaration) (tag : Tag) (ps : List Declaration) → Tagged old new t above tag → names_in old ≡ distinct_pairs ps → names_in new ≡ distinct_pairs (ps ++ listable tag)

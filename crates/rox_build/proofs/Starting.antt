@@ -25,7 +25,7 @@ use Rattle.rox_build.specs.declared.tag.StartTag.{StartTag}
 use Rattle.rox_build.specs.Lines.{declaration, entry, rows_of}
 use Rattle.rox_build.specs.Scopes.{ArePlaces}
 use Rattle.rox_build.specs.Tags.{taken_view, Holding}
-use Rattle.rox_build.specs.Tagged.{IsElement, Tagged, scope_in_tables}
+use Rattle.rox_build.specs.Tagged.{IsElement, Tagged, KeepsPlaces, scope_in_tables}
 use Rattle.rox_build.proofs.Listing.{with_new-front}
 use Rattle.rox_build.proofs.Stable.{all_slice, slice-append, map_same, entry-append}
 
@@ -82,8 +82,8 @@ pub tagged : (o a s e : ElementTables) (t : StartTag) (above : List Declaration)
     → Holding (map declaration o.namespaces.items.items) o.listed.items (map declaration a.namespaces.items.items) a.listed.items xml taken h → length a.namespaces.items.items ≤ most_pairs
     → s.namespaces ≡ a.namespaces → s.attributes ≡ a.attributes → (more : List ℕ) × (s.listed.items ≡ a.listed.items ++ more) → ArePlaces (length s.namespaces.items.items) s.listed.items
     → scope_in_tables s scope ≡ listed above h.own → e.namespaces ≡ s.namespaces → e.listed ≡ s.listed → IsElement s e t.element (scope_in_tables s scope) name (map taken_view taken)
-    → Tagged o e t above (record { name = name; name_end = n; declarations = h.own; attributes = h.attributes })
-tagged o a s e t above name n h xml taken scope is ends same hold few names attributes (more, listed_is) places lists names' listed' k =
+    → KeepsPlaces s → e.present ≡ s.present → Tagged o e t above (record { name = name; name_end = n; declarations = h.own; attributes = h.attributes })
+tagged o a s e t above name n h xml taken scope is ends same hold few names attributes (more, listed_is) places lists names' listed' k known present' =
     let d = hold.declares in
     let kept = attributes ∙ same in
     record {
@@ -94,6 +94,7 @@ tagged o a s e t above name n h xml taken scope is ends same hold few names attr
       more = d.mine ++ more;
       listed_more = ap (λ v. v.items) listed' ∙ listed_is ∙ ap (λ xs. xs ++ more) d.listed_are ∙ append_assoc o.listed.items d.mine more;
       places = rw (names', listed') places;
+      kept = rw (names', listed', present') known;
       element = record {
         attributes = record {
           more = k.attributes.more;

@@ -16,6 +16,7 @@ pub mod Resolved
 pub mod Index
 pub mod Seen
 pub mod Prefixes
+pub mod Present
 pub mod Asking
 pub mod Built
 pub mod Wholes

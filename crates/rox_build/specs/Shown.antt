@@ -21,6 +21,7 @@ use Rattle.rox_build.specs.Values.{next_view}
 use Rattle.rox_build.specs.declared.refused.Refused.{Refused}
 use Rattle.rox_build.specs.Scopes.{entries}
 use Rattle.rox_build.specs.SoFar.{top, so_far}
+use Rattle.rox_build.specs.Tagged.{KeepsPlaces}
 use Rattle.rox_build.specs.declared.tables.NodeKind.{NodeKind}
 use Rattle.rox_build.specs.declared.tables.NodeData.{NodeData}
 use Rattle.rox_build.specs.declared.tables.ElementTables.{ElementTables}
@@ -131,6 +132,7 @@ IsOpenWithin t o = (o.scope.from ≤ o.scope.until) × (o.scope.until ≤ length
 pub record Fine (t : ElementTables) (opened : List OpenElement) : Type 0 where
   pub sound : AreSound t
   pub elements : AllByRecursion (IsOpenWithin t) opened
+  pub kept : KeepsPlaces t
   pub few_names : length t.namespaces.items.items ≤ most_pairs
   pub few_attributes : length (rows_of t.attributes) ≤ most_attributes
 

@@ -13,6 +13,7 @@ use Rattle.rox_build.specs.Refusing.{Refuses}
 use Rattle.rox_build.specs.declared.refused.Refused.{Refused}
 use Rattle.rox_build.specs.Lines.{declaration, attribute, entry, NamespaceWithin, OptionWithin, AttributeRow, rows_of}
 use Rattle.rox_build.specs.Scopes.{entries, ArePlaces}
+use Rattle.rox_build.specs.Present.{Keeps}
 use Rattle.rox_build.specs.declared.tables.ElementData.{ElementData}
 use Rattle.rox_build.specs.declared.tables.ElementTables.{ElementTables}
 use Rattle.rox_build.specs.declared.tables.Scope.{Scope}
@@ -37,6 +38,10 @@ pub record IsElement (old new : ElementTables) (e : ElementData) (scope : List D
   pub listed_within : (e.namespaces_from ≤ e.namespaces_until) × (e.namespaces_until ≤ length new.listed.items)
   pub lists : entries (map declaration new.namespaces.items.items) (slice_range new.listed.items e.namespaces_from e.namespaces_until) ≡ scope
 
+-- the places of prefixes are those of scopes in these tables
+abbrev pub KeepsPlaces : ElementTables → Type 0
+KeepsPlaces t = Keeps (map declaration t.namespaces.items.items) t.listed.items t.present
+
 -- The tables have grown by a tag below an element that lists these.
 pub record Tagged (old new : ElementTables) (t : StartTag) (above : List Declaration) (tag : Tag) : Type 0 where
   pub name : name_view t.name ≡ tag.name
@@ -46,6 +51,7 @@ pub record Tagged (old new : ElementTables) (t : StartTag) (above : List Declara
   pub more : List ℕ
   pub listed_more : new.listed.items ≡ old.listed.items ++ more
   pub places : ArePlaces (length new.namespaces.items.items) new.listed.items
+  pub kept : KeepsPlaces new
   pub element : IsElement old new t.element (listed above tag.declarations) tag.name tag.attributes
 
 -- a start tag was read, unless memory ran out

@@ -12,6 +12,7 @@ use crate::how::MOST_WITHIN;
 use crate::names::NamespaceTable;
 use crate::node_rows;
 use crate::pending::Pending;
+use crate::present::Present;
 use crate::storage::StringStorage;
 use crate::tables::{ElementTables, NodeData, NodeKind, Scope, Tables};
 use crate::tag::{Buffers, StartTag};
@@ -132,6 +133,7 @@ impl<'input> Builder<'input> {
                 attributes,
                 namespaces: NamespaceTable::new(alloc),
                 listed: Vec::new(alloc),
+                present: Present::new(alloc),
             },
             opened: Vec::new(alloc),
             pending: Pending::None,
@@ -431,6 +433,7 @@ impl<'input> Builder<'input> {
             mut attributes,
             namespaces,
             listed,
+            present: _,
         } = tables;
         let NamespaceTable {
             items: namespaces,

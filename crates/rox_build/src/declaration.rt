@@ -9,6 +9,8 @@ ghost use Rattle.rox_scan.specs.Gives.{name_view};
 ghost use Rattle.rox_build.specs.Lines.{declaration};
 ghost use Rattle.rox_build.specs.Scopes.{ArePlaces, entries, prefix_view};
 ghost use Rattle.rox_build.specs.Prefixes.{Remembers};
+ghost use Rattle.rox_build.specs.Present.{Keeps};
+ghost use Rattle.rox_build.specs.declared.present.Present.{Present};
 ghost use Rattle.rox_build.specs.Tags.{taken_view, declares_xml, Declares, Declared};
 ghost use Rattle.rox_grammar.specs.Tree.{is_declared};
 ghost use Rattle.rox_reading.specs.Tags.{Held};
@@ -154,6 +156,7 @@ pub fn take_declaration<'input>(
     ensures places { OnOk result (ArePlaces (length names.new.items.items) listed.new.items) }
     ensures own { OnOk result (own ≤ length listed.new.items) }
     ensures few { OnOk result (length names.new.items.items ≤ most_pairs) }
+    ensures grown { OnOk result ((x : Present) → Keeps (map declaration names.old.items.items) listed.old.items x → Keeps (map declaration names.new.items.items) listed.new.items x) }
     ensures many { OnOk result (Remembers (map declaration names.new.items.items) (drop own listed.new.items) many.new.keys) }
     ensures value { (known : List Declaration) (before : List ℕ) (h : Held) → own ≡ length before
         → Declares known before (map declaration names.old.items.items) listed.old.items xml h.own

@@ -15,6 +15,7 @@ pub mod namespaces;
 pub mod node_rows;
 pub mod pending;
 pub mod prefixes;
+pub mod present;
 pub mod reader;
 pub mod reference;
 pub mod refused;

@@ -13,13 +13,15 @@ ghost use Rattle.rox_reading.specs.Tags.{names_tested};
 ghost use Rattle.rox_scan.specs.Gives.{Fails, name_view};
 ghost use Rattle.rox_build.specs.Lines.{AttributeRow, declaration, entry, attribute, rows_of, namespace_of, NamespaceWithin, OptionWithin};
 ghost use Rattle.rox_build.specs.Scopes.{entries, prefix_view, ArePlaces};
+ghost use Rattle.rox_build.specs.Present.{Finds};
 ghost use Rattle.rox_build.specs.Tags.{taken_view};
 ghost use Rattle.rox_build.specs.Resolved.{row_of, has_expanded, Tested};
 ghost use Rattle.rox_build.specs.Seen.{Sees, TestedOr};
 
 use crate::attributes::AttributeTable;
 use crate::declaration::{local_span, prefix_span};
-use crate::scope::{XML_URI, default_place, place_of, same_prefix};
+use crate::present::Present;
+use crate::scope::{XML_URI, find, find_default, same_prefix};
 use crate::seen::repeats;
 use crate::storage::StringStorage;
 use crate::tables::{AttributeData, AttributeNamespace, AttributePlaces, Namespace};
@@ -40,9 +42,11 @@ const FEW: usize = 16;
 fn attribute_namespace(
     names: &[Namespace<'_>],
     places: &[u16],
+    present: &Present<'_>,
     name: QName<'_>,
 ) -> Option<AttributeNamespace>
-    requires { ArePlaces (length names.now) places.now }
+    requires places { ArePlaces (length names.now) places.now }
+    requires present { Finds (map declaration names.now) places.now present.now }
     ensures within { IfSome result (λ s. NamespaceWithin (length names.now) s) }
     ensures there { IfSome result (λ s. namespace_of (map declaration names.now) s ≡ tree.attribute_namespace (entries (map declaration names.now) places.now) (name_view name.entry)) }
     ensures known { IfSome result (λ _. is_known (entries (map declaration names.now) places.now) (name_view name.entry) ≡ true) }
@@ -54,7 +58,7 @@ fn attribute_namespace(
     if same_text(name.prefix, "xml") {
         return Some(AttributeNamespace::Xml);
     }
-    match place_of(names, places, Some(name.prefix)) {
+    match find(names, places, present, Some(name.prefix)) {
         Some(place) => Some(AttributeNamespace::Listed(place)),
         None => None,
     }
@@ -116,10 +120,12 @@ fn is_repeated(
 fn tested_namespace(
     names: &[Namespace<'_>],
     places: &[u16],
+    present: &Present<'_>,
     done: &[AttributeData<'_>],
     taken: &Taken<'_>,
 ) -> Result<AttributeNamespace, Fault>
     requires places { ArePlaces (length names.now) places.now }
+    requires present { Finds (map declaration names.now) places.now present.now }
     requires done { AllByRecursion (λ a. NamespaceWithin (length names.now) a.namespace) done.now }
     ensures within { IfOk result (λ s. NamespaceWithin (length names.now) s) }
     ensures there { IfOk result (λ s. namespace_of (map declaration names.now) s ≡ tree.attribute_namespace (entries (map declaration names.now) places.now) (name_view taken.now.name)) }
@@ -127,7 +133,7 @@ fn tested_namespace(
         → Tested (entries (map declaration names.now) places.now) before (taken_view taken.now) rest result }
 {
     let name = taken.name;
-    let Some(namespace) = attribute_namespace(names, places, name) else {
+    let Some(namespace) = attribute_namespace(names, places, present, name) else {
         return Err(Fault::UnknownNamespace(prefix_span(name.prefix, taken.start), taken.start));
     };
     if is_repeated(names, done, namespace, name.local) {
@@ -140,10 +146,12 @@ fn tested_namespace(
 fn seen_namespace<'a>(
     names: &'a [Namespace<'_>],
     places: &[u16],
+    present: &Present<'_>,
     seen: &mut BTreeSet<(&'a str, Option<&'a str>)>,
     taken: &Taken<'a>,
 ) -> Result<AttributeNamespace, Failure>
     requires places { ArePlaces (length names.now) places.now }
+    requires present { Finds (map declaration names.now) places.now present.now }
     ensures within { IfOk result (λ s. NamespaceWithin (length names.now) s) }
     ensures there { IfOk result (λ s. namespace_of (map declaration names.now) s ≡ tree.attribute_namespace (entries (map declaration names.now) places.now) (name_view taken.now.name)) }
     ensures tested { (rows : List AttributeRow) (before rest : List Attribute) → Sees (map declaration names.now) seen.old.keys (map (λ r. r.0) rows) → map (attribute (map declaration names.now)) rows ≡ map (attribute_in (entries (map declaration names.now) places.now)) before
@@ -152,7 +160,7 @@ fn seen_namespace<'a>(
         → Sees (map declaration names.now) seen.new.keys (done ++ a ∷ [])) }
 {
     let name = taken.name;
-    let Some(namespace) = attribute_namespace(names, places, name) else {
+    let Some(namespace) = attribute_namespace(names, places, present, name) else {
         return Err(Failure::Fault(Fault::UnknownNamespace(
             prefix_span(name.prefix, taken.start),
             taken.start,
@@ -197,10 +205,12 @@ fn resolve_many<'input>(
     alloc: Global,
     names: &[Namespace<'input>],
     places: &[u16],
+    present: &Present<'_>,
     taken: &mut Vec<Taken<'input>>,
     attributes: &mut AttributeTable<'input>,
 ) -> Result<(), Failure>
-    requires { ArePlaces (length names.now) places.now }
+    requires places { ArePlaces (length names.now) places.now }
+    requires present { Finds (map declaration names.now) places.now present.now }
     ensures ok { OnOk result ((names_tested (entries (map declaration names.now) places.now) [] (map taken_view taken.old.items) ≡ Ok tt)
         × ((more : List AttributeRow) × (rows_of attributes.new ≡ rows_of attributes.old ++ more)
         × (map (attribute (map declaration names.now)) more ≡ map (attribute_in (entries (map declaration names.now) places.now)) (map taken_view taken.old.items))
@@ -209,7 +219,7 @@ fn resolve_many<'input>(
 {
     let mut seen = BTreeSet::new(alloc);
     for turn in 0..taken.len() {
-        let namespace = seen_namespace(names, places, &mut seen, &taken[turn])?;
+        let namespace = seen_namespace(names, places, present, &mut seen, &taken[turn])?;
         let row = move_row(&mut taken[turn], namespace);
         attributes.push(row)?;
     }
@@ -223,10 +233,12 @@ pub fn resolve<'input>(
     alloc: Global,
     names: &[Namespace<'input>],
     places: &[u16],
+    present: &Present<'_>,
     taken: &mut Vec<Taken<'input>>,
     attributes: &mut AttributeTable<'input>,
 ) -> Result<(), Failure>
-    requires { ArePlaces (length names.now) places.now }
+    requires places { ArePlaces (length names.now) places.now }
+    requires present { Finds (map declaration names.now) places.now present.now }
     ensures ok { OnOk result ((names_tested (entries (map declaration names.now) places.now) [] (map taken_view taken.old.items) ≡ Ok tt)
         × ((more : List AttributeRow) × (rows_of attributes.new ≡ rows_of attributes.old ++ more)
         × (map (attribute (map declaration names.now)) more ≡ map (attribute_in (entries (map declaration names.now) places.now)) (map taken_view taken.old.items))
@@ -234,11 +246,17 @@ pub fn resolve<'input>(
     ensures err { IfErr result (λ e. Fails e (names_tested (entries (map declaration names.now) places.now) [] (map taken_view taken.old.items))) }
 {
     if taken.len() > FEW {
-        return resolve_many(alloc, names, places, taken, attributes);
+        return resolve_many(alloc, names, places, present, taken, attributes);
     }
     let from = attributes.len();
     for turn in 0..taken.len() {
-        let namespace = tested_namespace(names, places, &attributes.items[from..], &taken[turn])?;
+        let namespace = tested_namespace(
+            names,
+            places,
+            present,
+            &attributes.items[from..],
+            &taken[turn],
+        )?;
         let row = move_row(&mut taken[turn], namespace);
         attributes.push(row)?;
     }
@@ -251,10 +269,12 @@ pub fn resolve<'input>(
 pub fn element_namespace(
     names: &[Namespace<'_>],
     places: &[u16],
+    present: &Present<'_>,
     name: QName<'_>,
     at: usize,
 ) -> Result<Option<u16>, Fault>
     requires places { ArePlaces (length names.now) places.now }
+    requires present { Finds (map declaration names.now) places.now present.now }
     requires small { at < 2 ^ 63 }
     ensures ok { IfOk result (λ o. OptionWithin (length names.now) o
         × (option_map (λ i. (entry (map declaration names.now) i).uri) o ≡ tree.element_namespace (entries (map declaration names.now) places.now) (name_view name.entry))
@@ -263,9 +283,9 @@ pub fn element_namespace(
         × (may_name (entries (map declaration names.now) places.now) (name_view name.entry) ≡ false)) }
 {
     if name.prefix.is_empty() {
-        return Ok(default_place(names, places));
+        return Ok(find_default(names, places, present));
     }
-    match place_of(names, places, Some(name.prefix)) {
+    match find(names, places, present, Some(name.prefix)) {
         Some(place) => Ok(Some(place)),
         None => Err(Fault::UnknownNamespace(prefix_span(name.prefix, at), at)),
     }

@@ -7,8 +7,10 @@ ghost use Rattle.rox_grammar.specs.WellNamed.{is_xml};
 ghost use Rattle.rox_build.specs.Lines.{declaration, entry};
 ghost use Rattle.rox_build.specs.Scopes.{prefix_view, entries, ArePlaces, others};
 ghost use Rattle.rox_build.specs.Prefixes.{Remembers};
+ghost use Rattle.rox_build.specs.Present.{Finds};
 
 use crate::prefixes::{FEW, has_prefix};
+use crate::present::Present;
 use crate::tables::Namespace;
 use rox_scan::alike::same_text;
 use rox_scan::failure::Failure;
@@ -61,6 +63,41 @@ pub fn default_place(names: &[Namespace<'_>], places: &[u16]) -> Option<u16>
         }
     }
     None
+}
+
+/// The place of this prefix, or of the default, among these: the first one. Where they are many it is looked up.
+#[inline]
+pub fn find(
+    names: &[Namespace<'_>],
+    places: &[u16],
+    present: &Present<'_>,
+    prefix: Option<&str>,
+) -> Option<u16>
+    requires places { ArePlaces (length names.now) places.now }
+    requires present { Finds (map declaration names.now) places.now present.now }
+    ensures there { IfSome result (λ i. (i < length names.now)
+        × (uri_of (entries (map declaration names.now) places.now) (prefix_view prefix.entry) ≡ Some (entry (map declaration names.now) i).uri)) }
+    ensures absent { IfNone result (uri_of (entries (map declaration names.now) places.now) (prefix_view prefix.entry) ≡ None) }
+{
+    if places.len() > FEW {
+        return present.get(prefix);
+    }
+    place_of(names, places, prefix)
+}
+
+/// The place of the default among these: the first one. Where they are many it is looked up.
+#[inline(always)]
+pub fn find_default(names: &[Namespace<'_>], places: &[u16], present: &Present<'_>) -> Option<u16>
+    requires places { ArePlaces (length names.now) places.now }
+    requires present { Finds (map declaration names.now) places.now present.now }
+    ensures there { IfSome result (λ i. (i < length names.now)
+        × (uri_of (entries (map declaration names.now) places.now) None ≡ Some (entry (map declaration names.now) i).uri)) }
+    ensures absent { IfNone result (uri_of (entries (map declaration names.now) places.now) None ≡ None) }
+{
+    if places.len() > FEW {
+        return present.get(None);
+    }
+    default_place(names, places)
 }
 
 /// Whether one of these has this prefix, or is the default.

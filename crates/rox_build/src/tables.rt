@@ -2,6 +2,7 @@
 
 use crate::attributes::AttributeTable;
 use crate::names::NamespaceTable;
+use crate::present::Present;
 use crate::storage::StringStorage;
 
 /// A processing instruction: its target, and its value where it has one (XML 1.0 section 2.6).
@@ -90,11 +91,13 @@ pub struct Tables<'input> {
 }
 
 /// The tables beside the rows, while they grow.
-#[derive(Debug, Drop)]
+#[derive(Drop)]
 pub struct ElementTables<'input> {
     pub attributes: AttributeTable<'input>,
     pub namespaces: NamespaceTable<'input>,
     pub listed: Vec<u16>,
+    /// The places of prefixes, in scopes that list many.
+    pub present: Present<'input>,
 }
 
 /// What an element lists: a stretch of the listed places.

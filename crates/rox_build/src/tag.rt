@@ -5,7 +5,7 @@ ghost use Rattle.rox_grammar.specs.Written.{Declaration};
 ghost use Rattle.rox_grammar.specs.Document.{most_pairs, most_attributes};
 ghost use Rattle.rox_reading.specs.Tags.{Held, attributes_at, tag_at, tested_at};
 ghost use Rattle.rox_scan.specs.Gives.{Fails, name_view};
-ghost use Rattle.rox_build.specs.Tagged.{IsElement, GivesTag, scope_in_tables};
+ghost use Rattle.rox_build.specs.Tagged.{IsElement, GivesTag, KeepsPlaces, scope_in_tables};
 ghost use Rattle.rox_scan.specs.Parts.{HasValue, attribute_view};
 ghost use Rattle.rox_grammar.specs.Entities.{Entity};
 ghost use Rattle.rox_build.specs.Named.{AreDeclared, values_in};
@@ -14,12 +14,14 @@ ghost use Rattle.rox_build.specs.Storage.{storage_bytes, is_borrowed};
 ghost use Rattle.rox_build.specs.Lines.{declaration, rows_of};
 ghost use Rattle.rox_build.specs.Scopes.{ArePlaces, entries};
 ghost use Rattle.rox_build.specs.Prefixes.{Remembers};
+ghost use Rattle.rox_build.specs.Present.{Finds, IsEntered};
 ghost use Rattle.rox_build.specs.Tags.{Declares, Holding, Took, TookAll, one_more, taken_view};
 ghost use Rattle.rox_grammar.specs.Tree.{listed};
 
 use crate::declaration::{declares, take_declaration};
 use crate::growth::push;
 use crate::how::How;
+use crate::prefixes::FEW;
 use crate::refused::Refused;
 use crate::resolve::{element_namespace, resolve};
 use crate::scope::inherit;
@@ -102,10 +104,12 @@ fn take<'input>(
     requires own { own ≤ length elements.old.listed.items }
     requires few { length elements.old.namespaces.items.items ≤ most_pairs }
     requires many { Remembers (map declaration elements.old.namespaces.items.items) (drop own elements.old.listed.items) buffers.old.many.keys }
+    requires kept { KeepsPlaces elements.old }
     ensures places { OnOk result (ArePlaces (length elements.new.namespaces.items.items) elements.new.listed.items) }
     ensures own { OnOk result (own ≤ length elements.new.listed.items) }
     ensures few { OnOk result (length elements.new.namespaces.items.items ≤ most_pairs) }
     ensures many { OnOk result (Remembers (map declaration elements.new.namespaces.items.items) (drop own elements.new.listed.items) buffers.new.many.keys) }
+    ensures kept { OnOk result (KeepsPlaces elements.new) }
     ensures attributes { elements.new.attributes ≡ elements.old.attributes }
     ensures took { (es : List Entity) (known : List Declaration) (before : List ℕ) (h : Held) → AreDeclared es how.entry.entities.now → own ≡ length before
         → Holding known before (map declaration elements.old.namespaces.items.items) elements.old.listed.items xml buffers.old.taken.items h
@@ -165,10 +169,12 @@ fn attributes<'input>(
     requires own { own ≤ length elements.old.listed.items }
     requires few { length elements.old.namespaces.items.items ≤ most_pairs }
     requires many { Remembers (map declaration elements.old.namespaces.items.items) (drop own elements.old.listed.items) buffers.old.many.keys }
+    requires kept { KeepsPlaces elements.old }
     ensures places { OnOk result (ArePlaces (length elements.new.namespaces.items.items) elements.new.listed.items) }
     ensures own { OnOk result (own ≤ length elements.new.listed.items) }
     ensures few { OnOk result (length elements.new.namespaces.items.items ≤ most_pairs) }
     ensures many { OnOk result (Remembers (map declaration elements.new.namespaces.items.items) (drop own elements.new.listed.items) buffers.new.many.keys) }
+    ensures kept { OnOk result (KeepsPlaces elements.new) }
     ensures attributes { elements.new.attributes ≡ elements.old.attributes }
     ensures source { cursor.new.text ≡ cursor.old.text }
     ensures took { (es : List Entity) (known : List Declaration) (before : List ℕ) (h : Held) → AreDeclared es how.entry.entities.now → own ≡ length before
@@ -207,7 +213,7 @@ fn attributes<'input>(
 /// What an element lists whose own declarations are those behind `own`, and `xml` if the flag says so, below one that lists
 /// `above`: a stretch of its own, or its parent's where it declares nothing. The set has its prefixes where they are many.
 #[inline(always)]
-fn scope_of_tag<'input>(
+fn listed_by_tag<'input>(
     elements: &mut ElementTables<'input>,
     many: &BTreeSet<Option<&'input str>>,
     above: Scope,
@@ -220,6 +226,8 @@ fn scope_of_tag<'input>(
     requires above { (above.from ≤ above.until) × (above.until ≤ own) }
     ensures names { elements.new.namespaces ≡ elements.old.namespaces }
     ensures attributes { elements.new.attributes ≡ elements.old.attributes }
+    ensures present { elements.new.present ≡ elements.old.present }
+    ensures entered { IfOk result (λ s. IsEntered (map declaration elements.new.namespaces.items.items) elements.new.listed.items (drop own elements.old.listed.items) (slice_range elements.new.listed.items s.from s.until) xml above s) }
     ensures more { OnOk result ((more : List ℕ) × (elements.new.listed.items ≡ elements.old.listed.items ++ more)) }
     ensures places { OnOk result (ArePlaces (length elements.new.namespaces.items.items) elements.new.listed.items) }
     ensures within { IfOk result (λ s. (s.from ≤ s.until) × (s.until ≤ length elements.new.listed.items)) }
@@ -247,6 +255,49 @@ fn scope_of_tag<'input>(
     })
 }
 
+/// The same, and where it lists many the places of its prefixes are looked up.
+#[inline(always)]
+fn scope_of_tag<'input>(
+    elements: &mut ElementTables<'input>,
+    many: &BTreeSet<Option<&'input str>>,
+    above: Scope,
+    own: usize,
+    xml: bool,
+) -> Result<Scope, Failure>
+    requires places { ArePlaces (length elements.old.namespaces.items.items) elements.old.listed.items }
+    requires own { own ≤ length elements.old.listed.items }
+    requires many { Remembers (map declaration elements.old.namespaces.items.items) (drop own elements.old.listed.items) many.now.keys }
+    requires above { (above.from ≤ above.until) × (above.until ≤ own) }
+    requires kept { KeepsPlaces elements.old }
+    ensures names { elements.new.namespaces ≡ elements.old.namespaces }
+    ensures attributes { elements.new.attributes ≡ elements.old.attributes }
+    ensures more { OnOk result ((more : List ℕ) × (elements.new.listed.items ≡ elements.old.listed.items ++ more)) }
+    ensures places { OnOk result (ArePlaces (length elements.new.namespaces.items.items) elements.new.listed.items) }
+    ensures within { IfOk result (λ s. (s.from ≤ s.until) × (s.until ≤ length elements.new.listed.items)) }
+    ensures lists { (known : List Declaration) (before : List ℕ) (ds : List Declaration) → own ≡ length before
+        → Declares known before (map declaration elements.old.namespaces.items.items) elements.old.listed.items xml ds
+        → IfOk result (λ s. entries (map declaration elements.new.namespaces.items.items) (slice_range elements.new.listed.items s.from s.until)
+        ≡ listed (entries (map declaration elements.old.namespaces.items.items) (slice_range elements.old.listed.items above.from above.until)) ds) }
+    ensures kept { OnOk result (KeepsPlaces elements.new) }
+    ensures finds { IfOk result (λ s. Finds (map declaration elements.new.namespaces.items.items) (slice_range elements.new.listed.items s.from s.until) elements.new.present) }
+    ensures err { IfErr result (λ e. e ≡ Failure.Memory) }
+{
+    let end = elements.listed.len();
+    let scope = listed_by_tag(elements, many, above, own, xml)?;
+    if scope.until - scope.from <= FEW {
+        return Ok(scope);
+    }
+    elements.present.enter(
+        elements.namespaces.as_slice(),
+        &elements.listed[own..end],
+        &elements.listed[scope.from..scope.until],
+        xml,
+        above,
+        scope,
+    )?;
+    Ok(scope)
+}
+
 /// How many attributes a document may have.
 const MOST_ATTRIBUTES: usize = 4294967294;
 
@@ -263,10 +314,12 @@ fn element_data<'input>(
 ) -> Result<ElementData<'input>, Failure>
     requires places { ArePlaces (length elements.old.namespaces.items.items) elements.old.listed.items }
     requires within { (scope.from ≤ scope.until) × (scope.until ≤ length elements.old.listed.items) }
+    requires finds { Finds (map declaration elements.old.namespaces.items.items) (slice_range elements.old.listed.items scope.from scope.until) elements.old.present }
     requires few { length (rows_of elements.old.attributes) ≤ most_attributes }
     requires small { at < 2 ^ 63 }
     ensures names { elements.new.namespaces ≡ elements.old.namespaces }
     ensures listed { elements.new.listed ≡ elements.old.listed }
+    ensures present { elements.new.present ≡ elements.old.present }
     ensures tested { OnOk result (tested_at (scope_in_tables elements.old scope) (length (rows_of elements.old.attributes)) at (name_view name.entry) (map taken_view taken.old.items) ≡ Ok tt) }
     ensures element { IfOk result (λ e. IsElement elements.old elements.new e (scope_in_tables elements.old scope) (name_view name.entry) (map taken_view taken.old.items)) }
     ensures err { IfErr result (λ e. Fails e (tested_at (scope_in_tables elements.old scope) (length (rows_of elements.old.attributes)) at (name_view name.entry) (map taken_view taken.old.items))) }
@@ -279,12 +332,14 @@ fn element_data<'input>(
         alloc,
         elements.namespaces.as_slice(),
         &elements.listed[scope.from..scope.until],
+        &elements.present,
         taken,
         &mut elements.attributes,
     )?;
     let namespace = element_namespace(
         elements.namespaces.as_slice(),
         &elements.listed[scope.from..scope.until],
+        &elements.present,
         name,
         at,
     )?;
@@ -318,6 +373,7 @@ pub fn start_tag<'input>(
     requires few { length elements.old.namespaces.items.items ≤ most_pairs }
     requires few_attributes { length (rows_of elements.old.attributes) ≤ most_attributes }
     requires above { (above.from ≤ above.until) × (above.until ≤ length elements.old.listed.items) }
+    requires kept { KeepsPlaces elements.old }
     ensures source { cursor.new.text ≡ cursor.old.text }
     ensures starts { IfOk result (λ t. t.name_start ≡ cursor.old.pos + 1) }
     ensures value { (es : List Entity) → AreDeclared es how.entry.entities.now → GivesTag elements.old elements.new cursor.new result (scope_in_tables elements.old above)

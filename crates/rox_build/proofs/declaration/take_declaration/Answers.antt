@@ -18,7 +18,7 @@ use Rattle.rox_build.specs.Storage.{storage_bytes}
 use Rattle.rox_build.specs.Prefixes.{Remembers}
 use Rattle.rox_build.proofs.Inherits.{slice-rest}
 use Rattle.rox_build.proofs.Stable.{all_slice}
-use Rattle.rox_build.proofs.Declaring.{uri_refused, declared_again, declared_many, declares_prefix_xml, declares_other, own_listed, fails_by, many_pairs, places_after, remembers_after}
+use Rattle.rox_build.proofs.Declaring.{uri_refused, declared_again, declared_many, declares_prefix_xml, declares_other, own_listed, fails_by, many_pairs, kept_after, places_after, remembers_after}
 use Rattle.rox_build.proofs.declaration.take_declaration.Goals as goal
 
 pub is_again-requires : goal.is_again-requires
@@ -100,6 +100,11 @@ pub returns-clause-places : goal.returns-clause-places
 returns-clause-places c =
     places_after c.args.names.now.items.items c.place.new.self.items.items c.args.listed.now.items c.push.new.self.items (pair (prefix_view c.declared_prefix-prefix.result) (storage_bytes c.args.taken.value)) c.in_ok-place.place
     c.in_ok-place.ensures.table c.in_ok-place.ensures.there.0 c.in_ok-push.ensures.items c.requires.places
+
+pub returns-clause-grown : goal.returns-clause-grown
+returns-clause-grown c = λ x h.
+    kept_after c.args.names.now.items.items c.place.new.self.items.items c.args.listed.now.items c.push.new.self.items (pair (prefix_view c.declared_prefix-prefix.result) (storage_bytes c.args.taken.value)) c.in_ok-place.place x
+    c.in_ok-place.ensures.table c.in_ok-push.ensures.items c.requires.places h
 
 pub remember-requires : goal.remember-requires
 remember-requires c =

@@ -94,6 +94,7 @@ attributes-preserved c = record {
   places = c.in_ok-xml-in-More.ensures.places;
   own = c.in_ok-xml-in-More.ensures.own;
   few = c.in_ok-xml-in-More.ensures.few;
+  kept = c.in_ok-xml-in-More.ensures.kept;
   many = c.in_ok-xml-in-More.ensures.many;
   reads = λ es known before h declared o hold.
       let src = c.args.cursor.now.text.now in

@@ -109,5 +109,5 @@ returns-clause-value c = λ es declared.
       tag_made (values_in es c.args.how) c.args.cut above (length (rows_of old.attributes)) known src i c.args.left name n c.attributes.new.cursor.pos h c.in_ok-xml.empty c.in_ok-xml.left is other read fine,
       tagged old c.attributes.new.elements c.scope_of_tag.new.elements c.element_data.new.elements _ above name n h c.in_ok-xml.xml _ c.in_ok-scope.scope refl refl
           c.in_ok-xml.ensures.attributes took.2 c.in_ok-xml.ensures.few c.in_ok-scope.ensures.names c.in_ok-scope.ensures.attributes c.in_ok-scope.ensures.more c.in_ok-scope.ensures.places
-          scopes c.in_ok-element.ensures.names c.in_ok-element.ensures.listed c.in_ok-element.ensures.element,
+          scopes c.in_ok-element.ensures.names c.in_ok-element.ensures.listed c.in_ok-element.ensures.element c.in_ok-scope.ensures.kept c.in_ok-element.ensures.present,
     )

@@ -1,0 +1,314 @@
+-- The places of prefixes, as scopes are entered and left.
+use Rattle.std.proofs.Common.{◌≡◌, ℕ, ◌&&◌, ◌||◌, not, filter, add-one, drop-cons, ◌+◌, ◌-◌, ◌≤◌, ◌<◌, take, get_or, bytes_eq, Bor, Bool, true, false, cond, List, [], ◌∷◌, ◌++◌, length, map, drop, refl, sym, ap, subst, ◌∙◌, arith, length-append, Option, Some, None}
+use Rattle.std.specs.List.{AllByRecursion, slice_range}
+use Rattle.std.specs.Option.{option_map, option_to_list, IfSome, IfNone}
+use Rattle.std.proofs.lemmas.List.{drop-append-le, append-nil, length-map, take_all, take_more}
+use Rattle.std.proofs.Math.ListN.{drop_of_length-le}
+use Rattle.rox_grammar.specs.Written.{Declaration}
+use Rattle.rox_grammar.specs.Tree.{same_prefix, is_declared, uri_of}
+use Rattle.rox_build.specs.declared.tables.Namespace.{Namespace}
+use Rattle.rox_build.specs.Lines.{declaration, entry, OptionWithin}
+use Rattle.rox_build.specs.Scopes.{prefix_view, entries, ArePlaces, others}
+use Rattle.std.specs.BTreeMap.{BTreeMap, get_by}
+use Rattle.std.specs.Cmp.Lexicographic.{slice_cmp}
+use Rattle.std.specs.Ordering.{nat_cmp}
+use Rattle.rox_build.specs.Present.{flat, found_at, found, restored, IsBound, Stacked, Keeps, Finds}
+use Rattle.rox_build.specs.declared.present.Replaced.{Replaced}
+use Rattle.rox_build.specs.declared.present.Layer.{Layer}
+use Rattle.rox_build.specs.declared.present.Present.{Present}
+use Rattle.rox_grammar.specs.declared.fault.Word.TheVariants.{Xml}
+use Rattle.rox_grammar.specs.Words.{word_text}
+use Rattle.rox_grammar.specs.WellNamed.{is_xml}
+use Rattle.rox_build.proofs.Listing.{same_prefix-sym}
+use Rattle.rox_build.proofs.Stable.{all_slice, map_same, slice-append, entry-append}
+use Rattle.rox_build.proofs.Pairs.{same_prefix-true, declared_none, place_at, entry-get}
+
+abbrev pub Places : Type 0
+Places = Option (List ℕ) → Option ℕ
+
+restored-append : (rs : List Replaced) (r : Replaced) (f : Places) (p : Option (List ℕ)) → restored (rs ++ r ∷ []) f p ≡ restored rs (restored (r ∷ []) f) p
+restored-append [] r f p = refl
+restored-append (x ∷ rs) r f p = ap (λ (v : Option ℕ). cond (same_prefix (prefix_view x.prefix) p) x.before v) (restored-append rs r f p)
+
+restored-same : (rs : List Replaced) (f g : Places) (p : Option (List ℕ)) → f p ≡ g p → restored rs f p ≡ restored rs g p
+restored-same [] f g p h = h
+restored-same (x ∷ rs) f g p h = ap (λ (v : Option ℕ). cond (same_prefix (prefix_view x.prefix) p) x.before v) (restored-same rs f g p h)
+
+bound-same : (names : List Declaration) (f g : Places) (ds : List Declaration) → ((p : Option (List ℕ)) → f p ≡ g p) → IsBound names f ds → IsBound names g ds
+bound-same names f g ds same h = record {
+  within = λ p. subst (OptionWithin (length names)) (same p) (h.within p);
+  uris = λ p. ap (option_map (λ i. (entry names i).uri)) (sym (same p)) ∙ h.uris p;
+}
+
+-- ---- one more is replaced
+
+replaced_one : (r : Replaced) (f g : Places) (place : Option ℕ) (p : Option (List ℕ)) → r.before ≡ f (prefix_view r.prefix)
+    → g p ≡ cond (same_prefix (prefix_view r.prefix) p) place (f p) → restored (r ∷ []) g p ≡ f p
+replaced_one r f g place p before is = by_cases (same_prefix (prefix_view r.prefix) p) refl
+  where
+    by_cases : (b : Bool) → same_prefix (prefix_view r.prefix) p ≡ b → restored (r ∷ []) g p ≡ f p
+    by_cases true e = rw e (before ∙ ap f (same_prefix-true (prefix_view r.prefix) p e))
+    by_cases false e = rw e (rw e at is)
+
+pub stacked_put : (names : List Declaration) (listed : List ℕ) (es : List Replaced) (r : Replaced) (f g : Places) (place : Option ℕ) (least : ℕ) (ls : List Layer)
+    → r.before ≡ f (prefix_view r.prefix) → ((p : Option (List ℕ)) → g p ≡ cond (same_prefix (prefix_view r.prefix) p) place (f p))
+    → Stacked names listed es f least ls → Stacked names listed (es ++ r ∷ []) g least ls
+stacked_put names listed es r f g place least [] before is h = tt
+stacked_put names listed es r f g place least (l ∷ ls) before is (low, high, ordered, within, bound, rest) =
+    let n = length-append es (r ∷ []) in
+    let same : (p : Option (List ℕ)) → restored (drop l.count es) f p ≡ restored (drop l.count (es ++ r ∷ [])) g p = λ p.
+    sym (ap (λ xs. restored xs g p) (drop-append-le l.count es (r ∷ []) high) ∙ restored-append (drop l.count es) r g p
+    ∙ restored-same (drop l.count es) (restored (r ∷ []) g) f p (replaced_one r f g place p before (is p))) in
+    (low, omega arith, ordered, within, bound-same names _ _ _ same bound, stacked_put names listed es r f g place l.count ls before is rest)
+
+-- ---- the last one is taken back
+
+pub stacked_back : (names : List Declaration) (listed : List ℕ) (es : List Replaced) (r : Replaced) (f g : Places) (least : ℕ) (ls : List Layer)
+    → ((p : Option (List ℕ)) → g p ≡ cond (same_prefix (prefix_view r.prefix) p) r.before (f p)) → AllByRecursion (λ l. l.count ≤ length es) ls
+    → Stacked names listed (es ++ r ∷ []) f least ls → Stacked names listed es g least ls
+stacked_back names listed es r f g least [] is few h = tt
+stacked_back names listed es r f g least (l ∷ ls) is (here, few) (low, high, ordered, within, bound, rest) =
+    let same : (p : Option (List ℕ)) → restored (drop l.count (es ++ r ∷ [])) f p ≡ restored (drop l.count es) g p = λ p.
+    ap (λ xs. restored xs f p) (drop-append-le l.count es (r ∷ []) here) ∙ restored-append (drop l.count es) r f p
+    ∙ restored-same (drop l.count es) (restored (r ∷ []) f) g p (sym (is p)) in
+    (low, here, ordered, within, bound-same names _ _ _ same bound, stacked_back names listed es r f g l.count ls is few rest)
+
+-- ---- the innermost scope
+
+least_below : (names : List Declaration) (listed : List ℕ) (es : List Replaced) (f : Places) (least : ℕ) (ls : List Layer) (l : Layer) → Stacked names listed es f least (ls ++ l ∷ []) → least ≤ l.count
+least_below names listed es f least [] l h = h.0
+least_below names listed es f least (x ∷ ls) l h = let a = h.0 in let b = least_below names listed es f x.count ls l h.5 in omega arith
+
+-- it has the most before it
+pub counts_below : (names : List Declaration) (listed : List ℕ) (es : List Replaced) (f : Places) (least n : ℕ) (ls : List Layer) (l : Layer) → l.count ≤ n → Stacked names listed es f least (ls ++ l ∷ [])
+    → AllByRecursion (λ x. x.count ≤ n) (ls ++ l ∷ [])
+counts_below names listed es f least n [] l le h = (le, tt)
+counts_below names listed es f least n (x ∷ ls) l le h =
+    let b = least_below names listed es f x.count ls l h.5 in
+    (omega arith, counts_below names listed es f x.count n ls l le h.5)
+
+pub stacked_pop : (names : List Declaration) (listed : List ℕ) (es : List Replaced) (f : Places) (least : ℕ) (ls : List Layer) (l : Layer) → Stacked names listed es f least (ls ++ l ∷ []) → Stacked names listed es f least ls
+stacked_pop names listed es f least [] l h = tt
+stacked_pop names listed es f least (x ∷ ls) l (low, high, ordered, within, bound, rest) = (low, high, ordered, within, bound, stacked_pop names listed es f x.count ls l rest)
+
+pub stacked_popped : (names : List Declaration) (listed : List ℕ) (es : List Replaced) (f : Places) (ls : List Layer) (o : Option Layer) → Stacked names listed es f 0 (ls ++ option_to_list o) → Stacked names listed es f 0 ls
+stacked_popped names listed es f ls None h = subst (Stacked names listed es f 0) (append-nil ls) h
+stacked_popped names listed es f ls (Some l) h = stacked_pop names listed es f 0 ls l h
+
+-- its places are these, where nothing was replaced behind it
+pub stacked_last : (names : List Declaration) (listed : List ℕ) (es : List Replaced) (f : Places) (least : ℕ) (ls : List Layer) (l : Layer) → l.count ≡ length es → Stacked names listed es f least (ls ++ l ∷ [])
+    → IsBound names f (entries names (slice_range listed l.scope.from l.scope.until))
+stacked_last names listed es f least [] l e h =
+    let none : drop l.count es ≡ [] = drop_of_length-le es (omega arith) in
+    bound-same names (restored (drop l.count es) f) f _ (λ p. ap (λ xs. restored xs f p) none) h.4
+stacked_last names listed es f least (x ∷ ls) l e h = stacked_last names listed es f x.count ls l e h.5
+
+pub stacked_push : (names : List Declaration) (listed : List ℕ) (es : List Replaced) (f : Places) (least : ℕ) (ls : List Layer) (l : Layer) → l.count ≡ length es → least ≤ length es
+    → l.scope.from ≤ l.scope.until → l.scope.until ≤ length listed → IsBound names f (entries names (slice_range listed l.scope.from l.scope.until))
+    → Stacked names listed es f least ls → Stacked names listed es f least (ls ++ l ∷ [])
+stacked_push names listed es f least [] l e low ordered within bound h =
+    let none : drop l.count es ≡ [] = drop_of_length-le es (omega arith) in
+    (omega arith, omega arith, ordered, within, bound-same names f (restored (drop l.count es) f) _ (λ p. ap (λ xs. restored xs f p) (sym none)) bound, tt)
+stacked_push names listed es f least (x ∷ ls) l e low ordered within bound (a, b, o, w, x-bound, rest) =
+    (a, b, o, w, x-bound, stacked_push names listed es f x.count ls l e b ordered within bound rest)
+
+-- ---- a prefix that is given a place
+
+chosen : (b : Bool) (place : Option ℕ) (o : Option (Option ℕ)) → flat (cond b (Some place) o) ≡ cond b place (flat o)
+chosen true place o = refl
+chosen false place o = refl
+
+pub found_set : (default place : Option ℕ) (old new : BTreeMap (Bor (List ℕ)) (Option ℕ)) (prefix : List ℕ) (p : Option (List ℕ))
+    → ((q : List ℕ) → get_by (λ k. slice_cmp nat_cmp q k.now) new ≡ cond (bytes_eq prefix q) (Some place) (get_by (λ k. slice_cmp nat_cmp q k.now) old))
+    → found_at default new p ≡ cond (same_prefix (Some prefix) p) place (found_at default old p)
+found_set default place old new prefix None h = refl
+found_set default place old new prefix (Some q) h = ap flat (h q) ∙ chosen (bytes_eq prefix q) place (get_by (λ k. slice_cmp nat_cmp q k.now) old)
+
+-- the last of some
+pub last_split : (xs : List Layer) (x : Layer) → 0 < length xs → x ≡ get_or xs (length xs - 1) x → xs ≡ take (length xs - 1) xs ++ x ∷ []
+last_split xs x some is =
+    let n = length xs - 1 in
+    sym (take_all (n + 1) xs (omega arith)) ∙ take_more xs n x (omega arith) ∙ ap (λ y. take n xs ++ y ∷ []) (sym is)
+
+pub keeps_by : (names : List Declaration) (listed : List ℕ) (x : Present) (es : List Replaced) (ls : List Layer) → x.replaced.items ≡ es → x.layers.items ≡ ls
+    → Stacked names listed es (found x) 0 ls → Keeps names listed x
+keeps_by names listed x es ls e l h =
+    record { stacked = subst (λ xs. Stacked names listed xs (found x) 0 x.layers.items) (sym e) (subst (λ ys. Stacked names listed es (found x) 0 ys) (sym l) h) }
+
+-- ---- what is found of a list
+
+pub bound_uris : (names : List Declaration) (f : Places) (ds es : List Declaration) → ((p : Option (List ℕ)) → uri_of ds p ≡ uri_of es p) → IsBound names f ds → IsBound names f es
+bound_uris names f ds es same h = record { within = h.within; uris = λ p. h.uris p ∙ same p }
+
+-- the first of two that is there
+abbrev first : Option (List ℕ) → Option (List ℕ) → Option (List ℕ)
+first None o = o
+first (Some u) o = Some u
+
+uri_first : (xs ys : List Declaration) (p : Option (List ℕ)) → uri_of (xs ++ ys) p ≡ first (uri_of xs p) (uri_of ys p)
+uri_first [] ys p = refl
+uri_first (x ∷ xs) ys p = by_cases (same_prefix x.prefix p) (uri_first xs ys p)
+  where
+    by_cases : (b : Bool) → uri_of (xs ++ ys) p ≡ first (uri_of xs p) (uri_of ys p) → cond b (Some x.uri) (uri_of (xs ++ ys) p) ≡ first (cond b (Some x.uri) (uri_of xs p)) (uri_of ys p)
+    by_cases true h = refl
+    by_cases false h = h
+
+-- those without the prefixes that a test holds of
+uri_filter : (test : Option (List ℕ) → Bool) (ds : List Declaration) (p : Option (List ℕ)) → uri_of (filter (λ d. not (test d.prefix)) ds) p ≡ cond (test p) None (uri_of ds p)
+uri_filter test [] p = none (test p)
+  where
+    none : (b : Bool) → (let o : Option (List ℕ) = None in o ≡ cond b None o)
+    none true = refl
+    none false = refl
+uri_filter test (d ∷ ds) p = by_cases (test d.prefix) (same_prefix d.prefix p) refl refl (uri_filter test ds p)
+  where
+    by_cases : (a b : Bool) → test d.prefix ≡ a → same_prefix d.prefix p ≡ b → uri_of (filter (λ d. not (test d.prefix)) ds) p ≡ cond (test p) None (uri_of ds p)
+        → uri_of (filter (λ d. not (test d.prefix)) (d ∷ ds)) p ≡ cond (test p) None (uri_of (d ∷ ds) p)
+    by_cases true true t s h =
+        let here : test p ≡ true = ap test (sym (same_prefix-true d.prefix p s)) ∙ t in
+        rw t (h ∙ ap (λ b. cond b None (uri_of ds p)) here ∙ sym (ap (λ b. cond b None (uri_of (d ∷ ds) p)) here))
+    by_cases false true t s h =
+        let here : test p ≡ false = ap test (sym (same_prefix-true d.prefix p s)) ∙ t in
+        rw (t, here, s) refl
+    by_cases true false t s h = rw (t, s) h
+    by_cases false false t s h = rw (t, s) h
+
+pub bound_hidden : (names ds : List Declaration) (f g : Places) → ((p : Option (List ℕ)) → g p ≡ cond (same_prefix (Some (word_text Xml)) p) None (f p)) → IsBound names f ds
+    → IsBound names g (filter (λ d. not (true && is_xml d.prefix)) ds)
+bound_hidden names ds f g is h = record {
+  within = λ p. subst (OptionWithin (length names)) (sym (is p)) (hidden (same_prefix (Some (word_text Xml)) p) (f p) (h.within p));
+  uris = λ p. ap (option_map (λ i. (entry names i).uri)) (is p) ∙ mapped (same_prefix (Some (word_text Xml)) p) (f p)
+      ∙ ap (λ u. cond (same_prefix (Some (word_text Xml)) p) None u) (h.uris p) ∙ ap (λ b. cond b None (uri_of ds p)) (same_prefix-sym (Some (word_text Xml)) p)
+      ∙ sym (uri_filter (λ q. true && is_xml q) ds p);
+}
+  where
+    hidden : (b : Bool) (o : Option ℕ) → OptionWithin (length names) o → OptionWithin (length names) (cond b None o)
+    hidden true o h = tt
+    hidden false o h = h
+
+    mapped : (b : Bool) (o : Option ℕ) → option_map (λ i. (entry names i).uri) (cond b None o) ≡ cond b None (option_map (λ i. (entry names i).uri) o)
+    mapped true o = refl
+    mapped false o = refl
+
+pub bound_unhidden : (names ds : List Declaration) (f : Places) → IsBound names f ds → IsBound names f (filter (λ d. not (false && is_xml d.prefix)) ds)
+bound_unhidden names ds f h = bound_uris names f ds _ (λ p. sym (uri_filter (λ q. false && is_xml q) ds p)) h
+
+-- what is hidden either way
+pub bound_others : (names own ds : List Declaration) (xml : Bool) (f : Places) → IsBound names f (own ++ filter (λ d. not (xml && is_xml d.prefix)) ds) → IsBound names f (own ++ others own xml ds)
+bound_others names own ds xml f h = bound_uris names f _ _ same h
+  where
+    rest : (p : Option (List ℕ)) (o : Option (List ℕ)) → uri_of own p ≡ o → first o (uri_of (filter (λ d. not (xml && is_xml d.prefix)) ds) p) ≡ first o (uri_of (others own xml ds) p)
+    rest p (Some u) e = refl
+    rest p None e =
+        let other : is_declared p own ≡ false = declared_none own p e in
+        uri_filter (λ q. xml && is_xml q) ds p ∙ ap (λ b. cond (b || (xml && is_xml p)) None (uri_of ds p)) (sym other) ∙ sym (uri_filter (λ q. is_declared q own || (xml && is_xml q)) ds p)
+
+    same : (p : Option (List ℕ)) → uri_of (own ++ filter (λ d. not (xml && is_xml d.prefix)) ds) p ≡ uri_of (own ++ others own xml ds) p
+    same p = uri_first own _ p ∙ rest p (uri_of own p) refl ∙ sym (uri_first own _ p)
+
+-- one more in front
+pub bound_more : (names ds : List Declaration) (f g : Places) (place : ℕ) → place < length names → ((p : Option (List ℕ)) → g p ≡ cond (same_prefix (entry names place).prefix p) (Some place) (f p))
+    → IsBound names f ds → IsBound names g (entry names place ∷ ds)
+bound_more names ds f g place here is h = record {
+  within = λ p. subst (OptionWithin (length names)) (sym (is p)) (inside (same_prefix (entry names place).prefix p) (f p) (h.within p));
+  uris = λ p. ap (option_map (λ i. (entry names i).uri)) (is p) ∙ mapped (same_prefix (entry names place).prefix p) (f p)
+      ∙ ap (λ u. cond (same_prefix (entry names place).prefix p) (Some (entry names place).uri) u) (h.uris p);
+}
+  where
+    inside : (b : Bool) (o : Option ℕ) → OptionWithin (length names) o → OptionWithin (length names) (cond b (Some place) o)
+    inside true o h = here
+    inside false o h = h
+
+    mapped : (b : Bool) (o : Option ℕ) → option_map (λ i. (entry names i).uri) (cond b (Some place) o) ≡ cond b (Some (entry names place).uri) (option_map (λ i. (entry names i).uri) o)
+    mapped true o = refl
+    mapped false o = refl
+
+-- from the last place on
+pub drop_one : (xs : List ℕ) (i d : ℕ) → i < length xs → drop i xs ≡ get_or xs i d ∷ drop (i + 1) xs
+drop_one xs i d lt = rw (add-one, drop-cons xs i d) refl
+
+-- the places from this one on
+pub bound_next : (rows : List Namespace) (places : List ℕ) (i n turn : ℕ) (item : Namespace) (ds : List Declaration) (f g : Places) → ArePlaces (length rows) places → n ≡ length places → turn < n → i ≡ n - 1 - turn
+    → ((p : Option (List ℕ)) → g p ≡ cond (same_prefix (declaration (get_or rows (get_or places i 0) item)).prefix p) (Some (get_or places i 0)) (f p))
+    → IsBound (map declaration rows) f (entries (map declaration rows) (drop (length places - turn) places) ++ ds)
+    → IsBound (map declaration rows) g (entries (map declaration rows) (drop (length places - (turn + 1)) places) ++ ds)
+bound_next rows places i n turn item ds f g ok count lt at is h =
+    let names = map declaration rows in
+    let place = get_or places i 0 in
+    let inside : i < length places = omega arith in
+    let here : place < length rows = place_at (length rows) places i 0 ok inside in
+    let here2 : place < length names = rw (length-map rows declaration) here in
+    let e : declaration (get_or rows place item) ≡ entry names place = sym (entry-get rows place item here) in
+    let first : length places - (turn + 1) ≡ i = omega arith in
+    let then : length places - turn ≡ i + 1 = omega arith in
+    let all : entries names (drop (length places - (turn + 1)) places) ++ ds ≡ entry names place ∷ (entries names (drop (length places - turn) places) ++ ds) =
+    ap (λ k. entries names (drop k places) ++ ds) first ∙ ap (λ xs. entries names xs ++ ds) (drop_one places i 0 inside) ∙ ap (λ k. entry names place ∷ (entries names (drop k places) ++ ds)) (sym then) in
+    subst (IsBound names g) (sym all) (bound_more names _ f g place here2 (λ p. is p ∙ ap (λ (d : Declaration). cond (same_prefix d.prefix p) (Some place) (f p)) e) h)
+
+-- ---- tables that grow
+
+bound_grown : (names more : List Declaration) (f : Places) (ds : List Declaration) → IsBound names f ds → IsBound (names ++ more) f ds
+bound_grown names more f ds h = record {
+  within = λ p. inside (f p) (h.within p);
+  uris = λ p. same (f p) (h.within p) ∙ h.uris p;
+}
+  where
+    inside : (o : Option ℕ) → OptionWithin (length names) o → OptionWithin (length (names ++ more)) o
+    inside None w = tt
+    inside (Some i) w = let n = length-append names more in omega arith
+
+    same : (o : Option ℕ) → OptionWithin (length names) o → option_map (λ i. (entry (names ++ more) i).uri) o ≡ option_map (λ i. (entry names i).uri) o
+    same None w = refl
+    same (Some i) w = ap (λ (d : Declaration). Some d.uri) (entry-append names more i w)
+
+stacked_grown : (names more : List Declaration) (listed more-listed : List ℕ) (es : List Replaced) (f : Places) (least : ℕ) (ls : List Layer) → ArePlaces (length names) listed
+    → Stacked names listed es f least ls → Stacked (names ++ more) (listed ++ more-listed) es f least ls
+stacked_grown names more listed more-listed es f least [] ok h = tt
+stacked_grown names more listed more-listed es f least (l ∷ ls) ok (low, high, ordered, within, bound, rest) =
+    let from = l.scope.from in
+    let until = l.scope.until in
+    let n = length-append listed more-listed in
+    let same : entries (names ++ more) (slice_range (listed ++ more-listed) from until) ≡ entries names (slice_range listed from until) =
+    ap (entries (names ++ more)) (slice-append listed more-listed from until ordered within)
+    ∙ map_same (entry (names ++ more)) (entry names) (λ i. i < length names) (slice_range listed from until) (entry-append names more) (all_slice (λ i. i < length names) listed from until ok) in (
+      low,
+      high,
+      ordered,
+      omega arith,
+      subst (IsBound (names ++ more) (restored (drop l.count es) f)) (sym same) (bound_grown names more (restored (drop l.count es) f) (entries names (slice_range listed from until)) bound),
+      stacked_grown names more listed more-listed es f l.count ls ok rest,
+    )
+
+-- the same scopes, in tables that have grown
+pub keeps_grown : (names next : List Declaration) (listed after : List ℕ) (x : Present) (more : List Declaration) (more-listed : List ℕ) → next ≡ names ++ more → after ≡ listed ++ more-listed
+    → ArePlaces (length names) listed → Keeps names listed x → Keeps next after x
+keeps_grown names next listed after x more more-listed n l ok h = record {
+  stacked = subst (λ ns. Stacked ns after x.replaced.items (found x) 0 x.layers.items) (sym n)
+      (subst (λ xs. Stacked (names ++ more) xs x.replaced.items (found x) 0 x.layers.items) (sym l) (stacked_grown names more listed more-listed x.replaced.items (found x) 0 x.layers.items ok h.stacked));
+}
+
+-- ---- what is looked up
+
+pub bound_of : (names : List Declaration) (listed : List ℕ) (x : Present) → Finds names listed x → 16 < length listed → IsBound names (found x) (entries names listed)
+unfolding Finds
+bound_of names listed x h many = h many
+
+pub finds_by : (names : List Declaration) (listed : List ℕ) (x : Present) → IsBound names (found x) (entries names listed) → Finds names listed x
+unfolding Finds
+finds_by names listed x h = λ many. h
+
+pub finds_few : (names : List Declaration) (listed : List ℕ) (x : Present) → length listed < 17 → Finds names listed x
+unfolding Finds
+finds_few names listed x few = λ many. absurd (omega arith)
+
+pub found_there : (rows : List Namespace) (ds : List Declaration) (f : Places) (p : Option (List ℕ)) (o : Option ℕ) → o ≡ f p → IsBound (map declaration rows) f ds
+    → IfSome o (λ i. (i < length rows) × (uri_of ds p ≡ Some (entry (map declaration rows) i).uri))
+found_there rows ds f p None is h = tt
+found_there rows ds f p (Some i) is h =
+    let names = map declaration rows in
+    let here : i < length names = subst (OptionWithin (length names)) (sym is) (h.within p) in
+    (subst (λ n. i < n) (length-map rows declaration) here, sym (h.uris p) ∙ ap (option_map (λ i. (entry names i).uri)) (sym is))
+
+pub found_absent : (names : List Declaration) (ds : List Declaration) (f : Places) (p : Option (List ℕ)) (o : Option ℕ) → o ≡ f p → IsBound names f ds → IfNone o (uri_of ds p ≡ None)
+found_absent names ds f p None is h = sym (h.uris p) ∙ ap (option_map (λ i. (entry names i).uri)) (sym is)
+found_absent names ds f p (Some i) is h = tt

@@ -1,0 +1,22 @@
+use Rattle.std.proofs.Common.{◌<◌, None, length, map, arith}
+use Rattle.rox_build.specs.Lines.{declaration}
+use Rattle.rox_build.specs.Scopes.{entries}
+use Rattle.rox_build.specs.Present.{found}
+use Rattle.rox_build.proofs.Presenting.{bound_of, found_there, found_absent}
+use Rattle.rox_build.proofs.scope.find_default.Goals as goal
+
+pub returns-then-places-gt-FEW-clause-there : goal.returns-then-places-gt-FEW-clause-there
+returns-then-places-gt-FEW-clause-there c =
+    let names = map declaration c.args.names.now in
+    let places = c.args.places.now in
+    let x = c.args.present.now in
+    let many : 16 < length places = omega arith in
+    found_there c.args.names.now (entries names places) (found x) None c.get.result c.get.ensures (bound_of names places x c.requires.present many)
+
+pub returns-then-places-gt-FEW-clause-absent : goal.returns-then-places-gt-FEW-clause-absent
+returns-then-places-gt-FEW-clause-absent c =
+    let names = map declaration c.args.names.now in
+    let places = c.args.places.now in
+    let x = c.args.present.now in
+    let many : 16 < length places = omega arith in
+    found_absent names (entries names places) (found x) None c.get.result c.get.ensures (bound_of names places x c.requires.present many)
