@@ -1,6 +1,7 @@
 -- The room of a table that grows as a text is read.
 
-use Rattle.std.specs.Prelude.{ℕ, ◌+◌, ◌-◌, ◌*◌, ◌/◌, ◌^◌, max, min}
+use Rattle.std.specs.Prelude.{ℕ, ◌+◌, ◌-◌, ◌*◌, ◌/◌, ◌^◌, List, [], ◌∷◌, max, min}
+use Rattle.rox_build.specs.declared.tables.NodeData.{NodeData}
 
 -- what a word of 64 bits holds of a number
 abbrev pub capped : ℕ → ℕ
@@ -14,3 +15,8 @@ foretold len place end = let rest = capped (len * (end - place)) / max place 1 i
 -- the room for a table that is full with `len` rows: at least an eighth more, at most eight times as much
 abbrev pub foreseen : ℕ → ℕ → ℕ → ℕ
 foreseen len place end = max (min (foretold len place end) (capped (len * 8))) (len + len / 8 + 4)
+
+-- where the text of these rows ends: there the root node does, whose row is the first
+abbrev pub text_end : List NodeData → ℕ
+text_end [] = 0
+text_end (root ∷ rows) = root.end

@@ -1,6 +1,6 @@
 //! Growth of tables.
 
-ghost use Rattle.std.specs.Prelude.{◌≡◌, ◌<◌, ◌+◌, ◌/◌, ◌^◌, ◌++◌, ◌∷◌, [], if◌then◌else◌, is_ok, vec_len, vec_capacity, OnOk, IfErr};
+ghost use Rattle.std.specs.Prelude.{◌≡◌, ◌<◌, ◌≤◌, ◌+◌, ◌/◌, ◌^◌, ◌++◌, ◌∷◌, [], if◌then◌else◌, is_ok, vec_len, vec_capacity, OnOk, IfErr};
 ghost use Rattle.rox_build.specs.Room as room;
 
 use rox_scan::failure::Failure;
@@ -38,7 +38,8 @@ pub fn push<T: Drop>(to: &mut Vec<T>, value: T) -> Result<(), Failure>
 #[cold]
 #[inline(never)]
 pub fn with_room<T: Drop>(alloc: Global, room: usize) -> Vec<T>
-    ensures { result.items ≡ [] }
+    ensures items { result.items ≡ [] }
+    ensures room { vec_capacity result ≤ room }
 {
     match Vec::with_capacity(alloc, room) {
         Ok(items) => items,
@@ -86,6 +87,8 @@ const SPARE: usize = 65536;
 pub fn trim<T: Drop>(table: &mut Vec<T>)
     ensures items { table.new.items ≡ table.old.items }
     ensures len { vec_len table.new ≡ vec_len table.old }
+    ensures room { vec_capacity table.new ≤ vec_capacity table.old }
+    ensures none { vec_len table.old ≡ 0 → 65536 < vec_capacity table.old → vec_capacity table.new ≡ 0 }
 {
     let len = table.len();
     let spare = table.capacity() - len;

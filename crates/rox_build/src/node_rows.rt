@@ -1,13 +1,16 @@
 //! Growth of the rows of nodes.
 
 ghost use Rattle.std.specs.Prelude.{◌≡◌, ◌<◌, ◌+◌, ◌++◌, ◌∷◌, [], if◌then◌else◌, is_ok, vec_len, vec_capacity, OnOk, IfErr};
+ghost use Rattle.rox_build.specs.Room as room;
 
 use crate::growth;
 use crate::tables::NodeData;
 use rox_scan::failure::Failure;
 
 /// Where the text of these rows ends: there the root node does, whose row is the first.
-fn text_end(nodes: &[NodeData<'_>]) -> usize {
+fn text_end(nodes: &[NodeData<'_>]) -> usize
+    ensures { result ≡ room.text_end nodes.now }
+{
     match nodes.first() {
         Some(root) => root.end,
         None => 0,
