@@ -1,5 +1,9 @@
 //! What a resolver of external entities answers, and what it is asked.
 
+ghost use Rattle.std.specs.Prelude.{◌≡◌, IfOk, option_map, string_bytes};
+ghost use Rattle.std.specs.Result.{result_map_both};
+ghost use Rattle.xmldump.specs.Answers as spec;
+
 use crate::escape::write_quoted;
 use std::alloc::{AllocError, Global};
 use std::cell::{Cell, RefCell};
@@ -25,8 +29,10 @@ pub enum Answers<'a> {
 }
 
 impl<'a> Answers<'a> {
-    /// Whether there is a resolver.
-    pub fn is_none(&self) -> bool {
+    /// Whether there is no resolver.
+    pub fn is_none(&self) -> bool
+        ensures { result ≡ spec.is_none self.now }
+    {
         match self {
             Answers::InOrder(answers) => answers.is_empty(),
             Answers::Each(_) => false,
@@ -38,7 +44,9 @@ impl<'a> Answers<'a> {
         &self,
         alloc: Global,
         call: usize,
-    ) -> Result<Result<Option<&'a str>, String>, AllocError> {
+    ) -> Result<Result<Option<&'a str>, String>, AllocError>
+        ensures { IfOk result (λ r. result_map_both (option_map (λ x. x.now)) string_bytes r ≡ spec.reply_at self.now call) }
+    {
         let answers = match self {
             Answers::InOrder(answers) => *answers,
             Answers::Each(text) => return Ok(Ok(Some(*text))),
@@ -61,7 +69,9 @@ pub struct Recorder<'a> {
 }
 
 impl<'a> Recorder<'a> {
-    pub fn new(alloc: Global, answers: Answers<'a>) -> Recorder<'a> {
+    pub fn new(alloc: Global, answers: Answers<'a>) -> Recorder<'a>
+        ensures { result.answers ≡ answers.entry }
+    {
         Recorder {
             answers,
             calls: Cell::new(0),
