@@ -1,6 +1,7 @@
 //! References to characters and to entities (XML 1.0 sections 4.1 and 4.6).
 
 ghost use Rattle.std.specs.Prelude.{◌≡◌, ◌^◌, ◌≤◌, ◌<◌, IfOk, min, length, slice_index, slice_range};
+ghost use Rattle.rox_grammar.specs.Chars.{is_char};
 ghost use Rattle.rox_grammar.specs.References as spec;
 ghost use Rattle.rox_reading.specs.Values as reading;
 ghost use Rattle.rox_scan.specs.Gives.{Reads};
@@ -85,6 +86,14 @@ fn character(number: u32) -> char
     char::from_u32(number).unwrap_or('\u{FFFD}')
 }
 
+/// Whether the character may stand in XML (XML 1.0 [2] Char). Most are told by one range.
+#[inline(always)]
+fn may_stand(character: char) -> bool
+    ensures { result ≡ is_char character }
+{
+    matches!(character, ' '..='\u{D7FF}') || is_char(character)
+}
+
 /// The digits from `digits` on and the `;` of a reference that stands here. It is a fault where there is no digit, where the
 /// number is 2^32 or more, and where it is that of no Char.
 #[inline(always)]
@@ -108,7 +117,7 @@ fn number<'input>(
         return Err(Fault::MalformedEntityReference(start));
     }
     let character = character(number as u32);
-    if !is_char(character) || !is_at(text, end, b';') {
+    if !may_stand(character) || !is_at(text, end, b';') {
         return Err(Fault::MalformedEntityReference(start));
     }
     cursor.pos = after_byte(text, end, b';');
