@@ -24,7 +24,7 @@ use crate::refused::Refused;
 use rox_grammar::fault::{Fault, Span};
 use rox_scan::cursor::Cursor;
 use rox_scan::failure::Failure;
-use rox_scan::longer::run_look;
+use rox_scan::longer::{is_special, run_look};
 use rox_scan::marks::{before_byte, before_either, byte_from, either_from, has_mark};
 use rox_scan::markup::RawAttribute;
 use rox_scan::near::{ValueByte, near_end};
@@ -88,14 +88,6 @@ fn is_plain(bytes: &[u8]) -> bool
     ensures { result ≡ content.is_plain bytes.now }
 {
     before_either(bytes, b'&', b'\r') == bytes.len()
-}
-
-/// `&`, or white space that is no space.
-#[inline(always)]
-fn is_special(byte: u8) -> bool
-    ensures { result ≡ spec.is_special byte }
-{
-    (byte == b'&') | ((byte == b'\t') | ((byte == b'\n') | (byte == b'\r')))
 }
 
 /// Appends a line feed for the line end that stands here: a CR, and the LF behind it if one stands there before `stop`.

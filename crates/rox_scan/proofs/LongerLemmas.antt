@@ -14,8 +14,9 @@ use Rattle.rox_grammar.specs.declared.fault.Word.TheVariants as word
 use Rattle.rox_grammar.specs.Words.{word_text}
 use Rattle.rox_reading.specs.Lexical.{chars_up_to, text_to, string_at}
 use Rattle.rox_reading.specs.Markup.{raw_value_at, comment_at}
+use Rattle.rox_reading.specs.Values.{is_special}
 use Rattle.rox_scan.specs.Near.{AllPass, is_value_byte, is_text_byte, is_comment_byte}
-use Rattle.rox_scan.specs.Longer.{Looked, ends_value, changes_value, ends_run, changes_run, ends_comment, changes_comment}
+use Rattle.rox_scan.specs.Longer.{Looked, ends_value, ends_run, changes_run, ends_comment, changes_comment}
 use Rattle.rox_scan.proofs.NearLemmas.{near_chars, near_found, none_among, value_is_plain, value_cut, text_is_plain, text_cut, comment_is_plain, comment_cut}
 use Rattle.rox_scan.proofs.MarkLemmas.{before_mark_is, not_from_first, fails, stands_split, stands_from_split}
 use Rattle.rox_scan.proofs.CharLemmas.{chars_joined, range_parts, range_length}
@@ -107,7 +108,7 @@ looked_on changes ends src i j k a b utf8 start f g =
 
 -- ---- values
 
-value_same : (b : ℕ) → is_value_byte b ≡ true → changes_value b ≡ false
+value_same : (b : ℕ) → is_value_byte b ≡ true → is_special b ≡ false
 unfolding is_value_byte
 value_same b h = grind (arith, nat_tests)
 
@@ -115,7 +116,7 @@ value_open : (quote b : ℕ) → (quote == 39 || quote == 34) ≡ true → is_va
 unfolding is_value_byte
 value_open quote b q h = grind (arith, nat_tests)
 
-wide_same : (b : ℕ) → 128 ≤ b → changes_value b ≡ false
+wide_same : (b : ℕ) → 128 ≤ b → is_special b ≡ false
 wide_same b wide = grind (arith, nat_tests)
 
 wide_open : (quote b : ℕ) → (quote == 39 || quote == 34) ≡ true → 128 ≤ b → (b == quote || b == 60) ≡ false
@@ -123,21 +124,21 @@ wide_open quote b q wide = grind (arith, nat_tests)
 
 -- the bytes of a value from i on that the first look passes
 pub value_near : (src : List ℕ) (quote i e : ℕ) → IsUtf8 src → (quote == 39 || quote == 34) ≡ true → IsCharBoundary src i → i ≤ e → e ≤ length src → AllPass is_value_byte src i e → (e < length src → is_value_byte (get_or src e 0) ≡ false)
-    → Looked (ends_value quote src) changes_value src i e true
+    → Looked (ends_value quote src) is_special src i e true
 value_near src quote i e utf8 q start le within all stops =
-    near_looked is_value_byte changes_value (ends_value quote src) src i e utf8 start le (value_cut src e within stops) all value_is_plain value_same (λ k h. value_open quote _ q h)
+    near_looked is_value_byte is_special (ends_value quote src) src i e utf8 start le (value_cut src e within stops) all value_is_plain value_same (λ k h. value_open quote _ q h)
 
 -- and a character behind them, and the bytes behind that
-pub value_on : (src : List ℕ) (quote i j n e : ℕ) (plain : Bool) → IsUtf8 src → (quote == 39 || quote == 34) ≡ true → IsCharBoundary src i → Looked (ends_value quote src) changes_value src i j plain
+pub value_on : (src : List ℕ) (quote i j n e : ℕ) (plain : Bool) → IsUtf8 src → (quote == 39 || quote == 34) ≡ true → IsCharBoundary src i → Looked (ends_value quote src) is_special src i j plain
     → j < n → IsCharBoundary src n → AreChars src j n → ((k : ℕ) → j < k → k < n → 128 ≤ get_or src k 0) → ends_value quote src j ≡ false
     → n ≤ e → e ≤ length src → AllPass is_value_byte src n e → (e < length src → is_value_byte (get_or src e 0) ≡ false)
-    → Looked (ends_value quote src) changes_value src i e (plain && not (changes_value (get_or src j 0)))
+    → Looked (ends_value quote src) is_special src i e (plain && not (is_special (get_or src j 0)))
 value_on src quote i j n e plain utf8 q start f some cut chars wide here le within all stops =
     let ends = ends_value quote src in
-    let one = char_looked changes_value ends src j n some cut chars wide wide_same (λ k h. wide_open quote _ q h) here in
-    let two = looked_on changes_value ends src i j n plain _ utf8 start f one in
-    let three = looked_on changes_value ends src i n e _ true utf8 start two (value_near src quote n e utf8 q cut le within all stops) in
-    rw (and_true (plain && not (changes_value (get_or src j 0)))) at three
+    let one = char_looked is_special ends src j n some cut chars wide wide_same (λ k h. wide_open quote _ q h) here in
+    let two = looked_on is_special ends src i j n plain _ utf8 start f one in
+    let three = looked_on is_special ends src i n e _ true utf8 start two (value_near src quote n e utf8 q cut le within all stops) in
+    rw (and_true (plain && not (is_special (get_or src j 0)))) at three
 
 not_zero : (quote : ℕ) → (quote == 39 || quote == 34) ≡ true → 0 < quote
 not_zero quote q = grind (arith, nat_tests)
@@ -146,7 +147,7 @@ either_first : (q : ℕ) → (q == q || q == 60) ≡ true
 either_first q = grind (arith, nat_tests)
 
 -- what a value is read as whose quote stands behind it
-pub looked_value : (src : List ℕ) (quote i e : ℕ) (plain : Bool) → (quote == 39 || quote == 34) ≡ true → Looked (ends_value quote src) changes_value src i e plain → (get_or src e 0 == quote) ≡ true
+pub looked_value : (src : List ℕ) (quote i e : ℕ) (plain : Bool) → (quote == 39 || quote == 34) ≡ true → Looked (ends_value quote src) is_special src i e plain → (get_or src e 0 == quote) ≡ true
     → raw_value_at quote src i ≡ Ok (slice_range src i e, e)
 unfolding raw_value_at chars_up_to
 looked_value src quote i e plain q f here =

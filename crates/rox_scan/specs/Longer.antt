@@ -15,13 +15,9 @@ pub record Looked (ends : ℕ → Bool) (changes : ℕ → Bool) (src : List ℕ
   pub apart : (k : ℕ) → i ≤ k → k < j → ends k ≡ false
   pub plain_is : plain ≡ not (list_any changes (slice_range src i j))
 
--- a value ends at its quote or a `<`
+-- a value ends at its quote or a `<`; it is changed at each special byte
 abbrev pub ends_value : ℕ → List ℕ → ℕ → Bool
 ends_value quote src k = (slice_index src k == quote) || (slice_index src k == 60)
-
--- and is changed at a `&` and at white space that is no space
-abbrev pub changes_value : ℕ → Bool
-changes_value b = (b == 38) || ((b == 9) || ((b == 10) || (b == 13)))
 
 -- a run ends at a `<` or a `]]>`
 abbrev pub ends_run : List ℕ → ℕ → Bool

@@ -6,6 +6,7 @@ ghost use Rattle.std.specs.Str.{IsCharBoundary};
 ghost use Rattle.rox_grammar.specs.Constructs.{AreChars};
 ghost use Rattle.rox_grammar.specs.Marks.{stands};
 ghost use Rattle.rox_grammar.specs.Content as content;
+ghost use Rattle.rox_reading.specs.Values as reading;
 ghost use Rattle.rox_scan.specs.Longer as longer;
 ghost use Rattle.rox_scan.specs.Longer.{Looked};
 
@@ -55,8 +56,8 @@ fn is_mark_at(text: &str, at: usize, mark: &[u8]) -> bool
 
 /// `&`, or white space that is no space.
 #[inline(always)]
-fn changes_value(byte: u8) -> bool
-    ensures { result ≡ longer.changes_value byte }
+pub fn is_special(byte: u8) -> bool
+    ensures { result ≡ reading.is_special byte }
 {
     (byte == b'&') | ((byte == b'\t') | ((byte == b'\n') | (byte == b'\r')))
 }
@@ -66,7 +67,7 @@ fn changes_value(byte: u8) -> bool
 pub fn value_look(text: &str, at: usize, quote: u8) -> Look
     requires cut { IsCharBoundary text.now at }
     requires quote { (quote == 39 || quote == 34) ≡ true }
-    ensures { Looked (longer.ends_value quote text.now) longer.changes_value text.now at result.end result.plain }
+    ensures { Looked (longer.ends_value quote text.now) reading.is_special text.now at result.end result.plain }
 {
     let bytes = text.as_bytes();
     let mut plain = true;
@@ -80,7 +81,7 @@ pub fn value_look(text: &str, at: usize, quote: u8) -> Look
         if next == end {
             break;
         }
-        plain &= !changes_value(here);
+        plain &= !is_special(here);
         end = near_end::<ValueByte>(text, next);
     }
     Look { end, plain }
@@ -143,7 +144,7 @@ pub fn is_plain_value(bytes: &[u8]) -> bool
 {
     let mut plain = true;
     for byte in bytes {
-        plain &= !changes_value(*byte);
+        plain &= !is_special(*byte);
     }
     plain
 }

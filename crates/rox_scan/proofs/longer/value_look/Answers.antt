@@ -1,6 +1,7 @@
 use Rattle.std.proofs.Common.{◌≡◌, ◌<◌, ℕ, List, false, get_or, refl, ap, ◌∙◌, arith}
 use Rattle.std.proofs.lemmas.Bool.{ne_eqb}
-use Rattle.rox_scan.specs.Longer.{ends_value, changes_value}
+use Rattle.rox_reading.specs.Values.{is_special}
+use Rattle.rox_scan.specs.Longer.{ends_value}
 use Rattle.rox_scan.proofs.LongerLemmas.{value_near, value_on}
 use Rattle.rox_scan.proofs.longer.value_look.Goals as goal
 
@@ -23,7 +24,7 @@ loop-end-preserved c =
     let no_tag = ne_eqb (get_or src j 0) 60 (λ h. absurd (omega (arith, h, read, c.if-here-eq60.false))) in
     let here : ends_value c.args.quote src j ≡ false = rw (other, no_tag) refl in
     let some : j < c.after_char-next.result = omega (arith, a.onward, c.if-next-end.false) in
-    let changed : c.changes_value.result ≡ changes_value (get_or src j 0) = c.changes_value.ensures ∙ ap changes_value read in
+    let changed : c.is_special.result ≡ is_special (get_or src j 0) = c.is_special.ensures ∙ ap is_special read in
     record { looked = rw changed (value_on src c.args.quote c.args.at j _ _ c.loop-end.plain c.utf8.text c.requires.quote c.requires.cut c.loop-end.invariant.looked some a.cut a.chars a.wide here n.onward n.within n.passes n.stops) }
 
 pub returns-after-loop-end : goal.returns-after-loop-end

@@ -1,10 +1,11 @@
 use Rattle.std.proofs.Common.{◌-◌, length}
-use Rattle.rox_scan.specs.Longer.{Looked, ends_value, changes_value}
+use Rattle.rox_reading.specs.Values.{is_special}
+use Rattle.rox_scan.specs.Longer.{Looked, ends_value}
 use Rattle.rox_scan.proofs.longer.value_look.Given as goal
 
 abbrev pub invariant-loop-end : goal.invariant-loop-end
 invariant-loop-end l = record {
-  looked : Looked (ends_value l.quote l.text) changes_value l.text l.at l.end l.plain;
+  looked : Looked (ends_value l.quote l.text) is_special l.text l.at l.end l.plain;
 }
 
 abbrev pub decreases-loop-end : goal.decreases-loop-end
