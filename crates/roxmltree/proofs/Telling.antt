@@ -30,7 +30,8 @@ use Rattle.rox_error.specs.declared.position.TextPos.{TextPos}
 use Rattle.rox_build.specs.Built.{BuiltNone, BuiltRefusal}
 use Rattle.rox_build.specs.declared.refused.Refused.{Refused}
 use Rattle.rox_build.specs.declared.refused.Refused.TheVariants as why
-use Rattle.roxmltree.specs.Told.{SpeaksOfText, IsTold, MayRefuse, IsFirst, Tells}
+use Rattle.roxmltree.specs.Speaks.{SpeaksOfText}
+use Rattle.roxmltree.specs.Told.{IsTold, MayRefuse, IsFirst, Tells}
 use Rattle.roxmltree.proofs.Parsed.{read_alone}
 
 -- ---- replies

@@ -21,6 +21,7 @@ pub mod Walk
 pub mod Left
 pub mod Range
 pub mod Axis
+pub mod Speaks
 pub mod Told
 pub mod Alone
 pub mod Bounded

@@ -1,5 +1,5 @@
--- What a caller is told of a text that is refused.
-use Rattle.std.specs.Prelude.{◌≡◌, ◌≢◌, ◌++◌, ℕ, Bool, List, Ok, Err, String, string_bytes, length}
+-- What a caller is told of a text that is refused, in the words of reading.
+use Rattle.std.specs.Prelude.{◌≡◌, ◌++◌, ℕ, Bool, List, Ok, Err, String, string_bytes, length}
 use Rattle.std.specs.declared.alloc.Global.{Global}
 use Rattle.rox_grammar.specs.Spans.{NamesText}
 use Rattle.rox_grammar.specs.Doctype.{Request, Asked}
@@ -14,14 +14,9 @@ use Rattle.rox_resolver.specs.Requests.{AreAllowed}
 use Rattle.rox_error.specs.Telling.{position_at, IsErrorOf}
 use Rattle.rox_error.specs.declared.error.Error.{Error}
 use Rattle.rox_error.specs.declared.error.Error.TheVariants as error
-use Rattle.rox_error.specs.declared.position.TextPos.{TextPos}
 use Rattle.rox_build.specs.declared.refused.Refused.{Refused}
 use Rattle.rox_build.specs.declared.refused.Refused.TheVariants as why
 use Rattle.roxmltree.specs.Doc.{Doc}
-
--- The error is one of the text: it is neither want of memory nor the resolver's own.
-abbrev pub SpeaksOfText : Error → Type 0
-SpeaksOfText e = (e ≢ error.OutOfMemory) × ((p : TextPos) (words : String Global) → e ≢ error.EntityResolver p words)
 
 -- The error is what a caller is told of the refusal of this text: of a fault its kind, its names and its position in the source
 -- that it counts in, of the resolver's own its words, at the end of the request in the text.

@@ -15,7 +15,8 @@ ghost use Rattle.rox_reading.specs.Refusals.{here};
 ghost use Rattle.rox_reading.specs.Whole.{reading};
 ghost use Rattle.rox_resolver.specs.Requests.{Allows, AreAllowed, MayAsk};
 ghost use Rattle.rox_error.specs.Telling.{position_at, IsErrorOf};
-ghost use Rattle.roxmltree.specs.Told.{SpeaksOfText, IsFirst, IsRead, Tells};
+ghost use Rattle.roxmltree.specs.Speaks.{SpeaksOfText};
+ghost use Rattle.roxmltree.specs.Told.{IsFirst, IsRead, Tells};
 
 use crate::options::ParsingOptions;
 use crate::tree::Document;

@@ -15,7 +15,7 @@ use Rattle.rox_error.specs.declared.position.TextPos.{TextPos}
 use Rattle.rox_error.specs.declared.error.Error.{Error}
 use Rattle.rox_error.specs.declared.error.Error.TheVariants as error
 use Rattle.roxmltree.specs.Doc.{Doc}
-use Rattle.roxmltree.specs.Told.{SpeaksOfText}
+use Rattle.roxmltree.specs.Speaks.{SpeaksOfText}
 use Rattle.roxmltree.proofs.Parsed.{read_tree}
 use Rattle.roxmltree.proofs.Telling.{first_asked, first_none, first_resolver, first_refusal}
 use Rattle.roxmltree.proofs.tree.Document.parse_with_options.Goals as goal
