@@ -23,6 +23,7 @@ mod positions;
 mod printed;
 mod refusals;
 mod resolvers;
+mod scopes;
 mod searches;
 mod slices;
 mod sources;
