@@ -1,8 +1,10 @@
 //! A longer look at a value, a run or a comment, where the first look stops at a byte that may be in order: a reference, white
 //! space, the other quote, a bracket, a dash, or a character that begins with 239.
 
-ghost use Rattle.std.specs.Prelude.{◌≡◌, ◌==◌, ◌||◌, ◌+◌, ◌<◌, ◌≤◌, ℕ, true, length, slice_index};
+ghost use Rattle.std.specs.Prelude.{◌≡◌, ◌==◌, ◌||◌, ◌+◌, ◌<◌, ◌≤◌, ℕ, true, false, length, slice_index};
 ghost use Rattle.std.specs.Str.{IsCharBoundary};
+ghost use Rattle.rox_grammar.specs.Chars.{is_char};
+ghost use Rattle.rox_grammar.specs.Runs.{begins};
 ghost use Rattle.rox_grammar.specs.Constructs.{AreChars};
 ghost use Rattle.rox_grammar.specs.Marks.{stands};
 ghost use Rattle.rox_grammar.specs.Content as content;
@@ -29,6 +31,7 @@ fn after_char(text: &str, at: usize) -> usize
     ensures chars { AreChars text.now at result }
     ensures cut { IsCharBoundary text.now result }
     ensures wide { (k : ℕ) → at < k → k < result → 128 ≤ slice_index text.now k }
+    ensures stops { result ≡ at → begins is_char text.now at ≡ false }
 {
     let here = text.as_bytes()[at];
     if here < 128 {
@@ -67,7 +70,8 @@ pub fn is_special(byte: u8) -> bool
 pub fn value_look(text: &str, at: usize, quote: u8) -> Look
     requires cut { IsCharBoundary text.now at }
     requires quote { (quote == 39 || quote == 34) ≡ true }
-    ensures { Looked (longer.ends_value quote text.now) reading.is_special text.now at result.end result.plain }
+    ensures looked { Looked (longer.ends_value quote text.now) reading.is_special text.now at result.end result.plain }
+    ensures stops { result.end < length text.now → (longer.ends_value quote text.now result.end || slice_index text.now result.end == 38) ≡ false → begins is_char text.now result.end ≡ false }
 {
     let bytes = text.as_bytes();
     let mut plain = true;
@@ -98,7 +102,8 @@ fn changes_run(byte: u8) -> bool
 /// A run of character data as far as it is in order, up to a `<`, a `]]>` or the end.
 pub fn run_look(text: &str, at: usize) -> Look
     requires { IsCharBoundary text.now at }
-    ensures { Looked (longer.ends_run text.now) longer.changes_run text.now at result.end result.plain }
+    ensures looked { Looked (longer.ends_run text.now) longer.changes_run text.now at result.end result.plain }
+    ensures stops { result.end < length text.now → longer.ends_run text.now result.end ≡ false → begins is_char text.now result.end ≡ false }
 {
     let bytes = text.as_bytes();
     let mut plain = true;
@@ -121,7 +126,8 @@ pub fn run_look(text: &str, at: usize) -> Look
 /// A comment as far as it is in order, up to two dashes or the end.
 pub fn comment_end(text: &str, at: usize) -> usize
     requires { IsCharBoundary text.now at }
-    ensures { Looked (longer.ends_comment text.now) longer.changes_comment text.now at result true }
+    ensures looked { Looked (longer.ends_comment text.now) longer.changes_comment text.now at result true }
+    ensures stops { result < length text.now → longer.ends_comment text.now result ≡ false → begins is_char text.now result ≡ false }
 {
     let bytes = text.as_bytes();
     let mut end = near_end::<CommentByte>(text, at);

@@ -27,11 +27,11 @@ loop-end-preserved c =
     let changed : c.is_special.result ≡ is_special (get_or src j 0) = c.is_special.ensures ∙ ap is_special read in
     record { looked = rw changed (value_on src c.args.quote c.args.at j _ _ c.loop-end.plain c.utf8.text c.requires.quote c.requires.cut c.loop-end.invariant.looked some a.cut a.chars a.wide here n.onward n.within n.passes n.stops) }
 
-pub returns-after-loop-end : goal.returns-after-loop-end
-returns-after-loop-end c = c.loop-end.invariant.looked
+pub returns-after-loop-end-clause-looked : goal.returns-after-loop-end-clause-looked
+returns-after-loop-end-clause-looked c = c.loop-end.invariant.looked
 
-pub returns-then-here-quote : goal.returns-then-here-quote
-returns-then-here-quote c = c.loop-end.invariant.looked
+pub returns-then-here-quote-clause-looked : goal.returns-then-here-quote-clause-looked
+returns-then-here-quote-clause-looked c = c.loop-end.invariant.looked
 
-pub returns-then-next-end : goal.returns-then-next-end
-returns-then-next-end c = c.loop-end.invariant.looked
+pub returns-then-next-end-clause-looked : goal.returns-then-next-end-clause-looked
+returns-then-next-end-clause-looked c = c.loop-end.invariant.looked

@@ -7,5 +7,5 @@ returns-clause-value c =
     let u = c.skip.new.self in
     let behind = c.at-behind.ensures in
     let here = rw (behind.source, behind.place) at (sym c.starts.ensures ∙ c.if-not-starts.false) in
-    let read = looked_comment u.text.now c.args.self.now.pos u.pos c.comment_end-end.result c.skip.ensures.place c.comment_end-end.ensures here in
+    let read = looked_comment u.text.now c.args.self.now.pos u.pos c.comment_end-end.result c.skip.ensures.place c.comment_end-end.ensures.looked here in
     rw (← c.skip.ensures.source, c.range.ensures.value, c.skip-2.ensures.place, behind.place) read
