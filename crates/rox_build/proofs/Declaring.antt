@@ -1,5 +1,5 @@
 -- A declaration of a start tag, step by step.
-use Rattle.std.proofs.Common.{◌≡◌, ℕ, zero, suc, ◌-◌, take, subst, map, ◌+◌, ◌<◌, ◌≤◌, ◌||◌, not, Bool, true, false, List, [], ◌∷◌, ◌++◌, length, drop, refl, sym, ap, ◌∙◌, arith, Result, Ok, Err, length-append, append_assoc, le-ltb, lt-ltb}
+use Rattle.std.proofs.Common.{◌≡◌, ℕ, zero, suc, ◌-◌, take, get_or, subst, map, ◌+◌, ◌<◌, ◌≤◌, ◌||◌, not, Bool, true, false, List, [], ◌∷◌, ◌++◌, length, drop, refl, sym, ap, ◌∙◌, arith, Result, Ok, Err, length-append, append_assoc, le-ltb, lt-ltb}
 use Rattle.std.specs.List.{slice_range}
 use Rattle.std.proofs.lemmas.List.{append-nil, map-append, length-map, drop-append-le}
 use Rattle.std.proofs.lemmas.List.Elements.{filter-append}
@@ -16,21 +16,21 @@ use Rattle.rox_scan.specs.Gives.{Fails}
 use Rattle.rox_scan.specs.declared.failure.Failure.{Failure}
 use Rattle.rox_scan.specs.declared.failure.Failure.TheVariants as failure
 use Rattle.rox_build.specs.declared.tables.Namespace.{Namespace}
-use Rattle.rox_build.specs.Lines.{declaration, entry}
+use Rattle.rox_build.specs.Lines.{declaration, entry, lists_of, scope_at, AreStretches}
 use Rattle.rox_build.specs.Prefixes.{Remembers}
-use Rattle.rox_build.specs.Scopes.{entries, others, ArePlaces}
+use Rattle.rox_build.specs.Scopes.{entries, others, places_in, ArePlaces}
 use Rattle.rox_build.specs.Tags.{declares_xml, Declares, Declared}
 use Rattle.std.proofs.Math.ListN.{drop_of_length-le}
 use Rattle.rox_build.specs.declared.tables.Scope.{Scope}
 use Rattle.rox_build.specs.declared.tables.ElementTables.{ElementTables}
-use Rattle.rox_build.specs.Tagged.{KeepsPlaces}
+use Rattle.rox_build.specs.Tagged.{KeepsPlaces, lists_in}
 use Rattle.rox_build.specs.Present.{Keeps, IsEntered}
 use Rattle.rox_build.specs.declared.present.Present.{Present}
 use Rattle.rox_build.proofs.Presenting.{keeps_grown}
 use Rattle.rox_build.proofs.Remembering.{Key, remembers_same}
 use Rattle.rox_build.proofs.Listing.{with_new-append, with_new-more, with_new-front, declares_nothing, listed-none, listed-others}
 use Rattle.rox_build.proofs.Inherits.{slice-rest}
-use Rattle.rox_build.proofs.Stable.{slice-append, all_append, all_drop, all_weaker, map_same, entry-append}
+use Rattle.rox_build.proofs.Stable.{slice-append, all_append, all_drop, all_weaker, map_same, entry-append, scope_at-append, lists-append, lists-push, length-lists, stretches_more, scope_pushed, scope_places, scope_row}
 
 -- the URI is refused
 pub uri_refused : (known : List Declaration) (a : Attribute) (h : Held) (f : Fault) → uri_tested a ≡ Err f → declared known a h ≡ Err f
@@ -179,7 +179,7 @@ pub lists_above : (above ds : List Declaration) → ds ≡ [] → above ≡ list
 lists_above above ds e = sym (ap (listed above) e ∙ listed-none above)
 
 -- what it declares, and what it inherits
-pub lists_both : (known : List Declaration) (before : List ℕ) (names seen : List Declaration) (old new more : List ℕ) (xml : Bool) (ds : List Declaration) (own from until end : ℕ) → own ≡ length before → seen ≡ names
+lists_both : (known : List Declaration) (before : List ℕ) (names seen : List Declaration) (old new more : List ℕ) (xml : Bool) (ds : List Declaration) (own from until end : ℕ) → own ≡ length before → seen ≡ names
     → end ≡ length new → Declares known before names old xml ds → new ≡ old ++ more
     → entries seen more ≡ others (entries seen (drop own old)) xml (entries seen (slice_range old from until))
     → entries names (slice_range new own end) ≡ listed (entries names (slice_range old from until)) ds
@@ -191,6 +191,18 @@ lists_both known before names seen old new more xml ds own from until end o s e 
     let gets : entries names more ≡ others (listable_of ds) (declares_xml ds) above =
     rw s at inherits ∙ ap (λ xs. others (entries names xs) xml above) mine ∙ ap (λ xs. others xs xml above) d.same ∙ ap (λ b. others (listable_of ds) b above) d.xml_is in
     ap (entries names) rest ∙ map-append (entry names) d.mine more ∙ ap (λ xs. xs ++ entries names more) d.same ∙ ap (λ xs. listable_of ds ++ xs) gets ∙ sym (listed-others above ds)
+
+-- what the scope that it makes lists
+pub lists_made : (known : List Declaration) (before : List ℕ) (names seen : List Declaration) (old new more : List ℕ) (scopes after : List Scope) (s parent : Scope) (xml : Bool) (ds : List Declaration) (own place above : ℕ)
+    → own ≡ length before → seen ≡ names → own ≤ length old → AreStretches own scopes → above < length scopes → parent ≡ get_or scopes above parent → s.from ≡ own → s.until ≡ length new
+    → after ≡ scopes ++ s ∷ [] → place ≡ length scopes → Declares known before names old xml ds → new ≡ old ++ more
+    → entries seen more ≡ others (entries seen (drop own old)) xml (entries seen (slice_range old parent.from parent.until))
+    → scope_at (lists_of names new after) place ≡ listed (scope_at (lists_of names old scopes) above) ds
+lists_made known before names seen old new more scopes after s parent xml ds own place above o here inside stretches below at begins ends push last d grown inherits =
+    let over : entries names (slice_range old parent.from parent.until) ≡ scope_at (lists_of names old scopes) above =
+    sym (scope_row names old scopes above parent below at) in
+    scope_pushed names old new more scopes after s own place grown inside stretches push last ∙ ap (λ i. entries names (slice_range new i s.until)) begins
+    ∙ lists_both known before names seen old new more xml ds own parent.from parent.until s.until o here ends d grown inherits ∙ ap (λ xs. listed xs ds) over
 
 -- the listed places with one more, where the table has a pair more or is as before
 pub places_after : (old rows : List Namespace) (listed after : List ℕ) (d : Declaration) (place : ℕ) → map declaration rows ≡ with_new (map declaration old) (d ∷ []) → place < length rows
@@ -213,12 +225,21 @@ remembers_after old rows listed d own keys grown ok h =
     ap (λ ns. entries ns (drop own listed)) (grown ∙ front.1) ∙ map_same (entry (names ++ front.0)) (entry names) (λ i. i < length names) (drop own listed) (entry-append names front.0) mine in
     remembers_same names (map declaration rows) (drop own listed) keys stays h
 
--- the places of prefixes, where the table has a pair more and one more is listed
-pub kept_after : (old rows : List Namespace) (listed after : List ℕ) (d : Declaration) (place : ℕ) (x : Present) → map declaration rows ≡ with_new (map declaration old) (d ∷ [])
-    → after ≡ listed ++ place ∷ [] → ArePlaces (length old) listed → Keeps (map declaration old) listed x → Keeps (map declaration rows) after x
-kept_after old rows listed after d place x grown push ok h =
+-- the places of prefixes, where the table has a pair more
+pub kept_after : (old rows : List Namespace) (lists : List (List Declaration)) (d : Declaration) (x : Present) → map declaration rows ≡ with_new (map declaration old) (d ∷ [])
+    → Keeps (map declaration old) lists x → Keeps (map declaration rows) lists x
+kept_after old rows lists d x grown h =
     let front = with_new-front (map declaration old) (d ∷ []) in
-    keeps_grown (map declaration old) (map declaration rows) listed after x front.0 (place ∷ []) (grown ∙ front.1) push (rw (length-map old declaration) ok) h
+    keeps_grown (map declaration old) (map declaration rows) lists lists x front.0 [] (grown ∙ front.1) (sym (append-nil lists)) h
+
+-- what scopes list, where the table has a pair more and one more is listed
+pub lists_after : (old rows : List Namespace) (listed after : List ℕ) (d : Declaration) (place own : ℕ) (scopes : List Scope) → map declaration rows ≡ with_new (map declaration old) (d ∷ [])
+    → after ≡ listed ++ place ∷ [] → own ≤ length listed → ArePlaces (length old) listed → AreStretches own scopes
+    → lists_of (map declaration rows) after scopes ≡ lists_of (map declaration old) listed scopes
+lists_after old rows listed after d place own scopes grown push here ok h =
+    let front = with_new-front (map declaration old) (d ∷ []) in
+    ap (λ ns. lists_of ns after scopes) (grown ∙ front.1) ∙ ap (λ ls. lists_of (map declaration old ++ front.0) ls scopes) push
+    ∙ lists-append (map declaration old) front.0 listed (place ∷ []) scopes (rw (length-map old declaration) ok) (stretches_more own (length listed) scopes here h)
 
 -- ---- the scope that a tag enters
 
@@ -227,35 +248,43 @@ others_none [] = refl
 others_none (d ∷ ds) = ap (λ xs. d ∷ xs) (others_none ds)
 
 -- that of its parent, where it declares nothing
-pub enters_above : (names : List Declaration) (listed : List ℕ) (own : ℕ) (xml : Bool) (above : Scope) → length listed ≤ own → xml ≡ false → above.from ≤ above.until → above.until ≤ length listed
-    → IsEntered names listed (drop own listed) (slice_range listed above.from above.until) xml above above
-enters_above names listed own xml above none off ordered within =
-    let scope = entries names (slice_range listed above.from above.until) in
+pub enters_above : (names : List Declaration) (listed : List ℕ) (scopes : List Scope) (own : ℕ) (xml : Bool) (above : ℕ) → length listed ≤ own → xml ≡ false → above < length scopes
+    → IsEntered names (lists_of names listed scopes) (drop own listed) (places_in listed scopes above) xml above above
+enters_above names listed scopes own xml above none off within =
     let empty : drop own listed ≡ [] = drop_of_length-le listed none in
+    let is = sym (scope_places names listed scopes above) in
     record {
-      is = refl;
-      ordered = ordered;
-      within = within;
-      lists = rw (empty, off) (others_none scope);
+      is = is;
+      within = rw (length-lists names listed scopes) within;
+      made = is ∙ rw (empty, off) (others_none (scope_at (lists_of names listed scopes) above));
     }
 
 -- its own
-pub enters_own : (names seen : List Declaration) (old new more : List ℕ) (own end : ℕ) (xml : Bool) (above : Scope) → seen ≡ names → own ≤ length old → above.from ≤ above.until → above.until ≤ own → end ≡ length new
-    → new ≡ old ++ more → entries seen more ≡ others (entries seen (drop own old)) xml (entries seen (slice_range old above.from above.until))
-    → IsEntered names new (drop own old) (slice_range new own end) xml above (record { from = own; until = end })
-enters_own names seen old new more own end xml above s here ordered below e grown inherits =
-    let n : length new ≡ length old + length more = ap length grown ∙ length-append old more in
-    let rest : slice_range new own end ≡ drop own old ++ more =
-    ap (slice_range new own) e ∙ slice-rest new own ∙ ap (drop own) grown ∙ drop-append-le own old more here in
-    let stays : slice_range old above.from above.until ≡ slice_range new above.from above.until =
-    sym (ap (λ xs. slice_range xs above.from above.until) grown ∙ slice-append old more above.from above.until ordered (omega arith)) in
-    let gets : entries names more ≡ others (entries names (drop own old)) xml (entries names (slice_range new above.from above.until)) =
-    rw s at inherits ∙ ap (λ xs. others (entries names (drop own old)) xml (entries names xs)) stays in
+pub enters_own : (names seen : List Declaration) (old new more : List ℕ) (scopes after : List Scope) (s parent : Scope) (own place : ℕ) (xml : Bool) (above : ℕ) → seen ≡ names → own ≤ length old
+    → AreStretches own scopes → above < length scopes → parent ≡ get_or scopes above parent → s.from ≡ own → s.until ≡ length new → new ≡ old ++ more → after ≡ scopes ++ s ∷ [] → place ≡ length scopes
+    → entries seen more ≡ others (entries seen (drop own old)) xml (entries seen (slice_range old parent.from parent.until))
+    → IsEntered names (lists_of names new after) (drop own old) (places_in new after place) xml above place
+enters_own names seen old new more scopes after s parent own place xml above here inside stretches below at begins ends grown push last inherits =
+    let lists = lists_of names old scopes in
+    let made = lists-push names old new more scopes after s own grown inside stretches push in
+    let is = sym (scope_places names new after place) in
+    let rest : slice_range new s.from s.until ≡ drop own old ++ more =
+    ap (λ i. slice_range new i s.until) begins ∙ ap (slice_range new own) ends ∙ slice-rest new own ∙ ap (drop own) grown ∙ drop-append-le own old more inside in
+    let n = length-lists names old scopes in
+    let here2 : above < length lists = omega arith in
+    let stays : scope_at (lists_of names new after) above ≡ scope_at lists above =
+    ap (λ ls. scope_at ls above) made ∙ scope_at-append lists (entries names (slice_range new s.from s.until) ∷ []) above here2 in
+    let over : entries names (slice_range old parent.from parent.until) ≡ scope_at (lists_of names new after) above =
+    sym (stays ∙ scope_row names old scopes above parent below at) in
+    let gets : entries names more ≡ others (entries names (drop own old)) xml (scope_at (lists_of names new after) above) =
+    rw here at inherits ∙ ap (others (entries names (drop own old)) xml) over in
+    let m = length-lists names new after in
+    let p = ap length push ∙ length-append scopes (s ∷ []) in
     record {
-      is = refl;
-      ordered = omega arith;
+      is = is;
       within = omega arith;
-      lists = ap (entries names) rest ∙ map-append (entry names) (drop own old) more ∙ ap (λ xs. entries names (drop own old) ++ xs) gets;
+      made = is ∙ scope_pushed names old new more scopes after s own place grown inside stretches push last ∙ ap (entries names) rest ∙ map-append (entry names) (drop own old) more
+          ∙ ap (λ xs. entries names (drop own old) ++ xs) gets;
     }
 
 -- what is listed behind others
@@ -271,11 +300,10 @@ slice_short xs i j n le = let t = take_short (j - i) (drop i xs) in omega arith
     take_short (suc n) [] = omega arith
     take_short (suc n) (x ∷ xs) = let t = take_short n xs in omega arith
 
--- the places of prefixes, where more is listed
-pub kept_listed : (a b : ElementTables) → b.namespaces ≡ a.namespaces → b.present ≡ a.present → (more : List ℕ) × (b.listed.items ≡ a.listed.items ++ more)
-    → ArePlaces (length a.namespaces.items.items) a.listed.items → KeepsPlaces a → KeepsPlaces b
-kept_listed a b n p (more, l) ok h =
+-- the places of prefixes, where a scope is more
+pub kept_listed : (a b : ElementTables) → b.namespaces ≡ a.namespaces → b.present ≡ a.present → (more : List (List Declaration)) × (lists_in b ≡ lists_in a ++ more) → KeepsPlaces a → KeepsPlaces b
+kept_listed a b n p (more, l) h =
     let names = map declaration a.namespaces.items.items in
     let next = map declaration b.namespaces.items.items in
     let same : next ≡ names ++ [] = ap (λ v. map declaration v.items.items) n ∙ sym (append-nil names) in
-    keeps_grown names next a.listed.items b.listed.items b.present [] more same l (rw (length-map a.namespaces.items.items declaration) ok) (subst (Keeps names a.listed.items) (sym p) h)
+    keeps_grown names next (lists_in a) (lists_in b) b.present [] more same l (subst (Keeps names (lists_in a)) (sym p) h)

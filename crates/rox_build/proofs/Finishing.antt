@@ -24,8 +24,8 @@ root_closed end f n h =
 
 finish_with : (end : ℕ) (done : Forest Item) (b : Builder) (u : Tables) (d : NodeData) → Settled end root done b → AreSound b.tables → length b.nodes.items < 2 ^ 32
     → u.nodes.items ≡ set b.nodes.items 0 (record (get_or b.nodes.items 0 d) { next = length b.nodes.items }) → u.attributes ≡ b.tables.attributes → u.namespaces ≡ b.tables.namespaces.items
-    → u.listed ≡ b.tables.listed → IsWithin b.tables d.kind → Holds u (document_tree end (merge done))
-finish_with end done b u d h sound few change attributes namespaces listed fine =
+    → u.listed ≡ b.tables.listed → u.scopes ≡ b.tables.scopes → IsWithin b.tables d.kind → Holds u (document_tree end (merge done))
+finish_with end done b u d h sound few change attributes namespaces listed scopes fine =
     let t = b.tables in
     let n = rows_count t end root (merge done) b.nodes.items h.rows in
     let found : line_in t (get_or b.nodes.items 0 d) ≡ root_line end = sym (get_or-map (line_in t) b.nodes.items 0 d) ∙ ap (λ xs. get_or xs 0 (line_in t d)) h.rows in
@@ -36,30 +36,32 @@ finish_with end done b u d h sound few change attributes namespaces listed fine 
     let w = within_set t b.nodes.items 0 new h.within (within_at t b.nodes.items 0 d h.within fine) in
     let l : length u.nodes.items ≡ length b.nodes.items = ap length change ∙ length-set b.nodes.items 0 new in
     let s : Sound u = record {
-      nodes = rw (change, attributes, namespaces, listed) w;
+      nodes = rw (change, attributes, namespaces, scopes) w;
       attributes = rw (attributes, namespaces) sound.attributes;
       listed = rw (listed, namespaces) sound.listed;
+      scopes = rw (listed, scopes) sound.scopes;
     } in
-    record { rows = rw (change, attributes, namespaces, listed) g; sound = s; few = rw l few }
+    record { rows = rw (change, attributes, namespaces, listed, scopes) g; sound = s; few = rw l few }
 
 pub finish_holds : (end : ℕ) (done : Forest Item) (b : Builder) (u : Tables) → Settled end root done b → AreSound b.tables → length b.nodes.items < 2 ^ 32
     → ((d : NodeData) → u.nodes.items ≡ set b.nodes.items 0 (record (get_or b.nodes.items 0 d) { next = length b.nodes.items })) → u.attributes ≡ b.tables.attributes
-    → u.namespaces ≡ b.tables.namespaces.items → u.listed ≡ b.tables.listed → Holds u (document_tree end (merge done))
-finish_holds end done b u h sound few change attributes namespaces listed =
+    → u.namespaces ≡ b.tables.namespaces.items → u.listed ≡ b.tables.listed → u.scopes ≡ b.tables.scopes → Holds u (document_tree end (merge done))
+finish_holds end done b u h sound few change attributes namespaces listed scopes =
     let n = rows_count b.tables end root (merge done) b.nodes.items h.rows in
     let some : 0 < length b.nodes.items = omega arith in
     let d = some_row b.nodes.items some in
-    finish_with end done b u d h sound few (change d) attributes namespaces listed (first_within b.tables b.nodes.items some h.within)
+    finish_with end done b u d h sound few (change d) attributes namespaces listed scopes (first_within b.tables b.nodes.items some h.within)
 
 -- tables of the same rows hold the same tree, whatever room they have
-pub same_held : (t u : Tables) (tree : Forest Node) → u.nodes.items ≡ t.nodes.items → rows_of u.attributes ≡ rows_of t.attributes → u.namespaces ≡ t.namespaces → u.listed ≡ t.listed
+pub same_held : (t u : Tables) (tree : Forest Node) → u.nodes.items ≡ t.nodes.items → rows_of u.attributes ≡ rows_of t.attributes → u.namespaces ≡ t.namespaces → u.listed ≡ t.listed → u.scopes ≡ t.scopes
     → Holds t tree → Holds u tree
-same_held t u tree nodes attributes namespaces listed h = record {
-  rows = rw (nodes, attributes, namespaces, listed) h.rows;
+same_held t u tree nodes attributes namespaces listed scopes h = record {
+  rows = rw (nodes, attributes, namespaces, listed, scopes) h.rows;
   sound = record {
-    nodes = rw (nodes, attributes, namespaces, listed) h.sound.nodes;
+    nodes = rw (nodes, attributes, namespaces, scopes) h.sound.nodes;
     attributes = rw (attributes, namespaces) h.sound.attributes;
     listed = rw (listed, namespaces) h.sound.listed;
+    scopes = rw (listed, scopes) h.sound.scopes;
   };
   few = rw nodes h.few;
 }

@@ -1,5 +1,5 @@
 -- The row of an element whose start tag was read.
-use Rattle.std.proofs.Common.{◌≡◌, ℕ, ◌+◌, ◌≤◌, List, [], ◌∷◌, ◌++◌, length, map, drop, refl, sym, ap, subst, ◌∙◌, arith, length-append, Option, Bool, true, false, Result, Ok, Err}
+use Rattle.std.proofs.Common.{◌≡◌, ℕ, ◌+◌, ◌<◌, List, [], ◌∷◌, ◌++◌, length, map, drop, refl, sym, ap, subst, ◌∙◌, arith, length-append, Option, Bool, true, false, Result, Ok, Err}
 use Rattle.std.specs.List.{AllByRecursion, slice_range}
 use Rattle.std.proofs.lemmas.List.{length-map}
 use Rattle.rox_grammar.specs.declared.fault.Fault.{Fault}
@@ -18,12 +18,10 @@ use Rattle.rox_build.specs.declared.refused.Refused.{Refused}
 use Rattle.rox_build.proofs.PartLemmas.{refuses_by}
 use Rattle.rox_scan.specs.declared.cursor.Cursor.{Cursor}
 use Rattle.rox_scan.specs.declared.failure.Failure.{Failure}
-use Rattle.rox_build.specs.Lines.{node, declaration, attribute, NamespaceWithin, AttributeRow, rows_of}
-use Rattle.rox_build.specs.Scopes.{entries}
-use Rattle.rox_build.specs.Tagged.{Tagged}
-use Rattle.rox_build.specs.Shown.{names_in, IsWithin, AreSound, IsOpenWithin, Fine, Grown, IsNode, IsOpening, Adds, Stepped, scope_in_table}
+use Rattle.rox_build.specs.Lines.{node, declaration, attribute, scope_at, NamespaceWithin, AttributeRow, rows_of}
+use Rattle.rox_build.specs.Tagged.{Tagged, lists_in}
+use Rattle.rox_build.specs.Shown.{names_in, IsWithin, AreSound, IsOpenWithin, Fine, Grown, IsNode, IsOpening, Adds, Stepped}
 use Rattle.std.specs.Result.{OnOk}
-use Rattle.rox_build.specs.declared.tables.Scope.{Scope}
 use Rattle.rox_build.specs.declared.tables.NodeKind.TheVariants as kind
 use Rattle.rox_build.specs.declared.tables.ElementTables.{ElementTables}
 use Rattle.rox_build.specs.declared.builder.OpenElement.{OpenElement}
@@ -32,7 +30,7 @@ use Rattle.rox_build.specs.declared.tag.StartTag.{StartTag}
 use Rattle.rox_build.proofs.Stable.{all_append, all_weaker, namespace_more}
 use Rattle.rox_build.proofs.Listing.{with_new-front, with_new-append}
 use Rattle.rox_build.proofs.Inherits.{slice-rest}
-use Rattle.rox_build.proofs.Growing.{grown_counts, grown_elements}
+use Rattle.rox_build.proofs.Growing.{grown_counts, grown_elements, grown_empty}
 use Rattle.rox_build.proofs.Stepping.{pairs_more, attributes_more, adds_stepped}
 
 pub grown_by : (old new : ElementTables) (t : StartTag) (above : List Declaration) (tag : Tag) → Tagged old new t above tag → Grown old new
@@ -43,8 +41,8 @@ grown_by old new t above tag h =
       attributes = h.element.attributes.grown;
       more_names = w.0;
       names = h.names ∙ w.1;
-      more_listed = h.more;
-      listed_are = h.listed_more;
+      more_lists = h.more;
+      lists = h.lists_more;
     }
 
 pub sound_by : (old new : ElementTables) (t : StartTag) (above : List Declaration) (tag : Tag) → Tagged old new t above tag → AreSound old → AreSound new
@@ -57,6 +55,7 @@ sound_by old new t above tag h s =
     record {
       attributes = rw h.element.attributes.grown (all_append (λ (a : AttributeRow). NamespaceWithin (length new.namespaces.items.items) a.0.namespace) (rows_of old.attributes) h.element.attributes.more a m);
       listed = h.places;
+      scopes = h.scopes;
     }
 
 drop_front : {A : Type 0} (xs ys : List A) → drop (length xs) (xs ++ ys) ≡ ys
@@ -67,14 +66,14 @@ own_slice : (old new more : List AttributeRow) (i j : ℕ) → new ≡ old ++ mo
 own_slice old new more i j grown from until = rw (from, until) (slice-rest new (length old) ∙ ap (drop (length old)) grown ∙ drop_front old more)
 
 pub node_by : (old new : ElementTables) (t : StartTag) (above : List Declaration) (tag : Tag) (s e : ℕ) → Tagged old new t above tag
-    → node (rows_of new.attributes) (names_in new) new.listed.items s e (kind.Element t.element) ≡ node_in (listed above tag.declarations) (Element s e tag)
+    → node (rows_of new.attributes) (names_in new) (lists_in new) s e (kind.Element t.element) ≡ node_in (listed above tag.declarations) (Element s e tag)
 node_by old new t above tag s e h =
     let scope = listed above tag.declarations in
     let x = h.element in
     let a : map (attribute (names_in new)) (slice_range (rows_of new.attributes) t.element.attributes_from t.element.attributes_until) ≡ map (attribute_in scope) tag.attributes =
     ap (map (attribute (names_in new))) (own_slice (rows_of old.attributes) (rows_of new.attributes) x.attributes.more t.element.attributes_from t.element.attributes_until x.attributes.grown x.attributes_from x.attributes_until) ∙ x.attributes.same in
-    ap (λ (u : Option (List ℕ)). tree.Element s e u t.element.local.now (entries (names_in new) (slice_range new.listed.items t.element.namespaces_from t.element.namespaces_until)) (map (attribute (names_in new)) (slice_range (rows_of new.attributes) t.element.attributes_from t.element.attributes_until))) x.namespace
-    ∙ ap (λ (l : List ℕ). tree.Element s e (element_namespace scope tag.name) l (entries (names_in new) (slice_range new.listed.items t.element.namespaces_from t.element.namespaces_until)) (map (attribute (names_in new)) (slice_range (rows_of new.attributes) t.element.attributes_from t.element.attributes_until))) x.local
+    ap (λ (u : Option (List ℕ)). tree.Element s e u t.element.local.now (scope_at (lists_in new) t.element.scope) (map (attribute (names_in new)) (slice_range (rows_of new.attributes) t.element.attributes_from t.element.attributes_until))) x.namespace
+    ∙ ap (λ (l : List ℕ). tree.Element s e (element_namespace scope tag.name) l (scope_at (lists_in new) t.element.scope) (map (attribute (names_in new)) (slice_range (rows_of new.attributes) t.element.attributes_from t.element.attributes_until))) x.local
     ∙ ap (λ (l : List Declaration). tree.Element s e (element_namespace scope tag.name) tag.name.local l (map (attribute (names_in new)) (slice_range (rows_of new.attributes) t.element.attributes_from t.element.attributes_until))) x.lists
     ∙ ap (λ (l : List tree.Attribute). tree.Element s e (element_namespace scope tag.name) tag.name.local scope l) a
 
@@ -83,7 +82,7 @@ within_by old new t above tag h =
     let x = h.element in
     let n = ap length x.attributes.grown ∙ length-append (rows_of old.attributes) x.attributes.more in
     let a = x.attributes_from in let b = x.attributes_until in
-    (omega arith, omega arith, x.listed_within.0, x.listed_within.1, x.namespace_within)
+    (omega arith, omega arith, x.scope_within, x.namespace_within)
 
 pub is_node : (old new : ElementTables) (t : StartTag) (above : List Declaration) (tag : Tag) (s e : ℕ) → Tagged old new t above tag → IsNode new above s e (kind.Element t.element) (Element s e tag)
 is_node old new t above tag s e h = record { is = node_by old new t above tag s e h; within = within_by old new t above tag h; no_text = refl }
@@ -98,14 +97,15 @@ fine_by old new t above tag os h f =
     record {
       sound = sound_by old new t above tag h f.sound;
       elements = grown_elements old new os (grown_by old new t above tag h) f.elements;
+      empty = grown_empty old new (grown_by old new t above tag h) f.empty;
       kept = h.kept;
       few_names = h.few;
       few_attributes = h.element.few;
     }
 
-pub fine_opened : (t : ElementTables) (os qs : List OpenElement) (x : OpenElement) → Fine t os → qs ≡ os ++ x ∷ [] → (x.scope.from ≤ x.scope.until) × (x.scope.until ≤ length t.listed.items) → Fine t qs
+pub fine_opened : (t : ElementTables) (os qs : List OpenElement) (x : OpenElement) → Fine t os → qs ≡ os ++ x ∷ [] → x.scope < length t.scopes.items → Fine t qs
 fine_opened t os qs x f is within =
-    record { sound = f.sound; elements = rw is (all_append (IsOpenWithin t) os (x ∷ []) f.elements (within, tt)); kept = f.kept; few_names = f.few_names; few_attributes = f.few_attributes }
+    record { sound = f.sound; elements = rw is (all_append (IsOpenWithin t) os (x ∷ []) f.elements (within, tt)); empty = f.empty; kept = f.kept; few_names = f.few_names; few_attributes = f.few_attributes }
 
 -- the counts after a tag
 pub names_by : (old new : ElementTables) (t : StartTag) (above : List Declaration) (tag : Tag) (ps : List Declaration) → Tagged old new t above tag → names_in old ≡ distinct_pairs ps → names_in new ≡ distinct_pairs (ps ++ listable tag)
@@ -181,9 +181,9 @@ pub fine_kept : (r : Result (Unit {0}) Failure) (t : ElementTables) (os : List O
 fine_kept r t os u f tables opens = always r (Fine u.tables u.opened.items) (subst (λ (qs : List OpenElement). Fine u.tables qs) (sym opens) (subst (λ (t : ElementTables). Fine t os) (sym tables) f))
 
 pub fine_more : (r : Result (Unit {0}) Failure) (t : ElementTables) (os : List OpenElement) (u : Builder) (tag : StartTag) → Fine t os → u.tables ≡ t
-    → OnOk r ((x : OpenElement) × (u.opened.items ≡ os ++ x ∷ []) × (x.scope ≡ scope_in_table tag.element))
-    → (tag.element.namespaces_from ≤ tag.element.namespaces_until) × (tag.element.namespaces_until ≤ length t.listed.items) → OnOk r (Fine u.tables u.opened.items)
+    → OnOk r ((x : OpenElement) × (u.opened.items ≡ os ++ x ∷ []) × (x.scope ≡ tag.element.scope))
+    → tag.element.scope < length t.scopes.items → OnOk r (Fine u.tables u.opened.items)
 fine_more (Ok x) t os u tag f tables (o, is, scope) within =
-    let w : (o.scope.from ≤ o.scope.until) × (o.scope.until ≤ length t.listed.items) = subst (λ (s : Scope). (s.from ≤ s.until) × (s.until ≤ length t.listed.items)) (sym scope) within in
+    let w : o.scope < length t.scopes.items = subst (λ (s : ℕ). s < length t.scopes.items) (sym scope) within in
     subst (λ (t : ElementTables). Fine t u.opened.items) (sym tables) (fine_opened t os u.opened.items o f is w)
 fine_more (Err e) t os u tag f tables h within = tt

@@ -1,13 +1,13 @@
 -- The places of prefixes, as scopes are entered and left.
 use Rattle.std.proofs.Common.{◌≡◌, ℕ, ◌&&◌, ◌||◌, not, filter, add-one, drop-cons, ◌+◌, ◌-◌, ◌≤◌, ◌<◌, take, get_or, bytes_eq, Bor, Bool, true, false, cond, List, [], ◌∷◌, ◌++◌, length, map, drop, refl, sym, ap, subst, ◌∙◌, arith, length-append, Option, Some, None}
-use Rattle.std.specs.List.{AllByRecursion, slice_range}
+use Rattle.std.specs.List.{AllByRecursion}
 use Rattle.std.specs.Option.{option_map, option_to_list, IfSome, IfNone}
 use Rattle.std.proofs.lemmas.List.{drop-append-le, append-nil, length-map, take_all, take_more}
 use Rattle.std.proofs.Math.ListN.{drop_of_length-le}
 use Rattle.rox_grammar.specs.Written.{Declaration}
 use Rattle.rox_grammar.specs.Tree.{same_prefix, is_declared, uri_of}
 use Rattle.rox_build.specs.declared.tables.Namespace.{Namespace}
-use Rattle.rox_build.specs.Lines.{declaration, entry, OptionWithin}
+use Rattle.rox_build.specs.Lines.{declaration, entry, scope_at, OptionWithin}
 use Rattle.rox_build.specs.Scopes.{prefix_view, entries, ArePlaces, others}
 use Rattle.std.specs.BTreeMap.{BTreeMap, get_by}
 use Rattle.std.specs.Cmp.Lexicographic.{slice_cmp}
@@ -20,7 +20,7 @@ use Rattle.rox_grammar.specs.declared.fault.Word.TheVariants.{Xml}
 use Rattle.rox_grammar.specs.Words.{word_text}
 use Rattle.rox_grammar.specs.WellNamed.{is_xml}
 use Rattle.rox_build.proofs.Listing.{same_prefix-sym}
-use Rattle.rox_build.proofs.Stable.{all_slice, map_same, slice-append, entry-append}
+use Rattle.rox_build.proofs.Stable.{entry-append, scope_at-append}
 use Rattle.rox_build.proofs.Pairs.{same_prefix-true, declared_none, place_at, entry-get}
 
 abbrev pub Places : Type 0
@@ -50,67 +50,67 @@ replaced_one r f g place p before is = by_cases (same_prefix (prefix_view r.pref
     by_cases true e = rw e (before ∙ ap f (same_prefix-true (prefix_view r.prefix) p e))
     by_cases false e = rw e (rw e at is)
 
-pub stacked_put : (names : List Declaration) (listed : List ℕ) (es : List Replaced) (r : Replaced) (f g : Places) (place : Option ℕ) (least : ℕ) (ls : List Layer)
+pub stacked_put : (names : List Declaration) (lists : List (List Declaration)) (es : List Replaced) (r : Replaced) (f g : Places) (place : Option ℕ) (least : ℕ) (ls : List Layer)
     → r.before ≡ f (prefix_view r.prefix) → ((p : Option (List ℕ)) → g p ≡ cond (same_prefix (prefix_view r.prefix) p) place (f p))
-    → Stacked names listed es f least ls → Stacked names listed (es ++ r ∷ []) g least ls
-stacked_put names listed es r f g place least [] before is h = tt
-stacked_put names listed es r f g place least (l ∷ ls) before is (low, high, ordered, within, bound, rest) =
+    → Stacked names lists es f least ls → Stacked names lists (es ++ r ∷ []) g least ls
+stacked_put names lists es r f g place least [] before is h = tt
+stacked_put names lists es r f g place least (l ∷ ls) before is (low, high, within, bound, rest) =
     let n = length-append es (r ∷ []) in
     let same : (p : Option (List ℕ)) → restored (drop l.count es) f p ≡ restored (drop l.count (es ++ r ∷ [])) g p = λ p.
     sym (ap (λ xs. restored xs g p) (drop-append-le l.count es (r ∷ []) high) ∙ restored-append (drop l.count es) r g p
     ∙ restored-same (drop l.count es) (restored (r ∷ []) g) f p (replaced_one r f g place p before (is p))) in
-    (low, omega arith, ordered, within, bound-same names _ _ _ same bound, stacked_put names listed es r f g place l.count ls before is rest)
+    (low, omega arith, within, bound-same names _ _ _ same bound, stacked_put names lists es r f g place l.count ls before is rest)
 
 -- ---- the last one is taken back
 
-pub stacked_back : (names : List Declaration) (listed : List ℕ) (es : List Replaced) (r : Replaced) (f g : Places) (least : ℕ) (ls : List Layer)
+pub stacked_back : (names : List Declaration) (lists : List (List Declaration)) (es : List Replaced) (r : Replaced) (f g : Places) (least : ℕ) (ls : List Layer)
     → ((p : Option (List ℕ)) → g p ≡ cond (same_prefix (prefix_view r.prefix) p) r.before (f p)) → AllByRecursion (λ l. l.count ≤ length es) ls
-    → Stacked names listed (es ++ r ∷ []) f least ls → Stacked names listed es g least ls
-stacked_back names listed es r f g least [] is few h = tt
-stacked_back names listed es r f g least (l ∷ ls) is (here, few) (low, high, ordered, within, bound, rest) =
+    → Stacked names lists (es ++ r ∷ []) f least ls → Stacked names lists es g least ls
+stacked_back names lists es r f g least [] is few h = tt
+stacked_back names lists es r f g least (l ∷ ls) is (here, few) (low, high, within, bound, rest) =
     let same : (p : Option (List ℕ)) → restored (drop l.count (es ++ r ∷ [])) f p ≡ restored (drop l.count es) g p = λ p.
     ap (λ xs. restored xs f p) (drop-append-le l.count es (r ∷ []) here) ∙ restored-append (drop l.count es) r f p
     ∙ restored-same (drop l.count es) (restored (r ∷ []) f) g p (sym (is p)) in
-    (low, here, ordered, within, bound-same names _ _ _ same bound, stacked_back names listed es r f g l.count ls is few rest)
+    (low, here, within, bound-same names _ _ _ same bound, stacked_back names lists es r f g l.count ls is few rest)
 
 -- ---- the innermost scope
 
-least_below : (names : List Declaration) (listed : List ℕ) (es : List Replaced) (f : Places) (least : ℕ) (ls : List Layer) (l : Layer) → Stacked names listed es f least (ls ++ l ∷ []) → least ≤ l.count
-least_below names listed es f least [] l h = h.0
-least_below names listed es f least (x ∷ ls) l h = let a = h.0 in let b = least_below names listed es f x.count ls l h.5 in omega arith
+least_below : (names : List Declaration) (lists : List (List Declaration)) (es : List Replaced) (f : Places) (least : ℕ) (ls : List Layer) (l : Layer) → Stacked names lists es f least (ls ++ l ∷ []) → least ≤ l.count
+least_below names lists es f least [] l h = h.0
+least_below names lists es f least (x ∷ ls) l h = let a = h.0 in let b = least_below names lists es f x.count ls l h.4 in omega arith
 
 -- it has the most before it
-pub counts_below : (names : List Declaration) (listed : List ℕ) (es : List Replaced) (f : Places) (least n : ℕ) (ls : List Layer) (l : Layer) → l.count ≤ n → Stacked names listed es f least (ls ++ l ∷ [])
+pub counts_below : (names : List Declaration) (lists : List (List Declaration)) (es : List Replaced) (f : Places) (least n : ℕ) (ls : List Layer) (l : Layer) → l.count ≤ n → Stacked names lists es f least (ls ++ l ∷ [])
     → AllByRecursion (λ x. x.count ≤ n) (ls ++ l ∷ [])
-counts_below names listed es f least n [] l le h = (le, tt)
-counts_below names listed es f least n (x ∷ ls) l le h =
-    let b = least_below names listed es f x.count ls l h.5 in
-    (omega arith, counts_below names listed es f x.count n ls l le h.5)
+counts_below names lists es f least n [] l le h = (le, tt)
+counts_below names lists es f least n (x ∷ ls) l le h =
+    let b = least_below names lists es f x.count ls l h.4 in
+    (omega arith, counts_below names lists es f x.count n ls l le h.4)
 
-pub stacked_pop : (names : List Declaration) (listed : List ℕ) (es : List Replaced) (f : Places) (least : ℕ) (ls : List Layer) (l : Layer) → Stacked names listed es f least (ls ++ l ∷ []) → Stacked names listed es f least ls
-stacked_pop names listed es f least [] l h = tt
-stacked_pop names listed es f least (x ∷ ls) l (low, high, ordered, within, bound, rest) = (low, high, ordered, within, bound, stacked_pop names listed es f x.count ls l rest)
+pub stacked_pop : (names : List Declaration) (lists : List (List Declaration)) (es : List Replaced) (f : Places) (least : ℕ) (ls : List Layer) (l : Layer) → Stacked names lists es f least (ls ++ l ∷ []) → Stacked names lists es f least ls
+stacked_pop names lists es f least [] l h = tt
+stacked_pop names lists es f least (x ∷ ls) l (low, high, within, bound, rest) = (low, high, within, bound, stacked_pop names lists es f x.count ls l rest)
 
-pub stacked_popped : (names : List Declaration) (listed : List ℕ) (es : List Replaced) (f : Places) (ls : List Layer) (o : Option Layer) → Stacked names listed es f 0 (ls ++ option_to_list o) → Stacked names listed es f 0 ls
-stacked_popped names listed es f ls None h = subst (Stacked names listed es f 0) (append-nil ls) h
-stacked_popped names listed es f ls (Some l) h = stacked_pop names listed es f 0 ls l h
+pub stacked_popped : (names : List Declaration) (lists : List (List Declaration)) (es : List Replaced) (f : Places) (ls : List Layer) (o : Option Layer) → Stacked names lists es f 0 (ls ++ option_to_list o) → Stacked names lists es f 0 ls
+stacked_popped names lists es f ls None h = subst (Stacked names lists es f 0) (append-nil ls) h
+stacked_popped names lists es f ls (Some l) h = stacked_pop names lists es f 0 ls l h
 
 -- its places are these, where nothing was replaced behind it
-pub stacked_last : (names : List Declaration) (listed : List ℕ) (es : List Replaced) (f : Places) (least : ℕ) (ls : List Layer) (l : Layer) → l.count ≡ length es → Stacked names listed es f least (ls ++ l ∷ [])
-    → IsBound names f (entries names (slice_range listed l.scope.from l.scope.until))
-stacked_last names listed es f least [] l e h =
+pub stacked_last : (names : List Declaration) (lists : List (List Declaration)) (es : List Replaced) (f : Places) (least : ℕ) (ls : List Layer) (l : Layer) → l.count ≡ length es → Stacked names lists es f least (ls ++ l ∷ [])
+    → IsBound names f (scope_at lists l.scope)
+stacked_last names lists es f least [] l e h =
     let none : drop l.count es ≡ [] = drop_of_length-le es (omega arith) in
-    bound-same names (restored (drop l.count es) f) f _ (λ p. ap (λ xs. restored xs f p) none) h.4
-stacked_last names listed es f least (x ∷ ls) l e h = stacked_last names listed es f x.count ls l e h.5
+    bound-same names (restored (drop l.count es) f) f _ (λ p. ap (λ xs. restored xs f p) none) h.3
+stacked_last names lists es f least (x ∷ ls) l e h = stacked_last names lists es f x.count ls l e h.4
 
-pub stacked_push : (names : List Declaration) (listed : List ℕ) (es : List Replaced) (f : Places) (least : ℕ) (ls : List Layer) (l : Layer) → l.count ≡ length es → least ≤ length es
-    → l.scope.from ≤ l.scope.until → l.scope.until ≤ length listed → IsBound names f (entries names (slice_range listed l.scope.from l.scope.until))
-    → Stacked names listed es f least ls → Stacked names listed es f least (ls ++ l ∷ [])
-stacked_push names listed es f least [] l e low ordered within bound h =
+pub stacked_push : (names : List Declaration) (lists : List (List Declaration)) (es : List Replaced) (f : Places) (least : ℕ) (ls : List Layer) (l : Layer) → l.count ≡ length es → least ≤ length es
+    → l.scope < length lists → IsBound names f (scope_at lists l.scope)
+    → Stacked names lists es f least ls → Stacked names lists es f least (ls ++ l ∷ [])
+stacked_push names lists es f least [] l e low within bound h =
     let none : drop l.count es ≡ [] = drop_of_length-le es (omega arith) in
-    (omega arith, omega arith, ordered, within, bound-same names f (restored (drop l.count es) f) _ (λ p. ap (λ xs. restored xs f p) (sym none)) bound, tt)
-stacked_push names listed es f least (x ∷ ls) l e low ordered within bound (a, b, o, w, x-bound, rest) =
-    (a, b, o, w, x-bound, stacked_push names listed es f x.count ls l e b ordered within bound rest)
+    (omega arith, omega arith, within, bound-same names f (restored (drop l.count es) f) _ (λ p. ap (λ xs. restored xs f p) (sym none)) bound, tt)
+stacked_push names lists es f least (x ∷ ls) l e low within bound (a, b, w, x-bound, rest) =
+    (a, b, w, x-bound, stacked_push names lists es f x.count ls l e b within bound rest)
 
 -- ---- a prefix that is given a place
 
@@ -130,10 +130,10 @@ last_split xs x some is =
     let n = length xs - 1 in
     sym (take_all (n + 1) xs (omega arith)) ∙ take_more xs n x (omega arith) ∙ ap (λ y. take n xs ++ y ∷ []) (sym is)
 
-pub keeps_by : (names : List Declaration) (listed : List ℕ) (x : Present) (es : List Replaced) (ls : List Layer) → x.replaced.items ≡ es → x.layers.items ≡ ls
-    → Stacked names listed es (found x) 0 ls → Keeps names listed x
-keeps_by names listed x es ls e l h =
-    record { stacked = subst (λ xs. Stacked names listed xs (found x) 0 x.layers.items) (sym e) (subst (λ ys. Stacked names listed es (found x) 0 ys) (sym l) h) }
+pub keeps_by : (names : List Declaration) (lists : List (List Declaration)) (x : Present) (es : List Replaced) (ls : List Layer) → x.replaced.items ≡ es → x.layers.items ≡ ls
+    → Stacked names lists es (found x) 0 ls → Keeps names lists x
+keeps_by names lists x es ls e l h =
+    record { stacked = subst (λ xs. Stacked names lists xs (found x) 0 x.layers.items) (sym e) (subst (λ ys. Stacked names lists es (found x) 0 ys) (sym l) h) }
 
 -- ---- what is found of a list
 
@@ -261,30 +261,25 @@ bound_grown names more f ds h = record {
     same None w = refl
     same (Some i) w = ap (λ (d : Declaration). Some d.uri) (entry-append names more i w)
 
-stacked_grown : (names more : List Declaration) (listed more-listed : List ℕ) (es : List Replaced) (f : Places) (least : ℕ) (ls : List Layer) → ArePlaces (length names) listed
-    → Stacked names listed es f least ls → Stacked (names ++ more) (listed ++ more-listed) es f least ls
-stacked_grown names more listed more-listed es f least [] ok h = tt
-stacked_grown names more listed more-listed es f least (l ∷ ls) ok (low, high, ordered, within, bound, rest) =
-    let from = l.scope.from in
-    let until = l.scope.until in
-    let n = length-append listed more-listed in
-    let same : entries (names ++ more) (slice_range (listed ++ more-listed) from until) ≡ entries names (slice_range listed from until) =
-    ap (entries (names ++ more)) (slice-append listed more-listed from until ordered within)
-    ∙ map_same (entry (names ++ more)) (entry names) (λ i. i < length names) (slice_range listed from until) (entry-append names more) (all_slice (λ i. i < length names) listed from until ok) in (
+stacked_grown : (names more : List Declaration) (lists more-lists : List (List Declaration)) (es : List Replaced) (f : Places) (least : ℕ) (ls : List Layer)
+    → Stacked names lists es f least ls → Stacked (names ++ more) (lists ++ more-lists) es f least ls
+stacked_grown names more lists more-lists es f least [] h = tt
+stacked_grown names more lists more-lists es f least (l ∷ ls) (low, high, within, bound, rest) =
+    let n = length-append lists more-lists in
+    let same : scope_at (lists ++ more-lists) l.scope ≡ scope_at lists l.scope = scope_at-append lists more-lists l.scope within in (
       low,
       high,
-      ordered,
       omega arith,
-      subst (IsBound (names ++ more) (restored (drop l.count es) f)) (sym same) (bound_grown names more (restored (drop l.count es) f) (entries names (slice_range listed from until)) bound),
-      stacked_grown names more listed more-listed es f l.count ls ok rest,
+      subst (IsBound (names ++ more) (restored (drop l.count es) f)) (sym same) (bound_grown names more (restored (drop l.count es) f) (scope_at lists l.scope) bound),
+      stacked_grown names more lists more-lists es f l.count ls rest,
     )
 
 -- the same scopes, in tables that have grown
-pub keeps_grown : (names next : List Declaration) (listed after : List ℕ) (x : Present) (more : List Declaration) (more-listed : List ℕ) → next ≡ names ++ more → after ≡ listed ++ more-listed
-    → ArePlaces (length names) listed → Keeps names listed x → Keeps next after x
-keeps_grown names next listed after x more more-listed n l ok h = record {
+pub keeps_grown : (names next : List Declaration) (lists after : List (List Declaration)) (x : Present) (more : List Declaration) (more-lists : List (List Declaration)) → next ≡ names ++ more
+    → after ≡ lists ++ more-lists → Keeps names lists x → Keeps next after x
+keeps_grown names next lists after x more more-lists n l h = record {
   stacked = subst (λ ns. Stacked ns after x.replaced.items (found x) 0 x.layers.items) (sym n)
-      (subst (λ xs. Stacked (names ++ more) xs x.replaced.items (found x) 0 x.layers.items) (sym l) (stacked_grown names more listed more-listed x.replaced.items (found x) 0 x.layers.items ok h.stacked));
+      (subst (λ xs. Stacked (names ++ more) xs x.replaced.items (found x) 0 x.layers.items) (sym l) (stacked_grown names more lists more-lists x.replaced.items (found x) 0 x.layers.items h.stacked));
 }
 
 -- ---- what is looked up

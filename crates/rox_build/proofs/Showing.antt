@@ -17,6 +17,7 @@ use Rattle.rox_reading.proofs.Forests.{is_text, add, join-nil, size-join, merge-
 use Rattle.rox_build.specs.Lines.{Line, line, lines, node, AttributeRow, rows_of}
 use Rattle.rox_build.specs.SoFar.{top, depth_of, open_line, rows_to, so_far}
 use Rattle.rox_build.specs.Waiting.{waiting}
+use Rattle.rox_build.specs.Tagged.{lists_in}
 use Rattle.rox_build.specs.Shown.{OpenLine, opened, open_lines, last_row, pending_text, names_in, line_in, opened_in, IsWithin, Shows, Settled, IsNode}
 use Rattle.rox_build.specs.declared.tables.NodeKind.{NodeKind}
 use Rattle.rox_build.specs.declared.tables.NodeKind.TheVariants as kind
@@ -88,7 +89,7 @@ row_open t next os s k = record { start = s; end = 0; parent = last_row (opened_
 
 row_shows : (t : ElementTables) (end : ℕ) (o : Open) (front : Forest Item) (i : Item) (rows : List NodeData) (os : List OpenElement) (s e : ℕ) (k : NodeKind)
     → map (line_in t) rows ≡ so_far end o front → opened_in t os ≡ open_lines o
-    → node (rows_of t.attributes) (names_in t) t.listed.items s e k ≡ node_in (scope_in (scope_of o) i) i
+    → node (rows_of t.attributes) (names_in t) (lists_in t) s e k ≡ node_in (scope_in (scope_of o) i) i
     → map (line_in t) (rows ++ row_of t rows os s e k ∷ []) ≡ so_far end o (join front (leaf i))
 row_shows t end o front i rows os s e k h opens is =
     let n = rows_count t end o front rows h in
@@ -112,7 +113,7 @@ settled_none end o done b u h was nodes tables opens empty =
     }
 
 pub settled_some : (end : ℕ) (o : Open) (done : Forest Item) (b u : Builder) (s e : ℕ) (v : List ℕ) (p : Bool) (k : NodeKind) → Shows end o done b
-    → pending_text b.pending (string_bytes b.joined) ≡ leaf (Text s e v p) → node (rows_of b.tables.attributes) (names_in b.tables) b.tables.listed.items s e k ≡ node_in (scope_of o) (Text s e v p)
+    → pending_text b.pending (string_bytes b.joined) ≡ leaf (Text s e v p) → node (rows_of b.tables.attributes) (names_in b.tables) (lists_in b.tables) s e k ≡ node_in (scope_of o) (Text s e v p)
     → IsWithin b.tables k → u.nodes.items ≡ b.nodes.items ++ row_of b.tables b.nodes.items b.opened.items s e k ∷ [] → u.tables ≡ b.tables → u.opened ≡ b.opened
     → u.pending ≡ pending.None → Settled end o done u
 settled_some end o done b u s e v p k h was is within nodes tables opens empty =
@@ -199,8 +200,8 @@ more_count end o done b x y w q s e v p h was =
 -- ---- elements
 
 pub open_shows : (end : ℕ) (o : Open) (done : Forest Item) (b u : Builder) (s : ℕ) (k : NodeKind) (t : Tag) (x : OpenElement) → Settled end o done b
-    → node (rows_of b.tables.attributes) (names_in b.tables) b.tables.listed.items s 0 k ≡ node_in (listed (scope_of o) t.declarations) (Element s 0 t) → IsWithin b.tables k
-    → x.row ≡ length b.nodes.items → opened (names_in b.tables) b.tables.listed.items x ≡ record { row = x.row; name = t.name; name_start = s + 1; name_end = t.name_end; scope = listed (scope_of o) t.declarations }
+    → node (rows_of b.tables.attributes) (names_in b.tables) (lists_in b.tables) s 0 k ≡ node_in (listed (scope_of o) t.declarations) (Element s 0 t) → IsWithin b.tables k
+    → x.row ≡ length b.nodes.items → opened (lists_in b.tables) x ≡ record { row = x.row; name = t.name; name_start = s + 1; name_end = t.name_end; scope = listed (scope_of o) t.declarations }
     → u.nodes.items ≡ b.nodes.items ++ row_open b.tables 0 b.opened.items s k ∷ [] → u.tables ≡ b.tables → u.opened.items ≡ b.opened.items ++ x ∷ [] → u.pending ≡ b.pending
     → Shows end (inside s t done o) Nil u
 open_shows end o done b u s k t x h is within place view nodes tables opens same =
@@ -210,9 +211,9 @@ open_shows end o done b u s k t x h is within place view nodes tables opens same
     let w = all_append (λ (r : NodeData). IsWithin b.tables r.kind) b.nodes.items (r ∷ []) h.within (within, tt) in
     let z : u.pending ≡ pending.None = same ∙ h.empty in
     let g = map-append (line_in b.tables) b.nodes.items (r ∷ []) ∙ ap (λ xs. xs ++ line_in b.tables r ∷ []) h.rows ∙ ap (λ x. so_far end o (merge done) ++ x ∷ []) row ∙ sym (so_far-open end o s t done) in
-    let v : opened (names_in b.tables) b.tables.listed.items x ≡ record { row = top o + 1 + size (merge done); name = t.name; name_start = s + 1; name_end = t.name_end; scope = listed (scope_of o) t.declarations } =
+    let v : opened (lists_in b.tables) x ≡ record { row = top o + 1 + size (merge done); name = t.name; name_start = s + 1; name_end = t.name_end; scope = listed (scope_of o) t.declarations } =
     view ∙ ap (λ (n : ℕ). let l : OpenLine = record { row = n; name = t.name; name_start = s + 1; name_end = t.name_end; scope = listed (scope_of o) t.declarations } in l) (place ∙ n) in
-    let os = map-append (opened (names_in b.tables) b.tables.listed.items) b.opened.items (x ∷ []) ∙ ap (λ xs. xs ++ opened (names_in b.tables) b.tables.listed.items x ∷ []) h.open_rows
+    let os = map-append (opened (lists_in b.tables)) b.opened.items (x ∷ []) ∙ ap (λ xs. xs ++ opened (lists_in b.tables) x ∷ []) h.open_rows
     ∙ ap (λ l. open_lines o ++ l ∷ []) v in
     record {
       front = Nil;
@@ -261,7 +262,7 @@ with_end e (tree.Text s x v b) = tree.Text s e v b
 with_end e (tree.Comment s x t) = tree.Comment s e t
 with_end e (tree.PI s x t v) = tree.PI s e t v
 
-node_end : (as' : List AttributeRow) (names : List Declaration) (ls : List ℕ) (s x e : ℕ) (k : NodeKind) → node as' names ls s e k ≡ with_end e (node as' names ls s x k)
+node_end : (as' : List AttributeRow) (names : List Declaration) (ls : List (List Declaration)) (s x e : ℕ) (k : NodeKind) → node as' names ls s e k ≡ with_end e (node as' names ls s x k)
 unfolding with_end
 node_end as' names ls s x e kind.Root = refl
 node_end as' names ls s x e (kind.Element d) = refl
@@ -279,7 +280,7 @@ so_far-inside end up start tag before front =
     ∙ ap (λ xs. rows_to end up ++ xs) (append_assoc below (open_line start tag up ∷ []) inner)
     ∙ sym (append_assoc (rows_to end up) below (open_line start tag up ∷ inner))
 
-closed_is : (as' : List AttributeRow) (names : List Declaration) (ls : List ℕ) (r : NodeData) (s e next : ℕ) (tag : Tag) (up : Open) → line as' names ls r ≡ open_line s tag up
+closed_is : (as' : List AttributeRow) (names : List Declaration) (ls : List (List Declaration)) (r : NodeData) (s e next : ℕ) (tag : Tag) (up : Open) → line as' names ls r ≡ open_line s tag up
     → line as' names ls (record r { end = e; next = next }) ≡ closed_line s e tag up next
 unfolding with_end
 closed_is as' names ls r s e next tag up h =
@@ -293,7 +294,7 @@ close_with : (end s e : ℕ) (t : Tag) (before : Forest Item) (up : Open) (done 
     → Shows end up (join before (Cons (Element s e t) (merge done) Nil)) u
 close_with end s e t before up done b u outer x d h was opens tables same change fine =
     let tt' = b.tables in
-    let view = opened (names_in tt') tt'.listed.items in
+    let view = opened (lists_in tt') in
     let k = top (inside s t before up) in
     let l : OpenLine = record { row = k; name = t.name; name_start = s + 1; name_end = t.name_end; scope = listed (scope_of up) t.declarations } in
     let both = same_from_push (map view outer) (open_lines up) (view x) l (sym (map-append view outer (x ∷ [])) ∙ ap (map view) (sym was) ∙ h.open_rows) in
@@ -305,7 +306,7 @@ close_with end s e t before up done b u outer x d h was opens tables same change
     ∙ get_or_at (so_far end up (merge before)) (open_line s t up) rest (line_in tt' d) k (length-so_far end up (merge before)) in
     let new : NodeData = record (get_or b.nodes.items k d) { end = e; next = length b.nodes.items } in
     let is_closed : line_in tt' new ≡ closed_line s e t up (k + 1 + size (merge done)) =
-    closed_is (rows_of tt'.attributes) (names_in tt') tt'.listed.items (get_or b.nodes.items k d) s e (length b.nodes.items) t up found ∙ ap (closed_line s e t up) n in
+    closed_is (rows_of tt'.attributes) (names_in tt') (lists_in tt') (get_or b.nodes.items k d) s e (length b.nodes.items) t up found ∙ ap (closed_line s e t up) n in
     let one = Cons (Element s e t) (merge done) Nil in
     let z : u.pending ≡ pending.None = same ∙ h.empty in
     let set_is : u.nodes.items ≡ set b.nodes.items k new = subst (λ (i : ℕ). u.nodes.items ≡ set b.nodes.items i (record (get_or b.nodes.items i d) { end = e; next = length b.nodes.items })) row change in

@@ -1,17 +1,17 @@
 -- A start tag as a whole.
-use Rattle.std.proofs.Common.{◌≡◌, ℕ, ◌+◌, ◌<◌, ◌≤◌, Bool, false, List, [], ◌++◌, length, map, bytes_eq, refl, sym, ap, ◌∙◌, Ok, append_assoc}
-use Rattle.std.specs.List.{slice_range}
-use Rattle.std.proofs.lemmas.List.{append-nil, length-map}
+use Rattle.std.proofs.Common.{◌≡◌, ℕ, ◌+◌, ◌≤◌, Bool, true, false, if◌then◌else◌, List, [], ◌++◌, length, map, bytes_eq, refl, sym, ap, ◌∙◌, Ok, Err, le-ltb}
+use Rattle.std.proofs.lemmas.List.{append-nil}
 use Rattle.rox_grammar.specs.declared.fault.Fault.{Fault}
 use Rattle.rox_grammar.specs.declared.fault.Word.TheVariants.{Xmlns}
 use Rattle.rox_grammar.specs.Words.{word_text}
-use Rattle.rox_grammar.specs.Written.{Attribute, Name, Declaration}
+use Rattle.rox_grammar.specs.declared.fault.Fault.TheVariants as fault
+use Rattle.rox_grammar.specs.Written.{Attribute, Name, Declaration, prefix_span}
+use Rattle.rox_grammar.specs.WellNamed.{may_name}
 use Rattle.rox_grammar.specs.Tree.{listed, attribute_in, element_namespace}
-use Rattle.rox_grammar.specs.Document.{most_pairs}
+use Rattle.rox_grammar.specs.Document.{most_pairs, most_attributes}
 use Rattle.rox_reading.specs.Lexical.{◌>>=◌, qname_at}
-use Rattle.rox_grammar.specs.Document.{listable_of}
 use Rattle.rox_reading.specs.Refusals.{lifted}
-use Rattle.rox_reading.specs.Tags.{Held, Values, attributes_at, tested_at, tag_tested, tag_at}
+use Rattle.rox_reading.specs.Tags.{Held, Values, attributes_at, names_tested, tested_at, tag_tested, tag_at}
 use Rattle.rox_scan.specs.Gives.{Fails, name_view}
 use Rattle.rox_scan.specs.declared.failure.Failure.{Failure}
 use Rattle.rox_scan.specs.declared.failure.Failure.TheVariants as failure
@@ -19,15 +19,12 @@ use Rattle.rox_build.specs.Refusing.{Refuses, of_failure}
 use Rattle.rox_build.specs.declared.refused.Refused.{Refused}
 use Rattle.rox_build.proofs.PartLemmas.{refuses_by}
 use Rattle.rox_build.specs.declared.tables.ElementTables.{ElementTables}
-use Rattle.rox_build.specs.declared.tables.Scope.{Scope}
 use Rattle.rox_build.specs.declared.taken.Taken.{Taken}
 use Rattle.rox_build.specs.declared.tag.StartTag.{StartTag}
-use Rattle.rox_build.specs.Lines.{declaration, entry, rows_of}
+use Rattle.rox_build.specs.Lines.{declaration, lists_of, AreStretches, rows_of}
 use Rattle.rox_build.specs.Scopes.{ArePlaces}
 use Rattle.rox_build.specs.Tags.{taken_view, Holding}
-use Rattle.rox_build.specs.Tagged.{IsElement, Tagged, KeepsPlaces, scope_in_tables}
-use Rattle.rox_build.proofs.Listing.{with_new-front}
-use Rattle.rox_build.proofs.Stable.{all_slice, slice-append, map_same, entry-append}
+use Rattle.rox_build.specs.Tagged.{IsElement, Tagged, KeepsPlaces, lists_in, scope_in_tables}
 
 -- nothing is held before the first attribute
 pub holds_nothing : (names : List Declaration) (listed : List ℕ) (taken : List Taken) → length names ≤ most_pairs → taken ≡ []
@@ -64,6 +61,24 @@ tested_fails e scope count i name as' h = rw (tested_is scope count i name as') 
 pub tested_passes : (scope : List Declaration) (count i : ℕ) (name : Name) (as' : List Attribute) → tested_at scope count (i + 1) name as' ≡ Ok tt → tag_tested scope count i name as' ≡ Ok tt
 tested_passes scope count i name as' h = tested_is scope count i name as' ∙ h
 
+-- the names of a tag with few attributes
+tested_rest : (scope : List Declaration) (count at : ℕ) (name : Name) (as' : List Attribute) → count + length as' ≤ most_attributes
+    → tested_at scope count at name as' ≡ (names_tested scope [] as' >>= λ _. if may_name scope name then Ok tt else Err (fault.UnknownNamespace (prefix_span name at) at))
+tested_rest scope count at name as' few = let k = le-ltb _ _ few in rw k refl
+
+pub tested_amiss : (e : Failure) (scope : List Declaration) (count at : ℕ) (name : Name) (as' : List Attribute) → count + length as' ≤ most_attributes → Fails e (names_tested scope [] as')
+    → Fails e (tested_at scope count at name as')
+tested_amiss failure.Memory scope count at name as' few h = tt
+tested_amiss (failure.Fault f) scope count at name as' few h = tested_rest scope count at name as' few ∙ rw h refl
+
+pub tested_unknown : (scope : List Declaration) (count at : ℕ) (name : Name) (as' : List Attribute) (f : Fault) → count + length as' ≤ most_attributes → names_tested scope [] as' ≡ Ok tt
+    → f ≡ fault.UnknownNamespace (prefix_span name at) at → may_name scope name ≡ false → tested_at scope count at name as' ≡ Err f
+tested_unknown scope count at name as' f few fine is unknown = tested_rest scope count at name as' few ∙ rw (fine, unknown, is) refl
+
+pub tested_known : (scope : List Declaration) (count at : ℕ) (name : Name) (as' : List Attribute) → count + length as' ≤ most_attributes → names_tested scope [] as' ≡ Ok tt → may_name scope name ≡ true
+    → tested_at scope count at name as' ≡ Ok tt
+tested_known scope count at name as' few fine known = tested_rest scope count at name as' few ∙ rw (fine, known) refl
+
 -- its names are refused
 pub tag_untested : (how : Values) (cut : Fault) (above : List Declaration) (count : ℕ) (known : List Declaration) (src : List ℕ) (i left : ℕ) (name : Name) (n j : ℕ) (h : Held) (empty : Bool) (l : ℕ) (e : Failure) → qname_at src (i + 1) ≡ Ok (name, n)
     → bytes_eq name.prefix (word_text Xmlns) ≡ false → attributes_at (length src) how cut known src n left (record { own = []; attributes = [] }) ≡ Ok (record { held = h; empty = empty; left = l }, j)
@@ -77,24 +92,30 @@ pub tag_made : (how : Values) (cut : Fault) (above : List Declaration) (count : 
     → tag_at how cut above count known src i left ≡ Ok (record { tag = record { name = name; name_end = n; declarations = h.own; attributes = h.attributes }; empty = empty; left = l }, j)
 tag_made how cut above count known src i left name n j h empty l is other read fine = tag_rest how cut above count known src i left name n is other ∙ rw (read, fine) refl
 
-pub tagged : (o a s e : ElementTables) (t : StartTag) (above : List Declaration) (name : Name) (n : ℕ) (h : Held) (xml : Bool) (taken : List Taken) (scope : Scope)
+pub tagged : (o a s e : ElementTables) (t : StartTag) (above : List Declaration) (name : Name) (n : ℕ) (h : Held) (xml : Bool) (taken : List Taken) (scope : ℕ)
     → name_view t.name ≡ name → t.name_end ≡ n → a.attributes ≡ o.attributes
     → Holding (map declaration o.namespaces.items.items) o.listed.items (map declaration a.namespaces.items.items) a.listed.items xml taken h → length a.namespaces.items.items ≤ most_pairs
-    → s.namespaces ≡ a.namespaces → s.attributes ≡ a.attributes → (more : List ℕ) × (s.listed.items ≡ a.listed.items ++ more) → ArePlaces (length s.namespaces.items.items) s.listed.items
-    → scope_in_tables s scope ≡ listed above h.own → e.namespaces ≡ s.namespaces → e.listed ≡ s.listed → IsElement s e t.element (scope_in_tables s scope) name (map taken_view taken)
+    → s.namespaces ≡ a.namespaces → s.attributes ≡ a.attributes → lists_in a ≡ lists_in o → (more : List (List Declaration)) × (lists_in s ≡ lists_in a ++ more) → ArePlaces (length s.namespaces.items.items) s.listed.items
+    → AreStretches (length s.listed.items) s.scopes.items
+    → scope_in_tables s scope ≡ listed above h.own → e.namespaces ≡ s.namespaces → e.listed ≡ s.listed → e.scopes ≡ s.scopes → IsElement s e t.element (scope_in_tables s scope) name (map taken_view taken)
     → KeepsPlaces s → e.present ≡ s.present → Tagged o e t above (record { name = name; name_end = n; declarations = h.own; attributes = h.attributes })
-tagged o a s e t above name n h xml taken scope is ends same hold few names attributes (more, listed_is) places lists names' listed' k known present' =
+tagged o a s e t above name n h xml taken scope is ends same hold few names attributes before (more, lists_are) places stretches lists names' listed' scopes' k known present' =
     let d = hold.declares in
     let kept = attributes ∙ same in
+    let after : lists_in e ≡ lists_in s =
+    ap (λ v. lists_of (map declaration v.items.items) e.listed.items e.scopes.items) names'
+    ∙ ap (λ v. lists_of (map declaration s.namespaces.items.items) v.items e.scopes.items) listed'
+    ∙ ap (λ v. lists_of (map declaration s.namespaces.items.items) s.listed.items v.items) scopes' in
     record {
       name = is;
       name_end = ends;
       names = ap (λ v. map declaration v.items.items) (names' ∙ names) ∙ d.names_are;
       few = rw (ap (λ v. length v.items.items) (names' ∙ names)) few;
-      more = d.mine ++ more;
-      listed_more = ap (λ v. v.items) listed' ∙ listed_is ∙ ap (λ xs. xs ++ more) d.listed_are ∙ append_assoc o.listed.items d.mine more;
+      more = more;
+      lists_more = after ∙ lists_are ∙ ap (λ xs. xs ++ more) before;
       places = rw (names', listed') places;
-      kept = rw (names', listed', present') known;
+      scopes = rw (listed', scopes') stretches;
+      kept = rw (names', listed', scopes', present') known;
       element = record {
         attributes = record {
           more = k.attributes.more;
@@ -108,23 +129,7 @@ tagged o a s e t above name n h xml taken scope is ends same hold few names attr
         local = k.local;
         namespace = k.namespace ∙ ap (λ sc. element_namespace sc name) lists;
         namespace_within = k.namespace_within;
-        listed_within = k.listed_within;
+        scope_within = k.scope_within;
         lists = k.lists ∙ lists;
       };
     }
-
--- what the parent lists stays as the tables grow
-pub scope_stays : (o a : ElementTables) (s : Scope) (xml : Bool) (taken : List Taken) (h : Held)
-    → Holding (map declaration o.namespaces.items.items) o.listed.items (map declaration a.namespaces.items.items) a.listed.items xml taken h
-    → ArePlaces (length o.namespaces.items.items) o.listed.items → (s.from ≤ s.until) × (s.until ≤ length o.listed.items) → scope_in_tables a s ≡ scope_in_tables o s
-scope_stays o a s xml taken h hold places within =
-    let d = hold.declares in
-    let names = map declaration o.namespaces.items.items in
-    let front = with_new-front names (listable_of h.own) in
-    let grown : map declaration a.namespaces.items.items ≡ names ++ front.0 = d.names_are ∙ front.1 in
-    let part : slice_range a.listed.items s.from s.until ≡ slice_range o.listed.items s.from s.until =
-    ap (λ xs. slice_range xs s.from s.until) d.listed_are ∙ slice-append o.listed.items d.mine s.from s.until within.0 within.1 in
-    let here : ArePlaces (length names) (slice_range o.listed.items s.from s.until) =
-    rw (length-map o.namespaces.items.items declaration) (all_slice (λ i. i < length o.namespaces.items.items) o.listed.items s.from s.until places) in
-    ap (λ ns. map (entry ns) (slice_range a.listed.items s.from s.until)) grown ∙ ap (map (entry (names ++ front.0))) part
-    ∙ map_same (entry (names ++ front.0)) (entry names) (λ i. i < length names) (slice_range o.listed.items s.from s.until) (entry-append names front.0) here

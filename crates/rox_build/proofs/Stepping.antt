@@ -2,9 +2,9 @@
 use Rattle.std.proofs.lemmas.Bool.{lt-leb}
 use Rattle.rox_grammar.specs.Marks.{stands}
 use Rattle.std.specs.List.{starts_with}
-use Rattle.rox_build.specs.Lines.{rows_of}
-use Rattle.rox_build.specs.Scopes.{entries}
-use Rattle.std.proofs.Common.{eqb, eq-eqb, ne_eqb, if◌then◌else◌, slice_index, slice_range, ◌≡◌, ℕ, zero, suc, ◌+◌, ◌<◌, Bool, true, false, List, [], ◌∷◌, ◌++◌, length, map, leb, refl, sym, ap, subst, ◌∙◌, arith, Result, Ok, Err, append_assoc, length-append}
+use Rattle.rox_build.specs.Lines.{rows_of, scope_at}
+use Rattle.rox_build.specs.Tagged.{lists_in}
+use Rattle.std.proofs.Common.{eqb, eq-eqb, ne_eqb, if◌then◌else◌, slice_index, ◌≡◌, ℕ, zero, suc, ◌+◌, ◌<◌, Bool, true, false, List, [], ◌∷◌, ◌++◌, length, map, leb, refl, sym, ap, subst, ◌∙◌, arith, Result, Ok, Err, append_assoc, length-append}
 use Rattle.std.proofs.lemmas.List.{append-nil, length-map, map-append, same_from_push}
 use Rattle.rox_grammar.specs.declared.fault.Fault.{Fault}
 use Rattle.rox_grammar.specs.declared.fault.Span.{Span}
@@ -162,7 +162,7 @@ lines_deep root = refl
 lines_deep (inside start tag before up) = length-append (open_lines up) _ ∙ ap (λ (n : ℕ). n + 1) (lines_deep up)
 
 pub opened_deep : (end : ℕ) (o : Open) (done : Forest Item) (b : Builder) → Shows end o done b → length b.opened.items ≡ depth_of o
-opened_deep end o done b h = sym (length-map b.opened.items (opened (names_in b.tables) b.tables.listed.items)) ∙ ap length h.open_rows ∙ lines_deep o
+opened_deep end o done b h = sym (length-map b.opened.items (opened (lists_in b.tables))) ∙ ap length h.open_rows ∙ lines_deep o
 
 -- no element is open
 pub closed_at_root : (t : ElementTables) (o : Open) (i n j : ℕ) (name : Name) (done : Forest Item) (left : ℕ) → opened_in t [] ≡ open_lines o → closed_by i name n j done o left ≡ Err (fault.UnexpectedEntityCloseTag i)
@@ -176,9 +176,9 @@ closed_at_root t (inside start tag before up) i n j name done left h = absurd (p
 
 -- the name of the innermost open element, and where it stands
 top_view : (t : ElementTables) (start : ℕ) (tag : Tag) (before : Forest Item) (up : Open) (outer : List OpenElement) (x : OpenElement) → opened_in t (outer ++ x ∷ []) ≡ open_lines (inside start tag before up)
-    → opened (names_in t) t.listed.items x ≡ record { row = top up + 1 + size (merge before); name = tag.name; name_start = start + 1; name_end = tag.name_end; scope = listed (scope_of up) tag.declarations }
+    → opened (lists_in t) x ≡ record { row = top up + 1 + size (merge before); name = tag.name; name_start = start + 1; name_end = tag.name_end; scope = listed (scope_of up) tag.declarations }
 top_view t start tag before up outer x h =
-    (same_from_push (map (opened (names_in t) t.listed.items) outer) (open_lines up) (opened (names_in t) t.listed.items x) _ (sym (map-append (opened (names_in t) t.listed.items) outer (x ∷ [])) ∙ h)).1
+    (same_from_push (map (opened (lists_in t)) outer) (open_lines up) (opened (lists_in t) x) _ (sym (map-append (opened (lists_in t)) outer (x ∷ [])) ∙ h)).1
 
 outer_not_nil : (t : ElementTables) (outer : List OpenElement) (x : OpenElement) → opened_in t (outer ++ x ∷ []) ≡ [] → ⊥
 outer_not_nil t [] x h = cc h
@@ -236,7 +236,7 @@ text_stepped limit end s c d b u r t h tables limits left adds =
 -- ---- what the innermost open element lists
 
 pub top_scope : (t : ElementTables) (o : Open) (outer : List OpenElement) (x : OpenElement) → opened_in t (outer ++ x ∷ []) ≡ open_lines o
-    → entries (names_in t) (slice_range t.listed.items x.scope.from x.scope.until) ≡ scope_of o
+    → scope_at (lists_in t) x.scope ≡ scope_of o
 top_scope t root outer x h = absurd (outer_not_nil t outer x h)
 top_scope t (inside start tag before up) outer x h = ap (λ (l : OpenLine). l.scope) (top_view t start tag before up outer x h)
 

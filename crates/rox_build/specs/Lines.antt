@@ -16,6 +16,7 @@ use Rattle.rox_build.specs.declared.attributes.AttributeTable.{AttributeTable}
 use Rattle.rox_build.specs.declared.tables.NodeKind.{NodeKind}
 use Rattle.rox_build.specs.declared.tables.NodeKind.TheVariants as kind
 use Rattle.rox_build.specs.declared.tables.NodeData.{NodeData}
+use Rattle.rox_build.specs.declared.tables.Scope.{Scope}
 use Rattle.rox_build.specs.declared.tables.Tables.{Tables}
 
 -- one row: where its node stands, and the node
@@ -65,20 +66,29 @@ attribute names a = record {
   borrowed = is_borrowed a.0.value;
 }
 
--- the node of a row, over the tables of attributes, namespaces and listed places
-abbrev pub node : List AttributeRow → List Declaration → List ℕ → (start end : ℕ) → NodeKind → Node
-node attributes names listed start end kind.Root = tree.Root end
-node attributes names listed start end (kind.Element e) =
-    tree.Element start end (option_map (λ i. (entry names i).uri) e.namespace) e.local.now
-    (map (entry names) (slice_range listed e.namespaces_from e.namespaces_until))
-    (map (attribute names) (slice_range attributes e.attributes_from e.attributes_until))
-node attributes names listed start end (kind.Text value) = tree.Text start end (storage_bytes value) (is_borrowed value)
-node attributes names listed start end (kind.Comment text) = tree.Comment start end (storage_bytes text)
-node attributes names listed start end (kind.PI pi) = tree.PI start end pi.target.now (option_map (λ v. v.now) pi.value)
+-- what each scope lists, of the places that are listed
+abbrev pub lists_of : List Declaration → List ℕ → List Scope → List (List Declaration)
+lists_of names listed scopes = map (λ s. map (entry names) (slice_range listed s.from s.until)) scopes
 
-abbrev pub line : List AttributeRow → List Declaration → List ℕ → NodeData → Line
-line attributes names listed row =
-    record { parent = row.parent; next = row.next; depth = row.depth; node = node attributes names listed row.start row.end row.kind }
+-- what the scope at this place lists
+abbrev pub scope_at : List (List Declaration) → ℕ → List Declaration
+scope_at [] i = []
+scope_at (l ∷ ls) Prim.Native.Nat.zero = l
+scope_at (l ∷ ls) (Prim.Native.Nat.suc i) = scope_at ls i
+
+-- the node of a row, over the tables of attributes and namespaces and what scopes list
+abbrev pub node : List AttributeRow → List Declaration → List (List Declaration) → (start end : ℕ) → NodeKind → Node
+node attributes names lists start end kind.Root = tree.Root end
+node attributes names lists start end (kind.Element e) =
+    tree.Element start end (option_map (λ i. (entry names i).uri) e.namespace) e.local.now (scope_at lists e.scope)
+    (map (attribute names) (slice_range attributes e.attributes_from e.attributes_until))
+node attributes names lists start end (kind.Text value) = tree.Text start end (storage_bytes value) (is_borrowed value)
+node attributes names lists start end (kind.Comment text) = tree.Comment start end (storage_bytes text)
+node attributes names lists start end (kind.PI pi) = tree.PI start end pi.target.now (option_map (λ v. v.now) pi.value)
+
+abbrev pub line : List AttributeRow → List Declaration → List (List Declaration) → NodeData → Line
+line attributes names lists row =
+    record { parent = row.parent; next = row.next; depth = row.depth; node = node attributes names lists row.start row.end row.kind }
 
 -- the namespaces that an attribute's or an element's row names are in the table
 abbrev pub NamespaceWithin : ℕ → AttributeNamespace → Type 0
@@ -91,26 +101,33 @@ OptionWithin n None = Unit {0}
 OptionWithin n (Some i) = i < n
 
 -- what a row names is in the tables, of these lengths, and a comment is a slice of the input
-abbrev pub KindWithin : (attributes names listed : ℕ) → NodeKind → Type 0
-KindWithin attributes names listed kind.Root = Unit {0}
-KindWithin attributes names listed (kind.Element e) =
-    (e.attributes_from ≤ e.attributes_until) × (e.attributes_until ≤ attributes)
-    × (e.namespaces_from ≤ e.namespaces_until) × (e.namespaces_until ≤ listed) × OptionWithin names e.namespace
-KindWithin attributes names listed (kind.Text value) = Unit {0}
-KindWithin attributes names listed (kind.Comment text) = is_borrowed text ≡ true
-KindWithin attributes names listed (kind.PI pi) = Unit {0}
+abbrev pub KindWithin : (attributes names scopes : ℕ) → NodeKind → Type 0
+KindWithin attributes names scopes kind.Root = Unit {0}
+KindWithin attributes names scopes (kind.Element e) =
+    (e.attributes_from ≤ e.attributes_until) × (e.attributes_until ≤ attributes) × (e.scope < scopes) × OptionWithin names e.namespace
+KindWithin attributes names scopes (kind.Text value) = Unit {0}
+KindWithin attributes names scopes (kind.Comment text) = is_borrowed text ≡ true
+KindWithin attributes names scopes (kind.PI pi) = Unit {0}
+
+-- each scope is a stretch of so many listed places
+abbrev pub AreStretches : ℕ → List Scope → Type 0
+AreStretches listed scopes = AllByRecursion (λ s. (s.from ≤ s.until) × (s.until ≤ listed)) scopes
 
 -- each row names only what the tables have
 pub record Sound (t : Tables) : Type 0 where
-  pub nodes : AllByRecursion (λ row. KindWithin (length (rows_of t.attributes)) (length t.namespaces.items) (length t.listed.items) row.kind) t.nodes.items
+  pub nodes : AllByRecursion (λ row. KindWithin (length (rows_of t.attributes)) (length t.namespaces.items) (length t.scopes.items) row.kind) t.nodes.items
   pub attributes : AllByRecursion (λ a. NamespaceWithin (length t.namespaces.items) a.0.namespace) (rows_of t.attributes)
   pub listed : AllByRecursion (λ i. i < length t.namespaces.items) t.listed.items
+  pub scopes : AreStretches (length t.listed.items) t.scopes.items
 
 abbrev pub names_of : Tables → List Declaration
 names_of t = map declaration t.namespaces.items
 
+abbrev pub scopes_of : Tables → List (List Declaration)
+scopes_of t = lists_of (names_of t) t.listed.items t.scopes.items
+
 abbrev pub lines_of : Tables → List Line
-lines_of t = map (line (rows_of t.attributes) (names_of t) t.listed.items) t.nodes.items
+lines_of t = map (line (rows_of t.attributes) (names_of t) (scopes_of t)) t.nodes.items
 
 -- the tables are those of the tree
 pub record Holds (t : Tables) (tree : Forest Node) : Type 0 where

@@ -1,5 +1,5 @@
 -- The place that each prefix, or the default, stands for in the innermost of some scopes, and what takes it back to those around it.
-use Rattle.std.specs.Prelude.{◌≡◌, ℕ, ◌≤◌, ◌<◌, Bool, List, [], ◌∷◌, ◌++◌, Option, Some, None, length, drop, if◌then◌else◌, slice_range}
+use Rattle.std.specs.Prelude.{◌≡◌, ℕ, ◌≤◌, ◌<◌, Bool, List, [], ◌∷◌, ◌++◌, Option, Some, None, length, drop, if◌then◌else◌}
 use Rattle.std.specs.Option.{option_map}
 use Rattle.std.specs.Borrow.{Bor}
 use Rattle.std.specs.BTreeMap.{BTreeMap, get_by}
@@ -7,9 +7,8 @@ use Rattle.std.specs.Cmp.Lexicographic.{slice_cmp}
 use Rattle.std.specs.Ordering.{nat_cmp}
 use Rattle.rox_grammar.specs.Written.{Declaration}
 use Rattle.rox_grammar.specs.Tree.{same_prefix, uri_of}
-use Rattle.rox_build.specs.Lines.{entry, OptionWithin}
+use Rattle.rox_build.specs.Lines.{entry, scope_at, OptionWithin}
 use Rattle.rox_build.specs.Scopes.{prefix_view, entries, others}
-use Rattle.rox_build.specs.declared.tables.Scope.{Scope}
 use Rattle.rox_build.specs.declared.present.Present.{Present}
 use Rattle.rox_build.specs.declared.present.Replaced.{Replaced}
 use Rattle.rox_build.specs.declared.present.Layer.{Layer}
@@ -37,22 +36,20 @@ pub record IsBound (names : List Declaration) (places : Option (List ℕ) → Op
   pub uris : (prefix : Option (List ℕ)) → option_map (λ i. (entry names i).uri) (places prefix) ≡ uri_of listed prefix
 
 -- each of these scopes, the outermost first, has its places where what was replaced behind it is taken back
-abbrev pub Stacked : List Declaration → List ℕ → List Replaced → (Option (List ℕ) → Option ℕ) → (least : ℕ) → List Layer → Type 0
-Stacked names listed replaced places least [] = Unit {0}
-Stacked names listed replaced places least (l ∷ ls) =
-    (least ≤ l.count) × (l.count ≤ length replaced) × (l.scope.from ≤ l.scope.until) × (l.scope.until ≤ length listed)
-    × IsBound names (restored (drop l.count replaced) places) (entries names (slice_range listed l.scope.from l.scope.until))
-    × Stacked names listed replaced places l.count ls
+abbrev pub Stacked : List Declaration → List (List Declaration) → List Replaced → (Option (List ℕ) → Option ℕ) → (least : ℕ) → List Layer → Type 0
+Stacked names lists replaced places least [] = Unit {0}
+Stacked names lists replaced places least (l ∷ ls) =
+    (least ≤ l.count) × (l.count ≤ length replaced) × (l.scope < length lists) × IsBound names (restored (drop l.count replaced) places) (scope_at lists l.scope)
+    × Stacked names lists replaced places l.count ls
 
-pub record Keeps (names : List Declaration) (listed : List ℕ) (x : Present) : Type 0 where
-  pub stacked : Stacked names listed x.replaced.items (found x) 0 x.layers.items
+pub record Keeps (names : List Declaration) (lists : List (List Declaration)) (x : Present) : Type 0 where
+  pub stacked : Stacked names lists x.replaced.items (found x) 0 x.layers.items
 
--- A scope lists these places, below one that lists what stands at `above`: its own, and the others of that.
-pub record IsEntered (names : List Declaration) (listed own all : List ℕ) (xml : Bool) (above scope : Scope) : Type 0 where
-  pub is : all ≡ slice_range listed scope.from scope.until
-  pub ordered : scope.from ≤ scope.until
-  pub within : scope.until ≤ length listed
-  pub lists : entries names all ≡ entries names own ++ others (entries names own) xml (entries names (slice_range listed above.from above.until))
+-- A scope lists these places, below the scope at `above`: its own, and the others of that.
+pub record IsEntered (names : List Declaration) (lists : List (List Declaration)) (own all : List ℕ) (xml : Bool) (above scope : ℕ) : Type 0 where
+  pub is : entries names all ≡ scope_at lists scope
+  pub within : scope < length lists
+  pub made : entries names all ≡ entries names own ++ others (entries names own) xml (scope_at lists above)
 
 -- these are the places of what is listed at `listed`, if that is much
 unfoldable pub Finds : List Declaration → List ℕ → Present → Type 0

@@ -1,5 +1,5 @@
 -- What the code holds of namespaces, against declarations.
-use Rattle.std.specs.Prelude.{ℕ, ◌<◌, ◌&&◌, ◌||◌, not, Bool, List, map, filter, Option}
+use Rattle.std.specs.Prelude.{ℕ, ◌<◌, ◌&&◌, ◌||◌, not, Bool, List, [], ◌∷◌, map, filter, Option, slice_range}
 use Rattle.std.specs.Option.{option_map}
 use Rattle.std.specs.Borrow.{Bor}
 use Rattle.std.specs.List.{AllByRecursion}
@@ -7,6 +7,7 @@ use Rattle.rox_grammar.specs.Written.{Declaration}
 use Rattle.rox_grammar.specs.Tree.{is_declared}
 use Rattle.rox_grammar.specs.WellNamed.{is_xml}
 use Rattle.rox_build.specs.Lines.{entry}
+use Rattle.rox_build.specs.declared.tables.Scope.{Scope}
 
 -- a prefix, or none for the default, without where it lies in memory
 abbrev pub prefix_view : Option (Bor (List ℕ)) → Option (List ℕ)
@@ -18,6 +19,12 @@ pair prefix uri = record { prefix = prefix; uri = uri }
 -- the declarations at these places of a table
 abbrev pub entries : List Declaration → List ℕ → List Declaration
 entries names places = map (entry names) places
+
+-- the places that the scope at this place lists
+abbrev pub places_in : List ℕ → List Scope → ℕ → List ℕ
+places_in listed [] i = []
+places_in listed (s ∷ ss) Prim.Native.Nat.zero = slice_range listed s.from s.until
+places_in listed (s ∷ ss) (Prim.Native.Nat.suc i) = places_in listed ss i
 
 -- each is a place of a table of this length
 abbrev pub ArePlaces : ℕ → List ℕ → Type 0

@@ -1,5 +1,5 @@
 -- What the builder holds, against where reading stands.
-use Rattle.std.specs.Prelude.{◌≡◌, ℕ, ◌+◌, ◌<◌, ◌≤◌, Bool, true, false, List, [], ◌∷◌, ◌++◌, Option, Result, Ok, Err, length, map, slice_range}
+use Rattle.std.specs.Prelude.{◌≡◌, ℕ, ◌+◌, ◌<◌, ◌≤◌, Bool, true, false, List, [], ◌∷◌, ◌++◌, Option, Result, Ok, Err, length, map}
 use Rattle.std.specs.String.{string_bytes}
 use Rattle.std.specs.List.{AllByRecursion}
 use Rattle.rox_grammar.specs.declared.fault.Fault.{Fault}
@@ -14,19 +14,16 @@ use Rattle.rox_reading.proofs.Forests.{Clean, is_text}
 use Rattle.rox_scan.specs.Gives.{Fails, name_view}
 use Rattle.rox_scan.specs.declared.cursor.Cursor.{Cursor}
 use Rattle.rox_scan.specs.declared.failure.Failure.{Failure}
-use Rattle.rox_build.specs.Lines.{Line, line, node, declaration, NamespaceWithin, KindWithin, AttributeRow, rows_of}
+use Rattle.rox_build.specs.Lines.{Line, line, node, declaration, scope_at, NamespaceWithin, KindWithin, AreStretches, AttributeRow, rows_of}
 use Rattle.rox_reading.specs.Values.{Next, part_text}
 use Rattle.rox_build.specs.Refusing.{Stops, Refuses}
 use Rattle.rox_build.specs.Values.{next_view}
 use Rattle.rox_build.specs.declared.refused.Refused.{Refused}
-use Rattle.rox_build.specs.Scopes.{entries}
 use Rattle.rox_build.specs.SoFar.{top, so_far}
-use Rattle.rox_build.specs.Tagged.{KeepsPlaces}
+use Rattle.rox_build.specs.Tagged.{KeepsPlaces, lists_in}
 use Rattle.rox_build.specs.declared.tables.NodeKind.{NodeKind}
 use Rattle.rox_build.specs.declared.tables.NodeData.{NodeData}
 use Rattle.rox_build.specs.declared.tables.ElementTables.{ElementTables}
-use Rattle.rox_build.specs.declared.tables.Scope.{Scope}
-use Rattle.rox_build.specs.declared.tables.ElementData.{ElementData}
 use Rattle.rox_build.specs.declared.tables.NodeKind.TheVariants as kind
 use Rattle.rox_build.specs.declared.tag.StartTag.{StartTag}
 use Rattle.rox_build.specs.declared.pending.Pending.{Pending}
@@ -42,9 +39,8 @@ pub record OpenLine : Type 0 where
   pub name_end : ℕ
   pub scope : List Declaration
 
-abbrev pub opened : List Declaration → List ℕ → OpenElement → OpenLine
-opened names places o =
-    record { row = o.row; name = name_view o.name; name_start = o.name_start; name_end = o.name_end; scope = entries names (slice_range places o.scope.from o.scope.until) }
+abbrev pub opened : List (List Declaration) → OpenElement → OpenLine
+opened lists o = record { row = o.row; name = name_view o.name; name_start = o.name_start; name_end = o.name_end; scope = scope_at lists o.scope }
 
 -- the open elements, outermost first
 abbrev pub open_lines : Open → List OpenLine
@@ -70,14 +66,14 @@ abbrev pub names_in : ElementTables → List Declaration
 names_in t = map declaration t.namespaces.items.items
 
 abbrev pub line_in : ElementTables → NodeData → Line
-line_in t row = line (rows_of t.attributes) (names_in t) t.listed.items row
+line_in t row = line (rows_of t.attributes) (names_in t) (lists_in t) row
 
 abbrev pub opened_in : ElementTables → List OpenElement → List OpenLine
-opened_in t os = map (opened (names_in t) t.listed.items) os
+opened_in t os = map (opened (lists_in t)) os
 
 -- what a row names is in the tables
 abbrev pub IsWithin : ElementTables → NodeKind → Type 0
-IsWithin t k = KindWithin (length (rows_of t.attributes)) (length t.namespaces.items.items) (length t.listed.items) k
+IsWithin t k = KindWithin (length (rows_of t.attributes)) (length t.namespaces.items.items) (length t.scopes.items) k
 
 -- The builder holds these open elements, with these items in the innermost, of a text of this length.
 pub record Shows (end : ℕ) (stack : Open) (done : Forest Item) (b : Builder) : Type 0 where
@@ -98,13 +94,9 @@ pub record Settled (end : ℕ) (stack : Open) (done : Forest Item) (b : Builder)
 
 -- a row shows an item with nothing below it, below an element that lists these
 pub record IsNode (t : ElementTables) (above : List Declaration) (start end : ℕ) (k : NodeKind) (item : Item) : Type 0 where
-  pub is : node (rows_of t.attributes) (names_in t) t.listed.items start end k ≡ node_in (scope_in above item) item
+  pub is : node (rows_of t.attributes) (names_in t) (lists_in t) start end k ≡ node_in (scope_in above item) item
   pub within : IsWithin t k
   pub no_text : is_text item ≡ false
-
--- where the namespaces stand that an element lists
-abbrev pub scope_in_table : ElementData → Scope
-scope_in_table e = record { from = e.namespaces_from; until = e.namespaces_until }
 
 -- what the tag holds is this, below an element that lists these
 pub record IsOpening (tables : ElementTables) (above : List Declaration) (start : ℕ) (tag : StartTag) (t : Tag) : Type 0 where
@@ -112,26 +104,33 @@ pub record IsOpening (tables : ElementTables) (above : List Declaration) (start 
   pub name : name_view tag.name ≡ t.name
   pub name_start : tag.name_start ≡ start + 1
   pub name_end : tag.name_end ≡ t.name_end
-  pub scope : entries (names_in tables) (slice_range tables.listed.items tag.element.namespaces_from tag.element.namespaces_until) ≡ listed above t.declarations
+  pub scope : scope_at (lists_in tables) tag.element.scope ≡ listed above t.declarations
 
--- attributes and listed places name only what the table of namespaces has
+-- attributes and listed places name only what the table of namespaces has, and scopes only places that are listed
 pub record AreSound (t : ElementTables) : Type 0 where
   pub attributes : AllByRecursion (λ a. NamespaceWithin (length t.namespaces.items.items) a.0.namespace) (rows_of t.attributes)
   pub listed : AllByRecursion (λ i. i < length t.namespaces.items.items) t.listed.items
+  pub scopes : AreStretches (length t.listed.items) t.scopes.items
 
 -- the builder holds what is read, unless memory ran out
 abbrev pub Adds : ℕ → Result (Unit {0}) Failure → Builder → Result State Fault → Type 0
 Adds end (Ok x) b read = (s : State) × (read ≡ Ok s) × Shows end s.stack s.done b
 Adds end (Err e) b read = Fails e read
 
--- what an open element lists is in the table
+-- the scope of an open element is in the table
 abbrev pub IsOpenWithin : ElementTables → OpenElement → Type 0
-IsOpenWithin t o = (o.scope.from ≤ o.scope.until) × (o.scope.until ≤ length t.listed.items)
+IsOpenWithin t o = o.scope < length t.scopes.items
+
+-- the first scope lists nothing
+pub record HasEmpty (t : ElementTables) : Type 0 where
+  pub there : 0 < length t.scopes.items
+  pub none : scope_at (lists_in t) 0 ≡ []
 
 -- what is so between two constructs, whatever the text
 pub record Fine (t : ElementTables) (opened : List OpenElement) : Type 0 where
   pub sound : AreSound t
   pub elements : AllByRecursion (IsOpenWithin t) opened
+  pub empty : HasEmpty t
   pub kept : KeepsPlaces t
   pub few_names : length t.namespaces.items.items ≤ most_pairs
   pub few_attributes : length (rows_of t.attributes) ≤ most_attributes
@@ -184,5 +183,5 @@ pub record Grown (old new : ElementTables) : Type 0 where
   pub attributes : (rows_of new.attributes) ≡ (rows_of old.attributes) ++ more_attributes
   pub more_names : List Declaration
   pub names : names_in new ≡ names_in old ++ more_names
-  pub more_listed : List ℕ
-  pub listed_are : new.listed.items ≡ old.listed.items ++ more_listed
+  pub more_lists : List (List Declaration)
+  pub lists : lists_in new ≡ lists_in old ++ more_lists

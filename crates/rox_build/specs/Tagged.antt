@@ -1,5 +1,5 @@
 -- What the code holds of a start tag that was read, against the tag.
-use Rattle.std.specs.Prelude.{◌≡◌, ℕ, ◌≤◌, List, ◌++◌, length, map, Result, Ok, Err, slice_range}
+use Rattle.std.specs.Prelude.{◌≡◌, ℕ, ◌<◌, ◌≤◌, List, ◌++◌, length, map, Result, Ok, Err}
 use Rattle.std.specs.List.{AllByRecursion}
 use Rattle.std.specs.Option.{option_map}
 use Rattle.rox_grammar.specs.Written.{Attribute, Name, Declaration, Tag}
@@ -11,12 +11,11 @@ use Rattle.rox_scan.specs.Gives.{name_view}
 use Rattle.rox_scan.specs.declared.cursor.Cursor.{Cursor}
 use Rattle.rox_build.specs.Refusing.{Refuses}
 use Rattle.rox_build.specs.declared.refused.Refused.{Refused}
-use Rattle.rox_build.specs.Lines.{declaration, attribute, entry, NamespaceWithin, OptionWithin, AttributeRow, rows_of}
-use Rattle.rox_build.specs.Scopes.{entries, ArePlaces}
+use Rattle.rox_build.specs.Lines.{declaration, attribute, entry, lists_of, scope_at, NamespaceWithin, OptionWithin, AreStretches, AttributeRow, rows_of}
+use Rattle.rox_build.specs.Scopes.{ArePlaces}
 use Rattle.rox_build.specs.Present.{Keeps}
 use Rattle.rox_build.specs.declared.tables.ElementData.{ElementData}
 use Rattle.rox_build.specs.declared.tables.ElementTables.{ElementTables}
-use Rattle.rox_build.specs.declared.tables.Scope.{Scope}
 use Rattle.rox_build.specs.declared.tag.StartTag.{StartTag}
 
 -- The table of attributes has grown by these, in this scope.
@@ -25,6 +24,10 @@ pub record HasAttributes (old new : List AttributeRow) (names : List Declaration
   pub grown : new ≡ old ++ more
   pub same : map (attribute names) more ≡ map (attribute_in scope) written
   pub within : AllByRecursion (λ a. NamespaceWithin (length names) a.0.namespace) more
+
+-- what each scope lists
+abbrev pub lists_in : ElementTables → List (List Declaration)
+lists_in t = lists_of (map declaration t.namespaces.items.items) t.listed.items t.scopes.items
 
 -- An element of this name and with these attributes, which lists this scope.
 pub record IsElement (old new : ElementTables) (e : ElementData) (scope : List Declaration) (name : Name) (written : List Attribute) : Type 0 where
@@ -35,12 +38,12 @@ pub record IsElement (old new : ElementTables) (e : ElementData) (scope : List D
   pub local : e.local.now ≡ name.local
   pub namespace : option_map (λ i. (entry (map declaration new.namespaces.items.items) i).uri) e.namespace ≡ element_namespace scope name
   pub namespace_within : OptionWithin (length new.namespaces.items.items) e.namespace
-  pub listed_within : (e.namespaces_from ≤ e.namespaces_until) × (e.namespaces_until ≤ length new.listed.items)
-  pub lists : entries (map declaration new.namespaces.items.items) (slice_range new.listed.items e.namespaces_from e.namespaces_until) ≡ scope
+  pub scope_within : e.scope < length new.scopes.items
+  pub lists : scope_at (lists_in new) e.scope ≡ scope
 
 -- the places of prefixes are those of scopes in these tables
 abbrev pub KeepsPlaces : ElementTables → Type 0
-KeepsPlaces t = Keeps (map declaration t.namespaces.items.items) t.listed.items t.present
+KeepsPlaces t = Keeps (map declaration t.namespaces.items.items) (lists_in t) t.present
 
 -- The tables have grown by a tag below an element that lists these.
 pub record Tagged (old new : ElementTables) (t : StartTag) (above : List Declaration) (tag : Tag) : Type 0 where
@@ -48,9 +51,10 @@ pub record Tagged (old new : ElementTables) (t : StartTag) (above : List Declara
   pub name_end : t.name_end ≡ tag.name_end
   pub names : map declaration new.namespaces.items.items ≡ with_new (map declaration old.namespaces.items.items) (listable tag)
   pub few : length new.namespaces.items.items ≤ most_pairs
-  pub more : List ℕ
-  pub listed_more : new.listed.items ≡ old.listed.items ++ more
+  pub more : List (List Declaration)
+  pub lists_more : lists_in new ≡ lists_in old ++ more
   pub places : ArePlaces (length new.namespaces.items.items) new.listed.items
+  pub scopes : AreStretches (length new.listed.items) new.scopes.items
   pub kept : KeepsPlaces new
   pub element : IsElement old new t.element (listed above tag.declarations) tag.name tag.attributes
 
@@ -59,6 +63,6 @@ abbrev pub GivesTag : ElementTables → ElementTables → Cursor → Result Star
 GivesTag old new after (Ok t) above read = (tag : Tag) × (read ≡ Ok (record { tag = tag; empty = t.empty; left = t.left }, after.pos)) × Tagged old new t above tag
 GivesTag old new after (Err e) above read = Refuses e read
 
--- the namespaces at these listed places
-abbrev pub scope_in_tables : ElementTables → Scope → List Declaration
-scope_in_tables t s = entries (map declaration t.namespaces.items.items) (slice_range t.listed.items s.from s.until)
+-- the namespaces that the scope at this place lists
+abbrev pub scope_in_tables : ElementTables → ℕ → List Declaration
+scope_in_tables t i = scope_at (lists_in t) i

@@ -25,14 +25,14 @@ use std::alloc::Global;
 use std::collections::BTreeSet;
 use std::mem;
 
-/// An element that is open: its row, its name, which stands from `name_start` up to `name_end`, and what it lists.
+/// An element that is open: its row, its name, which stands from `name_start` up to `name_end`, and its scope.
 #[derive(Clone, Copy, Debug)]
 pub struct OpenElement<'input> {
     pub row: u32,
     pub name: QName<'input>,
     pub name_start: usize,
     pub name_end: usize,
-    pub scope: Scope,
+    pub scope: u32,
 }
 
 /// The tables of what is read so far. The root node has row 0.
@@ -75,6 +75,16 @@ fn root_row<'input>(alloc: Global, bytes: usize) -> Result<Vec<NodeData<'input>>
     Ok(nodes)
 }
 
+/// The scope of the root node, which lists nothing.
+fn empty_scope(alloc: Global) -> Result<Vec<Scope>, Failure>
+    ensures ok { IfOk result (λ scopes. scopes.items ≡ record { from = 0; until = 0 } ∷ []) }
+    ensures err { IfErr result (λ e. e ≡ failure.Memory) }
+{
+    let mut scopes = Vec::new(alloc);
+    push(&mut scopes, Scope { from: 0, until: 0 })?;
+    Ok(scopes)
+}
+
 /// Writes the end of an element into its row.
 #[inline]
 fn end_row(nodes: &mut Vec<NodeData<'_>>, row: u32, end: usize)
@@ -99,7 +109,7 @@ fn end_root(nodes: &mut Vec<NodeData<'_>>, count: u32)
 }
 
 impl<'input> Builder<'input> {
-    ghost use Rattle.std.specs.Prelude.{List, ◌++◌, ◌-◌, false, true, take, slice_range, Ok, Err, map};
+    ghost use Rattle.std.specs.Prelude.{List, ◌++◌, ◌-◌, false, true, take, Ok, Err, map};
     ghost use Rattle.std.specs.String.{string_bytes};
     ghost use Rattle.rox_grammar.specs.Forest.{Forest, Nil, Cons, join};
     ghost use Rattle.rox_grammar.specs.Written.{Item, Text, Element, Tag, merge, leaf};
@@ -109,9 +119,9 @@ impl<'input> Builder<'input> {
     ghost use Rattle.rox_reading.specs.Machine.{with_item, opened_by, counted};
     ghost use Rattle.rox_scan.specs.Gives.{Fails};
     ghost use Rattle.rox_build.specs.Values.{piece_view};
-    ghost use Rattle.rox_build.specs.Shown.{Shows, Settled, IsNode, IsOpening, AreSound, Adds, Fine, names_in, opened_in, last_row, scope_in_table};
-    ghost use Rattle.rox_build.specs.Scopes.{entries};
+    ghost use Rattle.rox_build.specs.Shown.{Shows, Settled, IsNode, IsOpening, AreSound, Adds, Fine, names_in, opened_in, last_row};
     ghost use Rattle.rox_build.specs.Lines.{Holds, rows_of};
+    ghost use Rattle.rox_build.specs.Tagged.{scope_in_tables};
     ghost use Rattle.rox_grammar.specs.Tree.{document_tree};
     ghost use Rattle.rox_build.specs.declared.builder.OpenElement.{OpenElement};
 
@@ -126,6 +136,7 @@ impl<'input> Builder<'input> {
     {
         // An allocator often gives places in turn, and a table behind which nothing stands grows where it is: the rows come last.
         let attributes = AttributeTable::of_text(alloc, bytes)?;
+        let scopes = empty_scope(alloc)?;
         let nodes = root_row(alloc, bytes)?;
         Ok(Builder {
             nodes,
@@ -133,6 +144,7 @@ impl<'input> Builder<'input> {
                 attributes,
                 namespaces: NamespaceTable::new(alloc),
                 listed: Vec::new(alloc),
+                scopes,
                 present: Present::new(alloc),
             },
             opened: Vec::new(alloc),
@@ -169,16 +181,16 @@ impl<'input> Builder<'input> {
         }
     }
 
-    /// What the innermost open element lists.
+    /// The scope of the innermost open element, or of the root node.
     #[inline]
-    pub fn scope(&self) -> Scope
-        ensures value { (end : ℕ) (stack : Open) (done : Forest Item) → Shows end stack done self.now
-            → entries (names_in self.now.tables) (slice_range self.now.tables.listed.items result.from result.until) ≡ scope_of stack }
-        ensures within { Fine self.now.tables self.now.opened.items → (result.from ≤ result.until) × (result.until ≤ length self.now.tables.listed.items) }
+    pub fn scope(&self) -> u32
+        ensures value { Fine self.now.tables self.now.opened.items → (end : ℕ) (stack : Open) (done : Forest Item) → Shows end stack done self.now
+            → scope_in_tables self.now.tables result ≡ scope_of stack }
+        ensures within { Fine self.now.tables self.now.opened.items → result < length self.now.tables.scopes.items }
     {
         match self.opened.last() {
             Some(element) => element.scope,
-            None => Scope { from: 0, until: 0 },
+            None => 0,
         }
     }
 
@@ -367,7 +379,7 @@ impl<'input> Builder<'input> {
         ensures value { (total at left : ℕ) (s : State) (t : Tag) → Shows total s.stack s.done self.old → s.at ≡ start → IsOpening self.old.tables (scope_of s.stack) start tag.now t
             → Adds total result self.new (opened_by self.old.nodes_limit s t false left at) }
         ensures tables { self.new.tables ≡ self.old.tables }
-        ensures opened { OnOk result ((x : OpenElement) × (self.new.opened.items ≡ self.old.opened.items ++ x ∷ []) × (x.scope ≡ scope_in_table tag.now.element)) }
+        ensures opened { OnOk result ((x : OpenElement) × (self.new.opened.items ≡ self.old.opened.items ++ x ∷ []) × (x.scope ≡ tag.now.element.scope)) }
         ensures limit { self.new.nodes_limit ≡ self.old.nodes_limit }
         ensures left { self.new.left ≡ self.old.left }
     {
@@ -382,10 +394,7 @@ impl<'input> Builder<'input> {
             name: tag.name,
             name_start: tag.name_start,
             name_end: tag.name_end,
-            scope: Scope {
-                from: tag.element.namespaces_from,
-                until: tag.element.namespaces_until,
-            },
+            scope: tag.element.scope,
         };
         push(&mut self.opened, element)?;
         Ok(())
@@ -433,6 +442,7 @@ impl<'input> Builder<'input> {
             mut attributes,
             namespaces,
             listed,
+            scopes,
             present: _,
         } = tables;
         let NamespaceTable {
@@ -445,6 +455,7 @@ impl<'input> Builder<'input> {
             attributes,
             namespaces,
             listed,
+            scopes,
         })
     }
 }

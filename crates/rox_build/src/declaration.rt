@@ -6,11 +6,12 @@ ghost use Rattle.rox_grammar.specs.Written.{Attribute, Declaration, Name, declar
 ghost use Rattle.rox_grammar.specs.Document.{listable_of, most_pairs};
 ghost use Rattle.rox_reading.specs.Tags as spec;
 ghost use Rattle.rox_scan.specs.Gives.{name_view};
-ghost use Rattle.rox_build.specs.Lines.{declaration};
+ghost use Rattle.rox_build.specs.Lines.{declaration, lists_of, AreStretches};
 ghost use Rattle.rox_build.specs.Scopes.{ArePlaces, entries, prefix_view};
 ghost use Rattle.rox_build.specs.Prefixes.{Remembers};
 ghost use Rattle.rox_build.specs.Present.{Keeps};
 ghost use Rattle.rox_build.specs.declared.present.Present.{Present};
+ghost use Rattle.rox_build.specs.declared.tables.Scope.{Scope};
 ghost use Rattle.rox_build.specs.Tags.{taken_view, declares_xml, Declares, Declared};
 ghost use Rattle.rox_grammar.specs.Tree.{is_declared};
 ghost use Rattle.rox_reading.specs.Tags.{Held};
@@ -156,7 +157,9 @@ pub fn take_declaration<'input>(
     ensures places { OnOk result (ArePlaces (length names.new.items.items) listed.new.items) }
     ensures own { OnOk result (own ≤ length listed.new.items) }
     ensures few { OnOk result (length names.new.items.items ≤ most_pairs) }
-    ensures grown { OnOk result ((x : Present) → Keeps (map declaration names.old.items.items) listed.old.items x → Keeps (map declaration names.new.items.items) listed.new.items x) }
+    ensures lists { OnOk result ((scopes : List Scope) → AreStretches own scopes
+        → lists_of (map declaration names.new.items.items) listed.new.items scopes ≡ lists_of (map declaration names.old.items.items) listed.old.items scopes) }
+    ensures grown { OnOk result ((lists : List (List Declaration)) (x : Present) → Keeps (map declaration names.old.items.items) lists x → Keeps (map declaration names.new.items.items) lists x) }
     ensures many { OnOk result (Remembers (map declaration names.new.items.items) (drop own listed.new.items) many.new.keys) }
     ensures value { (known : List Declaration) (before : List ℕ) (h : Held) → own ≡ length before
         → Declares known before (map declaration names.old.items.items) listed.old.items xml h.own

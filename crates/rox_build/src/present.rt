@@ -1,14 +1,14 @@
 //! The place that each prefix stands for, where an element lists many namespaces: a map of those of the innermost scope, and
 //! what they stood for around it, which is taken back when a scope around it is asked for.
 
-ghost use Rattle.std.specs.Prelude.{◌≡◌, ◌<◌, ◌≤◌, ◌++◌, ℕ, List, Option, Some, None, Bool, true, length, map, slice_range, OnOk, IfErr, if◌then◌else◌};
+ghost use Rattle.std.specs.Prelude.{◌≡◌, ◌<◌, ◌≤◌, ◌++◌, ℕ, List, Option, Some, None, Bool, true, length, map, OnOk, IfErr, if◌then◌else◌};
 ghost use Rattle.rox_grammar.specs.Tree.{same_prefix};
 ghost use Rattle.rox_grammar.specs.Written.{Declaration};
-ghost use Rattle.rox_build.specs.Lines.{declaration};
+ghost use Rattle.rox_build.specs.Lines.{declaration, scope_at};
 ghost use Rattle.rox_build.specs.Scopes.{prefix_view, entries, ArePlaces, others};
 
 use crate::growth::push;
-use crate::tables::{Namespace, Scope};
+use crate::tables::Namespace;
 use rox_scan::failure::Failure;
 use std::alloc::Global;
 use std::collections::BTreeMap;
@@ -20,10 +20,10 @@ pub struct Replaced<'input> {
     pub before: Option<u16>,
 }
 
-/// A scope, and how many places were replaced up to it.
+/// A scope, by its place in the table of scopes, and how many places were replaced up to it.
 #[derive(Clone, Copy, Debug)]
 pub struct Layer {
-    pub scope: Scope,
+    pub scope: u32,
     pub count: usize,
 }
 
@@ -40,14 +40,6 @@ pub struct Present<'input> {
     pub layers: Vec<Layer>,
 }
 
-/// Whether two scopes are one stretch.
-#[inline]
-fn is_same(one: Scope, other: Scope) -> bool
-    ensures { result ≡ true → one ≡ other }
-{
-    one.from == other.from && one.until == other.until
-}
-
 impl<'input> Present<'input> {
     ghost use Rattle.std.specs.Prelude.{◌∷◌, [], ◌&&◌, not, filter};
     ghost use Rattle.rox_grammar.specs.WellNamed.{is_xml};
@@ -56,7 +48,7 @@ impl<'input> Present<'input> {
 
     /// Of no scope.
     pub fn new(alloc: Global) -> Present<'input>
-        ensures { (names : List Declaration) (listed : List ℕ) → Keeps names listed result }
+        ensures { (names : List Declaration) (lists : List (List Declaration)) → Keeps names lists result }
     {
         Present {
             default: None,
@@ -102,7 +94,7 @@ impl<'input> Present<'input> {
     /// The same, so that it can be taken back.
     fn put(&mut self, prefix: Option<&'input str>, place: Option<u16>) -> Result<(), Failure>
         ensures present { OnOk result ((p : Option (List ℕ)) → found self.new p ≡ (if same_prefix (prefix_view prefix.entry) p then place else found self.old p)) }
-        ensures keeps { OnOk result ((names : List Declaration) (listed : List ℕ) → Keeps names listed self.old → Keeps names listed self.new) }
+        ensures keeps { OnOk result ((names : List Declaration) (lists : List (List Declaration)) → Keeps names lists self.old → Keeps names lists self.new) }
         ensures layers { self.new.layers ≡ self.old.layers }
         ensures err { IfErr result (λ e. e ≡ Failure.Memory) }
     {
@@ -114,8 +106,8 @@ impl<'input> Present<'input> {
 
     /// Takes back what was replaced last, if it was behind so many. The innermost scope has so many before it.
     fn take_back(&mut self, count: usize) -> Result<(), Failure>
-        ensures keeps { OnOk result ((names : List Declaration) (listed : List ℕ) (ls : List Layer) (l : Layer) → self.old.layers.items ≡ ls ++ l ∷ [] → l.count ≡ count
-            → Keeps names listed self.old → Keeps names listed self.new) }
+        ensures keeps { OnOk result ((names : List Declaration) (lists : List (List Declaration)) (ls : List Layer) (l : Layer) → self.old.layers.items ≡ ls ++ l ∷ [] → l.count ≡ count
+            → Keeps names lists self.old → Keeps names lists self.new) }
         ensures layers { self.new.layers ≡ self.old.layers }
         ensures err { IfErr result (λ e. e ≡ Failure.Memory) }
     {
@@ -130,7 +122,7 @@ impl<'input> Present<'input> {
 
     /// Leaves the innermost scope.
     fn leave(&mut self) -> Result<(), Failure>
-        ensures keeps { OnOk result ((names : List Declaration) (listed : List ℕ) → Keeps names listed self.old → Keeps names listed self.new) }
+        ensures keeps { OnOk result ((names : List Declaration) (lists : List (List Declaration)) → Keeps names lists self.old → Keeps names lists self.new) }
         ensures err { IfErr result (λ e. e ≡ Failure.Memory) }
     {
         let _ = self.layers.pop();
@@ -145,8 +137,8 @@ impl<'input> Present<'input> {
     }
 
     /// Leaves scopes until the innermost is one of these, or there is none.
-    fn leave_others(&mut self, one: Scope, other: Scope) -> Result<(), Failure>
-        ensures keeps { OnOk result ((names : List Declaration) (listed : List ℕ) → Keeps names listed self.old → Keeps names listed self.new) }
+    fn leave_others(&mut self, one: u32, other: u32) -> Result<(), Failure>
+        ensures keeps { OnOk result ((names : List Declaration) (lists : List (List Declaration)) → Keeps names lists self.old → Keeps names lists self.new) }
         ensures err { IfErr result (λ e. e ≡ Failure.Memory) }
     {
         for _turn in 0..self.layers.len() {
@@ -159,11 +151,11 @@ impl<'input> Present<'input> {
     }
 
     /// Whether this is the innermost scope.
-    fn is_in(&self, scope: Scope) -> bool
-        ensures { result ≡ true → (names : List Declaration) (listed : List ℕ) → Keeps names listed self.now → IsBound names (found self.now) (entries names (slice_range listed scope.from scope.until)) }
+    fn is_in(&self, scope: u32) -> bool
+        ensures { result ≡ true → (names : List Declaration) (lists : List (List Declaration)) → Keeps names lists self.now → IsBound names (found self.now) (scope_at lists scope) }
     {
         match self.layers.last() {
-            Some(layer) => layer.count == self.replaced.len() && is_same(layer.scope, scope),
+            Some(layer) => layer.count == self.replaced.len() && layer.scope == scope,
             None => false,
         }
     }
@@ -171,7 +163,7 @@ impl<'input> Present<'input> {
     /// Hides `xml`, if the flag says so.
     fn hide_xml(&mut self, xml: bool) -> Result<(), Failure>
         ensures bound { OnOk result ((names ds : List Declaration) → IsBound names (found self.old) ds → IsBound names (found self.new) (filter (λ d. not (xml && is_xml d.prefix)) ds)) }
-        ensures keeps { OnOk result ((names : List Declaration) (listed : List ℕ) → Keeps names listed self.old → Keeps names listed self.new) }
+        ensures keeps { OnOk result ((names : List Declaration) (lists : List (List Declaration)) → Keeps names lists self.old → Keeps names lists self.new) }
         ensures layers { self.new.layers ≡ self.old.layers }
         ensures err { IfErr result (λ e. e ≡ Failure.Memory) }
     {
@@ -186,7 +178,7 @@ impl<'input> Present<'input> {
     fn add(&mut self, names: &[Namespace<'input>], places: &[u16]) -> Result<(), Failure>
         requires { ArePlaces (length names.now) places.now }
         ensures bound { OnOk result ((ds : List Declaration) → IsBound (map declaration names.now) (found self.old) ds → IsBound (map declaration names.now) (found self.new) (entries (map declaration names.now) places.now ++ ds)) }
-        ensures keeps { OnOk result ((names : List Declaration) (listed : List ℕ) → Keeps names listed self.old → Keeps names listed self.new) }
+        ensures keeps { OnOk result ((names : List Declaration) (lists : List (List Declaration)) → Keeps names lists self.old → Keeps names lists self.new) }
         ensures layers { self.new.layers ≡ self.old.layers }
         ensures err { IfErr result (λ e. e ≡ Failure.Memory) }
     {
@@ -201,7 +193,7 @@ impl<'input> Present<'input> {
     /// Leaves all scopes.
     fn clear(&mut self)
         ensures bound { (names : List Declaration) → IsBound names (found self.new) [] }
-        ensures keeps { (names : List Declaration) (listed : List ℕ) → Keeps names listed self.new }
+        ensures keeps { (names : List Declaration) (lists : List (List Declaration)) → Keeps names lists self.new }
     {
         self.default = None;
         self.prefixes.clear();
@@ -217,14 +209,14 @@ impl<'input> Present<'input> {
         own: &[u16],
         all: &[u16],
         xml: bool,
-        above: Scope,
+        above: u32,
     ) -> Result<(), Failure>
         requires own { ArePlaces (length names.now) own.now }
         requires all { ArePlaces (length names.now) all.now }
-        ensures bound { OnOk result ((listed : List ℕ) → Keeps (map declaration names.now) listed self.old
-            → entries (map declaration names.now) all.now ≡ entries (map declaration names.now) own.now ++ others (entries (map declaration names.now) own.now) xml (entries (map declaration names.now) (slice_range listed above.from above.until))
+        ensures bound { OnOk result ((lists : List (List Declaration)) → Keeps (map declaration names.now) lists self.old
+            → entries (map declaration names.now) all.now ≡ entries (map declaration names.now) own.now ++ others (entries (map declaration names.now) own.now) xml (scope_at lists above)
             → IsBound (map declaration names.now) (found self.new) (entries (map declaration names.now) all.now)) }
-        ensures keeps { OnOk result ((names : List Declaration) (listed : List ℕ) → Keeps names listed self.old → Keeps names listed self.new) }
+        ensures keeps { OnOk result ((names : List Declaration) (lists : List (List Declaration)) → Keeps names lists self.old → Keeps names lists self.new) }
         ensures err { IfErr result (λ e. e ≡ Failure.Memory) }
     {
         if !self.is_in(above) {
@@ -245,13 +237,13 @@ impl<'input> Present<'input> {
         own: &[u16],
         all: &[u16],
         xml: bool,
-        above: Scope,
-        scope: Scope,
+        above: u32,
+        scope: u32,
     ) -> Result<(), Failure>
         requires own { ArePlaces (length names.now) own.now }
         requires all { ArePlaces (length names.now) all.now }
-        ensures value { OnOk result ((listed : List ℕ) → IsEntered (map declaration names.now) listed own.now all.now xml above scope → Keeps (map declaration names.now) listed self.old
-            → Keeps (map declaration names.now) listed self.new × IsBound (map declaration names.now) (found self.new) (entries (map declaration names.now) all.now)) }
+        ensures value { OnOk result ((lists : List (List Declaration)) → IsEntered (map declaration names.now) lists own.now all.now xml above scope → Keeps (map declaration names.now) lists self.old
+            → Keeps (map declaration names.now) lists self.new × IsBound (map declaration names.now) (found self.new) (entries (map declaration names.now) all.now)) }
         ensures err { IfErr result (λ e. e ≡ Failure.Memory) }
     {
         self.leave_others(scope, above)?;

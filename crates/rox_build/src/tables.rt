@@ -46,14 +46,13 @@ pub struct AttributePlaces {
     pub end: usize,
 }
 
-/// What an element has: its name, and where its attributes and the namespaces that it lists stand in their tables.
+/// What an element has: its name, where its attributes stand in their table, and the place of its scope in the table of scopes.
 #[derive(Clone, Copy, Debug)]
 pub struct ElementData<'input> {
     pub local: &'input str,
-    pub namespaces_from: usize,
-    pub namespaces_until: usize,
     pub attributes_from: u32,
     pub attributes_until: u32,
+    pub scope: u32,
     /// The namespace of its name, in the table of namespaces.
     pub namespace: Option<u16>,
 }
@@ -68,7 +67,7 @@ pub enum NodeKind<'input> {
     PI(PI<'input>),
 }
 
-/// A node: 88 bytes. `parent`, `next` and `depth` are its only links: the id of its parent (0 at the root node too), the id
+/// A node: 80 bytes. `parent`, `next` and `depth` are its only links: the id of its parent (0 at the root node too), the id
 /// past its last descendant, and how many nodes are above it.
 #[derive(Debug, Drop)]
 pub struct NodeData<'input> {
@@ -80,14 +79,15 @@ pub struct NodeData<'input> {
     pub kind: NodeKind<'input>,
 }
 
-/// The tables. An element lists a stretch of `listed`, whose numbers are places in `namespaces`; elements without
-/// declarations share their parent's stretch.
+/// The tables. An element names one of `scopes`, a stretch of `listed`, whose numbers are places in `namespaces`; elements
+/// without declarations have their parent's scope. The first scope lists nothing: it is that of the root node.
 #[derive(Debug, Drop)]
 pub struct Tables<'input> {
     pub nodes: Vec<NodeData<'input>>,
     pub attributes: AttributeTable<'input>,
     pub namespaces: Vec<Namespace<'input>>,
     pub listed: Vec<u16>,
+    pub scopes: Vec<Scope>,
 }
 
 /// The tables beside the rows, while they grow.
@@ -96,11 +96,12 @@ pub struct ElementTables<'input> {
     pub attributes: AttributeTable<'input>,
     pub namespaces: NamespaceTable<'input>,
     pub listed: Vec<u16>,
+    pub scopes: Vec<Scope>,
     /// The places of prefixes, in scopes that list many.
     pub present: Present<'input>,
 }
 
-/// What an element lists: a stretch of the listed places.
+/// What elements of one scope list: a stretch of the listed places.
 #[derive(Clone, Copy, Debug)]
 pub struct Scope {
     pub from: usize,

@@ -1,18 +1,18 @@
 //! Start tags: attributes and declarations, each tested in order (XML 1.0 section 3.1, Namespaces in XML 1.0).
 
-ghost use Rattle.std.specs.Prelude.{◌≡◌, ◌<◌, ◌≤◌, ◌+◌, ◌-◌, ◌^◌, ◌∷◌, [], Bool, false, true, List, ℕ, length, map, drop, Ok, Err, OnOk, IfOk, slice_index, slice_range, IfErr, ◌++◌};
+ghost use Rattle.std.specs.Prelude.{◌≡◌, ◌<◌, ◌≤◌, ◌+◌, ◌-◌, ◌^◌, ◌∷◌, [], Bool, false, true, List, ℕ, length, map, drop, Ok, Err, OnOk, IfOk, slice_index, IfErr, ◌++◌};
 ghost use Rattle.rox_grammar.specs.Written.{Declaration};
 ghost use Rattle.rox_grammar.specs.Document.{most_pairs, most_attributes};
 ghost use Rattle.rox_reading.specs.Tags.{Held, attributes_at, tag_at, tested_at};
 ghost use Rattle.rox_scan.specs.Gives.{Fails, name_view};
-ghost use Rattle.rox_build.specs.Tagged.{IsElement, GivesTag, KeepsPlaces, scope_in_tables};
+ghost use Rattle.rox_build.specs.Tagged.{IsElement, GivesTag, KeepsPlaces, lists_in, scope_in_tables};
 ghost use Rattle.rox_scan.specs.Parts.{HasValue, attribute_view};
 ghost use Rattle.rox_grammar.specs.Entities.{Entity};
 ghost use Rattle.rox_build.specs.Named.{AreDeclared, values_in};
 ghost use Rattle.rox_build.specs.Values.{piece_view};
 ghost use Rattle.rox_build.specs.Storage.{storage_bytes, is_borrowed};
-ghost use Rattle.rox_build.specs.Lines.{declaration, rows_of};
-ghost use Rattle.rox_build.specs.Scopes.{ArePlaces, entries};
+ghost use Rattle.rox_build.specs.Lines.{declaration, scope_at, AreStretches, rows_of};
+ghost use Rattle.rox_build.specs.Scopes.{ArePlaces, places_in};
 ghost use Rattle.rox_build.specs.Prefixes.{Remembers};
 ghost use Rattle.rox_build.specs.Present.{Finds, IsEntered};
 ghost use Rattle.rox_build.specs.Tags.{Declares, Holding, Took, TookAll, one_more, taken_view};
@@ -104,12 +104,15 @@ fn take<'input>(
     requires own { own ≤ length elements.old.listed.items }
     requires few { length elements.old.namespaces.items.items ≤ most_pairs }
     requires many { Remembers (map declaration elements.old.namespaces.items.items) (drop own elements.old.listed.items) buffers.old.many.keys }
+    requires scopes { AreStretches own elements.old.scopes.items }
     requires kept { KeepsPlaces elements.old }
     ensures places { OnOk result (ArePlaces (length elements.new.namespaces.items.items) elements.new.listed.items) }
     ensures own { OnOk result (own ≤ length elements.new.listed.items) }
     ensures few { OnOk result (length elements.new.namespaces.items.items ≤ most_pairs) }
     ensures many { OnOk result (Remembers (map declaration elements.new.namespaces.items.items) (drop own elements.new.listed.items) buffers.new.many.keys) }
     ensures kept { OnOk result (KeepsPlaces elements.new) }
+    ensures scopes { elements.new.scopes ≡ elements.old.scopes }
+    ensures lists { OnOk result (lists_in elements.new ≡ lists_in elements.old) }
     ensures attributes { elements.new.attributes ≡ elements.old.attributes }
     ensures took { (es : List Entity) (known : List Declaration) (before : List ℕ) (h : Held) → AreDeclared es how.entry.entities.now → own ≡ length before
         → Holding known before (map declaration elements.old.namespaces.items.items) elements.old.listed.items xml buffers.old.taken.items h
@@ -169,12 +172,15 @@ fn attributes<'input>(
     requires own { own ≤ length elements.old.listed.items }
     requires few { length elements.old.namespaces.items.items ≤ most_pairs }
     requires many { Remembers (map declaration elements.old.namespaces.items.items) (drop own elements.old.listed.items) buffers.old.many.keys }
+    requires scopes { AreStretches own elements.old.scopes.items }
     requires kept { KeepsPlaces elements.old }
     ensures places { OnOk result (ArePlaces (length elements.new.namespaces.items.items) elements.new.listed.items) }
     ensures own { OnOk result (own ≤ length elements.new.listed.items) }
     ensures few { OnOk result (length elements.new.namespaces.items.items ≤ most_pairs) }
     ensures many { OnOk result (Remembers (map declaration elements.new.namespaces.items.items) (drop own elements.new.listed.items) buffers.new.many.keys) }
     ensures kept { OnOk result (KeepsPlaces elements.new) }
+    ensures scopes { elements.new.scopes ≡ elements.old.scopes }
+    ensures lists { OnOk result (lists_in elements.new ≡ lists_in elements.old) }
     ensures attributes { elements.new.attributes ≡ elements.old.attributes }
     ensures source { cursor.new.text ≡ cursor.old.text }
     ensures took { (es : List Entity) (known : List Declaration) (before : List ℕ) (h : Held) → AreDeclared es how.entry.entities.now → own ≡ length before
@@ -210,49 +216,62 @@ fn attributes<'input>(
     Err(Refused::Fault(cut))
 }
 
-/// What an element lists whose own declarations are those behind `own`, and `xml` if the flag says so, below one that lists
-/// `above`: a stretch of its own, or its parent's where it declares nothing. The set has its prefixes where they are many.
+/// How many scopes the table holds at most. They are never so many: each but the first was made for an element, which has a
+/// row of its own, and there are fewer rows.
+const MOST_SCOPES: usize = 4294967295;
+
+/// The scope of an element whose own declarations are those behind `own`, and `xml` if the flag says so, below one of the scope
+/// `above`: one of its own, or its parent's where it declares nothing. The set has its prefixes where they are many.
 #[inline(always)]
 fn listed_by_tag<'input>(
     elements: &mut ElementTables<'input>,
     many: &BTreeSet<Option<&'input str>>,
-    above: Scope,
+    above: u32,
     own: usize,
     xml: bool,
-) -> Result<Scope, Failure>
+) -> Result<u32, Failure>
     requires places { ArePlaces (length elements.old.namespaces.items.items) elements.old.listed.items }
     requires own { own ≤ length elements.old.listed.items }
     requires many { Remembers (map declaration elements.old.namespaces.items.items) (drop own elements.old.listed.items) many.now.keys }
-    requires above { (above.from ≤ above.until) × (above.until ≤ own) }
+    requires scopes { AreStretches own elements.old.scopes.items }
+    requires above { above < length elements.old.scopes.items }
     ensures names { elements.new.namespaces ≡ elements.old.namespaces }
     ensures attributes { elements.new.attributes ≡ elements.old.attributes }
     ensures present { elements.new.present ≡ elements.old.present }
-    ensures entered { IfOk result (λ s. IsEntered (map declaration elements.new.namespaces.items.items) elements.new.listed.items (drop own elements.old.listed.items) (slice_range elements.new.listed.items s.from s.until) xml above s) }
-    ensures more { OnOk result ((more : List ℕ) × (elements.new.listed.items ≡ elements.old.listed.items ++ more)) }
+    ensures entered { IfOk result (λ s. IsEntered (map declaration elements.new.namespaces.items.items) (lists_in elements.new) (drop own elements.old.listed.items) (places_in elements.new.listed.items elements.new.scopes.items s) xml above s) }
+    ensures listed { OnOk result ((more : List ℕ) × (elements.new.listed.items ≡ elements.old.listed.items ++ more)) }
+    ensures more { OnOk result ((more : List (List Declaration)) × (lists_in elements.new ≡ lists_in elements.old ++ more)) }
     ensures places { OnOk result (ArePlaces (length elements.new.namespaces.items.items) elements.new.listed.items) }
-    ensures within { IfOk result (λ s. (s.from ≤ s.until) × (s.until ≤ length elements.new.listed.items)) }
+    ensures scopes { OnOk result (AreStretches (length elements.new.listed.items) elements.new.scopes.items) }
+    ensures within { IfOk result (λ s. s < length elements.new.scopes.items) }
     ensures lists { (known : List Declaration) (before : List ℕ) (ds : List Declaration) → own ≡ length before
         → Declares known before (map declaration elements.old.namespaces.items.items) elements.old.listed.items xml ds
-        → IfOk result (λ s. entries (map declaration elements.new.namespaces.items.items) (slice_range elements.new.listed.items s.from s.until)
-        ≡ listed (entries (map declaration elements.old.namespaces.items.items) (slice_range elements.old.listed.items above.from above.until)) ds) }
+        → IfOk result (λ s. scope_at (lists_in elements.new) s ≡ listed (scope_at (lists_in elements.old) above) ds) }
     ensures err { IfErr result (λ e. e ≡ Failure.Memory) }
 {
     if own >= elements.listed.len() && !xml {
         return Ok(above);
     }
+    let place = elements.scopes.len();
+    if place >= MOST_SCOPES {
+        return Err(Failure::Memory);
+    }
+    let parent = elements.scopes[above as usize];
     inherit(
         elements.namespaces.as_slice(),
         &mut elements.listed,
         own,
         many,
         xml,
-        above.from,
-        above.until,
+        parent.from,
+        parent.until,
     )?;
-    Ok(Scope {
+    let scope = Scope {
         from: own,
         until: elements.listed.len(),
-    })
+    };
+    push(&mut elements.scopes, scope)?;
+    Ok(place as u32)
 }
 
 /// The same, and where it lists many the places of its prefixes are looked up.
@@ -260,37 +279,39 @@ fn listed_by_tag<'input>(
 fn scope_of_tag<'input>(
     elements: &mut ElementTables<'input>,
     many: &BTreeSet<Option<&'input str>>,
-    above: Scope,
+    above: u32,
     own: usize,
     xml: bool,
-) -> Result<Scope, Failure>
+) -> Result<u32, Failure>
     requires places { ArePlaces (length elements.old.namespaces.items.items) elements.old.listed.items }
     requires own { own ≤ length elements.old.listed.items }
     requires many { Remembers (map declaration elements.old.namespaces.items.items) (drop own elements.old.listed.items) many.now.keys }
-    requires above { (above.from ≤ above.until) × (above.until ≤ own) }
+    requires scopes { AreStretches own elements.old.scopes.items }
+    requires above { above < length elements.old.scopes.items }
     requires kept { KeepsPlaces elements.old }
     ensures names { elements.new.namespaces ≡ elements.old.namespaces }
     ensures attributes { elements.new.attributes ≡ elements.old.attributes }
-    ensures more { OnOk result ((more : List ℕ) × (elements.new.listed.items ≡ elements.old.listed.items ++ more)) }
+    ensures more { OnOk result ((more : List (List Declaration)) × (lists_in elements.new ≡ lists_in elements.old ++ more)) }
     ensures places { OnOk result (ArePlaces (length elements.new.namespaces.items.items) elements.new.listed.items) }
-    ensures within { IfOk result (λ s. (s.from ≤ s.until) × (s.until ≤ length elements.new.listed.items)) }
+    ensures scopes { OnOk result (AreStretches (length elements.new.listed.items) elements.new.scopes.items) }
+    ensures within { IfOk result (λ s. s < length elements.new.scopes.items) }
     ensures lists { (known : List Declaration) (before : List ℕ) (ds : List Declaration) → own ≡ length before
         → Declares known before (map declaration elements.old.namespaces.items.items) elements.old.listed.items xml ds
-        → IfOk result (λ s. entries (map declaration elements.new.namespaces.items.items) (slice_range elements.new.listed.items s.from s.until)
-        ≡ listed (entries (map declaration elements.old.namespaces.items.items) (slice_range elements.old.listed.items above.from above.until)) ds) }
+        → IfOk result (λ s. scope_at (lists_in elements.new) s ≡ listed (scope_at (lists_in elements.old) above) ds) }
     ensures kept { OnOk result (KeepsPlaces elements.new) }
-    ensures finds { IfOk result (λ s. Finds (map declaration elements.new.namespaces.items.items) (slice_range elements.new.listed.items s.from s.until) elements.new.present) }
+    ensures finds { IfOk result (λ s. Finds (map declaration elements.new.namespaces.items.items) (places_in elements.new.listed.items elements.new.scopes.items s) elements.new.present) }
     ensures err { IfErr result (λ e. e ≡ Failure.Memory) }
 {
     let end = elements.listed.len();
     let scope = listed_by_tag(elements, many, above, own, xml)?;
-    if scope.until - scope.from <= FEW {
+    let stretch = elements.scopes[scope as usize];
+    if stretch.until - stretch.from <= FEW {
         return Ok(scope);
     }
     elements.present.enter(
         elements.namespaces.as_slice(),
         &elements.listed[own..end],
-        &elements.listed[scope.from..scope.until],
+        &elements.listed[stretch.from..stretch.until],
         xml,
         above,
         scope,
@@ -301,7 +322,7 @@ fn scope_of_tag<'input>(
 /// How many attributes a document may have.
 const MOST_ATTRIBUTES: usize = 4294967294;
 
-/// What an element has that lists this scope, with its names tested: its attributes go into the table. The name stands at
+/// What an element of this scope has, with its names tested: its attributes go into the table. The name stands at
 /// `at`.
 #[inline(always)]
 fn element_data<'input>(
@@ -310,15 +331,17 @@ fn element_data<'input>(
     taken: &mut Vec<Taken<'input>>,
     name: QName<'input>,
     at: usize,
-    scope: Scope,
+    scope: u32,
 ) -> Result<ElementData<'input>, Failure>
     requires places { ArePlaces (length elements.old.namespaces.items.items) elements.old.listed.items }
-    requires within { (scope.from ≤ scope.until) × (scope.until ≤ length elements.old.listed.items) }
-    requires finds { Finds (map declaration elements.old.namespaces.items.items) (slice_range elements.old.listed.items scope.from scope.until) elements.old.present }
+    requires scopes { AreStretches (length elements.old.listed.items) elements.old.scopes.items }
+    requires within { scope < length elements.old.scopes.items }
+    requires finds { Finds (map declaration elements.old.namespaces.items.items) (places_in elements.old.listed.items elements.old.scopes.items scope) elements.old.present }
     requires few { length (rows_of elements.old.attributes) ≤ most_attributes }
     requires small { at < 2 ^ 63 }
     ensures names { elements.new.namespaces ≡ elements.old.namespaces }
     ensures listed { elements.new.listed ≡ elements.old.listed }
+    ensures scopes { elements.new.scopes ≡ elements.old.scopes }
     ensures present { elements.new.present ≡ elements.old.present }
     ensures tested { OnOk result (tested_at (scope_in_tables elements.old scope) (length (rows_of elements.old.attributes)) at (name_view name.entry) (map taken_view taken.old.items) ≡ Ok tt) }
     ensures element { IfOk result (λ e. IsElement elements.old elements.new e (scope_in_tables elements.old scope) (name_view name.entry) (map taken_view taken.old.items)) }
@@ -328,32 +351,32 @@ fn element_data<'input>(
     if taken.len() > MOST_ATTRIBUTES - from {
         return Err(Failure::Fault(Fault::AttributesLimitReached));
     }
+    let stretch = elements.scopes[scope as usize];
     resolve(
         alloc,
         elements.namespaces.as_slice(),
-        &elements.listed[scope.from..scope.until],
+        &elements.listed[stretch.from..stretch.until],
         &elements.present,
         taken,
         &mut elements.attributes,
     )?;
     let namespace = element_namespace(
         elements.namespaces.as_slice(),
-        &elements.listed[scope.from..scope.until],
+        &elements.listed[stretch.from..stretch.until],
         &elements.present,
         name,
         at,
     )?;
     Ok(ElementData {
         local: name.local,
-        namespaces_from: scope.from,
-        namespaces_until: scope.until,
         attributes_from: from as u32,
         attributes_until: elements.attributes.len() as u32,
+        scope,
         namespace,
     })
 }
 
-/// A start tag, from its `<`, of an element whose parent lists `above`. A tag that is cut off by the end of the text right
+/// A start tag, from its `<`, of an element whose parent has the scope `above`. A tag that is cut off by the end of the text right
 /// behind its name or an attribute is refused as `cut`. So many replacement texts may be opened in it.
 #[inline(always)]
 #[tactic(auto, unfolding(rox_reading::specs::Tags::tag_at))]
@@ -362,7 +385,7 @@ pub fn start_tag<'input>(
     cursor: &mut Cursor<'input>,
     elements: &mut ElementTables<'input>,
     buffers: &mut Buffers<'input>,
-    above: Scope,
+    above: u32,
     cut: Fault,
     how: How<'_, 'input>,
     left: u32,
@@ -372,7 +395,8 @@ pub fn start_tag<'input>(
     requires places { ArePlaces (length elements.old.namespaces.items.items) elements.old.listed.items }
     requires few { length elements.old.namespaces.items.items ≤ most_pairs }
     requires few_attributes { length (rows_of elements.old.attributes) ≤ most_attributes }
-    requires above { (above.from ≤ above.until) × (above.until ≤ length elements.old.listed.items) }
+    requires scopes { AreStretches (length elements.old.listed.items) elements.old.scopes.items }
+    requires above { above < length elements.old.scopes.items }
     requires kept { KeepsPlaces elements.old }
     ensures source { cursor.new.text ≡ cursor.old.text }
     ensures starts { IfOk result (λ t. t.name_start ≡ cursor.old.pos + 1) }

@@ -4,7 +4,7 @@ use Rattle.std.proofs.lemmas.List.Elements.{All-from_recursion}
 use Rattle.rox_build.specs.Storage.{storage_bytes}
 use Rattle.rox_grammar.specs.Forest.{Forest, size}
 use Rattle.rox_grammar.specs.Tree.{Node, Root, Element, Text, Comment, PI}
-use Rattle.rox_build.specs.Lines.{Holds, KindWithin, node, names_of, rows_of, AttributeRow}
+use Rattle.rox_build.specs.Lines.{Holds, KindWithin, node, names_of, scopes_of, rows_of, AttributeRow}
 use Rattle.rox_build.specs.declared.tables.NodeKind.{NodeKind}
 use Rattle.rox_build.specs.declared.tables.NodeKind.TheVariants as kind
 use Rattle.rox_build.specs.declared.tables.NodeData.{NodeData}
@@ -17,17 +17,17 @@ use Rattle.roxmltree.specs.Kinds.{type_of}
 use Rattle.roxmltree.specs.Stored.{content_in}
 use Rattle.roxmltree.proofs.Rows.{row_line, in_rows}
 
-bare_node : (az : List AttributeRow) (names : List Declaration) (listed : List ℕ) (start end : ℕ) (k : NodeKind) → bare_row start end k ≡ bare (node az names listed start end k)
-bare_node az names listed start end kind.Root = refl
-bare_node az names listed start end (kind.Element e) = refl
-bare_node az names listed start end (kind.Text value) = refl
-bare_node az names listed start end (kind.Comment text) = refl
-bare_node az names listed start end (kind.PI pi) = refl
+bare_node : (az : List AttributeRow) (names : List Declaration) (lists : List (List Declaration)) (start end : ℕ) (k : NodeKind) → bare_row start end k ≡ bare (node az names lists start end k)
+bare_node az names lists start end kind.Root = refl
+bare_node az names lists start end (kind.Element e) = refl
+bare_node az names lists start end (kind.Text value) = refl
+bare_node az names lists start end (kind.Comment text) = refl
+bare_node az names lists start end (kind.PI pi) = refl
 
 -- a row's node is the tree's
 pub row_item : (t : Tables) (f : Forest Node) (i : ℕ) (x : NodeData) → Holds t f → i < size f → x ≡ get_or t.nodes.items i x → bare_row x.start x.end x.kind ≡ bare (place f i).item
 row_item t f i x h l e =
-    bare_node (rows_of t.attributes) (names_of t) t.listed.items x.start x.end x.kind ∙ ap (λ r. bare r.node) (row_line t f i x h (in_rows t f i h l) e)
+    bare_node (rows_of t.attributes) (names_of t) (scopes_of t) x.start x.end x.kind ∙ ap (λ r. bare r.node) (row_line t f i x h (in_rows t f i h l) e)
 
 -- The namespaces and attributes are no part of these.
 pub says_root_bare : (i : Node) → says_root i ≡ says_root (bare i)
@@ -108,20 +108,20 @@ text_content_bare (Comment start end text) = refl
 text_content_bare (PI start end target value) = refl
 
 -- what a text's or a comment's row says of its text
-content_kind : (az : List AttributeRow) (names : List Declaration) (listed : List ℕ) (a n l start end : ℕ) (k : NodeKind) → KindWithin a n l k → content_in k ≡ content_of (node az names listed start end k)
-content_kind az names listed a n l start end kind.Root w = refl
-content_kind az names listed a n l start end (kind.Element e) w = refl
-content_kind az names listed a n l start end (kind.Text value) w = refl
-content_kind az names listed a n l start end (kind.Comment text) w = ap (λ b. Some (storage_bytes text, b)) w
-content_kind az names listed a n l start end (kind.PI pi) w = refl
+content_kind : (az : List AttributeRow) (names : List Declaration) (lists : List (List Declaration)) (a n l start end : ℕ) (k : NodeKind) → KindWithin a n l k → content_in k ≡ content_of (node az names lists start end k)
+content_kind az names lists a n l start end kind.Root w = refl
+content_kind az names lists a n l start end (kind.Element e) w = refl
+content_kind az names lists a n l start end (kind.Text value) w = refl
+content_kind az names lists a n l start end (kind.Comment text) w = ap (λ b. Some (storage_bytes text, b)) w
+content_kind az names lists a n l start end (kind.PI pi) w = refl
 
 -- what a row names is in the tables
-pub row_within : (t : Tables) (f : Forest Node) (i : ℕ) (x : NodeData) → Holds t f → i < size f → x ≡ get_or t.nodes.items i x → KindWithin (length (rows_of t.attributes)) (length t.namespaces.items) (length t.listed.items) x.kind
+pub row_within : (t : Tables) (f : Forest Node) (i : ℕ) (x : NodeData) → Holds t f → i < size f → x ≡ get_or t.nodes.items i x → KindWithin (length (rows_of t.attributes)) (length t.namespaces.items) (length t.scopes.items) x.kind
 row_within t f i x h l e =
-    let P : NodeData → Type 0 = λ r. KindWithin (length (rows_of t.attributes)) (length t.namespaces.items) (length t.listed.items) r.kind in
+    let P : NodeData → Type 0 = λ r. KindWithin (length (rows_of t.attributes)) (length t.namespaces.items) (length t.scopes.items) r.kind in
     subst P (sym e) (All-from_recursion P t.nodes.items h.sound.nodes i x (in_rows t f i h l))
 
 pub row_content : (t : Tables) (f : Forest Node) (i : ℕ) (x : NodeData) → Holds t f → i < size f → x ≡ get_or t.nodes.items i x → content_in x.kind ≡ content_of (place f i).item
 row_content t f i x h l e =
-    content_kind (rows_of t.attributes) (names_of t) t.listed.items _ _ _ x.start x.end x.kind (row_within t f i x h l e)
+    content_kind (rows_of t.attributes) (names_of t) (scopes_of t) _ _ _ x.start x.end x.kind (row_within t f i x h l e)
     ∙ ap (λ r. content_of r.node) (row_line t f i x h (in_rows t f i h l) e)

@@ -3,7 +3,7 @@ use Rattle.std.proofs.Common.{◌≡◌, ℕ, suc, ◌+◌, ◌-◌, ◌<◌, Bo
 use Rattle.std.proofs.lemmas.List.{get_or-map, length-map, map-append}
 use Rattle.rox_grammar.specs.Forest.{Forest, Nil, Cons, size}
 use Rattle.rox_grammar.specs.Tree.{Node}
-use Rattle.rox_build.specs.Lines.{Line, line, lines, names_of, Holds, rows_of}
+use Rattle.rox_build.specs.Lines.{Line, line, lines, names_of, scopes_of, Holds, rows_of}
 use Rattle.rox_build.specs.declared.tables.NodeData.{NodeData}
 use Rattle.rox_build.specs.declared.tables.Tables.{Tables}
 use Rattle.roxmltree.specs.Flat.{flat, unflat, unflat-flat}
@@ -80,16 +80,16 @@ is_whole text dtd t h =
 pub row_count : (t : Tables) (f : Forest Node) → Holds t f → length t.nodes.items ≡ size f
 unfolding preorder
 row_count t f h =
-    sym (length-map t.nodes.items (line (rows_of t.attributes) (names_of t) t.listed.items))
+    sym (length-map t.nodes.items (line (rows_of t.attributes) (names_of t) (scopes_of t)))
     ∙ ap length (h.rows ∙ sym (lines-places [] [] 0 f))
     ∙ length-map (places [] [] 0 f) place_line
     ∙ length-places [] [] 0 f
 
 -- a row is that of its node's place
-pub row_line : (t : Tables) (f : Forest Node) (i : ℕ) (x : NodeData) → Holds t f → i < length t.nodes.items → x ≡ get_or t.nodes.items i x → line (rows_of t.attributes) (names_of t) t.listed.items x ≡ place_line (place f i)
+pub row_line : (t : Tables) (f : Forest Node) (i : ℕ) (x : NodeData) → Holds t f → i < length t.nodes.items → x ≡ get_or t.nodes.items i x → line (rows_of t.attributes) (names_of t) (scopes_of t) x ≡ place_line (place f i)
 unfolding place preorder
 row_line t f i x h l e =
-    let read = line (rows_of t.attributes) (names_of t) t.listed.items in
+    let read = line (rows_of t.attributes) (names_of t) (scopes_of t) in
     let n : i < length (places [] [] 0 f) = omega (arith, row_count t f h, length-places [] [] 0 f) in
     ap read e
     ∙ sym (get_or-map read t.nodes.items i x (read x) l)

@@ -220,9 +220,8 @@ impl<'input> Document<'input> {
         let names = self.tables.namespaces.as_slice();
         match &self.tables.nodes[id.0 as usize].kind {
             NodeKind::Element(element) => {
-                let from = element.namespaces_from;
-                let until = element.namespaces_until;
-                NamespaceIter::part(items, from, until, names)
+                let scope = self.tables.scopes[element.scope as usize];
+                NamespaceIter::part(items, scope.from, scope.until, names)
             }
             _ => NamespaceIter::part(items, 0, 0, names),
         }

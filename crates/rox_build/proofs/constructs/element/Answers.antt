@@ -23,7 +23,7 @@ pub returns-in_err-tag-clause-value : goal.returns-in_err-tag-clause-value
 returns-in_err-tag-clause-value c = λ limit end es s declared h.
     let p = err_from_is_err_and c.from_residual.result c.from_residual.ensures.1 in
     rw (p.1, p.2) (tag_fails (how_of limit es c.args.how) c.args.cursor.now.text.now s c.args.cursor.now.pos _ _ _ _ c.in_err-tag.field-0.0 h.here (c.cut_off-cut.ensures end s.stack s.done h.shows)
-    (c.scope-above.ensures.value end s.stack s.done h.shows) h.attributes h.names (rw h.left_is at (c.in_err-tag.ensures.value es declared)))
+    (c.scope-above.ensures.value c.requires.fine end s.stack s.done h.shows) h.attributes h.names (rw h.left_is at (c.in_err-tag.ensures.value es declared)))
 
 pub returns-then-tag-clause-value : goal.returns-then-tag-clause-value
 returns-then-tag-clause-value c = λ limit end es s declared h.
@@ -34,7 +34,7 @@ returns-then-tag-clause-value c = λ limit end es s declared h.
     let t = c.in_ok-tag.tag in
     let pos = c.args.cursor.now.pos in
     let d = c.start_tag.new.cursor in
-    let sc = c.scope-above.ensures.value end s.stack s.done h.shows in
+    let sc = c.scope-above.ensures.value c.requires.fine end s.stack s.done h.shows in
     let tg : Tagged old new t (scope_of s.stack) v.0 = subst (λ (a : List Declaration). Tagged old new t a v.0) sc v.2 in
     let shows = grown_shows end s.stack s.done b _ h.shows c.requires.fine.sound c.requires.fine.elements (grown_by old new t (scope_of s.stack) v.0 tg) refl refl refl refl in
     let node : IsNode new (scope_of s.stack) pos d.pos (kind.Element t.element) (Element s.at d.pos v.0) =
@@ -54,7 +54,7 @@ returns-in_err-leaf-clause-value c = λ limit end es s declared h.
     let t = c.in_ok-tag.tag in
     let pos = c.args.cursor.now.pos in
     let d = c.start_tag.new.cursor in
-    let sc = c.scope-above.ensures.value end s.stack s.done h.shows in
+    let sc = c.scope-above.ensures.value c.requires.fine end s.stack s.done h.shows in
     let tg : Tagged old new t (scope_of s.stack) v.0 = subst (λ (a : List Declaration). Tagged old new t a v.0) sc v.2 in
     let shows = grown_shows end s.stack s.done b _ h.shows c.requires.fine.sound c.requires.fine.elements (grown_by old new t (scope_of s.stack) v.0 tg) refl refl refl refl in
     let node : IsNode new (scope_of s.stack) pos d.pos (kind.Element t.element) (Element s.at d.pos v.0) =
@@ -79,7 +79,7 @@ returns-clause-value c = λ limit end es s declared h.
     let t = c.in_ok-tag.tag in
     let pos = c.args.cursor.now.pos in
     let d = c.start_tag.new.cursor in
-    let sc = c.scope-above.ensures.value end s.stack s.done h.shows in
+    let sc = c.scope-above.ensures.value c.requires.fine end s.stack s.done h.shows in
     let tg : Tagged old new t (scope_of s.stack) v.0 = subst (λ (a : List Declaration). Tagged old new t a v.0) sc v.2 in
     let shows = grown_shows end s.stack s.done b _ h.shows c.requires.fine.sound c.requires.fine.elements (grown_by old new t (scope_of s.stack) v.0 tg) refl refl refl refl in
     let adds = c.open_element.ensures.value end d.pos t.left s v.0 shows (sym h.here) (is_opening old new t (scope_of s.stack) v.0 pos tg c.in_ok-tag.ensures.starts) in
@@ -97,7 +97,7 @@ returns-in_err-open_element-clause-value c = λ limit end es s declared h.
     let t = c.in_ok-tag.tag in
     let pos = c.args.cursor.now.pos in
     let d = c.start_tag.new.cursor in
-    let sc = c.scope-above.ensures.value end s.stack s.done h.shows in
+    let sc = c.scope-above.ensures.value c.requires.fine end s.stack s.done h.shows in
     let tg : Tagged old new t (scope_of s.stack) v.0 = subst (λ (a : List Declaration). Tagged old new t a v.0) sc v.2 in
     let shows = grown_shows end s.stack s.done b _ h.shows c.requires.fine.sound c.requires.fine.elements (grown_by old new t (scope_of s.stack) v.0 tg) refl refl refl refl in
     let adds = c.open_element.ensures.value end d.pos t.left s v.0 shows (sym h.here) (is_opening old new t (scope_of s.stack) v.0 pos tg c.in_ok-tag.ensures.starts) in
@@ -127,4 +127,4 @@ returns-clause-fine c =
     let b = c.args.builder.now in
     subst (λ r. OnOk r (Fine c.open_element.new.self.tables c.open_element.new.self.opened.items)) c.in_ok-open_element.was
     (fine_more c.open_element.result c.start_tag.new.elements b.opened.items c.open_element.new.self c.in_ok-tag.tag
-    (fine_by b.tables c.start_tag.new.elements c.in_ok-tag.tag _ v.0 b.opened.items v.2 c.requires.fine) c.open_element.ensures.tables c.open_element.ensures.opened v.2.element.listed_within)
+    (fine_by b.tables c.start_tag.new.elements c.in_ok-tag.tag _ v.0 b.opened.items v.2 c.requires.fine) c.open_element.ensures.tables c.open_element.ensures.opened v.2.element.scope_within)

@@ -18,7 +18,7 @@ use Rattle.rox_build.specs.Storage.{storage_bytes}
 use Rattle.rox_build.specs.Prefixes.{Remembers}
 use Rattle.rox_build.proofs.Inherits.{slice-rest}
 use Rattle.rox_build.proofs.Stable.{all_slice}
-use Rattle.rox_build.proofs.Declaring.{uri_refused, declared_again, declared_many, declares_prefix_xml, declares_other, own_listed, fails_by, many_pairs, kept_after, places_after, remembers_after}
+use Rattle.rox_build.proofs.Declaring.{uri_refused, declared_again, declared_many, declares_prefix_xml, declares_other, own_listed, fails_by, many_pairs, kept_after, lists_after, places_after, remembers_after}
 use Rattle.rox_build.proofs.declaration.take_declaration.Goals as goal
 
 pub is_again-requires : goal.is_again-requires
@@ -102,9 +102,13 @@ returns-clause-places c =
     c.in_ok-place.ensures.table c.in_ok-place.ensures.there.0 c.in_ok-push.ensures.items c.requires.places
 
 pub returns-clause-grown : goal.returns-clause-grown
-returns-clause-grown c = λ x h.
-    kept_after c.args.names.now.items.items c.place.new.self.items.items c.args.listed.now.items c.push.new.self.items (pair (prefix_view c.declared_prefix-prefix.result) (storage_bytes c.args.taken.value)) c.in_ok-place.place x
-    c.in_ok-place.ensures.table c.in_ok-push.ensures.items c.requires.places h
+returns-clause-grown c = λ lists x h.
+    kept_after c.args.names.now.items.items c.place.new.self.items.items lists (pair (prefix_view c.declared_prefix-prefix.result) (storage_bytes c.args.taken.value)) x c.in_ok-place.ensures.table h
+
+pub returns-clause-lists : goal.returns-clause-lists
+returns-clause-lists c = λ scopes h.
+    lists_after c.args.names.now.items.items c.place.new.self.items.items c.args.listed.now.items c.push.new.self.items (pair (prefix_view c.declared_prefix-prefix.result) (storage_bytes c.args.taken.value)) c.in_ok-place.place
+    c.args.own scopes c.in_ok-place.ensures.table c.in_ok-push.ensures.items c.requires.own c.requires.places h
 
 pub remember-requires : goal.remember-requires
 remember-requires c =

@@ -48,6 +48,9 @@ take-requires-clause-end c =
     c.in_ok-raw.ensures.value ∙ ap (λ (t : CodeTurn). Ok (turn_view t, c.turn.new.self.pos)) c.in-More.is in
     (turn_gives c.attributes.cursor.text.now c.attributes.cursor.pos (attribute_view c.in-More.raw) c.turn.new.self.pos is).end
 
+pub take-requires-clause-scopes : goal.take-requires-clause-scopes
+take-requires-clause-scopes c = rw c.attributes.invariant.scopes c.requires.scopes
+
 pub returns-in_err-xml-in-More-clause-took : goal.returns-in_err-xml-in-More-clause-took
 returns-in_err-xml-in-More-clause-took c = λ es known before h declared o hold.
     let src = c.args.cursor.now.text.now in
@@ -95,6 +98,8 @@ attributes-preserved c = record {
   own = c.in_ok-xml-in-More.ensures.own;
   few = c.in_ok-xml-in-More.ensures.few;
   kept = c.in_ok-xml-in-More.ensures.kept;
+  scopes = c.in_ok-xml-in-More.ensures.scopes ∙ c.attributes.invariant.scopes;
+  lists = c.in_ok-xml-in-More.ensures.lists ∙ c.attributes.invariant.lists;
   many = c.in_ok-xml-in-More.ensures.many;
   reads = λ es known before h declared o hold.
       let src = c.args.cursor.now.text.now in

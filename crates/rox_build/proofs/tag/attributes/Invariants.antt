@@ -7,7 +7,7 @@ use Rattle.rox_grammar.specs.Entities.{Entity}
 use Rattle.rox_build.specs.Named.{AreDeclared, values_in}
 use Rattle.rox_build.specs.Scopes.{ArePlaces}
 use Rattle.rox_build.specs.Prefixes.{Remembers}
-use Rattle.rox_build.specs.Tagged.{KeepsPlaces}
+use Rattle.rox_build.specs.Tagged.{KeepsPlaces, lists_in}
 use Rattle.rox_build.specs.Tags.{Holding}
 use Rattle.rox_build.proofs.Taking.{Going}
 use Rattle.rox_build.proofs.tag.attributes.Given as goal
@@ -20,6 +20,8 @@ invariant-attributes l = record {
   own : l.own ≤ length l.elements.listed.items;
   few : length l.elements.namespaces.items.items ≤ most_pairs;
   kept : KeepsPlaces l.elements;
+  scopes : l.elements.scopes ≡ l.fn.elements.scopes;
+  lists : lists_in l.elements ≡ lists_in l.fn.elements;
   many : Remembers (map declaration l.elements.namespaces.items.items) (drop l.own l.elements.listed.items) l.buffers.many.keys;
   reads : (es : List Entity) (known : List Declaration) (before : List ℕ) (h : Held) → AreDeclared es l.how.entities.now → l.own ≡ length before
       → Holding known before (map declaration l.fn.elements.namespaces.items.items) l.fn.elements.listed.items false l.fn.buffers.taken.items h

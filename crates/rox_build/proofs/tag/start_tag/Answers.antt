@@ -1,4 +1,4 @@
-use Rattle.std.proofs.Common.{◌≡◌, ◌≤◌, ◌+◌, [], false, length, map, bytes_eq, refl, sym, ap, ◌∙◌, arith, Ok}
+use Rattle.std.proofs.Common.{◌≡◌, ◌≤◌, ◌+◌, [], false, length, map, bytes_eq, refl, sym, ap, subst, ◌∙◌, arith, Ok}
 use Rattle.std.proofs.lemmas.List.{length-map}
 use Rattle.std.proofs.lemmas.Result.{err_from_is_err_and}
 use Rattle.rox_grammar.specs.declared.fault.Word.TheVariants.{Xmlns}
@@ -9,10 +9,10 @@ use Rattle.rox_reading.specs.Lexical.{qname_at}
 use Rattle.rox_reading.specs.Tags.{Held, attributes_at, tag_tested}
 use Rattle.rox_scan.specs.Gives.{Fails, name_view}
 use Rattle.rox_build.specs.Named.{values_in}
-use Rattle.rox_build.specs.Lines.{declaration, rows_of}
+use Rattle.rox_build.specs.Lines.{declaration, scope_at, AreStretches, rows_of}
 use Rattle.rox_build.specs.Tagged.{scope_in_tables}
 use Rattle.rox_build.proofs.Remembering.{remembers_none}
-use Rattle.rox_build.proofs.Starting.{holds_nothing, tag_unread, tag_untested, tag_made, tagged, scope_stays, tested_fails, tested_passes}
+use Rattle.rox_build.proofs.Starting.{holds_nothing, tag_unread, tag_untested, tag_made, tagged, tested_fails, tested_passes}
 use Rattle.rox_build.proofs.tag.start_tag.Goals as goal
 
 pub attributes-requires-clause-many : goal.attributes-requires-clause-many
@@ -21,6 +21,20 @@ attributes-requires-clause-many c =
     let k = c.args.elements.now.listed.ok.0 in
     let own : c.len-own.result ≡ length listed = omega arith in
     remembers_none (map declaration c.args.elements.now.namespaces.items.items) listed c.len-own.result c.args.buffers.now.many.keys own
+
+pub attributes-requires-clause-scopes : goal.attributes-requires-clause-scopes
+attributes-requires-clause-scopes c =
+    let old = c.args.elements.now in
+    let k = old.listed.ok.0 in
+    let own : length old.listed.items ≡ c.len-own.result = omega arith in
+    subst (λ n. AreStretches n old.scopes.items) own c.requires.scopes
+
+pub scope_of_tag-requires-clause-scopes : goal.scope_of_tag-requires-clause-scopes
+scope_of_tag-requires-clause-scopes c =
+    let old = c.args.elements.now in
+    let k = old.listed.ok.0 in
+    let own : length old.listed.items ≡ c.len-own.result = omega arith in
+    rw c.in_ok-xml.ensures.scopes (subst (λ n. AreStretches n old.scopes.items) own c.requires.scopes)
 
 pub returns-in_err-xml-clause-value : goal.returns-in_err-xml-clause-value
 returns-in_err-xml-clause-value c = λ es declared.
@@ -67,7 +81,7 @@ returns-in_err-element-clause-value c = λ es declared.
     let read : attributes_at (length src) (values_in es c.args.how) c.args.cut known src n c.args.left start ≡ Ok (record { held = h; empty = c.in_ok-xml.empty; left = c.in_ok-xml.left }, c.attributes.new.cursor.pos) = rw s2 at took.1 in
     let scopes : scope_in_tables c.scope_of_tag.new.elements c.in_ok-scope.scope ≡ listed above h.own =
     c.in_ok-scope.ensures.lists known old.listed.items h.own own took.2.declares
-    ∙ ap (λ xs. listed xs h.own) (scope_stays old c.attributes.new.elements c.args.above c.in_ok-xml.xml _ h took.2 c.requires.places c.requires.above) in
+    ∙ ap (λ xs. listed xs h.own) (ap (λ ls. scope_at ls c.args.above) c.in_ok-xml.ensures.lists) in
     let written = took.2.attributes in
     let count : length (rows_of c.scope_of_tag.new.elements.attributes) ≡ length (rows_of old.attributes) =
     ap (λ v. length (rows_of v)) (c.in_ok-scope.ensures.attributes ∙ c.in_ok-xml.ensures.attributes) in
@@ -99,7 +113,7 @@ returns-clause-value c = λ es declared.
     let read : attributes_at (length src) (values_in es c.args.how) c.args.cut known src n c.args.left start ≡ Ok (record { held = h; empty = c.in_ok-xml.empty; left = c.in_ok-xml.left }, c.attributes.new.cursor.pos) = rw s2 at took.1 in
     let scopes : scope_in_tables c.scope_of_tag.new.elements c.in_ok-scope.scope ≡ listed above h.own =
     c.in_ok-scope.ensures.lists known old.listed.items h.own own took.2.declares
-    ∙ ap (λ xs. listed xs h.own) (scope_stays old c.attributes.new.elements c.args.above c.in_ok-xml.xml _ h took.2 c.requires.places c.requires.above) in
+    ∙ ap (λ xs. listed xs h.own) (ap (λ ls. scope_at ls c.args.above) c.in_ok-xml.ensures.lists) in
     let written = took.2.attributes in
     let count : length (rows_of c.scope_of_tag.new.elements.attributes) ≡ length (rows_of old.attributes) =
     ap (λ v. length (rows_of v)) (c.in_ok-scope.ensures.attributes ∙ c.in_ok-xml.ensures.attributes) in
@@ -108,6 +122,6 @@ returns-clause-value c = λ es declared.
       record { name = name; name_end = n; declarations = h.own; attributes = h.attributes },
       tag_made (values_in es c.args.how) c.args.cut above (length (rows_of old.attributes)) known src i c.args.left name n c.attributes.new.cursor.pos h c.in_ok-xml.empty c.in_ok-xml.left is other read fine,
       tagged old c.attributes.new.elements c.scope_of_tag.new.elements c.element_data.new.elements _ above name n h c.in_ok-xml.xml _ c.in_ok-scope.scope refl refl
-          c.in_ok-xml.ensures.attributes took.2 c.in_ok-xml.ensures.few c.in_ok-scope.ensures.names c.in_ok-scope.ensures.attributes c.in_ok-scope.ensures.more c.in_ok-scope.ensures.places
-          scopes c.in_ok-element.ensures.names c.in_ok-element.ensures.listed c.in_ok-element.ensures.element c.in_ok-scope.ensures.kept c.in_ok-element.ensures.present,
+          c.in_ok-xml.ensures.attributes took.2 c.in_ok-xml.ensures.few c.in_ok-scope.ensures.names c.in_ok-scope.ensures.attributes c.in_ok-xml.ensures.lists c.in_ok-scope.ensures.more c.in_ok-scope.ensures.places
+          c.in_ok-scope.ensures.scopes scopes c.in_ok-element.ensures.names c.in_ok-element.ensures.listed c.in_ok-element.ensures.scopes c.in_ok-element.ensures.element c.in_ok-scope.ensures.kept c.in_ok-element.ensures.present,
     )

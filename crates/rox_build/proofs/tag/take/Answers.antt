@@ -1,13 +1,24 @@
-use Rattle.std.proofs.Common.{◌≡◌, refl, sym, ap, ◌∙◌, map, List, ℕ, string_bytes}
+use Rattle.std.proofs.Common.{◌≡◌, refl, sym, ap, subst, ◌∙◌, map, List, ℕ, string_bytes}
 use Rattle.rox_scan.specs.Parts.{attribute_view}
 use Rattle.std.proofs.lemmas.Result.{err_from_is_err_and}
 use Rattle.rox_build.specs.Named.{values_in}
 use Rattle.rox_build.specs.Values.{piece_view}
 use Rattle.rox_build.specs.Lines.{declaration}
+use Rattle.rox_build.specs.Present.{Keeps}
+use Rattle.rox_build.specs.Tagged.{lists_in}
 use Rattle.rox_build.specs.Tags.{taken_view}
 use Rattle.rox_build.specs.declared.taken.Taken.{Taken}
 use Rattle.rox_build.proofs.Taking.{view_is, took_declaration, refused_declaration, refused_value, took_attribute}
 use Rattle.rox_build.proofs.tag.take.Goals as goal
+
+pub returns-then-declares-clause-lists : goal.returns-then-declares-clause-lists
+returns-then-declares-clause-lists c = c.in_ok-xml.ensures.lists c.args.elements.now.scopes.items c.requires.scopes
+
+pub returns-then-declares-clause-kept : goal.returns-then-declares-clause-kept
+returns-then-declares-clause-kept c =
+    let old = c.args.elements.now in
+    let names = map declaration c.take_declaration.new.names.items.items in
+    subst (λ ls. Keeps names ls old.present) (sym (c.in_ok-xml.ensures.lists old.scopes.items c.requires.scopes)) (c.in_ok-xml.ensures.grown (lists_in old) old.present c.requires.kept)
 
 pub returns-in_err-piece-clause-took : goal.returns-in_err-piece-clause-took
 returns-in_err-piece-clause-took c = λ es known before h declared o hold.

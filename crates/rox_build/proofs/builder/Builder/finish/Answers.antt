@@ -12,7 +12,7 @@ returns-clause-ok c = λ end done sh sound.
     let len = b.nodes.ok.0 in
     let few = b.few in
     let count : c.len-count.result ≡ length b.nodes.items = omega (arith, c.len-count.ensures) in
-    let whole : Tables = record { nodes = c.end_root.new.nodes; attributes = b.tables.attributes; namespaces = b.tables.namespaces.items; listed = b.tables.listed } in
-    same_held whole _ _ c.trim.ensures.items c.trim-2.ensures refl refl
+    let whole : Tables = record { nodes = c.end_root.new.nodes; attributes = b.tables.attributes; namespaces = b.tables.namespaces.items; listed = b.tables.listed; scopes = b.tables.scopes } in
+    same_held whole _ _ c.trim.ensures.items c.trim-2.ensures refl refl refl
     (finish_holds end done b whole st fine (omega arith)
-    (λ d. c.end_root.ensures.rows d ∙ ap (λ (n : ℕ). set b.nodes.items 0 (record (get_or b.nodes.items 0 d) { next = n })) count) refl refl refl)
+    (λ d. c.end_root.ensures.rows d ∙ ap (λ (n : ℕ). set b.nodes.items 0 (record (get_or b.nodes.items 0 d) { next = n })) count) refl refl refl refl)

@@ -4,8 +4,8 @@ use Rattle.rox_grammar.specs.Forest.{Nil}
 use Rattle.rox_grammar.specs.Tree.{listed}
 use Rattle.rox_grammar.specs.State.{inside, scope_of}
 use Rattle.rox_reading.specs.State.{State}
-use Rattle.rox_build.specs.Shown.{IsOpening, opened, names_in}
-use Rattle.rox_build.specs.declared.tables.Scope.{Scope}
+use Rattle.rox_build.specs.Shown.{IsOpening, opened}
+use Rattle.rox_build.specs.Tagged.{lists_in}
 use Rattle.rox_build.specs.declared.builder.OpenElement.{OpenElement}
 use Rattle.rox_build.specs.declared.tables.NodeKind.{NodeKind}
 use Rattle.rox_build.specs.declared.tables.NodeKind.TheVariants as kind
@@ -27,10 +27,9 @@ returns-clause-value c = λ total at left s t sh here is.
     let limit = c.flush.ensures.limit in
     let empty = c.in_ok-flush.ensures.empty in
     let k : NodeKind = kind.Element tag.element in
-    let scope : Scope = record { from = tag.element.namespaces_from; until = tag.element.namespaces_until } in
-    let x : OpenElement = record { row = c.len-row.result; name = tag.name; name_start = tag.name_start; name_end = tag.name_end; scope = scope } in
+    let x : OpenElement = record { row = c.len-row.result; name = tag.name; name_start = tag.name_start; name_end = tag.name_end; scope = tag.element.scope } in
     let place : c.len-row.result ≡ length f.nodes.items = omega (arith, c.len-row.ensures) in
-    let view : opened (names_in f.tables) f.tables.listed.items x ≡ record { row = x.row; name = t.name; name_start = s.at + 1; name_end = t.name_end; scope = listed (scope_of s.stack) t.declarations } =
+    let view : opened (lists_in f.tables) x ≡ record { row = x.row; name = t.name; name_start = s.at + 1; name_end = t.name_end; scope = listed (scope_of s.stack) t.declarations } =
     rw (op.name, op.name_start, op.name_end, op.scope) refl in
     let rows : c.push.new.to.items ≡ f.nodes.items ++ row_open f.tables 0 f.opened.items s.at k ∷ [] =
     rw here (c.in_ok-push.ensures.items ∙ ap (λ (r : NodeData). f.nodes.items ++ record r { next = 0 } ∷ []) c.row-opening.ensures) in (

@@ -11,7 +11,7 @@ nothing_last [] h = refl
 nothing_last (x ∷ xs) h = elim (slice_get_cases (x ∷ xs) (length (x ∷ xs) - 1)).1 [ inl w ↦ let k = w.2 in cc h | inr w ↦ absurd (omega (arith, w.0)) ]
 
 pub returns-in-Some-clause-value : goal.returns-in-Some-clause-value
-returns-in-Some-clause-value c = λ end o done sh.
+returns-in-Some-clause-value c = λ fine end o done sh.
     let b = c.args.self.now in
     let k = c.in-Some.ensures.item in
     let os = c.deref.result.now in
@@ -21,8 +21,8 @@ returns-in-Some-clause-value c = λ end o done sh.
     top_scope b.tables o outer x (sym (ap (opened_in b.tables) split) ∙ sh.open_rows)
 
 pub returns-in-None-clause-value : goal.returns-in-None-clause-value
-returns-in-None-clause-value c = λ end o done sh.
+returns-in-None-clause-value c = λ fine end o done sh.
     let b = c.args.self.now in
     let os = c.deref.result.now in
     let e : b.opened.items ≡ [] = sym c.deref.ensures.value ∙ nothing_last os (sym c.in-None.ensures.value) in
-    no_scope b.tables o (sym (ap (opened_in b.tables) e) ∙ sh.open_rows)
+    fine.empty.none ∙ no_scope b.tables o (sym (ap (opened_in b.tables) e) ∙ sh.open_rows)

@@ -12,6 +12,6 @@ loop-turn-preserved c =
     record {
       bound = λ ds h. bound_next c.args.names.now places (n - 1 - l.turn) n l.turn c.index-names-place.result ds (found l.self) (found c.put.new.self) c.requires refl lt refl
           c.in_ok-put.ensures.present (l.invariant.bound ds h);
-      keeps = λ names listed h. c.in_ok-put.ensures.keeps names listed (l.invariant.keeps names listed h);
+      keeps = λ names lists h. c.in_ok-put.ensures.keeps names lists (l.invariant.keeps names lists h);
       layers = c.in_ok-put.ensures.layers ∙ l.invariant.layers;
     }

@@ -1,4 +1,4 @@
-use Rattle.std.proofs.Common.{◌≡◌, ◌-◌, ◌++◌, ℕ, List, length, map, drop}
+use Rattle.std.proofs.Common.{◌≡◌, ◌-◌, ◌++◌, List, length, map, drop}
 use Rattle.rox_grammar.specs.Written.{Declaration}
 use Rattle.rox_build.specs.Lines.{declaration}
 use Rattle.rox_build.specs.Scopes.{entries}
@@ -8,6 +8,6 @@ use Rattle.rox_build.proofs.present.Present.add.Given as goal
 abbrev pub invariant-loop-turn : goal.invariant-loop-turn
 invariant-loop-turn l = record {
   bound : (ds : List Declaration) → IsBound (map declaration l.names) (found l.fn.self) ds → IsBound (map declaration l.names) (found l.self) (entries (map declaration l.names) (drop (length l.places - l.turn) l.places) ++ ds);
-  keeps : (names : List Declaration) (listed : List ℕ) → Keeps names listed l.fn.self → Keeps names listed l.self;
+  keeps : (names : List Declaration) (lists : List (List Declaration)) → Keeps names lists l.fn.self → Keeps names lists l.self;
   layers : l.self.layers ≡ l.fn.self.layers;
 }

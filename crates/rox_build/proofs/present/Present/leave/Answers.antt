@@ -10,8 +10,8 @@ loop-turn-init c =
     let k = c.in-Some.ensures.item in
     let x = c.in-Some.around.now in
     record {
-      keeps = λ names listed h. record {
-        stacked = stacked_popped names listed old.replaced.items (found old) c.pop.new.self.items c.pop.result (subst (Stacked names listed old.replaced.items (found old) 0) c.pop.ensures.items h.stacked);
+      keeps = λ names lists h. record {
+        stacked = stacked_popped names lists old.replaced.items (found old) c.pop.new.self.items c.pop.result (subst (Stacked names lists old.replaced.items (found old) 0) c.pop.ensures.items h.stacked);
       };
       inner = (take (length os - 1) os, x, sym c.deref.ensures.value ∙ last_split os x k.3.0 (k.3.1 x), refl);
     }
@@ -20,6 +20,6 @@ pub loop-turn-preserved : goal.loop-turn-preserved
 loop-turn-preserved c =
     let inner = c.loop-turn.invariant.inner in
     record {
-      keeps = λ names listed h. c.in_ok-take_back.ensures.keeps names listed inner.0 inner.1 inner.2 inner.3 (c.loop-turn.invariant.keeps names listed h);
+      keeps = λ names lists h. c.in_ok-take_back.ensures.keeps names lists inner.0 inner.1 inner.2 inner.3 (c.loop-turn.invariant.keeps names lists h);
       inner = (inner.0, inner.1, ap (λ v. v.items) c.in_ok-take_back.ensures.layers ∙ inner.2, inner.3);
     }

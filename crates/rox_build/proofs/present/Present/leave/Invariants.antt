@@ -1,4 +1,4 @@
-use Rattle.std.proofs.Common.{◌≡◌, ◌++◌, ◌∷◌, [], ℕ, List}
+use Rattle.std.proofs.Common.{◌≡◌, ◌++◌, ◌∷◌, [], List}
 use Rattle.rox_grammar.specs.Written.{Declaration}
 use Rattle.rox_build.specs.Present.{Keeps}
 use Rattle.rox_build.specs.declared.present.Layer.{Layer}
@@ -6,6 +6,6 @@ use Rattle.rox_build.proofs.present.Present.leave.Given as goal
 
 abbrev pub invariant-loop-turn : goal.invariant-loop-turn
 invariant-loop-turn l = record {
-  keeps : (names : List Declaration) (listed : List ℕ) → Keeps names listed l.fn.self → Keeps names listed l.self;
+  keeps : (names : List Declaration) (lists : List (List Declaration)) → Keeps names lists l.fn.self → Keeps names lists l.self;
   inner : (ls : List Layer) × (x : Layer) × (l.self.layers.items ≡ ls ++ x ∷ []) × (x.count ≡ l.count);
 }

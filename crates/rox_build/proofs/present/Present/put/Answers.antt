@@ -5,11 +5,11 @@ use Rattle.rox_build.proofs.Presenting.{stacked_put, keeps_by}
 use Rattle.rox_build.proofs.present.Present.put.Goals as goal
 
 pub returns-clause-keeps : goal.returns-clause-keeps
-returns-clause-keeps c = λ names listed h.
+returns-clause-keeps c = λ names lists h.
     let old = c.args.self.now in
     let new = c.set.new.self in
     let r : Replaced = record { prefix = c.args.prefix; before = c.get-before.result } in
     let entries : new.replaced.items ≡ old.replaced.items ++ r ∷ [] = ap (λ v. v.items) c.in_ok-set.ensures.replaced ∙ c.in_ok-push.ensures.items in
     let layers : new.layers.items ≡ old.layers.items = ap (λ v. v.items) c.in_ok-set.ensures.layers in
-    keeps_by names listed new (old.replaced.items ++ r ∷ []) old.layers.items entries layers
-    (stacked_put names listed old.replaced.items r (found old) (found new) c.args.place 0 old.layers.items c.get-before.ensures c.in_ok-set.ensures.present h.stacked)
+    keeps_by names lists new (old.replaced.items ++ r ∷ []) old.layers.items entries layers
+    (stacked_put names lists old.replaced.items r (found old) (found new) c.args.place 0 old.layers.items c.get-before.ensures c.in_ok-set.ensures.present h.stacked)

@@ -21,14 +21,14 @@ pub index-requires-in-Some : goal.index-requires-in-Some
 index-requires-in-Some c =
     let v : tree_in c.self.inside.tables ≡ c.args.self.now.tree = ap (λ d. d.tree) c.self.view_is in
     let l : c.args.id.0 < size (tree_in c.self.inside.tables) = rw v c.requires in
-    omega (arith, place_within _ _ c.in-Some.place (element_within c.self.inside.tables (tree_in c.self.inside.tables) _ _ _ c.self.invariant.holds l c.index.ensures c.in-Element.is).4 c.in-Some.is, c.self.inside.tables.namespaces.ok.0)
+    omega (arith, place_within _ _ c.in-Some.place (element_within c.self.inside.tables (tree_in c.self.inside.tables) _ _ _ c.self.invariant.holds l c.index.ensures c.in-Element.is).3 c.in-Some.is, c.self.inside.tables.namespaces.ok.0)
 
 pub returns-in-Some : goal.returns-in-Some
 returns-in-Some c =
     let v : tree_in c.self.inside.tables ≡ c.args.self.now.tree = ap (λ d. d.tree) c.self.view_is in
     let l : c.args.id.0 < size (tree_in c.self.inside.tables) = rw v c.requires in
     let h = row_namespace c.self.inside.tables (tree_in c.self.inside.tables) _ _ _ c.self.invariant.holds l c.index.ensures c.in-Element.is in
-    let m = place_within _ _ c.in-Some.place (element_within c.self.inside.tables (tree_in c.self.inside.tables) _ _ _ c.self.invariant.holds l c.index.ensures c.in-Element.is).4 c.in-Some.is in
+    let m = place_within _ _ c.in-Some.place (element_within c.self.inside.tables (tree_in c.self.inside.tables) _ _ _ c.self.invariant.holds l c.index.ensures c.in-Element.is).3 c.in-Some.is in
     rw (c.uri.ensures, ← v) (ap Some (entry_uri c.self.inside.tables.namespaces.items c.in-Some.place _ m c.index-in-Some.ensures) ∙ (rw c.in-Some.is at h))
 
 pub returns-in-None : goal.returns-in-None
