@@ -13,6 +13,7 @@ use crate::names::NamespaceTable;
 use crate::node_rows;
 use crate::pending::Pending;
 use crate::present::Present;
+use crate::recent::Recent;
 use crate::storage::StringStorage;
 use crate::tables::{ElementTables, NodeData, NodeKind, Scope, Tables};
 use crate::tag::{Buffers, StartTag};
@@ -47,6 +48,8 @@ pub struct Builder<'input> {
     pub joined: String,
     pub buffers: Buffers<'input>,
     pub finders: Finders<'input>,
+    /// The owned texts that come again.
+    pub recent: Recent,
     pub nodes_limit: u32,
     /// How many replacement texts may still be opened within the one that is read.
     pub left: u32,
@@ -157,6 +160,7 @@ impl<'input> Builder<'input> {
                 many: BTreeSet::new(alloc),
             },
             finders: Finders::new(),
+            recent: Recent::new(alloc),
             nodes_limit,
             left: MOST_WITHIN,
         })
@@ -262,7 +266,7 @@ impl<'input> Builder<'input> {
                 Ok(())
             }
             Pending::Joined(start, end) => {
-                let text = StringStorage::new_owned(alloc, self.joined.as_str())?;
+                let text = self.recent.owned(alloc, self.joined.as_str())?;
                 let row = self.row(start, end, NodeKind::Text(text));
                 node_rows::push(&mut self.nodes, row)?;
                 Ok(())
@@ -435,6 +439,7 @@ impl<'input> Builder<'input> {
             joined: _,
             buffers: _,
             finders: _,
+            recent: _,
             nodes_limit: _,
             left: _,
         } = self;

@@ -17,6 +17,7 @@ pub mod pending;
 pub mod prefixes;
 pub mod present;
 pub mod reader;
+pub mod recent;
 pub mod reference;
 pub mod refused;
 pub mod resolve;
