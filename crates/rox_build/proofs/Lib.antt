@@ -10,6 +10,7 @@ pub mod Columns
 pub mod Resolving
 pub mod Binding
 pub mod Declared
+pub mod LineRuns
 pub mod Lifting
 pub mod PartLemmas
 pub mod ValueOpening

@@ -1,6 +1,7 @@
 -- A part of a run, and its piece.
-use Rattle.std.specs.Prelude.{◌≡◌, ℕ, ◌-◌, List, Option, Result, Ok, Err}
+use Rattle.std.specs.Prelude.{◌≡◌, ◌<◌, ◌≤◌, ◌+◌, ◌==◌, ◌||◌, ℕ, ◌-◌, List, Option, Result, Ok, Err, take, length, slice_index}
 use Rattle.rox_grammar.specs.declared.fault.Fault.{Fault}
+use Rattle.rox_grammar.specs.Marks.{byte_from}
 use Rattle.rox_reading.specs.Lexical.{◌>>=◌}
 use Rattle.rox_reading.specs.State.{State}
 use Rattle.rox_reading.specs.Values.{Next, run_part, part_text}
@@ -22,3 +23,11 @@ next_part how src start stop s =
 abbrev pub Parted : ℕ → ℕ → Result (Option Cursor) Failure → Cursor → Builder → Result (State × Next) Fault → Type 0
 Parted limit end (Ok next) c b read = (t : State) × (read ≡ Ok (t, next_view next c.pos)) × Rests limit end t b
 Parted limit end (Err e) c b read = Fails e read
+
+-- from i up to j a CR, a LF, and bytes that are no `&` and no CR
+pub record IsLine (src : List ℕ) (i j : ℕ) : Type 0 where
+  pub some : i + 1 < j
+  pub within : j ≤ length src
+  pub cr : slice_index src i ≡ 13
+  pub feed : slice_index src (i + 1) ≡ 10
+  pub rest : byte_from (λ c. c == 38 || c == 13) (take j src) (i + 1 + 1) ≡ j

@@ -1,17 +1,19 @@
 //! Content: character data and replacement texts, one construct after another (XML 1.0 sections 2.4, 3.1, 4.3.2, 4.4.2).
 
-ghost use Rattle.std.specs.Prelude.{◌≡◌, ◌<◌, ◌-◌, ℕ, List, OnOk, length};
+ghost use Rattle.std.specs.Prelude.{◌≡◌, ◌<◌, ◌-◌, ℕ, List, OnOk, length, true, false};
 ghost use Rattle.std.specs.Str.{IsCharBoundary};
 ghost use Rattle.std.specs.String.{string_bytes};
 ghost use Rattle.rox_reading.specs.State.{State};
+ghost use Rattle.rox_grammar.specs.Written.{Text};
 ghost use Rattle.rox_reading.specs.Machine as machine;
+ghost use Rattle.rox_reading.specs.Machine.{with_item};
 ghost use Rattle.rox_grammar.specs.Entities.{Entity};
 ghost use Rattle.rox_reading.specs.Values as spec;
 ghost use Rattle.rox_scan.specs.Doctypes.{replacement_view};
 ghost use Rattle.rox_build.specs.Named.{AreDeclared};
 ghost use Rattle.rox_build.specs.Hows.{how_of};
-ghost use Rattle.rox_build.specs.Shown.{Fine, Sees, Went, Rests, Rested, GivesPart};
-ghost use Rattle.rox_build.specs.Parted.{Parted, next_part};
+ghost use Rattle.rox_build.specs.Shown.{Fine, Sees, Went, Rests, Rested, GivesPart, Adds, Shows};
+ghost use Rattle.rox_build.specs.Parted.{Parted, IsLine, next_part};
 
 use crate::builder::Builder;
 use crate::constructs::{end_tag, markup};
@@ -22,8 +24,47 @@ use crate::value::{is_run_end, line_feeds, raw_run, run_part};
 use rox_grammar::fault::Fault;
 use rox_scan::cursor::Cursor;
 use rox_scan::failure::Failure;
+use rox_scan::marks::either_from;
 use rox_scan::near::{TextByte, near_end};
+use rox_scan::runs::{after_byte, is_at};
 use std::alloc::Global;
+
+/// Whether a run is a line end, a CR and a LF, and then bytes that stand for themselves.
+#[inline(always)]
+fn is_line(text: &str, start: usize, stop: usize) -> bool
+    requires cut { IsCharBoundary text.now stop }
+    ensures { result ≡ true → IsLine text.now start stop }
+{
+    if !is_at(text, start, b'\r') {
+        return false;
+    }
+    let feed = after_byte(text, start, b'\r');
+    if !is_at(text, feed, b'\n') {
+        return false;
+    }
+    let rest = after_byte(text, feed, b'\n');
+    rest <= stop && either_from(&text[..stop], rest, b'&', b'\r') == stop
+}
+
+/// A piece of text that is no slice of the source, though its bytes are these. The only fault is that there are too many nodes.
+#[inline(always)]
+fn changed_piece(
+    builder: &mut Builder<'_>,
+    start: usize,
+    end: usize,
+    text: &str,
+) -> Result<(), Failure>
+    ensures value { (total at : ℕ) (s : State) → Shows total s.stack s.done builder.old
+        → Adds total result builder.new (with_item builder.old.nodes_limit s at (Text start end text.now false)) }
+    ensures tables { builder.new.tables ≡ builder.old.tables }
+    ensures opened { builder.new.opened ≡ builder.old.opened }
+    ensures limit { builder.new.nodes_limit ≡ builder.old.nodes_limit }
+    ensures left { builder.new.left ≡ builder.old.left }
+{
+    builder.buffers.scratch.clear();
+    builder.buffers.scratch.push_str(text)?;
+    builder.buffered_piece(start, end)
+}
 
 /// Character data, up to the next `<` or the end, which is no slice of the source as far as a quick look tells.
 #[cycle(content)]
@@ -47,6 +88,11 @@ fn far_run<'input>(
         return Ok(());
     }
     let stop = cursor.pos;
+    let text = cursor.text;
+    if how.main && is_line(text, start, stop) {
+        changed_piece(builder, start, stop, &text[start + 1..stop])?;
+        return Ok(());
+    }
     cursor.pos = start;
     run_parts(alloc, cursor, builder, how, start, stop)
 }

@@ -13,6 +13,8 @@ use Rattle.rox_build.proofs.ShortLemmas.{short_run}
 use Rattle.rox_build.proofs.Parting.{rests_of, parting_ends, parting_on, parting_fails, parting_stops, parting_out}
 use Rattle.rox_build.proofs.TextLooping.{opened_depth, text_on, text_fails, text_at_end, text_spent}
 use Rattle.rox_build.proofs.TextOpening.{inner_state, outer_state, opens_err, opens_reads, opens_refuses, opener_at}
+use Rattle.rox_build.specs.Parted.{IsLine}
+use Rattle.rox_build.proofs.LineRuns.{line_run}
 use Rattle.rox_build.proofs.content.+content.Goals as goal
 
 -- ---- a run
@@ -93,6 +95,39 @@ far_run-returns-clause-value t c = λ limit end es s declared h.
     let other : is_plain raw ≡ false = sym c.in_ok-raw.ensures.plain ∙ c.if-raw.false in
     rw (parted_run (how_of limit es c.args.how) src s c.args.cursor.now.pos j raw h.here c.in_ok-raw.ensures.value other, ← same)
     (c.run_parts.ensures.value limit end es s declared (record { here = h.here; limit_is = h.limit_is; shows = h.shows; names = h.names; attributes = h.attributes; left_is = h.left_is }))
+
+-- a line end and bytes that stand for themselves
+pub far_run-returns-then-is_line-clause-value : goal.far_run-returns-then-is_line-clause-value
+far_run-returns-then-is_line-clause-value t c = λ limit end es s declared h.
+    let src = c.args.cursor.now.text.now in
+    let b = c.args.builder.now in
+    let i = c.args.cursor.now.pos in
+    let raw = c.in_ok-raw.raw.text.now in
+    let j = c.raw_run.new.cursor.pos in
+    let same = ap (λ t. t.now) c.in_ok-raw.ensures.source in
+    let other : is_plain raw ≡ false = sym c.in_ok-raw.ensures.plain ∙ c.if-raw.false in
+    let line : IsLine src i j = rw same at (c.is_line.ensures c.if-is_line.true) in
+    let text : RunText = record { value = slice_range src (i + 1) j; plain = false } in
+    rw (parted_run (how_of limit es c.args.how) src s i j raw h.here c.in_ok-raw.ensures.value other, line_run (how_of limit es c.args.how) src s i j h.here c.if-how.true line)
+    (text_stepped limit end s c.args.cursor.now c.raw_run.new.cursor b c.changed_piece.new.builder (Ok c.in_ok-changed_piece.field-0) text h c.changed_piece.ensures.tables c.changed_piece.ensures.limit c.changed_piece.ensures.left
+    (rw (c.range.ensures.value, same) at (c.in_ok-changed_piece.ensures.value end j s h.shows)))
+
+pub far_run-returns-in_err-changed_piece-clause-value : goal.far_run-returns-in_err-changed_piece-clause-value
+far_run-returns-in_err-changed_piece-clause-value t c = λ limit end es s declared h.
+    let src = c.args.cursor.now.text.now in
+    let b = c.args.builder.now in
+    let i = c.args.cursor.now.pos in
+    let raw = c.in_ok-raw.raw.text.now in
+    let j = c.raw_run.new.cursor.pos in
+    let same = ap (λ t. t.now) c.in_ok-raw.ensures.source in
+    let other : is_plain raw ≡ false = sym c.in_ok-raw.ensures.plain ∙ c.if-raw.false in
+    let line : IsLine src i j = rw same at (c.is_line.ensures c.if-is_line.true) in
+    let text : RunText = record { value = slice_range src (i + 1) j; plain = false } in
+    let p = err_from_is_err_and c.from_residual-in_err-changed_piece.result c.from_residual-in_err-changed_piece.ensures.1 in
+    rw (p.1, p.2, parted_run (how_of limit es c.args.how) src s i j raw h.here c.in_ok-raw.ensures.value other, line_run (how_of limit es c.args.how) src s i j h.here c.if-how.true line)
+    (refused_too c.in_err-changed_piece.field-0.0 _
+    (text_stepped limit end s c.args.cursor.now c.raw_run.new.cursor b c.changed_piece.new.builder (Err c.in_err-changed_piece.field-0.0) text h c.changed_piece.ensures.tables c.changed_piece.ensures.limit c.changed_piece.ensures.left
+    (rw (c.range.ensures.value, same) at (c.in_err-changed_piece.ensures.value end j s h.shows))))
 
 -- ---- its parts
 
