@@ -12,11 +12,16 @@ use std::rc::RcStr;
 /// From this length on, in bytes, a text is not kept.
 const LONG: usize = 64;
 
+/// So many texts are passed over before one is kept: most documents have few, for which it is not worth making places.
+const FEW: u32 = 8;
+
 /// The last owned text of each length that is not long.
 #[derive(Drop)]
 pub struct Recent {
-    /// At its length. Empty before the first one.
+    /// At its length. Empty as long as none is kept.
     texts: Vec<Option<RcStr>>,
+    /// How many texts were passed over.
+    passed: u32,
 }
 
 impl Recent {
@@ -24,6 +29,7 @@ impl Recent {
     pub fn new(alloc: Global) -> Recent {
         Recent {
             texts: Vec::new(alloc),
+            passed: 0,
         }
     }
 
@@ -50,10 +56,14 @@ impl Recent {
         Ok(StringStorage::Owned(owned))
     }
 
-    /// Keeps a text of this length.
+    /// Keeps a text of this length, unless it is one of the first.
     fn keep(&mut self, text: &RcStr, length: usize) -> Result<(), Failure>
         ensures err { IfErr result (λ e. e ≡ Failure.Memory) }
     {
+        if self.passed < FEW {
+            self.passed += 1;
+            return Ok(());
+        }
         self.make_places();
         let copy = text.clone()?;
         if let Some(place) = self.texts.get_mut(length) {
@@ -62,9 +72,13 @@ impl Recent {
         Ok(())
     }
 
-    /// Makes a place for each length. Where memory is wanting there are fewer, and the texts of other lengths are not kept.
+    /// Makes a place for each length, if there are none. Where memory is wanting there are fewer, and the texts of other lengths
+    /// are not kept.
     fn make_places(&mut self) {
-        for _turn in self.texts.len()..LONG {
+        if !self.texts.is_empty() || self.texts.reserve_exact(LONG).is_err() {
+            return;
+        }
+        for _turn in 0..LONG {
             if self.texts.push(None).is_err() {
                 return;
             }
@@ -80,14 +94,14 @@ mod tests {
     #[test]
     fn texts_of_one_length_are_told_apart(rt: HostRuntime) -> Result<(), Fail> {
         let mut recent = Recent::new(rt.alloc());
-        let first = recent.owned(rt.alloc(), "\n  ")?;
-        let again = recent.owned(rt.alloc(), "\n  ")?;
-        let other = recent.owned(rt.alloc(), "a b")?;
-        let back = recent.owned(rt.alloc(), "\n  ")?;
-        assert_eq!(rt; first.as_str(), "\n  ");
-        assert!(rt; again == first);
-        assert_eq!(rt; other.as_str(), "a b");
-        assert!(rt; back == first);
+        for _turn in 0..20 {
+            let line = recent.owned(rt.alloc(), "\n  ")?;
+            let again = recent.owned(rt.alloc(), "\n  ")?;
+            let other = recent.owned(rt.alloc(), "a b")?;
+            assert_eq!(rt; line.as_str(), "\n  ");
+            assert!(rt; again == line);
+            assert_eq!(rt; other.as_str(), "a b");
+        }
         Ok(())
     }
 }
