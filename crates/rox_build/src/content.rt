@@ -46,7 +46,8 @@ fn is_line(text: &str, start: usize, stop: usize) -> bool
     rest <= stop && either_from(&text[..stop], rest, b'&', b'\r') == stop
 }
 
-/// A piece of text that is no slice of the source, though its bytes are these. The only fault is that there are too many nodes.
+/// A piece of text of these bytes that counts as owned: what the source has there is longer. The only fault is that there are too
+/// many nodes.
 #[inline(always)]
 fn changed_piece(
     builder: &mut Builder<'_>,

@@ -216,9 +216,9 @@ fn attributes<'input>(
     Err(Refused::Fault(cut))
 }
 
-/// How many scopes the table holds at most. They are never so many: each but the first was made for an element, which has a
+/// How many scopes the table holds at most. More are never asked for: each but the first was made for an element, which has a
 /// row of its own, and there are fewer rows.
-const MOST_SCOPES: usize = 4294967295;
+const MOST_SCOPES: usize = 4294967296;
 
 /// The scope of an element whose own declarations are those behind `own`, and `xml` if the flag says so, below one of the scope
 /// `above`: one of its own, or its parent's where it declares nothing. The set has its prefixes where they are many.
@@ -274,7 +274,7 @@ fn listed_by_tag<'input>(
     Ok(place as u32)
 }
 
-/// The same, and where it lists many the places of its prefixes are looked up.
+/// The same, and where it lists many it is entered into the places of prefixes.
 #[inline(always)]
 fn scope_of_tag<'input>(
     elements: &mut ElementTables<'input>,
@@ -322,8 +322,7 @@ fn scope_of_tag<'input>(
 /// How many attributes a document may have.
 const MOST_ATTRIBUTES: usize = 4294967294;
 
-/// What an element of this scope has, with its names tested: its attributes go into the table. The name stands at
-/// `at`.
+/// What an element of this scope has, with its names tested: its attributes go into the table. The name stands at `at`.
 #[inline(always)]
 fn element_data<'input>(
     alloc: Global,
