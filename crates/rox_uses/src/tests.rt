@@ -1,35 +1,23 @@
 //! Worked answers of the public calls, in tables.
 
-ghost use Rattle.std.specs.Prelude.{◌≡◌, Some};
-
 mod attributes;
 mod axes;
-mod broken;
 mod callers;
 mod calls;
-mod doctype;
-mod entities;
-mod generated;
 mod iterators;
-mod limits;
 mod memory;
 mod names;
 mod namespaces;
 mod once;
-mod opening;
 mod order;
 mod parsing;
 mod positions;
 mod printed;
-mod refusals;
-mod resolvers;
 mod scopes;
 mod searches;
-mod slices;
-mod sources;
 mod text;
 
-use roxmltree::{Document, Error, Node, NodeId, ParsingOptions};
+use roxmltree::{Document, Error, Node, NodeId};
 use std::fmt::Display;
 use std::process::Abort;
 
@@ -43,34 +31,6 @@ fn refusal_of(rt: &(impl Abort + AllocGlobal), text: &str) -> Error {
     let error = Document::parse(rt.alloc(), text).expect_err(rt, text);
     assert_ne!(rt; error, Error::OutOfMemory, "{text:?}");
     error
-}
-
-/// The document of a text that may have a document type declaration.
-fn declared<'input>(rt: &(impl Abort + AllocGlobal), text: &'input str) -> Document<'input> {
-    answer(rt, text).expect(rt, text)
-}
-
-/// Why a text that may have a document type declaration is refused.
-fn declared_refusal(rt: &(impl Abort + AllocGlobal), text: &str) -> Error {
-    let error = answer(rt, text).expect_err(rt, text);
-    assert_ne!(rt; error, Error::OutOfMemory, "{text:?}");
-    error
-}
-
-/// The answer for a text that may have a document type declaration.
-fn answer<'input>(rt: &impl AllocGlobal, text: &'input str) -> Result<Document<'input>, Error> {
-    let mut options = ParsingOptions::default();
-    options.allow_dtd = true;
-    Document::parse_with_options(rt.alloc(), text, options)
-}
-
-/// What is asked where a document type declaration may stand, and this resolver answers.
-fn answered_by<R>(resolver: R) -> ParsingOptions<R>
-    ensures { result.entity_resolver ≡ Some resolver }
-{
-    let mut options = ParsingOptions::with_resolver(resolver);
-    options.allow_dtd = true;
-    options
 }
 
 /// The node of this id.

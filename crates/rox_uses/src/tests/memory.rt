@@ -1,8 +1,11 @@
 //! Want of memory. The answers hold with ample memory, and as well where any one growth is refused: each parse is then asked
 //! again.
 
-use super::answered_by;
-use roxmltree::{Document, Error, ExpandedName, Node, ResolveWith, StringStorage, TextPos};
+ghost use Rattle.std.specs.Prelude.{◌≡◌, Some};
+
+use roxmltree::{
+    Document, Error, ExpandedName, Node, ParsingOptions, ResolveWith, StringStorage, TextPos,
+};
 use std::alloc::{AllocError, Global};
 use std::cell::Cell;
 use std::process::Abort;
@@ -24,6 +27,15 @@ pub(super) fn read<'input>(rt: &(impl Abort + AllocGlobal), text: &'input str) -
 /// Why a text is refused.
 fn refused(rt: &(impl Abort + AllocGlobal), text: &str) -> Error {
     answer(rt, text).expect_err(rt, text)
+}
+
+/// What is asked where a document type declaration may stand, and this resolver answers.
+fn answered_by<R>(resolver: R) -> ParsingOptions<R>
+    ensures { result.entity_resolver ≡ Some resolver }
+{
+    let mut options = ParsingOptions::with_resolver(resolver);
+    options.allow_dtd = true;
+    options
 }
 
 /// The first child of the root element.

@@ -1,11 +1,18 @@
 //! Entities: what a reference stands for in content and in values.
 
-use super::text::is_owned;
 use super::{child_count, declared, node_of, number};
-use roxmltree::{Document, Node};
+use roxmltree::{Document, Node, StringStorage};
 use std::alloc::{AllocError, Global};
 use std::process::Abort;
 use std::test::Fail;
+
+/// Whether a text is no slice of the input.
+fn is_owned(storage: &StringStorage<'_>) -> bool {
+    match storage {
+        StringStorage::Owned(_) => true,
+        StringStorage::Borrowed(_) => false,
+    }
+}
 
 #[test]
 fn texts(rt: HostRuntime) {

@@ -1,0 +1,85 @@
+//! Worked answers for texts, in tables.
+
+ghost use Rattle.std.specs.Prelude.{◌≡◌, Some};
+
+mod broken;
+mod doctype;
+mod entities;
+mod generated;
+mod limits;
+mod opening;
+mod refusals;
+mod resolvers;
+mod slices;
+mod sources;
+
+use roxmltree::{Document, Error, Node, NodeId, ParsingOptions};
+use std::fmt::Display;
+use std::process::Abort;
+
+/// The document of a text that is read.
+fn document_of<'input>(rt: &(impl Abort + AllocGlobal), text: &'input str) -> Document<'input> {
+    Document::parse(rt.alloc(), text).expect(rt, text)
+}
+
+/// Why a text is refused.
+fn refusal_of(rt: &(impl Abort + AllocGlobal), text: &str) -> Error {
+    let error = Document::parse(rt.alloc(), text).expect_err(rt, text);
+    assert_ne!(rt; error, Error::OutOfMemory, "{text:?}");
+    error
+}
+
+/// The document of a text that may have a document type declaration.
+fn declared<'input>(rt: &(impl Abort + AllocGlobal), text: &'input str) -> Document<'input> {
+    answer(rt, text).expect(rt, text)
+}
+
+/// Why a text that may have a document type declaration is refused.
+fn declared_refusal(rt: &(impl Abort + AllocGlobal), text: &str) -> Error {
+    let error = answer(rt, text).expect_err(rt, text);
+    assert_ne!(rt; error, Error::OutOfMemory, "{text:?}");
+    error
+}
+
+/// The answer for a text that may have a document type declaration.
+fn answer<'input>(rt: &impl AllocGlobal, text: &'input str) -> Result<Document<'input>, Error> {
+    let mut options = ParsingOptions::default();
+    options.allow_dtd = true;
+    Document::parse_with_options(rt.alloc(), text, options)
+}
+
+/// What is asked where a document type declaration may stand, and this resolver answers.
+fn answered_by<R>(resolver: R) -> ParsingOptions<R>
+    ensures { result.entity_resolver ≡ Some resolver }
+{
+    let mut options = ParsingOptions::with_resolver(resolver);
+    options.allow_dtd = true;
+    options
+}
+
+/// The node of this id.
+fn node_of<'a, 'input>(
+    rt: &impl Abort,
+    document: &'a Document<'input>,
+    id: u32,
+) -> Node<'a, 'input> {
+    document
+        .get_node(NodeId::new(id))
+        .expect(rt, "no node of this id")
+}
+
+/// The number of a node.
+fn number(node: Node<'_, '_>) -> u32 {
+    node.id().get()
+}
+
+/// How many children a node has.
+fn child_count(node: Node<'_, '_>) -> usize {
+    node.children().count()
+}
+
+/// Wants this to be printed.
+fn prints<T: Display>(rt: &(impl Abort + AllocGlobal), printed: &T, wanted: &str) {
+    let shown = printed.to_string(rt.alloc()).expect(rt, "memory");
+    assert_eq!(rt; shown.as_str(), wanted);
+}
