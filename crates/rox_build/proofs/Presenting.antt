@@ -1,8 +1,9 @@
 -- The places of prefixes, as scopes are entered and left.
-use Rattle.std.proofs.Common.{◌≡◌, ℕ, ◌&&◌, ◌||◌, not, filter, add-one, drop-cons, ◌+◌, ◌-◌, ◌≤◌, ◌<◌, take, get_or, bytes_eq, Bor, Bool, true, false, cond, List, [], ◌∷◌, ◌++◌, length, map, drop, refl, sym, ap, subst, ◌∙◌, arith, length-append, Option, Some, None}
+use Rattle.std.proofs.Common.{◌≡◌, ◌≢◌, ◌==◌, ℕ, ◌&&◌, ◌||◌, not, filter, add-one, drop-cons, ◌+◌, ◌-◌, ◌≤◌, ◌<◌, take, get_or, bytes_eq, Bor, Bool, true, false, cond, List, [], ◌∷◌, ◌++◌, length, map, drop, refl, sym, ap, subst, ◌∙◌, arith, length-append, Option, Some, None}
 use Rattle.std.specs.List.{AllByRecursion}
 use Rattle.std.specs.Option.{option_map, option_to_list, IfSome, IfNone}
 use Rattle.std.proofs.lemmas.List.{drop-append-le, append-nil, length-map, take_all, take_more}
+use Rattle.std.proofs.lemmas.Bool.{eq-eqb, ne_eqb}
 use Rattle.std.proofs.Math.ListN.{drop_of_length-le}
 use Rattle.rox_grammar.specs.Written.{Declaration}
 use Rattle.rox_grammar.specs.Tree.{same_prefix, is_declared, uri_of}
@@ -12,7 +13,7 @@ use Rattle.rox_build.specs.Scopes.{prefix_view, entries, ArePlaces, others}
 use Rattle.std.specs.BTreeMap.{BTreeMap, get_by}
 use Rattle.std.specs.Cmp.Lexicographic.{slice_cmp}
 use Rattle.std.specs.Ordering.{nat_cmp}
-use Rattle.rox_build.specs.Present.{flat, found_at, found, restored, IsBound, Stacked, Keeps, Finds}
+use Rattle.rox_build.specs.Present.{flat, found_at, found, restored, IsBound, Stacked, Keeps, Finds, is_innermost}
 use Rattle.rox_build.specs.declared.present.Replaced.{Replaced}
 use Rattle.rox_build.specs.declared.present.Layer.{Layer}
 use Rattle.rox_build.specs.declared.present.Present.{Present}
@@ -129,6 +130,30 @@ pub last_split : (xs : List Layer) (x : Layer) → 0 < length xs → x ≡ get_o
 last_split xs x some is =
     let n = length xs - 1 in
     sym (take_all (n + 1) xs (omega arith)) ∙ take_more xs n x (omega arith) ∙ ap (λ y. take n xs ++ y ∷ []) (sym is)
+
+-- which of some is the last
+last_or : Layer → List Layer → Layer
+last_or d [] = d
+last_or d (x ∷ xs) = last_or x xs
+
+last_or-append : (d : Layer) (xs : List Layer) (x : Layer) → last_or d (xs ++ x ∷ []) ≡ x
+unfolding last_or
+last_or-append d [] x = refl
+last_or-append d (y ∷ ys) x = last_or-append y ys x
+
+pub last_same : (xs ys : List Layer) (x y : Layer) → xs ++ x ∷ [] ≡ ys ++ y ∷ [] → x ≡ y
+last_same xs ys x y same = sym (last_or-append x xs x) ∙ ap (last_or x) same ∙ last_or-append x ys y
+
+innermost_last : (ls : List Layer) (l : Layer) (count scope : ℕ) → is_innermost (ls ++ l ∷ []) count scope ≡ (l.count == count && l.scope == scope)
+innermost_last [] l count scope = refl
+innermost_last (x ∷ []) l count scope = refl
+innermost_last (x ∷ y ∷ ls) l count scope = innermost_last (y ∷ ls) l count scope
+
+pub innermost_at : (ls : List Layer) (l : Layer) (count scope : ℕ) → l.count ≡ count → is_innermost (ls ++ l ∷ []) count scope ≡ (l.scope == scope)
+innermost_at ls l count scope same = innermost_last ls l count scope ∙ ap (λ (b : Bool). b && (l.scope == scope)) (eq-eqb l.count count same)
+
+pub innermost_not : (ls : List Layer) (l : Layer) (count scope : ℕ) → l.count ≢ count → is_innermost (ls ++ l ∷ []) count scope ≡ false
+innermost_not ls l count scope other = innermost_last ls l count scope ∙ ap (λ (b : Bool). b && (l.scope == scope)) (ne_eqb l.count count other)
 
 pub keeps_by : (names : List Declaration) (lists : List (List Declaration)) (x : Present) (es : List Replaced) (ls : List Layer) → x.replaced.items ≡ es → x.layers.items ≡ ls
     → Stacked names lists es (found x) 0 ls → Keeps names lists x

@@ -1,5 +1,5 @@
 -- The place that each prefix, or the default, stands for in the innermost of some scopes, and what takes it back to those around it.
-use Rattle.std.specs.Prelude.{◌≡◌, ℕ, ◌≤◌, ◌<◌, Bool, List, [], ◌∷◌, ◌++◌, Option, Some, None, length, drop, if◌then◌else◌}
+use Rattle.std.specs.Prelude.{◌≡◌, ◌==◌, ◌&&◌, ℕ, ◌≤◌, ◌<◌, Bool, false, List, [], ◌∷◌, ◌++◌, Option, Some, None, length, drop, if◌then◌else◌}
 use Rattle.std.specs.Option.{option_map}
 use Rattle.std.specs.Borrow.{Bor}
 use Rattle.std.specs.BTreeMap.{BTreeMap, get_by}
@@ -44,6 +44,12 @@ Stacked names lists replaced places least (l ∷ ls) =
 
 pub record Keeps (names : List Declaration) (lists : List (List Declaration)) (x : Present) : Type 0 where
   pub stacked : Stacked names lists x.replaced.items (found x) 0 x.layers.items
+
+-- whether the innermost of these scopes is this one, and so many places were replaced up to it
+abbrev pub is_innermost : List Layer → (count scope : ℕ) → Bool
+is_innermost [] count scope = false
+is_innermost (l ∷ []) count scope = l.count == count && l.scope == scope
+is_innermost (l ∷ m ∷ ls) count scope = is_innermost (m ∷ ls) count scope
 
 -- A scope lists these places, below the scope at `above`: its own, and the others of that.
 pub record IsEntered (names : List Declaration) (lists : List (List Declaration)) (own all : List ℕ) (xml : Bool) (above scope : ℕ) : Type 0 where

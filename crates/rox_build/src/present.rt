@@ -1,7 +1,7 @@
 //! The place that each prefix stands for, where an element lists many namespaces: a map of those of the innermost scope, and
 //! what they stood for around it, which is taken back when a scope around it is asked for.
 
-ghost use Rattle.std.specs.Prelude.{◌≡◌, ◌<◌, ◌≤◌, ◌++◌, ℕ, List, Option, Some, None, Bool, true, length, map, OnOk, IfErr, if◌then◌else◌};
+ghost use Rattle.std.specs.Prelude.{◌≡◌, ◌<◌, ◌≤◌, ◌+◌, ◌-◌, ◌++◌, ◌||◌, ◌⊎◌, ℕ, List, Option, Some, None, Bool, true, length, map, take, OnOk, IfErr, if◌then◌else◌};
 ghost use Rattle.rox_grammar.specs.Tree.{same_prefix};
 ghost use Rattle.rox_grammar.specs.Written.{Declaration};
 ghost use Rattle.rox_build.specs.Lines.{declaration, scope_at};
@@ -43,7 +43,7 @@ pub struct Present<'input> {
 impl<'input> Present<'input> {
     ghost use Rattle.std.specs.Prelude.{◌∷◌, [], ◌&&◌, not, filter};
     ghost use Rattle.rox_grammar.specs.WellNamed.{is_xml};
-    ghost use Rattle.rox_build.specs.Present.{found, Keeps, IsBound, IsEntered};
+    ghost use Rattle.rox_build.specs.Present.{found, Keeps, IsBound, IsEntered, is_innermost};
     ghost use Rattle.rox_build.specs.declared.present.Layer.{Layer};
 
     /// Of no scope.
@@ -106,6 +106,8 @@ impl<'input> Present<'input> {
 
     /// Takes back what was replaced last, if it was behind so many. The innermost scope has so many before it.
     fn take_back(&mut self, count: usize) -> Result<(), Failure>
+        ensures back { OnOk result (count < length self.old.replaced.items → length self.new.replaced.items + 1 ≡ length self.old.replaced.items) }
+        ensures same { length self.old.replaced.items ≤ count → self.new ≡ self.old }
         ensures keeps { OnOk result ((names : List Declaration) (lists : List (List Declaration)) (ls : List Layer) (l : Layer) → self.old.layers.items ≡ ls ++ l ∷ [] → l.count ≡ count
             → Keeps names lists self.old → Keeps names lists self.new) }
         ensures layers { self.new.layers ≡ self.old.layers }
@@ -122,6 +124,8 @@ impl<'input> Present<'input> {
 
     /// Leaves the innermost scope.
     fn leave(&mut self) -> Result<(), Failure>
+        ensures layers { OnOk result (self.new.layers.items ≡ take (length self.old.layers.items - 1) self.old.layers.items) }
+        ensures back { OnOk result ((ls : List Layer) (l : Layer) → self.new.layers.items ≡ ls ++ l ∷ [] → l.count ≤ length self.old.replaced.items → length self.new.replaced.items ≡ l.count) }
         ensures keeps { OnOk result ((names : List Declaration) (lists : List (List Declaration)) → Keeps names lists self.old → Keeps names lists self.new) }
         ensures err { IfErr result (λ e. e ≡ Failure.Memory) }
     {
@@ -138,6 +142,8 @@ impl<'input> Present<'input> {
 
     /// Leaves scopes until the innermost is one of these, or there is none.
     fn leave_others(&mut self, one: u32, other: u32) -> Result<(), Failure>
+        ensures innermost { OnOk result ((self.new.layers.items ≡ [])
+            ⊎ ((is_innermost self.new.layers.items (length self.new.replaced.items) one || is_innermost self.new.layers.items (length self.new.replaced.items) other) ≡ true)) }
         ensures keeps { OnOk result ((names : List Declaration) (lists : List (List Declaration)) → Keeps names lists self.old → Keeps names lists self.new) }
         ensures err { IfErr result (λ e. e ≡ Failure.Memory) }
     {
@@ -152,7 +158,8 @@ impl<'input> Present<'input> {
 
     /// Whether this is the innermost scope.
     fn is_in(&self, scope: u32) -> bool
-        ensures { result ≡ true → (names : List Declaration) (lists : List (List Declaration)) → Keeps names lists self.now → IsBound names (found self.now) (scope_at lists scope) }
+        ensures value { result ≡ is_innermost self.now.layers.items (length self.now.replaced.items) scope }
+        ensures bound { result ≡ true → (names : List Declaration) (lists : List (List Declaration)) → Keeps names lists self.now → IsBound names (found self.now) (scope_at lists scope) }
     {
         match self.layers.last() {
             Some(layer) => layer.count == self.replaced.len() && layer.scope == scope,

@@ -15,5 +15,5 @@ pub returns-clause-bound : goal.returns-clause-bound
 returns-clause-bound c = λ lists h same.
     let names = map declaration c.args.names.now in
     let g = found c.add-2.new.self in
-    let above = c.is_in.ensures c.if-not-is_in.false names lists h in
+    let above = c.is_in.ensures.bound c.if-not-is_in.false names lists h in
     subst (IsBound names g) (sym same) (bound_others names (entries names c.args.own.now) _ c.args.xml g (c.in_ok-add-2.ensures.bound _ (c.in_ok-hide_xml.ensures.bound names _ above)))
