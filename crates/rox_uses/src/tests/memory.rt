@@ -103,10 +103,17 @@ fn names_in_errors(rt: HostRuntime) {
     }
 }
 
-/// The answer for a text that may have a document type declaration, asked again where a growth was refused.
+/// The answer for a text that may have a document type declaration.
+fn asked<'input>(rt: &impl AllocGlobal, text: &'input str) -> Result<Document<'input>, Error> {
+    let mut options = ParsingOptions::default();
+    options.allow_dtd = true;
+    Document::parse_with_options(rt.alloc(), text, options)
+}
+
+/// The same, asked again where a growth was refused.
 fn declared<'input>(rt: &impl AllocGlobal, text: &'input str) -> Result<Document<'input>, Error> {
-    match super::answer(rt, text) {
-        Err(Error::OutOfMemory) => super::answer(rt, text),
+    match asked(rt, text) {
+        Err(Error::OutOfMemory) => asked(rt, text),
         answer => answer,
     }
 }
