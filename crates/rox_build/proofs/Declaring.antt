@@ -1,5 +1,5 @@
 -- A declaration of a start tag, step by step.
-use Rattle.std.proofs.Common.{◌≡◌, ℕ, zero, suc, ◌-◌, take, get_or, subst, map, ◌+◌, ◌<◌, ◌≤◌, ◌||◌, not, Bool, true, false, List, [], ◌∷◌, ◌++◌, length, drop, refl, sym, ap, ◌∙◌, arith, Result, Ok, Err, length-append, append_assoc, le-ltb, lt-ltb}
+use Rattle.std.proofs.Common.{◌≡◌, ℕ, subst, map, ◌+◌, ◌<◌, ◌≤◌, ◌||◌, not, Bool, true, false, List, [], ◌∷◌, ◌++◌, length, drop, refl, sym, ap, ◌∙◌, arith, Result, Ok, Err, length-append, append_assoc, le-ltb, lt-ltb}
 use Rattle.std.specs.List.{slice_range}
 use Rattle.std.proofs.lemmas.List.{append-nil, map-append, length-map, drop-append-le}
 use Rattle.std.proofs.lemmas.List.Elements.{filter-append}
@@ -16,21 +16,22 @@ use Rattle.rox_scan.specs.Gives.{Fails}
 use Rattle.rox_scan.specs.declared.failure.Failure.{Failure}
 use Rattle.rox_scan.specs.declared.failure.Failure.TheVariants as failure
 use Rattle.rox_build.specs.declared.tables.Namespace.{Namespace}
-use Rattle.rox_build.specs.Lines.{declaration, entry, lists_of, scope_at, AreStretches}
+use Rattle.rox_build.specs.Lines.{declaration, entry, lists_of, AreScopes}
 use Rattle.rox_build.specs.Prefixes.{Remembers}
-use Rattle.rox_build.specs.Scopes.{entries, others, places_in, ArePlaces}
+use Rattle.rox_build.specs.Scopes.{entries, others, ArePlaces, Once}
 use Rattle.rox_build.specs.Tags.{declares_xml, Declares, Declared}
-use Rattle.std.proofs.Math.ListN.{drop_of_length-le}
 use Rattle.rox_build.specs.declared.tables.Scope.{Scope}
 use Rattle.rox_build.specs.declared.tables.ElementTables.{ElementTables}
 use Rattle.rox_build.specs.Tagged.{KeepsPlaces, lists_in}
-use Rattle.rox_build.specs.Present.{Keeps, IsEntered}
+use Rattle.rox_build.specs.Present.{Keeps}
 use Rattle.rox_build.specs.declared.present.Present.{Present}
 use Rattle.rox_build.proofs.Presenting.{keeps_grown}
 use Rattle.rox_build.proofs.Remembering.{Key, remembers_same}
 use Rattle.rox_build.proofs.Listing.{with_new-append, with_new-more, with_new-front, declares_nothing, listed-none, listed-others}
+use Rattle.rox_build.proofs.Hiding.{once_more}
 use Rattle.rox_build.proofs.Inherits.{slice-rest}
-use Rattle.rox_build.proofs.Stable.{slice-append, all_append, all_drop, all_weaker, map_same, entry-append, scope_at-append, lists-append, lists-push, length-lists, stretches_more, scope_pushed, scope_places, scope_row}
+use Rattle.rox_build.proofs.Stable.{all_append, all_drop, all_weaker, map_same, entry-append}
+use Rattle.rox_build.proofs.Ropes.{lists-append, scopes_more}
 
 -- the URI is refused
 pub uri_refused : (known : List Declaration) (a : Attribute) (h : Held) (f : Fault) → uri_tested a ≡ Err f → declared known a h ≡ Err f
@@ -178,31 +179,13 @@ nothing_declared known before names listed xml ds own o short off d =
 pub lists_above : (above ds : List Declaration) → ds ≡ [] → above ≡ listed above ds
 lists_above above ds e = sym (ap (listed above) e ∙ listed-none above)
 
--- what it declares, and what it inherits
-lists_both : (known : List Declaration) (before : List ℕ) (names seen : List Declaration) (old new more : List ℕ) (xml : Bool) (ds : List Declaration) (own from until end : ℕ) → own ≡ length before → seen ≡ names
-    → end ≡ length new → Declares known before names old xml ds → new ≡ old ++ more
-    → entries seen more ≡ others (entries seen (drop own old)) xml (entries seen (slice_range old from until))
-    → entries names (slice_range new own end) ≡ listed (entries names (slice_range old from until)) ds
-lists_both known before names seen old new more xml ds own from until end o s e d grown inherits =
-    let above = entries names (slice_range old from until) in
-    let mine : drop own old ≡ d.mine = own_places before old d.mine own o d.listed_are in
-    let new_is : new ≡ before ++ (d.mine ++ more) = grown ∙ ap (λ xs. xs ++ more) d.listed_are ∙ append_assoc before d.mine more in
-    let rest : slice_range new own end ≡ d.mine ++ more = ap (slice_range new own) e ∙ slice-rest new own ∙ own_places before new (d.mine ++ more) own o new_is in
-    let gets : entries names more ≡ others (listable_of ds) (declares_xml ds) above =
-    rw s at inherits ∙ ap (λ xs. others (entries names xs) xml above) mine ∙ ap (λ xs. others xs xml above) d.same ∙ ap (λ b. others (listable_of ds) b above) d.xml_is in
-    ap (entries names) rest ∙ map-append (entry names) d.mine more ∙ ap (λ xs. xs ++ entries names more) d.same ∙ ap (λ xs. listable_of ds ++ xs) gets ∙ sym (listed-others above ds)
-
 -- what the scope that it makes lists
-pub lists_made : (known : List Declaration) (before : List ℕ) (names seen : List Declaration) (old new more : List ℕ) (scopes after : List Scope) (s parent : Scope) (xml : Bool) (ds : List Declaration) (own place above : ℕ)
-    → own ≡ length before → seen ≡ names → own ≤ length old → AreStretches own scopes → above < length scopes → parent ≡ get_or scopes above parent → s.from ≡ own → s.until ≡ length new
-    → after ≡ scopes ++ s ∷ [] → place ≡ length scopes → Declares known before names old xml ds → new ≡ old ++ more
-    → entries seen more ≡ others (entries seen (drop own old)) xml (entries seen (slice_range old parent.from parent.until))
-    → scope_at (lists_of names new after) place ≡ listed (scope_at (lists_of names old scopes) above) ds
-lists_made known before names seen old new more scopes after s parent xml ds own place above o here inside stretches below at begins ends push last d grown inherits =
-    let over : entries names (slice_range old parent.from parent.until) ≡ scope_at (lists_of names old scopes) above =
-    sym (scope_row names old scopes above parent below at) in
-    scope_pushed names old new more scopes after s own place grown inside stretches push last ∙ ap (λ i. entries names (slice_range new i s.until)) begins
-    ∙ lists_both known before names seen old new more xml ds own parent.from parent.until s.until o here ends d grown inherits ∙ ap (λ xs. listed xs ds) over
+pub scope_declared : (known : List Declaration) (before : List ℕ) (names : List Declaration) (old : List ℕ) (xml : Bool) (ds above lists : List Declaration) (own : ℕ) → own ≡ length before → Declares known before names old xml ds
+    → lists ≡ entries names (drop own old) ++ others (entries names (drop own old)) xml above → lists ≡ listed above ds
+scope_declared known before names old xml ds above lists own o d is =
+    let mine : drop own old ≡ d.mine = own_places before old d.mine own o d.listed_are in
+    is ∙ ap (λ xs. entries names xs ++ others (entries names xs) xml above) mine ∙ ap (λ xs. xs ++ others xs xml above) d.same ∙ ap (λ b. listable_of ds ++ others (listable_of ds) b above) d.xml_is
+    ∙ sym (listed-others above ds)
 
 -- the listed places with one more, where the table has a pair more or is as before
 pub places_after : (old rows : List Namespace) (listed after : List ℕ) (d : Declaration) (place : ℕ) → map declaration rows ≡ with_new (map declaration old) (d ∷ []) → place < length rows
@@ -225,6 +208,31 @@ remembers_after old rows listed d own keys grown ok h =
     ap (λ ns. entries ns (drop own listed)) (grown ∙ front.1) ∙ map_same (entry (names ++ front.0)) (entry names) (λ i. i < length names) (drop own listed) (entry-append names front.0) mine in
     remembers_same names (map declaration rows) (drop own listed) keys stays h
 
+-- each prefix is listed once, where one more is listed
+pub once_after : (old rows : List Namespace) (listed after : List ℕ) (d : Declaration) (place own : ℕ) → map declaration rows ≡ with_new (map declaration old) (d ∷ [])
+    → after ≡ listed ++ place ∷ [] → own ≤ length listed → ArePlaces (length old) listed → entry (map declaration rows) place ≡ d
+    → is_declared d.prefix (entries (map declaration old) (drop own listed)) ≡ false → Once (entries (map declaration old) (drop own listed)) → Once (entries (map declaration rows) (drop own after))
+once_after old rows listed after d place own grown push own_in ok is absent once =
+    let names = map declaration old in
+    let front = with_new-front names (d ∷ []) in
+    let was = length-map old declaration in
+    let mine : ArePlaces (length names) (drop own listed) = rw was (all_drop (λ i. i < length old) own listed ok) in
+    let stays : entries (map declaration rows) (drop own listed) ≡ entries names (drop own listed) =
+    ap (λ ns. entries ns (drop own listed)) (grown ∙ front.1) ∙ map_same (entry (names ++ front.0)) (entry names) (λ i. i < length names) (drop own listed) (entry-append names front.0) mine in
+    let whole : entries (map declaration rows) (drop own after) ≡ entries names (drop own listed) ++ d ∷ [] =
+    ap (λ xs. entries (map declaration rows) (drop own xs)) push ∙ ap (entries (map declaration rows)) (drop-append-le own listed (place ∷ []) own_in)
+    ∙ map-append (entry (map declaration rows)) (drop own listed) (place ∷ [])
+    ∙ ap (λ x. entries (map declaration rows) (drop own listed) ++ x ∷ []) is ∙ ap (λ xs. xs ++ d ∷ []) stays in
+    subst Once (sym whole) (once_more (entries names (drop own listed)) d once absent)
+
+-- nothing is listed yet
+pub once_none : (names : List Declaration) (listed : List ℕ) (own : ℕ) → own ≡ length listed → Once (entries names (drop own listed))
+once_none names listed own e = subst (λ n. Once (entries names (drop n listed))) (sym e) (all listed)
+  where
+    all : (xs : List ℕ) → Once (entries names (drop (length xs) xs))
+    all [] = tt
+    all (x ∷ xs) = all xs
+
 -- the places of prefixes, where the table has a pair more
 pub kept_after : (old rows : List Namespace) (lists : List (List Declaration)) (d : Declaration) (x : Present) → map declaration rows ≡ with_new (map declaration old) (d ∷ [])
     → Keeps (map declaration old) lists x → Keeps (map declaration rows) lists x
@@ -234,71 +242,12 @@ kept_after old rows lists d x grown h =
 
 -- what scopes list, where the table has a pair more and one more is listed
 pub lists_after : (old rows : List Namespace) (listed after : List ℕ) (d : Declaration) (place own : ℕ) (scopes : List Scope) → map declaration rows ≡ with_new (map declaration old) (d ∷ [])
-    → after ≡ listed ++ place ∷ [] → own ≤ length listed → ArePlaces (length old) listed → AreStretches own scopes
+    → after ≡ listed ++ place ∷ [] → own ≤ length listed → ArePlaces (length old) listed → AreScopes own scopes
     → lists_of (map declaration rows) after scopes ≡ lists_of (map declaration old) listed scopes
 lists_after old rows listed after d place own scopes grown push here ok h =
     let front = with_new-front (map declaration old) (d ∷ []) in
     ap (λ ns. lists_of ns after scopes) (grown ∙ front.1) ∙ ap (λ ls. lists_of (map declaration old ++ front.0) ls scopes) push
-    ∙ lists-append (map declaration old) front.0 listed (place ∷ []) scopes (rw (length-map old declaration) ok) (stretches_more own (length listed) scopes here h)
-
--- ---- the scope that a tag enters
-
-others_none : (ds : List Declaration) → ds ≡ others [] false ds
-others_none [] = refl
-others_none (d ∷ ds) = ap (λ xs. d ∷ xs) (others_none ds)
-
--- that of its parent, where it declares nothing
-pub enters_above : (names : List Declaration) (listed : List ℕ) (scopes : List Scope) (own : ℕ) (xml : Bool) (above : ℕ) → length listed ≤ own → xml ≡ false → above < length scopes
-    → IsEntered names (lists_of names listed scopes) (drop own listed) (places_in listed scopes above) xml above above
-enters_above names listed scopes own xml above none off within =
-    let empty : drop own listed ≡ [] = drop_of_length-le listed none in
-    let is = sym (scope_places names listed scopes above) in
-    record {
-      is = is;
-      within = rw (length-lists names listed scopes) within;
-      made = is ∙ rw (empty, off) (others_none (scope_at (lists_of names listed scopes) above));
-    }
-
--- its own
-pub enters_own : (names seen : List Declaration) (old new more : List ℕ) (scopes after : List Scope) (s parent : Scope) (own place : ℕ) (xml : Bool) (above : ℕ) → seen ≡ names → own ≤ length old
-    → AreStretches own scopes → above < length scopes → parent ≡ get_or scopes above parent → s.from ≡ own → s.until ≡ length new → new ≡ old ++ more → after ≡ scopes ++ s ∷ [] → place ≡ length scopes
-    → entries seen more ≡ others (entries seen (drop own old)) xml (entries seen (slice_range old parent.from parent.until))
-    → IsEntered names (lists_of names new after) (drop own old) (places_in new after place) xml above place
-enters_own names seen old new more scopes after s parent own place xml above here inside stretches below at begins ends grown push last inherits =
-    let lists = lists_of names old scopes in
-    let made = lists-push names old new more scopes after s own grown inside stretches push in
-    let is = sym (scope_places names new after place) in
-    let rest : slice_range new s.from s.until ≡ drop own old ++ more =
-    ap (λ i. slice_range new i s.until) begins ∙ ap (slice_range new own) ends ∙ slice-rest new own ∙ ap (drop own) grown ∙ drop-append-le own old more inside in
-    let n = length-lists names old scopes in
-    let here2 : above < length lists = omega arith in
-    let stays : scope_at (lists_of names new after) above ≡ scope_at lists above =
-    ap (λ ls. scope_at ls above) made ∙ scope_at-append lists (entries names (slice_range new s.from s.until) ∷ []) above here2 in
-    let over : entries names (slice_range old parent.from parent.until) ≡ scope_at (lists_of names new after) above =
-    sym (stays ∙ scope_row names old scopes above parent below at) in
-    let gets : entries names more ≡ others (entries names (drop own old)) xml (scope_at (lists_of names new after) above) =
-    rw here at inherits ∙ ap (others (entries names (drop own old)) xml) over in
-    let m = length-lists names new after in
-    let p = ap length push ∙ length-append scopes (s ∷ []) in
-    record {
-      is = is;
-      within = omega arith;
-      made = is ∙ scope_pushed names old new more scopes after s own place grown inside stretches push last ∙ ap (entries names) rest ∙ map-append (entry names) (drop own old) more
-          ∙ ap (λ xs. entries names (drop own old) ++ xs) gets;
-    }
-
--- what is listed behind others
-pub own_slice : (old new seen more : List ℕ) (own end : ℕ) → own ≤ length old → end ≡ length old → seen ≡ new → new ≡ old ++ more → drop own old ≡ slice_range seen own end
-own_slice old new seen more own end here e is grown =
-    sym (ap (λ xs. slice_range xs own end) (is ∙ grown) ∙ ap (slice_range (old ++ more) own) e ∙ slice-append old more own (length old) here (omega arith) ∙ slice-rest old own)
-
-pub slice_short : (xs : List ℕ) (i j n : ℕ) → j ≤ i + n → length (slice_range xs i j) ≤ n
-slice_short xs i j n le = let t = take_short (j - i) (drop i xs) in omega arith
-  where
-    take_short : (n : ℕ) (xs : List ℕ) → length (take n xs) ≤ n
-    take_short zero xs = omega arith
-    take_short (suc n) [] = omega arith
-    take_short (suc n) (x ∷ xs) = let t = take_short n xs in omega arith
+    ∙ lists-append (map declaration old) front.0 listed (place ∷ []) scopes (rw (length-map old declaration) ok) (scopes_more own (length listed) scopes here h)
 
 -- the places of prefixes, where a scope is more
 pub kept_listed : (a b : ElementTables) → b.namespaces ≡ a.namespaces → b.present ≡ a.present → (more : List (List Declaration)) × (lists_in b ≡ lists_in a ++ more) → KeepsPlaces a → KeepsPlaces b

@@ -6,13 +6,15 @@ use Rattle.rox_grammar.specs.Forest.{Forest}
 use Rattle.rox_grammar.specs.Written.{Item, Declaration}
 use Rattle.rox_grammar.specs.State.{Open}
 use Rattle.rox_build.specs.Lines.{line, declaration, scope_at, NamespaceWithin, KindWithin, AttributeRow, rows_of}
+use Rattle.rox_build.specs.Scopes.{Once}
 use Rattle.rox_build.specs.Tagged.{lists_in}
 use Rattle.rox_build.specs.Shown.{opened, opened_in, names_in, line_in, IsWithin, IsOpenWithin, AreSound, HasEmpty, Shows, Grown}
 use Rattle.rox_build.specs.declared.tables.NodeData.{NodeData}
 use Rattle.rox_build.specs.declared.tables.ElementTables.{ElementTables}
 use Rattle.rox_build.specs.declared.builder.OpenElement.{OpenElement}
 use Rattle.rox_build.specs.declared.builder.Builder.{Builder}
-use Rattle.rox_build.proofs.Stable.{all_weaker, map_same, scope_at-append, length-lists, lines-append, kind_more}
+use Rattle.rox_build.proofs.Stable.{all_weaker, map_same, scope_at-append, lines-append, kind_more}
+use Rattle.rox_build.proofs.Ropes.{length-lists}
 
 opened-append : (lists more : List (List Declaration)) (o : OpenElement) → o.scope < length lists → opened (lists ++ more) o ≡ opened lists o
 opened-append lists more o within = ap (λ (l : List Declaration). record (opened lists o) { scope = l }) (scope_at-append lists more o.scope within)
@@ -36,10 +38,14 @@ grown_counts old new g =
 pub grown_elements : (old new : ElementTables) (os : List OpenElement) → Grown old new → AllByRecursion (IsOpenWithin old) os → AllByRecursion (IsOpenWithin new) os
 grown_elements old new os g h =
     let k = grown_counts old new g in
-    all_weaker (IsOpenWithin old) (IsOpenWithin new) os (λ o x. one o x k.2) h
+    all_weaker (IsOpenWithin old) (IsOpenWithin new) os (λ o x. one o x.0 x.1 k.2) h
   where
-    one : (o : OpenElement) → o.scope < length old.scopes.items → length old.scopes.items ≤ length new.scopes.items → o.scope < length new.scopes.items
-    one o a b = omega arith
+    one : (o : OpenElement) → o.scope < length old.scopes.items → Once (scope_at (lists_in old) o.scope) → length old.scopes.items ≤ length new.scopes.items → IsOpenWithin new o
+    one o a once b =
+        let n = lists_count old in
+        let within : o.scope < length (lists_in old) = omega arith in
+        let same : scope_at (lists_in new) o.scope ≡ scope_at (lists_in old) o.scope = ap (λ ls. scope_at ls o.scope) g.lists ∙ scope_at-append (lists_in old) g.more_lists o.scope within in
+        (omega arith, subst Once (sym same) once)
 
 -- the first scope lists nothing still
 pub grown_empty : (old new : ElementTables) → Grown old new → HasEmpty old → HasEmpty new
@@ -65,7 +71,8 @@ grown_shows end o done b u h sound elements g nodes opens waits joined =
     subst (λ (m : ℕ). AllByRecursion (λ (r : NodeData). KindWithin (length (rows_of t.attributes)) (length (names_in t)) m r.kind) b.nodes.items) (sym m)
     (subst (λ (n : ℕ). AllByRecursion (λ (r : NodeData). KindWithin (length (rows_of t.attributes)) n (length t.scopes.items) r.kind) b.nodes.items) (sym n) h.within) in
     let all_opened : AllByRecursion (λ (o : OpenElement). o.scope < length (lists_in t)) b.opened.items =
-    subst (λ (m : ℕ). AllByRecursion (λ (o : OpenElement). o.scope < m) b.opened.items) (sym m) elements in
+    subst (λ (m : ℕ). AllByRecursion (λ (o : OpenElement). o.scope < m) b.opened.items) (sym m)
+    (all_weaker (IsOpenWithin t) (λ (o : OpenElement). o.scope < length t.scopes.items) b.opened.items (λ o x. x.0) elements) in
     let rows : map (line_in u.tables) b.nodes.items ≡ map (line_in t) b.nodes.items =
     ap (λ (xs : List AttributeRow). map (line xs (names_in u.tables) (lists_in u.tables)) b.nodes.items) g.attributes
     ∙ ap (λ (ns : List Declaration). map (line ((rows_of t.attributes) ++ g.more_attributes) ns (lists_in u.tables)) b.nodes.items) g.names

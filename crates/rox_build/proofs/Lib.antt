@@ -1,6 +1,11 @@
 pub mod DigitLemmas
 pub mod Rows
 pub mod Stable
+pub mod Ropes
+pub mod Leaves
+pub mod Hiding
+pub mod Sharing
+pub mod Below
 pub mod Pairs
 pub mod Indexing
 pub mod Inherits
@@ -33,6 +38,7 @@ pub mod Wholes
 pub mod Seeing
 pub mod Remembering
 pub mod Presenting
+pub mod Finding
 pub mod Asking
 pub mod Items
 pub mod Rooted

@@ -1,5 +1,5 @@
 -- A run that is a line end and bytes that stand for themselves.
-use Rattle.std.proofs.Common.{◌≡◌, ◌<◌, ◌≤◌, ◌==◌, ◌||◌, ◌+◌, ◌-◌, zero, suc, ℕ, Bool, true, false, List, [], ◌∷◌, ◌++◌, Ok, Err, Result, get_or, take, drop, length, slice_index, slice_range, nat_lt, if◌then◌else◌, refl, sym, ap, ◌∙◌, arith, inl, inr, append-nil, subst}
+use Rattle.std.proofs.Common.{◌≡◌, ◌<◌, ◌≤◌, ◌==◌, ◌||◌, ◌+◌, ◌-◌, zero, suc, ℕ, Bool, true, false, List, [], ◌∷◌, Ok, Err, get_or, take, drop, length, slice_index, slice_range, if◌then◌else◌, refl, sym, ap, ◌∙◌, arith, inl, inr, append-nil, subst}
 use Rattle.std.specs.List.{position_or_len}
 use Rattle.std.proofs.lemmas.Bool.Decides.{eqb_tells, leb_tells}
 use Rattle.std.proofs.lemmas.Bool.{lt-ltb, le-ltb}
@@ -10,7 +10,7 @@ use Rattle.rox_grammar.specs.Entities.{Entity}
 use Rattle.rox_grammar.specs.Written.{Text}
 use Rattle.rox_reading.specs.State.{State}
 use Rattle.rox_reading.specs.Lexical.{◌>>=◌}
-use Rattle.rox_reading.specs.Refusals.{Refusal, lifted}
+use Rattle.rox_reading.specs.Refusals.{lifted}
 use Rattle.rox_reading.specs.Values.{run_bit_at, run_part, bytes_of, at_end}
 use Rattle.rox_reading.specs.Machine.{How, with_item, run_parts, at_place}
 use Rattle.rox_build.specs.Parted.{IsLine}

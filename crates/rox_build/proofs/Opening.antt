@@ -19,6 +19,7 @@ use Rattle.rox_build.proofs.PartLemmas.{refuses_by}
 use Rattle.rox_scan.specs.declared.cursor.Cursor.{Cursor}
 use Rattle.rox_scan.specs.declared.failure.Failure.{Failure}
 use Rattle.rox_build.specs.Lines.{node, declaration, attribute, scope_at, NamespaceWithin, AttributeRow, rows_of}
+use Rattle.rox_build.specs.Scopes.{Once}
 use Rattle.rox_build.specs.Tagged.{Tagged, lists_in}
 use Rattle.rox_build.specs.Shown.{names_in, IsWithin, AreSound, IsOpenWithin, Fine, Grown, IsNode, IsOpening, Adds, Stepped}
 use Rattle.std.specs.Result.{OnOk}
@@ -103,7 +104,7 @@ fine_by old new t above tag os h f =
       few_attributes = h.element.few;
     }
 
-pub fine_opened : (t : ElementTables) (os qs : List OpenElement) (x : OpenElement) → Fine t os → qs ≡ os ++ x ∷ [] → x.scope < length t.scopes.items → Fine t qs
+pub fine_opened : (t : ElementTables) (os qs : List OpenElement) (x : OpenElement) → Fine t os → qs ≡ os ++ x ∷ [] → IsOpenWithin t x → Fine t qs
 fine_opened t os qs x f is within =
     record { sound = f.sound; elements = rw is (all_append (IsOpenWithin t) os (x ∷ []) f.elements (within, tt)); empty = f.empty; kept = f.kept; few_names = f.few_names; few_attributes = f.few_attributes }
 
@@ -182,8 +183,8 @@ fine_kept r t os u f tables opens = always r (Fine u.tables u.opened.items) (sub
 
 pub fine_more : (r : Result (Unit {0}) Failure) (t : ElementTables) (os : List OpenElement) (u : Builder) (tag : StartTag) → Fine t os → u.tables ≡ t
     → OnOk r ((x : OpenElement) × (u.opened.items ≡ os ++ x ∷ []) × (x.scope ≡ tag.element.scope))
-    → tag.element.scope < length t.scopes.items → OnOk r (Fine u.tables u.opened.items)
-fine_more (Ok x) t os u tag f tables (o, is, scope) within =
-    let w : o.scope < length t.scopes.items = subst (λ (s : ℕ). s < length t.scopes.items) (sym scope) within in
+    → tag.element.scope < length t.scopes.items → Once (scope_at (lists_in t) tag.element.scope) → OnOk r (Fine u.tables u.opened.items)
+fine_more (Ok x) t os u tag f tables (o, is, scope) within once =
+    let w : IsOpenWithin t o = subst (λ (s : ℕ). (s < length t.scopes.items) × Once (scope_at (lists_in t) s)) (sym scope) (within, once) in
     subst (λ (t : ElementTables). Fine t u.opened.items) (sym tables) (fine_opened t os u.opened.items o f is w)
-fine_more (Err e) t os u tag f tables h within = tt
+fine_more (Err e) t os u tag f tables h within once = tt

@@ -1,8 +1,8 @@
 -- The places of prefixes, as scopes are entered and left.
-use Rattle.std.proofs.Common.{◌≡◌, ◌≢◌, ◌==◌, ℕ, ◌&&◌, ◌||◌, not, filter, add-one, drop-cons, ◌+◌, ◌-◌, ◌≤◌, ◌<◌, take, get_or, bytes_eq, Bor, Bool, true, false, cond, List, [], ◌∷◌, ◌++◌, length, map, drop, refl, sym, ap, subst, ◌∙◌, arith, length-append, Option, Some, None}
-use Rattle.std.specs.List.{AllByRecursion}
+use Rattle.std.proofs.Common.{◌≡◌, ◌≢◌, ◌==◌, ℕ, ◌&&◌, ◌||◌, not, filter, add-one, drop-cons, reverse, ◌+◌, ◌-◌, ◌≤◌, ◌<◌, take, get_or, bytes_eq, Bor, Bool, true, false, cond, List, [], ◌∷◌, ◌++◌, length, map, drop, refl, sym, ap, subst, ◌∙◌, arith, length-append, Option, Some, None}
+use Rattle.std.specs.List.{AllByRecursion, slice_range}
 use Rattle.std.specs.Option.{option_map, option_to_list, IfSome, IfNone}
-use Rattle.std.proofs.lemmas.List.{drop-append-le, append-nil, length-map, take_all, take_more}
+use Rattle.std.proofs.lemmas.List.{drop-append-le, append-nil, length-map, take_all, take_more, reverse-append}
 use Rattle.std.proofs.lemmas.Bool.{eq-eqb, ne_eqb}
 use Rattle.std.proofs.Math.ListN.{drop_of_length-le}
 use Rattle.rox_grammar.specs.Written.{Declaration}
@@ -13,7 +13,8 @@ use Rattle.rox_build.specs.Scopes.{prefix_view, entries, ArePlaces, others}
 use Rattle.std.specs.BTreeMap.{BTreeMap, get_by}
 use Rattle.std.specs.Cmp.Lexicographic.{slice_cmp}
 use Rattle.std.specs.Ordering.{nat_cmp}
-use Rattle.rox_build.specs.Present.{flat, found_at, found, restored, IsBound, Stacked, Keeps, Finds, is_innermost}
+use Rattle.rox_build.specs.Present.{flat, found_at, found, place_in, namespace_at, restored, IsBound, Stacked, Keeps, Finds, is_innermost}
+use Rattle.rox_build.specs.declared.present.Place.{Place}
 use Rattle.rox_build.specs.declared.present.Replaced.{Replaced}
 use Rattle.rox_build.specs.declared.present.Layer.{Layer}
 use Rattle.rox_build.specs.declared.present.Present.{Present}
@@ -22,6 +23,7 @@ use Rattle.rox_grammar.specs.Words.{word_text}
 use Rattle.rox_grammar.specs.WellNamed.{is_xml}
 use Rattle.rox_build.proofs.Listing.{same_prefix-sym}
 use Rattle.rox_build.proofs.Stable.{entry-append, scope_at-append}
+use Rattle.rox_build.proofs.Inherits.{slice-more}
 use Rattle.rox_build.proofs.Pairs.{same_prefix-true, declared_none, place_at, entry-get}
 
 abbrev pub Places : Type 0
@@ -29,11 +31,11 @@ Places = Option (List ℕ) → Option ℕ
 
 restored-append : (rs : List Replaced) (r : Replaced) (f : Places) (p : Option (List ℕ)) → restored (rs ++ r ∷ []) f p ≡ restored rs (restored (r ∷ []) f) p
 restored-append [] r f p = refl
-restored-append (x ∷ rs) r f p = ap (λ (v : Option ℕ). cond (same_prefix (prefix_view x.prefix) p) x.before v) (restored-append rs r f p)
+restored-append (x ∷ rs) r f p = ap (λ (v : Option ℕ). cond (same_prefix (prefix_view x.prefix) p) (namespace_at x.before) v) (restored-append rs r f p)
 
 restored-same : (rs : List Replaced) (f g : Places) (p : Option (List ℕ)) → f p ≡ g p → restored rs f p ≡ restored rs g p
 restored-same [] f g p h = h
-restored-same (x ∷ rs) f g p h = ap (λ (v : Option ℕ). cond (same_prefix (prefix_view x.prefix) p) x.before v) (restored-same rs f g p h)
+restored-same (x ∷ rs) f g p h = ap (λ (v : Option ℕ). cond (same_prefix (prefix_view x.prefix) p) (namespace_at x.before) v) (restored-same rs f g p h)
 
 bound-same : (names : List Declaration) (f g : Places) (ds : List Declaration) → ((p : Option (List ℕ)) → f p ≡ g p) → IsBound names f ds → IsBound names g ds
 bound-same names f g ds same h = record {
@@ -43,7 +45,7 @@ bound-same names f g ds same h = record {
 
 -- ---- one more is replaced
 
-replaced_one : (r : Replaced) (f g : Places) (place : Option ℕ) (p : Option (List ℕ)) → r.before ≡ f (prefix_view r.prefix)
+replaced_one : (r : Replaced) (f g : Places) (place : Option ℕ) (p : Option (List ℕ)) → namespace_at r.before ≡ f (prefix_view r.prefix)
     → g p ≡ cond (same_prefix (prefix_view r.prefix) p) place (f p) → restored (r ∷ []) g p ≡ f p
 replaced_one r f g place p before is = by_cases (same_prefix (prefix_view r.prefix) p) refl
   where
@@ -52,7 +54,7 @@ replaced_one r f g place p before is = by_cases (same_prefix (prefix_view r.pref
     by_cases false e = rw e (rw e at is)
 
 pub stacked_put : (names : List Declaration) (lists : List (List Declaration)) (es : List Replaced) (r : Replaced) (f g : Places) (place : Option ℕ) (least : ℕ) (ls : List Layer)
-    → r.before ≡ f (prefix_view r.prefix) → ((p : Option (List ℕ)) → g p ≡ cond (same_prefix (prefix_view r.prefix) p) place (f p))
+    → namespace_at r.before ≡ f (prefix_view r.prefix) → ((p : Option (List ℕ)) → g p ≡ cond (same_prefix (prefix_view r.prefix) p) place (f p))
     → Stacked names lists es f least ls → Stacked names lists (es ++ r ∷ []) g least ls
 stacked_put names lists es r f g place least [] before is h = tt
 stacked_put names lists es r f g place least (l ∷ ls) before is (low, high, within, bound, rest) =
@@ -65,7 +67,7 @@ stacked_put names lists es r f g place least (l ∷ ls) before is (low, high, wi
 -- ---- the last one is taken back
 
 pub stacked_back : (names : List Declaration) (lists : List (List Declaration)) (es : List Replaced) (r : Replaced) (f g : Places) (least : ℕ) (ls : List Layer)
-    → ((p : Option (List ℕ)) → g p ≡ cond (same_prefix (prefix_view r.prefix) p) r.before (f p)) → AllByRecursion (λ l. l.count ≤ length es) ls
+    → ((p : Option (List ℕ)) → g p ≡ cond (same_prefix (prefix_view r.prefix) p) (namespace_at r.before) (f p)) → AllByRecursion (λ l. l.count ≤ length es) ls
     → Stacked names lists (es ++ r ∷ []) f least ls → Stacked names lists es g least ls
 stacked_back names lists es r f g least [] is few h = tt
 stacked_back names lists es r f g least (l ∷ ls) is (here, few) (low, high, within, bound, rest) =
@@ -115,15 +117,24 @@ stacked_push names lists es f least (x ∷ ls) l e low within bound (a, b, w, x-
 
 -- ---- a prefix that is given a place
 
-chosen : (b : Bool) (place : Option ℕ) (o : Option (Option ℕ)) → flat (cond b (Some place) o) ≡ cond b place (flat o)
+chosen : (b : Bool) (place : Option Place) (o : Option (Option Place)) → flat (cond b (Some place) o) ≡ cond b place (flat o)
 chosen true place o = refl
 chosen false place o = refl
 
-pub found_set : (default place : Option ℕ) (old new : BTreeMap (Bor (List ℕ)) (Option ℕ)) (prefix : List ℕ) (p : Option (List ℕ))
+pub found_set : (default place : Option Place) (old new : BTreeMap (Bor (List ℕ)) (Option Place)) (prefix : List ℕ) (p : Option (List ℕ))
     → ((q : List ℕ) → get_by (λ k. slice_cmp nat_cmp q k.now) new ≡ cond (bytes_eq prefix q) (Some place) (get_by (λ k. slice_cmp nat_cmp q k.now) old))
     → found_at default new p ≡ cond (same_prefix (Some prefix) p) place (found_at default old p)
 found_set default place old new prefix None h = refl
 found_set default place old new prefix (Some q) h = ap flat (h q) ∙ chosen (bytes_eq prefix q) place (get_by (λ k. slice_cmp nat_cmp q k.now) old)
+
+pub namespace_chosen : (b : Bool) (place o : Option Place) → namespace_at (cond b place o) ≡ cond b (namespace_at place) (namespace_at o)
+namespace_chosen true place o = refl
+namespace_chosen false place o = refl
+
+-- so the namespaces of others stay
+pub found_put : (old new : Present) (prefix : Option (List ℕ)) (place : Option Place) → ((p : Option (List ℕ)) → place_in new p ≡ cond (same_prefix prefix p) place (place_in old p))
+    → (p : Option (List ℕ)) → found new p ≡ cond (same_prefix prefix p) (namespace_at place) (found old p)
+found_put old new prefix place h p = ap namespace_at (h p) ∙ namespace_chosen (same_prefix prefix p) place (place_in old p)
 
 -- the last of some
 pub last_split : (xs : List Layer) (x : Layer) → 0 < length xs → x ≡ get_or xs (length xs - 1) x → xs ≡ take (length xs - 1) xs ++ x ∷ []
@@ -252,23 +263,47 @@ bound_more names ds f g place here is h = record {
 pub drop_one : (xs : List ℕ) (i d : ℕ) → i < length xs → drop i xs ≡ get_or xs i d ∷ drop (i + 1) xs
 drop_one xs i d lt = rw (add-one, drop-cons xs i d) refl
 
--- the places from this one on
-pub bound_next : (rows : List Namespace) (places : List ℕ) (i n turn : ℕ) (item : Namespace) (ds : List Declaration) (f g : Places) → ArePlaces (length rows) places → n ≡ length places → turn < n → i ≡ n - 1 - turn
-    → ((p : Option (List ℕ)) → g p ≡ cond (same_prefix (declaration (get_or rows (get_or places i 0) item)).prefix p) (Some (get_or places i 0)) (f p))
-    → IsBound (map declaration rows) f (entries (map declaration rows) (drop (length places - turn) places) ++ ds)
-    → IsBound (map declaration rows) g (entries (map declaration rows) (drop (length places - (turn + 1)) places) ++ ds)
-bound_next rows places i n turn item ds f g ok count lt at is h =
+-- what is listed at this position in front
+pub bound_here : (rows : List Namespace) (listed : List ℕ) (i : ℕ) (item : Namespace) (ds : List Declaration) (f g : Places) → ArePlaces (length rows) listed → i < length listed
+    → ((p : Option (List ℕ)) → g p ≡ cond (same_prefix (declaration (get_or rows (get_or listed i 0) item)).prefix p) (Some (get_or listed i 0)) (f p))
+    → IsBound (map declaration rows) f ds → IsBound (map declaration rows) g (entry (map declaration rows) (get_or listed i 0) ∷ ds)
+bound_here rows listed i item ds f g ok inside is h =
     let names = map declaration rows in
-    let place = get_or places i 0 in
-    let inside : i < length places = omega arith in
-    let here : place < length rows = place_at (length rows) places i 0 ok inside in
+    let place = get_or listed i 0 in
+    let here : place < length rows = place_at (length rows) listed i 0 ok inside in
     let here2 : place < length names = rw (length-map rows declaration) here in
     let e : declaration (get_or rows place item) ≡ entry names place = sym (entry-get rows place item here) in
+    bound_more names _ f g place here2 (λ p. is p ∙ ap (λ (d : Declaration). cond (same_prefix d.prefix p) (Some place) (f p)) e) h
+
+-- from the back of these places on: none, one more, all
+pub bound_none : (names : List Declaration) (places : List ℕ) (f : Places) → IsBound names f [] → IsBound names f (entries names (drop (length places - 0) places))
+bound_none names places f h =
+    let none : drop (length places - 0) places ≡ [] = drop_of_length-le places (omega arith) in
+    subst (λ xs. IsBound names f (entries names xs)) (sym none) h
+
+pub bound_from : (names : List Declaration) (places : List ℕ) (turn : ℕ) (g : Places) (place : ℕ) → turn < length places → place ≡ get_or places (length places - 1 - turn) 0
+    → IsBound names g (entry names place ∷ entries names (drop (length places - turn) places)) → IsBound names g (entries names (drop (length places - (turn + 1)) places))
+bound_from names places turn g place lt at h =
+    let i = length places - 1 - turn in
+    let inside : i < length places = omega arith in
     let first : length places - (turn + 1) ≡ i = omega arith in
     let then : length places - turn ≡ i + 1 = omega arith in
-    let all : entries names (drop (length places - (turn + 1)) places) ++ ds ≡ entry names place ∷ (entries names (drop (length places - turn) places) ++ ds) =
-    ap (λ k. entries names (drop k places) ++ ds) first ∙ ap (λ xs. entries names xs ++ ds) (drop_one places i 0 inside) ∙ ap (λ k. entry names place ∷ (entries names (drop k places) ++ ds)) (sym then) in
-    subst (IsBound names g) (sym all) (bound_more names _ f g place here2 (λ p. is p ∙ ap (λ (d : Declaration). cond (same_prefix d.prefix p) (Some place) (f p)) e) h)
+    let all : entries names (drop (length places - (turn + 1)) places) ≡ entry names place ∷ entries names (drop (length places - turn) places) =
+    ap (λ k. entries names (drop k places)) first ∙ ap (entries names) (drop_one places i 0 inside) ∙ ap (λ p. entry names p ∷ entries names (drop (i + 1) places)) (sym at)
+    ∙ ap (λ k. entry names place ∷ entries names (drop k places)) (sym then) in
+    subst (IsBound names g) (sym all) h
+
+pub bound_all : (names : List Declaration) (places : List ℕ) (turn : ℕ) (f : Places) → length places ≤ turn → IsBound names f (entries names (drop (length places - turn) places)) → IsBound names f (entries names places)
+bound_all names places turn f le h =
+    let none : length places - turn ≡ 0 = omega arith in
+    subst (λ n. IsBound names f (entries names (drop n places))) none h
+
+-- a stretch from its back: nothing, and one more
+pub reverse_none : (xs : List ℕ) (i : ℕ) → reverse (slice_range xs i i) ≡ []
+reverse_none xs i = let none : i - i ≡ 0 = omega arith in ap (λ n. reverse (take n (drop i xs))) none
+
+pub reverse_more : (xs : List ℕ) (i j : ℕ) → i ≤ j → j < length xs → reverse (slice_range xs i (j + 1)) ≡ get_or xs j 0 ∷ reverse (slice_range xs i j)
+reverse_more xs i j le lt = ap reverse (slice-more xs i j 0 le lt) ∙ reverse-append (slice_range xs i j) (get_or xs j 0 ∷ [])
 
 -- ---- tables that grow
 
@@ -309,26 +344,18 @@ keeps_grown names next lists after x more more-lists n l h = record {
 
 -- ---- what is looked up
 
-pub bound_of : (names : List Declaration) (listed : List ℕ) (x : Present) → Finds names listed x → 16 < length listed → IsBound names (found x) (entries names listed)
-unfolding Finds
-bound_of names listed x h many = h many
+-- among few places
+pub looked_few : (rows : List Namespace) (places : List ℕ) (p : Option (List ℕ)) (o : Option ℕ)
+    → IfSome o (λ i. (i < length rows) × (uri_of (entries (map declaration rows) places) p ≡ Some (entry (map declaration rows) i).uri))
+    → IfNone o (uri_of (entries (map declaration rows) places) p ≡ None)
+    → OptionWithin (length rows) o × (option_map (λ i. (entry (map declaration rows) i).uri) o ≡ uri_of (entries (map declaration rows) places) p)
+looked_few rows places p None there absent = (tt, sym absent)
+looked_few rows places p (Some i) there absent = (there.0, sym there.1)
 
-pub finds_by : (names : List Declaration) (listed : List ℕ) (x : Present) → IsBound names (found x) (entries names listed) → Finds names listed x
-unfolding Finds
-finds_by names listed x h = λ many. h
+-- by the places of prefixes
+pub finds_bound : (names : List Declaration) (x : Present) (ds : List Declaration) → IsBound names (found x) ds → Finds names None x ds
+finds_bound names x ds h = record { uris = h.uris }
 
-pub finds_few : (names : List Declaration) (listed : List ℕ) (x : Present) → length listed < 17 → Finds names listed x
-unfolding Finds
-finds_few names listed x few = λ many. absurd (omega arith)
-
-pub found_there : (rows : List Namespace) (ds : List Declaration) (f : Places) (p : Option (List ℕ)) (o : Option ℕ) → o ≡ f p → IsBound (map declaration rows) f ds
-    → IfSome o (λ i. (i < length rows) × (uri_of ds p ≡ Some (entry (map declaration rows) i).uri))
-found_there rows ds f p None is h = tt
-found_there rows ds f p (Some i) is h =
-    let names = map declaration rows in
-    let here : i < length names = subst (OptionWithin (length names)) (sym is) (h.within p) in
-    (subst (λ n. i < n) (length-map rows declaration) here, sym (h.uris p) ∙ ap (option_map (λ i. (entry names i).uri)) (sym is))
-
-pub found_absent : (names : List Declaration) (ds : List Declaration) (f : Places) (p : Option (List ℕ)) (o : Option ℕ) → o ≡ f p → IsBound names f ds → IfNone o (uri_of ds p ≡ None)
-found_absent names ds f p None is h = sym (h.uris p) ∙ ap (option_map (λ i. (entry names i).uri)) (sym is)
-found_absent names ds f p (Some i) is h = tt
+-- among the places that are listed
+pub finds_few : (names : List Declaration) (places : List ℕ) (x : Present) (ds : List Declaration) → ds ≡ entries names places → Finds names (Some places) x ds
+finds_few names places x ds is = record { uris = λ p. ap (λ xs. uri_of xs p) (sym is) }

@@ -1,8 +1,8 @@
 -- What rows show stays as the tables behind them grow.
-use Rattle.std.proofs.Common.{◌≡◌, ℕ, zero, suc, ◌-◌, ◌<◌, ◌≤◌, List, [], ◌∷◌, ◌++◌, length, map, take, drop, get_or, refl, sym, ap, subst, ◌∙◌, arith, Option, Some, None}
+use Rattle.std.proofs.Common.{◌≡◌, ℕ, zero, suc, ◌-◌, ◌<◌, ◌≤◌, List, [], ◌∷◌, ◌++◌, length, map, take, drop, refl, ap, ◌∙◌, arith, Option, Some, None}
 use Rattle.std.specs.List.{AllByRecursion, slice_range}
 use Rattle.std.specs.Option.{option_map}
-use Rattle.std.proofs.lemmas.List.{take-append-le, drop-append-le, length-map, map-append}
+use Rattle.std.proofs.lemmas.List.{take-append-le, drop-append-le}
 use Rattle.rox_grammar.specs.Written.{Declaration}
 use Rattle.rox_grammar.specs.Tree as tree
 use Rattle.rox_build.specs.Storage.{storage_bytes, is_borrowed}
@@ -11,9 +11,7 @@ use Rattle.rox_build.specs.declared.tables.AttributeNamespace.TheVariants as spa
 use Rattle.rox_build.specs.declared.tables.NodeKind.{NodeKind}
 use Rattle.rox_build.specs.declared.tables.NodeKind.TheVariants as kind
 use Rattle.rox_build.specs.declared.tables.NodeData.{NodeData}
-use Rattle.rox_build.specs.Lines.{Line, line, node, attribute, entry, lists_of, scope_at, namespace_of, NamespaceWithin, OptionWithin, KindWithin, AreStretches, AttributeRow}
-use Rattle.rox_build.specs.Scopes.{entries, places_in, ArePlaces}
-use Rattle.rox_build.specs.declared.tables.Scope.{Scope}
+use Rattle.rox_build.specs.Lines.{Line, line, node, attribute, entry, scope_at, namespace_of, NamespaceWithin, OptionWithin, KindWithin, AttributeRow}
 
 -- ---- lists
 
@@ -80,86 +78,6 @@ pub scope_at-append : (lists more : List (List Declaration)) (i : ℕ) → i < l
 scope_at-append [] more i h = absurd (omega arith)
 scope_at-append (l ∷ ls) more zero h = refl
 scope_at-append (l ∷ ls) more (suc i) h = scope_at-append ls more i (omega arith)
-
-scope_at-last : (lists : List (List Declaration)) (l : List Declaration) (i : ℕ) → i ≡ length lists → scope_at (lists ++ l ∷ []) i ≡ l
-scope_at-last [] l i e = rw e refl
-scope_at-last (x ∷ xs) l zero e = absurd (omega arith)
-scope_at-last (x ∷ xs) l (suc i) e = scope_at-last xs l i (omega arith)
-
--- what scopes list stays as more places are listed
-lists-listed : (names : List Declaration) (ls moreL : List ℕ) (scopes : List Scope) → AreStretches (length ls) scopes → lists_of names (ls ++ moreL) scopes ≡ lists_of names ls scopes
-lists-listed names ls moreL scopes h =
-    map_same (λ (s : Scope). map (entry names) (slice_range (ls ++ moreL) s.from s.until)) (λ (s : Scope). map (entry names) (slice_range ls s.from s.until))
-    (λ (s : Scope). (s.from ≤ s.until) × (s.until ≤ length ls)) scopes (λ s k. ap (map (entry names)) (slice-append ls moreL s.from s.until k.0 k.1)) h
-
--- and as the table of namespaces grows
-lists-names : (names more : List Declaration) (ls : List ℕ) (scopes : List Scope) → AllByRecursion (λ i. i < length names) ls → lists_of (names ++ more) ls scopes ≡ lists_of names ls scopes
-lists-names names more ls [] all = refl
-lists-names names more ls (s ∷ ss) all =
-    ap (λ (l : List Declaration). l ∷ lists_of (names ++ more) ls ss)
-    (map_same (entry (names ++ more)) (entry names) (λ i. i < length names) (slice_range ls s.from s.until) (entry-append names more) (all_slice (λ i. i < length names) ls s.from s.until all))
-    ∙ ap (λ (l : List (List Declaration)). map (entry names) (slice_range ls s.from s.until) ∷ l) (lists-names names more ls ss all)
-
-pub lists-append : (names more : List Declaration) (ls moreL : List ℕ) (scopes : List Scope) → AllByRecursion (λ i. i < length names) ls → AreStretches (length ls) scopes
-    → lists_of (names ++ more) (ls ++ moreL) scopes ≡ lists_of names ls scopes
-lists-append names more ls moreL scopes all h = lists-listed (names ++ more) ls moreL scopes h ∙ lists-names names more ls scopes all
-
--- how many there are
-pub length-lists : (names : List Declaration) (ls : List ℕ) (scopes : List Scope) → length (lists_of names ls scopes) ≡ length scopes
-length-lists names ls scopes = length-map scopes (λ s. map (entry names) (slice_range ls s.from s.until))
-
-pub stretches_more : (n m : ℕ) (scopes : List Scope) → n ≤ m → AreStretches n scopes → AreStretches m scopes
-stretches_more n m scopes le h =
-    all_weaker (λ (s : Scope). (s.from ≤ s.until) × (s.until ≤ n)) (λ (s : Scope). (s.from ≤ s.until) × (s.until ≤ m)) scopes (λ s k. one s k) h
-  where
-    one : (s : Scope) → (s.from ≤ s.until) × (s.until ≤ n) → (s.from ≤ s.until) × (s.until ≤ m)
-    one s (a, b) = (a, omega arith)
-
--- one scope more
-pub lists-push : (names : List Declaration) (old new more : List ℕ) (scopes after : List Scope) (s : Scope) (own : ℕ) → new ≡ old ++ more → own ≤ length old → AreStretches own scopes → after ≡ scopes ++ s ∷ []
-    → lists_of names new after ≡ lists_of names old scopes ++ entries names (slice_range new s.from s.until) ∷ []
-lists-push names old new more scopes after s own grown here h push =
-    let stays : lists_of names new scopes ≡ lists_of names old scopes = ap (λ ls. lists_of names ls scopes) grown ∙ lists-listed names old more scopes (stretches_more own (length old) scopes here h) in
-    ap (lists_of names new) push ∙ map-append (λ (s : Scope). entries names (slice_range new s.from s.until)) scopes (s ∷ []) ∙ ap (λ xs. xs ++ entries names (slice_range new s.from s.until) ∷ []) stays
-
--- what it lists
-pub scope_pushed : (names : List Declaration) (old new more : List ℕ) (scopes after : List Scope) (s : Scope) (own place : ℕ) → new ≡ old ++ more → own ≤ length old → AreStretches own scopes
-    → after ≡ scopes ++ s ∷ [] → place ≡ length scopes → scope_at (lists_of names new after) place ≡ entries names (slice_range new s.from s.until)
-scope_pushed names old new more scopes after s own place grown here h push last =
-    ap (λ ls. scope_at ls place) (lists-push names old new more scopes after s own grown here h push)
-    ∙ scope_at-last (lists_of names old scopes) (entries names (slice_range new s.from s.until)) place (last ∙ sym (length-lists names old scopes))
-
-pub stretches_push : (n own : ℕ) (scopes after : List Scope) (s : Scope) → own ≤ n → AreStretches own scopes → after ≡ scopes ++ s ∷ [] → s.from ≤ s.until → s.until ≤ n → AreStretches n after
-stretches_push n own scopes after s here h push ordered within =
-    rw push (all_append (λ (s : Scope). (s.from ≤ s.until) × (s.until ≤ n)) scopes (s ∷ []) (stretches_more own n scopes here h) ((ordered, within), tt))
-
--- what a scope lists stands at its places
-pub scope_places : (names : List Declaration) (ls : List ℕ) (scopes : List Scope) (i : ℕ) → scope_at (lists_of names ls scopes) i ≡ entries names (places_in ls scopes i)
-scope_places names ls [] i = refl
-scope_places names ls (s ∷ ss) zero = refl
-scope_places names ls (s ∷ ss) (suc i) = scope_places names ls ss i
-
--- its places are those of its row
-pub places_at : (ls : List ℕ) (scopes : List Scope) (i : ℕ) (s d : Scope) → i < length scopes → s ≡ get_or scopes i d → places_in ls scopes i ≡ slice_range ls s.from s.until
-places_at ls [] i s d h e = absurd (omega arith)
-places_at ls (x ∷ xs) zero s d h e = ap (λ (s : Scope). slice_range ls s.from s.until) (sym e)
-places_at ls (x ∷ xs) (suc i) s d h e = places_at ls xs i s d (omega arith) e
-
--- so a scope lists what stands at the places of its row
-pub scope_row : (names : List Declaration) (ls : List ℕ) (scopes : List Scope) (i : ℕ) (s : Scope) → i < length scopes → s ≡ get_or scopes i s
-    → scope_at (lists_of names ls scopes) i ≡ entries names (slice_range ls s.from s.until)
-scope_row names ls scopes i s h e = scope_places names ls scopes i ∙ ap (entries names) (places_at ls scopes i s s h e)
-
--- a row is a stretch
-pub stretch_at : (n : ℕ) (scopes : List Scope) (i : ℕ) (s d : Scope) → i < length scopes → s ≡ get_or scopes i d → AreStretches n scopes → (s.from ≤ s.until) × (s.until ≤ n)
-stretch_at n [] i s d h e all = absurd (omega arith)
-stretch_at n (x ∷ xs) zero s d h e (p, all) = subst (λ (s : Scope). (s.from ≤ s.until) × (s.until ≤ n)) (sym e) p
-stretch_at n (x ∷ xs) (suc i) s d h e (p, all) = stretch_at n xs i s d (omega arith) e all
-
-pub all_places : (n : ℕ) (ls : List ℕ) (scopes : List Scope) (i : ℕ) → ArePlaces n ls → ArePlaces n (places_in ls scopes i)
-all_places n ls [] i h = tt
-all_places n ls (s ∷ ss) zero h = all_slice (λ i. i < n) ls s.from s.until h
-all_places n ls (s ∷ ss) (suc i) h = all_places n ls ss i h
 
 -- ---- rows
 

@@ -1,5 +1,5 @@
 -- A start tag as a whole.
-use Rattle.std.proofs.Common.{◌≡◌, ℕ, ◌+◌, ◌≤◌, Bool, true, false, if◌then◌else◌, List, [], ◌++◌, length, map, bytes_eq, refl, sym, ap, ◌∙◌, Ok, Err, le-ltb}
+use Rattle.std.proofs.Common.{◌≡◌, ℕ, ◌+◌, ◌≤◌, Bool, true, false, if◌then◌else◌, List, [], ◌++◌, length, map, bytes_eq, refl, sym, ap, subst, ◌∙◌, Ok, Err, le-ltb}
 use Rattle.std.proofs.lemmas.List.{append-nil}
 use Rattle.rox_grammar.specs.declared.fault.Fault.{Fault}
 use Rattle.rox_grammar.specs.declared.fault.Word.TheVariants.{Xmlns}
@@ -21,8 +21,8 @@ use Rattle.rox_build.proofs.PartLemmas.{refuses_by}
 use Rattle.rox_build.specs.declared.tables.ElementTables.{ElementTables}
 use Rattle.rox_build.specs.declared.taken.Taken.{Taken}
 use Rattle.rox_build.specs.declared.tag.StartTag.{StartTag}
-use Rattle.rox_build.specs.Lines.{declaration, lists_of, AreStretches, rows_of}
-use Rattle.rox_build.specs.Scopes.{ArePlaces}
+use Rattle.rox_build.specs.Lines.{declaration, lists_of, AreScopes, rows_of}
+use Rattle.rox_build.specs.Scopes.{ArePlaces, Once}
 use Rattle.rox_build.specs.Tags.{taken_view, Holding}
 use Rattle.rox_build.specs.Tagged.{IsElement, Tagged, KeepsPlaces, lists_in, scope_in_tables}
 
@@ -96,10 +96,10 @@ pub tagged : (o a s e : ElementTables) (t : StartTag) (above : List Declaration)
     → name_view t.name ≡ name → t.name_end ≡ n → a.attributes ≡ o.attributes
     → Holding (map declaration o.namespaces.items.items) o.listed.items (map declaration a.namespaces.items.items) a.listed.items xml taken h → length a.namespaces.items.items ≤ most_pairs
     → s.namespaces ≡ a.namespaces → s.attributes ≡ a.attributes → lists_in a ≡ lists_in o → (more : List (List Declaration)) × (lists_in s ≡ lists_in a ++ more) → ArePlaces (length s.namespaces.items.items) s.listed.items
-    → AreStretches (length s.listed.items) s.scopes.items
+    → AreScopes (length s.listed.items) s.scopes.items
     → scope_in_tables s scope ≡ listed above h.own → e.namespaces ≡ s.namespaces → e.listed ≡ s.listed → e.scopes ≡ s.scopes → IsElement s e t.element (scope_in_tables s scope) name (map taken_view taken)
-    → KeepsPlaces s → e.present ≡ s.present → Tagged o e t above (record { name = name; name_end = n; declarations = h.own; attributes = h.attributes })
-tagged o a s e t above name n h xml taken scope is ends same hold few names attributes before (more, lists_are) places stretches lists names' listed' scopes' k known present' =
+    → KeepsPlaces s → e.present ≡ s.present → Once (scope_in_tables s scope) → Tagged o e t above (record { name = name; name_end = n; declarations = h.own; attributes = h.attributes })
+tagged o a s e t above name n h xml taken scope is ends same hold few names attributes before (more, lists_are) places stretches lists names' listed' scopes' k known present' once =
     let d = hold.declares in
     let kept = attributes ∙ same in
     let after : lists_in e ≡ lists_in s =
@@ -116,6 +116,7 @@ tagged o a s e t above name n h xml taken scope is ends same hold few names attr
       places = rw (names', listed') places;
       scopes = rw (listed', scopes') stretches;
       kept = rw (names', listed', scopes', present') known;
+      once = subst Once (sym k.lists) once;
       element = record {
         attributes = record {
           more = k.attributes.more;

@@ -17,6 +17,7 @@ pub mod Index
 pub mod Seen
 pub mod Prefixes
 pub mod Present
+pub mod Ropes
 pub mod Asking
 pub mod Built
 pub mod Wholes

@@ -1,5 +1,5 @@
 -- The rows of a tree, and the tree that tables hold.
-use Rattle.std.specs.Prelude.{◌≡◌, true, ℕ, ◌+◌, ◌^◌, ◌<◌, ◌≤◌, List, [], ◌∷◌, ◌++◌, Option, Some, None, length, map, slice_range}
+use Rattle.std.specs.Prelude.{◌≡◌, true, ℕ, ◌+◌, ◌-◌, ◌^◌, ◌<◌, ◌≤◌, List, [], ◌∷◌, ◌++◌, Option, Some, None, length, map, reverse, get_or, slice_range}
 use Rattle.std.specs.List.{AllByRecursion, zip}
 use Rattle.std.specs.Option.{option_map}
 use Rattle.rox_grammar.specs.Forest.{Forest, Nil, Cons, size}
@@ -17,6 +17,7 @@ use Rattle.rox_build.specs.declared.tables.NodeKind.{NodeKind}
 use Rattle.rox_build.specs.declared.tables.NodeKind.TheVariants as kind
 use Rattle.rox_build.specs.declared.tables.NodeData.{NodeData}
 use Rattle.rox_build.specs.declared.tables.Scope.{Scope}
+use Rattle.rox_build.specs.declared.tables.Scope.TheVariants as scope
 use Rattle.rox_build.specs.declared.tables.Tables.{Tables}
 
 -- one row: where its node stands, and the node
@@ -66,9 +67,29 @@ attribute names a = record {
   borrowed = is_borrowed a.0.value;
 }
 
--- what each scope lists, of the places that are listed
+-- the places that the scope at this place lists
+abbrev pub listed_at : List (List ℕ) → ℕ → List ℕ
+listed_at [] i = []
+listed_at (l ∷ ls) Prim.Native.Nat.zero = l
+listed_at (l ∷ ls) (Prim.Native.Nat.suc i) = listed_at ls i
+
+-- the places that a row lists, behind rows that list these
+abbrev pub made : List ℕ → List (List ℕ) → Scope → List ℕ
+made listed done (scope.Few s) = slice_range listed s.from s.until
+made listed done (scope.Back s) = reverse (slice_range listed s.from s.until)
+made listed done (scope.Both b) = listed_at done b.first ++ listed_at done b.rest
+
+abbrev pub places_on : List ℕ → List (List ℕ) → List Scope → List (List ℕ)
+places_on listed done [] = done
+places_on listed done (s ∷ ss) = places_on listed (done ++ made listed done s ∷ []) ss
+
+-- the places that each scope lists, of those that are listed
+abbrev pub places_of : List ℕ → List Scope → List (List ℕ)
+places_of listed scopes = places_on listed [] scopes
+
+-- what each scope lists
 abbrev pub lists_of : List Declaration → List ℕ → List Scope → List (List Declaration)
-lists_of names listed scopes = map (λ s. map (entry names) (slice_range listed s.from s.until)) scopes
+lists_of names listed scopes = map (map (entry names)) (places_of listed scopes)
 
 -- what the scope at this place lists
 abbrev pub scope_at : List (List Declaration) → ℕ → List Declaration
@@ -109,16 +130,43 @@ KindWithin attributes names scopes (kind.Text value) = Unit {0}
 KindWithin attributes names scopes (kind.Comment text) = is_borrowed text ≡ true
 KindWithin attributes names scopes (kind.PI pi) = Unit {0}
 
--- each scope is a stretch of so many listed places
-abbrev pub AreStretches : ℕ → List Scope → Type 0
-AreStretches listed scopes = AllByRecursion (λ s. (s.from ≤ s.until) × (s.until ≤ listed)) scopes
+-- how many a row lists
+abbrev pub count_of : Scope → ℕ
+count_of (scope.Few s) = s.until - s.from
+count_of (scope.Back s) = s.until - s.from
+count_of (scope.Both b) = b.count
+
+abbrev pub count_at : List Scope → ℕ → ℕ
+count_at [] i = 0
+count_at (s ∷ ss) Prim.Native.Nat.zero = count_of s
+count_at (s ∷ ss) (Prim.Native.Nat.suc i) = count_at ss i
+
+-- the row at this place: a stretch has its ends in order, and the parts of another are rows before
+abbrev pub IsRow : List Scope → ℕ → Scope → Type 0
+IsRow scopes i (scope.Few s) = s.from ≤ s.until
+IsRow scopes i (scope.Back s) = s.from ≤ s.until
+IsRow scopes i (scope.Both b) = (b.first < i) × (b.rest < i) × (b.count ≡ count_at scopes b.first + count_at scopes b.rest)
+
+pub record AreRows (scopes : List Scope) : Type 0 where
+  pub each : (i : ℕ) (s : Scope) → i < length scopes → s ≡ get_or scopes i s → IsRow scopes i s
+
+-- a stretch is one of so many listed places
+abbrev pub EndsWithin : ℕ → Scope → Type 0
+EndsWithin listed (scope.Few s) = s.until ≤ listed
+EndsWithin listed (scope.Back s) = s.until ≤ listed
+EndsWithin listed (scope.Both b) = Unit {0}
+
+-- each scope is of so many listed places
+pub record AreScopes (listed : ℕ) (scopes : List Scope) : Type 0 where
+  pub rows : AreRows scopes
+  pub within : AllByRecursion (EndsWithin listed) scopes
 
 -- each row names only what the tables have
 pub record Sound (t : Tables) : Type 0 where
   pub nodes : AllByRecursion (λ row. KindWithin (length (rows_of t.attributes)) (length t.namespaces.items) (length t.scopes.items) row.kind) t.nodes.items
   pub attributes : AllByRecursion (λ a. NamespaceWithin (length t.namespaces.items) a.0.namespace) (rows_of t.attributes)
   pub listed : AllByRecursion (λ i. i < length t.namespaces.items) t.listed.items
-  pub scopes : AreStretches (length t.listed.items) t.scopes.items
+  pub scopes : AreScopes (length t.listed.items) t.scopes.items
 
 abbrev pub names_of : Tables → List Declaration
 names_of t = map declaration t.namespaces.items

@@ -8,27 +8,35 @@ use Rattle.std.specs.Ordering.{nat_cmp}
 use Rattle.rox_grammar.specs.Written.{Declaration}
 use Rattle.rox_grammar.specs.Tree.{same_prefix, uri_of}
 use Rattle.rox_build.specs.Lines.{entry, scope_at, OptionWithin}
-use Rattle.rox_build.specs.Scopes.{prefix_view, entries, others}
+use Rattle.rox_build.specs.Scopes.{prefix_view, entries, others, ArePlaces}
+use Rattle.rox_build.specs.declared.present.Place.{Place}
 use Rattle.rox_build.specs.declared.present.Present.{Present}
 use Rattle.rox_build.specs.declared.present.Replaced.{Replaced}
 use Rattle.rox_build.specs.declared.present.Layer.{Layer}
 
-abbrev pub flat : Option (Option ℕ) → Option ℕ
+abbrev pub flat : Option (Option Place) → Option Place
 flat None = None
 flat (Some place) = place
 
 -- the place of a prefix, or of the default
-abbrev pub found_at : Option ℕ → BTreeMap (Bor (List ℕ)) (Option ℕ) → Option (List ℕ) → Option ℕ
+abbrev pub found_at : Option Place → BTreeMap (Bor (List ℕ)) (Option Place) → Option (List ℕ) → Option Place
 found_at default prefixes None = default
 found_at default prefixes (Some prefix) = flat (get_by (λ k. slice_cmp nat_cmp prefix k.now) prefixes)
 
+abbrev pub place_in : Present → Option (List ℕ) → Option Place
+place_in x prefix = found_at x.default x.prefixes prefix
+
+-- its place in the table of namespaces
+abbrev pub namespace_at : Option Place → Option ℕ
+namespace_at place = option_map (λ p. p.namespace) place
+
 abbrev pub found : Present → Option (List ℕ) → Option ℕ
-found x prefix = found_at x.default x.prefixes prefix
+found x prefix = namespace_at (place_in x prefix)
 
 -- the places before these were replaced, the first of them first
 abbrev pub restored : List Replaced → (Option (List ℕ) → Option ℕ) → Option (List ℕ) → Option ℕ
 restored [] places prefix = places prefix
-restored (r ∷ rs) places prefix = if same_prefix (prefix_view r.prefix) prefix then r.before else restored rs places prefix
+restored (r ∷ rs) places prefix = if same_prefix (prefix_view r.prefix) prefix then namespace_at r.before else restored rs places prefix
 
 -- these are the places of what is listed
 pub record IsBound (names : List Declaration) (places : Option (List ℕ) → Option ℕ) (listed : List Declaration) : Type 0 where
@@ -51,12 +59,25 @@ is_innermost [] count scope = false
 is_innermost (l ∷ []) count scope = l.count == count && l.scope == scope
 is_innermost (l ∷ m ∷ ls) count scope = is_innermost (m ∷ ls) count scope
 
--- A scope lists these places, below the scope at `above`: its own, and the others of that.
-pub record IsEntered (names : List Declaration) (lists : List (List Declaration)) (own all : List ℕ) (xml : Bool) (above scope : ℕ) : Type 0 where
-  pub is : entries names all ≡ scope_at lists scope
+-- A scope lists these of its own, and the others of what is listed above.
+pub record IsEntered (own : List Declaration) (xml : Bool) (above : List Declaration) (lists : List (List Declaration)) (scope : ℕ) : Type 0 where
   pub within : scope < length lists
-  pub made : entries names all ≡ entries names own ++ others (entries names own) xml (scope_at lists above)
+  pub made : scope_at lists scope ≡ own ++ others own xml above
 
--- these are the places of what is listed at `listed`, if that is much
-unfoldable pub Finds : List Declaration → List ℕ → Present → Type 0
-Finds names listed x = 16 < length listed → IsBound names (found x) (entries names listed)
+-- the places that are listed, where they are few, without where they lie in memory
+abbrev pub places_view : Option (Bor (List ℕ)) → Option (List ℕ)
+places_view few = option_map (λ p. p.now) few
+
+-- what is looked up, among few places or else by the places of prefixes, is in a table of this length
+abbrev pub LooksWithin : ℕ → Option (List ℕ) → Present → Type 0
+LooksWithin n (Some places) x = ArePlaces n places
+LooksWithin n None x = (prefix : Option (List ℕ)) → OptionWithin n (found x prefix)
+
+-- the URI that is looked up for a prefix, or for the default
+abbrev pub looked_up : List Declaration → Option (List ℕ) → Present → Option (List ℕ) → Option (List ℕ)
+looked_up names (Some places) x prefix = uri_of (entries names places) prefix
+looked_up names None x prefix = option_map (λ i. (entry names i).uri) (found x prefix)
+
+-- it is the one that is listed
+pub record Finds (names : List Declaration) (few : Option (List ℕ)) (x : Present) (listed : List Declaration) : Type 0 where
+  pub uris : (prefix : Option (List ℕ)) → looked_up names few x prefix ≡ uri_of listed prefix

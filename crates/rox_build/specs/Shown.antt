@@ -14,12 +14,13 @@ use Rattle.rox_reading.proofs.Forests.{Clean, is_text}
 use Rattle.rox_scan.specs.Gives.{Fails, name_view}
 use Rattle.rox_scan.specs.declared.cursor.Cursor.{Cursor}
 use Rattle.rox_scan.specs.declared.failure.Failure.{Failure}
-use Rattle.rox_build.specs.Lines.{Line, line, node, declaration, scope_at, NamespaceWithin, KindWithin, AreStretches, AttributeRow, rows_of}
+use Rattle.rox_build.specs.Lines.{Line, line, node, declaration, scope_at, NamespaceWithin, KindWithin, AreScopes, AttributeRow, rows_of}
 use Rattle.rox_reading.specs.Values.{Next, part_text}
 use Rattle.rox_build.specs.Refusing.{Stops, Refuses}
 use Rattle.rox_build.specs.Values.{next_view}
 use Rattle.rox_build.specs.declared.refused.Refused.{Refused}
 use Rattle.rox_build.specs.SoFar.{top, so_far}
+use Rattle.rox_build.specs.Scopes.{Once}
 use Rattle.rox_build.specs.Tagged.{KeepsPlaces, lists_in}
 use Rattle.rox_build.specs.declared.tables.NodeKind.{NodeKind}
 use Rattle.rox_build.specs.declared.tables.NodeData.{NodeData}
@@ -110,16 +111,16 @@ pub record IsOpening (tables : ElementTables) (above : List Declaration) (start 
 pub record AreSound (t : ElementTables) : Type 0 where
   pub attributes : AllByRecursion (λ a. NamespaceWithin (length t.namespaces.items.items) a.0.namespace) (rows_of t.attributes)
   pub listed : AllByRecursion (λ i. i < length t.namespaces.items.items) t.listed.items
-  pub scopes : AreStretches (length t.listed.items) t.scopes.items
+  pub scopes : AreScopes (length t.listed.items) t.scopes.items
 
 -- the builder holds what is read, unless memory ran out
 abbrev pub Adds : ℕ → Result (Unit {0}) Failure → Builder → Result State Fault → Type 0
 Adds end (Ok x) b read = (s : State) × (read ≡ Ok s) × Shows end s.stack s.done b
 Adds end (Err e) b read = Fails e read
 
--- the scope of an open element is in the table
+-- the scope of an open element is in the table, and has each prefix once
 abbrev pub IsOpenWithin : ElementTables → OpenElement → Type 0
-IsOpenWithin t o = o.scope < length t.scopes.items
+IsOpenWithin t o = (o.scope < length t.scopes.items) × Once (scope_at (lists_in t) o.scope)
 
 -- the first scope lists nothing
 pub record HasEmpty (t : ElementTables) : Type 0 where

@@ -1,5 +1,5 @@
 -- What the code holds of a start tag that was read, against the tag.
-use Rattle.std.specs.Prelude.{◌≡◌, ℕ, ◌<◌, ◌≤◌, List, ◌++◌, length, map, Result, Ok, Err}
+use Rattle.std.specs.Prelude.{◌≡◌, ℕ, ◌<◌, ◌≤◌, Bool, false, List, ◌++◌, length, map, drop, Result, Ok, Err}
 use Rattle.std.specs.List.{AllByRecursion}
 use Rattle.std.specs.Option.{option_map}
 use Rattle.rox_grammar.specs.Written.{Attribute, Name, Declaration, Tag}
@@ -11,9 +11,9 @@ use Rattle.rox_scan.specs.Gives.{name_view}
 use Rattle.rox_scan.specs.declared.cursor.Cursor.{Cursor}
 use Rattle.rox_build.specs.Refusing.{Refuses}
 use Rattle.rox_build.specs.declared.refused.Refused.{Refused}
-use Rattle.rox_build.specs.Lines.{declaration, attribute, entry, lists_of, scope_at, NamespaceWithin, OptionWithin, AreStretches, AttributeRow, rows_of}
-use Rattle.rox_build.specs.Scopes.{ArePlaces}
-use Rattle.rox_build.specs.Present.{Keeps}
+use Rattle.rox_build.specs.Lines.{declaration, attribute, entry, lists_of, scope_at, NamespaceWithin, OptionWithin, AreScopes, AttributeRow, rows_of}
+use Rattle.rox_build.specs.Scopes.{entries, ArePlaces, Once, others, is_few_at}
+use Rattle.rox_build.specs.Present.{Keeps, IsBound, found}
 use Rattle.rox_build.specs.declared.tables.ElementData.{ElementData}
 use Rattle.rox_build.specs.declared.tables.ElementTables.{ElementTables}
 use Rattle.rox_build.specs.declared.tag.StartTag.{StartTag}
@@ -45,6 +45,25 @@ pub record IsElement (old new : ElementTables) (e : ElementData) (scope : List D
 abbrev pub KeepsPlaces : ElementTables → Type 0
 KeepsPlaces t = Keeps (map declaration t.namespaces.items.items) (lists_in t) t.present
 
+-- the places of prefixes are those of what this scope lists, unless it lists few
+unfoldable pub IsPresent : ElementTables → ℕ → Type 0
+IsPresent t scope = is_few_at t.scopes.items scope ≡ false → IsBound (map declaration t.namespaces.items.items) (found t.present) (scope_at (lists_in t) scope)
+
+-- The scope at this place is that of an element below one of the scope `above`, whose own declarations are those listed from `own`
+-- on, and `xml` if the flag says so.
+pub record HasScope (old new : ElementTables) (above own : ℕ) (xml : Bool) (scope : ℕ) : Type 0 where
+  pub more : List (List Declaration)
+  pub lists_more : lists_in new ≡ lists_in old ++ more
+  pub places : ArePlaces (length new.namespaces.items.items) new.listed.items
+  pub scopes : AreScopes (length new.listed.items) new.scopes.items
+  pub within : scope < length new.scopes.items
+  pub lists : scope_at (lists_in new) scope
+      ≡ entries (map declaration old.namespaces.items.items) (drop own old.listed.items)
+      ++ others (entries (map declaration old.namespaces.items.items) (drop own old.listed.items)) xml (scope_at (lists_in old) above)
+  pub once : Once (scope_at (lists_in new) scope)
+  pub kept : KeepsPlaces new
+  pub present : IsPresent new scope
+
 -- The tables have grown by a tag below an element that lists these.
 pub record Tagged (old new : ElementTables) (t : StartTag) (above : List Declaration) (tag : Tag) : Type 0 where
   pub name : name_view t.name ≡ tag.name
@@ -54,8 +73,9 @@ pub record Tagged (old new : ElementTables) (t : StartTag) (above : List Declara
   pub more : List (List Declaration)
   pub lists_more : lists_in new ≡ lists_in old ++ more
   pub places : ArePlaces (length new.namespaces.items.items) new.listed.items
-  pub scopes : AreStretches (length new.listed.items) new.scopes.items
+  pub scopes : AreScopes (length new.listed.items) new.scopes.items
   pub kept : KeepsPlaces new
+  pub once : Once (scope_at (lists_in new) t.element.scope)
   pub element : IsElement old new t.element (listed above tag.declarations) tag.name tag.attributes
 
 -- a start tag was read, unless memory ran out

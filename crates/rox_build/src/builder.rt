@@ -15,7 +15,7 @@ use crate::pending::Pending;
 use crate::present::Present;
 use crate::recent::Recent;
 use crate::storage::StringStorage;
-use crate::tables::{ElementTables, NodeData, NodeKind, Scope, Tables};
+use crate::tables::{ElementTables, NodeData, NodeKind, Scope, Stretch, Tables};
 use crate::tag::{Buffers, StartTag};
 use crate::value::Piece;
 use rox_grammar::fault::Fault;
@@ -80,11 +80,11 @@ fn root_row<'input>(alloc: Global, bytes: usize) -> Result<Vec<NodeData<'input>>
 
 /// The scope of the root node, which lists nothing.
 fn empty_scope(alloc: Global) -> Result<Vec<Scope>, Failure>
-    ensures ok { IfOk result (λ scopes. scopes.items ≡ record { from = 0; until = 0 } ∷ []) }
+    ensures ok { IfOk result (λ scopes. scopes.items ≡ Scope.Few (record { from = 0; until = 0 }) ∷ []) }
     ensures err { IfErr result (λ e. e ≡ failure.Memory) }
 {
     let mut scopes = Vec::new(alloc);
-    push(&mut scopes, Scope { from: 0, until: 0 })?;
+    push(&mut scopes, Scope::Few(Stretch { from: 0, until: 0 }))?;
     Ok(scopes)
 }
 
@@ -124,6 +124,7 @@ impl<'input> Builder<'input> {
     ghost use Rattle.rox_build.specs.Values.{piece_view};
     ghost use Rattle.rox_build.specs.Shown.{Shows, Settled, IsNode, IsOpening, AreSound, Adds, Fine, names_in, opened_in, last_row};
     ghost use Rattle.rox_build.specs.Lines.{Holds, rows_of};
+    ghost use Rattle.rox_build.specs.Scopes.{Once};
     ghost use Rattle.rox_build.specs.Tagged.{scope_in_tables};
     ghost use Rattle.rox_grammar.specs.Tree.{document_tree};
     ghost use Rattle.rox_build.specs.declared.builder.OpenElement.{OpenElement};
@@ -191,6 +192,7 @@ impl<'input> Builder<'input> {
         ensures value { Fine self.now.tables self.now.opened.items → (end : ℕ) (stack : Open) (done : Forest Item) → Shows end stack done self.now
             → scope_in_tables self.now.tables result ≡ scope_of stack }
         ensures within { Fine self.now.tables self.now.opened.items → result < length self.now.tables.scopes.items }
+        ensures once { Fine self.now.tables self.now.opened.items → Once (scope_in_tables self.now.tables result) }
     {
         match self.opened.last() {
             Some(element) => element.scope,

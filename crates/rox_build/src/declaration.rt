@@ -1,13 +1,13 @@
 //! The declarations of a start tag, one by one (XML 1.0 section 3.1, Namespaces in XML 1.0 section 3).
 
-ghost use Rattle.std.specs.Prelude.{◌≡◌, ◌<◌, ◌≤◌, ◌+◌, ◌-◌, ◌^◌, List, ℕ, length, map, drop, Ok, Err, OnOk};
+ghost use Rattle.std.specs.Prelude.{◌≡◌, ◌<◌, ◌≤◌, ◌+◌, ◌-◌, ◌^◌, List, ℕ, false, length, map, drop, Ok, Err, OnOk};
 ghost use Rattle.rox_grammar.specs.declared.fault.Span.{Span as SpecSpan};
 ghost use Rattle.rox_grammar.specs.Written.{Attribute, Declaration, Name, declares, local_span, prefix_span};
 ghost use Rattle.rox_grammar.specs.Document.{listable_of, most_pairs};
 ghost use Rattle.rox_reading.specs.Tags as spec;
 ghost use Rattle.rox_scan.specs.Gives.{name_view};
-ghost use Rattle.rox_build.specs.Lines.{declaration, lists_of, AreStretches};
-ghost use Rattle.rox_build.specs.Scopes.{ArePlaces, entries, prefix_view};
+ghost use Rattle.rox_build.specs.Lines.{declaration, lists_of, AreScopes};
+ghost use Rattle.rox_build.specs.Scopes.{ArePlaces, Once, entries, prefix_view};
 ghost use Rattle.rox_build.specs.Prefixes.{Remembers};
 ghost use Rattle.rox_build.specs.Present.{Keeps};
 ghost use Rattle.rox_build.specs.declared.present.Present.{Present};
@@ -134,8 +134,9 @@ fn is_again<'a>(
 ) -> bool
     requires places { ArePlaces (length names.now) own.now }
     requires many { Remembers (map declaration names.now) own.now many.now.keys }
-    ensures { (ds : List Declaration) → xml ≡ declares_xml ds → entries (map declaration names.now) own.now ≡ listable_of ds
+    ensures value { (ds : List Declaration) → xml ≡ declares_xml ds → entries (map declaration names.now) own.now ≡ listable_of ds
         → result ≡ is_declared (prefix_view prefix.entry) ds }
+    ensures absent { result ≡ false → is_declared (prefix_view prefix.entry) (entries (map declaration names.now) own.now) ≡ false }
 {
     is_own(names, own, many, xml, prefix)
 }
@@ -154,13 +155,15 @@ pub fn take_declaration<'input>(
     requires own { own ≤ length listed.old.items }
     requires few { length names.old.items.items ≤ most_pairs }
     requires many { Remembers (map declaration names.old.items.items) (drop own listed.old.items) many.old.keys }
+    requires once { Once (entries (map declaration names.old.items.items) (drop own listed.old.items)) }
     ensures places { OnOk result (ArePlaces (length names.new.items.items) listed.new.items) }
     ensures own { OnOk result (own ≤ length listed.new.items) }
     ensures few { OnOk result (length names.new.items.items ≤ most_pairs) }
-    ensures lists { OnOk result ((scopes : List Scope) → AreStretches own scopes
+    ensures lists { OnOk result ((scopes : List Scope) → AreScopes own scopes
         → lists_of (map declaration names.new.items.items) listed.new.items scopes ≡ lists_of (map declaration names.old.items.items) listed.old.items scopes) }
     ensures grown { OnOk result ((lists : List (List Declaration)) (x : Present) → Keeps (map declaration names.old.items.items) lists x → Keeps (map declaration names.new.items.items) lists x) }
     ensures many { OnOk result (Remembers (map declaration names.new.items.items) (drop own listed.new.items) many.new.keys) }
+    ensures once { OnOk result (Once (entries (map declaration names.new.items.items) (drop own listed.new.items))) }
     ensures value { (known : List Declaration) (before : List ℕ) (h : Held) → own ≡ length before
         → Declares known before (map declaration names.old.items.items) listed.old.items xml h.own
         → Declared known before (map declaration names.new.items.items) listed.new.items result h (spec.declared known (taken_view taken.entry) h) }

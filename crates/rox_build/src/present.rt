@@ -1,23 +1,32 @@
 //! The place that each prefix stands for, where an element lists many namespaces: a map of those of the innermost scope, and
 //! what they stood for around it, which is taken back when a scope around it is asked for.
 
-ghost use Rattle.std.specs.Prelude.{◌≡◌, ◌<◌, ◌≤◌, ◌+◌, ◌-◌, ◌++◌, ◌||◌, ◌⊎◌, ℕ, List, Option, Some, None, Bool, true, length, map, take, OnOk, IfErr, if◌then◌else◌};
+ghost use Rattle.std.specs.Prelude.{◌≡◌, ◌<◌, ◌≤◌, ◌+◌, ◌-◌, ◌++◌, ◌⊎◌, ℕ, List, Option, Some, None, Bool, true, length, map, take, reverse, slice_index, slice_range, OnOk, IfErr, if◌then◌else◌};
 ghost use Rattle.rox_grammar.specs.Tree.{same_prefix};
 ghost use Rattle.rox_grammar.specs.Written.{Declaration};
-ghost use Rattle.rox_build.specs.Lines.{declaration, scope_at};
-ghost use Rattle.rox_build.specs.Scopes.{prefix_view, entries, ArePlaces, others};
+ghost use Rattle.rox_build.specs.Lines.{declaration, entry, lists_of, scope_at, AreScopes};
+ghost use Rattle.rox_build.specs.Scopes.{prefix_view, entries, places_in, ArePlaces, others};
 
 use crate::growth::push;
-use crate::tables::Namespace;
+use crate::rope::{count, position_at};
+use crate::tables::{Namespace, Scope};
 use rox_scan::failure::Failure;
 use std::alloc::Global;
 use std::collections::BTreeMap;
+
+/// What a prefix, or the default, stands for: a place in the table of namespaces, and where it stood among the listed places
+/// when it was looked for there. That is a guess, since it may be listed anew: nothing is stated of it.
+#[derive(Clone, Copy, Debug)]
+pub struct Place {
+    pub namespace: u16,
+    pub listed: usize,
+}
 
 /// A prefix, or the default, that stands for something else in a scope than around it, and the place that it had there.
 #[derive(Clone, Copy, Debug)]
 pub struct Replaced<'input> {
     pub prefix: Option<&'input str>,
-    pub before: Option<u16>,
+    pub before: Option<Place>,
 }
 
 /// A scope, by its place in the table of scopes, and how many places were replaced up to it.
@@ -31,9 +40,9 @@ pub struct Layer {
 #[derive(Drop)]
 pub struct Present<'input> {
     /// That of the default.
-    pub default: Option<u16>,
+    pub default: Option<Place>,
     /// That of each prefix.
-    pub prefixes: BTreeMap<&'input str, Option<u16>>,
+    pub prefixes: BTreeMap<&'input str, Option<Place>>,
     /// What was replaced, the last one last.
     pub replaced: Vec<Replaced<'input>>,
     /// The scopes, the innermost last.
@@ -43,7 +52,7 @@ pub struct Present<'input> {
 impl<'input> Present<'input> {
     ghost use Rattle.std.specs.Prelude.{◌∷◌, [], ◌&&◌, not, filter};
     ghost use Rattle.rox_grammar.specs.WellNamed.{is_xml};
-    ghost use Rattle.rox_build.specs.Present.{found, Keeps, IsBound, IsEntered, is_innermost};
+    ghost use Rattle.rox_build.specs.Present.{found, place_in, Keeps, IsBound, IsEntered, is_innermost};
     ghost use Rattle.rox_build.specs.declared.present.Layer.{Layer};
 
     /// Of no scope.
@@ -60,8 +69,8 @@ impl<'input> Present<'input> {
 
     /// The place of a prefix, or of the default.
     #[inline]
-    pub fn get(&self, prefix: Option<&str>) -> Option<u16>
-        ensures { result ≡ found self.now (prefix_view prefix.entry) }
+    pub fn get(&self, prefix: Option<&str>) -> Option<Place>
+        ensures { result ≡ place_in self.now (prefix_view prefix.entry) }
     {
         match prefix {
             None => self.default,
@@ -73,8 +82,8 @@ impl<'input> Present<'input> {
     }
 
     /// Gives a prefix, or the default, this place. The only error is want of memory.
-    fn set(&mut self, prefix: Option<&'input str>, place: Option<u16>) -> Result<(), Failure>
-        ensures present { OnOk result ((p : Option (List ℕ)) → found self.new p ≡ (if same_prefix (prefix_view prefix.entry) p then place else found self.old p)) }
+    fn set(&mut self, prefix: Option<&'input str>, place: Option<Place>) -> Result<(), Failure>
+        ensures present { OnOk result ((p : Option (List ℕ)) → place_in self.new p ≡ (if same_prefix (prefix_view prefix.entry) p then place else place_in self.old p)) }
         ensures replaced { self.new.replaced ≡ self.old.replaced }
         ensures layers { self.new.layers ≡ self.old.layers }
         ensures err { IfErr result (λ e. e ≡ Failure.Memory) }
@@ -92,8 +101,8 @@ impl<'input> Present<'input> {
     }
 
     /// The same, so that it can be taken back.
-    fn put(&mut self, prefix: Option<&'input str>, place: Option<u16>) -> Result<(), Failure>
-        ensures present { OnOk result ((p : Option (List ℕ)) → found self.new p ≡ (if same_prefix (prefix_view prefix.entry) p then place else found self.old p)) }
+    fn put(&mut self, prefix: Option<&'input str>, place: Option<Place>) -> Result<(), Failure>
+        ensures present { OnOk result ((p : Option (List ℕ)) → place_in self.new p ≡ (if same_prefix (prefix_view prefix.entry) p then place else place_in self.old p)) }
         ensures keeps { OnOk result ((names : List Declaration) (lists : List (List Declaration)) → Keeps names lists self.old → Keeps names lists self.new) }
         ensures layers { self.new.layers ≡ self.old.layers }
         ensures err { IfErr result (λ e. e ≡ Failure.Memory) }
@@ -140,15 +149,15 @@ impl<'input> Present<'input> {
         Ok(())
     }
 
-    /// Leaves scopes until the innermost is one of these, or there is none.
-    fn leave_others(&mut self, one: u32, other: u32) -> Result<(), Failure>
-        ensures innermost { OnOk result ((self.new.layers.items ≡ [])
-            ⊎ ((is_innermost self.new.layers.items (length self.new.replaced.items) one || is_innermost self.new.layers.items (length self.new.replaced.items) other) ≡ true)) }
+    /// Leaves scopes until the innermost is this one, or there is none.
+    fn leave_others(&mut self, scope: u32) -> Result<(), Failure>
+        ensures innermost { OnOk result ((self.new.layers.items ≡ []) ⊎ (is_innermost self.new.layers.items (length self.new.replaced.items) scope ≡ true)) }
+        ensures same { is_innermost self.old.layers.items (length self.old.replaced.items) scope ≡ true → self.new ≡ self.old }
         ensures keeps { OnOk result ((names : List Declaration) (lists : List (List Declaration)) → Keeps names lists self.old → Keeps names lists self.new) }
         ensures err { IfErr result (λ e. e ≡ Failure.Memory) }
     {
         for _turn in 0..self.layers.len() {
-            if self.is_in(one) || self.is_in(other) {
+            if self.is_in(scope) {
                 return Ok(());
             }
             self.leave()?;
@@ -181,18 +190,73 @@ impl<'input> Present<'input> {
         Ok(())
     }
 
-    /// Gives the prefixes of the namespaces at these places their place, the first one where there are more.
-    fn add(&mut self, names: &[Namespace<'input>], places: &[u16]) -> Result<(), Failure>
-        requires { ArePlaces (length names.now) places.now }
-        ensures bound { OnOk result ((ds : List Declaration) → IsBound (map declaration names.now) (found self.old) ds → IsBound (map declaration names.now) (found self.new) (entries (map declaration names.now) places.now ++ ds)) }
+    /// Gives the prefix of the namespace that is listed at this position its place.
+    fn bind(
+        &mut self,
+        names: &[Namespace<'input>],
+        listed: &[u16],
+        position: usize,
+    ) -> Result<(), Failure>
+        requires places { ArePlaces (length names.now) listed.now }
+        requires within { position < length listed.now }
+        ensures bound { OnOk result ((ds : List Declaration) → IsBound (map declaration names.now) (found self.old) ds
+            → IsBound (map declaration names.now) (found self.new) (entry (map declaration names.now) (slice_index listed.now position) ∷ ds)) }
         ensures keeps { OnOk result ((names : List Declaration) (lists : List (List Declaration)) → Keeps names lists self.old → Keeps names lists self.new) }
         ensures layers { self.new.layers ≡ self.old.layers }
         ensures err { IfErr result (λ e. e ≡ Failure.Memory) }
     {
-        let count = places.len();
+        let namespace = listed[position];
+        let place = Place {
+            namespace,
+            listed: position,
+        };
+        self.put(names[namespace as usize].name, Some(place))?;
+        Ok(())
+    }
+
+    /// Gives the prefixes of what is listed from `from` up to `until` their places, the last one where there are more.
+    fn add(
+        &mut self,
+        names: &[Namespace<'input>],
+        listed: &[u16],
+        from: usize,
+        until: usize,
+    ) -> Result<(), Failure>
+        requires places { ArePlaces (length names.now) listed.now }
+        requires stretch { (from ≤ until) × (until ≤ length listed.now) }
+        ensures bound { OnOk result ((ds : List Declaration) → IsBound (map declaration names.now) (found self.old) ds
+            → IsBound (map declaration names.now) (found self.new) (entries (map declaration names.now) (reverse (slice_range listed.now from until)) ++ ds)) }
+        ensures keeps { OnOk result ((names : List Declaration) (lists : List (List Declaration)) → Keeps names lists self.old → Keeps names lists self.new) }
+        ensures layers { self.new.layers ≡ self.old.layers }
+        ensures err { IfErr result (λ e. e ≡ Failure.Memory) }
+    {
+        for position in from..until {
+            self.bind(names, listed, position)?;
+        }
+        Ok(())
+    }
+
+    /// Gives the prefixes of what a scope lists their places, the first one where there are more.
+    fn add_all(
+        &mut self,
+        names: &[Namespace<'input>],
+        listed: &[u16],
+        scopes: &[Scope],
+        scope: u32,
+    ) -> Result<(), Failure>
+        requires places { ArePlaces (length names.now) listed.now }
+        requires scopes { AreScopes (length listed.now) scopes.now }
+        requires within { scope < length scopes.now }
+        ensures bound { OnOk result (IsBound (map declaration names.now) (found self.old) []
+            → IsBound (map declaration names.now) (found self.new) (entries (map declaration names.now) (places_in listed.now scopes.now scope))) }
+        ensures keeps { OnOk result ((names : List Declaration) (lists : List (List Declaration)) → Keeps names lists self.old → Keeps names lists self.new) }
+        ensures layers { self.new.layers ≡ self.old.layers }
+        ensures err { IfErr result (λ e. e ≡ Failure.Memory) }
+    {
+        let count = count(scopes, scope);
         for turn in 0..count {
-            let place = places[count - 1 - turn];
-            self.put(names[place as usize].name, Some(place))?;
+            let position = position_at(scopes, listed, scope, count - 1 - turn);
+            self.bind(names, listed, position)?;
         }
         Ok(())
     }
@@ -208,56 +272,55 @@ impl<'input> Present<'input> {
         self.layers.clear();
     }
 
-    /// The places of what is listed at `all`: the namespaces at `own`, and what is listed in the scope `above` but for them, and
-    /// for `xml` if the flag says so.
-    fn fill(
+    /// Makes this the innermost scope: leaves those inside it, and where it was not entered, all others. The only error is want
+    /// of memory.
+    pub fn stand_in(
         &mut self,
         names: &[Namespace<'input>],
-        own: &[u16],
-        all: &[u16],
-        xml: bool,
-        above: u32,
-    ) -> Result<(), Failure>
-        requires own { ArePlaces (length names.now) own.now }
-        requires all { ArePlaces (length names.now) all.now }
-        ensures bound { OnOk result ((lists : List (List Declaration)) → Keeps (map declaration names.now) lists self.old
-            → entries (map declaration names.now) all.now ≡ entries (map declaration names.now) own.now ++ others (entries (map declaration names.now) own.now) xml (scope_at lists above)
-            → IsBound (map declaration names.now) (found self.new) (entries (map declaration names.now) all.now)) }
-        ensures keeps { OnOk result ((names : List Declaration) (lists : List (List Declaration)) → Keeps names lists self.old → Keeps names lists self.new) }
-        ensures err { IfErr result (λ e. e ≡ Failure.Memory) }
-    {
-        if !self.is_in(above) {
-            self.clear();
-            self.add(names, all)?;
-            return Ok(());
-        }
-        self.hide_xml(xml)?;
-        self.add(names, own)?;
-        Ok(())
-    }
-
-    /// Enters a scope that lists `all`, of an element below one with the scope `above`, whose declarations are at `own`, and
-    /// `xml` if the flag says so. The only error is want of memory.
-    pub fn enter(
-        &mut self,
-        names: &[Namespace<'input>],
-        own: &[u16],
-        all: &[u16],
-        xml: bool,
-        above: u32,
+        listed: &[u16],
+        scopes: &[Scope],
         scope: u32,
     ) -> Result<(), Failure>
-        requires own { ArePlaces (length names.now) own.now }
-        requires all { ArePlaces (length names.now) all.now }
-        ensures value { OnOk result ((lists : List (List Declaration)) → IsEntered (map declaration names.now) lists own.now all.now xml above scope → Keeps (map declaration names.now) lists self.old
-            → Keeps (map declaration names.now) lists self.new × IsBound (map declaration names.now) (found self.new) (entries (map declaration names.now) all.now)) }
+        requires places { ArePlaces (length names.now) listed.now }
+        requires scopes { AreScopes (length listed.now) scopes.now }
+        requires within { scope < length scopes.now }
+        ensures value { OnOk result (Keeps (map declaration names.now) (lists_of (map declaration names.now) listed.now scopes.now) self.old
+            → Keeps (map declaration names.now) (lists_of (map declaration names.now) listed.now scopes.now) self.new
+            × IsBound (map declaration names.now) (found self.new) (scope_at (lists_of (map declaration names.now) listed.now scopes.now) scope)) }
+        ensures same { is_innermost self.old.layers.items (length self.old.replaced.items) scope ≡ true → self.new ≡ self.old }
         ensures err { IfErr result (λ e. e ≡ Failure.Memory) }
     {
-        self.leave_others(scope, above)?;
+        self.leave_others(scope)?;
         if self.is_in(scope) {
             return Ok(());
         }
-        self.fill(names, own, all, xml, above)?;
+        self.clear();
+        self.add_all(names, listed, scopes, scope)?;
+        let count = self.replaced.len();
+        push(&mut self.layers, Layer { scope, count })?;
+        Ok(())
+    }
+
+    /// Enters a scope below the innermost one: that of an element which declares what is listed from `from` up to `until`, from
+    /// its back, and `xml` if the flag says so. The only error is want of memory.
+    pub fn enter(
+        &mut self,
+        names: &[Namespace<'input>],
+        listed: &[u16],
+        from: usize,
+        until: usize,
+        xml: bool,
+        scope: u32,
+    ) -> Result<(), Failure>
+        requires places { ArePlaces (length names.now) listed.now }
+        requires stretch { (from ≤ until) × (until ≤ length listed.now) }
+        ensures value { OnOk result ((lists : List (List Declaration)) (above : List Declaration) → Keeps (map declaration names.now) lists self.old → IsBound (map declaration names.now) (found self.old) above
+            → IsEntered (entries (map declaration names.now) (reverse (slice_range listed.now from until))) xml above lists scope
+            → Keeps (map declaration names.now) lists self.new × IsBound (map declaration names.now) (found self.new) (scope_at lists scope)) }
+        ensures err { IfErr result (λ e. e ≡ Failure.Memory) }
+    {
+        self.hide_xml(xml)?;
+        self.add(names, listed, from, until)?;
         let count = self.replaced.len();
         push(&mut self.layers, Layer { scope, count })?;
         Ok(())

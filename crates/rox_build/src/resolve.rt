@@ -5,15 +5,15 @@ ghost use Rattle.std.specs.Prelude.{◌≡◌, ◌<◌, ◌^◌, ◌++◌, ◌�
 ghost use Rattle.std.specs.List.{AllByRecursion, list_any};
 ghost use Rattle.std.specs.Option.{option_map};
 ghost use Rattle.rox_grammar.specs.declared.fault.Fault.TheVariants as fault;
-ghost use Rattle.rox_grammar.specs.Written.{Attribute, prefix_span};
+ghost use Rattle.rox_grammar.specs.Written.{Attribute, Declaration, prefix_span};
 ghost use Rattle.rox_grammar.specs.Tree as tree;
 ghost use Rattle.rox_grammar.specs.Tree.{attribute_in};
 ghost use Rattle.rox_grammar.specs.WellNamed.{is_known, may_name};
 ghost use Rattle.rox_reading.specs.Tags.{names_tested};
 ghost use Rattle.rox_scan.specs.Gives.{Fails, name_view};
 ghost use Rattle.rox_build.specs.Lines.{AttributeRow, declaration, entry, attribute, rows_of, namespace_of, NamespaceWithin, OptionWithin};
-ghost use Rattle.rox_build.specs.Scopes.{entries, prefix_view, ArePlaces};
-ghost use Rattle.rox_build.specs.Present.{Finds};
+ghost use Rattle.rox_build.specs.Scopes.{prefix_view};
+ghost use Rattle.rox_build.specs.Present.{Finds, LooksWithin, places_view};
 ghost use Rattle.rox_build.specs.Tags.{taken_view};
 ghost use Rattle.rox_build.specs.Resolved.{row_of, has_expanded, Tested};
 ghost use Rattle.rox_build.specs.Seen.{Sees, TestedOr};
@@ -41,16 +41,16 @@ const FEW: usize = 16;
 #[inline]
 fn attribute_namespace(
     names: &[Namespace<'_>],
-    places: &[u16],
+    few: Option<&[u16]>,
     present: &Present<'_>,
     name: QName<'_>,
 ) -> Option<AttributeNamespace>
-    requires places { ArePlaces (length names.now) places.now }
-    requires present { Finds (map declaration names.now) places.now present.now }
+    requires within { LooksWithin (length names.now) (places_view few) present.now }
     ensures within { IfSome result (λ s. NamespaceWithin (length names.now) s) }
-    ensures there { IfSome result (λ s. namespace_of (map declaration names.now) s ≡ tree.attribute_namespace (entries (map declaration names.now) places.now) (name_view name.entry)) }
-    ensures known { IfSome result (λ _. is_known (entries (map declaration names.now) places.now) (name_view name.entry) ≡ true) }
-    ensures unknown { IfNone result (is_known (entries (map declaration names.now) places.now) (name_view name.entry) ≡ false) }
+    ensures there { (ds : List Declaration) → Finds (map declaration names.now) (places_view few.entry) present.now ds
+        → IfSome result (λ s. namespace_of (map declaration names.now) s ≡ tree.attribute_namespace ds (name_view name.entry)) }
+    ensures known { (ds : List Declaration) → Finds (map declaration names.now) (places_view few.entry) present.now ds → IfSome result (λ _. is_known ds (name_view name.entry) ≡ true) }
+    ensures unknown { (ds : List Declaration) → Finds (map declaration names.now) (places_view few.entry) present.now ds → IfNone result (is_known ds (name_view name.entry) ≡ false) }
 {
     if name.prefix.is_empty() {
         return Some(AttributeNamespace::None);
@@ -58,7 +58,7 @@ fn attribute_namespace(
     if same_text(name.prefix, "xml") {
         return Some(AttributeNamespace::Xml);
     }
-    match find(names, places, present, Some(name.prefix)) {
+    match find(names, few, present, Some(name.prefix)) {
         Some(place) => Some(AttributeNamespace::Listed(place)),
         None => None,
     }
@@ -119,21 +119,21 @@ fn is_repeated(
 #[inline(always)]
 fn tested_namespace(
     names: &[Namespace<'_>],
-    places: &[u16],
+    few: Option<&[u16]>,
     present: &Present<'_>,
     done: &[AttributeData<'_>],
     taken: &Taken<'_>,
 ) -> Result<AttributeNamespace, Fault>
-    requires places { ArePlaces (length names.now) places.now }
-    requires present { Finds (map declaration names.now) places.now present.now }
+    requires within { LooksWithin (length names.now) (places_view few) present.now }
     requires done { AllByRecursion (λ a. NamespaceWithin (length names.now) a.namespace) done.now }
     ensures within { IfOk result (λ s. NamespaceWithin (length names.now) s) }
-    ensures there { IfOk result (λ s. namespace_of (map declaration names.now) s ≡ tree.attribute_namespace (entries (map declaration names.now) places.now) (name_view taken.now.name)) }
-    ensures tested { (rows : List AttributeRow) (before rest : List Attribute) → map (λ r. r.0) rows ≡ done.now → map (attribute (map declaration names.now)) rows ≡ map (attribute_in (entries (map declaration names.now) places.now)) before
-        → Tested (entries (map declaration names.now) places.now) before (taken_view taken.now) rest result }
+    ensures there { (ds : List Declaration) → Finds (map declaration names.now) (places_view few.entry) present.now ds
+        → IfOk result (λ s. namespace_of (map declaration names.now) s ≡ tree.attribute_namespace ds (name_view taken.now.name)) }
+    ensures tested { (ds : List Declaration) (rows : List AttributeRow) (before rest : List Attribute) → Finds (map declaration names.now) (places_view few.entry) present.now ds
+        → map (λ r. r.0) rows ≡ done.now → map (attribute (map declaration names.now)) rows ≡ map (attribute_in ds) before → Tested ds before (taken_view taken.now) rest result }
 {
     let name = taken.name;
-    let Some(namespace) = attribute_namespace(names, places, present, name) else {
+    let Some(namespace) = attribute_namespace(names, few, present, name) else {
         return Err(Fault::UnknownNamespace(prefix_span(name.prefix, taken.start), taken.start));
     };
     if is_repeated(names, done, namespace, name.local) {
@@ -145,22 +145,23 @@ fn tested_namespace(
 /// The same of an attribute of a tag that has many: the names of those before it are `seen`, and its own is put there.
 fn seen_namespace<'a>(
     names: &'a [Namespace<'_>],
-    places: &[u16],
+    few: Option<&[u16]>,
     present: &Present<'_>,
     seen: &mut BTreeSet<(&'a str, Option<&'a str>)>,
     taken: &Taken<'a>,
 ) -> Result<AttributeNamespace, Failure>
-    requires places { ArePlaces (length names.now) places.now }
-    requires present { Finds (map declaration names.now) places.now present.now }
+    requires within { LooksWithin (length names.now) (places_view few) present.now }
     ensures within { IfOk result (λ s. NamespaceWithin (length names.now) s) }
-    ensures there { IfOk result (λ s. namespace_of (map declaration names.now) s ≡ tree.attribute_namespace (entries (map declaration names.now) places.now) (name_view taken.now.name)) }
-    ensures tested { (rows : List AttributeRow) (before rest : List Attribute) → Sees (map declaration names.now) seen.old.keys (map (λ r. r.0) rows) → map (attribute (map declaration names.now)) rows ≡ map (attribute_in (entries (map declaration names.now) places.now)) before
-        → TestedOr (entries (map declaration names.now) places.now) before (taken_view taken.now) rest result }
+    ensures there { (ds : List Declaration) → Finds (map declaration names.now) (places_view few.entry) present.now ds
+        → IfOk result (λ s. namespace_of (map declaration names.now) s ≡ tree.attribute_namespace ds (name_view taken.now.name)) }
+    ensures tested { (ds : List Declaration) (rows : List AttributeRow) (before rest : List Attribute) → Finds (map declaration names.now) (places_view few.entry) present.now ds
+        → Sees (map declaration names.now) seen.old.keys (map (λ r. r.0) rows) → map (attribute (map declaration names.now)) rows ≡ map (attribute_in ds) before
+        → TestedOr ds before (taken_view taken.now) rest result }
     ensures more { IfOk result (λ s. (done : List AttributeData) (a : AttributeData) → Sees (map declaration names.now) seen.old.keys done → a.namespace ≡ s → a.local ≡ taken.now.name.local
         → Sees (map declaration names.now) seen.new.keys (done ++ a ∷ [])) }
 {
     let name = taken.name;
-    let Some(namespace) = attribute_namespace(names, places, present, name) else {
+    let Some(namespace) = attribute_namespace(names, few, present, name) else {
         return Err(Failure::Fault(Fault::UnknownNamespace(
             prefix_span(name.prefix, taken.start),
             taken.start,
@@ -204,22 +205,23 @@ fn move_row<'input>(
 fn resolve_many<'input>(
     alloc: Global,
     names: &[Namespace<'input>],
-    places: &[u16],
+    few: Option<&[u16]>,
     present: &Present<'_>,
     taken: &mut Vec<Taken<'input>>,
     attributes: &mut AttributeTable<'input>,
 ) -> Result<(), Failure>
-    requires places { ArePlaces (length names.now) places.now }
-    requires present { Finds (map declaration names.now) places.now present.now }
-    ensures ok { OnOk result ((names_tested (entries (map declaration names.now) places.now) [] (map taken_view taken.old.items) ≡ Ok tt)
+    requires within { LooksWithin (length names.now) (places_view few) present.now }
+    ensures ok { (ds : List Declaration) → Finds (map declaration names.now) (places_view few.entry) present.now ds
+        → OnOk result ((names_tested ds [] (map taken_view taken.old.items) ≡ Ok tt)
         × ((more : List AttributeRow) × (rows_of attributes.new ≡ rows_of attributes.old ++ more)
-        × (map (attribute (map declaration names.now)) more ≡ map (attribute_in (entries (map declaration names.now) places.now)) (map taken_view taken.old.items))
+        × (map (attribute (map declaration names.now)) more ≡ map (attribute_in ds) (map taken_view taken.old.items))
         × AllByRecursion (λ a. NamespaceWithin (length names.now) a.0.namespace) more)) }
-    ensures err { IfErr result (λ e. Fails e (names_tested (entries (map declaration names.now) places.now) [] (map taken_view taken.old.items))) }
+    ensures err { (ds : List Declaration) → Finds (map declaration names.now) (places_view few.entry) present.now ds
+        → IfErr result (λ e. Fails e (names_tested ds [] (map taken_view taken.old.items))) }
 {
     let mut seen = BTreeSet::new(alloc);
     for turn in 0..taken.len() {
-        let namespace = seen_namespace(names, places, present, &mut seen, &taken[turn])?;
+        let namespace = seen_namespace(names, few, present, &mut seen, &taken[turn])?;
         let row = move_row(&mut taken[turn], namespace);
         attributes.push(row)?;
     }
@@ -232,27 +234,28 @@ fn resolve_many<'input>(
 pub fn resolve<'input>(
     alloc: Global,
     names: &[Namespace<'input>],
-    places: &[u16],
+    few: Option<&[u16]>,
     present: &Present<'_>,
     taken: &mut Vec<Taken<'input>>,
     attributes: &mut AttributeTable<'input>,
 ) -> Result<(), Failure>
-    requires places { ArePlaces (length names.now) places.now }
-    requires present { Finds (map declaration names.now) places.now present.now }
-    ensures ok { OnOk result ((names_tested (entries (map declaration names.now) places.now) [] (map taken_view taken.old.items) ≡ Ok tt)
+    requires within { LooksWithin (length names.now) (places_view few) present.now }
+    ensures ok { (ds : List Declaration) → Finds (map declaration names.now) (places_view few.entry) present.now ds
+        → OnOk result ((names_tested ds [] (map taken_view taken.old.items) ≡ Ok tt)
         × ((more : List AttributeRow) × (rows_of attributes.new ≡ rows_of attributes.old ++ more)
-        × (map (attribute (map declaration names.now)) more ≡ map (attribute_in (entries (map declaration names.now) places.now)) (map taken_view taken.old.items))
+        × (map (attribute (map declaration names.now)) more ≡ map (attribute_in ds) (map taken_view taken.old.items))
         × AllByRecursion (λ a. NamespaceWithin (length names.now) a.0.namespace) more)) }
-    ensures err { IfErr result (λ e. Fails e (names_tested (entries (map declaration names.now) places.now) [] (map taken_view taken.old.items))) }
+    ensures err { (ds : List Declaration) → Finds (map declaration names.now) (places_view few.entry) present.now ds
+        → IfErr result (λ e. Fails e (names_tested ds [] (map taken_view taken.old.items))) }
 {
     if taken.len() > FEW {
-        return resolve_many(alloc, names, places, present, taken, attributes);
+        return resolve_many(alloc, names, few, present, taken, attributes);
     }
     let from = attributes.len();
     for turn in 0..taken.len() {
         let namespace = tested_namespace(
             names,
-            places,
+            few,
             present,
             &attributes.items[from..],
             &taken[turn],
@@ -268,24 +271,23 @@ pub fn resolve<'input>(
 #[inline(always)]
 pub fn element_namespace(
     names: &[Namespace<'_>],
-    places: &[u16],
+    few: Option<&[u16]>,
     present: &Present<'_>,
     name: QName<'_>,
     at: usize,
 ) -> Result<Option<u16>, Fault>
-    requires places { ArePlaces (length names.now) places.now }
-    requires present { Finds (map declaration names.now) places.now present.now }
+    requires within { LooksWithin (length names.now) (places_view few) present.now }
     requires small { at < 2 ^ 63 }
-    ensures ok { IfOk result (λ o. OptionWithin (length names.now) o
-        × (option_map (λ i. (entry (map declaration names.now) i).uri) o ≡ tree.element_namespace (entries (map declaration names.now) places.now) (name_view name.entry))
-        × (may_name (entries (map declaration names.now) places.now) (name_view name.entry) ≡ true)) }
-    ensures err { IfErr result (λ f. (f ≡ fault.UnknownNamespace (prefix_span (name_view name.entry) at) at)
-        × (may_name (entries (map declaration names.now) places.now) (name_view name.entry) ≡ false)) }
+    ensures within { IfOk result (λ o. OptionWithin (length names.now) o) }
+    ensures ok { (ds : List Declaration) → Finds (map declaration names.now) (places_view few.entry) present.now ds
+        → IfOk result (λ o. (option_map (λ i. (entry (map declaration names.now) i).uri) o ≡ tree.element_namespace ds (name_view name.entry)) × (may_name ds (name_view name.entry) ≡ true)) }
+    ensures err { (ds : List Declaration) → Finds (map declaration names.now) (places_view few.entry) present.now ds
+        → IfErr result (λ f. (f ≡ fault.UnknownNamespace (prefix_span (name_view name.entry) at) at) × (may_name ds (name_view name.entry) ≡ false)) }
 {
     if name.prefix.is_empty() {
-        return Ok(find_default(names, places, present));
+        return Ok(find_default(names, few, present));
     }
-    match find(names, places, present, Some(name.prefix)) {
+    match find(names, few, present, Some(name.prefix)) {
         Some(place) => Ok(Some(place)),
         None => Err(Fault::UnknownNamespace(prefix_span(name.prefix, at), at)),
     }

@@ -1,17 +1,18 @@
 //! Namespaces in scope (Namespaces in XML 1.0, section 6). A namespace is a place in the table of the distinct pairs of a
-//! prefix, or the default, and a URI; what an element lists is a stretch of such places.
+//! prefix, or the default, and a URI; what an element lists is a row of such places.
 
-ghost use Rattle.std.specs.Prelude.{◌≡◌, ◌<◌, ◌≤◌, ◌++◌, ℕ, List, length, map, drop, slice_range, OnOk, IfSome, IfNone, Some, None, IfErr, ◌&&◌, ◌||◌};
+ghost use Rattle.std.specs.Prelude.{◌≡◌, ◌<◌, ◌≤◌, ◌++◌, ℕ, List, length, map, drop, slice_range, false, OnOk, IfSome, IfNone, Some, None, IfErr, ◌&&◌, ◌||◌};
+ghost use Rattle.std.specs.Option.{option_map};
 ghost use Rattle.rox_grammar.specs.Tree.{same_prefix, is_declared, uri_of};
 ghost use Rattle.rox_grammar.specs.WellNamed.{is_xml};
-ghost use Rattle.rox_build.specs.Lines.{declaration, entry};
-ghost use Rattle.rox_build.specs.Scopes.{prefix_view, entries, ArePlaces, others};
+ghost use Rattle.rox_build.specs.Lines.{declaration, entry, OptionWithin, AreScopes};
+ghost use Rattle.rox_build.specs.Scopes.{prefix_view, entries, places_in, is_few_at, ArePlaces, others};
 ghost use Rattle.rox_build.specs.Prefixes.{Remembers};
-ghost use Rattle.rox_build.specs.Present.{Finds};
+ghost use Rattle.rox_build.specs.Present.{LooksWithin, looked_up, places_view};
 
 use crate::prefixes::{FEW, has_prefix};
 use crate::present::Present;
-use crate::tables::Namespace;
+use crate::tables::{Namespace, Scope};
 use rox_scan::alike::same_text;
 use rox_scan::failure::Failure;
 use std::collections::BTreeSet;
@@ -65,39 +66,59 @@ pub fn default_place(names: &[Namespace<'_>], places: &[u16]) -> Option<u16>
     None
 }
 
-/// The place of this prefix, or of the default, among these: the first one. Where they are many it is looked up.
+/// The listed places of a scope, where they are few.
+#[inline(always)]
+pub fn few_places<'a>(scopes: &[Scope], listed: &'a [u16], scope: u32) -> Option<&'a [u16]>
+    requires scopes { AreScopes (length listed.now) scopes.now }
+    requires within { scope < length scopes.now }
+    ensures few { IfSome result (λ places. places.now ≡ places_in listed.now scopes.now scope) }
+    ensures many { IfNone result (is_few_at scopes.now scope ≡ false) }
+{
+    match scopes[scope as usize] {
+        Scope::Few(stretch) => Some(&listed[stretch.from..stretch.until]),
+        _ => None,
+    }
+}
+
+/// The place of this prefix, or of the default: the first among these places, where they are few, and else as it is present.
 #[inline]
 pub fn find(
     names: &[Namespace<'_>],
-    places: &[u16],
+    few: Option<&[u16]>,
     present: &Present<'_>,
     prefix: Option<&str>,
 ) -> Option<u16>
-    requires places { ArePlaces (length names.now) places.now }
-    requires present { Finds (map declaration names.now) places.now present.now }
-    ensures there { IfSome result (λ i. (i < length names.now)
-        × (uri_of (entries (map declaration names.now) places.now) (prefix_view prefix.entry) ≡ Some (entry (map declaration names.now) i).uri)) }
-    ensures absent { IfNone result (uri_of (entries (map declaration names.now) places.now) (prefix_view prefix.entry) ≡ None) }
+    requires { LooksWithin (length names.now) (places_view few) present.now }
+    ensures within { OptionWithin (length names.now) result }
+    ensures value { option_map (λ i. (entry (map declaration names.now) i).uri) result ≡ looked_up (map declaration names.now) (places_view few.entry) present.now (prefix_view prefix.entry) }
 {
-    if places.len() > FEW {
-        return present.get(prefix);
+    match few {
+        Some(places) => place_of(names, places, prefix),
+        None => match present.get(prefix) {
+            Some(place) => Some(place.namespace),
+            None => None,
+        },
     }
-    place_of(names, places, prefix)
 }
 
-/// The place of the default among these: the first one. Where they are many it is looked up.
+/// The place of the default: the first among these places, where they are few, and else as it is present.
 #[inline(always)]
-pub fn find_default(names: &[Namespace<'_>], places: &[u16], present: &Present<'_>) -> Option<u16>
-    requires places { ArePlaces (length names.now) places.now }
-    requires present { Finds (map declaration names.now) places.now present.now }
-    ensures there { IfSome result (λ i. (i < length names.now)
-        × (uri_of (entries (map declaration names.now) places.now) None ≡ Some (entry (map declaration names.now) i).uri)) }
-    ensures absent { IfNone result (uri_of (entries (map declaration names.now) places.now) None ≡ None) }
+pub fn find_default(
+    names: &[Namespace<'_>],
+    few: Option<&[u16]>,
+    present: &Present<'_>,
+) -> Option<u16>
+    requires { LooksWithin (length names.now) (places_view few) present.now }
+    ensures within { OptionWithin (length names.now) result }
+    ensures value { option_map (λ i. (entry (map declaration names.now) i).uri) result ≡ looked_up (map declaration names.now) (places_view few.entry) present.now None }
 {
-    if places.len() > FEW {
-        return present.get(None);
+    match few {
+        Some(places) => default_place(names, places),
+        None => match present.get(None) {
+            Some(place) => Some(place.namespace),
+            None => None,
+        },
     }
-    default_place(names, places)
 }
 
 /// Whether one of these has this prefix, or is the default.

@@ -79,7 +79,7 @@ pub struct NodeData<'input> {
     pub kind: NodeKind<'input>,
 }
 
-/// The tables. An element names one of `scopes`, a stretch of `listed`, whose numbers are places in `namespaces`; elements
+/// The tables. An element names one of `scopes`, stretches of `listed`, whose numbers are places in `namespaces`; elements
 /// without declarations have their parent's scope. The first scope lists nothing: it is that of the root node.
 #[derive(Debug, Drop)]
 pub struct Tables<'input> {
@@ -101,9 +101,33 @@ pub struct ElementTables<'input> {
     pub present: Present<'input>,
 }
 
-/// What elements of one scope list: a stretch of the listed places.
+/// A stretch of the listed places.
 #[derive(Clone, Copy, Debug)]
-pub struct Scope {
+pub struct Stretch {
     pub from: usize,
     pub until: usize,
+}
+
+/// What two scopes list, each a row before: the one behind the other.
+#[derive(Clone, Copy, Debug)]
+pub struct Both {
+    pub first: u32,
+    pub rest: u32,
+    /// How many these are in all.
+    pub count: u32,
+    /// One more than the height of the higher of the two, which keeps ropes low.
+    pub height: u8,
+    /// The lowest listed place of the last leaf: a hint where a place is to be sought.
+    pub low: usize,
+}
+
+/// What elements of one scope list. Few are a stretch, copied for each scope. Many are a rope of stretches: a scope below one
+/// that lists many has its own, and what is left of the rope of that one.
+#[derive(Clone, Copy, Debug)]
+pub enum Scope {
+    /// A stretch from its front, of at most `FEW`.
+    Few(Stretch),
+    /// A stretch from its back.
+    Back(Stretch),
+    Both(Both),
 }

@@ -5,28 +5,27 @@ ghost use Rattle.rox_grammar.specs.Written.{Declaration};
 ghost use Rattle.rox_grammar.specs.Document.{most_pairs, most_attributes};
 ghost use Rattle.rox_reading.specs.Tags.{Held, attributes_at, tag_at, tested_at};
 ghost use Rattle.rox_scan.specs.Gives.{Fails, name_view};
-ghost use Rattle.rox_build.specs.Tagged.{IsElement, GivesTag, KeepsPlaces, lists_in, scope_in_tables};
+ghost use Rattle.rox_build.specs.Tagged.{IsElement, IsPresent, GivesTag, KeepsPlaces, lists_in, scope_in_tables};
 ghost use Rattle.rox_scan.specs.Parts.{HasValue, attribute_view};
 ghost use Rattle.rox_grammar.specs.Entities.{Entity};
 ghost use Rattle.rox_build.specs.Named.{AreDeclared, values_in};
 ghost use Rattle.rox_build.specs.Values.{piece_view};
 ghost use Rattle.rox_build.specs.Storage.{storage_bytes, is_borrowed};
-ghost use Rattle.rox_build.specs.Lines.{declaration, scope_at, AreStretches, rows_of};
-ghost use Rattle.rox_build.specs.Scopes.{ArePlaces, places_in};
+ghost use Rattle.rox_build.specs.Lines.{declaration, scope_at, AreScopes, rows_of};
+ghost use Rattle.rox_build.specs.Scopes.{ArePlaces, Once, entries};
 ghost use Rattle.rox_build.specs.Prefixes.{Remembers};
-ghost use Rattle.rox_build.specs.Present.{Finds, IsEntered};
 ghost use Rattle.rox_build.specs.Tags.{Declares, Holding, Took, TookAll, one_more, taken_view};
 ghost use Rattle.rox_grammar.specs.Tree.{listed};
 
 use crate::declaration::{declares, take_declaration};
 use crate::growth::push;
 use crate::how::How;
-use crate::prefixes::FEW;
 use crate::refused::Refused;
 use crate::resolve::{element_namespace, resolve};
-use crate::scope::inherit;
+use crate::scope::few_places;
 use crate::storage::StringStorage;
-use crate::tables::{ElementData, ElementTables, Scope};
+use crate::tables::{ElementData, ElementTables};
+use crate::tag_scope::scope_of_tag;
 use crate::taken::Taken;
 use crate::value::{Piece, value};
 use rox_grammar::fault::Fault;
@@ -104,12 +103,14 @@ fn take<'input>(
     requires own { own ≤ length elements.old.listed.items }
     requires few { length elements.old.namespaces.items.items ≤ most_pairs }
     requires many { Remembers (map declaration elements.old.namespaces.items.items) (drop own elements.old.listed.items) buffers.old.many.keys }
-    requires scopes { AreStretches own elements.old.scopes.items }
+    requires once { Once (entries (map declaration elements.old.namespaces.items.items) (drop own elements.old.listed.items)) }
+    requires scopes { AreScopes own elements.old.scopes.items }
     requires kept { KeepsPlaces elements.old }
     ensures places { OnOk result (ArePlaces (length elements.new.namespaces.items.items) elements.new.listed.items) }
     ensures own { OnOk result (own ≤ length elements.new.listed.items) }
     ensures few { OnOk result (length elements.new.namespaces.items.items ≤ most_pairs) }
     ensures many { OnOk result (Remembers (map declaration elements.new.namespaces.items.items) (drop own elements.new.listed.items) buffers.new.many.keys) }
+    ensures once { OnOk result (Once (entries (map declaration elements.new.namespaces.items.items) (drop own elements.new.listed.items))) }
     ensures kept { OnOk result (KeepsPlaces elements.new) }
     ensures scopes { elements.new.scopes ≡ elements.old.scopes }
     ensures lists { OnOk result (lists_in elements.new ≡ lists_in elements.old) }
@@ -172,12 +173,14 @@ fn attributes<'input>(
     requires own { own ≤ length elements.old.listed.items }
     requires few { length elements.old.namespaces.items.items ≤ most_pairs }
     requires many { Remembers (map declaration elements.old.namespaces.items.items) (drop own elements.old.listed.items) buffers.old.many.keys }
-    requires scopes { AreStretches own elements.old.scopes.items }
+    requires once { Once (entries (map declaration elements.old.namespaces.items.items) (drop own elements.old.listed.items)) }
+    requires scopes { AreScopes own elements.old.scopes.items }
     requires kept { KeepsPlaces elements.old }
     ensures places { OnOk result (ArePlaces (length elements.new.namespaces.items.items) elements.new.listed.items) }
     ensures own { OnOk result (own ≤ length elements.new.listed.items) }
     ensures few { OnOk result (length elements.new.namespaces.items.items ≤ most_pairs) }
     ensures many { OnOk result (Remembers (map declaration elements.new.namespaces.items.items) (drop own elements.new.listed.items) buffers.new.many.keys) }
+    ensures once { OnOk result (Once (entries (map declaration elements.new.namespaces.items.items) (drop own elements.new.listed.items))) }
     ensures kept { OnOk result (KeepsPlaces elements.new) }
     ensures scopes { elements.new.scopes ≡ elements.old.scopes }
     ensures lists { OnOk result (lists_in elements.new ≡ lists_in elements.old) }
@@ -216,109 +219,6 @@ fn attributes<'input>(
     Err(Refused::Fault(cut))
 }
 
-/// How many scopes the table holds at most. More are never asked for: each but the first was made for an element, which has a
-/// row of its own, and there are fewer rows.
-const MOST_SCOPES: usize = 4294967296;
-
-/// The scope of an element whose own declarations are those behind `own`, and `xml` if the flag says so, below one of the scope
-/// `above`: one of its own, or its parent's where it declares nothing. The set has its prefixes where they are many.
-#[inline(always)]
-fn listed_by_tag<'input>(
-    elements: &mut ElementTables<'input>,
-    many: &BTreeSet<Option<&'input str>>,
-    above: u32,
-    own: usize,
-    xml: bool,
-) -> Result<u32, Failure>
-    requires places { ArePlaces (length elements.old.namespaces.items.items) elements.old.listed.items }
-    requires own { own ≤ length elements.old.listed.items }
-    requires many { Remembers (map declaration elements.old.namespaces.items.items) (drop own elements.old.listed.items) many.now.keys }
-    requires scopes { AreStretches own elements.old.scopes.items }
-    requires above { above < length elements.old.scopes.items }
-    ensures names { elements.new.namespaces ≡ elements.old.namespaces }
-    ensures attributes { elements.new.attributes ≡ elements.old.attributes }
-    ensures present { elements.new.present ≡ elements.old.present }
-    ensures entered { IfOk result (λ s. IsEntered (map declaration elements.new.namespaces.items.items) (lists_in elements.new) (drop own elements.old.listed.items) (places_in elements.new.listed.items elements.new.scopes.items s) xml above s) }
-    ensures listed { OnOk result ((more : List ℕ) × (elements.new.listed.items ≡ elements.old.listed.items ++ more)) }
-    ensures more { OnOk result ((more : List (List Declaration)) × (lists_in elements.new ≡ lists_in elements.old ++ more)) }
-    ensures places { OnOk result (ArePlaces (length elements.new.namespaces.items.items) elements.new.listed.items) }
-    ensures scopes { OnOk result (AreStretches (length elements.new.listed.items) elements.new.scopes.items) }
-    ensures within { IfOk result (λ s. s < length elements.new.scopes.items) }
-    ensures lists { (known : List Declaration) (before : List ℕ) (ds : List Declaration) → own ≡ length before
-        → Declares known before (map declaration elements.old.namespaces.items.items) elements.old.listed.items xml ds
-        → IfOk result (λ s. scope_at (lists_in elements.new) s ≡ listed (scope_at (lists_in elements.old) above) ds) }
-    ensures err { IfErr result (λ e. e ≡ Failure.Memory) }
-{
-    if own >= elements.listed.len() && !xml {
-        return Ok(above);
-    }
-    let place = elements.scopes.len();
-    if place >= MOST_SCOPES {
-        return Err(Failure::Memory);
-    }
-    let parent = elements.scopes[above as usize];
-    inherit(
-        elements.namespaces.as_slice(),
-        &mut elements.listed,
-        own,
-        many,
-        xml,
-        parent.from,
-        parent.until,
-    )?;
-    let scope = Scope {
-        from: own,
-        until: elements.listed.len(),
-    };
-    push(&mut elements.scopes, scope)?;
-    Ok(place as u32)
-}
-
-/// The same, and where it lists many it is entered into the places of prefixes.
-#[inline(always)]
-fn scope_of_tag<'input>(
-    elements: &mut ElementTables<'input>,
-    many: &BTreeSet<Option<&'input str>>,
-    above: u32,
-    own: usize,
-    xml: bool,
-) -> Result<u32, Failure>
-    requires places { ArePlaces (length elements.old.namespaces.items.items) elements.old.listed.items }
-    requires own { own ≤ length elements.old.listed.items }
-    requires many { Remembers (map declaration elements.old.namespaces.items.items) (drop own elements.old.listed.items) many.now.keys }
-    requires scopes { AreStretches own elements.old.scopes.items }
-    requires above { above < length elements.old.scopes.items }
-    requires kept { KeepsPlaces elements.old }
-    ensures names { elements.new.namespaces ≡ elements.old.namespaces }
-    ensures attributes { elements.new.attributes ≡ elements.old.attributes }
-    ensures more { OnOk result ((more : List (List Declaration)) × (lists_in elements.new ≡ lists_in elements.old ++ more)) }
-    ensures places { OnOk result (ArePlaces (length elements.new.namespaces.items.items) elements.new.listed.items) }
-    ensures scopes { OnOk result (AreStretches (length elements.new.listed.items) elements.new.scopes.items) }
-    ensures within { IfOk result (λ s. s < length elements.new.scopes.items) }
-    ensures lists { (known : List Declaration) (before : List ℕ) (ds : List Declaration) → own ≡ length before
-        → Declares known before (map declaration elements.old.namespaces.items.items) elements.old.listed.items xml ds
-        → IfOk result (λ s. scope_at (lists_in elements.new) s ≡ listed (scope_at (lists_in elements.old) above) ds) }
-    ensures kept { OnOk result (KeepsPlaces elements.new) }
-    ensures finds { IfOk result (λ s. Finds (map declaration elements.new.namespaces.items.items) (places_in elements.new.listed.items elements.new.scopes.items s) elements.new.present) }
-    ensures err { IfErr result (λ e. e ≡ Failure.Memory) }
-{
-    let end = elements.listed.len();
-    let scope = listed_by_tag(elements, many, above, own, xml)?;
-    let stretch = elements.scopes[scope as usize];
-    if stretch.until - stretch.from <= FEW {
-        return Ok(scope);
-    }
-    elements.present.enter(
-        elements.namespaces.as_slice(),
-        &elements.listed[own..end],
-        &elements.listed[stretch.from..stretch.until],
-        xml,
-        above,
-        scope,
-    )?;
-    Ok(scope)
-}
-
 /// How many attributes a document may have.
 const MOST_ATTRIBUTES: usize = 4294967294;
 
@@ -333,9 +233,9 @@ fn element_data<'input>(
     scope: u32,
 ) -> Result<ElementData<'input>, Failure>
     requires places { ArePlaces (length elements.old.namespaces.items.items) elements.old.listed.items }
-    requires scopes { AreStretches (length elements.old.listed.items) elements.old.scopes.items }
+    requires scopes { AreScopes (length elements.old.listed.items) elements.old.scopes.items }
     requires within { scope < length elements.old.scopes.items }
-    requires finds { Finds (map declaration elements.old.namespaces.items.items) (places_in elements.old.listed.items elements.old.scopes.items scope) elements.old.present }
+    requires present { IsPresent elements.old scope }
     requires few { length (rows_of elements.old.attributes) ≤ most_attributes }
     requires small { at < 2 ^ 63 }
     ensures names { elements.new.namespaces ≡ elements.old.namespaces }
@@ -350,18 +250,18 @@ fn element_data<'input>(
     if taken.len() > MOST_ATTRIBUTES - from {
         return Err(Failure::Fault(Fault::AttributesLimitReached));
     }
-    let stretch = elements.scopes[scope as usize];
+    let few = few_places(&elements.scopes, &elements.listed, scope);
     resolve(
         alloc,
         elements.namespaces.as_slice(),
-        &elements.listed[stretch.from..stretch.until],
+        few,
         &elements.present,
         taken,
         &mut elements.attributes,
     )?;
     let namespace = element_namespace(
         elements.namespaces.as_slice(),
-        &elements.listed[stretch.from..stretch.until],
+        few,
         &elements.present,
         name,
         at,
@@ -394,8 +294,9 @@ pub fn start_tag<'input>(
     requires places { ArePlaces (length elements.old.namespaces.items.items) elements.old.listed.items }
     requires few { length elements.old.namespaces.items.items ≤ most_pairs }
     requires few_attributes { length (rows_of elements.old.attributes) ≤ most_attributes }
-    requires scopes { AreStretches (length elements.old.listed.items) elements.old.scopes.items }
+    requires scopes { AreScopes (length elements.old.listed.items) elements.old.scopes.items }
     requires above { above < length elements.old.scopes.items }
+    requires once { Once (scope_in_tables elements.old above) }
     requires kept { KeepsPlaces elements.old }
     ensures source { cursor.new.text ≡ cursor.old.text }
     ensures starts { IfOk result (λ t. t.name_start ≡ cursor.old.pos + 1) }

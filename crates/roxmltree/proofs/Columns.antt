@@ -1,7 +1,7 @@
 -- Attributes in two columns: what they are, and where they stand.
-use Rattle.std.proofs.Common.{◌≡◌, ℕ, zero, suc, ◌+◌, ◌-◌, ◌<◌, ◌≤◌, List, [], ◌∷◌, ◌++◌, length, map, get_or, take, drop, add-one, drop-cons, refl, sym, ap, ◌∙◌, subst, arith}
+use Rattle.std.proofs.Common.{◌≡◌, ℕ, zero, suc, ◌+◌, ◌-◌, ◌<◌, ◌≤◌, List, [], ◌∷◌, ◌++◌, length, map, get_or, sym, ap, ◌∙◌, subst, arith}
 use Rattle.std.specs.List.{AllByRecursion, slice_range, zip}
-use Rattle.std.proofs.lemmas.List.{take_more, get_or-drop, length-map, length-drop, length-take-le}
+use Rattle.std.proofs.lemmas.List.{length-map}
 use Rattle.std.proofs.lemmas.Slice.Zip.{firsts-zip, get_or-zip}
 use Rattle.rox_grammar.specs.Written.{Declaration}
 use Rattle.rox_build.specs.Lines.{AttributeRow, NamespaceWithin, attribute, rows_of}
@@ -9,6 +9,7 @@ use Rattle.rox_build.specs.declared.tables.AttributeData.{AttributeData}
 use Rattle.rox_build.specs.declared.tables.AttributePlaces.{AttributePlaces}
 use Rattle.rox_build.specs.declared.attributes.AttributeTable.{AttributeTable}
 use Rattle.roxmltree.specs.Reach.{reach}
+use Rattle.roxmltree.proofs.Ends.{first_of, last_of, length_stretch}
 use Rattle.roxmltree.proofs.Entries.{reach_within}
 
 -- so many rows as there are data
@@ -25,35 +26,25 @@ pub first_row : (as' : List AttributeData) (ps : List AttributePlaces) (i j : �
     → length ps ≡ length as' → i ≤ j → (i ≡ j → ⊥) → j ≤ length as'
     → slice_range (zip as' ps) i j ≡ (get_or as' i x, get_or ps i p) ∷ slice_range (zip as' ps) (i + 1) j
 first_row as' ps i j x p e o n w =
-    let rows = zip as' ps in
     let l = length_rows as' ps e in
-    let some : i < length rows = omega arith in
-    let k : j - i ≡ suc (j - (i + 1)) = omega arith in
-    let d : drop i rows ≡ get_or rows i (x, p) ∷ drop (i + 1) rows = rw (add-one, drop-cons rows i (x, p) some) refl in
-    ap (take (j - i)) d ∙ ap (λ n. take n (get_or rows i (x, p) ∷ drop (i + 1) rows)) k
-    ∙ ap (λ r. r ∷ slice_range rows (i + 1) j) (row_at as' ps i x p e (omega arith))
+    first_of (zip as' ps) i j (x, p) (omega arith) (omega arith)
+    ∙ ap (λ r. r ∷ slice_range (zip as' ps) (i + 1) j) (row_at as' ps i x p e (omega arith))
 
 -- those before the last row of a stretch, and the last
 pub last_row : (as' : List AttributeData) (ps : List AttributePlaces) (i j : ℕ) (x : AttributeData) (p : AttributePlaces)
     → length ps ≡ length as' → i ≤ j → (i ≡ j → ⊥) → j ≤ length as'
     → slice_range (zip as' ps) i j ≡ slice_range (zip as' ps) i (j - 1) ++ (get_or as' (j - 1) x, get_or ps (j - 1) p) ∷ []
 last_row as' ps i j x p e o n w =
-    let rows = zip as' ps in
     let l = length_rows as' ps e in
-    let k : j - i ≡ ((j - 1) - i) + 1 = omega arith in
-    let d : length (drop i rows) ≡ length rows - i = length-drop i rows in
-    let there : i + ((j - 1) - i) ≡ j - 1 = omega arith in
-    ap (λ n. take n (drop i rows)) k ∙ take_more (drop i rows) ((j - 1) - i) (x, p) (omega arith)
-    ∙ ap (λ r. take ((j - 1) - i) (drop i rows) ++ r ∷ []) (get_or-drop i rows ((j - 1) - i) (x, p) ∙ ap (λ n. get_or rows n (x, p)) there ∙ row_at as' ps (j - 1) x p e (omega arith))
+    last_of (zip as' ps) i j (x, p) (omega arith) (omega arith)
+    ∙ ap (λ r. slice_range (zip as' ps) i (j - 1) ++ r ∷ []) (row_at as' ps (j - 1) x p e (omega arith))
 
 -- how many attributes a stretch has
 pub length_left : (names : List Declaration) (as' : List AttributeData) (ps : List AttributePlaces) (i j : ℕ)
     → length ps ≡ length as' → i ≤ j → j ≤ length as' → length (map (attribute names) (slice_range (zip as' ps) i j)) ≡ j - i
 length_left names as' ps i j e o w =
-    let rows = zip as' ps in
     let l = length_rows as' ps e in
-    let d : length (drop i rows) ≡ length rows - i = length-drop i rows in
-    length-map (slice_range rows i j) (attribute names) ∙ length-take-le (j - i) (drop i rows) (omega arith)
+    length_stretch (attribute names) (zip as' ps) i j o (omega arith)
 
 -- what holds of each row's data holds of each of the column
 pub all_column : (n : ℕ) (t : AttributeTable) → AllByRecursion (λ (r : AttributeRow). NamespaceWithin n r.0.namespace) (rows_of t) → AllByRecursion (λ a. NamespaceWithin n a.namespace) t.items.items

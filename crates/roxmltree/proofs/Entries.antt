@@ -1,6 +1,5 @@
 -- Rows of namespaces and of attributes, and what they name.
-use Rattle.std.proofs.Common.{◌≡◌, ℕ, zero, suc, ◌<◌, ◌≤◌, List, [], ◌∷◌, ◌++◌, length, get_or, map, ap, arith}
-use Rattle.std.specs.List.{AllByRecursion}
+use Rattle.std.proofs.Common.{◌≡◌, ℕ, zero, suc, ◌<◌, ◌≤◌, List, [], ◌∷◌, length, get_or, map, ap, arith}
 use Rattle.rox_build.specs.Storage.{storage_bytes}
 use Rattle.rox_build.specs.Lines.{declaration, entry, NamespaceWithin}
 use Rattle.rox_build.specs.declared.tables.Namespace.{Namespace}
@@ -22,12 +21,3 @@ pub reach_within : (n : ℕ) (s : AttributeNamespace) → NamespaceWithin n s �
 reach_within n space.None w = omega arith
 reach_within n space.Xml w = omega arith
 reach_within n (space.Listed i) w = omega (arith, w)
-
--- what holds of all holds of the front, and of the last
-pub all_front : {X : Type 0} (P : X → Type 0) (xs ys : List X) → AllByRecursion P (xs ++ ys) → AllByRecursion P xs
-all_front P [] ys h = tt
-all_front P (x ∷ xs) ys h = (h.0, all_front P xs ys h.1)
-
-pub all_last : {X : Type 0} (P : X → Type 0) (xs : List X) (y : X) → AllByRecursion P (xs ++ y ∷ []) → P y
-all_last P [] y h = h.0
-all_last P (x ∷ xs) y h = all_last P xs y h.1

@@ -12,6 +12,7 @@ pub mod Once
 pub mod Entries
 pub mod Prefixes
 pub mod Parts
+pub mod Ends
 pub mod Columns
 pub mod Stretches
 pub mod Ranges

@@ -1,11 +1,11 @@
 -- What an element has, as callers and as the tables say it.
-use Rattle.std.specs.Prelude.{◌≡◌, ◌<◌, ◌≤◌, List, map, length, slice_range}
+use Rattle.std.specs.Prelude.{◌≡◌, ℕ, ◌<◌, ◌≤◌, List, map, length, slice_range}
 use Rattle.std.specs.Coded.{Coded, coded_list}
 use Rattle.std.specs.List.{AllByRecursion, zip}
-use Rattle.std.specs.Slice.Iter.{iter_rest}
 use Rattle.rox_grammar.specs.Written.{Declaration}
 use Rattle.rox_grammar.specs.Tree as tree
-use Rattle.rox_build.specs.Lines.{attribute, declaration, entry, NamespaceWithin}
+use Rattle.rox_build.specs.Lines.{attribute, declaration, entry, AreScopes, NamespaceWithin}
+use Rattle.rox_build.specs.Scopes.{places_in, ArePlaces}
 use Rattle.roxmltree.specs.Flat.{attribute_code, declaration_code}
 use Rattle.roxmltree.specs.declared.elements.Attribute.{Attribute}
 use Rattle.roxmltree.specs.declared.elements.Attributes.TheInside as attributes
@@ -32,8 +32,17 @@ pub record AttributesWithin (a : attributes.Inside) : Type 0 where
   pub within : a.until ≤ length a.items.now
   pub each : AllByRecursion (λ d. NamespaceWithin (length a.names.now) d.namespace) a.items.now
 
-abbrev pub namespaces_left : namespaces.Inside → List Declaration
-namespaces_left n = map (entry (map declaration n.names.now)) (iter_rest n.items)
+-- the places that are left of those that the scope lists
+abbrev pub places_left : namespaces.Inside → List ℕ
+places_left n = slice_range (places_in n.listed.now n.scopes.now n.scope) n.from n.until
 
+abbrev pub namespaces_left : namespaces.Inside → List Declaration
+namespaces_left n = map (entry (map declaration n.names.now)) (places_left n)
+
+-- they are a stretch of these, and each place that is listed is in the table
 pub record NamespacesWithin (n : namespaces.Inside) : Type 0 where
-  pub each : AllByRecursion (λ i. i < length n.names.now) (iter_rest n.items)
+  pub ordered : n.from ≤ n.until
+  pub within : n.until ≤ length (places_in n.listed.now n.scopes.now n.scope)
+  pub is_row : n.from < n.until → n.scope < length n.scopes.now
+  pub scopes : AreScopes (length n.listed.now) n.scopes.now
+  pub each : ArePlaces (length n.names.now) n.listed.now

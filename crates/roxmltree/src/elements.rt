@@ -6,11 +6,12 @@ ghost use Rattle.rox_build.specs.Lines.{declaration};
 ghost use Rattle.roxmltree.specs.Reach.{reach};
 
 use crate::names::{ExpandedName, NS_XML_URI};
+use rox_build::rope::{count, place_at};
 use rox_build::storage::StringStorage;
-use rox_build::tables::{AttributeData, AttributeNamespace, AttributePlaces, Namespace};
+use rox_build::tables::{AttributeData, AttributeNamespace, AttributePlaces, Namespace, Scope};
+use std::fmt;
 use std::marker::Model;
 use std::ops::Range;
-use std::{fmt, slice};
 
 /// An attribute of an element (XML 1.0 section 3.1).
 #[derive(Clone, Copy)]
@@ -259,11 +260,15 @@ impl ExactSizeIterator for Attributes<'_, '_> {
     }
 }
 
-/// Namespaces that one element lists, from both ends.
+/// Namespaces that one element lists, from both ends: a stretch of what its scope lists.
 #[derive(Clone, Drop)]
 pub struct NamespaceIter<'a, 'input> {
-    pub(crate) items: slice::Iter<'a, u16>,
+    pub(crate) scopes: &'a [Scope],
+    pub(crate) listed: &'a [u16],
     pub(crate) names: &'a [Namespace<'input>],
+    pub(crate) scope: u32,
+    pub(crate) from: usize,
+    pub(crate) until: usize,
 }
 
 impl<'a, 'input> Model for NamespaceIter<'a, 'input> {
@@ -281,28 +286,47 @@ impl<'a, 'input> Model for NamespaceIter<'a, 'input> {
 }
 
 impl<'a, 'input> NamespaceIter<'a, 'input> {
-    ghost use Rattle.std.specs.Prelude.{map, slice_range, ◌<◌, ◌^◌};
-    ghost use Rattle.std.specs.List.{AllByRecursion};
-    ghost use Rattle.rox_build.specs.Lines.{entry};
+    ghost use Rattle.std.specs.Prelude.{[], map, ◌<◌, ◌^◌};
+    ghost use Rattle.rox_build.specs.Lines.{entry, AreScopes};
+    ghost use Rattle.rox_build.specs.Scopes.{places_in, ArePlaces};
 
-    /// A stretch of the places that all elements list, in this table of namespaces.
+    /// All that a scope lists of these places, in this table of namespaces.
     #[inline]
-    #[tactic(auto, using(crate::proofs::Parts::all_stretch))]
-    pub(crate) fn part(
-        items: &'a [u16],
-        from: usize,
-        until: usize,
+    #[tactic(auto, using(crate::proofs::Ends::whole))]
+    pub(crate) fn of_scope(
+        scopes: &'a [Scope],
+        listed: &'a [u16],
         names: &'a [Namespace<'input>],
+        scope: u32,
     ) -> NamespaceIter<'a, 'input>
-        requires ordered { from ≤ until }
-        requires within { until ≤ length items.now }
-        requires named { AllByRecursion (λ i. i < length names.now) items.now }
-        ensures value { result ≡ map (entry (map declaration names.now)) (slice_range items.now from until) }
+        requires is_row { scope < length scopes.now }
+        requires scopes { AreScopes (length listed.now) scopes.now }
+        requires named { ArePlaces (length names.now) listed.now }
+        ensures value { result ≡ map (entry (map declaration names.now)) (places_in listed.now scopes.now scope) }
         ensures few { length result < 2 ^ 64 }
     {
         NamespaceIter {
-            items: items[from..until].iter(),
+            scopes,
+            listed,
             names,
+            scope,
+            from: 0,
+            until: count(scopes, scope),
+        }
+    }
+
+    /// None, as nodes list that are no element.
+    #[inline]
+    pub(crate) fn empty() -> NamespaceIter<'a, 'input>
+        ensures { result ≡ [] }
+    {
+        NamespaceIter {
+            scopes: &[],
+            listed: &[],
+            names: &[],
+            scope: 0,
+            from: 0,
+            until: 0,
         }
     }
 }
@@ -326,13 +350,15 @@ impl<'a, 'input> Iterator for NamespaceIter<'a, 'input> {
 
     ghost remaining = { item_count (λ s. s) };
 
-    #[tactic(auto, using(crate::proofs::Entries::entry_is))]
+    #[tactic(auto, using(crate::proofs::Ends::length_stretch))]
     fn next(&mut self) -> Option<&'a Namespace<'input>> {
-        let names = self.names;
-        let Some(place) = self.items.next() else {
+        if self.from == self.until {
             return None;
-        };
-        Some(&names[*place as usize])
+        }
+        let names = self.names;
+        let place = place_at(self.scopes, self.listed, self.scope, self.from);
+        self.from += 1;
+        Some(&names[place as usize])
     }
 
     fn size_hint(&self) -> (usize, Option<usize>)
@@ -350,18 +376,22 @@ impl<'a, 'input> DoubleEndedIterator for NamespaceIter<'a, 'input> {
 
     ghost next_back_gives = { YieldsLastBy (λ n. declaration n.now) (λ s. s) };
 
-    #[tactic(auto, using(crate::proofs::Entries::entry_is, crate::proofs::Entries::all_front, crate::proofs::Entries::all_last))]
+    #[tactic(auto, using(crate::proofs::Ends::length_stretch))]
     fn next_back(&mut self) -> Option<&'a Namespace<'input>> {
-        let names = self.names;
-        let Some(place) = self.items.next_back() else {
+        if self.from == self.until {
             return None;
-        };
-        Some(&names[*place as usize])
+        }
+        let names = self.names;
+        let last = self.until - 1;
+        let place = place_at(self.scopes, self.listed, self.scope, last);
+        self.until = last;
+        Some(&names[place as usize])
     }
 }
 
 impl ExactSizeIterator for NamespaceIter<'_, '_> {
+    #[tactic(auto, using(crate::proofs::Ends::length_stretch))]
     fn len(&self) -> usize {
-        self.items.len()
+        self.until - self.from
     }
 }

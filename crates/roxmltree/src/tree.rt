@@ -216,14 +216,12 @@ impl<'input> Document<'input> {
         ensures value { result ≡ listed_of (node_at self.now.tree (number id)) }
         ensures few { length result < 2 ^ 64 }
     {
-        let items = self.tables.listed.as_slice();
+        let NodeKind::Element(element) = &self.tables.nodes[id.0 as usize].kind else {
+            return NamespaceIter::empty();
+        };
+        let scopes = self.tables.scopes.as_slice();
+        let listed = self.tables.listed.as_slice();
         let names = self.tables.namespaces.as_slice();
-        match &self.tables.nodes[id.0 as usize].kind {
-            NodeKind::Element(element) => {
-                let scope = self.tables.scopes[element.scope as usize];
-                NamespaceIter::part(items, scope.from, scope.until, names)
-            }
-            _ => NamespaceIter::part(items, 0, 0, names),
-        }
+        NamespaceIter::of_scope(scopes, listed, names, element.scope)
     }
 }

@@ -297,6 +297,108 @@ fn an_empty_default_among_many(rt: HostRuntime) -> Result<(), Fail> {
     Ok(())
 }
 
+/// Elements below the twenty that declare one of them each for the URI 0, with an element in each and one behind it.
+fn siblings(alloc: Global) -> Result<String, AllocError> {
+    let mut text = text_of(alloc, "<r", &MANY, ">")?;
+    for (prefix, _) in &MANY {
+        text.push_str("<e")?;
+        declare(&mut text, &[(*prefix, "0")])?;
+        text.push_str("><e/></e><e/>")?;
+    }
+    text.push_str("</r>")?;
+    Ok(text)
+}
+
+/// What an element lists below the twenty that declares this prefix, or the default, for the URI 0.
+fn listed_below<'a>(
+    alloc: Global,
+    own: Option<&'a str>,
+) -> Result<Vec<(Option<&'a str>, &'a str)>, AllocError> {
+    let mut listed = Vec::new(alloc);
+    listed.push((own, "0"))?;
+    for (prefix, uri) in &MANY {
+        if *prefix != own {
+            listed.push((*prefix, *uri))?;
+        }
+    }
+    Ok(listed)
+}
+
+#[test]
+fn siblings_that_each_hide_one_of_many(rt: HostRuntime) -> Result<(), Fail> {
+    let text = siblings(rt.alloc())?;
+    let document = document_of(&rt, text.as_str());
+    for turn in 0..20 {
+        let own = MANY[turn as usize].0;
+        let id = 3 * turn + 2;
+        let listed = listed_below(rt.alloc(), own)?;
+        lists(&rt, node_of(&rt, &document, id), &listed);
+        lists(&rt, node_of(&rt, &document, id + 1), &listed);
+        lists(&rt, node_of(&rt, &document, id + 2), &MANY);
+    }
+    Ok(())
+}
+
+/// Wants an element to list so many of the twenty with the URI 0, the last of them first, and behind them the others.
+fn lists_levels(rt: &impl Abort, element: Node<'_, '_>, count: usize) {
+    let (declared, inherited) = MANY.split_at(count.min(20));
+    let mut namespaces = element.namespaces();
+    assert_eq!(rt; namespaces.len(), 20);
+    for (prefix, _) in declared.iter().rev() {
+        is_pair(rt, namespaces.next(), &(*prefix, "0"));
+    }
+    for pair in inherited {
+        is_pair(rt, namespaces.next(), pair);
+    }
+    assert!(rt; namespaces.next().is_none());
+}
+
+/// The same from the back.
+fn lists_levels_from_the_back(rt: &impl Abort, element: Node<'_, '_>, count: usize) {
+    let (declared, inherited) = MANY.split_at(count.min(20));
+    let mut namespaces = element.namespaces();
+    for pair in inherited.iter().rev() {
+        is_pair(rt, namespaces.next_back(), pair);
+    }
+    for (prefix, _) in declared {
+        is_pair(rt, namespaces.next_back(), &(*prefix, "0"));
+    }
+    assert!(rt; namespaces.next_back().is_none());
+}
+
+/// Elements below the twenty, each in the one before it, that declare one of them each for the URI 0, with an element behind each.
+fn levels(alloc: Global) -> Result<String, AllocError> {
+    let mut text = text_of(alloc, "<r", &MANY, ">")?;
+    for (prefix, _) in &MANY {
+        text.push_str("<e")?;
+        declare(&mut text, &[(*prefix, "0")])?;
+        text.push_str(">")?;
+    }
+    for _ in &MANY {
+        text.push_str("</e><e/>")?;
+    }
+    text.push_str("</r>")?;
+    Ok(text)
+}
+
+#[test]
+fn levels_that_each_hide_one_of_many(rt: HostRuntime) -> Result<(), Fail> {
+    let text = levels(rt.alloc())?;
+    let document = document_of(&rt, text.as_str());
+    for turn in 0..20 {
+        let count = turn as usize;
+        let (level, behind) = (
+            node_of(&rt, &document, turn + 2),
+            node_of(&rt, &document, turn + 22),
+        );
+        lists_levels(&rt, level, count + 1);
+        lists_levels_from_the_back(&rt, level, count + 1);
+        lists_levels(&rt, behind, 19 - count);
+        lists_levels_from_the_back(&rt, behind, 19 - count);
+    }
+    Ok(())
+}
+
 /// Wants each of these, on the second row behind a tag's name and declarations, to be refused with what is printed.
 fn refused(
     rt: &(impl Abort + AllocGlobal),

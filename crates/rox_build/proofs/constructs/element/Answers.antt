@@ -19,6 +19,9 @@ use Rattle.rox_build.proofs.constructs.element.Goals as goal
 abbrev with_left : ℕ → State → State
 with_left left s = record { at = s.at; done = s.done; stack = s.stack; left = left }
 
+pub start_tag-requires-clause-once : goal.start_tag-requires-clause-once
+start_tag-requires-clause-once c = c.scope-above.ensures.once c.requires.fine
+
 pub returns-in_err-tag-clause-value : goal.returns-in_err-tag-clause-value
 returns-in_err-tag-clause-value c = λ limit end es s declared h.
     let p = err_from_is_err_and c.from_residual.result c.from_residual.ensures.1 in
@@ -127,4 +130,4 @@ returns-clause-fine c =
     let b = c.args.builder.now in
     subst (λ r. OnOk r (Fine c.open_element.new.self.tables c.open_element.new.self.opened.items)) c.in_ok-open_element.was
     (fine_more c.open_element.result c.start_tag.new.elements b.opened.items c.open_element.new.self c.in_ok-tag.tag
-    (fine_by b.tables c.start_tag.new.elements c.in_ok-tag.tag _ v.0 b.opened.items v.2 c.requires.fine) c.open_element.ensures.tables c.open_element.ensures.opened v.2.element.scope_within)
+    (fine_by b.tables c.start_tag.new.elements c.in_ok-tag.tag _ v.0 b.opened.items v.2 c.requires.fine) c.open_element.ensures.tables c.open_element.ensures.opened v.2.element.scope_within v.2.once)

@@ -12,13 +12,13 @@ use Rattle.rox_grammar.specs.Document.{with_new, most_pairs}
 use Rattle.rox_reading.specs.Tags.{uri_tested, declared}
 use Rattle.std.specs.List.{slice_range}
 use Rattle.rox_build.specs.Lines.{declaration, entry}
-use Rattle.rox_build.specs.Scopes.{prefix_view, pair}
+use Rattle.rox_build.specs.Scopes.{entries, prefix_view, pair}
 use Rattle.rox_build.specs.Tags.{taken_view}
 use Rattle.rox_build.specs.Storage.{storage_bytes}
 use Rattle.rox_build.specs.Prefixes.{Remembers}
 use Rattle.rox_build.proofs.Inherits.{slice-rest}
 use Rattle.rox_build.proofs.Stable.{all_slice}
-use Rattle.rox_build.proofs.Declaring.{uri_refused, declared_again, declared_many, declares_prefix_xml, declares_other, own_listed, fails_by, many_pairs, kept_after, lists_after, places_after, remembers_after}
+use Rattle.rox_build.proofs.Declaring.{uri_refused, declared_again, declared_many, declares_prefix_xml, declares_other, own_listed, fails_by, many_pairs, kept_after, lists_after, places_after, remembers_after, once_after}
 use Rattle.rox_build.proofs.declaration.take_declaration.Goals as goal
 
 pub is_again-requires : goal.is_again-requires
@@ -44,7 +44,7 @@ returns-then-is_again-clause-value c = λ known before h o d.
     let mine = own_listed known before (map declaration c.args.names.now.items.items) (map declaration c.as_slice.result.now) c.args.listed.now.items c.deref.result.now c.args.xml h.own c.args.own
     o (ap (map declaration) c.as_slice.ensures.value) c.deref.ensures.value d in
     let again : is_declared (declaration_of a).prefix h.own ≡ true =
-    ap (λ p. is_declared p h.own) (sym c.declared_prefix-prefix.ensures) ∙ sym (c.is_again.ensures h.own d.xml_is mine) ∙ c.if-is_again.true in
+    ap (λ p. is_declared p h.own) (sym c.declared_prefix-prefix.ensures) ∙ sym (c.is_again.ensures.value h.own d.xml_is mine) ∙ c.if-is_again.true in
     declared_again known a h uri again ∙ ap (λ (s : Span). Err (fault.DuplicatedNamespace s c.args.taken.start)) (sym (c.local_span.ensures a.name refl))
 
 pub returns-then-is_xml-clause-value : goal.returns-then-is_xml-clause-value
@@ -54,7 +54,7 @@ returns-then-is_xml-clause-value c = λ known before h o d.
     let mine = own_listed known before (map declaration c.args.names.now.items.items) (map declaration c.as_slice.result.now) c.args.listed.now.items c.deref.result.now c.args.xml h.own c.args.own
     o (ap (map declaration) c.as_slice.ensures.value) c.deref.ensures.value d in
     let new : is_declared (declaration_of a).prefix h.own ≡ false =
-    ap (λ p. is_declared p h.own) (sym c.declared_prefix-prefix.ensures) ∙ sym (c.is_again.ensures h.own d.xml_is mine) ∙ c.if-is_again.false in
+    ap (λ p. is_declared p h.own) (sym c.declared_prefix-prefix.ensures) ∙ sym (c.is_again.ensures.value h.own d.xml_is mine) ∙ c.if-is_again.false in
     let is : is_xml (declaration_of a).prefix ≡ true = ap is_xml (sym c.declared_prefix-prefix.ensures) ∙ sym c.is_xml.ensures ∙ c.if-is_xml.true in
     declares_prefix_xml known before (map declaration c.args.names.now.items.items) c.args.listed.now.items c.args.xml a h d uri new is
 
@@ -67,7 +67,7 @@ returns-in_err-place-clause-value c = λ known before h o d.
     o (ap (map declaration) c.as_slice.ensures.value) c.deref.ensures.value d in
     let prefix_is = c.declared_prefix-prefix.ensures in
     let new : is_declared (declaration_of a).prefix h.own ≡ false =
-    ap (λ p. is_declared p h.own) (sym prefix_is) ∙ sym (c.is_again.ensures h.own d.xml_is mine) ∙ c.if-is_again.false in
+    ap (λ p. is_declared p h.own) (sym prefix_is) ∙ sym (c.is_again.ensures.value h.own d.xml_is mine) ∙ c.if-is_again.false in
     let is : is_xml (declaration_of a).prefix ≡ false = ap is_xml (sym prefix_is) ∙ sym c.is_xml.ensures ∙ c.if-is_xml.false in
     let one : pair (prefix_view c.declared_prefix-prefix.result) a.value ≡ declaration_of a = ap (λ p. pair p a.value) prefix_is in
     rw (p.1, p.2) (fails_by c.in_err-place.field-0.0 c.place.result (declared known a h) c.in_err-place.was (λ f was.
@@ -84,7 +84,7 @@ returns-clause-value c = λ known before h o d.
     o (ap (map declaration) c.as_slice.ensures.value) c.deref.ensures.value d in
     let prefix_is = c.declared_prefix-prefix.ensures in
     let new : is_declared (declaration_of a).prefix h.own ≡ false =
-    ap (λ p. is_declared p h.own) (sym prefix_is) ∙ sym (c.is_again.ensures h.own d.xml_is mine) ∙ c.if-is_again.false in
+    ap (λ p. is_declared p h.own) (sym prefix_is) ∙ sym (c.is_again.ensures.value h.own d.xml_is mine) ∙ c.if-is_again.false in
     let is : is_xml (declaration_of a).prefix ≡ false = ap is_xml (sym prefix_is) ∙ sym c.is_xml.ensures ∙ c.if-is_xml.false in
     let one : pair (prefix_view c.declared_prefix-prefix.result) a.value ≡ declaration_of a = ap (λ p. pair p a.value) prefix_is in
     let names = map declaration c.args.names.now.items.items in
@@ -136,3 +136,17 @@ returns-clause-many c =
     (c.in_ok-remember.ensures.value before c.in_ok-place.place (seen ∙ mine)
     (subst (λ ns. (entry ns c.in_ok-place.place).prefix ≡ prefix_view c.declared_prefix-prefix.result) (sym table) prefix_is)
     (subst (λ ns. Remembers ns before c.args.many.now.keys) (sym table) old)))
+
+pub returns-clause-once : goal.returns-clause-once
+returns-clause-once c =
+    let old = c.args.names.now.items.items in
+    let listed = c.args.listed.now.items in
+    let seen = c.deref.result.now in
+    let one = pair (prefix_view c.declared_prefix-prefix.result) (storage_bytes c.args.taken.value) in
+    let own_is : slice_range seen c.args.own (length seen) ≡ drop c.args.own listed = slice-rest seen c.args.own ∙ ap (drop c.args.own) c.deref.ensures.value in
+    let absent : is_declared one.prefix (entries (map declaration old) (drop c.args.own listed)) ≡ false =
+    ap (λ xs. is_declared one.prefix (entries (map declaration old) xs)) (sym own_is)
+    ∙ ap (λ ns. is_declared one.prefix (entries ns (slice_range seen c.args.own (length seen)))) (sym (ap (map declaration) c.as_slice.ensures.value))
+    ∙ c.is_again.ensures.absent c.if-is_again.false in
+    once_after old c.place.new.self.items.items listed c.push.new.self.items one c.in_ok-place.place c.args.own c.in_ok-place.ensures.table c.in_ok-push.ensures.items c.requires.own c.requires.places
+    c.in_ok-place.ensures.there.1 absent c.requires.once

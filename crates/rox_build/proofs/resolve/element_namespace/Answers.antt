@@ -1,23 +1,20 @@
-use Rattle.std.proofs.Common.{◌≡◌, refl, ap, ◌∙◌, map, bytes_eq, [], false}
+use Rattle.std.proofs.Common.{◌≡◌, refl, sym, ap, ◌∙◌, map, bytes_eq, [], false}
 use Rattle.rox_grammar.specs.declared.fault.Span.{Span}
 use Rattle.rox_grammar.specs.declared.fault.Fault.TheVariants as fault
 use Rattle.rox_scan.specs.Gives.{name_view}
 use Rattle.rox_build.specs.Lines.{declaration}
-use Rattle.rox_build.specs.Scopes.{entries}
 use Rattle.rox_build.proofs.NameTests.{empty_is, element_some, element_none}
 use Rattle.rox_build.proofs.resolve.element_namespace.Goals as goal
 
 pub returns-in-Some-clause-ok : goal.returns-in-Some-clause-ok
-returns-in-Some-clause-ok c =
+returns-in-Some-clause-ok c = λ ds h.
     let names = map declaration c.args.names.now in
     let filled : bytes_eq c.args.name.prefix.now [] ≡ false = empty_is c.args.name.prefix.now c.is_empty.result c.is_empty.ensures ∙ c.if-is_empty.false in
-    let k = element_some names (entries names c.args.places.now) (name_view c.args.name) c.in-Some.place filled c.in-Some.ensures.there.1 in
-    (c.in-Some.ensures.there.0, k.0, k.1)
+    element_some names ds (name_view c.args.name) c.in-Some.place filled (sym (h.uris _) ∙ sym c.in-Some.ensures.value)
 
 pub returns-in-None-clause-err : goal.returns-in-None-clause-err
-returns-in-None-clause-err c =
-    let names = map declaration c.args.names.now in
+returns-in-None-clause-err c = λ ds h.
     let filled : bytes_eq c.args.name.prefix.now [] ≡ false = empty_is c.args.name.prefix.now c.is_empty.result c.is_empty.ensures ∙ c.if-is_empty.false in (
       ap (λ (s : Span). fault.UnknownNamespace s c.args.at) (c.prefix_span.ensures (name_view c.args.name) refl),
-      element_none (entries names c.args.places.now) (name_view c.args.name) filled c.in-None.ensures.absent,
+      element_none ds (name_view c.args.name) filled (sym (h.uris _) ∙ sym c.in-None.ensures.value),
     )

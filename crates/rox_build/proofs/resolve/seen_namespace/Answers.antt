@@ -2,36 +2,33 @@ use Rattle.std.proofs.Common.{Err, map, refl, sym, ap, ◌∙◌}
 use Rattle.rox_grammar.specs.declared.fault.Span.{Span}
 use Rattle.rox_grammar.specs.declared.fault.Fault.TheVariants as fault
 use Rattle.rox_build.specs.Lines.{declaration}
-use Rattle.rox_build.specs.Scopes.{entries}
 use Rattle.rox_build.specs.Tags.{taken_view}
 use Rattle.rox_build.proofs.NameTests.{repeated_is, tested_unknown, tested_again, tested_on}
 use Rattle.rox_build.proofs.Seeing.{sees_is, sees_more}
 use Rattle.rox_build.proofs.resolve.seen_namespace.Goals as goal
 
 pub returns-in_default-clause-tested : goal.returns-in_default-clause-tested
-returns-in_default-clause-tested c = λ rows before rest seen shown.
+returns-in_default-clause-tested c = λ ds rows before rest h seen shown.
     let a = taken_view c.args.taken.now in
-    tested_unknown (entries (map declaration c.args.names.now) c.args.places.now) before a rest c.in_default.ensures.unknown
+    tested_unknown ds before a rest (c.in_default.ensures.unknown ds h)
     ∙ ap (λ (s : Span). Err (fault.UnknownNamespace s a.start)) (sym (c.prefix_span.ensures a.name refl))
 
 pub returns-then-branch-clause-tested : goal.returns-then-branch-clause-tested
-returns-then-branch-clause-tested c = λ rows before rest seen shown.
+returns-then-branch-clause-tested c = λ ds rows before rest h seen shown.
     let names = map declaration c.args.names.now in
-    let scope = entries names c.args.places.now in
     let a = taken_view c.args.taken.now in
-    let again = sym (repeated_is names scope c.in-Some.namespace a.name rows before c.in-Some.ensures.there shown)
+    let again = sym (repeated_is names ds c.in-Some.namespace a.name rows before (c.in-Some.ensures.there ds h) shown)
     ∙ sym (sees_is names c.args.seen.now.keys _ c.in-Some.namespace a.name.local _ seen c.namespace_uri.ensures) ∙ sym c.in_ok-repeats.ensures.value ∙ c.if-branch.true in
-    tested_again scope before a rest c.in-Some.ensures.known again
+    tested_again ds before a rest (c.in-Some.ensures.known ds h) again
     ∙ ap (λ (s : Span). Err (fault.DuplicatedAttribute s a.start)) (sym (c.local_span.ensures a.name refl))
 
 pub returns-clause-tested : goal.returns-clause-tested
-returns-clause-tested c = λ rows before rest seen shown.
+returns-clause-tested c = λ ds rows before rest h seen shown.
     let names = map declaration c.args.names.now in
-    let scope = entries names c.args.places.now in
     let a = taken_view c.args.taken.now in
-    let first = sym (repeated_is names scope c.in-Some.namespace a.name rows before c.in-Some.ensures.there shown)
+    let first = sym (repeated_is names ds c.in-Some.namespace a.name rows before (c.in-Some.ensures.there ds h) shown)
     ∙ sym (sees_is names c.args.seen.now.keys _ c.in-Some.namespace a.name.local _ seen c.namespace_uri.ensures) ∙ sym c.in_ok-repeats.ensures.value ∙ c.if-branch.false in
-    tested_on scope before a rest c.in-Some.ensures.known first
+    tested_on ds before a rest (c.in-Some.ensures.known ds h) first
 
 pub returns-clause-more : goal.returns-clause-more
 returns-clause-more c = λ done a seen space local.

@@ -1,22 +1,11 @@
-use Rattle.std.proofs.Common.{◌<◌, None, length, map, arith}
-use Rattle.rox_build.specs.Lines.{declaration}
-use Rattle.rox_build.specs.Scopes.{entries}
-use Rattle.rox_build.specs.Present.{found}
-use Rattle.rox_build.proofs.Presenting.{bound_of, found_there, found_absent}
+use Rattle.std.proofs.Common.{Option, None, length, sym, ◌∙◌, subst}
+use Rattle.rox_build.specs.Lines.{OptionWithin}
+use Rattle.rox_build.specs.Present.{LooksWithin, namespace_at, places_view}
+use Rattle.rox_build.specs.declared.present.Place.{Place}
 use Rattle.rox_build.proofs.scope.find_default.Goals as goal
 
-pub returns-then-places-gt-FEW-clause-there : goal.returns-then-places-gt-FEW-clause-there
-returns-then-places-gt-FEW-clause-there c =
-    let names = map declaration c.args.names.now in
-    let places = c.args.places.now in
-    let x = c.args.present.now in
-    let many : 16 < length places = omega arith in
-    found_there c.args.names.now (entries names places) (found x) None c.get.result c.get.ensures (bound_of names places x c.requires.present many)
-
-pub returns-then-places-gt-FEW-clause-absent : goal.returns-then-places-gt-FEW-clause-absent
-returns-then-places-gt-FEW-clause-absent c =
-    let names = map declaration c.args.names.now in
-    let places = c.args.places.now in
-    let x = c.args.present.now in
-    let many : 16 < length places = omega arith in
-    found_absent names (entries names places) (found x) None c.get.result c.get.ensures (bound_of names places x c.requires.present many)
+pub returns-in-Some-get-clause-within : goal.returns-in-Some-get-clause-within
+returns-in-Some-get-clause-within c =
+    let n = length c.args.names.now in
+    let all = subst (λ o. LooksWithin n (places_view o) c.args.present.now) c.in-None.is c.requires in
+    subst (λ (o : Option Place). OptionWithin n (namespace_at o)) (sym c.get.ensures ∙ c.in-Some-get.is) (all None)

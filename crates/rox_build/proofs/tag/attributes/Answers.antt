@@ -101,6 +101,7 @@ attributes-preserved c = record {
   scopes = c.in_ok-xml-in-More.ensures.scopes ∙ c.attributes.invariant.scopes;
   lists = c.in_ok-xml-in-More.ensures.lists ∙ c.attributes.invariant.lists;
   many = c.in_ok-xml-in-More.ensures.many;
+  once = c.in_ok-xml-in-More.ensures.once;
   reads = λ es known before h declared o hold.
       let src = c.args.cursor.now.text.now in
       let n = length src - c.attributes._turn in

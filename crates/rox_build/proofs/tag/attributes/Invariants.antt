@@ -5,7 +5,7 @@ use Rattle.rox_reading.specs.Tags.{Held, attributes_at}
 use Rattle.rox_build.specs.Lines.{declaration}
 use Rattle.rox_grammar.specs.Entities.{Entity}
 use Rattle.rox_build.specs.Named.{AreDeclared, values_in}
-use Rattle.rox_build.specs.Scopes.{ArePlaces}
+use Rattle.rox_build.specs.Scopes.{ArePlaces, Once, entries}
 use Rattle.rox_build.specs.Prefixes.{Remembers}
 use Rattle.rox_build.specs.Tagged.{KeepsPlaces, lists_in}
 use Rattle.rox_build.specs.Tags.{Holding}
@@ -23,6 +23,7 @@ invariant-attributes l = record {
   scopes : l.elements.scopes ≡ l.fn.elements.scopes;
   lists : lists_in l.elements ≡ lists_in l.fn.elements;
   many : Remembers (map declaration l.elements.namespaces.items.items) (drop l.own l.elements.listed.items) l.buffers.many.keys;
+  once : Once (entries (map declaration l.elements.namespaces.items.items) (drop l.own l.elements.listed.items));
   reads : (es : List Entity) (known : List Declaration) (before : List ℕ) (h : Held) → AreDeclared es l.how.entities.now → l.own ≡ length before
       → Holding known before (map declaration l.fn.elements.namespaces.items.items) l.fn.elements.listed.items false l.fn.buffers.taken.items h
       → Going (values_in es l.how) known before l.cut l.fn.cursor.text.now (attributes_at (length l.fn.cursor.text.now) (values_in es l.how) l.cut known l.fn.cursor.text.now l.fn.cursor.pos l.fn.left h)

@@ -9,8 +9,10 @@ use Rattle.rox_reading.specs.Lexical.{qname_at}
 use Rattle.rox_reading.specs.Tags.{Held, attributes_at, tag_tested}
 use Rattle.rox_scan.specs.Gives.{Fails, name_view}
 use Rattle.rox_build.specs.Named.{values_in}
-use Rattle.rox_build.specs.Lines.{declaration, scope_at, AreStretches, rows_of}
+use Rattle.rox_build.specs.Lines.{declaration, scope_at, AreScopes, rows_of}
+use Rattle.rox_build.specs.Scopes.{Once}
 use Rattle.rox_build.specs.Tagged.{scope_in_tables}
+use Rattle.rox_build.proofs.Declaring.{scope_declared, once_none}
 use Rattle.rox_build.proofs.Remembering.{remembers_none}
 use Rattle.rox_build.proofs.Starting.{holds_nothing, tag_unread, tag_untested, tag_made, tagged, tested_fails, tested_passes}
 use Rattle.rox_build.proofs.tag.start_tag.Goals as goal
@@ -27,14 +29,24 @@ attributes-requires-clause-scopes c =
     let old = c.args.elements.now in
     let k = old.listed.ok.0 in
     let own : length old.listed.items ≡ c.len-own.result = omega arith in
-    subst (λ n. AreStretches n old.scopes.items) own c.requires.scopes
+    subst (λ n. AreScopes n old.scopes.items) own c.requires.scopes
+
+pub attributes-requires-clause-once : goal.attributes-requires-clause-once
+attributes-requires-clause-once c =
+    let old = c.args.elements.now in
+    let k = old.listed.ok.0 in
+    let own : c.len-own.result ≡ length old.listed.items = omega arith in
+    once_none (map declaration old.namespaces.items.items) old.listed.items c.len-own.result own
+
+pub scope_of_tag-requires-clause-once : goal.scope_of_tag-requires-clause-once
+scope_of_tag-requires-clause-once c = subst (λ ls. Once (scope_at ls c.args.above)) (sym c.in_ok-xml.ensures.lists) c.requires.once
 
 pub scope_of_tag-requires-clause-scopes : goal.scope_of_tag-requires-clause-scopes
 scope_of_tag-requires-clause-scopes c =
     let old = c.args.elements.now in
     let k = old.listed.ok.0 in
     let own : length old.listed.items ≡ c.len-own.result = omega arith in
-    rw c.in_ok-xml.ensures.scopes (subst (λ n. AreStretches n old.scopes.items) own c.requires.scopes)
+    rw c.in_ok-xml.ensures.scopes (subst (λ n. AreScopes n old.scopes.items) own c.requires.scopes)
 
 pub returns-in_err-xml-clause-value : goal.returns-in_err-xml-clause-value
 returns-in_err-xml-clause-value c = λ es declared.
@@ -80,7 +92,8 @@ returns-in_err-element-clause-value c = λ es declared.
     let h = took.0 in
     let read : attributes_at (length src) (values_in es c.args.how) c.args.cut known src n c.args.left start ≡ Ok (record { held = h; empty = c.in_ok-xml.empty; left = c.in_ok-xml.left }, c.attributes.new.cursor.pos) = rw s2 at took.1 in
     let scopes : scope_in_tables c.scope_of_tag.new.elements c.in_ok-scope.scope ≡ listed above h.own =
-    c.in_ok-scope.ensures.lists known old.listed.items h.own own took.2.declares
+    scope_declared known old.listed.items (map declaration c.attributes.new.elements.namespaces.items.items) c.attributes.new.elements.listed.items c.in_ok-xml.xml h.own
+    (scope_in_tables c.attributes.new.elements c.args.above) (scope_in_tables c.scope_of_tag.new.elements c.in_ok-scope.scope) c.len-own.result own took.2.declares c.in_ok-scope.ensures.value.lists
     ∙ ap (λ xs. listed xs h.own) (ap (λ ls. scope_at ls c.args.above) c.in_ok-xml.ensures.lists) in
     let written = took.2.attributes in
     let count : length (rows_of c.scope_of_tag.new.elements.attributes) ≡ length (rows_of old.attributes) =
@@ -112,7 +125,8 @@ returns-clause-value c = λ es declared.
     let h = took.0 in
     let read : attributes_at (length src) (values_in es c.args.how) c.args.cut known src n c.args.left start ≡ Ok (record { held = h; empty = c.in_ok-xml.empty; left = c.in_ok-xml.left }, c.attributes.new.cursor.pos) = rw s2 at took.1 in
     let scopes : scope_in_tables c.scope_of_tag.new.elements c.in_ok-scope.scope ≡ listed above h.own =
-    c.in_ok-scope.ensures.lists known old.listed.items h.own own took.2.declares
+    scope_declared known old.listed.items (map declaration c.attributes.new.elements.namespaces.items.items) c.attributes.new.elements.listed.items c.in_ok-xml.xml h.own
+    (scope_in_tables c.attributes.new.elements c.args.above) (scope_in_tables c.scope_of_tag.new.elements c.in_ok-scope.scope) c.len-own.result own took.2.declares c.in_ok-scope.ensures.value.lists
     ∙ ap (λ xs. listed xs h.own) (ap (λ ls. scope_at ls c.args.above) c.in_ok-xml.ensures.lists) in
     let written = took.2.attributes in
     let count : length (rows_of c.scope_of_tag.new.elements.attributes) ≡ length (rows_of old.attributes) =
@@ -122,6 +136,6 @@ returns-clause-value c = λ es declared.
       record { name = name; name_end = n; declarations = h.own; attributes = h.attributes },
       tag_made (values_in es c.args.how) c.args.cut above (length (rows_of old.attributes)) known src i c.args.left name n c.attributes.new.cursor.pos h c.in_ok-xml.empty c.in_ok-xml.left is other read fine,
       tagged old c.attributes.new.elements c.scope_of_tag.new.elements c.element_data.new.elements _ above name n h c.in_ok-xml.xml _ c.in_ok-scope.scope refl refl
-          c.in_ok-xml.ensures.attributes took.2 c.in_ok-xml.ensures.few c.in_ok-scope.ensures.names c.in_ok-scope.ensures.attributes c.in_ok-xml.ensures.lists c.in_ok-scope.ensures.more c.in_ok-scope.ensures.places
-          c.in_ok-scope.ensures.scopes scopes c.in_ok-element.ensures.names c.in_ok-element.ensures.listed c.in_ok-element.ensures.scopes c.in_ok-element.ensures.element c.in_ok-scope.ensures.kept c.in_ok-element.ensures.present,
+          c.in_ok-xml.ensures.attributes took.2 c.in_ok-xml.ensures.few c.in_ok-scope.ensures.names c.in_ok-scope.ensures.attributes c.in_ok-xml.ensures.lists (c.in_ok-scope.ensures.value.more, c.in_ok-scope.ensures.value.lists_more) c.in_ok-scope.ensures.value.places
+          c.in_ok-scope.ensures.value.scopes scopes c.in_ok-element.ensures.names c.in_ok-element.ensures.listed c.in_ok-element.ensures.scopes c.in_ok-element.ensures.element c.in_ok-scope.ensures.value.kept c.in_ok-element.ensures.present c.in_ok-scope.ensures.value.once,
     )

@@ -1,6 +1,8 @@
-use Rattle.std.proofs.Common.{◌≡◌, ◌-◌, ◌++◌, ◌∷◌, [], List, length, take, refl, sym, ap, ◌∙◌, arith, slice_get, None, inl, inr}
+use Rattle.std.proofs.Common.{◌≡◌, ◌-◌, ◌++◌, ◌∷◌, [], List, length, take, refl, sym, ap, subst, ◌∙◌, arith, slice_get, None, inl, inr}
 use Rattle.std.proofs.lemmas.Option.{slice_get_cases}
-use Rattle.rox_build.specs.Shown.{opened_in}
+use Rattle.std.specs.List.{AllByRecursion}
+use Rattle.rox_build.specs.Scopes.{Once}
+use Rattle.rox_build.specs.Shown.{IsOpenWithin, opened_in}
 use Rattle.rox_build.specs.declared.builder.OpenElement.{OpenElement}
 use Rattle.rox_build.proofs.Showing.{last_split}
 use Rattle.rox_build.proofs.Stepping.{top_scope, no_scope}
@@ -9,6 +11,10 @@ use Rattle.rox_build.proofs.builder.Builder.scope.Goals as goal
 nothing_last : (os : List OpenElement) → slice_get os (length os - 1) ≡ None → os ≡ []
 nothing_last [] h = refl
 nothing_last (x ∷ xs) h = elim (slice_get_cases (x ∷ xs) (length (x ∷ xs) - 1)).1 [ inl w ↦ let k = w.2 in cc h | inr w ↦ absurd (omega (arith, w.0)) ]
+
+all_last : {X : Type 0} (P : X → Type 0) (xs : List X) (x : X) → AllByRecursion P (xs ++ x ∷ []) → P x
+all_last P [] x h = h.0
+all_last P (y ∷ ys) x h = all_last P ys x h.1
 
 pub returns-in-Some-clause-value : goal.returns-in-Some-clause-value
 returns-in-Some-clause-value c = λ fine end o done sh.
@@ -26,3 +32,24 @@ returns-in-None-clause-value c = λ fine end o done sh.
     let os = c.deref.result.now in
     let e : b.opened.items ≡ [] = sym c.deref.ensures.value ∙ nothing_last os (sym c.in-None.ensures.value) in
     fine.empty.none ∙ no_scope b.tables o (sym (ap (opened_in b.tables) e) ∙ sh.open_rows)
+
+pub returns-in-Some-clause-within : goal.returns-in-Some-clause-within
+returns-in-Some-clause-within c = λ fine.
+    let b = c.args.self.now in
+    let k = c.in-Some.ensures.item in
+    let os = c.deref.result.now in
+    let x = c.in-Some.element.now in
+    let split : b.opened.items ≡ take (length os - 1) os ++ x ∷ [] = sym c.deref.ensures.value ∙ last_split os x k.3.0 (k.3.1 x) in
+    (all_last (IsOpenWithin b.tables) (take (length os - 1) os) x (subst (AllByRecursion (IsOpenWithin b.tables)) split fine.elements)).0
+
+pub returns-in-Some-clause-once : goal.returns-in-Some-clause-once
+returns-in-Some-clause-once c = λ fine.
+    let b = c.args.self.now in
+    let k = c.in-Some.ensures.item in
+    let os = c.deref.result.now in
+    let x = c.in-Some.element.now in
+    let split : b.opened.items ≡ take (length os - 1) os ++ x ∷ [] = sym c.deref.ensures.value ∙ last_split os x k.3.0 (k.3.1 x) in
+    (all_last (IsOpenWithin b.tables) (take (length os - 1) os) x (subst (AllByRecursion (IsOpenWithin b.tables)) split fine.elements)).1
+
+pub returns-in-None-clause-once : goal.returns-in-None-clause-once
+returns-in-None-clause-once c = λ fine. subst Once (sym fine.empty.none) tt

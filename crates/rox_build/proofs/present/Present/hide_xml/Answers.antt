@@ -1,7 +1,9 @@
-use Rattle.std.proofs.Common.{◌&&◌, not, filter, subst, sym}
+use Rattle.std.proofs.Common.{◌&&◌, not, filter, Some, None, subst, sym}
+use Rattle.rox_grammar.specs.declared.fault.Word.TheVariants.{Xml}
+use Rattle.rox_grammar.specs.Words.{word_text}
 use Rattle.rox_grammar.specs.WellNamed.{is_xml}
 use Rattle.rox_build.specs.Present.{found, IsBound}
-use Rattle.rox_build.proofs.Presenting.{bound_hidden, bound_unhidden}
+use Rattle.rox_build.proofs.Presenting.{bound_hidden, bound_unhidden, found_put}
 use Rattle.rox_build.proofs.present.Present.hide_xml.Goals as goal
 
 pub returns-then-not-xml-clause-bound : goal.returns-then-not-xml-clause-bound
@@ -12,4 +14,4 @@ returns-then-not-xml-clause-bound c = λ names ds h.
 pub returns-clause-bound : goal.returns-clause-bound
 returns-clause-bound c = λ names ds h.
     let g = found c.put.new.self in
-    subst (λ b. IsBound names g (filter (λ d. not (b && is_xml d.prefix)) ds)) (sym c.if-not-xml.false) (bound_hidden names ds (found c.args.self.now) g c.in_ok-put.ensures.present h)
+    subst (λ b. IsBound names g (filter (λ d. not (b && is_xml d.prefix)) ds)) (sym c.if-not-xml.false) (bound_hidden names ds (found c.args.self.now) g (found_put c.args.self.now c.put.new.self (Some (word_text Xml)) None c.in_ok-put.ensures.present) h)

@@ -1,7 +1,7 @@
 use Rattle.std.proofs.Common.{◌≡◌, ◌++◌, ◌∷◌, [], ap, ◌∙◌}
-use Rattle.rox_build.specs.Present.{found}
+use Rattle.rox_build.specs.Present.{found, namespace_at}
 use Rattle.rox_build.specs.declared.present.Replaced.{Replaced}
-use Rattle.rox_build.proofs.Presenting.{stacked_put, keeps_by}
+use Rattle.rox_build.proofs.Presenting.{stacked_put, keeps_by, found_put}
 use Rattle.rox_build.proofs.present.Present.put.Goals as goal
 
 pub returns-clause-keeps : goal.returns-clause-keeps
@@ -12,4 +12,4 @@ returns-clause-keeps c = λ names lists h.
     let entries : new.replaced.items ≡ old.replaced.items ++ r ∷ [] = ap (λ v. v.items) c.in_ok-set.ensures.replaced ∙ c.in_ok-push.ensures.items in
     let layers : new.layers.items ≡ old.layers.items = ap (λ v. v.items) c.in_ok-set.ensures.layers in
     keeps_by names lists new (old.replaced.items ++ r ∷ []) old.layers.items entries layers
-    (stacked_put names lists old.replaced.items r (found old) (found new) c.args.place 0 old.layers.items c.get-before.ensures c.in_ok-set.ensures.present h.stacked)
+    (stacked_put names lists old.replaced.items r (found old) (found new) (namespace_at c.args.place) 0 old.layers.items (ap namespace_at c.get-before.ensures) (found_put old new _ c.args.place c.in_ok-set.ensures.present) h.stacked)

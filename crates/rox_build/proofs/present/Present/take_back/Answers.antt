@@ -1,6 +1,6 @@
 use Rattle.std.proofs.Common.{◌≡◌, ◌≤◌, ◌+◌, ◌++◌, ◌∷◌, [], length, length-append, ap, subst, ◌∙◌, arith}
 use Rattle.rox_build.specs.Present.{found, Stacked}
-use Rattle.rox_build.proofs.Presenting.{stacked_back, counts_below, keeps_by}
+use Rattle.rox_build.proofs.Presenting.{stacked_back, counts_below, keeps_by, found_put}
 use Rattle.rox_build.proofs.present.Present.take_back.Goals as goal
 
 pub returns-in_ok-set-clause-keeps : goal.returns-in_ok-set-clause-keeps
@@ -17,4 +17,4 @@ returns-in_ok-set-clause-keeps c = λ names lists ls l is count h.
     let entries : new.replaced.items ≡ es = ap (λ v. v.items) c.in_ok-set.ensures.replaced in
     let layers : new.layers.items ≡ ls ++ l ∷ [] = ap (λ v. v.items) c.in_ok-set.ensures.layers ∙ is in
     keeps_by names lists new es (ls ++ l ∷ []) entries layers
-    (stacked_back names lists es last (found old) (found new) 0 (ls ++ l ∷ []) c.in_ok-set.ensures.present (counts_below names lists (es ++ last ∷ []) (found old) 0 (length es) ls l few was) was)
+    (stacked_back names lists es last (found old) (found new) 0 (ls ++ l ∷ []) (found_put old new _ last.before c.in_ok-set.ensures.present) (counts_below names lists (es ++ last ∷ []) (found old) 0 (length es) ls l few was) was)

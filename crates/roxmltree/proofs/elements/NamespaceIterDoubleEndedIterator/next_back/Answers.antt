@@ -1,19 +1,26 @@
-use Rattle.std.proofs.Common.{◌<◌, ℕ, ◌++◌, ◌∷◌, [], map, length, ap, sym, subst, ◌∙◌}
+use Rattle.std.proofs.Common.{◌<◌, ◌-◌, [], ◌∷◌, ◌++◌, length, map, ap, sym, ◌∙◌, arith}
+use Rattle.std.specs.List.{slice_range}
 use Rattle.std.proofs.lemmas.List.{map-append}
-use Rattle.std.specs.List.{AllByRecursion}
-use Rattle.std.specs.Slice.Iter.{iter_rest}
 use Rattle.rox_build.specs.Lines.{declaration, entry}
-use Rattle.roxmltree.proofs.Entries.{entry_is, all_last}
+use Rattle.rox_build.specs.Scopes.{places_in}
+use Rattle.roxmltree.proofs.Entries.{entry_is}
+use Rattle.roxmltree.proofs.Ends.{last_of}
 use Rattle.roxmltree.proofs.elements.NamespaceIterDoubleEndedIterator.next_back.Goals as goal
+
+pub bounds-names-place : goal.bounds-names-place
+bounds-names-place c = c.place_at-place.ensures.place _ c.self.invariant.each
 
 pub returns-clause-steps : goal.returns-clause-steps
 returns-clause-steps c =
-    let names = c.self.inside.names.now in
+    let d = c.self.inside in
+    let v = c.self.invariant in
+    let names = d.names.now in
+    let places = places_in d.listed.now d.scopes.now d.scope in
     let f = entry (map declaration names) in
-    let rest = iter_rest c.next_back.new.self in
-    let P : ℕ → Type 0 = λ i. i < length names in
-    let l : c.in-Some.place.now < length names = all_last P rest c.in-Some.place.now (subst (λ xs. AllByRecursion P xs) c.in-Some.ensures.steps c.self.invariant.each) in
+    let rest = slice_range places d.from (d.until - 1) in
+    let place = c.place_at-place.result in
+    let l : place < length names = c.place_at-place.ensures.place _ v.each in
     sym c.self.view_is
-    ∙ ap (map f) c.in-Some.ensures.steps
-    ∙ map-append f rest (c.in-Some.place.now ∷ [])
-    ∙ ap (λ d. map f rest ++ d ∷ []) (sym (entry_is names c.in-Some.place.now c.index-names-place.result l c.index-names-place.is))
+    ∙ ap (map f) (last_of places d.from d.until 0 (omega arith) v.within)
+    ∙ map-append f rest (_ ∷ [])
+    ∙ ap (λ x. map f rest ++ x ∷ []) (ap f (sym c.place_at-place.ensures.value) ∙ sym (entry_is names place c.index-names-place.result l c.index-names-place.is))

@@ -1,0 +1,23 @@
+use Rattle.std.proofs.Common.{◌<◌, ◌+◌, ◌∷◌, length, map, ap, sym, ◌∙◌, arith}
+use Rattle.std.specs.List.{slice_range}
+use Rattle.rox_build.specs.Lines.{declaration, entry}
+use Rattle.rox_build.specs.Scopes.{places_in}
+use Rattle.roxmltree.proofs.Entries.{entry_is}
+use Rattle.roxmltree.proofs.Ends.{first_of}
+use Rattle.roxmltree.proofs.elements.NamespaceIterIterator.next.Goals as goal
+
+pub bounds-names-place : goal.bounds-names-place
+bounds-names-place c = c.place_at-place.ensures.place _ c.self.invariant.each
+
+pub returns-clause-steps : goal.returns-clause-steps
+returns-clause-steps c =
+    let d = c.self.inside in
+    let v = c.self.invariant in
+    let names = d.names.now in
+    let places = places_in d.listed.now d.scopes.now d.scope in
+    let f = entry (map declaration names) in
+    let place = c.place_at-place.result in
+    let l : place < length names = c.place_at-place.ensures.place _ v.each in
+    sym c.self.view_is
+    ∙ ap (map f) (first_of places d.from d.until 0 (omega arith) v.within)
+    ∙ ap (λ x. x ∷ map f (slice_range places (d.from + 1) d.until)) (ap f (sym c.place_at-place.ensures.value) ∙ sym (entry_is names place c.index-names-place.result l c.index-names-place.is))
