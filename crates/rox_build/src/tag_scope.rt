@@ -264,7 +264,8 @@ fn scope_below_many<'input>(
     Ok(scope)
 }
 
-/// The scope of an element below one with the scope `above`, as it is for `scope_of_tag`.
+/// The same whatever that scope lists. It is called where a tag declares something or many are listed above it: what most tags
+/// do stays short without it.
 #[inline(never)]
 fn scope_below<'input>(
     elements: &mut ElementTables<'input>,
