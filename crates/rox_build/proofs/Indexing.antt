@@ -1,33 +1,25 @@
--- An index over the table of pairs: what a search in it finds, and what stays of it as the table grows.
-use Rattle.std.proofs.Common.{◌≡◌, ℕ, zero, suc, ◌+◌, ◌-◌, ◌<◌, ◌≤◌, ◌||◌, Bool, true, false, List, [], ◌∷◌, ◌++◌, length, map, take, drop, get_or, refl, sym, ap, ◌∙◌, subst, arith, Option, Some, None, Result, Ok, Err, IfOk, OnOk, IfErr}
-use Rattle.std.specs.List.{AllByRecursion, list_any, insert}
-use Rattle.std.specs.List.Sorted.{IsSortedBy, IsSortedByKey, IsNonDecreasingBy, IsBinarySearchResult, IsSearchInRange}
+-- A table of pairs and a map of their places: what is found in it, and what stays of it as the table grows.
+use Rattle.std.proofs.Common.{◌≡◌, ℕ, suc, ◌<◌, ◌||◌, Bool, true, false, cond, List, [], ◌∷◌, ◌++◌, length, length-append, map, refl, sym, ap, ◌∙◌, subst, arith, Option, Some, None, Result, Ok, Err, IfOk, OnOk}
+use Rattle.std.specs.Option.{option_map, IfSome, IfNone, option_cmp}
+use Rattle.std.specs.Map.{lookup}
+use Rattle.std.specs.Result.{is_ok}
+use Rattle.std.specs.BTreeMap.{insert_entry, is_at}
 use Rattle.std.specs.declared.cmp.Ordering.{Ordering}
-use Rattle.std.specs.declared.cmp.Ordering.TheVariants.{Equal, Greater}
-use Rattle.std.specs.Ordering.{is_eq, is_lt, ordering_index, nat_cmp}
-use Rattle.std.specs.Option.{option_cmp}
-use Rattle.std.specs.Cmp.{IsTotalOrder, both_tied}
-use Rattle.std.specs.Cmp.Lexicographic.{slice_cmp, texts_ties, options_total}
-use Rattle.std.proofs.lemmas.Cmp.{then_total, on_total, nat_list_cmp_total}
-use Rattle.std.proofs.lemmas.List.{length-map, map-append, length_push, take-append-drop, get_or_default}
-use Rattle.std.proofs.lemmas.List.Sorted.{searchable_from_sorted}
-use Rattle.std.proofs.lemmas.List.Folds.{list_any-append}
-use Rattle.std.proofs.lemmas.List.Edits.{length-insert, get_or-insert_below, get_or-insert_at, get_or-insert_above}
-use Rattle.std.proofs.lemmas.Slice.Eq.{bytes_eq-Decides}
+use Rattle.std.specs.declared.cmp.Ordering.TheVariants.{Less, Equal, Greater}
+use Rattle.std.specs.Ordering.{is_eq, match_ordering, nat_cmp}
+use Rattle.std.specs.Cmp.{both_tied}
+use Rattle.std.specs.Cmp.Lexicographic.{slice_cmp, texts_ties}
+use Rattle.std.proofs.lemmas.List.{length-map, map-append}
 use Rattle.rox_grammar.specs.Written.{Declaration}
 use Rattle.rox_grammar.specs.Tree.{same_prefix}
 use Rattle.rox_grammar.specs.Document.{same_pair, has_pair}
+use Rattle.rox_build.specs.declared.names.Key.{Key}
 use Rattle.rox_build.specs.declared.tables.Namespace.{Namespace}
 use Rattle.rox_build.specs.Lines.{declaration, entry}
-use Rattle.rox_build.specs.Scopes.{entries, ArePlaces}
-use Rattle.rox_build.specs.Index.{pair_cmp, place_cmp, IsGap}
-use Rattle.rox_build.proofs.Pairs.{same_prefix-refl, same_pair-true, place_at, entry-get, entry-push}
-use Rattle.rox_build.proofs.Stable.{all_weaker, entry-append, map_same}
+use Rattle.rox_build.specs.Index.{pair_cmp, key_cmp, place_of, place_among}
+use Rattle.rox_build.proofs.Pairs.{same_pair-true}
 
 -- ---- the order
-
-pair_total : IsTotalOrder pair_cmp
-pair_total = then_total (on_total (λ d. d.prefix) (options_total nat_list_cmp_total)) (on_total (λ d. d.uri) nat_list_cmp_total)
 
 prefix_ties : (p q : Option (List ℕ)) → same_prefix p q ≡ is_eq (option_cmp (slice_cmp nat_cmp) p q)
 prefix_ties None None = refl
@@ -38,205 +30,141 @@ prefix_ties (Some p) (Some q) = texts_ties p q
 pair_ties : (d e : Declaration) → same_pair d e ≡ is_eq (pair_cmp d e)
 pair_ties d e = both_tied _ _ _ (slice_cmp nat_cmp d.uri e.uri) (prefix_ties d.prefix e.prefix) (texts_ties d.uri e.uri)
 
-same_pair-refl : (d : Declaration) → same_pair d d ≡ true
-same_pair-refl d = rw (same_prefix-refl d.prefix) ((bytes_eq-Decides d.uri d.uri).1 refl)
-
 -- ---- the places of a table
-
-place_cmp-entry : (names : List Declaration) (d : Declaration) (i : ℕ) → i < length names → place_cmp names d i ≡ pair_cmp (entry names i) d
-place_cmp-entry [] d i h = absurd (omega arith)
-place_cmp-entry (n ∷ names) d zero h = refl
-place_cmp-entry (n ∷ names) d (suc i) h = place_cmp-entry names d i (omega arith)
-
-pub place_cmp-behind : (names : List Declaration) (d : Declaration) (i : ℕ) → length names ≤ i → place_cmp names d i ≡ Greater
-place_cmp-behind [] d i h = refl
-place_cmp-behind (n ∷ names) d zero h = absurd (omega arith)
-place_cmp-behind (n ∷ names) d (suc i) h = place_cmp-behind names d i (omega arith)
-
--- the answer at a row
-pub place_cmp-row : (rows : List Namespace) (d : Declaration) (i : ℕ) (row : Namespace) (o : Ordering) → i < length rows → row ≡ get_or rows i row → o ≡ pair_cmp (declaration row) d
-    → o ≡ place_cmp (map declaration rows) d i
-place_cmp-row rows d i row o h is answer =
-    let e : entry (map declaration rows) i ≡ declaration row = entry-get rows i row h ∙ ap declaration (sym is) in
-    answer ∙ ap (λ (x : Declaration). pair_cmp x d) (sym e) ∙ sym (place_cmp-entry (map declaration rows) d i (rw (length-map rows declaration) h))
 
 or_right : (a b : Bool) → b ≡ true → (a || b) ≡ true
 or_right true b h = refl
 or_right false b h = h
 
-or_neither : (a b : Bool) → a ≡ false → b ≡ false → (a || b) ≡ false
-or_neither false b h k = k
-or_neither true b h k = cc h
+neither : (a b : Bool) → (a || b) ≡ false → (a ≡ false) × (b ≡ false)
+neither false b h = (refl, h)
+neither true b h = cc h
 
--- the pair at a place is there
-has_entry : (names : List Declaration) (i : ℕ) → i < length names → has_pair names (entry names i) ≡ true
-has_entry [] i h = absurd (omega arith)
-has_entry (n ∷ names) zero h = rw (same_pair-refl n) refl
-has_entry (n ∷ names) (suc i) h = or_right (same_pair n (entry names i)) _ (has_entry names i (omega arith))
+placed : (names : List Declaration) (d : Declaration) → IfSome (place_of names d) (λ i. (i < length names) × (entry names i ≡ d) × (has_pair names d ≡ true))
+placed [] d = tt
+placed (n ∷ names) d = by (same_pair n d) refl (place_of names d) (placed names d)
+  where
+    by : (b : Bool) → same_pair n d ≡ b → (o : Option ℕ) → IfSome o (λ i. (i < length names) × (entry names i ≡ d) × (has_pair names d ≡ true))
+        → IfSome (cond b (Some 0) (option_map suc o)) (λ i. (i < suc (length names)) × (entry (n ∷ names) i ≡ d) × (has_pair (n ∷ names) d ≡ true))
+    by true e o h = (omega arith, same_pair-true n d e, rw e refl)
+    by false e None h = tt
+    by false e (Some i) (lt, is, has) = (omega arith, is, or_right (same_pair n d) _ has)
 
--- a pair that is at none of these places
-has_none : (names : List Declaration) (places : List ℕ) (d : Declaration) → ((j : ℕ) → j < length places → same_pair (entry names (get_or places j 0)) d ≡ false)
-    → has_pair (entries names places) d ≡ false
-has_none names [] d h = refl
-has_none names (p ∷ ps) d h = or_neither _ _ (h 0 (omega arith)) (has_none names ps d (λ j lt. h (suc j) (omega arith)))
+unplaced : (names : List Declaration) (d : Declaration) → IfNone (place_of names d) (has_pair names d ≡ false)
+unplaced [] d = refl
+unplaced (n ∷ names) d = by (same_pair n d) refl (place_of names d) (unplaced names d)
+  where
+    by : (b : Bool) → same_pair n d ≡ b → (o : Option ℕ) → IfNone o (has_pair names d ≡ false) → IfNone (cond b (Some 0) (option_map suc o)) (has_pair (n ∷ names) d ≡ false)
+    by true e o h = tt
+    by false e None h = rw (e, h) refl
+    by false e (Some i) h = tt
 
--- ---- a search
+pub placed_row : (rows : List Namespace) (d : Declaration) (i : ℕ) → Some i ≡ place_of (map declaration rows) d
+    → (i < length rows) × (entry (map declaration rows) i ≡ d) × (has_pair (map declaration rows) d ≡ true)
+placed_row rows d i e =
+    let names = map declaration rows in
+    let p = subst (λ (o : Option ℕ). IfSome o (λ i. (i < length names) × (entry names i ≡ d) × (has_pair names d ≡ true))) (sym e) (placed names d) in
+    let l = length-map rows declaration in
+    let lt = p.0 in
+    (omega arith, p.1, p.2)
 
-module _ (names : List Declaration) (places : List ℕ) (d : Declaration) (within : ArePlaces (length names) places) where
-  placed : (j x : ℕ) → j < length places → place_cmp names d (get_or places j x) ≡ pair_cmp (entry names (get_or places j x)) d
-  placed j x lt = place_cmp-entry names d (get_or places j x) (place_at (length names) places j x within lt)
+pub unplaced_row : (rows : List Namespace) (d : Declaration) → None ≡ place_of (map declaration rows) d → has_pair (map declaration rows) d ≡ false
+unplaced_row rows d e = subst (λ (o : Option ℕ). IfNone o (has_pair (map declaration rows) d ≡ false)) (sym e) (unplaced (map declaration rows) d)
 
-  module _ (sorted : IsSortedByKey (entry names) pair_cmp places) where
-    -- the answers rise along the index
-    rises : IsNonDecreasingBy (λ i. ordering_index (place_cmp names d i)) places
-    rises i j x le lt = rw (placed i x (omega arith), placed j x lt) (searchable_from_sorted pair_total (entry names) places d sorted i j x le lt)
-
-    pub gap_found : (k : ℕ) → k ≤ length places → IsBinarySearchResult (place_cmp names d) places (Err k) → IsGap names places d k
-    gap_found k range parted = record {
-      in_range = range;
-      before = λ j lt. sym (placed j 0 (omega arith)) ∙ (parted rises).0 j 0 (omega arith) lt;
-      after = λ j le lt. sym (placed j 0 lt) ∙ (parted rises).1 j 0 le lt;
-    }
-
-  -- a pair that ties is the pair
-  pub pair_found : (k : ℕ) → k < length places → IsBinarySearchResult (place_cmp names d) places (Ok k) → entry names (get_or places k 0) ≡ d
-  pair_found k lt equal =
-      let tie : pair_cmp (entry names (get_or places k 0)) d ≡ Equal = sym (placed k 0 lt) ∙ equal 0 in
-      same_pair-true (entry names (get_or places k 0)) d (pair_ties (entry names (get_or places k 0)) d ∙ ap is_eq tie)
-
-  pub found_has : (k : ℕ) → k < length places → entry names (get_or places k 0) ≡ d → has_pair names d ≡ true
-  found_has k lt same = subst (λ (e : Declaration). has_pair names e ≡ true) same (has_entry names (get_or places k 0) (place_at (length names) places k 0 within lt))
-
--- below k, or from k on
-by_lt : {P : Type 0} (j k : ℕ) → (j < k → P) → (k ≤ j → P) → P
-by_lt j zero below above = above (omega arith)
-by_lt zero (suc k) below above = below (omega arith)
-by_lt (suc j) (suc k) below above = by_lt j k (λ h. below (omega arith)) (λ h. above (omega arith))
-
--- where there is a gap for a pair, the pair is not there
-pub gap_has_none : (names : List Declaration) (places : List ℕ) (d : Declaration) (k : ℕ) → has_pair (entries names places) d ≡ has_pair names d → IsGap names places d k
-    → has_pair names d ≡ false
-gap_has_none names places d k complete gap = sym complete ∙ has_none names places d (λ j lt.
-    pair_ties (entry names (get_or places j 0)) d ∙ by_lt j k (λ below. ap is_eq (gap.before j below)) (λ above. ap is_eq (gap.after j above lt)))
-
--- what a search says
-pub searched_found : (names : List Declaration) (places : List ℕ) (d : Declaration) → ArePlaces (length names) places → (r : Result ℕ ℕ) → IsSearchInRange r (length places)
-    → IsBinarySearchResult (place_cmp names d) places r → IfOk r (λ k. (k < length places) × (entry names (get_or places k 0) ≡ d) × (has_pair names d ≡ true))
-searched_found names places d within (Err k) range answer = tt
-searched_found names places d within (Ok k) range answer =
-    let same = pair_found names places d within k range answer in
-    (range, same, found_has names places d within k range same)
-
-pub searched_gap : (names : List Declaration) (places : List ℕ) (d : Declaration) → ArePlaces (length names) places → IsSortedByKey (entry names) pair_cmp places
-    → has_pair (entries names places) d ≡ has_pair names d → (r : Result ℕ ℕ) → IsSearchInRange r (length places) → IsBinarySearchResult (place_cmp names d) places r
-    → IfErr r (λ k. IsGap names places d k × (has_pair names d ≡ false))
-searched_gap names places d within sorted complete (Ok k) range answer = tt
-searched_gap names places d within sorted complete (Err k) range answer =
-    let gap = gap_found names places d within sorted k range answer in
-    (gap, gap_has_none names places d k complete gap)
+absent_place : (names : List Declaration) (d : Declaration) → has_pair names d ≡ false → place_of names d ≡ None
+absent_place [] d h = refl
+absent_place (n ∷ names) d h = let (one, rest) = neither (same_pair n d) (has_pair names d) h in rw (one, absent_place names d rest) refl
 
 -- ---- a new pair
 
--- a list in order stays so where one goes between those that are not above it and those that are not below
-sorted_insert : {X : Type 0} (lt : X → X → Bool) (xs : List X) (k : ℕ) (y : X) → k ≤ length xs → IsSortedBy lt xs → ((j : ℕ) (d : X) → j < k → lt y (get_or xs j d) ≡ false)
-    → ((j : ℕ) (d : X) → k ≤ j → j < length xs → lt (get_or xs j d) y ≡ false) → IsSortedBy lt (insert xs k y)
-sorted_insert {X} lt xs k y range sorted before after j d low high =
-    let new = insert xs k y in
-    let long = length-insert xs k y range in
-    let below : (i : ℕ) → i < k → get_or new i d ≡ get_or xs i d = λ i h. get_or-insert_below xs k y d i h range in
-    let here : (i : ℕ) → i ≡ k → get_or new i d ≡ y = λ i h. rw h (get_or-insert_at xs k y d range) in
-    let above : (i : ℕ) → k ≤ i → get_or new (i + 1) d ≡ get_or xs i d = λ i h. get_or-insert_above xs k y d i h range in
-    by_lt (j + 1) k (λ h. rw (below (j + 1) h, below j (omega arith)) (sorted j d (omega arith) (omega arith))) (λ h.
-    by_lt j k (λ l. rw (here (j + 1) (omega arith), below j l) (before j d l)) (λ l.
-    by_lt k j (λ m.
-    let i = j - 1 in
-    let up : i + 1 ≡ j = omega arith in
-    let last : get_or new j d ≡ get_or xs i d = subst (λ (n : ℕ). get_or new n d ≡ get_or xs i d) up (above i (omega arith)) in
-    let next : get_or new (j + 1) d ≡ get_or xs (i + 1) d = above j l ∙ ap (λ (n : ℕ). get_or xs n d) (sym up) in
-    rw (next, last) (sorted i d (omega arith) (omega arith))) (λ m.
-    rw (above j l, here j (omega arith)) (after j d l (omega arith)))))
+place_push : (names : List Declaration) (e d : Declaration) → has_pair names e ≡ false → place_of (names ++ e ∷ []) d ≡ cond (same_pair e d) (Some (length names)) (place_of names d)
+place_push [] e d h = refl
+place_push (n ∷ names) e d h = by (same_pair n d) refl (same_pair e d) refl (place_push names e d)
+  where
+    parts : (same_pair n e ≡ false) × (has_pair names e ≡ false)
+    parts = neither (same_pair n e) (has_pair names e) h
 
-all_insert : {X : Type 0} (P : X → Type 0) (xs : List X) (k : ℕ) (y : X) → AllByRecursion P xs → P y → AllByRecursion P (insert xs k y)
-all_insert P xs zero y h p = (p, h)
-all_insert P [] (suc k) y h p = (p, tt)
-all_insert P (x ∷ xs) (suc k) y (a, h) p = (a, all_insert P xs k y h p)
+    by : (a : Bool) → same_pair n d ≡ a → (b : Bool) → same_pair e d ≡ b → (has_pair names e ≡ false → place_of (names ++ e ∷ []) d ≡ cond (same_pair e d) (Some (length names)) (place_of names d))
+        → cond a (Some 0) (option_map suc (place_of (names ++ e ∷ []) d)) ≡ cond b (Some (suc (length names))) (cond a (Some 0) (option_map suc (place_of names d)))
+    by true x true y more = let again : same_pair n e ≡ true = subst (λ (v : Declaration). same_pair n v ≡ true) (sym (same_pair-true e d y)) x in cc (parts.0, again)
+    by true x false y more = refl
+    by false x true y more = ap (option_map suc) (rw y at (more parts.1))
+    by false x false y more = ap (option_map suc) (rw y at (more parts.1))
 
-entry-last : (names : List Declaration) (d : Declaration) → entry (names ++ d ∷ []) (length names) ≡ d
-entry-last [] d = refl
-entry-last (n ∷ names) d = entry-last names d
+lookup_same : (f g : Key → Bool) (es : List (Key × ℕ)) → ((k : Key) → f k ≡ g k) → lookup f es ≡ lookup g es
+lookup_same f g [] h = refl
+lookup_same f g (e ∷ es) h = rw (h e.0, lookup_same f g es h) refl
 
-or_moved : (a b c : Bool) → (a || (b || c)) ≡ ((a || c) || (b || false))
-or_moved true b c = refl
-or_moved false true true = refl
-or_moved false true false = refl
-or_moved false false true = refl
-or_moved false false false = refl
+-- what a look-up in the map says
+pub looked : (k : Key) (es : List (Key × ℕ)) → lookup (is_at (key_cmp k)) es ≡ place_among es (declaration k.namespace)
+looked k es = lookup_same (is_at (key_cmp k)) (λ x. same_pair (declaration k.namespace) (declaration x.namespace)) es (λ x. sym (pair_ties (declaration k.namespace) (declaration x.namespace)))
 
-module _ (names : List Declaration) (places : List ℕ) (d : Declaration) (k : ℕ) (within : ArePlaces (length names) places) (gap : IsGap names places d k) where
-  abbrev pub grown : List Declaration
-  grown = names ++ d ∷ []
+among_inserted : (k : Key) (v : ℕ) (d : Declaration) (es : List (Key × ℕ)) → place_among es (declaration k.namespace) ≡ None
+    → place_among (insert_entry key_cmp es k v) d ≡ cond (same_pair d (declaration k.namespace)) (Some v) (place_among es d)
+among_inserted k v d [] h = refl
+among_inserted k v d (e ∷ es) h = at_first (same_pair (declaration k.namespace) (declaration e.0.namespace)) refl (key_cmp k e.0) refl (among_inserted k v d es)
+  where
+    mine : Declaration
+    mine = declaration k.namespace
 
-  kept : (j x : ℕ) → j < length places → entry grown (get_or places j x) ≡ entry names (get_or places j 0)
-  kept j x lt = entry-append names (d ∷ []) (get_or places j x) (place_at (length names) places j x within lt) ∙ ap (entry names) (get_or_default places j x 0 lt)
+    its : Declaration
+    its = declaration e.0.namespace
 
-  pub within_more : ArePlaces (length grown) (insert places k (length names))
-  within_more =
-      let long = length_push names d in
-      all_insert (λ i. i < length grown) places k (length names) (all_weaker (λ i. i < length names) (λ i. i < length grown) places (λ i h. omega arith) within) (omega arith)
+    rest_none : same_pair mine its ≡ false → place_among es mine ≡ None
+    rest_none x = rw x at h
 
-  pub sorted_more : IsSortedByKey (entry names) pair_cmp places → IsSortedByKey (entry grown) pair_cmp (insert places k (length names))
-  sorted_more sorted =
-      let lt : ℕ → ℕ → Bool = λ i j. is_lt (pair_cmp (entry grown i) (entry grown j)) in
-      let was : IsSortedBy lt places = λ j x low high.
-      rw (kept (j + 1) x high, kept j x (omega arith), ← kept-old (j + 1) x high, ← kept-old j x (omega arith)) (sorted j x low high) in
-      sorted_insert lt places k (length names) gap.in_range was
-      (λ j x h. rw (entry-last names d, kept j x (lt_in j h), pair_total.antisymm d (entry names (get_or places j 0)), gap.before j h) refl)
-      (λ j x h l. rw (entry-last names d, kept j x l, gap.after j h l) refl)
-    where
-      lt_in : (j : ℕ) → j < k → j < length places
-      lt_in j h = let r = gap.in_range in omega arith
+    apart : same_pair mine its ≡ false → (a : Bool) → same_pair d its ≡ a → (b : Bool) → same_pair d mine ≡ b
+        → cond a (Some e.1) (cond b (Some v) (place_among es d)) ≡ cond b (Some v) (cond a (Some e.1) (place_among es d))
+    apart x true p true q = let again : same_pair mine its ≡ true = subst (λ (w : Declaration). same_pair w its ≡ true) (same_pair-true d mine q) p in cc (x, again)
+    apart x true p false q = refl
+    apart x false p b q = refl
 
-      kept-old : (j x : ℕ) → j < length places → entry names (get_or places j x) ≡ entry names (get_or places j 0)
-      kept-old j x lt = ap (entry names) (get_or_default places j x 0 lt)
+    at_first : (c : Bool) → same_pair mine its ≡ c → (o : Ordering) → key_cmp k e.0 ≡ o
+        → (place_among es mine ≡ None → place_among (insert_entry key_cmp es k v) d ≡ cond (same_pair d mine) (Some v) (place_among es d))
+        → place_among (match_ordering o ((k, v) ∷ e ∷ es) ((e.0, v) ∷ es) (e ∷ insert_entry key_cmp es k v)) d ≡ cond (same_pair d mine) (Some v) (place_among (e ∷ es) d)
+    at_first true x o is more = cc (rw x at h)
+    at_first false x Less is more = refl
+    at_first false x Equal is more = let tie : same_pair mine its ≡ true = pair_ties mine its ∙ ap is_eq is in cc (x, tie)
+    at_first false x Greater is more = rw (more (rest_none x)) (apart x (same_pair d its) refl (same_pair d mine) refl)
 
-  pub complete_more : (e : Declaration) → has_pair (entries names places) e ≡ has_pair names e → has_pair (entries grown (insert places k (length names))) e ≡ has_pair grown e
-  complete_more e complete =
-      let p : Declaration → Bool = λ x. same_pair x e in
-      let front = take k places in
-      let back = drop k places in
-      let same : entries grown places ≡ entries names places = map_same (entry grown) (entry names) (λ i. i < length names) places (entry-append names (d ∷ [])) within in
-      let parts : (list_any p (entries grown front) || list_any p (entries grown back)) ≡ has_pair names e =
-      sym (list_any-append p (entries grown front) (entries grown back)) ∙ ap (list_any p) (sym (map-append (entry grown) front back) ∙ ap (entries grown) (take-append-drop k places) ∙ same) ∙ complete in
-      ap (list_any p) (map-append (entry grown) front (length names ∷ back))
-      ∙ list_any-append p (entries grown front) (entry grown (length names) ∷ entries grown back)
-      ∙ ap (λ (x : Declaration). list_any p (entries grown front) || (p x || list_any p (entries grown back))) (entry-last names d)
-      ∙ or_moved (list_any p (entries grown front)) (p d) (list_any p (entries grown back))
-      ∙ ap (λ (b : Bool). b || (p d || false)) parts
-      ∙ sym (list_any-append p names (d ∷ []))
+-- a result that was told to be an answer
+pub was_ok : {A B P : Type 0} (r : Result A B) → is_ok r ≡ true → OnOk r P → P
+was_ok (Ok x) e h = h
+was_ok (Err y) e h = cc e
 
--- what a table of pairs says of its index
-pub record Indexes (rows : List Namespace) (places : List ℕ) : Type 0 where
-  pub within : ArePlaces (length rows) places
-  pub sorted : IsSortedByKey (entry (map declaration rows)) pair_cmp places
-  pub complete : (d : Declaration) → has_pair (entries (map declaration rows) places) d ≡ has_pair (map declaration rows) d
-
-pub indexes_more : (rows : List Namespace) (places : List ℕ) (row : Namespace) (k : ℕ) → Indexes rows places → IsGap (map declaration rows) places (declaration row) k
-    → Indexes (rows ++ row ∷ []) (insert places k (length rows))
-indexes_more rows places row k h gap =
+-- the map of a table with one more
+pub found_more : (rows : List Namespace) (row : Namespace) (es : List (Key × ℕ)) (k : Key) → ((d : Declaration) → place_among es d ≡ place_of (map declaration rows) d)
+    → has_pair (map declaration rows) (declaration k.namespace) ≡ false → declaration row ≡ declaration k.namespace
+    → (d : Declaration) → place_among (insert_entry key_cmp es k (length rows)) d ≡ place_of (map declaration (rows ++ row ∷ [])) d
+found_more rows row es k h absent same d =
     let names = map declaration rows in
-    let d = declaration row in
-    let long : length names ≡ length rows = length-map rows declaration in
-    let within : ArePlaces (length names) places = rw long h.within in
-    let rows_are : map declaration (rows ++ row ∷ []) ≡ names ++ d ∷ [] = map-append declaration rows (row ∷ []) in
-    let longer : length (rows ++ row ∷ []) ≡ length (names ++ d ∷ []) = sym (length-map (rows ++ row ∷ []) declaration) ∙ ap length rows_are in
-    record {
-      within = rw (longer, ← long) (within_more names places d k within gap);
-      sorted = rw (rows_are, ← long) (sorted_more names places d k within gap h.sorted);
-      complete = λ e. rw (rows_are, ← long) (complete_more names places d k within gap e (h.complete e));
-    }
+    let mine = declaration k.namespace in
+    let none : place_among es mine ≡ None = h mine ∙ absent_place names mine absent in
+    among_inserted k (length rows) d es none
+    ∙ ap (λ o. cond (same_pair d mine) (Some (length rows)) o) (h d)
+    ∙ rw (same_pair-sym d mine, sym (length-map rows declaration)) refl
+    ∙ sym (place_push names mine d absent)
+    ∙ ap (λ ds. place_of ds d) (sym (map-append declaration rows (row ∷ []) ∙ ap (λ x. names ++ x ∷ []) same))
+  where
+    same_pair-sym : (x y : Declaration) → same_pair x y ≡ same_pair y x
+    same_pair-sym x y = by (same_pair x y) refl (same_pair y x) refl
+      where
+        by : (a : Bool) → same_pair x y ≡ a → (b : Bool) → same_pair y x ≡ b → a ≡ b
+        by true p true q = refl
+        by false p false q = refl
+        by true p false q = let e = same_pair-true x y p in let again : same_pair y x ≡ true = subst (λ (w : Declaration). same_pair w x ≡ true) e (subst (λ (w : Declaration). same_pair x w ≡ true) (sym e) p) in cc (q, again)
+        by false p true q = let e = same_pair-true y x q in let again : same_pair x y ≡ true = subst (λ (w : Declaration). same_pair w y ≡ true) e (subst (λ (w : Declaration). same_pair y w ≡ true) (sym e) q) in cc (p, again)
 
 -- the row that was put at the end, where memory did not run out
-pub row_last : {E : Type 0} (r : Result ℕ E) (rows new : List Namespace) (row : Namespace) → OnOk r (new ≡ rows ++ row ∷ []) → IfOk r (λ i. i ≡ length rows)
-    → IfOk r (λ i. (i < length new) × (entry (map declaration new) i ≡ declaration row))
-row_last (Err e) rows new row more last = tt
-row_last (Ok i) rows new row more last = (omega (arith, length_push rows row, ap length more, last), rw (more, last) (entry-push rows row))
+pub row_last : {E : Type 0} (r : Result ℕ E) (rows new : List Namespace) (d : Declaration) → OnOk r (map declaration new ≡ map declaration rows ++ d ∷ []) → IfOk r (λ i. i ≡ length rows)
+    → IfOk r (λ i. (i < length new) × (entry (map declaration new) i ≡ d))
+row_last (Err e) rows new d more last = tt
+row_last (Ok i) rows new d more last =
+    let l = length-map rows declaration in
+    let m = length-map new declaration in
+    let n = ap length more ∙ length-append (map declaration rows) (d ∷ []) in
+    (omega arith, rw (more, last, ← l) (entry-last (map declaration rows) d))
+  where
+    entry-last : (names : List Declaration) (d : Declaration) → entry (names ++ d ∷ []) (length names) ≡ d
+    entry-last [] d = refl
+    entry-last (n ∷ names) d = entry-last names d

@@ -454,7 +454,7 @@ impl<'input> Builder<'input> {
         } = tables;
         let NamespaceTable {
             items: namespaces,
-            order: _,
+            places: _,
         } = namespaces;
         attributes.trim();
         Ok(Tables {

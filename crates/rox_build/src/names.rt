@@ -1,15 +1,13 @@
-//! The table of the distinct pairs of a prefix, or the default, and a URI, and an index by which a pair is found.
+//! The table of the distinct pairs of a prefix, or the default, and a URI, and a map by which a pair is found.
 
-ghost use Rattle.std.specs.Prelude.{◌≡◌, ◌<◌, ◌≤◌, ◌∷◌, ◌++◌, [], length, map, slice_index, true, false, IfOk, OnOk, IfErr, Err};
-ghost use Rattle.std.specs.List.Sorted.{IsSortedByKey};
-ghost use Rattle.std.proofs.Props.{props};
+ghost use Rattle.std.specs.Prelude.{◌≡◌, ◌<◌, ◌≤◌, ◌∷◌, ◌++◌, [], length, map, true, false, IfSome, IfNone, IfOk, OnOk, IfErr, Err};
 ghost use Rattle.rox_grammar.specs.Written.{Declaration};
 ghost use Rattle.rox_grammar.specs.Document.{has_pair, with_new, most_pairs};
 ghost use Rattle.rox_grammar.specs.declared.fault.Fault.{Fault};
 ghost use Rattle.rox_build.specs.Storage.{storage_bytes};
 ghost use Rattle.rox_build.specs.Lines.{declaration, entry};
-ghost use Rattle.rox_build.specs.Scopes.{prefix_view, pair, entries, ArePlaces};
-ghost use Rattle.rox_build.specs.Index.{pair_cmp, place_cmp, IsGap};
+ghost use Rattle.rox_build.specs.Scopes.{prefix_view, pair};
+ghost use Rattle.rox_build.specs.Index.{pair_cmp, key_cmp, key_total, place_among, place_of};
 
 use crate::storage::StringStorage;
 use crate::tables::Namespace;
@@ -17,42 +15,85 @@ use rox_grammar::fault::Fault;
 use rox_scan::failure::Failure;
 use std::alloc::Global;
 use std::cmp::Ordering;
+use std::collections::BTreeMap;
 
 /// The most pairs that the table holds.
 const MOST_PAIRS: usize = 65_535;
+
+/// How two pairs stand to each other: by prefix, of which the default comes first, and then by URI.
+fn compare(one: &Namespace<'_>, other: &Namespace<'_>) -> Ordering
+    ensures { result ≡ pair_cmp (declaration one.now) (declaration other.now) }
+{
+    match one.name.cmp(&other.name) {
+        Ordering::Equal => one.uri.as_str().cmp(other.uri.as_str()),
+        Ordering::Less => Ordering::Less,
+        Ordering::Greater => Ordering::Greater,
+    }
+}
+
+/// A pair as a key.
+#[derive(Debug, Drop)]
+pub struct Key<'input> {
+    pub namespace: Namespace<'input>,
+}
+
+impl PartialEq for Key<'_> {
+    ghost use Rattle.std.specs.Ordering.{eq_by_cmp};
+    ghost use Rattle.std.specs.Cmp.{partial_equiv_from_equiv, eq_by_cmp_equiv};
+
+    ghost eq = { eq_by_cmp key_cmp };
+
+    ghost laws = { partial_equiv_from_equiv (eq_by_cmp_equiv key_total) };
+
+    fn eq(&self, other: &Self) -> bool {
+        compare(&self.namespace, &other.namespace) == Ordering::Equal
+    }
+}
+
+impl Eq for Key<'_> {
+    ghost use Rattle.std.specs.Cmp.{eq_by_cmp_equiv};
+
+    ghost laws = { eq_by_cmp_equiv key_total };
+}
+
+impl Ord for Key<'_> {
+    ghost use Rattle.std.proofs.Common.{rules};
+    ghost use Rattle.std.specs.Cmp.Rules.{comparing};
+
+    ghost cmp = { key_cmp };
+
+    ghost total = { key_total };
+
+    ghost matches_partial_cmp = { Prim.search (comparing, rules) };
+
+    ghost matches_eq = { Prim.search (comparing, rules) };
+
+    fn cmp(&self, other: &Self) -> Ordering {
+        compare(&self.namespace, &other.namespace)
+    }
+}
+
+impl PartialOrd for Key<'_> {
+    ghost use Rattle.std.specs.Ordering.{as_partial_cmp};
+    ghost use Rattle.std.specs.Cmp.{partial_order_from_total};
+
+    ghost partial_cmp = { as_partial_cmp key_cmp };
+
+    ghost laws = { partial_order_from_total key_total };
+
+    fn partial_cmp(&self, other: &Self) -> Option<Ordering> {
+        Some(self.cmp(other))
+    }
+}
 
 /// The table, while it grows.
 #[derive(Debug, Drop)]
 pub struct NamespaceTable<'input> {
     /// In the order in which they are first declared.
     pub items: Vec<Namespace<'input>>,
-    /// The index: the places of all of them, sorted by prefix and then by URI.
-    pub order: Vec<u16>,
-    pub ghost within: { ArePlaces (length items.items) order.items } by { Prim.hlevel props },
-    pub ghost sorted: { IsSortedByKey (entry (map declaration items.items)) pair_cmp order.items },
-    pub ghost complete: { (d : Declaration) → has_pair (entries (map declaration items.items) order.items) d ≡ has_pair (map declaration items.items) d },
-}
-
-/// How a namespace stands to a pair: by prefix, of which the default comes first, and then by URI.
-fn compare(name: &Namespace<'_>, prefix: Option<&str>, uri: &str) -> Ordering
-    ensures { result ≡ pair_cmp (declaration name.now) (pair (prefix_view prefix.entry) uri.now) }
-{
-    match name.name.cmp(&prefix) {
-        Ordering::Equal => name.uri.as_str().cmp(uri),
-        Ordering::Less => Ordering::Less,
-        Ordering::Greater => Ordering::Greater,
-    }
-}
-
-/// How the namespace at this place stands to a pair. What is behind the table is greater.
-fn compare_at(names: &[Namespace<'_>], place: u16, prefix: Option<&str>, uri: &str) -> Ordering
-    ensures { result ≡ place_cmp (map declaration names.now) (pair (prefix_view prefix.entry) uri.now) place }
-{
-    if (place as usize) < names.len() {
-        compare(&names[place as usize], prefix, uri)
-    } else {
-        Ordering::Greater
-    }
+    /// The place of each.
+    pub places: BTreeMap<Key<'input>, u16>,
+    pub ghost found: { (d : Declaration) → place_among places.entries d ≡ place_of (map declaration items.items) d },
 }
 
 impl<'input> NamespaceTable<'input> {
@@ -62,7 +103,7 @@ impl<'input> NamespaceTable<'input> {
     {
         NamespaceTable {
             items: Vec::new(alloc),
-            order: Vec::new(alloc),
+            places: BTreeMap::new(alloc),
         }
     }
 
@@ -74,30 +115,31 @@ impl<'input> NamespaceTable<'input> {
         self.items.as_slice()
     }
 
-    /// Where the index has a pair, or where it would go.
-    fn search(&self, prefix: Option<&str>, uri: &str) -> Result<usize, usize>
-        ensures found { IfOk result (λ k. (k < length self.now.order.items)
-            × (entry (map declaration self.now.items.items) (slice_index self.now.order.items k) ≡ pair (prefix_view prefix.entry) uri.now)
-            × (has_pair (map declaration self.now.items.items) (pair (prefix_view prefix.entry) uri.now) ≡ true)) }
-        ensures gap { IfErr result (λ k. IsGap (map declaration self.now.items.items) self.now.order.items (pair (prefix_view prefix.entry) uri.now) k
-            × (has_pair (map declaration self.now.items.items) (pair (prefix_view prefix.entry) uri.now) ≡ false)) }
+    /// The place of a pair.
+    fn find(&self, key: &Key<'input>) -> Option<u16>
+        ensures there { IfSome result (λ i. (i < length self.now.items.items)
+            × (entry (map declaration self.now.items.items) i ≡ declaration key.now.namespace)
+            × (has_pair (map declaration self.now.items.items) (declaration key.now.namespace) ≡ true)) }
+        ensures absent { IfNone result (has_pair (map declaration self.now.items.items) (declaration key.now.namespace) ≡ false) }
     {
-        let names = self.items.as_slice();
-        self.order
-            .binary_search_by(|place| compare_at(names, *place, prefix, uri))
+        match self.places.get(key) {
+            Some(place) => Some(*place),
+            None => None,
+        }
     }
 
-    /// Puts a new pair at the end of the table, and its place at this gap of the index. The only error is want of memory.
-    fn add(&mut self, gap: usize, name: Namespace<'input>) -> Result<u16, Failure>
+    /// Puts a new pair at the end of the table. The only error is want of memory.
+    fn add(&mut self, key: Key<'input>) -> Result<u16, Failure>
         requires few { length self.old.items.items < most_pairs }
-        requires gap { IsGap (map declaration self.old.items.items) self.old.order.items (declaration name) gap }
-        ensures items { OnOk result (self.new.items.items ≡ self.old.items.items ++ name.entry ∷ []) }
+        requires absent { has_pair (map declaration self.old.items.items) (declaration key.namespace) ≡ false }
+        ensures items { OnOk result (map declaration self.new.items.items ≡ map declaration self.old.items.items ++ declaration key.entry.namespace ∷ []) }
         ensures place { IfOk result (λ i. i ≡ length self.old.items.items) }
         ensures err { IfErr result (λ e. e ≡ Failure.Memory) }
     {
         let place = self.items.len() as u16;
-        self.items.push(name)?;
-        if self.order.insert(gap, place).is_err() {
+        let namespace = key.namespace.clone()?;
+        self.items.push(namespace)?;
+        if self.places.insert(key, place).is_err() {
             self.items.pop();
             return Err(Failure::Memory);
         }
@@ -117,14 +159,14 @@ impl<'input> NamespaceTable<'input> {
         ensures fault { (f : Fault) → result ≡ Err (Failure.Fault f) → (f ≡ Fault.NamespacesLimitReached)
             × (most_pairs < length (with_new (map declaration self.old.items.items) (pair (prefix_view prefix.entry) (storage_bytes uri.entry) ∷ []))) }
     {
-        match self.search(prefix, uri.as_str()) {
-            Ok(found) => Ok(self.order[found]),
-            Err(gap) => {
-                if self.items.len() >= MOST_PAIRS {
-                    return Err(Failure::Fault(Fault::NamespacesLimitReached));
-                }
-                self.add(gap, Namespace { name: prefix, uri })
-            }
+        let namespace = Namespace { name: prefix, uri };
+        let key = Key { namespace };
+        if let Some(place) = self.find(&key) {
+            return Ok(place);
         }
+        if self.items.len() >= MOST_PAIRS {
+            return Err(Failure::Fault(Fault::NamespacesLimitReached));
+        }
+        self.add(key)
     }
 }

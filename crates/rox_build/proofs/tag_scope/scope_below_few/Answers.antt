@@ -1,7 +1,6 @@
-use Rattle.std.proofs.Common.{◌≤◌, ◌++◌, length, map, drop, refl, sym, ap, subst, ◌∙◌, arith}
+use Rattle.std.proofs.Common.{◌++◌, length, map, drop, refl, sym, ap, subst, ◌∙◌}
 use Rattle.std.specs.List.{slice_range}
 use Rattle.rox_build.specs.declared.tables.ElementTables.{ElementTables}
-use Rattle.rox_build.specs.declared.tables.Scope.TheVariants as scope
 use Rattle.rox_build.specs.Lines.{declaration, scope_at}
 use Rattle.rox_build.specs.Scopes.{entries, others}
 use Rattle.rox_build.specs.Ropes.{IsListed}
