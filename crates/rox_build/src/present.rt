@@ -19,7 +19,7 @@ use std::collections::BTreeMap;
 #[derive(Clone, Copy, Debug)]
 pub struct Place {
     pub namespace: u16,
-    pub listed: usize,
+    pub listed: u32,
 }
 
 /// A prefix, or the default, that stands for something else in a scope than around it, and the place that it had there.
@@ -208,7 +208,7 @@ impl<'input> Present<'input> {
         let namespace = listed[position];
         let place = Place {
             namespace,
-            listed: position,
+            listed: position.min(u32::MAX as usize) as u32,
         };
         self.put(names[namespace as usize].name, Some(place))?;
         Ok(())

@@ -85,23 +85,3 @@ impl Recent {
         }
     }
 }
-
-#[cfg(test)]
-mod tests {
-    use super::Recent;
-    use std::test::Fail;
-
-    #[test]
-    fn texts_of_one_length_are_told_apart(rt: HostRuntime) -> Result<(), Fail> {
-        let mut recent = Recent::new(rt.alloc());
-        for _turn in 0..20 {
-            let line = recent.owned(rt.alloc(), "\n  ")?;
-            let again = recent.owned(rt.alloc(), "\n  ")?;
-            let other = recent.owned(rt.alloc(), "a b")?;
-            assert_eq!(rt; line.as_str(), "\n  ");
-            assert!(rt; again == line);
-            assert_eq!(rt; other.as_str(), "a b");
-        }
-        Ok(())
-    }
-}

@@ -16,8 +16,11 @@ use rox_scan::failure::Failure;
 /// How many scopes the table holds at most: each has a number that a `u32` holds.
 const MOST_SCOPES: usize = 4294967296;
 
-/// How many a scope lists at most. More are never asked for: each prefix is listed once, and there are fewer.
+/// How many are listed at most in all scopes: a stretch of them has ends that a `u32` holds.
 const MOST_LISTED: usize = 4294967295;
+
+/// How many a scope lists at most. More are never asked for: each prefix is listed once, and there are 65,535 pairs.
+const MOST_OF_SCOPE: usize = 65535;
 
 /// How many a scope lists.
 #[inline]
@@ -28,14 +31,14 @@ pub fn count(scopes: &[Scope], scope: u32) -> usize
     ensures length { (listed : List ℕ) → AreScopes (length listed) scopes.now → result ≡ length (places_in listed scopes.now scope) }
 {
     match scopes[scope as usize] {
-        Scope::Few(stretch) => stretch.until - stretch.from,
-        Scope::Back(stretch) => stretch.until - stretch.from,
+        Scope::Few(stretch) => (stretch.until - stretch.from) as usize,
+        Scope::Back(stretch) => (stretch.until - stretch.from) as usize,
         Scope::Both(both) => both.count as usize,
     }
 }
 
 /// How high a rope is: nothing is stated of it.
-fn height(scopes: &[Scope], scope: u32) -> u8
+pub fn height(scopes: &[Scope], scope: u32) -> u8
     requires within { scope < length scopes.now }
 {
     match scopes[scope as usize] {
@@ -47,11 +50,12 @@ fn height(scopes: &[Scope], scope: u32) -> u8
 /// The lowest listed place of the last leaf: nothing is stated of it.
 fn low(scopes: &[Scope], scope: u32) -> usize
     requires within { scope < length scopes.now }
+    requires rows { AreRows scopes.now }
 {
     match scopes[scope as usize] {
-        Scope::Few(stretch) => stretch.from,
-        Scope::Back(stretch) => stretch.from,
-        Scope::Both(both) => both.low,
+        Scope::Few(stretch) => stretch.from as usize,
+        Scope::Back(stretch) => stretch.from as usize,
+        Scope::Both(both) => low(scopes, both.rest),
     }
 }
 
@@ -64,8 +68,8 @@ pub fn position_at(scopes: &[Scope], listed: &[u16], scope: u32, index: usize) -
     ensures value { slice_index listed.now result ≡ slice_index (places_in listed.now scopes.now scope) index }
 {
     match scopes[scope as usize] {
-        Scope::Few(stretch) => stretch.from + index,
-        Scope::Back(stretch) => stretch.until - 1 - index,
+        Scope::Few(stretch) => stretch.from as usize + index,
+        Scope::Back(stretch) => stretch.until as usize - 1 - index,
         Scope::Both(parts) => {
             let before = count(scopes, parts.first);
             if index < before {
@@ -86,6 +90,21 @@ pub fn place_at(scopes: &[Scope], listed: &[u16], scope: u32, index: usize) -> u
     ensures place { (n : ℕ) → ArePlaces n listed.now → result < n }
 {
     listed[position_at(scopes, listed, scope, index)]
+}
+
+/// A stretch of what is listed. The only error is want of memory.
+pub fn stretch(from: usize, until: usize) -> Result<Stretch, Failure>
+    requires ordered { from ≤ until }
+    ensures value { IfOk result (λ s. s ≡ record { from = from; until = until }) }
+    ensures err { IfErr result (λ e. e ≡ Failure.Memory) }
+{
+    if until > MOST_LISTED {
+        return Err(Failure::Memory);
+    }
+    Ok(Stretch {
+        from: from as u32,
+        until: until as u32,
+    })
 }
 
 /// Puts a row behind the others. The only error is want of memory.
@@ -112,17 +131,16 @@ fn pair(scopes: &mut Vec<Scope>, first: u32, rest: u32) -> Result<u32, Failure>
 {
     let before = count(scopes, first);
     let behind = count(scopes, rest);
-    if behind > MOST_LISTED || before > MOST_LISTED - behind {
+    if behind > MOST_OF_SCOPE || before > MOST_OF_SCOPE - behind {
         return Err(Failure::Memory);
     }
     let row = Both {
         first,
         rest,
-        count: (before + behind) as u32,
+        count: (before + behind) as u16,
         height: height(scopes, first)
             .max(height(scopes, rest))
             .saturating_add(1),
-        low: low(scopes, rest),
     };
     let place = add(scopes, Scope::Both(row))?;
     Ok(place)
@@ -231,7 +249,7 @@ fn without_few(scopes: &mut Vec<Scope>, stretch: Stretch, index: usize) -> Resul
     ensures value { IfOk result (λ s. IsRope scopes.old.items scopes.new.items s (λ listed. take index (slice_range listed stretch.from stretch.until) ++ drop (index + 1) (slice_range listed stretch.from stretch.until))) }
     ensures err { IfErr result (λ e. e ≡ Failure.Memory) }
 {
-    let middle = stretch.from + index;
+    let middle = stretch.from + index as u32;
     let before = Stretch {
         from: stretch.from,
         until: middle,
@@ -254,7 +272,7 @@ fn without_back(scopes: &mut Vec<Scope>, stretch: Stretch, index: usize) -> Resu
     ensures value { IfOk result (λ s. IsRope scopes.old.items scopes.new.items s (λ listed. take index (reverse (slice_range listed stretch.from stretch.until)) ++ drop (index + 1) (reverse (slice_range listed stretch.from stretch.until)))) }
     ensures err { IfErr result (λ e. e ≡ Failure.Memory) }
 {
-    let middle = stretch.until - index;
+    let middle = stretch.until - index as u32;
     let before = Stretch {
         from: middle,
         until: stretch.until,
@@ -299,16 +317,18 @@ pub fn find(scopes: &[Scope], scope: u32, position: usize) -> Option<usize>
 {
     match scopes[scope as usize] {
         Scope::Few(stretch) => {
-            if position < stretch.from || position >= stretch.until {
+            let from = stretch.from as usize;
+            if position < from || position >= stretch.until as usize {
                 return None;
             }
-            Some(position - stretch.from)
+            Some(position - from)
         }
         Scope::Back(stretch) => {
-            if position < stretch.from || position >= stretch.until {
+            let until = stretch.until as usize;
+            if position < stretch.from as usize || position >= until {
                 return None;
             }
-            Some(stretch.until - 1 - position)
+            Some(until - 1 - position)
         }
         Scope::Both(parts) => {
             if position >= low(scopes, parts.first) {
@@ -371,75 +391,4 @@ pub fn index_of(
         }
     }
     first_of(names, listed, scopes, scope, prefix)
-}
-
-#[cfg(test)]
-mod tests {
-    use super::{add, both, count, find, height, without};
-    use crate::tables::{Scope, Stretch};
-    use rox_scan::failure::Failure;
-
-    /// How many stretches are joined.
-    const MANY: usize = 4000;
-
-    /// A row of one place in front of what a scope lists.
-    fn with_one(scopes: &mut Vec<Scope>, from: usize, scope: u32) -> Result<u32, Failure>
-        requires few { from < 4000 }
-        requires within { scope < length scopes.old.items }
-        requires rows { AreRows scopes.old.items }
-        ensures within { IfOk result (λ s. s < length scopes.new.items) }
-        ensures rows { OnOk result (AreRows scopes.new.items) }
-    {
-        let one = Stretch {
-            from,
-            until: from + 1,
-        };
-        let own = add(scopes, Scope::Back(one))?;
-        both(scopes, own, scope)
-    }
-
-    /// A row of stretches of one place each, the last one first: so do elements list that declare one each, one in another.
-    fn nested(scopes: &mut Vec<Scope>) -> Result<u32, Failure>
-        requires rows { AreRows scopes.old.items }
-        ensures within { IfOk result (λ s. s < length scopes.new.items) }
-        ensures rows { OnOk result (AreRows scopes.new.items) }
-    {
-        let none = Stretch { from: 0, until: 0 };
-        let mut scope = add(scopes, Scope::Back(none))?;
-        for from in 0..MANY {
-            scope = with_one(scopes, from, scope)?;
-        }
-        Ok(scope)
-    }
-
-    /// What a scope lists, without the first of every two.
-    fn halved(scopes: &mut Vec<Scope>, scope: u32) -> Result<u32, Failure>
-        requires within { scope < length scopes.old.items }
-        requires rows { AreRows scopes.old.items }
-        ensures within { IfOk result (λ s. s < length scopes.new.items) }
-        ensures rows { OnOk result (AreRows scopes.new.items) }
-    {
-        let mut left = scope;
-        for index in 0..MANY / 2 {
-            if index < count(scopes, left) {
-                left = without(scopes, left, index)?;
-            }
-        }
-        Ok(left)
-    }
-
-    #[test]
-    fn ropes_stay_low(rt: HostRuntime) {
-        let mut scopes = Vec::new(rt.alloc());
-        let scope = nested(&mut scopes).expect(&rt, "memory");
-        assert_eq!(rt; count(&scopes, scope), 4000);
-        assert!(rt; height(&scopes, scope) < 18);
-        assert_eq!(rt; find(&scopes, scope, 3999), Some(0));
-        assert_eq!(rt; find(&scopes, scope, 1), Some(3998));
-        let left = halved(&mut scopes, scope).expect(&rt, "memory");
-        assert_eq!(rt; count(&scopes, left), 2000);
-        assert!(rt; height(&scopes, left) < 18);
-        assert_eq!(rt; find(&scopes, left, 3998), Some(0));
-        assert!(rt; find(&scopes, left, 3999).is_none());
-    }
 }

@@ -75,7 +75,7 @@ pub fn few_places<'a>(scopes: &[Scope], listed: &'a [u16], scope: u32) -> Option
     ensures many { IfNone result (is_few_at scopes.now scope ≡ false) }
 {
     match scopes[scope as usize] {
-        Scope::Few(stretch) => Some(&listed[stretch.from..stretch.until]),
+        Scope::Few(stretch) => Some(&listed[stretch.from as usize..stretch.until as usize]),
         _ => None,
     }
 }

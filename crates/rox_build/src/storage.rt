@@ -96,22 +96,3 @@ impl fmt::Display for StringStorage<'_> {
         write!(f, "{text}")
     }
 }
-
-#[cfg(test)]
-mod tests {
-    use super::StringStorage;
-    use std::test::Fail;
-
-    #[test]
-    fn texts_compare_by_bytes(rt: HostRuntime) -> Result<(), Fail> {
-        let slice = StringStorage::Borrowed("text");
-        let owned = StringStorage::new_owned(rt.alloc(), "text")?;
-        let copy = owned.clone()?;
-        assert!(rt; slice == owned);
-        assert!(rt; copy == owned);
-        assert!(rt; slice != StringStorage::Borrowed("texts"));
-        let shown = copy.to_string(rt.alloc())?;
-        assert_eq!(rt; shown.as_str(), "text");
-        Ok(())
-    }
-}

@@ -104,8 +104,8 @@ pub struct ElementTables<'input> {
 /// A stretch of the listed places.
 #[derive(Clone, Copy, Debug)]
 pub struct Stretch {
-    pub from: usize,
-    pub until: usize,
+    pub from: u32,
+    pub until: u32,
 }
 
 /// What two scopes list, each a row before: the one behind the other.
@@ -114,15 +114,13 @@ pub struct Both {
     pub first: u32,
     pub rest: u32,
     /// How many these are in all.
-    pub count: u32,
+    pub count: u16,
     /// One more than the height of the higher of the two, which keeps ropes low.
     pub height: u8,
-    /// The lowest listed place of the last leaf: a hint where a place is to be sought.
-    pub low: usize,
 }
 
-/// What elements of one scope list. Few are a stretch, copied for each scope. Many are a rope of stretches: a scope below one
-/// that lists many has its own, and what is left of the rope of that one.
+/// What elements of one scope list: 16 bytes. Few are a stretch, copied for each scope. Many are a rope of stretches: a scope
+/// below one that lists many has its own, and what is left of the rope of that one.
 #[derive(Clone, Copy, Debug)]
 pub enum Scope {
     /// A stretch from its front, of at most `FEW`.

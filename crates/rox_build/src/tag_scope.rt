@@ -13,7 +13,7 @@ ghost use Rattle.rox_build.specs.Tagged.{HasScope, KeepsPlaces, lists_in};
 
 use crate::prefixes::FEW;
 use crate::present::Present;
-use crate::rope::{add, both, index_of, without};
+use crate::rope::{add, both, index_of, stretch, without};
 use crate::scope::inherit;
 use crate::tables::{ElementTables, Namespace, Scope, Stretch};
 use rox_scan::failure::Failure;
@@ -32,11 +32,8 @@ fn add_back(listed: &mut Vec<u16>, scopes: &mut Vec<Scope>, from: usize) -> Resu
         let place = listed[end - 1 - turn];
         listed.push(place)?;
     }
-    let stretch = Stretch {
-        from: end,
-        until: listed.len(),
-    };
-    let place = add(scopes, Scope::Back(stretch))?;
+    let turned = stretch(end, listed.len())?;
+    let place = add(scopes, Scope::Back(turned))?;
     Ok(place)
 }
 
@@ -51,7 +48,8 @@ fn add_stretch(listed: &mut Vec<u16>, scopes: &mut Vec<Scope>, from: usize) -> R
     if until - from > FEW {
         return add_back(listed, scopes, from);
     }
-    let place = add(scopes, Scope::Few(Stretch { from, until }))?;
+    let few = stretch(from, until)?;
+    let place = add(scopes, Scope::Few(few))?;
     Ok(place)
 }
 
@@ -76,7 +74,9 @@ pub fn listed_below_few<'input>(
         ++ others (entries (map declaration names.now) (drop own listed.old.items)) xml (entries (map declaration names.now) (slice_range listed.old.items above.from above.until)))) }
     ensures err { IfErr result (λ e. e ≡ Failure.Memory) }
 {
-    inherit(names, listed, own, many, xml, above.from, above.until)?;
+    let from = above.from as usize;
+    let until = above.until as usize;
+    inherit(names, listed, own, many, xml, from, until)?;
     let place = add_stretch(listed, scopes, own)?;
     Ok(place)
 }
@@ -103,7 +103,8 @@ fn hide<'input>(
     let Some(place) = present.get(prefix) else {
         return Ok(scope);
     };
-    let Some(index) = index_of(names, listed, scopes, scope, prefix, place.listed) else {
+    let guess = place.listed as usize;
+    let Some(index) = index_of(names, listed, scopes, scope, prefix, guess) else {
         return Ok(scope);
     };
     let left = without(scopes, scope, index)?;

@@ -12,6 +12,7 @@ mod refusals;
 mod resolvers;
 mod slices;
 mod sources;
+mod tables;
 
 use roxmltree::{Document, Error, Node, NodeId, ParsingOptions};
 use std::fmt::Display;

@@ -10,14 +10,14 @@ returns-then-position-low t c =
     let m : c.in-Both.parts.count ≡ count_at c.args.scopes.now c.in-Both.parts.first + count_at c.args.scopes.now c.in-Both.parts.rest = r.row.2 in
     if_some c.find.result c.find.ensures (λ i h. omega arith)
 
-pub returns-else-position-stretch-2 : goal.returns-else-position-stretch-2
-returns-else-position-stretch-2 t c =
+pub returns-else-position-stretch : goal.returns-else-position-stretch
+returns-else-position-stretch t c =
     let r = row_found [] _ _ _ c.requires.rows c.requires.within c.in-Few.is in
     let n : count_at c.args.scopes.now c.args.scope ≡ c.in-Few.stretch.until - c.in-Few.stretch.from = r.count in
     omega arith
 
-pub returns-else-position-stretch-4 : goal.returns-else-position-stretch-4
-returns-else-position-stretch-4 t c =
+pub returns-else-position-until : goal.returns-else-position-until
+returns-else-position-until t c =
     let r = row_found [] _ _ _ c.requires.rows c.requires.within c.in-Back.is in
     let n : count_at c.args.scopes.now c.args.scope ≡ c.in-Back.stretch.until - c.in-Back.stretch.from = r.count in
     omega arith

@@ -1,4 +1,4 @@
-use Rattle.std.proofs.Common.{◌≡◌, ◌-◌, ◌<◌, ◌≤◌, length, arith}
+use Rattle.std.proofs.Common.{◌≡◌, ◌-◌, ◌<◌, ◌≤◌, length, ap, ◌∙◌, arith}
 use Rattle.rox_build.specs.declared.tables.Stretch.{Stretch}
 use Rattle.rox_build.proofs.Sharing.{turn_more, turn_ends, turned_listed}
 use Rattle.rox_build.proofs.tag_scope.add_back.Goals as goal
@@ -16,6 +16,7 @@ returns-clause-value c = λ names.
     let all : c.len-end.result - c.args.from ≤ c.loop-turn.turn = omega arith in
     let k = c.loop-turn.listed.ok.0 in
     let ends : c.len.result ≡ length now = omega arith in
-    let s : Stretch = record { from = c.len-end.result; until = c.len.result } in
+    let s : Stretch = c.in_ok-turned.turned in
     turned_listed names old now c.args.scopes.now.items c.add.new.scopes.items s c.in_ok-place.place c.args.from
-    (turn_ends old c.args.from c.loop-turn.turn c.len-end.result now c.loop-turn.invariant all) c.loop-turn.invariant.end_is ends c.requires.scopes c.in_ok-place.ensures.items c.in_ok-place.ensures.value
+    (turn_ends old c.args.from c.loop-turn.turn c.len-end.result now c.loop-turn.invariant all) (ap (λ x. x.from) c.in_ok-turned.ensures.value ∙ c.loop-turn.invariant.end_is)
+    (ap (λ x. x.until) c.in_ok-turned.ensures.value ∙ ends) c.requires.scopes c.in_ok-place.ensures.items c.in_ok-place.ensures.value

@@ -1,6 +1,6 @@
 use Rattle.std.proofs.Common.{◌<◌, length}
 use Rattle.rox_build.specs.Lines.{AreRows}
-use Rattle.rox_build.proofs.rope.tests.halved.Given as goal
+use Rattle.rox_cases.proofs.tests.tables.halved.Given as goal
 
 abbrev pub invariant-loop-index : goal.invariant-loop-index
 invariant-loop-index l = (l.left < length l.scopes.items) × AreRows l.scopes.items

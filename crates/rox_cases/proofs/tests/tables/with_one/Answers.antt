@@ -1,6 +1,6 @@
 use Rattle.std.proofs.Common.{◌+◌, ◌≤◌, arith}
 use Rattle.rox_build.proofs.Ropes.{rows_push}
-use Rattle.rox_build.proofs.rope.tests.with_one.Goals as goal
+use Rattle.rox_cases.proofs.tests.tables.with_one.Goals as goal
 
 pub both-requires-clause-rows : goal.both-requires-clause-rows
 both-requires-clause-rows c =

@@ -1,6 +1,6 @@
 use Rattle.std.proofs.Common.{◌≤◌, ◌+◌, ◌∷◌, ap, ◌∙◌, [], length, length-append, arith}
 use Rattle.rox_build.proofs.Ropes.{rows_push}
-use Rattle.rox_build.proofs.rope.tests.nested.Goals as goal
+use Rattle.rox_cases.proofs.tests.tables.nested.Goals as goal
 
 pub loop-from-init : goal.loop-from-init
 loop-from-init c =
