@@ -4,5 +4,3 @@
 pub mod error;
 pub mod position;
 mod telling;
-#[cfg(test)]
-mod tests;

@@ -4,8 +4,6 @@
 pub mod parse;
 pub mod selection;
 pub mod steps;
-#[cfg(test)]
-mod tests;
 
 pub use crate::parse::{PathError, parse_path};
 pub use crate::selection::select;

@@ -1,7 +1,7 @@
 //! Paths and what they lead to. The answers hold with ample memory, and as well where any one growth is refused: each call is
 //! then made again.
 
-use crate::{PathError, Step, parse_path, select};
+use rox_path::{PathError, Step, parse_path, select};
 use roxmltree::{Document, Error, Node};
 use std::process::Abort;
 

@@ -1,7 +1,7 @@
 //! What the errors print and compare by.
 
-use crate::error::Error;
-use crate::position::{TextPos, text_pos_at};
+use rox_error::error::Error;
+use rox_error::position::{TextPos, text_pos_at};
 use rox_grammar::fault::{Due, Fault, Span, Word};
 use std::alloc::Global;
 use std::process::Abort;
