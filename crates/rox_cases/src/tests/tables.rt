@@ -9,6 +9,7 @@ use rox_build::rope::{add, both, count, find, height, without};
 use rox_build::storage::StringStorage;
 use rox_build::tables::{Scope, Stretch};
 use rox_scan::failure::Failure;
+use std::process::Abort;
 use std::test::Fail;
 
 /// How many stretches are joined.
@@ -75,18 +76,26 @@ fn ropes_stay_low(rt: HostRuntime) {
     assert!(rt; find(&scopes, left, 3999).is_none());
 }
 
+/// An owned text of these bytes.
+fn owned(
+    rt: &(impl Abort + AllocGlobal),
+    recent: &mut Recent,
+    text: &str,
+) -> StringStorage<'static> {
+    recent.owned(rt.alloc(), text).expect(rt, "out of memory")
+}
+
 #[test]
-fn texts_of_one_length_are_told_apart(rt: HostRuntime) -> Result<(), Fail> {
+fn texts_of_one_length_are_told_apart(rt: HostRuntime) {
     let mut recent = Recent::new(rt.alloc());
     for _turn in 0..20 {
-        let line = recent.owned(rt.alloc(), "\n  ")?;
-        let again = recent.owned(rt.alloc(), "\n  ")?;
-        let other = recent.owned(rt.alloc(), "a b")?;
+        let line = owned(&rt, &mut recent, "\n  ");
+        let again = owned(&rt, &mut recent, "\n  ");
+        let other = owned(&rt, &mut recent, "a b");
         assert_eq!(rt; line.as_str(), "\n  ");
         assert!(rt; again == line);
         assert_eq!(rt; other.as_str(), "a b");
     }
-    Ok(())
 }
 
 #[test]
