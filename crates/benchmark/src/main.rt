@@ -2,24 +2,11 @@
 #![tactic(auto)]
 
 ghost use Rattle.std.specs.Prelude.{◌≡◌};
-ghost use Rattle.benchmark.specs.Fault.{status_of};
+ghost use Rattle.rox_measures.specs.Fault.{status_of};
 
-mod arguments;
-mod clock;
-mod fault;
-mod figures;
-mod input;
-mod memory;
-mod report;
-mod run;
-#[cfg(test)]
-mod tests;
-mod turns;
-mod walk;
-mod work;
-
-use crate::arguments::{Command, read};
-use crate::fault::Fault;
+use rox_measures::arguments::{Command, read};
+use rox_measures::fault::Fault;
+use rox_measures::run;
 use std::env;
 use std::io::{ErrorKind, Write};
 use std::process::ExitCode;

@@ -12,8 +12,8 @@ use Rattle.rox_reading.specs.Doctype.{Reply, Asks, Dtd, EntityHead, Definition, 
 use Rattle.rox_reading.specs.Answering.{Answered, Stops, left_with}
 use Rattle.rox_reading.proofs.Settling.{entity_run, declared_there}
 use Rattle.rox_build.specs.Asking.{AreGiven, StopsBy}
-use Rattle.rox_build.specs.declared.refused.Refused.{Refused}
-use Rattle.rox_build.specs.declared.refused.Refused.TheVariants as code
+use Rattle.rox_values.specs.declared.refused.Refused.{Refused}
+use Rattle.rox_values.specs.declared.refused.Refused.TheVariants as code
 
 -- it is this text, or none
 abbrev pub IsText : Definition → ℕ → List Asked → Option Replacement → Type 0

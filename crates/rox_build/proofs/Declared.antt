@@ -11,8 +11,8 @@ use Rattle.std.proofs.lemmas.Cmp.{nat_list_eq_equiv}
 use Rattle.rox_grammar.specs.Entities.{Replacement, Entity, text_of}
 use Rattle.rox_scan.specs.Doctypes.{replacement_view}
 use Rattle.rox_scan.specs.declared.cursor.Cursor.{Cursor}
-use Rattle.rox_build.specs.Named.{AreDeclared}
-use Rattle.rox_build.specs.declared.entities.Entities.{Entities}
+use Rattle.rox_values.specs.Named.{AreDeclared}
+use Rattle.rox_values.specs.declared.entities.Entities.{Entities}
 
 declarations : List (Bor (List ℕ) × Cursor) → List Entity
 declarations [] = []

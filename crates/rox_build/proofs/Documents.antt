@@ -20,14 +20,14 @@ use Rattle.rox_reading.specs.Whole.{misc, prolog, body, finished, begins_doctype
 use Rattle.rox_reading.proofs.Settling.{doctype_run, whole_run, prolog_stops, misc_stops, before_doctype, body_stops, finished_stops, whole_read, behind_stops, step_run}
 use Rattle.rox_reading.proofs.FaultsAlone.{alone_lifted, body_alone}
 use Rattle.rox_scan.specs.Doctypes.{declaration_if}
-use Rattle.rox_scan.specs.declared.failure.Failure.{Failure}
-use Rattle.rox_scan.specs.declared.failure.Failure.TheVariants as failure
+use Rattle.rox_grammar.specs.declared.failure.Failure.{Failure}
+use Rattle.rox_grammar.specs.declared.failure.Failure.TheVariants as failure
 use Rattle.rox_build.specs.Asking.{StopsBy}
-use Rattle.rox_build.specs.Refusing as refusing
-use Rattle.rox_build.specs.Refusing.{Refuses, of_failure}
+use Rattle.rox_values.specs.Refusing as refusing
+use Rattle.rox_values.specs.Refusing.{Refuses, of_failure}
 use Rattle.rox_build.specs.Wholes.{start_at, beginning, root_read}
-use Rattle.rox_build.specs.declared.refused.Refused.{Refused}
-use Rattle.rox_build.specs.declared.refused.Refused.TheVariants as code
+use Rattle.rox_values.specs.declared.refused.Refused.{Refused}
+use Rattle.rox_values.specs.declared.refused.Refused.TheVariants as code
 use Rattle.rox_build.proofs.Lifting.{lifted_err}
 
 -- ---- one after the other

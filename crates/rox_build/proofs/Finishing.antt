@@ -7,11 +7,11 @@ use Rattle.rox_grammar.specs.Written.{Item, merge}
 use Rattle.rox_grammar.specs.Tree.{Node, resolved, document_tree}
 use Rattle.rox_grammar.specs.State.{root}
 use Rattle.rox_reading.proofs.Forests.{size-resolved}
-use Rattle.rox_build.specs.Lines.{Line, lines, Holds, Sound, rows_of}
+use Rattle.rox_tables.specs.Lines.{Line, lines, Holds, Sound, rows_of}
 use Rattle.rox_build.specs.SoFar.{root_line, so_far}
 use Rattle.rox_build.specs.Shown.{IsWithin, AreSound, Settled, line_in}
-use Rattle.rox_build.specs.declared.tables.NodeData.{NodeData}
-use Rattle.rox_build.specs.declared.tables.Tables.{Tables}
+use Rattle.rox_tables.specs.declared.tables.NodeData.{NodeData}
+use Rattle.rox_tables.specs.declared.tables.Tables.{Tables}
 use Rattle.rox_build.specs.declared.builder.Builder.{Builder}
 use Rattle.rox_build.proofs.Showing.{rows_count, within_set, within_at, some_row, first_within}
 

@@ -5,16 +5,16 @@ use Rattle.std.proofs.lemmas.List.{length-map}
 use Rattle.rox_grammar.specs.Forest.{Forest}
 use Rattle.rox_grammar.specs.Written.{Item, Declaration}
 use Rattle.rox_grammar.specs.State.{Open}
-use Rattle.rox_build.specs.Lines.{line, declaration, scope_at, NamespaceWithin, KindWithin, AttributeRow, rows_of}
-use Rattle.rox_build.specs.Scopes.{Once}
-use Rattle.rox_build.specs.Tagged.{lists_in}
+use Rattle.rox_tables.specs.Lines.{line, declaration, scope_at, NamespaceWithin, KindWithin, AttributeRow, rows_of}
+use Rattle.rox_tables.specs.Scopes.{Once}
+use Rattle.rox_tables.specs.TagScopes.{lists_in}
 use Rattle.rox_build.specs.Shown.{opened, opened_in, names_in, line_in, IsWithin, IsOpenWithin, AreSound, HasEmpty, Shows, Grown}
-use Rattle.rox_build.specs.declared.tables.NodeData.{NodeData}
-use Rattle.rox_build.specs.declared.tables.ElementTables.{ElementTables}
+use Rattle.rox_tables.specs.declared.tables.NodeData.{NodeData}
+use Rattle.rox_tables.specs.declared.tables.ElementTables.{ElementTables}
 use Rattle.rox_build.specs.declared.builder.OpenElement.{OpenElement}
 use Rattle.rox_build.specs.declared.builder.Builder.{Builder}
-use Rattle.rox_build.proofs.Stable.{all_weaker, map_same, scope_at-append, lines-append, kind_more}
-use Rattle.rox_build.proofs.Ropes.{length-lists}
+use Rattle.rox_tables.proofs.Stable.{all_weaker, map_same, scope_at-append, lines-append, kind_more}
+use Rattle.rox_tables.proofs.Ropes.{length-lists}
 
 opened-append : (lists more : List (List Declaration)) (o : OpenElement) → o.scope < length lists → opened (lists ++ more) o ≡ opened lists o
 opened-append lists more o within = ap (λ (l : List Declaration). record (opened lists o) { scope = l }) (scope_at-append lists more o.scope within)

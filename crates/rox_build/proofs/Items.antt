@@ -22,16 +22,16 @@ use Rattle.rox_reading.proofs.Answering.{spaced}
 use Rattle.rox_reading.proofs.Settling.{step_run, subset_run, doctype_subset, doctype_subset_stops}
 use Rattle.rox_resolver.specs.Requests.{AreAllowed}
 use Rattle.rox_scan.specs.declared.cursor.Cursor.{Cursor}
-use Rattle.rox_scan.specs.declared.failure.Failure.{Failure}
-use Rattle.rox_scan.specs.declared.failure.Failure.TheVariants as failure
+use Rattle.rox_grammar.specs.declared.failure.Failure.{Failure}
+use Rattle.rox_grammar.specs.declared.failure.Failure.TheVariants as failure
 use Rattle.rox_scan.specs.Doctypes.{is_passed_over, passed_over_at, subset_end_at}
 use Rattle.rox_build.specs.Asking.{AreGiven, Comes, IsEntityRead, IsRead, IsGoing, Turns}
-use Rattle.rox_build.specs.Named.{AreDeclared}
-use Rattle.rox_build.specs.Refusing.{of_failure}
+use Rattle.rox_values.specs.Named.{AreDeclared}
+use Rattle.rox_values.specs.Refusing.{of_failure}
 use Rattle.rox_build.specs.Shown.{Sees, Stepped}
 use Rattle.rox_build.specs.declared.builder.Builder.{Builder}
-use Rattle.rox_build.specs.declared.entities.Entities.{Entities}
-use Rattle.rox_build.specs.declared.refused.Refused.{Refused}
+use Rattle.rox_values.specs.declared.entities.Entities.{Entities}
+use Rattle.rox_values.specs.declared.refused.Refused.{Refused}
 use Rattle.rox_build.proofs.Asking.{none_given, stops_by}
 use Rattle.rox_build.proofs.Lifting.{lifted_ok, lifted_err}
 

@@ -2,10 +2,10 @@
 use Rattle.std.proofs.Common.{◌≡◌, Result, Ok, Err, ap}
 use Rattle.rox_grammar.specs.declared.fault.Fault.{Fault}
 use Rattle.rox_reading.specs.Refusals.{Refusal, here, lifted}
-use Rattle.rox_scan.specs.Gives.{Fails}
-use Rattle.rox_scan.specs.declared.failure.Failure.{Failure}
-use Rattle.rox_scan.specs.declared.failure.Failure.TheVariants as failure
-use Rattle.rox_build.specs.Refusing.{Stops, Refuses, of_failure}
+use Rattle.rox_grammar.specs.Failing.{Fails}
+use Rattle.rox_grammar.specs.declared.failure.Failure.{Failure}
+use Rattle.rox_grammar.specs.declared.failure.Failure.TheVariants as failure
+use Rattle.rox_values.specs.Refusing.{Stops, Refuses, of_failure}
 
 pub lifted_ok : {A : Type 0} (r : Result A Fault) (x : A) → lifted r ≡ Ok x → r ≡ Ok x
 lifted_ok (Ok y) x h = cc h

@@ -11,11 +11,11 @@ use Rattle.rox_reading.specs.State.{State}
 use Rattle.rox_reading.specs.Machine.{How, step, drive, comment_step, instruction_step}
 use Rattle.rox_reading.specs.Whole.{misc}
 use Rattle.rox_scan.specs.declared.cursor.Cursor.{Cursor}
-use Rattle.rox_scan.specs.declared.failure.Failure.{Failure}
-use Rattle.rox_scan.specs.declared.failure.Failure.TheVariants as failure
-use Rattle.rox_build.specs.Refusing.{Stops, Refuses}
-use Rattle.rox_build.specs.declared.refused.Refused.{Refused}
-use Rattle.rox_build.proofs.PartLemmas.{refuses_by}
+use Rattle.rox_grammar.specs.declared.failure.Failure.{Failure}
+use Rattle.rox_grammar.specs.declared.failure.Failure.TheVariants as failure
+use Rattle.rox_values.specs.Refusing.{Stops, Refuses}
+use Rattle.rox_values.specs.declared.refused.Refused.{Refused}
+use Rattle.rox_values.proofs.PartLemmas.{refuses_by}
 use Rattle.rox_build.specs.Shown.{Sees, Stepped, Went}
 use Rattle.rox_build.proofs.Lifting.{lifted_ok, lifted_err}
 use Rattle.rox_build.specs.declared.builder.Builder.{Builder}

@@ -13,24 +13,25 @@ use Rattle.rox_grammar.specs.State.{inside, scope_of, pairs_so_far, attributes_s
 use Rattle.rox_reading.specs.State.{State}
 use Rattle.rox_reading.specs.Refusals.{lifted}
 use Rattle.rox_reading.specs.Machine.{How, tag_step, cut_off, opened_by, counted}
-use Rattle.rox_build.specs.Refusing.{Refuses}
-use Rattle.rox_build.specs.declared.refused.Refused.{Refused}
-use Rattle.rox_build.proofs.PartLemmas.{refuses_by}
+use Rattle.rox_values.specs.Refusing.{Refuses}
+use Rattle.rox_values.specs.declared.refused.Refused.{Refused}
+use Rattle.rox_values.proofs.PartLemmas.{refuses_by}
 use Rattle.rox_scan.specs.declared.cursor.Cursor.{Cursor}
-use Rattle.rox_scan.specs.declared.failure.Failure.{Failure}
-use Rattle.rox_build.specs.Lines.{node, declaration, attribute, scope_at, NamespaceWithin, AttributeRow, rows_of}
-use Rattle.rox_build.specs.Scopes.{Once}
-use Rattle.rox_build.specs.Tagged.{Tagged, lists_in}
+use Rattle.rox_grammar.specs.declared.failure.Failure.{Failure}
+use Rattle.rox_tables.specs.Lines.{node, declaration, attribute, scope_at, NamespaceWithin, AttributeRow, rows_of}
+use Rattle.rox_tables.specs.Scopes.{Once}
+use Rattle.rox_tables.specs.TagScopes.{lists_in}
+use Rattle.rox_build.specs.Tagged.{Tagged}
 use Rattle.rox_build.specs.Shown.{names_in, IsWithin, AreSound, IsOpenWithin, Fine, Grown, IsNode, IsOpening, Adds, Stepped}
 use Rattle.std.specs.Result.{OnOk}
-use Rattle.rox_build.specs.declared.tables.NodeKind.TheVariants as kind
-use Rattle.rox_build.specs.declared.tables.ElementTables.{ElementTables}
+use Rattle.rox_tables.specs.declared.tables.NodeKind.TheVariants as kind
+use Rattle.rox_tables.specs.declared.tables.ElementTables.{ElementTables}
 use Rattle.rox_build.specs.declared.builder.OpenElement.{OpenElement}
 use Rattle.rox_build.specs.declared.builder.Builder.{Builder}
 use Rattle.rox_build.specs.declared.tag.StartTag.{StartTag}
-use Rattle.rox_build.proofs.Stable.{all_append, all_weaker, namespace_more}
-use Rattle.rox_build.proofs.Listing.{with_new-front, with_new-append}
-use Rattle.rox_build.proofs.Inherits.{slice-rest}
+use Rattle.rox_tables.proofs.Stable.{all_append, all_weaker, namespace_more}
+use Rattle.rox_tables.proofs.Listing.{with_new-front, with_new-append}
+use Rattle.rox_reading.proofs.Stretches.{slice-rest}
 use Rattle.rox_build.proofs.Growing.{grown_counts, grown_elements, grown_empty}
 use Rattle.rox_build.proofs.Stepping.{pairs_more, attributes_more, adds_stepped}
 

@@ -11,16 +11,16 @@ use Rattle.rox_reading.specs.Refusals.{Refusal, lifted}
 use Rattle.rox_reading.specs.State.{State}
 use Rattle.rox_reading.specs.Values.{Next, at_end, opening, run_part, part_text}
 use Rattle.rox_reading.specs.Machine.{How, counted, with_item, with_piece, after_part, at_place, run_parts}
-use Rattle.rox_scan.specs.Gives.{Fails}
+use Rattle.rox_grammar.specs.Failing.{Fails}
 use Rattle.rox_scan.specs.declared.cursor.Cursor.{Cursor}
-use Rattle.rox_scan.specs.declared.failure.Failure.{Failure}
-use Rattle.rox_scan.specs.declared.failure.Failure.TheVariants as failure
-use Rattle.rox_build.specs.Refusing.{Refuses, of_failure}
+use Rattle.rox_grammar.specs.declared.failure.Failure.{Failure}
+use Rattle.rox_grammar.specs.declared.failure.Failure.TheVariants as failure
+use Rattle.rox_values.specs.Refusing.{Refuses, of_failure}
 use Rattle.rox_build.specs.Parted.{next_part}
 use Rattle.rox_build.specs.Shown.{Shows, Adds, Sees, Rests}
-use Rattle.rox_build.specs.declared.refused.Refused.{Refused}
+use Rattle.rox_values.specs.declared.refused.Refused.{Refused}
 use Rattle.rox_build.specs.declared.builder.Builder.{Builder}
-use Rattle.rox_build.proofs.PartLemmas.{refuses_by}
+use Rattle.rox_values.proofs.PartLemmas.{refuses_by}
 use Rattle.rox_build.proofs.Stepping.{pairs_more, attributes_more, counted_is}
 
 pub rests_of : (limit end : ℕ) (s : State) (c : Cursor) (b : Builder) → Sees limit end s c b → Rests limit end s b

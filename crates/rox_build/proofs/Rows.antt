@@ -5,7 +5,7 @@ use Rattle.rox_grammar.specs.Forest.{Forest, Nil, Cons, join, size}
 use Rattle.rox_grammar.specs.Written.{Tag, Item, Element, merge}
 use Rattle.rox_grammar.specs.Tree.{Node, listed, node_in, resolved}
 use Rattle.rox_grammar.specs.State.{Open, root, inside, scope_of, nodes_so_far}
-use Rattle.rox_build.specs.Lines.{Line, lines}
+use Rattle.rox_tables.specs.Lines.{Line, lines}
 use Rattle.rox_build.specs.SoFar.{top, depth_of, open_line, rows_to, so_far}
 use Rattle.rox_reading.proofs.Forests.{size-resolved, resolved-join}
 

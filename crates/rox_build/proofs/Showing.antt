@@ -14,21 +14,21 @@ use Rattle.rox_grammar.specs.State.{Open, root, inside, scope_of, nodes_so_far}
 use Rattle.rox_reading.specs.State.{State}
 use Rattle.rox_reading.specs.Machine.{counted}
 use Rattle.rox_reading.proofs.Forests.{is_text, add, join-nil, size-join, merge-piece, add-text, add_clean, merge-item, clean-item}
-use Rattle.rox_build.specs.Lines.{Line, line, lines, node, AttributeRow, rows_of}
+use Rattle.rox_tables.specs.Lines.{Line, line, lines, node, AttributeRow, rows_of}
 use Rattle.rox_build.specs.SoFar.{top, depth_of, open_line, rows_to, so_far}
 use Rattle.rox_build.specs.Waiting.{waiting}
-use Rattle.rox_build.specs.Tagged.{lists_in}
+use Rattle.rox_tables.specs.TagScopes.{lists_in}
 use Rattle.rox_build.specs.Shown.{OpenLine, opened, open_lines, last_row, pending_text, names_in, line_in, opened_in, IsWithin, Shows, Settled, IsNode}
-use Rattle.rox_build.specs.declared.tables.NodeKind.{NodeKind}
-use Rattle.rox_build.specs.declared.tables.NodeKind.TheVariants as kind
-use Rattle.rox_build.specs.declared.tables.NodeData.{NodeData}
-use Rattle.rox_build.specs.declared.tables.ElementTables.{ElementTables}
+use Rattle.rox_tables.specs.declared.tables.NodeKind.{NodeKind}
+use Rattle.rox_tables.specs.declared.tables.NodeKind.TheVariants as kind
+use Rattle.rox_tables.specs.declared.tables.NodeData.{NodeData}
+use Rattle.rox_tables.specs.declared.tables.ElementTables.{ElementTables}
 use Rattle.rox_build.specs.declared.pending.Pending.{Pending}
 use Rattle.rox_build.specs.declared.pending.Pending.TheVariants as pending
 use Rattle.rox_build.specs.declared.builder.OpenElement.{OpenElement}
 use Rattle.rox_build.specs.declared.builder.Builder.{Builder}
 use Rattle.rox_build.proofs.Rows.{length-so_far, nodes_are, so_far-join, so_far-open, so_far-closed, closed_line}
-use Rattle.rox_build.proofs.Stable.{all_append}
+use Rattle.rox_tables.proofs.Stable.{all_append}
 
 -- ---- the open elements
 

@@ -12,19 +12,21 @@ use Rattle.rox_grammar.specs.Document.{most_pairs, most_attributes}
 use Rattle.rox_reading.specs.Lexical.{◌>>=◌, qname_at}
 use Rattle.rox_reading.specs.Refusals.{lifted}
 use Rattle.rox_reading.specs.Tags.{Held, Values, attributes_at, names_tested, tested_at, tag_tested, tag_at}
-use Rattle.rox_scan.specs.Gives.{Fails, name_view}
-use Rattle.rox_scan.specs.declared.failure.Failure.{Failure}
-use Rattle.rox_scan.specs.declared.failure.Failure.TheVariants as failure
-use Rattle.rox_build.specs.Refusing.{Refuses, of_failure}
-use Rattle.rox_build.specs.declared.refused.Refused.{Refused}
-use Rattle.rox_build.proofs.PartLemmas.{refuses_by}
-use Rattle.rox_build.specs.declared.tables.ElementTables.{ElementTables}
-use Rattle.rox_build.specs.declared.taken.Taken.{Taken}
+use Rattle.rox_grammar.specs.Failing.{Fails, name_view}
+use Rattle.rox_grammar.specs.declared.failure.Failure.{Failure}
+use Rattle.rox_grammar.specs.declared.failure.Failure.TheVariants as failure
+use Rattle.rox_values.specs.Refusing.{Refuses, of_failure}
+use Rattle.rox_values.specs.declared.refused.Refused.{Refused}
+use Rattle.rox_values.proofs.PartLemmas.{refuses_by}
+use Rattle.rox_tables.specs.declared.tables.ElementTables.{ElementTables}
+use Rattle.rox_tables.specs.declared.taken.Taken.{Taken}
 use Rattle.rox_build.specs.declared.tag.StartTag.{StartTag}
-use Rattle.rox_build.specs.Lines.{declaration, lists_of, AreScopes, rows_of}
-use Rattle.rox_build.specs.Scopes.{ArePlaces, Once}
-use Rattle.rox_build.specs.Tags.{taken_view, Holding}
-use Rattle.rox_build.specs.Tagged.{IsElement, Tagged, KeepsPlaces, lists_in, scope_in_tables}
+use Rattle.rox_tables.specs.Lines.{declaration, lists_of, AreScopes, rows_of}
+use Rattle.rox_tables.specs.Scopes.{ArePlaces, Once}
+use Rattle.rox_tables.specs.Declares.{taken_view}
+use Rattle.rox_build.specs.Tags.{Holding}
+use Rattle.rox_tables.specs.TagScopes.{KeepsPlaces, lists_in}
+use Rattle.rox_build.specs.Tagged.{IsElement, Tagged, scope_in_tables}
 
 -- nothing is held before the first attribute
 pub holds_nothing : (names : List Declaration) (listed : List ℕ) (taken : List Taken) → length names ≤ most_pairs → taken ≡ []

@@ -2,8 +2,8 @@
 use Rattle.std.proofs.lemmas.Bool.{lt-leb}
 use Rattle.rox_grammar.specs.Marks.{stands}
 use Rattle.std.specs.List.{starts_with}
-use Rattle.rox_build.specs.Lines.{rows_of, scope_at}
-use Rattle.rox_build.specs.Tagged.{lists_in}
+use Rattle.rox_tables.specs.Lines.{rows_of, scope_at}
+use Rattle.rox_tables.specs.TagScopes.{lists_in}
 use Rattle.std.proofs.Common.{eqb, eq-eqb, ne_eqb, if◌then◌else◌, slice_index, ◌≡◌, ℕ, zero, suc, ◌+◌, ◌<◌, Bool, true, false, List, [], ◌∷◌, ◌++◌, length, map, leb, refl, sym, ap, subst, ◌∙◌, arith, Result, Ok, Err, append_assoc, length-append}
 use Rattle.std.proofs.lemmas.List.{append-nil, length-map, map-append, same_from_push}
 use Rattle.rox_grammar.specs.declared.fault.Fault.{Fault}
@@ -21,14 +21,14 @@ use Rattle.rox_reading.specs.Markup.{Instruction, EndTag, comment_at, instructio
 use Rattle.rox_grammar.specs.Content.{is_plain}
 use Rattle.rox_reading.specs.Values.{RunText, raw_run_at}
 use Rattle.rox_reading.proofs.Forests.{pairs-join, attribute_count-join, pairs-merge, attribute_count-merge}
-use Rattle.rox_scan.specs.Gives.{name_view}
-use Rattle.rox_build.specs.Values.{section_text}
+use Rattle.rox_grammar.specs.Failing.{name_view}
+use Rattle.rox_values.specs.Values.{section_text}
 use Rattle.rox_build.specs.SoFar.{top}
-use Rattle.rox_build.specs.declared.tables.ElementTables.{ElementTables}
+use Rattle.rox_tables.specs.declared.tables.ElementTables.{ElementTables}
 use Rattle.rox_build.specs.declared.builder.OpenElement.{OpenElement}
 use Rattle.rox_grammar.specs.Tree.{listed}
 use Rattle.rox_scan.specs.declared.cursor.Cursor.{Cursor}
-use Rattle.rox_scan.specs.declared.failure.Failure.{Failure}
+use Rattle.rox_grammar.specs.declared.failure.Failure.{Failure}
 use Rattle.rox_build.proofs.Lifting.{refuses}
 use Rattle.rox_build.specs.Shown.{OpenLine, opened, opened_in, open_lines, names_in, Shows, Adds, Sees, Stepped}
 use Rattle.rox_build.specs.declared.builder.Builder.{Builder}

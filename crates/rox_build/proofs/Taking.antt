@@ -11,17 +11,18 @@ use Rattle.rox_reading.specs.Markup.{RawAttribute, Turn, more, opened, closed, t
 use Rattle.rox_reading.specs.Values.{RunText, value_at}
 use Rattle.rox_reading.specs.Tags as tags
 use Rattle.rox_reading.specs.Tags.{Held, TagRest, Values, declared, attribute_with, after_turn, attributes_at}
-use Rattle.rox_scan.specs.Gives.{Fails, name_view}
+use Rattle.rox_grammar.specs.Failing.{Fails, name_view}
 use Rattle.rox_scan.specs.Parts.{attribute_view}
-use Rattle.rox_scan.specs.declared.failure.Failure.{Failure}
-use Rattle.rox_scan.specs.declared.failure.Failure.TheVariants as failure
+use Rattle.rox_grammar.specs.declared.failure.Failure.{Failure}
+use Rattle.rox_grammar.specs.declared.failure.Failure.TheVariants as failure
 use Rattle.rox_scan.specs.declared.markup.RawAttribute.{RawAttribute as CodeRaw}
-use Rattle.rox_build.specs.Refusing.{Refuses, of_failure}
-use Rattle.rox_build.specs.declared.refused.Refused.{Refused}
-use Rattle.rox_build.proofs.PartLemmas.{refuses_by}
-use Rattle.rox_build.specs.Storage.{storage_bytes, is_borrowed}
-use Rattle.rox_build.specs.declared.taken.Taken.{Taken}
-use Rattle.rox_build.specs.Tags.{taken_view, Declared, Holding, Took, one_more}
+use Rattle.rox_values.specs.Refusing.{Refuses, of_failure}
+use Rattle.rox_values.specs.declared.refused.Refused.{Refused}
+use Rattle.rox_values.proofs.PartLemmas.{refuses_by}
+use Rattle.rox_tables.specs.Storage.{storage_bytes, is_borrowed}
+use Rattle.rox_tables.specs.declared.taken.Taken.{Taken}
+use Rattle.rox_tables.specs.Declares.{taken_view, Declared}
+use Rattle.rox_build.specs.Tags.{Holding, Took, one_more}
 
 -- an attribute with its value is the one that the code makes of it
 pub view_is : (raw : CodeRaw) (v : RunText) (t : Taken) → t.start ≡ raw.start → t.name_end ≡ raw.name_end → t.value_start ≡ raw.value_start → t.end ≡ raw.value_end + 1

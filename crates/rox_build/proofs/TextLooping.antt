@@ -10,11 +10,11 @@ use Rattle.rox_reading.specs.State.{State}
 use Rattle.rox_reading.specs.Machine.{How, step, drive_text, text_ends}
 use Rattle.rox_scan.specs.declared.cursor.Cursor.{Cursor}
 use Rattle.rox_build.specs.SoFar.{depth_of}
-use Rattle.rox_build.specs.Refusing.{Refuses}
+use Rattle.rox_values.specs.Refusing.{Refuses}
 use Rattle.rox_build.specs.Shown.{Sees, Rests, Rested, Went}
-use Rattle.rox_build.specs.declared.refused.Refused.{Refused}
+use Rattle.rox_values.specs.declared.refused.Refused.{Refused}
 use Rattle.rox_build.specs.declared.builder.Builder.{Builder}
-use Rattle.rox_build.proofs.PartLemmas.{refuses_by}
+use Rattle.rox_values.proofs.PartLemmas.{refuses_by}
 use Rattle.rox_build.proofs.Showing.{depth_is}
 
 pub same_depth : (o : Open) → depth_of o ≡ reading.depth_of o

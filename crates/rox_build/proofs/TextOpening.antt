@@ -8,10 +8,10 @@ use Rattle.rox_reading.specs.Refusals as refusal
 use Rattle.rox_reading.specs.Refusals.{Refusal, elsewhere}
 use Rattle.rox_reading.specs.State.{State, depth_of}
 use Rattle.rox_reading.specs.Machine.{How, left_behind, values_of, opener, drive_text}
-use Rattle.rox_build.specs.Named.{opened_at}
-use Rattle.rox_build.specs.Refusing.{Refuses, seen_from}
-use Rattle.rox_build.specs.declared.refused.Refused.{Refused}
-use Rattle.rox_build.specs.declared.refused.Refused.TheVariants as refused
+use Rattle.rox_values.specs.Named.{opened_at}
+use Rattle.rox_values.specs.Refusing.{Refuses, seen_from}
+use Rattle.rox_values.specs.declared.refused.Refused.{Refused}
+use Rattle.rox_values.specs.declared.refused.Refused.TheVariants as refused
 
 -- it may not be opened
 pub opens_err : (limit : ℕ) (es : List Entity) (deep : ℕ) (main : Bool) (t : Replacement) (after : ℕ) (s : State) (f : Fault) → opened_at deep main after s.left ≡ Err f → opener limit es deep main t after s ≡ Err (refusal.here f)

@@ -11,11 +11,11 @@ use Rattle.rox_grammar.specs.State.{Open, root, inside, is_root, nodes_so_far}
 use Rattle.rox_reading.specs.State.{State}
 use Rattle.rox_reading.specs.Machine.{How, main_text, counted, comment_step, instruction_step, tag_step, step, drive}
 use Rattle.rox_reading.specs.Whole.{misc, body}
-use Rattle.rox_scan.specs.declared.failure.Failure.{Failure}
-use Rattle.rox_scan.specs.declared.failure.Failure.TheVariants as failure
-use Rattle.rox_build.specs.Refusing.{Stops, Refuses, of_failure}
-use Rattle.rox_build.specs.declared.refused.Refused.{Refused}
-use Rattle.rox_build.proofs.PartLemmas.{refuses_by}
+use Rattle.rox_grammar.specs.declared.failure.Failure.{Failure}
+use Rattle.rox_grammar.specs.declared.failure.Failure.TheVariants as failure
+use Rattle.rox_values.specs.Refusing.{Stops, Refuses, of_failure}
+use Rattle.rox_values.specs.declared.refused.Refused.{Refused}
+use Rattle.rox_values.proofs.PartLemmas.{refuses_by}
 use Rattle.rox_grammar.specs.Entities.{Entity}
 use Rattle.rox_build.proofs.Lifting.{lifted_ok, lifted_err}
 

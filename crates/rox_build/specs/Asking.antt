@@ -8,12 +8,12 @@ use Rattle.rox_reading.specs.Answering.{Answered, Stops, Continues}
 use Rattle.rox_resolver.specs.Requests.{Reply, AreAllowed}
 use Rattle.rox_scan.specs.Doctypes.{replacement_view}
 use Rattle.rox_scan.specs.declared.cursor.Cursor.{Cursor}
-use Rattle.rox_build.specs.Named.{AreDeclared}
+use Rattle.rox_values.specs.Named.{AreDeclared}
 use Rattle.rox_build.specs.Shown.{Sees}
 use Rattle.rox_build.specs.declared.builder.Builder.{Builder}
-use Rattle.rox_build.specs.declared.entities.Entities.{Entities}
-use Rattle.rox_build.specs.declared.refused.Refused.{Refused}
-use Rattle.rox_build.specs.declared.refused.Refused.TheVariants as code
+use Rattle.rox_values.specs.declared.entities.Entities.{Entities}
+use Rattle.rox_values.specs.declared.refused.Refused.{Refused}
+use Rattle.rox_values.specs.declared.refused.Refused.TheVariants as code
 
 -- each answer may be given to its request, and is a text
 pub record AreGiven (allows : Request → Reply → Type 0) (asked : List Asked) : Type 0 where

@@ -11,10 +11,10 @@ use Rattle.rox_reading.specs.Doctype.{Reply, replies_of, AreTextReplies}
 use Rattle.rox_reading.specs.Answering.{Stops}
 use Rattle.rox_reading.specs.Whole.{has_doctype, reading}
 use Rattle.rox_resolver.specs.Requests.{AreAllowed}
-use Rattle.rox_build.specs.Lines.{Holds}
-use Rattle.rox_build.specs.declared.tables.Tables.{Tables}
-use Rattle.rox_build.specs.declared.refused.Refused.{Refused}
-use Rattle.rox_build.specs.declared.refused.Refused.TheVariants as refused
+use Rattle.rox_tables.specs.Lines.{Holds}
+use Rattle.rox_tables.specs.declared.tables.Tables.{Tables}
+use Rattle.rox_values.specs.declared.refused.Refused.{Refused}
+use Rattle.rox_values.specs.declared.refused.Refused.TheVariants as refused
 
 -- These were asked, and the answers are allowed and are text. With them the text is read to these items, whatever replies follow;
 -- the tables are those of their tree, and it is told whether there is a document type declaration.

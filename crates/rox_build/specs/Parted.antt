@@ -6,10 +6,10 @@ use Rattle.rox_reading.specs.Lexical.{◌>>=◌}
 use Rattle.rox_reading.specs.State.{State}
 use Rattle.rox_reading.specs.Values.{Next, run_part, part_text}
 use Rattle.rox_reading.specs.Machine.{How, with_piece}
-use Rattle.rox_scan.specs.Gives.{Fails}
+use Rattle.rox_grammar.specs.Failing.{Fails}
 use Rattle.rox_scan.specs.declared.cursor.Cursor.{Cursor}
-use Rattle.rox_scan.specs.declared.failure.Failure.{Failure}
-use Rattle.rox_build.specs.Values.{next_view}
+use Rattle.rox_grammar.specs.declared.failure.Failure.{Failure}
+use Rattle.rox_values.specs.Values.{next_view}
 use Rattle.rox_build.specs.Shown.{Rests}
 use Rattle.rox_build.specs.declared.builder.Builder.{Builder}
 

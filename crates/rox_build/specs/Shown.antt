@@ -11,21 +11,21 @@ use Rattle.rox_reading.specs.Refusals.{Refusal}
 use Rattle.rox_reading.specs.State.{State}
 use Rattle.rox_grammar.specs.State.{Open, root, inside, scope_of, pairs_so_far, attributes_so_far}
 use Rattle.rox_reading.proofs.Forests.{Clean, is_text}
-use Rattle.rox_scan.specs.Gives.{Fails, name_view}
+use Rattle.rox_grammar.specs.Failing.{Fails, name_view}
 use Rattle.rox_scan.specs.declared.cursor.Cursor.{Cursor}
-use Rattle.rox_scan.specs.declared.failure.Failure.{Failure}
-use Rattle.rox_build.specs.Lines.{Line, line, node, declaration, scope_at, NamespaceWithin, KindWithin, AreScopes, AttributeRow, rows_of}
+use Rattle.rox_grammar.specs.declared.failure.Failure.{Failure}
+use Rattle.rox_tables.specs.Lines.{Line, line, node, declaration, scope_at, NamespaceWithin, KindWithin, AreScopes, AttributeRow, rows_of}
 use Rattle.rox_reading.specs.Values.{Next, part_text}
-use Rattle.rox_build.specs.Refusing.{Stops, Refuses}
-use Rattle.rox_build.specs.Values.{next_view}
-use Rattle.rox_build.specs.declared.refused.Refused.{Refused}
+use Rattle.rox_values.specs.Refusing.{Stops, Refuses}
+use Rattle.rox_values.specs.Values.{next_view}
+use Rattle.rox_values.specs.declared.refused.Refused.{Refused}
 use Rattle.rox_build.specs.SoFar.{top, so_far}
-use Rattle.rox_build.specs.Scopes.{Once}
-use Rattle.rox_build.specs.Tagged.{KeepsPlaces, lists_in}
-use Rattle.rox_build.specs.declared.tables.NodeKind.{NodeKind}
-use Rattle.rox_build.specs.declared.tables.NodeData.{NodeData}
-use Rattle.rox_build.specs.declared.tables.ElementTables.{ElementTables}
-use Rattle.rox_build.specs.declared.tables.NodeKind.TheVariants as kind
+use Rattle.rox_tables.specs.Scopes.{Once}
+use Rattle.rox_tables.specs.TagScopes.{KeepsPlaces, lists_in}
+use Rattle.rox_tables.specs.declared.tables.NodeKind.{NodeKind}
+use Rattle.rox_tables.specs.declared.tables.NodeData.{NodeData}
+use Rattle.rox_tables.specs.declared.tables.ElementTables.{ElementTables}
+use Rattle.rox_tables.specs.declared.tables.NodeKind.TheVariants as kind
 use Rattle.rox_build.specs.declared.tag.StartTag.{StartTag}
 use Rattle.rox_build.specs.declared.pending.Pending.{Pending}
 use Rattle.rox_build.specs.declared.pending.Pending.TheVariants as pending

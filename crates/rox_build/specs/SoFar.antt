@@ -4,7 +4,7 @@ use Rattle.rox_grammar.specs.Forest.{Forest, size}
 use Rattle.rox_grammar.specs.Written.{Tag, Item, Element, merge}
 use Rattle.rox_grammar.specs.Tree.{Root, listed, node_in, resolved}
 use Rattle.rox_grammar.specs.State.{Open, root, inside, scope_of}
-use Rattle.rox_build.specs.Lines.{Line, lines}
+use Rattle.rox_tables.specs.Lines.{Line, lines}
 
 -- the row of the innermost open element, or of the root node
 abbrev pub top : Open → ℕ

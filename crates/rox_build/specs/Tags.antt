@@ -1,58 +1,18 @@
 -- What the code holds of a start tag, against what is read of it.
-use Rattle.std.specs.Prelude.{◌≡◌, ℕ, ◌≤◌, Bool, List, ◌++◌, length, map, Result, Ok, Err}
-use Rattle.std.specs.List.{list_any}
-use Rattle.rox_grammar.specs.declared.fault.Fault.{Fault}
-use Rattle.rox_grammar.specs.Written.{Attribute, Declaration}
-use Rattle.rox_grammar.specs.WellNamed.{is_xml}
-use Rattle.rox_grammar.specs.Document.{with_new, most_pairs}
-use Rattle.rox_grammar.specs.Document.{listable_of}
-use Rattle.rox_reading.specs.Refusals.{Refusal, lifted}
-use Rattle.rox_reading.specs.Tags.{Held, TagRest, Values, taken, attribute_with}
-use Rattle.rox_scan.specs.Gives.{Fails, name_view}
+use Rattle.std.specs.Prelude.{◌≡◌, ℕ, Bool, List, map, Result, Ok, Err}
+use Rattle.rox_grammar.specs.Written.{Declaration}
 use Rattle.rox_reading.specs.Lexical.{◌>>=◌}
 use Rattle.rox_reading.specs.Markup.{RawAttribute}
+use Rattle.rox_reading.specs.Refusals.{Refusal, lifted}
+use Rattle.rox_reading.specs.Tags.{Held, TagRest, Values, taken, attribute_with}
 use Rattle.rox_reading.specs.Values.{value_at}
 use Rattle.rox_scan.specs.declared.cursor.Cursor.{Cursor}
-use Rattle.rox_scan.specs.declared.failure.Failure.{Failure}
-use Rattle.rox_build.specs.Refusing.{Refuses}
-use Rattle.rox_build.specs.declared.refused.Refused.{Refused}
-use Rattle.rox_build.specs.Storage.{storage_bytes, is_borrowed}
-use Rattle.rox_build.specs.Scopes.{entries, ArePlaces}
-use Rattle.rox_build.specs.declared.taken.Taken.{Taken}
+use Rattle.rox_tables.specs.Declares.{taken_view, Declares}
+use Rattle.rox_tables.specs.declared.taken.Taken.{Taken}
+use Rattle.rox_values.specs.Refusing.{Refuses}
+use Rattle.rox_values.specs.declared.refused.Refused.{Refused}
 
--- `xml` is among the declared prefixes
-abbrev pub declares_xml : List Declaration → Bool
-declares_xml own = list_any (λ d. is_xml d.prefix) own
-
--- an attribute of the tag that is being read, as written
-abbrev pub taken_view : Taken → Attribute
-taken_view t = record {
-  start = t.start;
-  name_end = t.name_end;
-  value_start = t.value_start;
-  end = t.end;
-  name = name_view t.name;
-  value = storage_bytes t.value;
-  borrowed = is_borrowed t.value;
-}
-
--- The table of pairs, the listed places and the flag for `xml` are those of these declarations, where the table was
--- `known` and the places `before` when the tag began.
-pub record Declares (known : List Declaration) (before : List ℕ) (names : List Declaration) (listed : List ℕ) (xml : Bool) (own : List Declaration) : Type 0 where
-  pub names_are : names ≡ with_new known (listable_of own)
-  pub few : length names ≤ most_pairs
-  pub xml_is : xml ≡ declares_xml own
-  pub mine : List ℕ
-  pub listed_are : listed ≡ before ++ mine
-  pub places : ArePlaces (length names) mine
-  pub same : entries names mine ≡ listable_of own
-
--- what a declaration makes of that
-abbrev pub Declared : (known : List Declaration) (before : List ℕ) (names : List Declaration) (listed : List ℕ) → Result Bool Failure → Held → Result Held Fault → Type 0
-Declared known before names listed (Ok xml) h read = (own : List Declaration) × (read ≡ Ok (record { own = own; attributes = h.attributes })) × Declares known before names listed xml own
-Declared known before names listed (Err e) h read = Fails e read
-
--- the same of the whole tag so far: its attributes wait in a buffer
+-- what is held of the whole tag so far: its declarations are in the tables, and its attributes wait in a buffer
 pub record Holding (known : List Declaration) (before : List ℕ) (names : List Declaration) (listed : List ℕ) (xml : Bool) (taken : List Taken) (h : Held) : Type 0 where
   pub declares : Declares known before names listed xml h.own
   pub attributes : map taken_view taken ≡ h.attributes

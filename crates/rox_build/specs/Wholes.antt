@@ -17,11 +17,11 @@ use Rattle.rox_reading.specs.Answering.{left_with, Yields}
 use Rattle.rox_reading.specs.Whole.{misc, prolog, doctype, body, finished, has_doctype, reading}
 use Rattle.rox_scan.specs.declared.cursor.Cursor.{Cursor}
 use Rattle.rox_build.specs.Asking.{IsRead}
-use Rattle.rox_build.specs.Refusing.{Refuses}
+use Rattle.rox_values.specs.Refusing.{Refuses}
 use Rattle.rox_build.specs.Shown.{Shows}
 use Rattle.rox_build.specs.declared.builder.Builder.{Builder}
-use Rattle.rox_build.specs.declared.entities.Entities.{Entities}
-use Rattle.rox_build.specs.declared.refused.Refused.{Refused}
+use Rattle.rox_values.specs.declared.entities.Entities.{Entities}
+use Rattle.rox_values.specs.declared.refused.Refused.{Refused}
 
 -- nothing is read yet
 abbrev pub start_at : ℕ → State

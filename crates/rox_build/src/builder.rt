@@ -1,27 +1,27 @@
 //! The tables as they grow: the open elements, and the text that may go on.
 
 ghost use Rattle.std.specs.Prelude.{◌<◌, ◌≤◌, ◌+◌, ◌^◌, ◌≡◌, ◌∷◌, [], ℕ, length, vec_len, set, get_or, max, IfOk, IfErr, OnOk};
-ghost use Rattle.rox_build.specs.declared.tables.NodeData.{NodeData};
-ghost use Rattle.rox_build.specs.declared.tables.NodeKind.TheVariants as kind;
-ghost use Rattle.rox_scan.specs.declared.failure.Failure.TheVariants as failure;
+ghost use Rattle.rox_tables.specs.declared.tables.NodeData.{NodeData};
+ghost use Rattle.rox_tables.specs.declared.tables.NodeKind.TheVariants as kind;
+ghost use Rattle.rox_grammar.specs.declared.failure.Failure.TheVariants as failure;
 ghost use Rattle.rox_build.specs.Waiting.{waiting};
 
-use crate::attributes::AttributeTable;
-use crate::growth::{push, trim, with_room};
-use crate::how::MOST_WITHIN;
-use crate::names::NamespaceTable;
-use crate::node_rows;
 use crate::pending::Pending;
-use crate::present::Present;
-use crate::recent::Recent;
-use crate::storage::StringStorage;
-use crate::tables::{ElementTables, NodeData, NodeKind, Scope, Stretch, Tables};
 use crate::tag::{Buffers, StartTag};
-use crate::value::Piece;
+use rox_grammar::failure::Failure;
 use rox_grammar::fault::Fault;
-use rox_scan::cursor::QName;
-use rox_scan::failure::Failure;
+use rox_grammar::name::QName;
 use rox_scan::marks::Finders;
+use rox_tables::attributes::AttributeTable;
+use rox_tables::growth::{push, trim, with_room};
+use rox_tables::names::NamespaceTable;
+use rox_tables::node_rows;
+use rox_tables::present::Present;
+use rox_tables::recent::Recent;
+use rox_tables::storage::StringStorage;
+use rox_tables::tables::{ElementTables, NodeData, NodeKind, Scope, Stretch, Tables};
+use rox_values::how::MOST_WITHIN;
+use rox_values::value::Piece;
 use std::alloc::Global;
 use std::collections::BTreeSet;
 use std::mem;
@@ -120,11 +120,11 @@ impl<'input> Builder<'input> {
     ghost use Rattle.rox_grammar.specs.State.{Open, root, inside, is_root, scope_of, nodes_so_far};
     ghost use Rattle.rox_reading.specs.State.{State};
     ghost use Rattle.rox_reading.specs.Machine.{with_item, opened_by, counted};
-    ghost use Rattle.rox_scan.specs.Gives.{Fails};
-    ghost use Rattle.rox_build.specs.Values.{piece_view};
+    ghost use Rattle.rox_grammar.specs.Failing.{Fails};
+    ghost use Rattle.rox_values.specs.Values.{piece_view};
     ghost use Rattle.rox_build.specs.Shown.{Shows, Settled, IsNode, IsOpening, AreSound, Adds, Fine, names_in, opened_in, last_row};
-    ghost use Rattle.rox_build.specs.Lines.{Holds, rows_of};
-    ghost use Rattle.rox_build.specs.Scopes.{Once};
+    ghost use Rattle.rox_tables.specs.Lines.{Holds, rows_of};
+    ghost use Rattle.rox_tables.specs.Scopes.{Once};
     ghost use Rattle.rox_build.specs.Tagged.{scope_in_tables};
     ghost use Rattle.rox_grammar.specs.Tree.{document_tree};
     ghost use Rattle.rox_build.specs.declared.builder.OpenElement.{OpenElement};

@@ -10,23 +10,23 @@ ghost use Rattle.rox_reading.specs.Machine.{with_item};
 ghost use Rattle.rox_grammar.specs.Entities.{Entity};
 ghost use Rattle.rox_reading.specs.Values as spec;
 ghost use Rattle.rox_scan.specs.Doctypes.{replacement_view};
-ghost use Rattle.rox_build.specs.Named.{AreDeclared};
-ghost use Rattle.rox_build.specs.Hows.{how_of};
+ghost use Rattle.rox_values.specs.Named.{AreDeclared};
+ghost use Rattle.rox_values.specs.Hows.{how_of};
 ghost use Rattle.rox_build.specs.Shown.{Fine, Sees, Went, Rests, Rested, GivesPart, Adds, Shows};
 ghost use Rattle.rox_build.specs.Parted.{Parted, IsLine, next_part};
 
 use crate::builder::Builder;
 use crate::constructs::{end_tag, markup};
-use crate::how::How;
-use crate::refused::Refused;
 use crate::tag::Buffers;
-use crate::value::{is_run_end, line_feeds, raw_run, run_part};
+use rox_grammar::failure::Failure;
 use rox_grammar::fault::Fault;
 use rox_scan::cursor::Cursor;
-use rox_scan::failure::Failure;
 use rox_scan::marks::either_from;
 use rox_scan::near::{TextByte, near_end};
 use rox_scan::runs::{after_byte, is_at};
+use rox_values::how::How;
+use rox_values::refused::Refused;
+use rox_values::value::{is_run_end, line_feeds, raw_run, run_part};
 use std::alloc::Global;
 
 /// Whether a run is a line end, a CR and a LF, and then bytes that stand for themselves.

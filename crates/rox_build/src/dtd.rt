@@ -11,18 +11,18 @@ ghost use Rattle.rox_reading.specs.Answering.{left_with};
 ghost use Rattle.rox_resolver.specs.Requests.{Reply, Allows, MayAsk};
 ghost use Rattle.rox_scan.specs.Doctypes.{definition_view, request_view};
 ghost use Rattle.rox_build.specs.Asking.{Comes, IsDefined, IsEntityRead, IsGoing, IsRead, Turns};
-ghost use Rattle.rox_build.specs.Named.{AreDeclared};
+ghost use Rattle.rox_values.specs.Named.{AreDeclared};
 ghost use Rattle.rox_build.specs.Shown.{Fine, Sees};
 
 use crate::builder::Builder;
 use crate::constructs::{comment, instruction};
-use crate::entities::Entities;
-use crate::refused::Refused;
 use rox_grammar::fault::{Due, Fault, Word};
 use rox_resolver::resolver::{EntityResolver, ask};
 use rox_scan::cursor::Cursor;
 use rox_scan::doctype::{Definition, ExternalId, replacement_in};
 use rox_scan::runs::is_at;
+use rox_values::entities::Entities;
+use rox_values::refused::Refused;
 use std::alloc::Global;
 
 /// The replacement text that is answered for an external entity, if any is. The request ends at `at`.

@@ -24,3 +24,4 @@ pub mod Faults
 pub mod Refused
 pub mod Exchange
 pub mod CharText
+pub mod Failing

@@ -2,4 +2,6 @@
 //! `specs/`, each with the section of the standard that it comes from; and the faults that a text can have.
 #![tactic(auto)]
 
+pub mod failure;
 pub mod fault;
+pub mod name;

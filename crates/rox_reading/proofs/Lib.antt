@@ -1,3 +1,4 @@
+pub mod Stretches
 pub mod Forests
 pub mod Answering
 pub mod Settling

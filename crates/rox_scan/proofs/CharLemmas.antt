@@ -9,6 +9,7 @@ use Rattle.std.proofs.lemmas.Bool.{and_parts, and_from, cases_Bool, cases_lt, co
 use Rattle.std.proofs.lemmas.List.{append-nil, drop-take, length-take, get_or-drop}
 use Rattle.std.proofs.lemmas.List.Folds.{list_all-append, drop_split}
 use Rattle.std.proofs.lemmas.Str.{chars-nil, chars-append, chars_past_char, encodes-chars, length-encode, len_utf8_bounds, len_utf8_ascii, IsUtf8-between, IsCharBoundary-before_ascii, IsCharBoundary-after_ascii}
+use Rattle.rox_reading.proofs.Stretches.{range_length, range_parts}
 use Rattle.rox_scan.proofs.RunLemmas.{stands_ascii}
 use Rattle.rox_grammar.specs.Chars.{is_char}
 use Rattle.rox_grammar.specs.Runs.{run_end, passing, StandsAt}
@@ -33,9 +34,6 @@ all_pass p (c ∷ cs) h =
       | inl passes ↦ and_from (p c) (list_all p cs) passes (all_pass p cs (let h' = rw passes at h in omega arith))
       | inr fails ↦ absurd (let h' = rw fails at h in omega arith)
     ]
-
-pub range_length : (src : List ℕ) (i j : ℕ) → i ≤ j → j ≤ length src → length (slice_range src i j) ≡ j - i
-range_length src i j le inside = omega (arith, length-take (j - i) (drop i src), length-drop i src)
 
 -- what stands in front of j from i on
 front : (src : List ℕ) (i j : ℕ) → i ≤ j → drop i (take j src) ≡ slice_range src i j
@@ -64,13 +62,6 @@ all_chars src i j utf8 le from to h =
     let all = all_passing is_char (chars (slice_range src i j)) h in
     let spelled = ap length (encodes-chars (slice_range src i j) text) in
     rw f (omega arith)
-
--- a stretch in two parts
-pub range_parts : (src : List ℕ) (a b c : ℕ) → a ≤ b → b ≤ c → c ≤ length src → slice_range src a c ≡ slice_range src a b ++ slice_range src b c
-range_parts src a b c le le' inside =
-    let long = range_length src a b le (omega arith) in
-    let e : c - a ≡ length (slice_range src a b) + (c - b) = omega arith in
-    ap (take (c - a)) (drop_split src a b le) ∙ ap (λ (n : ℕ). take n (slice_range src a b ++ drop b src)) e ∙ take-append-add (slice_range src a b) (drop b src) (c - b)
 
 pub chars_joined : (src : List ℕ) (i j k : ℕ) → IsUtf8 src → IsCharBoundary src i → IsCharBoundary src j → IsCharBoundary src k → i ≤ j → j ≤ k → AreChars src i j → AreChars src j k → AreChars src i k
 chars_joined src i j k utf8 a b c le le' f g =

@@ -19,7 +19,8 @@ use Rattle.rox_scan.specs.Near.{AllPass, is_value_byte, is_text_byte, is_comment
 use Rattle.rox_scan.specs.Longer.{Looked, ends_value, ends_run, changes_run, ends_comment, changes_comment}
 use Rattle.rox_scan.proofs.NearLemmas.{near_chars, near_found, none_among, value_is_plain, value_cut, text_is_plain, text_cut, comment_is_plain, comment_cut}
 use Rattle.rox_scan.proofs.MarkLemmas.{before_mark_is, not_from_first, fails, stands_split, stands_from_split}
-use Rattle.rox_scan.proofs.CharLemmas.{chars_joined, range_parts, range_length}
+use Rattle.rox_scan.proofs.CharLemmas.{chars_joined}
+use Rattle.rox_reading.proofs.Stretches.{range_parts, range_length}
 
 or_false : (b : Bool) → (b || false) ≡ b
 or_false true = refl

@@ -4,7 +4,7 @@ use Rattle.std.specs.Borrow.{Bor}
 use Rattle.std.specs.Str.{IsCharBoundary}
 use Rattle.rox_grammar.specs.Content.{is_plain_value}
 use Rattle.rox_reading.specs.Markup as markup
-use Rattle.rox_scan.specs.Gives.{name_view}
+use Rattle.rox_grammar.specs.Failing.{name_view}
 use Rattle.rox_scan.specs.declared.markup.Instruction.{Instruction}
 use Rattle.rox_scan.specs.declared.markup.EndTag.{EndTag}
 use Rattle.rox_scan.specs.declared.markup.RawAttribute.{RawAttribute}

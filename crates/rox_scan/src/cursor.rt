@@ -10,6 +10,7 @@ use crate::runs::{
     NameChar, NameStart, after_byte, begins, char_at, chars_end, is_at, run_end, space_end,
 };
 use rox_grammar::fault::{Due, Fault, Word};
+use rox_grammar::name::QName;
 
 /// A place between two characters of a source, as a count of bytes from its start.
 #[derive(Clone, Copy)]
@@ -20,15 +21,9 @@ pub struct Cursor<'input> {
     pub ghost cut: { IsCharBoundary text.now pos },
 }
 
-/// A name as it is written (Namespaces in XML section 4). The prefix is empty where there is no colon.
-#[derive(Clone, Copy, Debug)]
-pub struct QName<'input> {
-    pub prefix: &'input str,
-    pub local: &'input str,
-}
-
 impl<'input> Cursor<'input> {
-    ghost use Rattle.rox_scan.specs.Gives.{Reads, name_view};
+    ghost use Rattle.rox_grammar.specs.Failing.{name_view};
+    ghost use Rattle.rox_scan.specs.Gives.{Reads};
     ghost use Rattle.rox_grammar.specs.Marks.{stands};
     ghost use Rattle.rox_grammar.specs.Words.{word_text};
     ghost use Rattle.rox_grammar.specs.Names.{spaces_end};

@@ -2,11 +2,9 @@
 //! of a source. Each gives what stands there, or the first fault, and moves the place past it.
 #![tactic(auto)]
 
-pub mod alike;
 pub mod chars;
 pub mod cursor;
 pub mod doctype;
-pub mod failure;
 pub mod halves;
 pub mod longer;
 pub mod marks;

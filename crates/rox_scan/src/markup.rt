@@ -12,13 +12,14 @@ ghost use Rattle.rox_scan.specs.Gives.{Reads};
 ghost use Rattle.rox_scan.specs.Parts.{HasValue, TurnHasValue, attribute_view, end_tag_view, instruction_view, text_view, turn_view};
 
 use crate::chars::is_space;
-use crate::cursor::{Cursor, QName};
+use crate::cursor::Cursor;
 use crate::longer::{comment_end, is_plain_value, value_look};
 use crate::marks::{Finders, either_from, has_mark, mark_from};
 use crate::near::{ValueByte, near_end};
 use crate::runs::is_at;
 use memchr::memmem::Finder;
 use rox_grammar::fault::{Due, Fault, Word};
+use rox_grammar::name::QName;
 
 /// A processing instruction as it is written. It has no value where nothing but white space follows its target.
 #[derive(Clone, Copy, Debug)]

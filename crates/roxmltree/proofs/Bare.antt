@@ -1,14 +1,14 @@
 -- What a node says by itself, its namespaces and attributes set aside.
 use Rattle.std.proofs.Common.{◌≡◌, ℕ, ◌<◌, List, get_or, refl, ap, ◌∙◌, Some, length, sym, subst}
 use Rattle.std.proofs.lemmas.List.Elements.{All-from_recursion}
-use Rattle.rox_build.specs.Storage.{storage_bytes}
+use Rattle.rox_tables.specs.Storage.{storage_bytes}
 use Rattle.rox_grammar.specs.Forest.{Forest, size}
 use Rattle.rox_grammar.specs.Tree.{Node, Root, Element, Text, Comment, PI}
-use Rattle.rox_build.specs.Lines.{Holds, KindWithin, node, names_of, scopes_of, rows_of, AttributeRow}
-use Rattle.rox_build.specs.declared.tables.NodeKind.{NodeKind}
-use Rattle.rox_build.specs.declared.tables.NodeKind.TheVariants as kind
-use Rattle.rox_build.specs.declared.tables.NodeData.{NodeData}
-use Rattle.rox_build.specs.declared.tables.Tables.{Tables}
+use Rattle.rox_tables.specs.Lines.{Holds, KindWithin, node, names_of, scopes_of, rows_of, AttributeRow}
+use Rattle.rox_tables.specs.declared.tables.NodeKind.{NodeKind}
+use Rattle.rox_tables.specs.declared.tables.NodeKind.TheVariants as kind
+use Rattle.rox_tables.specs.declared.tables.NodeData.{NodeData}
+use Rattle.rox_tables.specs.declared.tables.Tables.{Tables}
 use Rattle.rox_grammar.specs.Written.{Declaration}
 use Rattle.roxmltree.specs.Places.{place}
 use Rattle.roxmltree.specs.Bare.{bare, bare_row}

@@ -4,10 +4,10 @@ use Rattle.std.specs.List.{AllByRecursion, slice_range, zip}
 use Rattle.std.proofs.lemmas.List.{length-map}
 use Rattle.std.proofs.lemmas.Slice.Zip.{firsts-zip, get_or-zip}
 use Rattle.rox_grammar.specs.Written.{Declaration}
-use Rattle.rox_build.specs.Lines.{AttributeRow, NamespaceWithin, attribute, rows_of}
-use Rattle.rox_build.specs.declared.tables.AttributeData.{AttributeData}
-use Rattle.rox_build.specs.declared.tables.AttributePlaces.{AttributePlaces}
-use Rattle.rox_build.specs.declared.attributes.AttributeTable.{AttributeTable}
+use Rattle.rox_tables.specs.Lines.{AttributeRow, NamespaceWithin, attribute, rows_of}
+use Rattle.rox_tables.specs.declared.tables.AttributeData.{AttributeData}
+use Rattle.rox_tables.specs.declared.tables.AttributePlaces.{AttributePlaces}
+use Rattle.rox_tables.specs.declared.attributes.AttributeTable.{AttributeTable}
 use Rattle.roxmltree.specs.Reach.{reach}
 use Rattle.roxmltree.proofs.Ends.{first_of, last_of, length_stretch}
 use Rattle.roxmltree.proofs.Entries.{reach_within}

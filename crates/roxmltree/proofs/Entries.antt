@@ -1,10 +1,10 @@
 -- Rows of namespaces and of attributes, and what they name.
 use Rattle.std.proofs.Common.{◌≡◌, ℕ, zero, suc, ◌<◌, ◌≤◌, List, [], ◌∷◌, length, get_or, map, ap, arith}
-use Rattle.rox_build.specs.Storage.{storage_bytes}
-use Rattle.rox_build.specs.Lines.{declaration, entry, NamespaceWithin}
-use Rattle.rox_build.specs.declared.tables.Namespace.{Namespace}
-use Rattle.rox_build.specs.declared.tables.AttributeNamespace.{AttributeNamespace}
-use Rattle.rox_build.specs.declared.tables.AttributeNamespace.TheVariants as space
+use Rattle.rox_tables.specs.Storage.{storage_bytes}
+use Rattle.rox_tables.specs.Lines.{declaration, entry, NamespaceWithin}
+use Rattle.rox_tables.specs.declared.tables.Namespace.{Namespace}
+use Rattle.rox_tables.specs.declared.tables.AttributeNamespace.{AttributeNamespace}
+use Rattle.rox_tables.specs.declared.tables.AttributeNamespace.TheVariants as space
 use Rattle.roxmltree.specs.Reach.{reach}
 
 -- a namespace's row is the entry of its place

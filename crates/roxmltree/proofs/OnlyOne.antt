@@ -12,7 +12,7 @@ use Rattle.roxmltree.specs.Says.{node_at, listed_of, attributes_of}
 use Rattle.roxmltree.specs.Names.{same_name, named, IsNamedAt}
 use Rattle.roxmltree.specs.Lawful.{PrefixesOnce, same_expanded, NamesOnce, NamesDistinct}
 use Rattle.roxmltree.proofs.Prefixes.{option_eq_same}
-use Rattle.rox_build.proofs.Pairs.{same_prefix-true, same_prefix-refl}
+use Rattle.rox_tables.proofs.Pairs.{same_prefix-true, same_prefix-refl}
 use Rattle.roxmltree.specs.Each.{Each}
 use Rattle.roxmltree.proofs.Everywhere.{at_each}
 

@@ -19,8 +19,8 @@ use Rattle.rox_theory.proofs.Tops.{parse_merged}
 use Rattle.rox_theory.proofs.Whole.{seen_parse, doctype_seen, plain_refused, asks_nothing_there}
 use Rattle.rox_resolver.specs.Requests.{AreAllowed}
 use Rattle.rox_build.specs.Built.{Built}
-use Rattle.rox_build.specs.Lines.{Holds}
-use Rattle.rox_build.specs.declared.tables.Tables.{Tables}
+use Rattle.rox_tables.specs.Lines.{Holds}
+use Rattle.rox_tables.specs.declared.tables.Tables.{Tables}
 use Rattle.roxmltree.specs.Doc.{Doc}
 use Rattle.roxmltree.specs.Told.{IsRead}
 use Rattle.roxmltree.specs.Whole.{HoldsDocument}

@@ -4,14 +4,14 @@ use Rattle.std.specs.Option.{option_map}
 use Rattle.rox_grammar.specs.Forest.{Forest, size}
 use Rattle.rox_grammar.specs.Tree.{Node}
 use Rattle.rox_grammar.specs.Written.{Declaration}
-use Rattle.rox_build.specs.Lines.{Holds, KindWithin, node, names_of, scopes_of, attribute, entry, rows_of, AttributeRow}
-use Rattle.rox_build.specs.Scopes.{places_in}
-use Rattle.rox_build.specs.declared.tables.NodeKind.{NodeKind}
-use Rattle.rox_build.specs.declared.tables.NodeKind.TheVariants as kind
-use Rattle.rox_build.specs.declared.tables.NodeData.{NodeData}
-use Rattle.rox_build.specs.declared.tables.ElementData.{ElementData}
-use Rattle.rox_build.specs.declared.tables.Tables.{Tables}
-use Rattle.rox_build.proofs.Ropes.{scope_places}
+use Rattle.rox_tables.specs.Lines.{Holds, KindWithin, node, names_of, scopes_of, attribute, entry, rows_of, AttributeRow}
+use Rattle.rox_tables.specs.Scopes.{places_in}
+use Rattle.rox_tables.specs.declared.tables.NodeKind.{NodeKind}
+use Rattle.rox_tables.specs.declared.tables.NodeKind.TheVariants as kind
+use Rattle.rox_tables.specs.declared.tables.NodeData.{NodeData}
+use Rattle.rox_tables.specs.declared.tables.ElementData.{ElementData}
+use Rattle.rox_tables.specs.declared.tables.Tables.{Tables}
+use Rattle.rox_tables.proofs.Ropes.{scope_places}
 use Rattle.roxmltree.specs.Places.{place}
 use Rattle.roxmltree.specs.Says.{namespace_of, listed_of, attributes_of}
 use Rattle.roxmltree.proofs.Rows.{row_line, in_rows}

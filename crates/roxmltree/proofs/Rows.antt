@@ -3,9 +3,9 @@ use Rattle.std.proofs.Common.{◌≡◌, ℕ, suc, ◌+◌, ◌-◌, ◌<◌, Bo
 use Rattle.std.proofs.lemmas.List.{get_or-map, length-map, map-append}
 use Rattle.rox_grammar.specs.Forest.{Forest, Nil, Cons, size}
 use Rattle.rox_grammar.specs.Tree.{Node}
-use Rattle.rox_build.specs.Lines.{Line, line, lines, names_of, scopes_of, Holds, rows_of}
-use Rattle.rox_build.specs.declared.tables.NodeData.{NodeData}
-use Rattle.rox_build.specs.declared.tables.Tables.{Tables}
+use Rattle.rox_tables.specs.Lines.{Line, line, lines, names_of, scopes_of, Holds, rows_of}
+use Rattle.rox_tables.specs.declared.tables.NodeData.{NodeData}
+use Rattle.rox_tables.specs.declared.tables.Tables.{Tables}
 use Rattle.roxmltree.specs.Flat.{flat, unflat, unflat-flat}
 use Rattle.roxmltree.specs.Places.{Place, places, preorder, place, nowhere, first, parent}
 use Rattle.roxmltree.specs.Whole.{tree_in, nodes_from, HoldsDocument, IsWhole}

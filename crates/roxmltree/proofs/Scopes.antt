@@ -7,7 +7,7 @@ use Rattle.rox_grammar.specs.Written.{Declaration, Item, Element, Text, Comment,
 use Rattle.rox_grammar.specs.Tree.{same_prefix, is_declared, listed, uri_of, scope_in}
 use Rattle.rox_grammar.specs.WellNamed.{AreDeclarable, ItemWellNamed}
 use Rattle.roxmltree.specs.Nearest.{declared_at, xml}
-use Rattle.rox_build.proofs.Pairs.{same_prefix-true, same_prefix-refl}
+use Rattle.rox_tables.proofs.Pairs.{same_prefix-true, same_prefix-refl}
 use Rattle.roxmltree.proofs.Once.{some_none}
 
 -- ---- one row of declarations

@@ -28,8 +28,8 @@ use Rattle.rox_error.specs.declared.error.Error.{Error}
 use Rattle.rox_error.specs.declared.error.Error.TheVariants as error
 use Rattle.rox_error.specs.declared.position.TextPos.{TextPos}
 use Rattle.rox_build.specs.Built.{BuiltNone, BuiltRefusal}
-use Rattle.rox_build.specs.declared.refused.Refused.{Refused}
-use Rattle.rox_build.specs.declared.refused.Refused.TheVariants as why
+use Rattle.rox_values.specs.declared.refused.Refused.{Refused}
+use Rattle.rox_values.specs.declared.refused.Refused.TheVariants as why
 use Rattle.roxmltree.specs.Speaks.{SpeaksOfText}
 use Rattle.roxmltree.specs.Told.{IsTold, MayRefuse, IsFirst, Tells}
 use Rattle.roxmltree.proofs.Parsed.{read_alone}

@@ -47,5 +47,5 @@ pub use Rattle.rox_reading.specs.Answering
 pub use Rattle.rox_resolver.specs.Requests
 pub use Rattle.rox_error.specs.Telling
 pub use Rattle.rox_error.specs.Messages
-pub use Rattle.rox_build.specs.Lines
-pub use Rattle.rox_build.specs.Storage
+pub use Rattle.rox_tables.specs.Lines
+pub use Rattle.rox_tables.specs.Storage

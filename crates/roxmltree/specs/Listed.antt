@@ -4,8 +4,8 @@ use Rattle.std.specs.Coded.{Coded, coded_list}
 use Rattle.std.specs.List.{AllByRecursion, zip}
 use Rattle.rox_grammar.specs.Written.{Declaration}
 use Rattle.rox_grammar.specs.Tree as tree
-use Rattle.rox_build.specs.Lines.{attribute, declaration, entry, AreScopes, NamespaceWithin}
-use Rattle.rox_build.specs.Scopes.{places_in, ArePlaces}
+use Rattle.rox_tables.specs.Lines.{attribute, declaration, entry, AreScopes, NamespaceWithin}
+use Rattle.rox_tables.specs.Scopes.{places_in, ArePlaces}
 use Rattle.roxmltree.specs.Flat.{attribute_code, declaration_code}
 use Rattle.roxmltree.specs.declared.elements.Attribute.{Attribute}
 use Rattle.roxmltree.specs.declared.elements.Attributes.TheInside as attributes

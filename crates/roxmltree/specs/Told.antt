@@ -14,8 +14,8 @@ use Rattle.rox_resolver.specs.Requests.{AreAllowed}
 use Rattle.rox_error.specs.Telling.{position_at, IsErrorOf}
 use Rattle.rox_error.specs.declared.error.Error.{Error}
 use Rattle.rox_error.specs.declared.error.Error.TheVariants as error
-use Rattle.rox_build.specs.declared.refused.Refused.{Refused}
-use Rattle.rox_build.specs.declared.refused.Refused.TheVariants as why
+use Rattle.rox_values.specs.declared.refused.Refused.{Refused}
+use Rattle.rox_values.specs.declared.refused.Refused.TheVariants as why
 use Rattle.roxmltree.specs.Doc.{Doc}
 
 -- The error is what a caller is told of the refusal of this text: of a fault its kind, its names and its position in the source

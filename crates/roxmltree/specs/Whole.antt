@@ -4,8 +4,8 @@ use Rattle.rox_grammar.specs.Forest.{Forest}
 use Rattle.rox_grammar.specs.Tree.{Node}
 use Rattle.rox_grammar.specs.Doctype.{Asked}
 use Rattle.rox_grammar.specs.Document.{IsTreeOf}
-use Rattle.rox_build.specs.Lines.{Line, lines_of, Holds}
-use Rattle.rox_build.specs.declared.tables.Tables.{Tables}
+use Rattle.rox_tables.specs.Lines.{Line, lines_of, Holds}
+use Rattle.rox_tables.specs.declared.tables.Tables.{Tables}
 use Rattle.roxmltree.specs.Flat.{unflat}
 use Rattle.roxmltree.specs.Doc.{Doc}
 use Rattle.roxmltree.specs.declared.tree.Document.TheInside.{Inside}

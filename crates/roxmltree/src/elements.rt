@@ -2,13 +2,13 @@
 
 ghost use Rattle.std.specs.Prelude.{◌≡◌, ◌≤◌, ◌-◌, length, bytes_eq};
 ghost use Rattle.std.specs.Option.{option_map, option_eq};
-ghost use Rattle.rox_build.specs.Lines.{declaration};
+ghost use Rattle.rox_tables.specs.Lines.{declaration};
 ghost use Rattle.roxmltree.specs.Reach.{reach};
 
 use crate::names::{ExpandedName, NS_XML_URI};
-use rox_build::rope::{count, place_at};
-use rox_build::storage::StringStorage;
-use rox_build::tables::{AttributeData, AttributeNamespace, AttributePlaces, Namespace, Scope};
+use rox_tables::rope::{count, place_at};
+use rox_tables::storage::StringStorage;
+use rox_tables::tables::{AttributeData, AttributeNamespace, AttributePlaces, Namespace, Scope};
 use std::fmt;
 use std::marker::Model;
 use std::ops::Range;
@@ -162,7 +162,7 @@ impl<'a, 'input> Model for Attributes<'a, 'input> {
 impl<'a, 'input> Attributes<'a, 'input> {
     ghost use Rattle.std.specs.Prelude.{map, slice_range};
     ghost use Rattle.std.specs.List.{AllByRecursion, zip};
-    ghost use Rattle.rox_build.specs.Lines.{attribute, NamespaceWithin};
+    ghost use Rattle.rox_tables.specs.Lines.{attribute, NamespaceWithin};
 
     /// A stretch of the attributes of all elements, whose namespaces are in this table.
     #[inline]
@@ -287,8 +287,8 @@ impl<'a, 'input> Model for NamespaceIter<'a, 'input> {
 
 impl<'a, 'input> NamespaceIter<'a, 'input> {
     ghost use Rattle.std.specs.Prelude.{[], map, ◌<◌, ◌^◌};
-    ghost use Rattle.rox_build.specs.Lines.{entry, AreScopes};
-    ghost use Rattle.rox_build.specs.Scopes.{places_in, ArePlaces};
+    ghost use Rattle.rox_tables.specs.Lines.{entry, AreScopes};
+    ghost use Rattle.rox_tables.specs.Scopes.{places_in, ArePlaces};
 
     /// All that a scope lists of these places, in this table of namespaces.
     #[inline]

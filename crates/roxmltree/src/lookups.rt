@@ -3,7 +3,7 @@
 ghost use Rattle.std.specs.Prelude.{◌≡◌, ◌&&◌, ◌<◌, ◌^◌, length, bytes_eq};
 ghost use Rattle.std.specs.Option.{option_map, is_some};
 ghost use Rattle.rox_grammar.specs.Tree.{uri_of};
-ghost use Rattle.rox_build.specs.Lines.{declaration};
+ghost use Rattle.rox_tables.specs.Lines.{declaration};
 ghost use Rattle.roxmltree.specs.Says.{says_element, local_of, namespace_of, listed_of, attributes_of};
 ghost use Rattle.roxmltree.specs.Names.{expanded, same_name, named, named_locally, prefix_of, first_prefix};
 ghost use Rattle.roxmltree.specs.Listed.{attribute_of};
@@ -12,7 +12,7 @@ ghost use Rattle.roxmltree.specs.Spot.{item_of};
 use crate::elements::{Attribute, Attributes, NamespaceIter};
 use crate::names::{ExpandedName, NS_XML_URI};
 use crate::nodes::Node;
-use rox_build::tables::NodeKind;
+use rox_tables::tables::NodeKind;
 
 impl<'a, 'input> Node<'a, 'input> {
     /// The name of an element. The empty name without namespace for other nodes.

@@ -21,10 +21,10 @@ ghost use Rattle.roxmltree.specs.Told.{IsFirst, IsRead, Tells};
 use crate::options::ParsingOptions;
 use crate::tree::Document;
 use rox_build::reader::{Options, build};
-use rox_build::refused::Refused;
 use rox_error::error::Error;
 use rox_error::position::TextPos;
 use rox_resolver::resolver::EntityResolver;
+use rox_values::refused::Refused;
 use std::alloc::Global;
 
 impl<'input> Document<'input> {

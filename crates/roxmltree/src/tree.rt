@@ -9,7 +9,7 @@ ghost use Rattle.roxmltree.specs.Says.{node_at, content_of, namespace_of, listed
 use crate::elements::{Attributes, NamespaceIter};
 use crate::nodes::{Node, NodeId};
 use crate::walks::Descendants;
-use rox_build::tables::{NodeData, NodeKind, Tables};
+use rox_tables::tables::{NodeData, NodeKind, Tables};
 use std::marker::Model;
 
 /// An XML document as a read-only tree of nodes.
@@ -40,7 +40,7 @@ impl<'input> Document<'input> {
     ghost use Rattle.rox_grammar.specs.Doctype.{Asked};
     ghost use Rattle.rox_grammar.specs.Document.{IsTreeOf};
     ghost use Rattle.std.specs.Prelude.{IsUtf8};
-    ghost use Rattle.rox_build.specs.Lines.{Holds};
+    ghost use Rattle.rox_tables.specs.Lines.{Holds};
     ghost use Rattle.roxmltree.specs.Whole.{HoldsDocument};
     ghost use Rattle.roxmltree.specs.Bare.{bare, bare_row};
     ghost use Rattle.roxmltree.specs.Stored.{content_in};

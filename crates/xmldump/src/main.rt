@@ -2,30 +2,13 @@
 //! [--ans-file PATH] [--ans-none] [--ans-err TEXT] [--main MAIN] FILE`.
 #![tactic(auto)]
 
-mod answers;
-mod arguments;
-mod axes;
-mod batch;
-mod cases;
-mod dump;
-mod escape;
-mod fault;
-mod lookups;
-mod node;
-mod numbers;
-mod options;
-mod refusal;
-mod run;
-mod sources;
-#[cfg(test)]
-mod tests;
-
-use crate::answers::Answer;
-use crate::arguments::command;
-use crate::fault::Fault;
-use crate::options::{AnswerWord, Command};
-use crate::run::read_text;
-use crate::sources::Sources;
+use rox_dump::answers::Answer;
+use rox_dump::arguments::command;
+use rox_dump::fault::Fault;
+use rox_dump::options::{AnswerWord, Command};
+use rox_dump::run;
+use rox_dump::run::read_text;
+use rox_dump::sources::Sources;
 use std::env;
 use std::fs::File;
 use std::io::{ErrorKind, Write};

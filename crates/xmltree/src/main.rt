@@ -1,19 +1,10 @@
 //! Prints the tree of an XML document, or the elements of a path: `xmltree [--allow-dtd] [--path P] [FILE]`.
 #![tactic(auto)]
 
-mod arguments;
-mod entries;
-mod fault;
-mod input;
-mod listing;
-mod options;
-mod run;
-#[cfg(test)]
-mod tests;
-
-use crate::arguments::command;
-use crate::fault::Fault;
-use crate::options::Command;
+use rox_listing::arguments::command;
+use rox_listing::fault::Fault;
+use rox_listing::options::Command;
+use rox_listing::run;
 use std::env;
 use std::fs::File;
 use std::io::{ErrorKind, Write};

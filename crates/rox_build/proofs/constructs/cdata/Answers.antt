@@ -1,7 +1,7 @@
 use Rattle.std.proofs.Common.{◌≡◌, refl, ap}
 use Rattle.std.proofs.lemmas.Result.{err_from_is_err_and}
 use Rattle.std.specs.String.{string_bytes}
-use Rattle.rox_build.specs.Values.{piece_view, section_text}
+use Rattle.rox_values.specs.Values.{piece_view, section_text}
 use Rattle.rox_reading.specs.Refusals.{lifted}
 use Rattle.rox_build.proofs.Stepping.{cdata_is, cdata_fails, text_stepped, text_or, same_shows}
 use Rattle.rox_build.proofs.constructs.cdata.Goals as goal

@@ -6,10 +6,10 @@ use Rattle.rox_grammar.specs.State.{scope_of}
 use Rattle.rox_reading.specs.State.{State}
 use Rattle.rox_reading.specs.Machine.{opened_by}
 use Rattle.rox_reading.specs.Refusals.{lifted}
-use Rattle.rox_build.specs.Hows.{how_of}
+use Rattle.rox_values.specs.Hows.{how_of}
 use Rattle.rox_build.specs.Tagged.{Tagged}
 use Rattle.rox_build.specs.Shown.{IsNode, Fine, Stepped}
-use Rattle.rox_build.specs.declared.tables.NodeKind.TheVariants as kind
+use Rattle.rox_tables.specs.declared.tables.NodeKind.TheVariants as kind
 use Rattle.rox_build.proofs.Declared.{some_declare}
 use Rattle.rox_build.proofs.Lifting.{refused_too}
 use Rattle.rox_build.proofs.Growing.{grown_shows}

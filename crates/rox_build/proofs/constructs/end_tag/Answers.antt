@@ -4,9 +4,9 @@ use Rattle.std.proofs.lemmas.Result.{err_from_is_err_and}
 use Rattle.std.proofs.Common.{slice_get, None, inl, inr}
 use Rattle.std.proofs.lemmas.Option.{slice_get_cases}
 use Rattle.rox_scan.specs.Parts.{end_tag_view}
-use Rattle.rox_scan.specs.Gives.{name_view}
+use Rattle.rox_grammar.specs.Failing.{name_view}
 use Rattle.rox_reading.specs.Machine.{name_span}
-use Rattle.rox_build.specs.Hows.{how_of}
+use Rattle.rox_values.specs.Hows.{how_of}
 use Rattle.rox_reading.specs.Refusals.{here, lifted}
 use Rattle.rox_build.specs.Shown.{opened_in}
 use Rattle.rox_build.specs.declared.builder.OpenElement.{OpenElement}

@@ -2,8 +2,8 @@ use Rattle.std.proofs.Common.{◌≡◌, ◌-◌, ◌+◌, ◌*◌, ℕ, List, l
 use Rattle.rox_grammar.specs.Entities.{Entity}
 use Rattle.rox_reading.specs.State.{State}
 use Rattle.rox_reading.specs.Machine.{run_parts, drive_text}
-use Rattle.rox_build.specs.Named.{AreDeclared}
-use Rattle.rox_build.specs.Hows.{how_of}
+use Rattle.rox_values.specs.Named.{AreDeclared}
+use Rattle.rox_values.specs.Hows.{how_of}
 use Rattle.rox_build.specs.Shown.{Fine, Sees, Rests}
 use Rattle.rox_build.proofs.Parting.{Parting}
 use Rattle.rox_build.proofs.TextLooping.{Texting}

@@ -1,10 +1,10 @@
 use Rattle.std.proofs.Common.{◌≡◌, ◌<◌, ◌≤◌, ◌-◌, ◌+◌, suc, false, sym, ap, ◌∙◌, arith, length}
 use Rattle.std.proofs.lemmas.Result.{err_from_is_err_and}
 use Rattle.std.proofs.lemmas.Bool.{leb-true, leb-false}
-use Rattle.rox_build.specs.Refusing.{Refuses}
+use Rattle.rox_values.specs.Refusing.{Refuses}
 use Rattle.rox_grammar.specs.State.{is_root}
 use Rattle.rox_reading.specs.Machine.{step}
-use Rattle.rox_build.specs.Hows.{how_of}
+use Rattle.rox_values.specs.Hows.{how_of}
 use Rattle.rox_build.proofs.Looping.{drives_on, drive_fails, drive_done, drive_cut, drive_spent}
 use Rattle.rox_build.proofs.content.content.Goals as goal
 

@@ -2,8 +2,8 @@ use Rattle.std.proofs.Common.{◌≡◌, ◌-◌, ℕ, List, length}
 use Rattle.rox_reading.specs.State.{State}
 use Rattle.rox_reading.specs.Machine.{drive}
 use Rattle.rox_grammar.specs.Entities.{Entity}
-use Rattle.rox_build.specs.Named.{AreDeclared}
-use Rattle.rox_build.specs.Hows.{how_of}
+use Rattle.rox_values.specs.Named.{AreDeclared}
+use Rattle.rox_values.specs.Hows.{how_of}
 use Rattle.rox_build.specs.Shown.{Fine, Sees}
 use Rattle.rox_build.proofs.Looping.{Driving}
 use Rattle.rox_build.proofs.content.content.Given as goal

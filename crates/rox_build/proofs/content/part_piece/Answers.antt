@@ -3,8 +3,8 @@ use Rattle.std.specs.String.{string_bytes}
 use Rattle.std.proofs.lemmas.Bool.{eqb-false}
 use Rattle.std.proofs.lemmas.Result.{err_from_is_err_and}
 use Rattle.rox_reading.specs.Values.{run_part}
-use Rattle.rox_build.specs.Hows.{how_of}
-use Rattle.rox_build.specs.Values.{next_view}
+use Rattle.rox_values.specs.Hows.{how_of}
+use Rattle.rox_values.specs.Values.{next_view}
 use Rattle.rox_build.proofs.Stepping.{same_shows}
 use Rattle.rox_build.proofs.Parting.{rests_of, text_rests, text_refused, part_piece_is, part_piece_fails}
 use Rattle.rox_build.proofs.content.part_piece.Goals as goal

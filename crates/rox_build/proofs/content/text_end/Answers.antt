@@ -1,5 +1,5 @@
 use Rattle.std.proofs.Common.{arith}
-use Rattle.rox_build.specs.Hows.{how_of}
+use Rattle.rox_values.specs.Hows.{how_of}
 use Rattle.rox_build.proofs.TextLooping.{opened_depth, text_closed, text_open}
 use Rattle.rox_build.proofs.content.text_end.Goals as goal
 

@@ -7,8 +7,8 @@ use Rattle.rox_reading.specs.Answering.{left_with}
 use Rattle.rox_resolver.specs.Requests.{Reply, Allows}
 use Rattle.rox_build.specs.Asking.{IsGoing, Turns}
 use Rattle.rox_build.specs.declared.builder.Builder.{Builder}
-use Rattle.rox_build.specs.declared.entities.Entities.{Entities}
-use Rattle.rox_build.specs.declared.refused.Refused.{Refused}
+use Rattle.rox_values.specs.declared.entities.Entities.{Entities}
+use Rattle.rox_values.specs.declared.refused.Refused.{Refused}
 use Rattle.rox_scan.specs.declared.cursor.Cursor.{Cursor}
 use Rattle.rox_build.proofs.Items.{none_yet, text_ends, turns_end}
 use Rattle.rox_build.proofs.dtd.subset.Goals as goal

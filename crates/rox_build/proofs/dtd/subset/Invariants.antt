@@ -4,7 +4,7 @@ use Rattle.rox_reading.specs.Doctype.{Dtd}
 use Rattle.rox_reading.specs.Answering.{left_with}
 use Rattle.rox_resolver.specs.Requests.{Allows}
 use Rattle.rox_build.specs.Asking.{IsGoing}
-use Rattle.rox_build.specs.Named.{AreDeclared}
+use Rattle.rox_values.specs.Named.{AreDeclared}
 use Rattle.rox_build.specs.Shown.{Fine, Sees}
 use Rattle.rox_build.proofs.dtd.subset.Given as goal
 

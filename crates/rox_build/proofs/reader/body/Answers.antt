@@ -4,10 +4,10 @@ use Rattle.std.proofs.lemmas.Result.{err_from_is_err_and}
 use Rattle.rox_reading.specs.Refusals.{lifted}
 use Rattle.rox_reading.specs.Machine.{main_text, drive}
 use Rattle.rox_reading.specs.Whole.{misc}
-use Rattle.rox_build.specs.Refusing.{Stops, Refuses}
-use Rattle.rox_build.specs.Named.{AreDeclared}
-use Rattle.rox_build.specs.Hows.{how_of}
-use Rattle.rox_build.specs.declared.how.How.{How}
+use Rattle.rox_values.specs.Refusing.{Stops, Refuses}
+use Rattle.rox_values.specs.Named.{AreDeclared}
+use Rattle.rox_values.specs.Hows.{how_of}
+use Rattle.rox_values.specs.declared.how.How.{How}
 use Rattle.rox_build.proofs.Wholes.{no_body, tag_fails_body, content_fails_body, misc_fails_body, a_body}
 use Rattle.rox_build.proofs.reader.body.Goals as goal
 use Rattle.rox_build.proofs.reader.body.Goals.{then-is_at_end-via-then-is_at_end, then-is_at_end-via-else-is_at_end+then-as_bytes-cursor-ne60}

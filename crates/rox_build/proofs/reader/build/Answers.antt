@@ -7,8 +7,8 @@ use Rattle.rox_build.specs.Asking.{AreGiven, StopsBy}
 use Rattle.rox_build.specs.Built.{BuiltRefusal}
 use Rattle.rox_build.specs.Shown.{Sees}
 use Rattle.rox_build.specs.Wholes.{start_at}
-use Rattle.rox_build.specs.declared.refused.Refused.{Refused}
-use Rattle.rox_build.specs.declared.refused.Refused.TheVariants as code
+use Rattle.rox_values.specs.declared.refused.Refused.{Refused}
+use Rattle.rox_values.specs.declared.refused.Refused.TheVariants as code
 use Rattle.rox_reading.proofs.Settling.{whole_run}
 use Rattle.rox_build.proofs.reader.build.Goals as goal
 

@@ -4,7 +4,7 @@ use Rattle.rox_grammar.specs.declared.fault.Word.TheVariants as word
 use Rattle.rox_grammar.specs.Names.{spaces_end}
 use Rattle.rox_grammar.specs.Constructs.{at}
 use Rattle.rox_reading.specs.Refusals.{lifted}
-use Rattle.rox_build.specs.Refusing.{Stops}
+use Rattle.rox_values.specs.Refusing.{Stops}
 use Rattle.rox_scan.specs.declared.cursor.Cursor.{Cursor}
 use Rattle.rox_reading.specs.Machine.{comment_step, instruction_step}
 use Rattle.rox_build.proofs.Looping.{spaced, sees_spaced, comment_on, instruction_on, comment_fails, instruction_fails, misc_done, misc_spent}

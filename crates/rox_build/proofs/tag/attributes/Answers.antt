@@ -4,8 +4,8 @@ use Rattle.std.proofs.lemmas.Bool.{leb-true, leb-false}
 use Rattle.rox_reading.specs.Markup.{turn_at, more}
 use Rattle.rox_scan.specs.Parts.{attribute_view, turn_view}
 use Rattle.rox_scan.specs.declared.markup.Turn.{Turn as CodeTurn}
-use Rattle.rox_build.specs.Refusing.{Refuses}
-use Rattle.rox_build.specs.Named.{values_in}
+use Rattle.rox_values.specs.Refusing.{Refuses}
+use Rattle.rox_values.specs.Named.{values_in}
 use Rattle.rox_build.specs.Tags.{one_more}
 use Rattle.rox_build.proofs.Taking.{turn_gives, going_cut, going_none, going_fails, going_ends, going_on, going_stops}
 use Rattle.rox_build.proofs.tag.attributes.Goals as goal

@@ -2,12 +2,12 @@ use Rattle.std.proofs.Common.{◌≡◌, ◌≤◌, ◌-◌, ℕ, List, length, 
 use Rattle.rox_grammar.specs.Written.{Declaration}
 use Rattle.rox_grammar.specs.Document.{most_pairs}
 use Rattle.rox_reading.specs.Tags.{Held, attributes_at}
-use Rattle.rox_build.specs.Lines.{declaration}
+use Rattle.rox_tables.specs.Lines.{declaration}
 use Rattle.rox_grammar.specs.Entities.{Entity}
-use Rattle.rox_build.specs.Named.{AreDeclared, values_in}
-use Rattle.rox_build.specs.Scopes.{ArePlaces, Once, entries}
-use Rattle.rox_build.specs.Prefixes.{Remembers}
-use Rattle.rox_build.specs.Tagged.{KeepsPlaces, lists_in}
+use Rattle.rox_values.specs.Named.{AreDeclared, values_in}
+use Rattle.rox_tables.specs.Scopes.{ArePlaces, Once, entries}
+use Rattle.rox_tables.specs.Prefixes.{Remembers}
+use Rattle.rox_tables.specs.TagScopes.{KeepsPlaces, lists_in}
 use Rattle.rox_build.specs.Tags.{Holding}
 use Rattle.rox_build.proofs.Taking.{Going}
 use Rattle.rox_build.proofs.tag.attributes.Given as goal

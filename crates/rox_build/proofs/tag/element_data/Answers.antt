@@ -5,12 +5,12 @@ use Rattle.std.proofs.lemmas.List.{length-map}
 use Rattle.std.proofs.lemmas.Result.{err_from_is_err_and}
 use Rattle.rox_grammar.specs.Tree.{attribute_in}
 use Rattle.rox_grammar.specs.Document.{most_attributes}
-use Rattle.rox_scan.specs.Gives.{name_view}
-use Rattle.rox_build.specs.Lines.{declaration, entry, attribute, scope_at, NamespaceWithin, OptionWithin, AttributeRow, rows_of}
-use Rattle.rox_build.specs.Present.{places_view}
-use Rattle.rox_build.specs.Tags.{taken_view}
-use Rattle.rox_build.specs.Tagged.{lists_in}
-use Rattle.rox_build.proofs.Finding.{looks_for, found_for, seen_by}
+use Rattle.rox_grammar.specs.Failing.{name_view}
+use Rattle.rox_tables.specs.Lines.{declaration, entry, attribute, scope_at, NamespaceWithin, OptionWithin, AttributeRow, rows_of}
+use Rattle.rox_tables.specs.Present.{places_view}
+use Rattle.rox_tables.specs.Declares.{taken_view}
+use Rattle.rox_tables.specs.TagScopes.{lists_in}
+use Rattle.rox_tables.proofs.Finding.{looks_for, found_for, seen_by}
 use Rattle.rox_build.proofs.Starting.{tested_amiss, tested_unknown, tested_known}
 use Rattle.rox_build.proofs.tag.element_data.Goals as goal
 

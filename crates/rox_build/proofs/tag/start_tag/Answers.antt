@@ -7,13 +7,13 @@ use Rattle.rox_grammar.specs.Tree.{listed}
 use Rattle.rox_grammar.specs.Document.{most_pairs}
 use Rattle.rox_reading.specs.Lexical.{qname_at}
 use Rattle.rox_reading.specs.Tags.{Held, attributes_at, tag_tested}
-use Rattle.rox_scan.specs.Gives.{Fails, name_view}
-use Rattle.rox_build.specs.Named.{values_in}
-use Rattle.rox_build.specs.Lines.{declaration, scope_at, AreScopes, rows_of}
-use Rattle.rox_build.specs.Scopes.{Once}
+use Rattle.rox_grammar.specs.Failing.{Fails, name_view}
+use Rattle.rox_values.specs.Named.{values_in}
+use Rattle.rox_tables.specs.Lines.{declaration, scope_at, AreScopes, rows_of}
+use Rattle.rox_tables.specs.Scopes.{Once}
 use Rattle.rox_build.specs.Tagged.{scope_in_tables}
-use Rattle.rox_build.proofs.Declaring.{scope_declared, once_none}
-use Rattle.rox_build.proofs.Remembering.{remembers_none}
+use Rattle.rox_tables.proofs.Declaring.{scope_declared, once_none}
+use Rattle.rox_tables.proofs.Remembering.{remembers_none}
 use Rattle.rox_build.proofs.Starting.{holds_nothing, tag_unread, tag_untested, tag_made, tagged, tested_fails, tested_passes}
 use Rattle.rox_build.proofs.tag.start_tag.Goals as goal
 

@@ -1,13 +1,13 @@
 use Rattle.std.proofs.Common.{◌≡◌, refl, sym, ap, subst, ◌∙◌, map, List, ℕ, string_bytes}
 use Rattle.rox_scan.specs.Parts.{attribute_view}
 use Rattle.std.proofs.lemmas.Result.{err_from_is_err_and}
-use Rattle.rox_build.specs.Named.{values_in}
-use Rattle.rox_build.specs.Values.{piece_view}
-use Rattle.rox_build.specs.Lines.{declaration}
-use Rattle.rox_build.specs.Present.{Keeps}
-use Rattle.rox_build.specs.Tagged.{lists_in}
-use Rattle.rox_build.specs.Tags.{taken_view}
-use Rattle.rox_build.specs.declared.taken.Taken.{Taken}
+use Rattle.rox_values.specs.Named.{values_in}
+use Rattle.rox_values.specs.Values.{piece_view}
+use Rattle.rox_tables.specs.Lines.{declaration}
+use Rattle.rox_tables.specs.Present.{Keeps}
+use Rattle.rox_tables.specs.TagScopes.{lists_in}
+use Rattle.rox_tables.specs.Declares.{taken_view}
+use Rattle.rox_tables.specs.declared.taken.Taken.{Taken}
 use Rattle.rox_build.proofs.Taking.{view_is, took_declaration, refused_declaration, refused_value, took_attribute}
 use Rattle.rox_build.proofs.tag.take.Goals as goal
 

@@ -2,14 +2,14 @@ use Rattle.std.proofs.Common.{◌≡◌, ◌++◌, ◌∷◌, [], true, false, r
 use Rattle.rox_grammar.specs.Tree.{node_in}
 use Rattle.rox_grammar.specs.Written.{Text}
 use Rattle.rox_grammar.specs.State.{scope_of}
-use Rattle.rox_build.specs.Lines.{node, rows_of}
+use Rattle.rox_tables.specs.Lines.{node, rows_of}
 use Rattle.rox_build.specs.Shown.{pending_text, names_in}
-use Rattle.rox_build.specs.Tagged.{lists_in}
+use Rattle.rox_tables.specs.TagScopes.{lists_in}
 use Rattle.rox_build.specs.declared.pending.Pending.{Pending}
-use Rattle.rox_build.specs.declared.tables.NodeKind.{NodeKind}
-use Rattle.rox_build.specs.declared.tables.NodeKind.TheVariants as kind
-use Rattle.rox_build.specs.declared.tables.NodeData.{NodeData}
-use Rattle.rox_build.specs.declared.storage.StringStorage.TheVariants as storage
+use Rattle.rox_tables.specs.declared.tables.NodeKind.{NodeKind}
+use Rattle.rox_tables.specs.declared.tables.NodeKind.TheVariants as kind
+use Rattle.rox_tables.specs.declared.tables.NodeData.{NodeData}
+use Rattle.rox_tables.specs.declared.storage.StringStorage.TheVariants as storage
 use Rattle.std.specs.String.{string_bytes}
 use Rattle.rox_build.proofs.Showing.{settled_none, settled_some}
 use Rattle.rox_build.proofs.builder.Builder.flush.Goals as goal

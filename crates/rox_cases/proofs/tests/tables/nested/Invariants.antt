@@ -1,5 +1,5 @@
 use Rattle.std.proofs.Common.{◌<◌, length}
-use Rattle.rox_build.specs.Lines.{AreRows}
+use Rattle.rox_tables.specs.Lines.{AreRows}
 use Rattle.rox_cases.proofs.tests.tables.nested.Given as goal
 
 abbrev pub invariant-loop-from : goal.invariant-loop-from

@@ -1,5 +1,5 @@
 use Rattle.std.proofs.Common.{◌+◌, ◌≤◌, arith}
-use Rattle.rox_build.proofs.Ropes.{rows_push}
+use Rattle.rox_tables.proofs.Ropes.{rows_push}
 use Rattle.rox_cases.proofs.tests.tables.with_one.Goals as goal
 
 pub both-requires-clause-rows : goal.both-requires-clause-rows

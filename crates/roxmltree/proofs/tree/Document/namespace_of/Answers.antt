@@ -1,5 +1,5 @@
 use Rattle.std.proofs.Common.{◌≡◌, ◌<◌, ℕ, Option, Some, ap, arith, subst, ◌∙◌}
-use Rattle.rox_build.specs.Lines.{OptionWithin}
+use Rattle.rox_tables.specs.Lines.{OptionWithin}
 use Rattle.rox_grammar.specs.Forest.{size}
 use Rattle.roxmltree.specs.Whole.{tree_in}
 use Rattle.roxmltree.proofs.Rows.{in_rows}

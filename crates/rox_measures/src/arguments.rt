@@ -1,0 +1,53 @@
+//! Reading of the program's arguments.
+
+ghost use Rattle.std.specs.Prelude.{◌≡◌, ◌↔◌, map, string_bytes, IfOk, IfSome, IsSome};
+ghost use Rattle.std.specs.Option.{option_map};
+ghost use Rattle.std.specs.Str.Parse.{digits_value, without_leading_plus};
+ghost use Rattle.rox_measures.specs.Command.{meaning, AsksFor, with_file, IsSeconds};
+
+use std::alloc::AllocError;
+
+/// How many seconds are spent where the arguments do not say.
+const SECONDS: u32 = 4;
+
+/// What the words after the program's name ask for.
+#[derive(Debug, Drop)]
+pub struct Command {
+    /// The file that is measured.
+    pub file: String,
+    /// How many seconds are spent on its measures, about.
+    pub seconds: u32,
+}
+
+/// Reads the words after the program's name: `FILE [SECONDS]`. None is a wrong argument: a FILE that begins with `-`,
+/// SECONDS that are no number below 2^32, or another count of words. The only error is want of memory.
+pub fn read(words: &[String]) -> Result<Option<Command>, AllocError>
+    ensures { IfOk result (λ c. AsksFor (map string_bytes words.now) (option_map meaning c)) }
+{
+    match words {
+        [file] => for_file(file, Some(SECONDS)),
+        [file, word] => for_file(file, seconds(word.as_str())),
+        _ => Ok(None),
+    }
+}
+
+/// The number of seconds that a word gives.
+fn seconds(word: &str) -> Option<u32>
+    ensures number { IsSome result ↔ IsSeconds word.now }
+    ensures value { IfSome result (λ n. n ≡ digits_value 10 (without_leading_plus word.now)) }
+{
+    word.parse().ok()
+}
+
+/// The command for a file, unless the word for it or for the seconds was wrong.
+fn for_file(file: &String, seconds: Option<u32>) -> Result<Option<Command>, AllocError>
+    ensures { IfOk result (λ c. option_map meaning c ≡ with_file (string_bytes file.now) seconds) }
+{
+    match seconds {
+        Some(seconds) if !file.as_str().starts_with('-') => {
+            let file = file.clone()?;
+            Ok(Some(Command { file, seconds }))
+        }
+        _ => Ok(None),
+    }
+}

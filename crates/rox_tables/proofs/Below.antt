@@ -1,0 +1,202 @@
+-- The scope of an element, below that of the one around it.
+use Rattle.std.proofs.Common.{◌≡◌, ℕ, zero, suc, ◌+◌, ◌-◌, ◌<◌, ◌≤◌, Bool, true, false, List, [], ◌∷◌, ◌++◌, Option, Some, None, length, map, take, drop, reverse, get_or, refl, sym, ap, subst, ◌∙◌, arith, length-append, length-drop, append_assoc}
+use Rattle.std.specs.List.{slice_range}
+use Rattle.std.specs.Option.{option_map}
+use Rattle.std.proofs.Math.ListN.{drop_of_length-le}
+use Rattle.std.proofs.lemmas.List.{append-nil, map-append, length-map, take_all, reverse-reverse}
+use Rattle.std.proofs.Math.Seq.{drop-append_seam}
+use Rattle.rox_grammar.specs.declared.fault.Word.TheVariants.{Xml}
+use Rattle.rox_grammar.specs.Words.{word_text}
+use Rattle.rox_grammar.specs.Written.{Declaration}
+use Rattle.rox_grammar.specs.Tree.{is_declared}
+use Rattle.rox_tables.specs.declared.tables.Namespace.{Namespace}
+use Rattle.rox_tables.specs.declared.tables.Scope.{Scope}
+use Rattle.rox_tables.specs.declared.tables.Scope.TheVariants as scope
+use Rattle.rox_tables.specs.declared.tables.Stretch.{Stretch}
+use Rattle.rox_tables.specs.declared.tables.ElementTables.{ElementTables}
+use Rattle.rox_tables.specs.declared.present.Present.{Present}
+use Rattle.rox_tables.specs.Lines.{declaration, entry, lists_of, scope_at, AreRows, AreScopes}
+use Rattle.rox_tables.specs.Scopes.{entries, places_in, ArePlaces, Once, others, unlisted, is_few_at}
+use Rattle.rox_tables.specs.Ropes.{IsRope, IsListed}
+use Rattle.rox_tables.specs.Present.{Keeps, IsBound, IsEntered, found}
+use Rattle.rox_tables.specs.TagScopes.{HasScope, KeepsPlaces, IsPresent, lists_in}
+use Rattle.rox_tables.proofs.Pairs.{place_at, entry-get, declared_none}
+use Rattle.rox_reading.proofs.Stretches.{slice-more, slice-rest}
+use Rattle.rox_tables.proofs.Presenting.{keeps_grown}
+use Rattle.rox_tables.proofs.Hiding.{others_more, others_none, others_xml, absent_others, once_both}
+use Rattle.rox_tables.proofs.Sharing.{same_listed, listed_then}
+use Rattle.rox_tables.proofs.Ropes.{scope_places, row_places, length-lists, places_in-grown, places_in-listed, lists-grown, lists-listed, scopes_more}
+
+pub listed_is : (names : List Declaration) (listed after : List ℕ) (old new : List Scope) (a : ℕ) (ds es : List Declaration) → IsListed names listed old after new a ds → ds ≡ es → IsListed names listed old after new a es
+listed_is names listed after old new a ds es x is = subst (IsListed names listed old after new a) is x
+
+-- ---- what the element declares is hidden
+
+pub hides_none : (names : List Declaration) (listed : List ℕ) (scopes : List Scope) (i own : ℕ) → AreScopes (length listed) scopes → i < length scopes
+    → IsListed names listed scopes listed scopes i (others (entries names (slice_range listed own own)) false (entries names (places_in listed scopes i)))
+hides_none names listed scopes i own h lt =
+    let none : own - own ≡ 0 = omega arith in
+    let nothing : slice_range listed own own ≡ [] = ap (λ n. take n (drop own listed)) none in
+    let ds = entries names (places_in listed scopes i) in
+    same_listed names listed scopes i (others (entries names (slice_range listed own own)) false ds) h lt (sym (ap (λ xs. others (entries names xs) false ds) nothing ∙ others_none ds))
+
+pub hides_more : (rows : List Namespace) (listed : List ℕ) (old mid new : List Scope) (own turn place left next : ℕ) (item : Namespace) (p : Option (List ℕ)) (ds : List Declaration)
+    → own ≤ turn → turn < length listed → ArePlaces (length rows) listed → place ≡ get_or listed turn 0 → p ≡ (declaration (get_or rows place item)).prefix
+    → IsListed (map declaration rows) listed old listed mid left (others (entries (map declaration rows) (slice_range listed own turn)) false ds)
+    → IsListed (map declaration rows) listed mid listed new next (unlisted p (entries (map declaration rows) (places_in listed mid left)))
+    → IsListed (map declaration rows) listed old listed new next (others (entries (map declaration rows) (slice_range listed own (turn + 1))) false ds)
+hides_more rows listed old mid new own turn place left next item p ds le lt ok same is x y =
+    let names = map declaration rows in
+    let seen = slice_range listed own turn in
+    let last = get_or listed turn 0 in
+    let here : place < length rows = subst (λ i. i < length rows) (sym same) (place_at (length rows) listed turn 0 ok lt) in
+    let prefix : p ≡ (entry names last).prefix = is ∙ ap (λ (d : Declaration). d.prefix) (sym (entry-get rows place item here)) ∙ ap (λ i. (entry names i).prefix) same in
+    let more : entries names (slice_range listed own (turn + 1)) ≡ entries names seen ++ entry names last ∷ [] =
+    ap (entries names) (slice-more listed own turn 0 le lt) ∙ map-append (entry names) seen (last ∷ []) in
+    listed_is names listed listed old new next (unlisted p (entries names (places_in listed mid left))) (others (entries names (slice_range listed own (turn + 1))) false ds)
+    (listed_then names listed old mid new left next (others (entries names seen) false ds) (unlisted p (entries names (places_in listed mid left))) x y)
+    (ap (unlisted p) x.lists ∙ ap (λ q. unlisted q (others (entries names seen) false ds)) prefix ∙ others_more (entries names seen) (entry names last) ds ∙ ap (λ xs. others xs false ds) (sym more))
+
+pub hides_all : (listed : List ℕ) (own turn : ℕ) → length listed ≤ turn → slice_range listed own turn ≡ drop own listed
+hides_all listed own turn le = take_all (turn - own) (drop own listed) (rw length-drop (omega arith))
+
+-- all of it, and `xml` too if the flag says so
+pub hides_xml : (names : List Declaration) (listed : List ℕ) (old mid new : List Scope) (own turn left next : ℕ) (xml : Bool) (ds : List Declaration) → length listed ≤ turn → xml ≡ true
+    → IsListed names listed old listed mid left (others (entries names (slice_range listed own turn)) false ds)
+    → IsListed names listed mid listed new next (unlisted (Some (word_text Xml)) (entries names (places_in listed mid left)))
+    → IsListed names listed old listed new next (others (entries names (drop own listed)) xml ds)
+hides_xml names listed old mid new own turn left next xml ds le on x y =
+    let seen = slice_range listed own turn in
+    let mine = entries names (drop own listed) in
+    listed_is names listed listed old new next (unlisted (Some (word_text Xml)) (entries names (places_in listed mid left))) (others mine xml ds)
+    (listed_then names listed old mid new left next (others (entries names seen) false ds) (unlisted (Some (word_text Xml)) (entries names (places_in listed mid left))) x y)
+    (ap (unlisted (Some (word_text Xml))) x.lists ∙ others_xml (entries names seen) ds ∙ ap (λ xs. others (entries names xs) true ds) (hides_all listed own turn le) ∙ ap (λ b. others mine b ds) (sym on))
+
+pub hides_own : (names : List Declaration) (listed : List ℕ) (old mid : List Scope) (own turn left : ℕ) (xml : Bool) (ds : List Declaration) → length listed ≤ turn → xml ≡ false
+    → IsListed names listed old listed mid left (others (entries names (slice_range listed own turn)) false ds) → IsListed names listed old listed mid left (others (entries names (drop own listed)) xml ds)
+hides_own names listed old mid own turn left xml ds le off x =
+    listed_is names listed listed old mid left (others (entries names (slice_range listed own turn)) false ds) (others (entries names (drop own listed)) xml ds) x
+    (ap (λ xs. others (entries names xs) false ds) (hides_all listed own turn le) ∙ ap (λ b. others (entries names (drop own listed)) b ds) (sym off))
+
+-- a prefix without a place is not among what is left
+pub absent_bound : (names : List Declaration) (f : Option (List ℕ) → Option ℕ) (own ds left : List Declaration) (xml : Bool) (p : Option (List ℕ)) → IsBound names f ds → left ≡ others own xml ds → f p ≡ None
+    → is_declared p left ≡ false
+absent_bound names f own ds left xml p h e none =
+    ap (is_declared p) e ∙ absent_others own xml p ds (declared_none ds p (sym (h.uris p) ∙ ap (option_map (λ i. (entry names i).uri)) none))
+
+-- ---- rows of both
+
+pub joined_within : (names : List Declaration) (listed after : List ℕ) (mid next : List Scope) (rest first : ℕ) (ds : List Declaration) → IsListed names listed mid after next first ds → rest < length mid → rest < length next
+joined_within names listed after mid next rest first ds y h = let n = ap length y.rows_grown ∙ length-append mid y.more_rows in omega arith
+
+pub joined_listed : (names : List Declaration) (listed after : List ℕ) (old mid next new : List Scope) (rest first i : ℕ) (os ds : List Declaration) → IsListed names listed old listed mid rest os → IsListed names listed mid after next first ds
+    → IsRope next new i (λ l. places_in l next first ++ places_in l next rest) → IsListed names listed old after new i (ds ++ os)
+joined_listed names listed after old mid next new rest first i os ds x y z =
+    let kept : entries names (places_in after next rest) ≡ os =
+    ap (λ ss. entries names (places_in after ss rest)) y.rows_grown ∙ ap (entries names) (places_in-grown after mid y.more_rows rest x.within)
+    ∙ ap (λ ls. entries names (places_in ls mid rest)) y.grown ∙ ap (entries names) (places_in-listed listed y.more mid rest x.scopes_are) ∙ x.lists in
+    record {
+      more = y.more;
+      grown = y.grown;
+      places = y.places;
+      more_rows = x.more_rows ++ (y.more_rows ++ z.more);
+      rows_grown = z.grown ∙ ap (λ xs. xs ++ z.more) y.rows_grown ∙ append_assoc mid y.more_rows z.more ∙ ap (λ xs. xs ++ (y.more_rows ++ z.more)) x.rows_grown ∙ append_assoc old x.more_rows (y.more_rows ++ z.more);
+      scopes_are = record { rows = z.rows; within = z.ends (length after) y.scopes_are.within };
+      within = z.within;
+      lists = ap (entries names) (z.lists after y.scopes_are) ∙ map-append (entry names) (places_in after next first) (places_in after next rest)
+          ∙ ap (λ xs. xs ++ entries names (places_in after next rest)) y.lists ∙ ap (λ xs. ds ++ xs) kept;
+    }
+
+-- ---- the tables
+
+pub lists_then : (names : List Declaration) (listed after : List ℕ) (scopes rows : List Scope) (i : ℕ) (ds : List Declaration) → AreScopes (length listed) scopes → IsListed names listed scopes after rows i ds
+    → (more : List (List Declaration)) × (lists_of names after rows ≡ lists_of names listed scopes ++ more)
+lists_then names listed after scopes rows i ds h x =
+    let g = lists-grown names after scopes x.more_rows in
+    (g.0, ap (lists_of names after) x.rows_grown ∙ g.1 ∙ ap (λ xs. xs ++ g.0) (ap (λ ls. lists_of names ls scopes) x.grown ∙ lists-listed names listed x.more scopes h))
+
+-- the places of prefixes stay
+pub kept_then : (names : List Declaration) (listed after : List ℕ) (scopes rows : List Scope) (i : ℕ) (ds : List Declaration) (x : Present) → AreScopes (length listed) scopes → IsListed names listed scopes after rows i ds
+    → Keeps names (lists_of names listed scopes) x → Keeps names (lists_of names after rows) x
+kept_then names listed after scopes rows i ds x h y kept =
+    let l = lists_then names listed after scopes rows i ds h y in
+    keeps_grown names names (lists_of names listed scopes) (lists_of names after rows) x [] l.0 (sym (append-nil names)) l.1 kept
+
+pub few_here : (scopes : List Scope) (i : ℕ) (s : Stretch) (t : Scope) → i < length scopes → scope.Few s ≡ get_or scopes i t → is_few_at scopes i ≡ true
+few_here [] i s t lt h = absurd (omega arith)
+few_here (scope.Few x ∷ ss) zero s t lt h = refl
+few_here (scope.Back x ∷ ss) zero s t lt h = cc h
+few_here (scope.Both b ∷ ss) zero s t lt h = cc h
+few_here (x ∷ ss) (suc i) s t lt h = few_here ss i s t (omega arith) h
+
+-- what a row of few lists
+pub few_lists : (names : List Declaration) (ls : List ℕ) (scopes : List Scope) (i : ℕ) (s : Stretch) → AreRows scopes → i < length scopes → scope.Few s ≡ get_or scopes i (scope.Few s)
+    → entries names (slice_range ls s.from s.until) ≡ scope_at (lists_of names ls scopes) i
+few_lists names ls scopes i s rows lt e = sym (scope_places names ls scopes i ∙ ap (entries names) (row_places ls scopes i (scope.Few s) rows lt e))
+
+-- it has become the innermost
+pub stood_in : (names seen : List Namespace) (ls seen_ls : List ℕ) (scopes seen_scopes : List Scope) (x y : Present) (i : ℕ) → seen ≡ names → seen_ls ≡ ls → seen_scopes ≡ scopes
+    → (Keeps (map declaration seen) (lists_of (map declaration seen) seen_ls seen_scopes) x
+    → Keeps (map declaration seen) (lists_of (map declaration seen) seen_ls seen_scopes) y × IsBound (map declaration seen) (found y) (scope_at (lists_of (map declaration seen) seen_ls seen_scopes) i))
+    → Keeps (map declaration names) (lists_of (map declaration names) ls scopes) x
+    → Keeps (map declaration names) (lists_of (map declaration names) ls scopes) y × IsBound (map declaration names) (found y) (scope_at (lists_of (map declaration names) ls scopes) i)
+stood_in names seen ls seen_ls scopes seen_scopes x y i n l s f = rw (sym n, sym l, sym s) f
+
+pub entered_in : (names seen : List Namespace) (ls seen_ls : List ℕ) (x y : Present) (from until i : ℕ) (xml : Bool) → seen ≡ names → seen_ls ≡ ls
+    → ((lists : List (List Declaration)) (above : List Declaration) → Keeps (map declaration seen) lists x → IsBound (map declaration seen) (found x) above
+    → IsEntered (entries (map declaration seen) (reverse (slice_range seen_ls from until))) xml above lists i → Keeps (map declaration seen) lists y × IsBound (map declaration seen) (found y) (scope_at lists i))
+    → (lists : List (List Declaration)) (above : List Declaration) → Keeps (map declaration names) lists x → IsBound (map declaration names) (found x) above
+    → IsEntered (entries (map declaration names) (reverse (slice_range ls from until))) xml above lists i → Keeps (map declaration names) lists y × IsBound (map declaration names) (found y) (scope_at lists i)
+entered_in names seen ls seen_ls x y from until i xml n l f = rw (sym n, sym l) f
+
+pub entered : (names : List Declaration) (listed after : List ℕ) (scopes rows : List Scope) (i own from until : ℕ) (xml : Bool) (above : List Declaration) → after ≡ listed ++ reverse (drop own listed) → from ≡ length listed → until ≡ length after
+    → IsListed names listed scopes after rows i (entries names (drop own listed) ++ others (entries names (drop own listed)) xml above)
+    → IsEntered (entries names (reverse (slice_range after from until))) xml above (lists_of names after rows) i
+entered names listed after scopes rows i own from until xml above grown begins ends x =
+    let back = reverse (drop own listed) in
+    let n = length-lists names after rows in
+    let slice : slice_range after from until ≡ back =
+    ap (slice_range after from) ends ∙ slice-rest after from ∙ ap (λ k. drop k after) begins ∙ ap (drop (length listed)) grown ∙ drop-append_seam listed back in
+    let mine : reverse (slice_range after from until) ≡ drop own listed = ap (reverse {A = ℕ}) slice ∙ reverse-reverse (drop own listed) in
+    let here : i < length rows = x.within in
+    let within : i < length (lists_of names after rows) = omega arith in
+    record {
+      within = within;
+      made = scope_places names after rows i ∙ x.lists ∙ ap (λ xs. entries names xs ++ others (entries names xs) xml above) (sym mine);
+    }
+
+-- what the scope lists that has this place
+pub has_scope : (o n : ElementTables) (above own i : ℕ) (xml : Bool) → n.namespaces ≡ o.namespaces → ArePlaces (length o.namespaces.items.items) o.listed.items → AreScopes own o.scopes.items → own ≤ length o.listed.items
+    → Once (scope_at (lists_in o) above) → Once (entries (map declaration o.namespaces.items.items) (drop own o.listed.items)) → KeepsPlaces n → IsPresent n i
+    → IsListed (map declaration o.namespaces.items.items) o.listed.items o.scopes.items n.listed.items n.scopes.items i
+    (entries (map declaration o.namespaces.items.items) (drop own o.listed.items) ++ others (entries (map declaration o.namespaces.items.items) (drop own o.listed.items)) xml (scope_at (lists_in o) above))
+    → HasScope o n above own xml i
+has_scope o n above own i xml same ok scopes le once own_once kept present x =
+    let names = map declaration o.namespaces.items.items in
+    let mine = entries names (drop own o.listed.items) in
+    let names_are = ap (λ v. map declaration v.items.items) same in
+    let m = length-map o.namespaces.items.items declaration in
+    let h = scopes_more own (length o.listed.items) o.scopes.items le scopes in
+    let l = lists_then names o.listed.items n.listed.items o.scopes.items n.scopes.items i (mine ++ others mine xml (scope_at (lists_in o) above)) h x in
+    let lists : scope_at (lists_in n) i ≡ mine ++ others mine xml (scope_at (lists_in o) above) =
+    ap (λ ns. scope_at (lists_of ns n.listed.items n.scopes.items) i) names_are ∙ scope_places names n.listed.items n.scopes.items i ∙ x.lists in
+    record {
+      more = l.0;
+      lists_more = ap (λ ns. lists_of ns n.listed.items n.scopes.items) names_are ∙ l.1;
+      places = subst (λ v. ArePlaces (length v.items.items) n.listed.items) (sym same) (subst (λ k. ArePlaces k n.listed.items) m (x.places (subst (λ k. ArePlaces k o.listed.items) (sym m) ok)));
+      scopes = x.scopes_are;
+      within = x.within;
+      lists = lists;
+      once = subst Once (sym lists) (once_both mine xml (scope_at (lists_in o) above) own_once once);
+      kept = kept;
+      present = present;
+    }
+
+-- nothing is declared
+pub nothing_listed : (names : List Declaration) (listed : List ℕ) (scopes : List Scope) (above own : ℕ) (xml : Bool) → AreScopes own scopes → own ≤ length listed → above < length scopes → length listed ≤ own → xml ≡ false
+    → IsListed names listed scopes listed scopes above (entries names (drop own listed) ++ others (entries names (drop own listed)) xml (scope_at (lists_of names listed scopes) above))
+nothing_listed names listed scopes above own xml h le lt none off =
+    let ds = scope_at (lists_of names listed scopes) above in
+    let nothing : drop own listed ≡ [] = drop_of_length-le listed none in
+    same_listed names listed scopes above (entries names (drop own listed) ++ others (entries names (drop own listed)) xml ds) (scopes_more own (length listed) scopes le h) lt
+    (sym (scope_places names listed scopes above) ∙ sym (ap (λ xs. entries names xs ++ others (entries names xs) xml ds) nothing ∙ ap (λ b. others [] b ds) off ∙ others_none ds))

@@ -1,0 +1,126 @@
+-- What rows show stays as the tables behind them grow.
+use Rattle.std.proofs.Common.{◌≡◌, ℕ, zero, suc, ◌-◌, ◌<◌, ◌≤◌, List, [], ◌∷◌, ◌++◌, length, map, take, drop, refl, ap, ◌∙◌, arith, Option, Some, None}
+use Rattle.std.specs.List.{AllByRecursion, slice_range}
+use Rattle.std.specs.Option.{option_map}
+use Rattle.std.proofs.lemmas.List.{take-append-le, drop-append-le}
+use Rattle.rox_grammar.specs.Written.{Declaration}
+use Rattle.rox_grammar.specs.Tree as tree
+use Rattle.rox_tables.specs.Storage.{storage_bytes, is_borrowed}
+use Rattle.rox_tables.specs.declared.tables.AttributeNamespace.{AttributeNamespace}
+use Rattle.rox_tables.specs.declared.tables.AttributeNamespace.TheVariants as space
+use Rattle.rox_tables.specs.declared.tables.NodeKind.{NodeKind}
+use Rattle.rox_tables.specs.declared.tables.NodeKind.TheVariants as kind
+use Rattle.rox_tables.specs.declared.tables.NodeData.{NodeData}
+use Rattle.rox_tables.specs.Lines.{Line, line, node, attribute, entry, scope_at, namespace_of, NamespaceWithin, OptionWithin, KindWithin, AttributeRow}
+
+-- ---- lists
+
+pub all_take : {X : Type 0} (P : X → Type 0) (n : ℕ) (xs : List X) → AllByRecursion P xs → AllByRecursion P (take n xs)
+all_take P zero xs h = tt
+all_take P (suc n) [] h = tt
+all_take P (suc n) (x ∷ xs) (p, h) = (p, all_take P n xs h)
+
+pub all_drop : {X : Type 0} (P : X → Type 0) (n : ℕ) (xs : List X) → AllByRecursion P xs → AllByRecursion P (drop n xs)
+all_drop P zero xs h = h
+all_drop P (suc n) [] h = tt
+all_drop P (suc n) (x ∷ xs) (p, h) = all_drop P n xs h
+
+pub all_slice : {X : Type 0} (P : X → Type 0) (xs : List X) (i j : ℕ) → AllByRecursion P xs → AllByRecursion P (slice_range xs i j)
+all_slice P xs i j h = all_take P (j - i) (drop i xs) (all_drop P i xs h)
+
+pub all_append : {X : Type 0} (P : X → Type 0) (xs ys : List X) → AllByRecursion P xs → AllByRecursion P ys → AllByRecursion P (xs ++ ys)
+all_append P [] ys h k = k
+all_append P (x ∷ xs) ys (p, h) k = (p, all_append P xs ys h k)
+
+pub all_weaker : {X : Type 0} (P Q : X → Type 0) (xs : List X) → ((x : X) → P x → Q x) → AllByRecursion P xs → AllByRecursion Q xs
+all_weaker P Q [] w h = tt
+all_weaker P Q (x ∷ xs) w (p, h) = (w x p, all_weaker P Q xs w h)
+
+pub map_same : {X Y : Type 0} (f g : X → Y) (P : X → Type 0) (xs : List X) → ((x : X) → P x → f x ≡ g x) → AllByRecursion P xs → map f xs ≡ map g xs
+map_same f g P [] e h = refl
+map_same f g P (x ∷ xs) e (p, h) = ap (λ y. y ∷ map f xs) (e x p) ∙ ap (λ ys. g x ∷ ys) (map_same f g P xs e h)
+
+pub slice-append : {X : Type 0} (xs ys : List X) (i j : ℕ) → i ≤ j → j ≤ length xs → slice_range (xs ++ ys) i j ≡ slice_range xs i j
+slice-append xs ys i j ordered within =
+    let d = drop-append-le i xs ys (omega arith) in
+    ap (take (j - i)) d ∙ take-append-le (j - i) (drop i xs) ys (long xs i j ordered within)
+  where
+    long : {X : Type 0} (xs : List X) (i j : ℕ) → i ≤ j → j ≤ length xs → j - i ≤ length (drop i xs)
+    long xs zero j ordered within = omega arith
+    long [] (suc i) j ordered within = omega arith
+    long (x ∷ xs) (suc i) j ordered within = let k = long xs i (j - 1) (omega arith) (omega arith) in omega arith
+
+-- ---- entries
+
+pub entry-append : (names more : List Declaration) (i : ℕ) → i < length names → entry (names ++ more) i ≡ entry names i
+entry-append [] more i h = absurd (omega arith)
+entry-append (d ∷ ds) more zero h = refl
+entry-append (d ∷ ds) more (suc i) h = entry-append ds more i (omega arith)
+
+pub namespace_of-append : (names more : List Declaration) (a : AttributeNamespace) → NamespaceWithin (length names) a → namespace_of (names ++ more) a ≡ namespace_of names a
+namespace_of-append names more space.None h = refl
+namespace_of-append names more space.Xml h = refl
+namespace_of-append names more (space.Listed i) h = ap (λ (d : Declaration). Some d.uri) (entry-append names more i h)
+
+pub attribute-append : (names more : List Declaration) (a : AttributeRow) → NamespaceWithin (length names) a.0.namespace → attribute (names ++ more) a ≡ attribute names a
+attribute-append names more a h = ap (λ (o : Option (List ℕ)).
+    let r : tree.Attribute = record { start = a.1.start; name_end = a.1.name_end; value_start = a.1.value_start; end = a.1.end; namespace = o; local = a.0.local.now; value = storage_bytes a.0.value; borrowed = is_borrowed a.0.value } in r)
+    (namespace_of-append names more a.0.namespace h)
+
+uri-append : (names more : List Declaration) (o : Option ℕ) → OptionWithin (length names) o
+    → option_map (λ i. (entry (names ++ more) i).uri) o ≡ option_map (λ i. (entry names i).uri) o
+uri-append names more None h = refl
+uri-append names more (Some i) h = ap (λ (d : Declaration). Some d.uri) (entry-append names more i h)
+
+-- ---- scopes
+
+pub scope_at-append : (lists more : List (List Declaration)) (i : ℕ) → i < length lists → scope_at (lists ++ more) i ≡ scope_at lists i
+scope_at-append [] more i h = absurd (omega arith)
+scope_at-append (l ∷ ls) more zero h = refl
+scope_at-append (l ∷ ls) more (suc i) h = scope_at-append ls more i (omega arith)
+
+-- ---- rows
+
+pub node-append : (as' moreA : List AttributeRow) (names moreN : List Declaration) (ls moreL : List (List Declaration)) (start end : ℕ) (k : NodeKind)
+    → AllByRecursion (λ a. NamespaceWithin (length names) a.0.namespace) as' → KindWithin (length as') (length names) (length ls) k
+    → node (as' ++ moreA) (names ++ moreN) (ls ++ moreL) start end k ≡ node as' names ls start end k
+node-append as' moreA names moreN ls moreL start end kind.Root ha h = refl
+node-append as' moreA names moreN ls moreL start end (kind.Element e) ha (a, b, c, n) =
+    let listed_is : scope_at (ls ++ moreL) e.scope ≡ scope_at ls e.scope = scope_at-append ls moreL e.scope c in
+    let attributes_are : map (attribute (names ++ moreN)) (slice_range (as' ++ moreA) e.attributes_from e.attributes_until) ≡ map (attribute names) (slice_range as' e.attributes_from e.attributes_until) =
+    ap (map (attribute (names ++ moreN))) (slice-append as' moreA e.attributes_from e.attributes_until a b)
+    ∙ map_same (attribute (names ++ moreN)) (attribute names) (λ a. NamespaceWithin (length names) a.0.namespace) (slice_range as' e.attributes_from e.attributes_until) (attribute-append names moreN)
+    (all_slice (λ a. NamespaceWithin (length names) a.0.namespace) as' e.attributes_from e.attributes_until ha) in
+    let o = uri-append names moreN e.namespace n in
+    ap (λ (u : Option (List ℕ)). tree.Element start end u e.local.now (scope_at (ls ++ moreL) e.scope) (map (attribute (names ++ moreN)) (slice_range (as' ++ moreA) e.attributes_from e.attributes_until))) o
+    ∙ ap (λ (l : List Declaration). tree.Element start end (option_map (λ i. (entry names i).uri) e.namespace) e.local.now l (map (attribute (names ++ moreN)) (slice_range (as' ++ moreA) e.attributes_from e.attributes_until))) listed_is
+    ∙ ap (λ (l : List tree.Attribute). tree.Element start end (option_map (λ i. (entry names i).uri) e.namespace) e.local.now (scope_at ls e.scope) l) attributes_are
+node-append as' moreA names moreN ls moreL start end (kind.Text v) ha h = refl
+node-append as' moreA names moreN ls moreL start end (kind.Comment t) ha h = refl
+node-append as' moreA names moreN ls moreL start end (kind.PI p) ha h = refl
+
+-- the rows show the same over tables that have grown
+pub lines-append : (as' moreA : List AttributeRow) (names moreN : List Declaration) (ls moreL : List (List Declaration)) (rows : List NodeData)
+    → AllByRecursion (λ a. NamespaceWithin (length names) a.0.namespace) as' → AllByRecursion (λ r. KindWithin (length as') (length names) (length ls) r.kind) rows
+    → map (line (as' ++ moreA) (names ++ moreN) (ls ++ moreL)) rows ≡ map (line as' names ls) rows
+lines-append as' moreA names moreN ls moreL rows ha h =
+    map_same (line (as' ++ moreA) (names ++ moreN) (ls ++ moreL)) (line as' names ls) (λ r. KindWithin (length as') (length names) (length ls) r.kind) rows
+    (λ r k. ap (λ n. let x : Line = record { parent = r.parent; next = r.next; depth = r.depth; node = n } in x) (node-append as' moreA names moreN ls moreL r.start r.end r.kind ha k)) h
+
+-- ---- what a row names stays in the tables
+
+pub kind_more : (a n l a' n' l' : ℕ) (k : NodeKind) → a ≤ a' → n ≤ n' → l ≤ l' → KindWithin a n l k → KindWithin a' n' l' k
+kind_more a n l a' n' l' kind.Root x y z h = tt
+kind_more a n l a' n' l' (kind.Element e) x y z (p, q, r, o) = (p, omega arith, omega arith, option_more n n' e.namespace y o)
+  where
+    option_more : (n n' : ℕ) (o : Option ℕ) → n ≤ n' → OptionWithin n o → OptionWithin n' o
+    option_more n n' None y h = tt
+    option_more n n' (Some i) y h = omega arith
+kind_more a n l a' n' l' (kind.Text v) x y z h = tt
+kind_more a n l a' n' l' (kind.Comment t) x y z h = h
+kind_more a n l a' n' l' (kind.PI p) x y z h = tt
+
+pub namespace_more : (n n' : ℕ) (a : AttributeNamespace) → n ≤ n' → NamespaceWithin n a → NamespaceWithin n' a
+namespace_more n n' space.None y h = tt
+namespace_more n n' space.Xml y h = tt
+namespace_more n n' (space.Listed i) y h = omega arith

@@ -1,0 +1,19 @@
+use Rattle.std.proofs.Common.{◌≡◌, length, map, sym, ap, ◌∙◌, arith}
+use Rattle.std.specs.BTreeMap.{insert_entry}
+use Rattle.rox_tables.specs.Lines.{declaration}
+use Rattle.rox_tables.specs.Index.{place_among, place_of, key_cmp}
+use Rattle.rox_tables.proofs.Indexing.{found_more, was_ok}
+use Rattle.rox_tables.proofs.names.NamespaceTable.add.Goals as goal
+
+pub invariant_of-self-else-is_err : goal.invariant_of-self-else-is_err
+invariant_of-self-else-is_err c =
+    let table = c.args.self.now in
+    let rows = table.items.items in
+    let es = table.places.entries in
+    let small = table.items.ok.0 in
+    let place : c.len-place.result ≡ length rows = omega arith in
+    record {
+      found = λ d. ap (λ xs. place_among xs d) (was_ok c.insert.result c.if-is_err.ensures.negation c.insert.ensures.entries ∙ ap (λ n. insert_entry key_cmp es c.args.key n) place)
+          ∙ found_more rows c.in_ok-namespace.namespace es c.args.key table.found c.requires.absent c.in_ok-namespace.ensures.cases d
+          ∙ ap (λ xs. place_of (map declaration xs) d) (sym c.in_ok-push.ensures.items);
+    }

@@ -1,0 +1,12 @@
+pub mod Lines
+pub mod Storage
+pub mod Room
+pub mod Scopes
+pub mod Resolved
+pub mod Index
+pub mod Seen
+pub mod Prefixes
+pub mod Present
+pub mod Ropes
+pub mod Declares
+pub mod TagScopes

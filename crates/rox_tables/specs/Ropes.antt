@@ -1,0 +1,27 @@
+-- What rows of scopes list that were made from others.
+use Rattle.std.specs.Prelude.{◌≡◌, ℕ, ◌<◌, List, ◌++◌, length}
+use Rattle.std.specs.List.{AllByRecursion}
+use Rattle.rox_grammar.specs.Written.{Declaration}
+use Rattle.rox_tables.specs.Lines.{AreRows, AreScopes, EndsWithin}
+use Rattle.rox_tables.specs.Scopes.{entries, places_in, ArePlaces}
+use Rattle.rox_tables.specs.declared.tables.Scope.{Scope}
+
+-- Rows were put behind the others, and the row at this place lists this of any listed places.
+pub record IsRope (old new : List Scope) (scope : ℕ) (list : List ℕ → List ℕ) : Type 0 where
+  pub more : List Scope
+  pub grown : new ≡ old ++ more
+  pub rows : AreRows new
+  pub ends : (n : ℕ) → AllByRecursion (EndsWithin n) old → AllByRecursion (EndsWithin n) new
+  pub within : scope < length new
+  pub lists : (listed : List ℕ) → AreScopes (length listed) old → places_in listed new scope ≡ list listed
+
+-- More places may be listed, and more rows be there: the row at this place lists these.
+pub record IsListed (names : List Declaration) (listed : List ℕ) (scopes : List Scope) (after : List ℕ) (rows : List Scope) (scope : ℕ) (ds : List Declaration) : Type 0 where
+  pub more : List ℕ
+  pub grown : after ≡ listed ++ more
+  pub places : ArePlaces (length names) listed → ArePlaces (length names) after
+  pub more_rows : List Scope
+  pub rows_grown : rows ≡ scopes ++ more_rows
+  pub scopes_are : AreScopes (length after) rows
+  pub within : scope < length rows
+  pub lists : entries names (places_in after rows scope) ≡ ds

@@ -1,0 +1,101 @@
+//! The table of attributes.
+
+ghost use Rattle.std.specs.Prelude.{◌≡◌, ◌<◌, ◌++◌, ◌∷◌, [], length, vec_len, vec_capacity, if◌then◌else◌, is_ok, IfOk, OnOk, IfErr};
+ghost use Rattle.std.proofs.Props.{props};
+
+use crate::growth::{make_room, trim, with_room};
+use crate::tables::{AttributeData, AttributePlaces};
+use rox_grammar::failure::Failure;
+use std::alloc::Global;
+
+/// The attributes of all elements, in document order. What an attribute is and where it stands are columns of their own,
+/// since a reader who goes over the attributes seldom asks for places, and passes fewer bytes without them.
+#[derive(Debug, Drop)]
+pub struct AttributeTable<'input> {
+    pub items: Vec<AttributeData<'input>>,
+    pub places: Vec<AttributePlaces>,
+    /// Where the text ends.
+    pub text_end: usize,
+    pub ghost even: { length places.items ≡ length items.items } by { Prim.hlevel props },
+}
+
+/// How many attributes a table begins with room for, at most.
+const FIRST_ATTRIBUTES: usize = 32768;
+
+impl<'input> AttributeTable<'input> {
+    ghost use Rattle.rox_tables.specs.Lines.{rows_of};
+
+    /// The table of a text of so many bytes, without attributes. The only error is want of memory.
+    pub fn of_text(alloc: Global, bytes: usize) -> Result<AttributeTable<'input>, Failure>
+        ensures ok { IfOk result (λ t. rows_of t ≡ []) }
+        ensures err { IfErr result (λ e. e ≡ Failure.Memory) }
+    {
+        let room = (bytes / 112 + 4).min(FIRST_ATTRIBUTES);
+        Ok(AttributeTable {
+            items: with_room(alloc, room),
+            places: with_room(alloc, room),
+            text_end: bytes,
+        })
+    }
+
+    /// How many attributes there are.
+    #[inline]
+    pub fn len(&self) -> usize
+        ensures { result ≡ length (rows_of self.now) }
+    {
+        self.items.len()
+    }
+
+    /// Makes room for more attributes, as those that there are foretell it, the next of which ends at `place`. The only error is
+    /// want of memory.
+    #[cold]
+    #[inline(never)]
+    fn make_room(&mut self, place: usize) -> Result<(), Failure>
+        ensures items { self.new.items.items ≡ self.old.items.items }
+        ensures places { self.new.places.items ≡ self.old.places.items }
+        ensures item { OnOk result (vec_len self.new.items < vec_capacity self.new.items) }
+        ensures place { OnOk result (vec_len self.new.places < vec_capacity self.new.places) }
+        ensures err { IfErr result (λ e. e ≡ Failure.Memory) }
+    {
+        make_room(&mut self.items, place, self.text_end)?;
+        make_room(&mut self.places, place, self.text_end)
+    }
+
+    /// The same where there is no room for one more.
+    #[inline(always)]
+    fn foresee(&mut self, place: usize) -> Result<(), Failure>
+        ensures items { self.new.items.items ≡ self.old.items.items }
+        ensures places { self.new.places.items ≡ self.old.places.items }
+        ensures item { OnOk result (vec_len self.new.items < vec_capacity self.new.items) }
+        ensures place { OnOk result (vec_len self.new.places < vec_capacity self.new.places) }
+        ensures err { IfErr result (λ e. e ≡ Failure.Memory) }
+    {
+        let items = &self.items;
+        let places = &self.places;
+        if items.len() < items.capacity() && places.len() < places.capacity() {
+            return Ok(());
+        }
+        self.make_room(place)
+    }
+
+    /// Puts an attribute at the end. The only error is want of memory, and then the table is as before.
+    #[inline(always)]
+    pub fn push(&mut self, row: (AttributeData<'input>, AttributePlaces)) -> Result<(), Failure>
+        ensures rows { rows_of self.new ≡ (if is_ok result then rows_of self.old ++ row.entry ∷ [] else rows_of self.old) }
+        ensures err { IfErr result (λ e. e ≡ Failure.Memory) }
+    {
+        let (item, places) = row;
+        self.foresee(places.end)?;
+        self.items.push_reserved(item);
+        self.places.push_reserved(places);
+        Ok(())
+    }
+
+    /// Gives back room that it does not need.
+    pub fn trim(&mut self)
+        ensures { rows_of self.new ≡ rows_of self.old }
+    {
+        trim(&mut self.items);
+        trim(&mut self.places);
+    }
+}

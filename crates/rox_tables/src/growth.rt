@@ -1,0 +1,98 @@
+//! Growth of tables.
+
+ghost use Rattle.std.specs.Prelude.{◌≡◌, ◌<◌, ◌≤◌, ◌+◌, ◌/◌, ◌^◌, ◌++◌, ◌∷◌, [], if◌then◌else◌, is_ok, vec_len, vec_capacity, OnOk, IfErr};
+ghost use Rattle.rox_tables.specs.Room as room;
+
+use rox_grammar::failure::Failure;
+use std::alloc::Global;
+
+/// Makes room for one more. The only error is want of memory.
+#[cold]
+#[inline(never)]
+fn grow<T: Drop>(to: &mut Vec<T>) -> Result<(), Failure>
+    ensures items { to.new.items ≡ to.old.items }
+    ensures len { vec_len to.new ≡ vec_len to.old }
+    ensures ok { OnOk result (vec_len to.new < vec_capacity to.new) }
+    ensures err { IfErr result (λ e. e ≡ Failure.Memory) }
+{
+    to.reserve(1)?;
+    Ok(())
+}
+
+/// Puts a value at the end. The only error is want of memory, and then the value is dropped: unlike that of `Vec::push`, the
+/// answer has no room for it, which would be cleared at each call.
+#[inline(always)]
+pub fn push<T: Drop>(to: &mut Vec<T>, value: T) -> Result<(), Failure>
+    ensures items { to.new.items ≡ (if is_ok result then to.old.items ++ value ∷ [] else to.old.items) }
+    ensures len { vec_len to.new ≡ (if is_ok result then vec_len to.old + 1 else vec_len to.old) }
+    ensures err { IfErr result (λ e. e ≡ Failure.Memory) }
+{
+    if to.len() >= to.capacity() {
+        grow(to)?;
+    }
+    to.push_reserved(value);
+    Ok(())
+}
+
+/// An empty table with room for so many, or without where there is no memory for them: it is then asked for as the table grows.
+#[cold]
+#[inline(never)]
+pub fn with_room<T: Drop>(alloc: Global, room: usize) -> Vec<T>
+    ensures items { result.items ≡ [] }
+    ensures room { vec_capacity result ≤ room }
+{
+    match Vec::with_capacity(alloc, room) {
+        Ok(items) => items,
+        Err(_) => Vec::new(alloc),
+    }
+}
+
+/// How many rows there is to be room for where a table is full with `len`, which the first `place` bytes of a text of `end`
+/// bytes gave: as many as the whole text gives if the rest is as dense, and for the rest an eighth more. At least an eighth more
+/// than there are, so that a table is seldom moved, and at most eight times as many, since a dense head tells little of the rest.
+fn foreseen(len: usize, place: usize, end: usize) -> usize
+    requires { len < 2 ^ 63 }
+    ensures value { result ≡ room.foreseen len place end }
+    ensures more { len + len / 8 < result }
+{
+    let rest = len.saturating_mul(end.saturating_sub(place)) / place.max(1);
+    let foretold = len.saturating_add(rest).saturating_add(rest / 8);
+    let least = len + len / 8 + 4;
+    foretold.min(len.saturating_mul(8)).max(least)
+}
+
+/// Makes room in a table, as foreseen where `place` bytes of a text of `end` bytes are read. Where that is refused it makes room
+/// for an eighth more. The only error is want of memory.
+#[cold]
+#[inline(never)]
+pub fn make_room<T: Drop>(to: &mut Vec<T>, place: usize, end: usize) -> Result<(), Failure>
+    ensures items { to.new.items ≡ to.old.items }
+    ensures len { vec_len to.new ≡ vec_len to.old }
+    ensures ok { OnOk result (vec_len to.new < vec_capacity to.new) }
+    ensures eighth { OnOk result (vec_len to.new + vec_len to.new / 8 < vec_capacity to.new) }
+    ensures err { IfErr result (λ e. e ≡ Failure.Memory) }
+{
+    let len = to.len();
+    if to.reserve_exact(foreseen(len, place, end) - len).is_err() {
+        to.reserve_exact(len / 8 + 1)?;
+    }
+    Ok(())
+}
+
+/// How many rows of spare room are kept at most: giving room back costs more than it is worth where there is little of it.
+const SPARE: usize = 65536;
+
+/// Gives back the room that a whole table does not need, where it is large.
+#[inline]
+pub fn trim<T: Drop>(table: &mut Vec<T>)
+    ensures items { table.new.items ≡ table.old.items }
+    ensures len { vec_len table.new ≡ vec_len table.old }
+    ensures room { vec_capacity table.new ≤ vec_capacity table.old }
+    ensures none { vec_len table.old ≡ 0 → 65536 < vec_capacity table.old → vec_capacity table.new ≡ 0 }
+{
+    let len = table.len();
+    let spare = table.capacity() - len;
+    if spare > SPARE && spare > len / 4 {
+        table.shrink_to_fit();
+    }
+}

@@ -1,0 +1,88 @@
+-- The parts of a CDATA section's text.
+use Rattle.std.proofs.Common.{◌≡◌, ◌≢◌, ℕ, suc, ◌+◌, ◌-◌, ◌<◌, ◌==◌, true, false, List, [], ◌∷◌, ◌++◌, length, get_or, take, drop, slice_range, refl, sym, ap, ◌∙◌, arith, inl, inr, append_assoc, append-nil, add-zero, get_or-drop}
+use Rattle.std.specs.List.{position_or_len, list_any}
+use Rattle.std.proofs.lemmas.Bool.{ne_eqb}
+use Rattle.std.proofs.lemmas.Bool.Decides.{eqb_tells}
+use Rattle.std.proofs.lemmas.List.{drop_more, drop_all, take_all, drop-drop}
+use Rattle.rox_grammar.specs.Marks.{byte_from}
+use Rattle.rox_grammar.specs.Content.{literals, line_ends, line_ends_after}
+use Rattle.rox_values.specs.Values.{section_rest, section_text}
+
+-- up to the next CR all stays as it is
+stretch : (xs : List ℕ) (n : ℕ) → n ≡ position_or_len (λ c. c == 13) xs → line_ends (literals xs) ≡ take n xs ++ line_ends (literals (drop n xs))
+stretch [] n is = rw is refl
+stretch (x ∷ xs) n is =
+    elim (eqb_tells x 13) [
+      | inl cr ↦ let none : n ≡ 0 = rw cr.1 at is in rw (none, cr.1) refl
+      | inr other ↦
+          let one = rw other.0 at is in
+          let more : n ≡ suc (position_or_len (λ c. c == 13) xs) = omega (arith, one) in
+          elim (eqb_tells x 10) [
+            | inl feed ↦ rw (more, feed.1) (ap (λ l. 10 ∷ l) (stretch xs _ refl))
+            | inr byte ↦ rw (more, other.0, byte.0) (ap (λ l. x ∷ l) (stretch xs _ refl))
+          ]
+    ]
+
+-- a text that begins with no LF reads alike after a CR
+apart : (xs : List ℕ) → get_or xs 0 0 ≢ 10 → line_ends_after true (literals xs) ≡ line_ends (literals xs)
+apart [] h = refl
+apart (x ∷ xs) h = rw (ne_eqb x 10 h) refl
+
+rest_stretch : (raw : List ℕ) (i n : ℕ) → n ≡ position_or_len (λ c. c == 13) (drop i raw) → section_rest raw i ≡ slice_range raw i (i + n) ++ section_rest raw (i + n)
+rest_stretch raw i n is =
+    let less : i + n - i ≡ n = omega arith in
+    rw (less, ← drop-drop n i raw) (stretch (drop i raw) n is)
+
+-- all up to the next CR
+pub part_stretch : (old new raw : List ℕ) (i e : ℕ) → e ≡ byte_from (λ c. c == 13) raw i → new ≡ old ++ slice_range raw i e → new ++ section_rest raw e ≡ old ++ section_rest raw i
+unfolding byte_from
+part_stretch old new raw i e place is =
+    rw (is, place) (append_assoc old _ _ ∙ ap (λ l. old ++ l) (sym (rest_stretch raw i (position_or_len (λ c. c == 13) (drop i raw)) refl)))
+
+-- it is not empty
+pub stretch_moves : (raw : List ℕ) (i e : ℕ) → e ≡ byte_from (λ c. c == 13) raw i → i < length raw → get_or raw i 0 ≢ 13 → i < e
+unfolding byte_from
+stretch_moves raw i e place within other =
+    let some : position_or_len (λ c. c == 13) (drop i raw) ≡ 1 + position_or_len (λ c. c == 13) (drop (i + 1) raw) = rw (drop_more raw i 0 within, ne_eqb (get_or raw i 0) 13 other) refl in
+    omega (arith, some, place)
+
+-- a CR and a LF
+pub part_feed : (old raw : List ℕ) (i : ℕ) → get_or raw i 0 ≡ 13 → get_or raw (i + 1) 0 ≡ 10 → i + 1 < length raw → (old ++ 10 ∷ []) ++ section_rest raw (i + 1 + 1) ≡ old ++ section_rest raw i
+part_feed old raw i cr feed within =
+    let first : drop i raw ≡ 13 ∷ drop (i + 1) raw = rw cr at (drop_more raw i 0 (omega arith)) in
+    let next : drop (i + 1) raw ≡ 10 ∷ drop (i + 1 + 1) raw = rw feed at (drop_more raw (i + 1) 0 within) in
+    append_assoc old (10 ∷ []) _ ∙ ap (λ l. old ++ l) (rw (first, next) refl)
+
+-- a CR alone
+pub part_return : (old raw : List ℕ) (i : ℕ) → get_or raw i 0 ≡ 13 → get_or raw (i + 1) 0 ≢ 10 → i < length raw → (old ++ 10 ∷ []) ++ section_rest raw (i + 1) ≡ old ++ section_rest raw i
+part_return old raw i cr other within =
+    let first : drop i raw ≡ 13 ∷ drop (i + 1) raw = rw cr at (drop_more raw i 0 within) in
+    let front : get_or (drop (i + 1) raw) 0 0 ≢ 10 = λ h. other (ap (λ k. get_or raw k 0) (sym (add-zero (i + 1))) ∙ sym (get_or-drop (i + 1) raw 0 0) ∙ h) in
+    append_assoc old (10 ∷ []) _ ∙ ap (λ l. old ++ l) (rw first (ap (λ l. 10 ∷ l) (sym (apart (drop (i + 1) raw) front))))
+
+-- whether a CR stands somewhere
+any_before : (xs : List ℕ) → position_or_len (λ c. c == 13) xs ≡ length xs → list_any (λ b. b == 13) xs ≡ false
+any_before [] h = refl
+any_before (x ∷ xs) h =
+    elim (eqb_tells x 13) [
+      | inl cr ↦ let none = rw cr.0 at h in absurd (omega arith)
+      | inr other ↦ let more = rw other.0 at h in rw other.0 (any_before xs (omega arith))
+    ]
+
+any_there : (xs : List ℕ) → position_or_len (λ c. c == 13) xs ≢ length xs → list_any (λ b. b == 13) xs ≡ true
+any_there [] h = absurd (h refl)
+any_there (x ∷ xs) h =
+    elim (eqb_tells x 13) [
+      | inl cr ↦ rw cr.0 refl
+      | inr other ↦ rw other.0 (any_there xs (λ same. h (rw other.0 (omega arith))))
+    ]
+
+-- a section without CR
+pub section_plain : (raw : List ℕ) → position_or_len (λ c. c == 13) raw ≡ length raw → section_text raw ≡ record { value = raw; plain = true }
+section_plain raw h =
+    let all : line_ends (literals raw) ≡ raw = rw (take_all (length raw) raw (omega arith), drop_all (length raw) raw (omega arith), append-nil) at (stretch raw (length raw) (sym h)) in
+    rw (any_before raw h, all) refl
+
+-- and with one, once its text is read
+pub section_changed : (raw text : List ℕ) → position_or_len (λ c. c == 13) raw ≢ length raw → text ≡ line_ends (literals raw) → section_text raw ≡ record { value = text; plain = false }
+section_changed raw text h is = rw (any_there raw h, is) refl

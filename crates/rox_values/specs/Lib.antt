@@ -1,0 +1,4 @@
+pub mod Refusing
+pub mod Named
+pub mod Hows
+pub mod Values

@@ -1,0 +1,106 @@
+-- How the code's texts and references stand to what is read.
+use Rattle.std.specs.Prelude.{◌≡◌, ℕ, Bool, true, false, not, ◌==◌, ◌||◌, List, ◌++◌, Option, Some, None, Result, Ok, Err, drop, slice_range, if◌then◌else◌}
+use Rattle.std.specs.List.{list_any}
+use Rattle.rox_grammar.specs.declared.fault.Fault.{Fault}
+use Rattle.rox_grammar.specs.Content.{literals, line_ends}
+use Rattle.rox_grammar.specs.References.{is_digit, is_hex_digit}
+use Rattle.rox_reading.specs.Lexical.{Read, ◌>>=◌}
+use Rattle.rox_reading.specs.Refusals.{Refusal}
+use Rattle.rox_reading.specs.Values as reading
+use Rattle.rox_grammar.specs.Failing.{Fails}
+use Rattle.rox_scan.specs.declared.cursor.Cursor.{Cursor}
+use Rattle.rox_grammar.specs.declared.failure.Failure.{Failure}
+use Rattle.rox_scan.specs.Doctypes.{replacement_view}
+use Rattle.rox_values.specs.Refusing.{Refuses}
+use Rattle.rox_values.specs.declared.refused.Refused.{Refused}
+use Rattle.rox_values.specs.declared.reference.Reference.{Reference}
+use Rattle.rox_values.specs.declared.reference.Reference.TheVariants as reference
+use Rattle.rox_values.specs.declared.value.Piece.{Piece}
+use Rattle.rox_values.specs.declared.value.Piece.TheVariants as piece
+
+-- the base of a number's digits, and which bytes they are
+abbrev pub base_of : Bool → ℕ
+base_of hexadecimal = if hexadecimal then 16 else 10
+
+abbrev pub is_digit_of : Bool → ℕ → Bool
+is_digit_of true b = is_hex_digit b
+is_digit_of false b = is_digit b
+
+abbrev pub reference_view : Reference → reading.Reference
+reference_view (reference.Character c) = reading.character_of c
+reference_view (reference.Entity span name) = reading.entity_at span
+
+-- the name that a reference has is what stands there
+abbrev pub IsNamed : List ℕ → Reference → Type 0
+IsNamed src (reference.Character c) = Unit {0}
+IsNamed src (reference.Entity span name) = name.now ≡ slice_range src span.start span.end
+
+-- a text, with what the buffer holds where it had to be changed
+abbrev pub piece_view : Piece → List ℕ → reading.RunText
+piece_view (piece.Plain s) buffer = record { value = s.now; plain = true }
+piece_view piece.Changed buffer = record { value = buffer; plain = false }
+
+-- what a bit gives, behind what stands before it
+abbrev pub bit_behind : List ℕ → reading.Bit → reading.Bit
+bit_behind front (reading.bytes_of bs) = reading.bytes_of (front ++ bs)
+bit_behind front (reading.opens t) = reading.opens t
+
+abbrev pub behind : List ℕ → Read reading.Bit → Read reading.Bit
+behind front read = read >>= λ x. Ok (bit_behind front x.0, x.1)
+
+-- the same of a text, with what is read behind it
+abbrev pub text_behind : {A E : Type 0} → List ℕ → Result (List ℕ × A) E → Result (List ℕ × A) E
+text_behind front read = read >>= λ x. Ok (front ++ x.0, x.1)
+
+-- what a bit gives was appended to a buffer that held `old` and holds `new`, and the cursor stands behind it
+abbrev pub Appends : List ℕ → List ℕ → Cursor → Result (Unit {0}) Failure → Read reading.Bit → Type 0
+Appends old new after (Ok x) read = behind old read ≡ Ok (reading.bytes_of new, after.pos)
+Appends old new after (Err e) read = Fails e read
+
+-- the same where it may be a replacement text: nothing is appended then
+abbrev pub AppendsBit : List ℕ → List ℕ → Cursor → Result (Option Cursor) Failure → Read reading.Bit → Type 0
+AppendsBit old new after (Ok None) read = behind old read ≡ Ok (reading.bytes_of new, after.pos)
+AppendsBit old new after (Ok (Some text)) read = (read ≡ Ok (reading.opens (replacement_view text), after.pos)) × (new ≡ old)
+AppendsBit old new after (Err e) read = Fails e read
+
+-- a character was appended, or gave this fault
+abbrev pub AppendsCharacter : List ℕ → List ℕ → Result (Unit {0}) Failure → Result reading.Bit Fault → Type 0
+AppendsCharacter old new (Ok x) read = (bs : List ℕ) × (read ≡ Ok (reading.bytes_of bs)) × (new ≡ old ++ bs)
+AppendsCharacter old new (Err e) read = Fails e read
+
+-- what ends a stretch of a value within a replacement text
+abbrev pub ends_stretch : ℕ → Bool
+ends_stretch b = reading.is_special b || b == 60
+
+-- a replacement text is found, or this fault
+abbrev pub Finds : Result Cursor Fault → Result reading.Bit Fault → Type 0
+Finds (Ok text) read = read ≡ Ok (reading.opens (replacement_view text))
+Finds (Err f) read = read ≡ Err f
+
+-- what ends a part of a run: a replacement text, behind whose reference this place is, or the end
+abbrev pub next_view : Option Cursor → ℕ → reading.Next
+next_view None i = reading.at_end
+next_view (Some text) i = reading.opening (replacement_view text) i
+
+-- a part of a run was appended
+abbrev pub AppendsPart : List ℕ → List ℕ → Cursor → Result (Option Cursor) Failure → Result (List ℕ × reading.Next) Fault → Type 0
+AppendsPart old new after (Ok next) read = text_behind old read ≡ Ok (new, next_view next after.pos)
+AppendsPart old new after (Err e) read = Fails e read
+
+-- and a value, or a part of one, behind which so many replacement texts may be opened
+abbrev pub AppendsValue : List ℕ → List ℕ → Result ℕ Refused → Result (List ℕ × ℕ) Refusal → Type 0
+AppendsValue old new (Ok left) read = text_behind old read ≡ Ok (new, left)
+AppendsValue old new (Err e) read = Refuses e read
+
+-- a value was read
+abbrev pub GivesValue : {A : Type 0} → (A → reading.RunText) → Result (A × ℕ) Refused → Result (reading.RunText × ℕ) Refusal → Type 0
+GivesValue view (Ok x) read = read ≡ Ok (view x.0, x.1)
+GivesValue view (Err e) read = Refuses e read
+
+-- XML 2.7, 2.11: the text of a CDATA section, a slice of the source if it has no CR
+abbrev pub section_text : List ℕ → reading.RunText
+section_text raw = record { value = line_ends (literals raw); plain = not (list_any (λ b. b == 13) raw) }
+
+-- what a section's text from i on stands for, where no CR comes right before it
+abbrev pub section_rest : List ℕ → ℕ → List ℕ
+section_rest raw i = line_ends (literals (drop i raw))

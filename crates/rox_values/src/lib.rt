@@ -1,0 +1,8 @@
+//! The values of attributes, and the parts of a run of text: references, entities and line ends.
+#![tactic(auto)]
+
+pub mod entities;
+pub mod how;
+pub mod reference;
+pub mod refused;
+pub mod value;

@@ -1,0 +1,196 @@
+//! References to characters and to entities (XML 1.0 sections 4.1 and 4.6).
+
+ghost use Rattle.std.specs.Prelude.{◌≡◌, ◌^◌, ◌≤◌, ◌<◌, IfOk, min, length, slice_index, slice_range};
+ghost use Rattle.rox_grammar.specs.Chars.{is_char};
+ghost use Rattle.rox_grammar.specs.References as spec;
+ghost use Rattle.rox_reading.specs.Values as reading;
+ghost use Rattle.rox_scan.specs.Gives.{Reads};
+ghost use Rattle.rox_values.specs.Values.{IsNamed, base_of, is_digit_of, reference_view};
+
+use rox_grammar::fault::{Fault, Span};
+use rox_scan::chars::is_char;
+use rox_scan::cursor::Cursor;
+use rox_scan::runs::{NameChar, NameStart, after_byte, begins, is_at, run_end};
+
+/// What a reference names: a character, or an entity, by its name and where that stands.
+#[derive(Clone, Copy, Debug)]
+pub enum Reference<'input> {
+    Character(char),
+    Entity(Span, &'input str),
+}
+
+/// The least number that is too large for a reference.
+const TOO_LARGE: u64 = 1 << 32;
+
+/// Digits: where they end, and the number that they stand for, or `TOO_LARGE` if that is less.
+struct Digits {
+    end: usize,
+    number: u64,
+}
+
+/// Whether the byte is a digit, of base 16 or of base 10.
+#[inline(always)]
+fn is_digit(byte: u8, hexadecimal: bool) -> bool
+    ensures { result ≡ is_digit_of hexadecimal byte }
+{
+    let decimal = matches!(byte, b'0'..=b'9');
+    if hexadecimal {
+        decimal || matches!(byte, b'a'..=b'f' | b'A'..=b'F')
+    } else {
+        decimal
+    }
+}
+
+/// The number that a digit stands for.
+#[inline]
+fn digit_value(byte: u8) -> u64
+    ensures value { result ≡ spec.digit_value byte }
+    ensures small { result < 256 }
+{
+    let value = if byte <= b'9' {
+        byte.saturating_sub(48)
+    } else if byte <= b'F' {
+        byte.saturating_sub(55)
+    } else {
+        byte.saturating_sub(87)
+    };
+    value as u64
+}
+
+/// The digits that begin at `at`, perhaps none.
+#[inline(always)]
+#[tactic(auto, using(crate::proofs::DigitLemmas::digit_steps, crate::proofs::DigitLemmas::one_more_digit))]
+fn read_digits(text: &str, at: usize, hexadecimal: bool) -> Digits
+    requires { at ≤ length text.now }
+    ensures place { result.end ≡ spec.bytes_end (is_digit_of hexadecimal) text.now at }
+    ensures number { result.number ≡ min (spec.number (base_of hexadecimal) (slice_range text.now at result.end)) (2 ^ 32) }
+    ensures onward { at ≤ result.end }
+    ensures within { result.end ≤ length text.now }
+{
+    let base: u64 = if hexadecimal { 16 } else { 10 };
+    let bytes = text.as_bytes();
+    let mut end = at;
+    let mut number: u64 = 0;
+    while end < bytes.len() && is_digit(bytes[end], hexadecimal) {
+        number = (number * base + digit_value(bytes[end])).min(TOO_LARGE);
+        end += 1;
+    }
+    Digits { end, number }
+}
+
+/// The character of a number. A number that is no character gives U+FFFD.
+#[inline]
+fn character(number: u32) -> char
+    ensures { result ≡ spec.character number }
+{
+    char::from_u32(number).unwrap_or('\u{FFFD}')
+}
+
+/// Whether the character may stand in XML (XML 1.0 [2] Char). Most are told by one range.
+#[inline(always)]
+fn may_stand(character: char) -> bool
+    ensures { result ≡ is_char character }
+{
+    matches!(character, ' '..='\u{D7FF}') || is_char(character)
+}
+
+/// The digits from `digits` on and the `;` of a reference that stands here. It is a fault where there is no digit, where the
+/// number is 2^32 or more, and where it is that of no Char.
+#[inline(always)]
+#[tactic(auto, unfolding(rox_reading::specs::Values::number_at))]
+fn number<'input>(
+    cursor: &mut Cursor<'input>,
+    digits: usize,
+    hexadecimal: bool,
+) -> Result<Reference<'input>, Fault>
+    requires onward { cursor.old.pos ≤ digits }
+    requires within { digits ≤ length cursor.old.text.now }
+    ensures value { Reads reference_view cursor.new result (reading.number_at (base_of hexadecimal) (is_digit_of hexadecimal) cursor.old.text.now cursor.old.pos digits) }
+    ensures source { cursor.new.text ≡ cursor.old.text }
+    ensures onward { cursor.old.pos ≤ cursor.new.pos }
+    ensures name { IfOk result (IsNamed cursor.old.text.now) }
+{
+    let start = cursor.pos;
+    let text = cursor.text;
+    let Digits { end, number } = read_digits(text, digits, hexadecimal);
+    if end == digits || number == TOO_LARGE {
+        return Err(Fault::MalformedEntityReference(start));
+    }
+    let character = character(number as u32);
+    if !may_stand(character) || !is_at(text, end, b';') {
+        return Err(Fault::MalformedEntityReference(start));
+    }
+    cursor.pos = after_byte(text, end, b';');
+    Ok(Reference::Character(character))
+}
+
+/// The character that one of the five predefined names stands for (XML 1.0 section 4.6).
+#[inline]
+fn predefined(name: &str) -> Option<char>
+    ensures { result ≡ spec.predefined name.now }
+{
+    if name == "lt" {
+        Some('<')
+    } else if name == "gt" {
+        Some('>')
+    } else if name == "amp" {
+        Some('&')
+    } else if name == "quot" {
+        Some('"')
+    } else if name == "apos" {
+        Some('\'')
+    } else {
+        None
+    }
+}
+
+/// The name and the `;` of a reference that stands here, with its `&`.
+#[inline(always)]
+#[tactic(auto, unfolding(rox_reading::specs::Values::name_reference_at))]
+fn name_reference<'input>(cursor: &mut Cursor<'input>) -> Result<Reference<'input>, Fault>
+    requires { slice_index cursor.old.text.now cursor.old.pos ≡ 38 }
+    ensures value { Reads reference_view cursor.new result (reading.name_reference_at cursor.old.text.now cursor.old.pos) }
+    ensures source { cursor.new.text ≡ cursor.old.text }
+    ensures onward { cursor.old.pos ≤ cursor.new.pos }
+    ensures name { IfOk result (IsNamed cursor.old.text.now) }
+{
+    let reference = cursor.pos;
+    let text = cursor.text;
+    let start = after_byte(text, reference, b'&');
+    if !begins::<NameStart>(text, start) {
+        return Err(Fault::MalformedEntityReference(reference));
+    }
+    let end = run_end::<NameChar>(text, start);
+    if !is_at(text, end, b';') {
+        return Err(Fault::MalformedEntityReference(reference));
+    }
+    cursor.pos = after_byte(text, end, b';');
+    Ok(match predefined(&text[start..end]) {
+        Some(character) => Reference::Character(character),
+        None => Reference::Entity(Span { start, end }, &text[start..end]),
+    })
+}
+
+/// The reference that stands here, from its `&` to its `;` (XML 1.0 [66] CharRef, [68] EntityRef). One that is not well
+/// formed is a fault at its start.
+#[inline(always)]
+#[tactic(auto, unfolding(rox_reading::specs::Values::reference_at))]
+pub fn read_reference<'input>(cursor: &mut Cursor<'input>) -> Result<Reference<'input>, Fault>
+    requires { slice_index cursor.old.text.now cursor.old.pos ≡ 38 }
+    ensures value { Reads reference_view cursor.new result (reading.reference_at cursor.old.text.now cursor.old.pos) }
+    ensures source { cursor.new.text ≡ cursor.old.text }
+    ensures onward { cursor.old.pos ≤ cursor.new.pos }
+    ensures name { IfOk result (IsNamed cursor.old.text.now) }
+{
+    let start = cursor.pos;
+    let text = cursor.text;
+    let sign = after_byte(text, start, b'&');
+    if !is_at(text, sign, b'#') {
+        return name_reference(cursor);
+    }
+    let digits = after_byte(text, sign, b'#');
+    if !is_at(text, digits, b'x') {
+        return number(cursor, digits, false);
+    }
+    number(cursor, digits + 1, true)
+}

@@ -1,0 +1,581 @@
+//! The text of runs, CDATA sections and attribute values: a slice of the source, or a text of its own where references, line
+//! ends or white space change it (XML 1.0 sections 2.11, 3.3.3 and 4.1).
+
+ghost use Rattle.std.specs.Prelude.{◌≡◌, ◌≢◌, ◌+◌, ◌-◌, ◌++◌, Bool, List, Result, Ok, IfOk, OnOk, false, ◌≤◌, ◌<◌, ◌||◌, ◌==◌, not, length, slice_index, true};
+ghost use Rattle.std.specs.List.{position_or_len};
+ghost use Rattle.std.specs.String.{string_bytes};
+ghost use Rattle.std.specs.Char.{encode_utf8};
+ghost use Rattle.std.specs.Str.{IsCharBoundary};
+ghost use Rattle.rox_grammar.specs.Content as content;
+ghost use Rattle.rox_grammar.specs.Marks.{byte_from};
+ghost use Rattle.rox_reading.specs.Values as spec;
+ghost use Rattle.rox_grammar.specs.Failing.{Gives};
+ghost use Rattle.rox_scan.specs.Gives.{Reads};
+ghost use Rattle.rox_scan.specs.Parts.{HasValue};
+ghost use Rattle.rox_grammar.specs.Entities.{Entity, text_of};
+ghost use Rattle.rox_grammar.specs.declared.fault.Fault.{Fault};
+ghost use Rattle.rox_reading.specs.Machine.{value_opener};
+ghost use Rattle.rox_scan.specs.Doctypes.{replacement_view};
+ghost use Rattle.rox_values.specs.Named.{AreDeclared};
+ghost use Rattle.rox_values.specs.Values.{Appends, AppendsBit, AppendsCharacter, AppendsPart, AppendsValue, Finds, GivesValue, behind, ends_stretch, piece_view, section_rest, section_text};
+
+use crate::how::How;
+use crate::reference::{Reference, read_reference};
+use crate::refused::Refused;
+use rox_grammar::failure::Failure;
+use rox_grammar::fault::{Fault, Span};
+use rox_scan::cursor::Cursor;
+use rox_scan::longer::{is_special, run_look};
+use rox_scan::marks::{before_byte, before_either, byte_from, either_from, has_mark};
+use rox_scan::markup::RawAttribute;
+use rox_scan::near::{ValueByte, near_end};
+use rox_scan::runs::{after_byte, is_at};
+use std::alloc::AllocError;
+
+/// A text: a slice of the source, or what the caller's buffer holds.
+#[derive(Clone, Copy, Debug)]
+pub enum Piece<'input> {
+    Plain(&'input str),
+    Changed,
+}
+
+/// The replacement text of a name, which stands at `span` in a reference that begins at `start`. A name that is not declared is
+/// a fault there.
+#[cold]
+#[inline(never)]
+fn found<'input>(
+    how: How<'_, 'input>,
+    name: &str,
+    span: Span,
+    start: usize,
+) -> Result<Cursor<'input>, Fault>
+    ensures { (es : List Entity) → AreDeclared es how.entry.entities.now → Finds result (spec.found (text_of es name.now) start span) }
+{
+    match how.entities.get(name) {
+        Some(text) => Ok(text),
+        None => Err(Fault::UnknownEntityReference(span, start)),
+    }
+}
+
+/// Appends the character of the reference that stands here, in a run; or answers the replacement text that it names.
+#[inline(always)]
+#[tactic(auto, unfolding(rox_reading::specs::Values::expansion_at))]
+fn expand<'input>(
+    cursor: &mut Cursor<'input>,
+    how: How<'_, 'input>,
+    out: &mut String,
+) -> Result<Option<Cursor<'input>>, Failure>
+    requires { slice_index cursor.old.text.now cursor.old.pos ≡ 38 }
+    ensures value { (es : List Entity) → AreDeclared es how.entry.entities.now
+        → AppendsBit (string_bytes out.old) (string_bytes out.new) cursor.new result (spec.expansion_at es cursor.old.text.now cursor.old.pos) }
+    ensures source { cursor.new.text ≡ cursor.old.text }
+{
+    let start = cursor.pos;
+    match read_reference(cursor)? {
+        Reference::Character(character) => {
+            out.push(character)?;
+            Ok(None)
+        }
+        Reference::Entity(span, name) => {
+            let text = found(how, name, span, start)?;
+            Ok(Some(text))
+        }
+    }
+}
+
+/// Whether the bytes are a run's text as they stand: they have no `&` and no CR.
+#[inline]
+fn is_plain(bytes: &[u8]) -> bool
+    ensures { result ≡ content.is_plain bytes.now }
+{
+    before_either(bytes, b'&', b'\r') == bytes.len()
+}
+
+/// Appends a line feed for the line end that stands here: a CR, and the LF behind it if one stands there before `stop`.
+#[tactic(auto, unfolding(rox_reading::specs::Values::run_bit_at))]
+fn line_end(cursor: &mut Cursor<'_>, stop: usize, out: &mut String) -> Result<(), Failure>
+    requires here { slice_index cursor.old.text.now cursor.old.pos ≡ 13 }
+    requires before { cursor.old.pos < stop }
+    requires cut { IsCharBoundary cursor.old.text.now stop }
+    ensures value { (es : List Entity) → Appends (string_bytes out.old) (string_bytes out.new) cursor.new result (spec.run_bit_at true es cursor.old.text.now stop cursor.old.pos) }
+    ensures source { cursor.new.text ≡ cursor.old.text }
+{
+    cursor.advance();
+    out.push('\n')?;
+    if is_at(&cursor.text[..stop], cursor.pos, b'\n') {
+        cursor.advance();
+    }
+    Ok(())
+}
+
+/// Appends all of a run up to the next `&` or CR.
+#[tactic(auto, unfolding(rox_reading::specs::Values::run_bit_at))]
+fn main_run(cursor: &mut Cursor<'_>, stop: usize, out: &mut String) -> Result<(), Failure>
+    requires before { cursor.old.pos < stop }
+    requires cut { IsCharBoundary cursor.old.text.now stop }
+    requires no_reference { slice_index cursor.old.text.now cursor.old.pos ≢ 38 }
+    requires no_line_end { slice_index cursor.old.text.now cursor.old.pos ≢ 13 }
+    ensures value { (es : List Entity) → Appends (string_bytes out.old) (string_bytes out.new) cursor.new result (spec.run_bit_at true es cursor.old.text.now stop cursor.old.pos) }
+    ensures source { cursor.new.text ≡ cursor.old.text }
+{
+    let start = cursor.pos;
+    let text = cursor.text;
+    let end = either_from(&text[..stop], start, b'&', b'\r');
+    out.push_str(&text[start..end])?;
+    cursor.pos = end;
+    Ok(())
+}
+
+/// Appends all of a run of a replacement text up to the next `&`.
+#[tactic(auto, unfolding(rox_reading::specs::Values::run_bit_at))]
+fn inner_run(cursor: &mut Cursor<'_>, stop: usize, out: &mut String) -> Result<(), Failure>
+    requires before { cursor.old.pos < stop }
+    requires cut { IsCharBoundary cursor.old.text.now stop }
+    requires no_reference { slice_index cursor.old.text.now cursor.old.pos ≢ 38 }
+    ensures value { (es : List Entity) → Appends (string_bytes out.old) (string_bytes out.new) cursor.new result (spec.run_bit_at false es cursor.old.text.now stop cursor.old.pos) }
+    ensures source { cursor.new.text ≡ cursor.old.text }
+{
+    let start = cursor.pos;
+    let text = cursor.text;
+    let end = byte_from(&text[..stop], start, b'&');
+    out.push_str(&text[start..end])?;
+    cursor.pos = end;
+    Ok(())
+}
+
+/// Appends a bit of a run: a reference, a line end, or all up to the next of these; or answers the replacement text that a
+/// reference names. Within a replacement text line ends stay as they are.
+#[tactic(auto, unfolding(rox_reading::specs::Values::run_bit_at))]
+fn run_bit<'input>(
+    cursor: &mut Cursor<'input>,
+    stop: usize,
+    how: How<'_, 'input>,
+    out: &mut String,
+) -> Result<Option<Cursor<'input>>, Failure>
+    requires before { cursor.old.pos < stop }
+    requires cut { IsCharBoundary cursor.old.text.now stop }
+    ensures value { (es : List Entity) → AreDeclared es how.entry.entities.now
+        → AppendsBit (string_bytes out.old) (string_bytes out.new) cursor.new result (spec.run_bit_at how.entry.main es cursor.old.text.now stop cursor.old.pos) }
+    ensures source { cursor.new.text ≡ cursor.old.text }
+{
+    let here = cursor.text.as_bytes()[cursor.pos];
+    if here == b'&' {
+        return expand(cursor, how, out);
+    }
+    if !how.main {
+        inner_run(cursor, stop, out)?;
+        return Ok(None);
+    }
+    if here == b'\r' {
+        line_end(cursor, stop, out)?;
+        return Ok(None);
+    }
+    main_run(cursor, stop, out)?;
+    Ok(None)
+}
+
+/// Appends what the run from here up to `stop` stands for, or up to the next reference to an entity, whose replacement text
+/// it answers. Within a replacement text line ends stay as they are.
+pub fn run_part<'input>(
+    cursor: &mut Cursor<'input>,
+    stop: usize,
+    how: How<'_, 'input>,
+    out: &mut String,
+) -> Result<Option<Cursor<'input>>, Failure>
+    requires { IsCharBoundary cursor.old.text.now stop }
+    ensures value { (es : List Entity) → AreDeclared es how.entry.entities.now
+        → AppendsPart (string_bytes out.old) (string_bytes out.new) cursor.new result (spec.run_part how.entry.main es (stop - cursor.old.pos) cursor.old.text.now stop cursor.old.pos) }
+    ensures source { cursor.new.text ≡ cursor.old.text }
+{
+    'bits: for _turn in cursor.pos..stop {
+        if cursor.pos >= stop {
+            return Ok(None);
+        }
+        if let Some(text) = run_bit(cursor, stop, how, out)? {
+            return Ok(Some(text));
+        }
+    }
+    Ok(None)
+}
+
+/// How many bytes come before the first special one, or all.
+fn before_special(bytes: &[u8]) -> usize
+    ensures value { result ≡ position_or_len spec.is_special bytes.now }
+    ensures within { result ≤ length bytes.now }
+    ensures found { result < length bytes.now → spec.is_special (slice_index bytes.now result) ≡ true }
+{
+    for (index, byte) in bytes.iter().enumerate() {
+        if is_special(*byte) {
+            return index;
+        }
+    }
+    bytes.len()
+}
+
+/// The first place from `at` on of a special byte of a value, or the end.
+#[tactic(auto, using(rox_scan::proofs::NearLemmas::special_goes_on, rox_scan::proofs::NearLemmas::value_cut), unfolding(rox_grammar::specs::Marks::byte_from))]
+fn special_from(text: &str, at: usize) -> usize
+    requires { IsCharBoundary text.now at }
+    ensures place { result ≡ byte_from spec.is_special text.now at }
+    ensures onward { at ≤ result }
+    ensures cut { IsCharBoundary text.now result }
+{
+    let near = near_end::<ValueByte>(text, at);
+    near + before_special(text[near..].as_bytes())
+}
+
+/// Appends a space for the white space byte that stands here, and nothing for a CR right before a LF.
+#[tactic(auto, unfolding(rox_reading::specs::Values::value_bit_at))]
+fn white_space(cursor: &mut Cursor<'_>, stop: usize, out: &mut String) -> Result<(), Failure>
+    requires here { spec.is_special (slice_index cursor.old.text.now cursor.old.pos) ≡ true }
+    requires no_reference { slice_index cursor.old.text.now cursor.old.pos ≢ 38 }
+    requires before { cursor.old.pos < stop }
+    requires cut { IsCharBoundary cursor.old.text.now stop }
+    ensures value { (main : Bool) (es : List Entity) → Appends (string_bytes out.old) (string_bytes out.new) cursor.new result (spec.value_bit_at main es cursor.old.text.now stop cursor.old.pos) }
+    ensures source { cursor.new.text ≡ cursor.old.text }
+{
+    let here = cursor.text.as_bytes()[cursor.pos];
+    cursor.advance();
+    if here == b'\r' && is_at(&cursor.text[..stop], cursor.pos, b'\n') {
+        return Ok(());
+    }
+    out.push(' ')?;
+    Ok(())
+}
+
+/// Appends a character that a reference names which begins at `start`, in a value. Within a replacement text white space gives a
+/// space, and a `<` is a fault (XML 1.0 sections 3.1 and 3.3.3).
+#[inline(always)]
+fn character_in_value(
+    character: char,
+    start: usize,
+    main: bool,
+    out: &mut String,
+) -> Result<(), Failure>
+    ensures { (read : Result spec.Bit Fault) → read ≡ Ok (spec.bytes_of (encode_utf8 character)) → AppendsCharacter (string_bytes out.old) (string_bytes out.new) result (spec.tested_bit main start (spec.character_of character) read) }
+{
+    if main {
+        out.push(character)?;
+        return Ok(());
+    }
+    if character == '<' {
+        return Err(Failure::Fault(Fault::InvalidAttributeValue(start)));
+    }
+    if matches!(character, '\t' | '\n' | '\r') {
+        out.push(' ')?;
+    } else {
+        out.push(character)?;
+    }
+    Ok(())
+}
+
+/// Appends the character of the reference that stands here, in a value; or answers the replacement text that it names.
+#[inline(always)]
+#[tactic(auto, unfolding(rox_reading::specs::Values::value_reference_at))]
+fn expand_in_value<'input>(
+    cursor: &mut Cursor<'input>,
+    how: How<'_, 'input>,
+    out: &mut String,
+) -> Result<Option<Cursor<'input>>, Failure>
+    requires { slice_index cursor.old.text.now cursor.old.pos ≡ 38 }
+    ensures value { (es : List Entity) → AreDeclared es how.entry.entities.now
+        → AppendsBit (string_bytes out.old) (string_bytes out.new) cursor.new result (spec.value_reference_at how.entry.main es cursor.old.text.now cursor.old.pos) }
+    ensures source { cursor.new.text ≡ cursor.old.text }
+{
+    let start = cursor.pos;
+    match read_reference(cursor)? {
+        Reference::Character(character) => {
+            character_in_value(character, start, how.main, out)?;
+            Ok(None)
+        }
+        Reference::Entity(span, name) => {
+            let text = found(how, name, span, start)?;
+            Ok(Some(text))
+        }
+    }
+}
+
+/// `<`, `&`, or white space that is no space.
+#[inline(always)]
+fn is_stretch_end(byte: u8) -> bool
+    ensures { result ≡ ends_stretch byte }
+{
+    is_special(byte) | (byte == b'<')
+}
+
+/// How many bytes come before the first of these, or all.
+fn before_stop(bytes: &[u8]) -> usize
+    ensures value { result ≡ position_or_len ends_stretch bytes.now }
+    ensures within { result ≤ length bytes.now }
+    ensures found { result < length bytes.now → ends_stretch (slice_index bytes.now result) ≡ true }
+{
+    for (index, byte) in bytes.iter().enumerate() {
+        if is_stretch_end(*byte) {
+            return index;
+        }
+    }
+    bytes.len()
+}
+
+/// The first place from `at` on of a special byte of a value or a `<`, or the end.
+#[tactic(auto, unfolding(rox_grammar::specs::Marks::byte_from))]
+fn stretch_end(text: &str, at: usize) -> usize
+    requires { IsCharBoundary text.now at }
+    ensures place { result ≡ byte_from ends_stretch text.now at }
+    ensures onward { at ≤ result }
+    ensures cut { IsCharBoundary text.now result }
+{
+    at + before_stop(text[at..].as_bytes())
+}
+
+/// Appends all of a value in a replacement text up to the next special byte. A character that is no Char, and a `<`, is a fault.
+#[cold]
+#[inline(never)]
+#[tactic(auto, unfolding(rox_reading::specs::Values::value_bit_at, rox_reading::specs::Values::stretch_at))]
+fn inner_stretch(cursor: &mut Cursor<'_>, stop: usize, out: &mut String) -> Result<(), Failure>
+    requires before { cursor.old.pos < stop }
+    requires cut { IsCharBoundary cursor.old.text.now stop }
+    requires plain { spec.is_special (slice_index cursor.old.text.now cursor.old.pos) ≡ false }
+    ensures value { (es : List Entity) → Appends (string_bytes out.old) (string_bytes out.new) cursor.new result (spec.value_bit_at false es cursor.old.text.now stop cursor.old.pos) }
+    ensures source { cursor.new.text ≡ cursor.old.text }
+{
+    let text = cursor.text;
+    let end = stretch_end(&text[..stop], cursor.pos);
+    let raw = cursor.chars_up_to(end)?;
+    if is_at(&text[..stop], end, b'<') {
+        return Err(Failure::Fault(Fault::InvalidAttributeValue(end)));
+    }
+    out.push_str(raw)?;
+    Ok(())
+}
+
+/// Appends all of a value in the main text up to the next special byte.
+#[tactic(auto, unfolding(rox_reading::specs::Values::value_bit_at, rox_reading::specs::Values::stretch_at))]
+fn main_stretch(cursor: &mut Cursor<'_>, stop: usize, out: &mut String) -> Result<(), Failure>
+    requires before { cursor.old.pos < stop }
+    requires cut { IsCharBoundary cursor.old.text.now stop }
+    requires plain { spec.is_special (slice_index cursor.old.text.now cursor.old.pos) ≡ false }
+    ensures value { (es : List Entity) → Appends (string_bytes out.old) (string_bytes out.new) cursor.new result (spec.value_bit_at true es cursor.old.text.now stop cursor.old.pos) }
+    ensures source { cursor.new.text ≡ cursor.old.text }
+{
+    let start = cursor.pos;
+    let text = cursor.text;
+    let end = special_from(&text[..stop], start);
+    out.push_str(&text[start..end])?;
+    cursor.pos = end;
+    Ok(())
+}
+
+/// Appends a bit of a value: a reference, white space, or all up to the next of these; or answers the replacement text that a
+/// reference names.
+#[inline(always)]
+#[tactic(auto, unfolding(rox_reading::specs::Values::value_bit_at))]
+fn value_bit<'input>(
+    cursor: &mut Cursor<'input>,
+    stop: usize,
+    how: How<'_, 'input>,
+    out: &mut String,
+) -> Result<Option<Cursor<'input>>, Failure>
+    requires before { cursor.old.pos < stop }
+    requires cut { IsCharBoundary cursor.old.text.now stop }
+    ensures value { (es : List Entity) → AreDeclared es how.entry.entities.now
+        → AppendsBit (string_bytes out.old) (string_bytes out.new) cursor.new result (spec.value_bit_at how.entry.main es cursor.old.text.now stop cursor.old.pos) }
+    ensures source { cursor.new.text ≡ cursor.old.text }
+{
+    let here = cursor.text.as_bytes()[cursor.pos];
+    if here == b'&' {
+        return expand_in_value(cursor, how, out);
+    }
+    if is_special(here) {
+        white_space(cursor, stop, out)?;
+        return Ok(None);
+    }
+    if how.main {
+        main_stretch(cursor, stop, out)?;
+        return Ok(None);
+    }
+    inner_stretch(cursor, stop, out)?;
+    Ok(None)
+}
+
+/// Appends what the value's text from here up to `stop` stands for, where so many replacement texts may be opened; it has at most
+/// so many bits. Answers how many may be opened behind it.
+#[cycle(values)]
+fn value_text<'input>(
+    cursor: &mut Cursor<'input>,
+    stop: usize,
+    bits: usize,
+    how: How<'_, 'input>,
+    mut left: u32,
+    out: &mut String,
+) -> Result<u32, Refused<'input>>
+    requires { IsCharBoundary cursor.old.text.now stop }
+    ensures { (es : List Entity) → AreDeclared es how.entry.entities.now
+        → AppendsValue (string_bytes out.old) (string_bytes out.new) result (spec.value_text how.entry.main es (value_opener es how.entry.deep how.entry.main) bits cursor.old.text.now stop cursor.old.pos left) }
+{
+    'bits: for _turn in 0..bits {
+        if cursor.pos >= stop {
+            return Ok(left);
+        }
+        if let Some(text) = value_bit(cursor, stop, how, out)? {
+            left = open_value(text, cursor.pos, how, left, out)?;
+        }
+    }
+    Ok(left)
+}
+
+/// Appends a replacement text as a part of a value (XML 1.0 section 4.4.5). The reference ends at `after`. Answers how many may
+/// be opened behind it.
+#[cycle(values)]
+#[cold]
+#[inline(never)]
+fn open_value<'input>(
+    text: Cursor<'input>,
+    after: usize,
+    how: How<'_, 'input>,
+    left: u32,
+    out: &mut String,
+) -> Result<u32, Refused<'input>>
+    ensures { (es : List Entity) → AreDeclared es how.entry.entities.now
+        → AppendsValue (string_bytes out.old) (string_bytes out.new) result (value_opener es how.entry.deep how.entry.main (replacement_view text.entry) after left) }
+{
+    let (within, inner) = how.opened(after, left, 0)?;
+    let mut cursor = text;
+    let end = text.text.len();
+    match value_text(&mut cursor, end, end, within, inner, out) {
+        Ok(inner) => Ok(how.left_behind(left, inner)),
+        Err(refused) => Err(refused.within(text.text)),
+    }
+}
+
+/// Whether a run ends at `at`: a `<` stands there, or the text ends.
+#[inline(always)]
+pub fn is_run_end(text: &str, at: usize) -> bool
+    requires { at ≤ length text.now }
+    ensures { result ≡ (at == length text.now || slice_index text.now at == 60) }
+{
+    at == text.len() || text.as_bytes()[at] == b'<'
+}
+
+/// A run of character data as it stands. `plain` says that it has no reference and no carriage return.
+#[derive(Clone, Copy, Debug)]
+pub struct RawRun<'input> {
+    pub text: &'input str,
+    pub plain: bool,
+}
+
+/// A run of character data, up to the next `<` or the end (XML 1.0 section 2.4), as it stands: of Chars, and without `]]>`,
+/// which is a fault at its end.
+pub fn raw_run<'input>(cursor: &mut Cursor<'input>) -> Result<RawRun<'input>, Fault>
+    ensures value { Reads (λ raw. raw.text.now) cursor.new result (spec.raw_run_at cursor.old.text.now cursor.old.pos) }
+    ensures plain { IfOk result (λ raw. raw.plain ≡ content.is_plain raw.text.now) }
+    ensures source { cursor.new.text ≡ cursor.old.text }
+    ensures cut { OnOk result (IsCharBoundary cursor.old.text.now cursor.new.pos) }
+{
+    let start = cursor.pos;
+    let text = cursor.text;
+    let look = run_look(text, start);
+    if is_run_end(text, look.end) {
+        cursor.pos = look.end;
+        return Ok(RawRun {
+            text: &text[start..look.end],
+            plain: look.plain,
+        });
+    }
+    faulty_run(cursor)
+}
+
+/// The same of a run that is not in order.
+#[cold]
+#[inline(never)]
+#[tactic(auto, unfolding(rox_reading::specs::Values::raw_run_at))]
+fn faulty_run<'input>(cursor: &mut Cursor<'input>) -> Result<RawRun<'input>, Fault>
+    ensures value { Reads (λ raw. raw.text.now) cursor.new result (spec.raw_run_at cursor.old.text.now cursor.old.pos) }
+    ensures plain { IfOk result (λ raw. raw.plain ≡ content.is_plain raw.text.now) }
+    ensures source { cursor.new.text ≡ cursor.old.text }
+    ensures cut { OnOk result (IsCharBoundary cursor.old.text.now cursor.new.pos) }
+{
+    let end = byte_from(cursor.text, cursor.pos, b'<');
+    let raw = cursor.chars_up_to(end)?;
+    if has_mark(raw.as_bytes(), b"]]>") {
+        return Err(Fault::InvalidCharacterData(end));
+    }
+    Ok(RawRun {
+        text: raw,
+        plain: is_plain(raw.as_bytes()),
+    })
+}
+
+/// An attribute's value (XML 1.0 section 3.3.3): a slice of the source where it has no reference and no white space but
+/// spaces, and else what it stands for, in `scratch`, which is cleared first; and how many replacement texts may be opened
+/// behind it, where so many could before.
+#[inline]
+#[tactic(auto, unfolding(rox_reading::specs::Values::value_at))]
+pub fn value<'input>(
+    text: &'input str,
+    raw: &RawAttribute<'input>,
+    how: How<'_, 'input>,
+    left: u32,
+    scratch: &mut String,
+) -> Result<(Piece<'input>, u32), Refused<'input>>
+    requires { HasValue text.now raw.now }
+    ensures { (es : List Entity) → AreDeclared es how.entry.entities.now → GivesValue (λ p. piece_view p (string_bytes scratch.new)) result
+        (spec.value_at how.entry.main es (value_opener es how.entry.deep how.entry.main) text.entry.now raw.now.value_start raw.now.value_end left) }
+{
+    if raw.plain {
+        return Ok((Piece::Plain(raw.value), left));
+    }
+    scratch.clear();
+    let mut cursor = Cursor::at(text, raw.value_start);
+    let bits = raw.value_end.saturating_sub(raw.value_start);
+    let left = value_text(&mut cursor, raw.value_end, bits, how, left, scratch)?;
+    Ok((Piece::Changed, left))
+}
+
+/// The text of a CDATA section (XML 1.0 sections 2.7 and 2.11): a slice of the source where it has no CR, and else with a LF
+/// for each line end, in `scratch`, which is cleared first. The only error is want of memory.
+#[inline]
+pub fn cdata_text<'input>(raw: &'input str, scratch: &mut String) -> Result<Piece<'input>, Failure>
+    ensures { Gives (λ p. piece_view p (string_bytes scratch.new)) result (Ok (section_text raw.now)) }
+{
+    let bytes = raw.as_bytes();
+    if before_byte(bytes, b'\r') == bytes.len() {
+        return Ok(Piece::Plain(raw));
+    }
+    scratch.clear();
+    line_feeds(raw, scratch)?;
+    Ok(Piece::Changed)
+}
+
+/// Appends a text with a LF for each line end (XML 1.0 section 2.11).
+pub fn line_feeds(raw: &str, out: &mut String) -> Result<(), AllocError>
+    ensures { OnOk result (string_bytes out.new ≡ string_bytes out.old ++ section_rest raw.now 0) }
+{
+    let mut at = 0;
+    while at < raw.len() {
+        at = section_part(raw, at, out)?;
+    }
+    Ok(())
+}
+
+/// Appends a part of a CDATA section: a line end, or all up to the next CR. It answers where the part ends.
+#[tactic(auto, using(crate::proofs::SectionLemmas::part_stretch, crate::proofs::SectionLemmas::stretch_moves, crate::proofs::SectionLemmas::part_feed, crate::proofs::SectionLemmas::part_return))]
+fn section_part(raw: &str, at: usize, out: &mut String) -> Result<usize, AllocError>
+    requires within { at < length raw.now }
+    requires cut { IsCharBoundary raw.now at }
+    ensures value { IfOk result (λ next. string_bytes out.new ++ section_rest raw.now next ≡ string_bytes out.old ++ section_rest raw.now at) }
+    ensures moves { IfOk result (λ next. at < next) }
+    ensures cut { IfOk result (λ next. IsCharBoundary raw.now next) }
+{
+    if raw.as_bytes()[at] != b'\r' {
+        let end = byte_from(raw, at, b'\r');
+        out.push_str(&raw[at..end])?;
+        return Ok(end);
+    }
+    out.push('\n')?;
+    let next = after_byte(raw, at, b'\r');
+    if is_at(raw, next, b'\n') {
+        return Ok(after_byte(raw, next, b'\n'));
+    }
+    Ok(next)
+}
