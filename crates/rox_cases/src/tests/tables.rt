@@ -4,11 +4,11 @@
 ghost use Rattle.std.specs.Prelude.{◌<◌, length, IfOk, OnOk};
 ghost use Rattle.rox_tables.specs.Lines.{AreRows};
 
+use rox_grammar::failure::Failure;
 use rox_tables::recent::Recent;
 use rox_tables::rope::{add, both, count, find, height, without};
 use rox_tables::storage::StringStorage;
 use rox_tables::tables::{Scope, Stretch};
-use rox_grammar::failure::Failure;
 use std::process::Abort;
 use std::test::Fail;
 
