@@ -1,4 +1,4 @@
-//! Callers of the library, and the tests of its public calls.
+//! Callers of the library, proved by its public contracts alone.
 #![tactic(auto)]
 
 pub mod ids;

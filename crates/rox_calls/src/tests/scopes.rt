@@ -8,28 +8,30 @@ use std::process::Abort;
 use std::test::Fail;
 
 /// Twenty declarations. That of the default is the eighteenth.
-const MANY: [(Option<&str>, &str); 20] = [
-    (Some("a"), "A"),
-    (Some("b"), "B"),
-    (Some("c"), "C"),
-    (Some("d"), "D"),
-    (Some("e"), "E"),
-    (Some("f"), "F"),
-    (Some("g"), "G"),
-    (Some("h"), "H"),
-    (Some("i"), "I"),
-    (Some("j"), "J"),
-    (Some("k"), "K"),
-    (Some("l"), "L"),
-    (Some("m"), "M"),
-    (Some("n"), "N"),
-    (Some("o"), "O"),
-    (Some("p"), "P"),
-    (Some("q"), "Q"),
-    (None, "u"),
-    (Some("r"), "R"),
-    (Some("s"), "S"),
-];
+fn many() -> [(Option<&'static str>, &'static str); 20] {
+    [
+        (Some("a"), "A"),
+        (Some("b"), "B"),
+        (Some("c"), "C"),
+        (Some("d"), "D"),
+        (Some("e"), "E"),
+        (Some("f"), "F"),
+        (Some("g"), "G"),
+        (Some("h"), "H"),
+        (Some("i"), "I"),
+        (Some("j"), "J"),
+        (Some("k"), "K"),
+        (Some("l"), "L"),
+        (Some("m"), "M"),
+        (Some("n"), "N"),
+        (Some("o"), "O"),
+        (Some("p"), "P"),
+        (Some("q"), "Q"),
+        (None, "u"),
+        (Some("r"), "R"),
+        (Some("s"), "S"),
+    ]
+}
 
 /// Writes declarations behind a tag's name.
 fn declare(text: &mut String, declared: &[(Option<&str>, &str)]) -> Result<(), AllocError> {
@@ -63,8 +65,9 @@ fn is_in(rt: &impl Abort, element: Node<'_, '_>, uri: &str) {
 
 #[test]
 fn many_on_one_tag(rt: HostRuntime) -> Result<(), Fail> {
+    let many = many();
     for count in 15..21 {
-        let declared = &MANY[..count];
+        let declared = &many[..count];
         let text = text_of(rt.alloc(), "<a:e", declared, "/>")?;
         let document = document_of(&rt, text.as_str());
         let element = document.root_element();
@@ -104,10 +107,11 @@ fn lists_from_both_ends(rt: &impl Abort, element: Node<'_, '_>, wanted: &[(Optio
 
 #[test]
 fn many_from_both_ends(rt: HostRuntime) -> Result<(), Fail> {
-    let text = text_of(rt.alloc(), "<r", &MANY, "><e/></r>")?;
+    let many = many();
+    let text = text_of(rt.alloc(), "<r", &many, "><e/></r>")?;
     let document = document_of(&rt, text.as_str());
-    lists_from_both_ends(&rt, document.root_element(), &MANY);
-    lists_from_both_ends(&rt, node_of(&rt, &document, 2), &MANY);
+    lists_from_both_ends(&rt, document.root_element(), &many);
+    lists_from_both_ends(&rt, node_of(&rt, &document, 2), &many);
     Ok(())
 }
 
@@ -116,33 +120,36 @@ const INNER: &str = "><c:e xmlns:q='1' xmlns='' xmlns:c='2' xmlns:z='3' q:x='' c
     <q:e/><e/></c:e><c:e q:x='' c:x='' a:x='' x=''/><e/></r>";
 
 /// What the first of them lists below the twenty.
-const LISTED: [(Option<&str>, &str); 21] = [
-    (Some("q"), "1"),
-    (None, ""),
-    (Some("c"), "2"),
-    (Some("z"), "3"),
-    (Some("a"), "A"),
-    (Some("b"), "B"),
-    (Some("d"), "D"),
-    (Some("e"), "E"),
-    (Some("f"), "F"),
-    (Some("g"), "G"),
-    (Some("h"), "H"),
-    (Some("i"), "I"),
-    (Some("j"), "J"),
-    (Some("k"), "K"),
-    (Some("l"), "L"),
-    (Some("m"), "M"),
-    (Some("n"), "N"),
-    (Some("o"), "O"),
-    (Some("p"), "P"),
-    (Some("r"), "R"),
-    (Some("s"), "S"),
-];
+fn listed_inside() -> [(Option<&'static str>, &'static str); 21] {
+    [
+        (Some("q"), "1"),
+        (None, ""),
+        (Some("c"), "2"),
+        (Some("z"), "3"),
+        (Some("a"), "A"),
+        (Some("b"), "B"),
+        (Some("d"), "D"),
+        (Some("e"), "E"),
+        (Some("f"), "F"),
+        (Some("g"), "G"),
+        (Some("h"), "H"),
+        (Some("i"), "I"),
+        (Some("j"), "J"),
+        (Some("k"), "K"),
+        (Some("l"), "L"),
+        (Some("m"), "M"),
+        (Some("n"), "N"),
+        (Some("o"), "O"),
+        (Some("p"), "P"),
+        (Some("r"), "R"),
+        (Some("s"), "S"),
+    ]
+}
 
 #[test]
 fn inner_declarations_hide_outer_ones(rt: HostRuntime) -> Result<(), Fail> {
-    let text = text_of(rt.alloc(), "<r", &MANY, INNER)?;
+    let (many, inside) = (many(), listed_inside());
+    let text = text_of(rt.alloc(), "<r", &many, INNER)?;
     let document = document_of(&rt, text.as_str());
     for (id, uri, is_inner) in [
         (1, "u", false),
@@ -154,7 +161,7 @@ fn inner_declarations_hide_outer_ones(rt: HostRuntime) -> Result<(), Fail> {
     ] {
         let element = node_of(&rt, &document, id);
         is_in(&rt, element, uri);
-        lists(&rt, element, if is_inner { &LISTED } else { &MANY });
+        lists(&rt, element, if is_inner { &inside } else { &many });
     }
     let (inner, behind) = (node_of(&rt, &document, 2), node_of(&rt, &document, 5));
     attributes_are_in(&rt, inner, &[Some("1"), Some("2"), Some("A"), None]);
@@ -182,7 +189,7 @@ const DEEP: &str =
 
 #[test]
 fn outer_declarations_are_found_again(rt: HostRuntime) -> Result<(), Fail> {
-    let text = text_of(rt.alloc(), "<r", &MANY, DEEP)?;
+    let text = text_of(rt.alloc(), "<r", &many(), DEEP)?;
     let document = document_of(&rt, text.as_str());
     for (id, default, a, s) in [
         (5, "4", "3", "5"),
@@ -201,7 +208,7 @@ fn outer_declarations_are_found_again(rt: HostRuntime) -> Result<(), Fail> {
 /// An element that declares each of the twenty for the URI 0, and in it one with these declarations.
 fn declared_again(alloc: Global, declared: &[(Option<&str>, &str)]) -> Result<String, AllocError> {
     let mut text = String::from_str(alloc, "<r")?;
-    for (prefix, _) in &MANY {
+    for (prefix, _) in &many() {
         declare(&mut text, &[(*prefix, "0")])?;
     }
     text.push_str("><b:e")?;
@@ -229,11 +236,11 @@ fn lists_first(
 #[test]
 fn many_are_declared_again(rt: HostRuntime) -> Result<(), Fail> {
     for count in 15..21 {
-        let text = declared_again(rt.alloc(), &MANY[..count])?;
+        let text = declared_again(rt.alloc(), &many()[..count])?;
         let document = document_of(&rt, text.as_str());
         for (id, own, uri) in [(2, count, "B"), (3, count, "B"), (4, 0, "0")] {
             let element = node_of(&rt, &document, id);
-            lists_first(&rt, element, &MANY, own);
+            lists_first(&rt, element, &many(), own);
             is_in(&rt, element, uri);
         }
     }
@@ -256,11 +263,11 @@ fn xml_among_many(rt: HostRuntime) -> Result<(), Fail> {
             " xml:x='' a:x=''><e xmlns:xml='http://www.w3.org/XML/1998/namespace' xml:x='' a:x=''/></r>",
         ),
     ] {
-        let text = text_of(rt.alloc(), open, &MANY, rest)?;
+        let text = text_of(rt.alloc(), open, &many(), rest)?;
         let document = document_of(&rt, text.as_str());
         for id in [1, 2] {
             let element = node_of(&rt, &document, id);
-            lists(&rt, element, &MANY);
+            lists(&rt, element, &many());
             attributes_are_in(&rt, element, &[Some(NS_XML_URI), Some("A")]);
             finds_uri(&rt, element, Some("xml"), None);
             finds_prefix(&rt, element, NS_XML_URI, Some("xml"));
@@ -274,7 +281,7 @@ const HIDDEN: &str = "><e xmlns=''><e x=''/><a:e/><e xmlns='v'/><e/></e><e x=''/
 
 #[test]
 fn an_empty_default_among_many(rt: HostRuntime) -> Result<(), Fail> {
-    let text = text_of(rt.alloc(), "<r", &MANY, HIDDEN)?;
+    let text = text_of(rt.alloc(), "<r", &many(), HIDDEN)?;
     let document = document_of(&rt, text.as_str());
     for (id, uri, default) in [
         (1, "u", "u"),
@@ -299,8 +306,8 @@ fn an_empty_default_among_many(rt: HostRuntime) -> Result<(), Fail> {
 
 /// Elements below the twenty that declare one of them each for the URI 0, with an element in each and one behind it.
 fn siblings(alloc: Global) -> Result<String, AllocError> {
-    let mut text = text_of(alloc, "<r", &MANY, ">")?;
-    for (prefix, _) in &MANY {
+    let mut text = text_of(alloc, "<r", &many(), ">")?;
+    for (prefix, _) in &many() {
         text.push_str("<e")?;
         declare(&mut text, &[(*prefix, "0")])?;
         text.push_str("><e/></e><e/>")?;
@@ -316,7 +323,7 @@ fn listed_below<'a>(
 ) -> Result<Vec<(Option<&'a str>, &'a str)>, AllocError> {
     let mut listed = Vec::new(alloc);
     listed.push((own, "0"))?;
-    for (prefix, uri) in &MANY {
+    for (prefix, uri) in &many() {
         if *prefix != own {
             listed.push((*prefix, *uri))?;
         }
@@ -329,19 +336,20 @@ fn siblings_that_each_hide_one_of_many(rt: HostRuntime) -> Result<(), Fail> {
     let text = siblings(rt.alloc())?;
     let document = document_of(&rt, text.as_str());
     for turn in 0..20 {
-        let own = MANY[turn as usize].0;
+        let own = many()[turn as usize].0;
         let id = 3 * turn + 2;
         let listed = listed_below(rt.alloc(), own)?;
         lists(&rt, node_of(&rt, &document, id), &listed);
         lists(&rt, node_of(&rt, &document, id + 1), &listed);
-        lists(&rt, node_of(&rt, &document, id + 2), &MANY);
+        lists(&rt, node_of(&rt, &document, id + 2), &many());
     }
     Ok(())
 }
 
 /// Wants an element to list so many of the twenty with the URI 0, the last of them first, and behind them the others.
 fn lists_levels(rt: &impl Abort, element: Node<'_, '_>, count: usize) {
-    let (declared, inherited) = MANY.split_at(count.min(20));
+    let many = many();
+    let (declared, inherited) = many.split_at(count.min(20));
     let mut namespaces = element.namespaces();
     assert_eq!(rt; namespaces.len(), 20);
     for (prefix, _) in declared.iter().rev() {
@@ -355,7 +363,8 @@ fn lists_levels(rt: &impl Abort, element: Node<'_, '_>, count: usize) {
 
 /// The same from the back.
 fn lists_levels_from_the_back(rt: &impl Abort, element: Node<'_, '_>, count: usize) {
-    let (declared, inherited) = MANY.split_at(count.min(20));
+    let many = many();
+    let (declared, inherited) = many.split_at(count.min(20));
     let mut namespaces = element.namespaces();
     for pair in inherited.iter().rev() {
         is_pair(rt, namespaces.next_back(), pair);
@@ -368,13 +377,13 @@ fn lists_levels_from_the_back(rt: &impl Abort, element: Node<'_, '_>, count: usi
 
 /// Elements below the twenty, each in the one before it, that declare one of them each for the URI 0, with an element behind each.
 fn levels(alloc: Global) -> Result<String, AllocError> {
-    let mut text = text_of(alloc, "<r", &MANY, ">")?;
-    for (prefix, _) in &MANY {
+    let mut text = text_of(alloc, "<r", &many(), ">")?;
+    for (prefix, _) in &many() {
         text.push_str("<e")?;
         declare(&mut text, &[(*prefix, "0")])?;
         text.push_str(">")?;
     }
-    for _ in &MANY {
+    for _ in &many() {
         text.push_str("</e><e/>")?;
     }
     text.push_str("</r>")?;
@@ -417,7 +426,7 @@ fn declared_twice_on_one_tag(rt: HostRuntime) {
     for count in 15..21 {
         refused(
             &rt,
-            &MANY[..count],
+            &many()[..count],
             &[
                 ("xmlns:a='v'/>", "namespace 'a' at 2:1 is already defined"),
                 ("xmlns:h='H'/>", "namespace 'h' at 2:1 is already defined"),
@@ -435,7 +444,7 @@ fn declared_twice_on_one_tag(rt: HostRuntime) {
     }
     refused(
         &rt,
-        &MANY,
+        &many(),
         &[
             ("xmlns:p='v'/>", "namespace 'p' at 2:1 is already defined"),
             ("xmlns:q='v'/>", "namespace 'q' at 2:1 is already defined"),
@@ -454,7 +463,7 @@ fn declared_twice_on_one_tag(rt: HostRuntime) {
 fn declared_twice_below_many(rt: HostRuntime) {
     refused(
         &rt,
-        &MANY,
+        &many(),
         &[
             (
                 "><e xmlns:a='1' xmlns:b='1' xmlns:a='1'/></r>",
@@ -472,7 +481,7 @@ fn declared_twice_below_many(rt: HostRuntime) {
 fn unknown_prefixes_among_many(rt: HostRuntime) {
     refused(
         &rt,
-        &MANY,
+        &many(),
         &[
             ("z:x=''/>", "an unknown namespace prefix 'z' at 2:1"),
             ("a:x='' A:x=''/>", "an unknown namespace prefix 'A' at 2:8"),
@@ -499,7 +508,7 @@ fn unknown_prefixes_among_many(rt: HostRuntime) {
 fn attributes_of_one_name_among_many(rt: HostRuntime) {
     refused(
         &rt,
-        &MANY,
+        &many(),
         &[
             (
                 "xmlns:z='B' b:x='' z:x=''/>",
