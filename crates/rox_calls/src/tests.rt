@@ -1,18 +1,14 @@
 //! Worked answers of the public calls, in tables.
 
-mod attributes;
 mod axes;
 mod calls;
 mod iterators;
 mod memory;
-mod names;
-mod namespaces;
 mod once;
 mod order;
 mod parsing;
 mod positions;
 mod printed;
-mod scopes;
 mod searches;
 mod text;
 

@@ -2,7 +2,6 @@
 
 use super::axes::{leads_over, nearest, nearest_elements};
 use super::memory::read;
-use super::namespaces::{attributes_are_in, finds_prefix, finds_uri, lists};
 use super::text::has;
 use super::{child_count, document_of, node_of, number};
 use roxmltree::{Attribute, Document, Node, NodeId, NodeType, PI, TextPos};
@@ -120,7 +119,10 @@ fn position(attribute: Attribute<'_, '_>) -> usize {
 }
 
 fn attributes_have(rt: &impl Abort, r: Node<'_, '_>) {
-    attributes_are_in(rt, r, &[None, Some("v")]);
+    assert_eq!(rt; r.attributes().len(), 2);
+    for (attribute, uri) in r.attributes().zip([None, Some("v")]) {
+        assert_eq!(rt; attribute.namespace(), uri);
+    }
     assert_eq!(rt; r.attribute("a".into()), Some("1"));
     assert_eq!(rt; r.attribute_local("a").map(position), Some(33));
     assert!(rt; !r.has_attribute("b".into()));
@@ -135,10 +137,14 @@ fn attributes_have(rt: &impl Abort, r: Node<'_, '_>) {
 }
 
 fn namespaces_have(rt: &impl Abort, r: Node<'_, '_>, e: Node<'_, '_>) -> Result<(), AllocError> {
-    lists(rt, e, &[(None, "u"), (Some("n"), "v")]);
+    assert_eq!(rt; e.namespaces().len(), 2);
+    for (namespace, (name, uri)) in e.namespaces().zip([(None, "u"), (Some("n"), "v")]) {
+        assert_eq!(rt; namespace.name(), name);
+        assert_eq!(rt; namespace.uri(), uri);
+    }
     assert_eq!(rt; e.default_namespace(), Some("u"));
-    finds_uri(rt, e, Some("n"), Some("v"));
-    finds_prefix(rt, e, "v", Some("n"));
+    assert_eq!(rt; e.lookup_namespace_uri(Some("n")), Some("v"));
+    assert_eq!(rt; e.lookup_prefix("v"), Some("n"));
     for (one, other) in r.namespaces().zip(e.namespaces()) {
         assert!(rt; one == other);
         assert!(rt; *one == other.clone()?);
