@@ -67,6 +67,7 @@ pub mod Answering
 pub mod Once
 pub mod PartOnce
 pub mod OneParse
+pub mod Counting
 pub mod FaultNever
 pub mod FaultRefusing
 pub mod SameReplies
