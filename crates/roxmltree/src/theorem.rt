@@ -144,10 +144,13 @@ pub fn trees_are_bounded(document: &Document<'_>)
 }
 
 /// Under one reference of the text at most 256 replacement texts are opened, at most ten within one another: in content, and in
-/// the value of an attribute or declaration. They are those of the entities that the text declares.
+/// the value of an attribute or declaration. They are those of the entities that the text declares. There is a count of them, and
+/// every count of what the reference opens is as small.
 pub fn openings_are_few(document: &Document<'_>)
     ensures in_content { (asked : List Asked) (tops : Forest Item) (p : ParseOf document.now.text document.now.dtd asked tops) (name : List ℕ) (b c : ℕ) (items : Forest Item) → (opens_main p.entities).content name b items c → (n : ℕ) × (Counts p.entities most_open).content name 0 items n × (n ≤ 256) }
     ensures in_value { (asked : List Asked) (tops : Forest Item) (p : ParseOf document.now.text document.now.dtd asked tops) (name : List ℕ) (b c : ℕ) (v : List ℕ) → (opens_main p.entities).value name b v c → (n : ℕ) × (Counts p.entities most_open).value name 0 v n × (n ≤ 256) }
+    ensures most_in_content { (asked : List Asked) (tops : Forest Item) (p : ParseOf document.now.text document.now.dtd asked tops) (name : List ℕ) (b c n : ℕ) (items : Forest Item) → (opens_main p.entities).content name b items c → (Counts p.entities most_open).content name 0 items n → n ≤ 256 }
+    ensures most_in_value { (asked : List Asked) (tops : Forest Item) (p : ParseOf document.now.text document.now.dtd asked tops) (name : List ℕ) (b c n : ℕ) (v : List ℕ) → (opens_main p.entities).value name b v c → (Counts p.entities most_open).value name 0 v n → n ≤ 256 }
 {
-    let _ = document;
+    document.whole();
 }
