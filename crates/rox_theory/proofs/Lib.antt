@@ -28,6 +28,7 @@ pub mod ContentOpeners
 pub mod NoEntities
 pub mod NameSpans
 pub mod FaultBasics
+pub mod FaultLimits
 pub mod FaultRows
 pub mod FaultPoints
 pub mod FaultRuns
