@@ -196,7 +196,7 @@ module _ (src : List ℕ) (utf8 : IsUtf8 src) (limit : ℕ) (tree : Forest Item)
   same_whole : tree ≡ join (join p.before p.one) p.after
   same_whole = p.is_tree ∙ sym (join_assoc p.before p.one p.after)
 
-  -- it is within the limits
+  -- which is within the limits where the parse is
   whole_fine : IsWithinLimits limit tree → IsFine limit (state (length src) (join (join p.before p.one) p.after) root p.left)
   whole_fine few =
       let merged : merge tree ≡ tree =

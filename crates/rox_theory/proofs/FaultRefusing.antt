@@ -148,7 +148,7 @@ module _ (limit : ℕ) (src : List ℕ) (utf8 : IsUtf8 src) (given : List Asked)
       declared_apart d (declared _ _ is) = declaration_apart src utf8 (after_bom src) d q t f is due lack
       declared_apart d (not_declared _ none) = true≢false (sym here' ∙ none)
 
-  -- nor a fault in it, met after the same answers
+  -- nor a fault in it, met after the same answers, but those of the limits
   inside_over : (i : ℕ) (before : Forest Item) (asked : List Asked) (source : List ℕ) (f : Fault) → Ahead src i before → at word.DoctypeStart src i ≡ true → SameAnswers asked given → InDoctype limit src i before asked source f → IsOver (IsWithinLimits limit tree) f
   inside_over i before asked source f ahead is same ill =
       let there = one_misc src utf8 ahead.declared_to p.declared_to i p.begun before p.before (one_declaration ahead.declared_to ahead.declaration) ahead.misc (doctype_stops src i is) p.misc_before (doctype_stops src p.begun begins_here) in
@@ -219,7 +219,7 @@ module _ (limit : ℕ) (src : List ℕ) (utf8 : IsUtf8 src) (given : List Asked)
   same_whole : tree ≡ join (join before_root p.one) p.after
   same_whole = p.is_tree ∙ sym (join_assoc p.before p.nodes (join p.one p.after)) ∙ sym (join_assoc before_root p.one p.after)
 
-  -- it is within the limits
+  -- which is within the limits where the parse is
   all_fine : IsWithinLimits limit tree → IsFine limit (state (length src) (join (join before_root p.one) p.after) root p.left)
   all_fine few =
       let whole : IsFine limit (state (length src) tree root p.left) =
