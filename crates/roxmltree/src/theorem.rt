@@ -1,6 +1,6 @@
 //! What users of a document rest on, each a function whose contract is the law.
 
-ghost use Rattle.std.specs.Prelude.{false, [], ◌≡◌, ◌≢◌, ◌↔◌, ℕ, Bool, ◌<◌, ◌≤◌, List, Option, Some, None, IsUtf8, length};
+ghost use Rattle.std.specs.Prelude.{false, [], ◌≡◌, ◌≢◌, ◌↔◌, ◌⊎◌, ℕ, Bool, ◌<◌, ◌≤◌, List, Option, Some, None, IsUtf8, length};
 ghost use Rattle.rox_grammar.specs.declared.fault.Fault.{Fault};
 ghost use Rattle.rox_grammar.specs.Forest.{Forest, size};
 ghost use Rattle.rox_grammar.specs.Written.{Item};
@@ -13,7 +13,11 @@ ghost use Rattle.rox_grammar.specs.Expansion.{Counts};
 ghost use Rattle.roxmltree.specs.Bounded.{IsBounded};
 ghost use Rattle.rox_grammar.specs.Faults.{FaultOf};
 ghost use Rattle.rox_grammar.specs.Refused.{RefusalOf};
+ghost use Rattle.rox_grammar.specs.Exchange.{HasTree};
 ghost use Rattle.rox_theory.specs.Answers.{SameAnswers};
+ghost use Rattle.rox_error.specs.Telling.{IsErrorOf};
+ghost use Rattle.rox_error.specs.declared.error.Error.{Error};
+ghost use Rattle.rox_error.specs.declared.error.Error.TheVariants as error;
 ghost use Rattle.roxmltree.specs.Lawful.{TextsApart, NamesDistinct, AllChars};
 ghost use Rattle.roxmltree.specs.Located.{RangesNested, AttributesInOrder, AttributesWritten, RangesSelect};
 ghost use Rattle.roxmltree.specs.Sections.{EmptyTextsAreSections};
@@ -40,6 +44,14 @@ pub fn faults_refuse()
 /// without, if the answers of the tree are the same, one after the other, as far as both go.
 pub fn refusals_refuse()
     ensures { (text source : List ℕ) (limit : ℕ) (allow dtd : Bool) (asked given : List Asked) (f : Fault) (tree : Forest grammar.Node) → IsUtf8 text → RefusalOf limit allow text asked source f → IsTreeOf text dtd given limit tree → Permits allow dtd → SameAnswers asked given → ⊥ }
+{}
+
+/// A text that has a parse, but none within the limits, is refused for a limit alone: the error of each fault that stands in it,
+/// once the answers of that parse were given, says that it has too many nodes, attributes or namespaces. A text that `exchange`
+/// answers is one that has a parse, whatever its size.
+pub fn only_limits_refuse_a_parse()
+    ensures refusals { (text source : List ℕ) (limit : ℕ) (allow dtd : Bool) (asked given : List Asked) (f : Fault) (tops : Forest Item) (e : Error) → IsUtf8 text → RefusalOf limit allow text asked source f → ParseOf text dtd given tops → Permits allow dtd → SameAnswers asked given → IsErrorOf source f e → (e ≡ error.NodesLimitReached) ⊎ ((e ≡ error.AttributesLimitReached) ⊎ (e ≡ error.NamespacesLimitReached)) }
+    ensures faults { (text : List ℕ) (limit : ℕ) (f : Fault) (tree : Forest grammar.Node) (e : Error) → IsUtf8 text → FaultOf limit text f → HasTree text tree → IsErrorOf text f e → (e ≡ error.NodesLimitReached) ⊎ ((e ≡ error.AttributesLimitReached) ⊎ (e ≡ error.NamespacesLimitReached)) }
 {}
 
 /// The tree of every document is that of its text, with what was answered for its external entities. Without a document type
