@@ -1,4 +1,5 @@
--- At a place on the way of a parse within the limits no fault stands, nor in a value of a start tag there.
+-- At a place on the way of a parse no fault stands but those of the limits, and where it is within the limits none; nor does one
+-- stand in a value of a start tag there.
 use Rattle.std.proofs.Common.{◌≡◌, ◌≢◌, ℕ, zero, suc, ◌+◌, ◌-◌, ◌<◌, ◌≤◌, ◌⊎◌, ◌==◌, Bool, true, false, List, [], ◌∷◌, length, Some, Ok, refl, sym, ap, ◌∙◌, subst, arith, inl, inr}
 use Rattle.std.specs.Str.{IsUtf8, IsCharBoundary}
 use Rattle.std.proofs.lemmas.Str.{IsCharBoundary-before_ascii, IsCharBoundary-end}
@@ -7,14 +8,16 @@ use Rattle.rox_grammar.specs.declared.fault.Fault.{Fault}
 use Rattle.rox_grammar.specs.declared.fault.Word.TheVariants as word
 use Rattle.rox_grammar.specs.Words.{word_text}
 use Rattle.rox_grammar.specs.Marks.{byte_from}
-use Rattle.rox_grammar.specs.Forest.{Forest, join}
+use Rattle.rox_grammar.specs.Forest.{Forest, Nil, join}
 use Rattle.rox_grammar.specs.Written.{Name, Attribute, Tag, Item, Element}
+use Rattle.rox_grammar.specs.Tree.{listed}
 use Rattle.rox_grammar.specs.Names.{byte, slice, spaces_end, IsQName}
 use Rattle.rox_grammar.specs.Constructs.{at, first, has_mark, AreChars, IsEq, IsLiteral, IsEnd}
 use Rattle.rox_grammar.specs.Content.{Opener, IsMisc, Value}
 use Rattle.rox_grammar.specs.Entities.{Replacement, Entity, text_of, most_open}
 use Rattle.rox_grammar.specs.State as grammar
-use Rattle.rox_grammar.specs.State.{Open, root, inside, is_root, depth_of}
+use Rattle.rox_grammar.specs.WellNamed.{IsWellNamed}
+use Rattle.rox_grammar.specs.State.{Open, root, inside, is_root, depth_of, scope_of}
 use Rattle.rox_grammar.specs.Due.{Thing, Lacks, no_qname, ends_before, DueInCData}
 use Rattle.rox_grammar.specs.Due as due
 use Rattle.rox_grammar.specs.Places.{is_main, is_content, TagBegins, of_root, in_content, IsSpent, MayOpen, ValuePart, itself, opened, TagTo}
@@ -24,17 +27,19 @@ use Rattle.rox_reading.specs.State.{State}
 use Rattle.rox_reading.specs.Markup.{EndTag, end_tag_at}
 use Rattle.rox_reading.specs.Machine.{value_opener}
 use Rattle.rox_reading.proofs.Forests.{join_assoc}
-use Rattle.rox_theory.specs.Fine.{IsFine, state}
+use Rattle.rox_theory.specs.Fine.{AreNamed, IsFine, state}
 use Rattle.rox_theory.proofs.Basics.{within}
 use Rattle.rox_theory.proofs.CharTexts.{cut_behind}
 use Rattle.rox_theory.proofs.LiteralLemmas.{from_here, quote_ascii}
 use Rattle.rox_theory.proofs.MarkupLemmas as markup
 use Rattle.rox_theory.proofs.Constructions.{a_comment, a_cdata, an_instruction, an_end, a_tag, nothing, kind_at, comment_kind, cdata_kind, instruction_kind, end_kind, comment_bytes, cdata_bytes, instruction_bytes, end_bytes}
+use Rattle.rox_theory.proofs.Standing.{item-named}
 use Rattle.rox_theory.proofs.Leaves.{Adds, fine_before}
 use Rattle.rox_theory.proofs.StepLemmas as steps
 use Rattle.rox_theory.proofs.Steps.{after, fine_leaf, fine_opened}
 use Rattle.rox_theory.proofs.PartFronts.{SpendsOnce, value_front}
 use Rattle.rox_theory.proofs.FaultBasics.{ok_one, chars_refuse}
+use Rattle.rox_theory.proofs.FaultLimits.{IsOver, nodes_over}
 use Rattle.rox_theory.proofs.FaultRows.{mark_cut, behind, run_stops_cut}
 use Rattle.rox_theory.proofs.FaultPoints.{how_at}
 use Rattle.rox_theory.proofs.FaultPlaces.{Tagged}
@@ -80,9 +85,9 @@ ends_inner : (k base : ℕ) (src : List ℕ) (e : State) → is_main k ≡ false
 ends_inner zero base src e main ends = cc main
 ends_inner (suc k) base src e main ends = ends.1
 
-module _ (opens : ℕ → Opener) (es : List Entity) (all : OpensAt opens es) (limit : ℕ) where
+module _ (opens : ℕ → Opener) (es : List Entity) (all : OpensAt opens es) (limit : ℕ) (W : Type 0) where
   abbrev There : (k base : ℕ) → List ℕ → State → Type 0
-  There k base src s = Reached opens es all limit k base src s
+  There k base src s = Reached opens es all limit W k base src s
 
   -- a declared entity has a text
   content_declared : (k : ℕ) (name : List ℕ) (b c : ℕ) (items : Forest Item) → (opens k).content name b items c → (t : Replacement) × (text_of es name ≡ Some t)
@@ -100,19 +105,19 @@ module _ (opens : ℕ → Opener) (es : List Entity) (all : OpensAt opens es) (l
     -- in a run
     run_apart : (f : Fault) → s.at < length src → byte src s.at ≢ 60 → InRun es k (opens k) src s.at b f → ⊥
     run_apart f below other (faults.InRun.no_char _ lack) =
-        let run = run_there opens es all limit k base b src s r below other in
+        let run = run_there opens es all limit W k base b src s r below other in
         chars_stand src r.utf8 s.at (byte_from (λ c. c == 60) src s.at) f r.cut (run_stops_cut src s.at below) (subst (λ (e : ℕ). AreChars src s.at e) run.1.end run.1.chars) lack
     run_apart f below other (end_mark e is chars marked) =
-        let run = run_there opens es all limit k base b src s r below other in
+        let run = run_there opens es all limit W k base b src s r below other in
         let same : e ≡ run.0 = is ∙ sym run.1.end in
         let none : has_mark (word_text word.CDataEnd) (slice src s.at e) ≡ false = ap (λ (j : ℕ). has_mark (word_text word.CDataEnd) (slice src s.at j)) same ∙ run.1.no_end_mark in
         true≢false (sym marked ∙ none)
     run_apart f below other (faults.InRun.in_reference e q _ is chars unmarked from inside' ill) =
-        let run = run_there opens es all limit k base b src s r below other in
+        let run = run_there opens es all limit W k base b src s r below other in
         let below' : q < run.0 = subst (λ (j : ℕ). q < j) (is ∙ sym run.1.end) inside' in
         run_reference_apart es (is_main k) (opens k) src r.utf8 (content_declared k) s.at run.0 b run.2.left q run.2.items f run.2.parts from below' ill
     run_apart f below other (faults.InRun.too_many stop q j c front t is to inside' refers spent) =
-        let found = (opened_there opens es all limit k base b src s r stop q c j front t is to inside' refers).1 in
+        let found = (opened_there opens es all limit W k base b src s r stop q c j front t is to inside' refers).1 in
         let x = all.content k c found.left (slice src (q + 1) refers.n) found.opened found.opens in
         spent_apart k c x.1 x.4 spent
 
@@ -120,20 +125,20 @@ module _ (opens : ℕ → Opener) (es : List Entity) (all : OpensAt opens es) (l
     section_apart : (q : ℕ) (t : Thing) (f : Fault) → DueInCData src s.at q t → Lacks src q t f → ⊥
     section_apart q t f (due.DueInCData.its_text opens') lack =
         let below : s.at < length src = let two = (cdata_bytes src s.at opens').0 in omega arith in
-        let is = (there_by opens es all limit k base src here r a_cdata below (cdata_kind src s.at opens')).2 in
+        let is = (there_by opens es all limit W k base src here r a_cdata below (cdata_kind src s.at opens')).2 in
         let eight : s.at + 8 + 1 ≡ s.at + 9 = omega arith in
         let cut = subst (IsCharBoundary src) eight (behind word.CDataStart src s.at 8 91 r.utf8 opens' (omega arith) refl (omega arith) (omega arith)) in
         chars_stand src r.utf8 (s.at + 9) (first word.CDataEnd src (s.at + 9)) f cut (mark_cut (word_text word.CDataEnd) 93 (93 ∷ 62 ∷ []) src (s.at + 9) refl (omega arith) cut.0)
         (subst (λ (e : ℕ). AreChars src (s.at + 9) e) is.end is.chars) lack
     section_apart q t f (due.DueInCData.its_end opens' chars) lack =
         let below : s.at < length src = let two = (cdata_bytes src s.at opens').0 in omega arith in
-        let is = (there_by opens es all limit k base src here r a_cdata below (cdata_kind src s.at opens')).2 in
+        let is = (there_by opens es all limit W k base src here r a_cdata below (cdata_kind src s.at opens')).2 in
         word_stands src word.CDataEnd (first word.CDataEnd src (s.at + 9)) f (subst (λ (e : ℕ). at word.CDataEnd src e ≡ true) is.end is.closes) lack
 
     -- in a comment or an instruction
     item_there : (at word.CommentStart src s.at ≡ true) ⊎ (at word.PIStart src s.at ≡ true) → (j : ℕ) × (item : Item) × IsMisc src s.at j item
-    item_there (inl c) = there_by opens es all limit k base src here r a_comment (let two = (comment_bytes src s.at c).0 in omega arith) (comment_kind src s.at c)
-    item_there (inr p) = there_by opens es all limit k base src here r an_instruction (let two = (instruction_bytes src s.at p).0 in omega arith) (instruction_kind src s.at p)
+    item_there (inl c) = there_by opens es all limit W k base src here r a_comment (let two = (comment_bytes src s.at c).0 in omega arith) (comment_kind src s.at c)
+    item_there (inr p) = there_by opens es all limit W k base src here r an_instruction (let two = (instruction_bytes src s.at p).0 in omega arith) (instruction_kind src s.at p)
 
     item_apart : (f : Fault) → InMisc src s.at f → ⊥
     item_apart f ill = let item = item_there (misc_begins src r.utf8 s.at f ill) in misc_apart src r.utf8 s.at item.0 item.1 f item.2 ill
@@ -141,7 +146,7 @@ module _ (opens : ℕ → Opener) (es : List Entity) (all : OpensAt opens es) (l
     -- the end tag that stands there closes the innermost open tag of its text
     end_there : at word.EndTagStart src s.at ≡ true
         → (start : ℕ) × (tag : Tag) × (before : Forest Item) × (up : Open) × (n : ℕ) × (j : ℕ) × (s.stack ≡ inside start tag before up) × (base < depth_of up + 1) × IsEnd src s.at tag.name n j
-    end_there is = there_by opens es all limit k base src here r an_end (let two = (end_bytes src s.at is).0 in omega arith) (end_kind src s.at is)
+    end_there is = there_by opens es all limit W k base src here r an_end (let two = (end_bytes src s.at is).0 in omega arith) (end_kind src s.at is)
 
     end_apart : (f : Fault) → InEnd base src s f → ⊥
     unfolding tag_of
@@ -164,13 +169,13 @@ module _ (opens : ℕ → Opener) (es : List Entity) (all : OpensAt opens es) (l
         absurd (omega arith)
 
     -- the start tag that stands there
-    tag_there : TagBegins src s.at (is_content k s.stack) → (t : State) × Tagged (is_main k) (opens k) src base here t × IsFine limit t
+    tag_there : TagBegins src s.at (is_content k s.stack) → (t : State) × Tagged (is_main k) (opens k) src base here t × (W → IsFine limit t) × AreNamed t.stack t.done
     tag_there begins =
         let less' = tag_less src s.at (is_content k s.stack) begins in
         let below : s.at < length src = within src s.at (λ z. omega arith) in
         let kind : kind_at src s.at ≡ a_tag = elim (cases_Bool (is_content k s.stack)) as (λ x. kind_at src s.at ≡ a_tag) [ inl inner ↦ tag_here src s.at (is_content k s.stack) begins inner | inr top ↦ (r.first top).1 ] in
-        let there = step_there opens es all limit k base src here r below in
-        (there.to, there_by opens es all limit k base src here r a_tag below kind, there.fine)
+        let there = step_there opens es all limit W k base src here r below in
+        (there.to, there_by opens es all limit W k base src here r a_tag below kind, there.fine, there.named)
 
     -- what it adds
     tag_adds : (j c : ℕ) (x : Tag) (empty : Bool) → IsFine limit (after here j x empty c) → Adds here (Element s.at j x)
@@ -179,11 +184,17 @@ module _ (opens : ℕ → Opener) (es : List Entity) (all : OpensAt opens es) (l
         record { attributes = adds.attributes; pairs = adds.pairs; named = adds.named }
     tag_adds j c x false fine = (fine_opened limit here j x j c fine).1
 
+    -- and that it is well named
+    tag_named : (j c : ℕ) (x : Tag) (empty : Bool) → AreNamed (after here j x empty c).stack (after here j x empty c).done → IsWellNamed (listed (scope_of s.stack) x.declarations) x
+    tag_named j c x true named = (item-named s.stack s.done (Element s.at j x) Nil named).1
+    tag_named j c x false named = named.1
+
     -- holds no fault
-    read_tag_apart : (t : State) (f : Fault) → Tagged (is_main k) (opens k) src base here t → IsFine limit t → faults.InTag (is_main k) (opens k) src s b f → ⊥
-    read_tag_apart t f (j, c, x, empty, is, leads) fine ill =
-        let adds = tag_adds j c x empty (subst (IsFine limit) leads fine) in
-        tag_apart (how_at limit es r.d k base).values (opens k) (all.values r.d k r.deep) src r.utf8 s j b c empty x is adds.named adds.attributes adds.pairs f ill
+    read_tag_apart : (t : State) (f : Fault) → Tagged (is_main k) (opens k) src base here t → (W → IsFine limit t) → AreNamed t.stack t.done → faults.InTag (is_main k) (opens k) src s b f → IsOver W f
+    read_tag_apart t f (j, c, x, empty, is, leads) fine named ill =
+        let adds : W → Adds here (Element s.at j x) = λ w. tag_adds j c x empty (subst (IsFine limit) leads (fine w)) in
+        let well_named = tag_named j c x empty (subst (λ (u : State). AreNamed u.stack u.done) leads named) in
+        tag_apart (how_at limit es r.d k base).values (opens k) (all.values r.d k r.deep) src r.utf8 s j b c empty x is well_named W (λ w. (adds w).attributes) (λ w. (adds w).pairs) f ill
 
     -- past the end nothing stands
     trail_past : (t u : State) → Trail (is_main k) (opens k) src base t u → length src ≤ t.at → t ≡ u
@@ -191,47 +202,48 @@ module _ (opens : ℕ → Opener) (es : List Entity) (all : OpensAt opens es) (l
     trail_past t u (follows _ v _ takes rest) past =
         let moves = (steps.step_moves (how_at limit es r.d k base) (opens k) (all.values r.d k r.deep) (all.contents limit r.d k r.deep) src r.utf8 t v takes).0 in absurd (omega arith)
 
-    -- so no fault stands at the place
-    pub stands_apart : (f : Fault) → Stands limit es k base (opens k) src s b f → ⊥
-    stands_apart f (in_run _ inner below other ill) = run_apart f below other ill
-    stands_apart f (in_section q t _ inner due' lack) = section_apart q t f due' lack
-    stands_apart f (in_misc _ inner ill) = item_apart f ill
-    stands_apart f (in_tag _ begins ill) = let there = tag_there begins in read_tag_apart there.0 f there.1 there.2 ill
-    stands_apart f (in_end _ inner ill) = end_apart f ill
+    -- so no fault stands at the place but those of the limits
+    pub stands_apart : (f : Fault) → Stands limit es k base (opens k) src s b f → IsOver W f
+    stands_apart f (in_run _ inner below other ill) = absurd (run_apart f below other ill)
+    stands_apart f (in_section q t _ inner due' lack) = absurd (section_apart q t f due' lack)
+    stands_apart f (in_misc _ inner ill) = absurd (item_apart f ill)
+    stands_apart f (in_tag _ begins ill) = let there = tag_there begins in read_tag_apart there.0 f there.1 there.2 there.3 ill
+    stands_apart f (in_end _ inner ill) = absurd (end_apart f ill)
     stands_apart f (unknown inner less' (inl last)) =
         let same = eq-eqb _ _ less' in
         let past = le-leb (length src) (s.at + 1) (omega arith) in
         let is : kind_at src s.at ≡ nothing = rw (same, past) refl in
-        absurd (there_by opens es all limit k base src here r nothing (omega arith) is)
+        absurd (there_by opens es all limit W k base src here r nothing (omega arith) is)
     stands_apart f (unknown inner less' (inr (mark, no_comment, no_section))) =
         let same = eq-eqb _ _ less' in
         let inside' = within src (s.at + 1) (λ z. omega arith) in
         let more = lt-leb (length src) (s.at + 1) inside' in
         let bang = eq-eqb _ _ mark in
         let is : kind_at src s.at ≡ nothing = rw (same, more, bang, no_comment, no_section) refl in
-        absurd (there_by opens es all limit k base src here r nothing (omega arith) is)
+        absurd (there_by opens es all limit W k base src here r nothing (omega arith) is)
     stands_apart f (unclosed start tag before up stack past main) =
         let same = trail_past here r.end r.trail past in
         let at_root : is_root s.stack ≡ true = ap (λ (s : State). is_root s.stack) same ∙ ends_main k base src r.end main r.ends in
-        let z : is_root (inside start tag before up) ≡ true = ap is_root (sym stack) ∙ at_root in
-        cc z
+        absurd (true≢false (sym at_root ∙ ap is_root stack))
     stands_apart f (unclosed_in_replacement deep past inner) =
         let same = trail_past here r.end r.trail past in
         let depth : depth_of s.stack ≡ base = ap (λ (s : State). depth_of s.stack) same ∙ ends_inner k base src r.end inner r.ends in
         absurd (omega arith)
     stands_apart f (too_many_nodes c t takes few few' over) =
         let below = place_within k (opens k) src r.utf8 s t b c takes in
-        let there = step_there opens es all limit k base src here r below in
-        let fine = subst (IsFine limit) (one_step opens es all limit k base src here r (state_of t c) (takes_there opens es all limit k base b src s r t c takes) below) there.fine in
+        let there = step_there opens es all limit W k base src here r below in
+        nodes_over W (λ w.
+        (let fine = subst (IsFine limit) (one_step opens es all limit W k base src here r (state_of t c) (takes_there opens es all limit W k base b src s r t c takes) below) (there.fine w) in
         let nodes = fine.nodes in
-        absurd (omega arith)
+        omega arith))
     stands_apart f (too_many_pieces stop q j c front t inner is to named below refers few few' over) =
-        let there = opened_there opens es all limit k base b src s r stop q c j front t is to below refers in
+        let there = opened_there opens es all limit W k base b src s r stop q c j front t is to below refers in
         let run = there.0 in let found = there.1 in
         let split : join s.done run.items ≡ join (join s.done front) (join found.opened found.rest) = ap (join s.done) found.all ∙ sym (join_assoc s.done front (join found.opened found.rest)) in
-        let fine : IsFine limit (state stop (join (join s.done front) (join found.opened found.rest)) s.stack run.left) = subst (λ (f : Forest Item). IsFine limit (state stop f s.stack run.left)) split run.fine in
+        nodes_over W (λ w.
+        (let fine : IsFine limit (state stop (join (join s.done front) (join found.opened found.rest)) s.stack run.left) = subst (λ (f : Forest Item). IsFine limit (state stop f s.stack run.left)) split (run.fine w) in
         let nodes = (fine_before limit q stop c run.left (join s.done front) (join found.opened found.rest) s.stack fine).nodes in
-        absurd (omega arith)
+        omega arith))
 
   -- ---- values
 
@@ -298,12 +310,13 @@ module _ (opens : ℕ → Opener) (es : List Entity) (all : OpensAt opens es) (l
       → TagTo (is_main k) (opens k) src s p b c as' → IsQName src (spaces_end src p) name n → IsEq src n v → IsLiteral src v e j → ValuePart opens es k src (v + 1) e c l part i stop d → InValue es l (opens l) part i stop d f → ⊥
   value_apart k base b p c n v e j l i stop d src part s as' name f r begins to named eq literal is ill =
       let there = tag_there k base b src s r begins in
-      part_apart l part i stop d f (part_read k src (v + 1) e c l part i stop d (literal_read there.0 there.1 there.2) is) ill
+      part_apart l part i stop d f (part_read k src (v + 1) e c l part i stop d (literal_read there.0 there.1 there.2 there.3) is) ill
     where
-      literal_read : (t : State) → Tagged (is_main k) (opens k) src base (state_of s b) t → IsFine limit t → PartRead k src (v + 1) e c
-      literal_read t (j', c', x, empty, is', leads) fine =
-          let adds = tag_adds k base b src s r j' c' x empty (subst (IsFine limit) leads fine) in
-          let value = value_there (how_at limit es r.d k base).values (opens k) (all.values r.d k r.deep) src r.utf8 s j' b c' empty x is' adds.named adds.attributes adds.pairs p c n v e j as' name to named eq literal in
+      literal_read : (t : State) → Tagged (is_main k) (opens k) src base (state_of s b) t → (W → IsFine limit t) → AreNamed t.stack t.done → PartRead k src (v + 1) e c
+      literal_read t (j', c', x, empty, is', leads) fine named' =
+          let adds : W → Adds (state_of s b) (Element s.at j' x) = λ w. tag_adds k base b src s r j' c' x empty (subst (IsFine limit) leads (fine w)) in
+          let well_named = tag_named k base b src s r j' c' x empty (subst (λ (u : State). AreNamed u.stack u.done) leads named') in
+          let value = value_there (how_at limit es r.d k base).values (opens k) (all.values r.d k r.deep) src r.utf8 s j' b c' empty x is' well_named W (λ w. (adds w).attributes) (λ w. (adds w).pairs) p c n v e j as' name to named eq literal in
           let low = quote_ascii (byte src v) literal.quote in
           let end = literal.end in let closes = literal.closes in
           let h = from_here (λ c. c == byte src v) src (v + 1) (rw (← end) closes) in

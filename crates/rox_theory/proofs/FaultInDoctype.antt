@@ -33,6 +33,7 @@ use Rattle.rox_theory.proofs.FaultApart.{name_stands, byte_stands, space_stands,
 use Rattle.rox_theory.proofs.FaultPairs.{declaration_apart}
 use Rattle.rox_theory.proofs.FaultMisc.{one_item}
 use Rattle.rox_theory.proofs.SubsetFronts.{OpensItem, misc_opens, item_less, entity_less, passed_less, space_once, quoted_once, quoted_no_external, kind_once, external_once, begins_once, doctype_once, definition_end, item_there, passed_there, entity_there, nothing_there, Front, subset_front}
+use Rattle.rox_theory.proofs.FaultLimits.{IsOver, nodes_over}
 
 -- a quote that is due and stands there
 quote_stands : (src : List ℕ) (i : ℕ) (f : Fault) → (byte src i ≡ 39) ⊎ (byte src i ≡ 34) → Lacks src i a_quote f → ⊥
@@ -275,17 +276,17 @@ module _ (src : List ℕ) (utf8 : IsUtf8 src) where
       let read : Subset src (s + 1) p items asked to.declared = subst (λ (s : ℕ). Subset src (s + 1) p items asked to.declared) at_end to.read in
       record { k = k; bracket = bracket; closes = closes; es = to.declared; fs = es; front = subset_front src utf8 k bracket (s + 1) p items nodes asked given more to.declared es read subset same }
 
-  -- a fault in it
-  pub in_doctype_apart : (limit i j : ℕ) (before nodes after : Forest Item) (asked given : List Asked) (es : List Entity) (source : List ℕ) (f : Fault) → IsDoctype src i j nodes given es
-      → 1 + size (merge (join before (join nodes after))) ≤ limit → SameAnswers asked given → InDoctype limit src i before asked source f → ⊥
-  in_doctype_apart limit i j before nodes after asked given es source f is few same (head_lacks p t _ due' lack) = let h = head_there i j nodes given es is in head_apart i h.0 p t f h.1 h.2 due' lack
-  in_doctype_apart limit i j before nodes after asked given es source f is few same (no_name n sp past) = let h = head_there i j nodes given es is in head_not_cut i h.0 n h.1 sp past
-  in_doctype_apart limit i j before nodes after asked given es source f is few same (in_misc p items _ _ to fits ill) =
+  -- a fault in it is that of a limit
+  pub in_doctype_apart : (W : Type 0) (limit i j : ℕ) (before nodes after : Forest Item) (asked given : List Asked) (es : List Entity) (source : List ℕ) (f : Fault) → IsDoctype src i j nodes given es
+      → (W → 1 + size (merge (join before (join nodes after))) ≤ limit) → SameAnswers asked given → InDoctype limit src i before asked source f → IsOver W f
+  in_doctype_apart W limit i j before nodes after asked given es source f is few same (head_lacks p t _ due' lack) = let h = head_there i j nodes given es is in absurd (head_apart i h.0 p t f h.1 h.2 due' lack)
+  in_doctype_apart W limit i j before nodes after asked given es source f is few same (no_name n sp past) = let h = head_there i j nodes given es is in absurd (head_not_cut i h.0 n h.1 sp past)
+  in_doctype_apart W limit i j before nodes after asked given es source f is few same (in_misc p items _ _ to fits ill) =
       let c = closed_there i j p items nodes asked given [] es is to (subst (λ (a : List Asked). SameAnswers a given) (sym (append-nil asked)) same) in
       let r = c.front in
       let there = item_there src utf8 c.k c.bracket p r.rest r.more r.gs r.left (misc_begins src utf8 p f ill) in
-      misc_apart src utf8 p there.0 there.1 f there.3 ill
-  in_doctype_apart limit i j before nodes after asked given es source f is few same (too_many p q items item _ to fits one over) =
+      absurd (misc_apart src utf8 p there.0 there.1 f there.3 ill)
+  in_doctype_apart W limit i j before nodes after asked given es source f is few same (too_many p q items item _ to fits one over) =
       let c = closed_there i j p items nodes asked given [] es is to (subst (λ (a : List Asked). SameAnswers a given) (sym (append-nil asked)) same) in
       let r = c.front in
       let there = item_there src utf8 c.k c.bracket p r.rest r.more r.gs r.left (misc_opens src p q item one) in
@@ -295,40 +296,39 @@ module _ (src : List ℕ) (utf8 : IsUtf8 src) where
       let nodes_are : nodes ≡ join items (join (leaf item) there.2) = r.items ∙ ap (join items) (there.5 ∙ ap (λ (x : Item). join (leaf x) there.2) (sym item_is)) in
       let whole : join before (join nodes after) ≡ join front others =
       ap (λ (n : Forest Item). join before (join n after)) nodes_are ∙ ap (join before) (join_assoc items (join (leaf item) there.2) after) ∙ sym (join_assoc before items (join (leaf item) (join there.2 after))) ∙ sym (join_assoc (join before items) (leaf item) others) in
-      let all : 1 + size (merge (join front others)) ≤ limit = subst (λ (t : Forest Item). 1 + size (merge t) ≤ limit) whole few in
       let less = merge-more front others in
-      absurd (omega arith)
-  in_doctype_apart limit i j before nodes after asked given es source f is few same (not_passed p items _ to fits opens past) =
+      nodes_over W (λ w. (let all : 1 + size (merge (join front others)) ≤ limit = subst (λ (t : Forest Item). 1 + size (merge t) ≤ limit) whole (few w) in omega arith))
+  in_doctype_apart W limit i j before nodes after asked given es source f is few same (not_passed p items _ to fits opens past) =
       let c = closed_there i j p items nodes asked given [] es is to (subst (λ (a : List Asked). SameAnswers a given) (sym (append-nil asked)) same) in
       let r = c.front in
       let there = passed_there src utf8 c.k c.bracket p r.rest r.more r.gs r.left opens in
       let end = there.1.end in let closes = there.1.closes in
       absurd (omega arith)
-  in_doctype_apart limit i j before nodes after asked given es source f is few same (in_entity p q items _ t _ to fits opens due' lack) =
+  in_doctype_apart W limit i j before nodes after asked given es source f is few same (in_entity p q items _ t _ to fits opens due' lack) =
       let c = closed_there i j p items nodes asked given [] es is to (subst (λ (a : List Asked). SameAnswers a given) (sym (append-nil asked)) same) in
       let r = c.front in
       let there = entity_there src utf8 c.k c.bracket p r.rest r.more r.gs r.left opens in
-      entity_apart p there.0 there.1 there.3 there.5 q t f due' lack
-  in_doctype_apart limit i j before nodes after asked given es source f is few same (entity_open p n m d e parameter items before' first text _ to fits begins definition lack) =
+      absurd (entity_apart p there.0 there.1 there.3 there.5 q t f due' lack)
+  in_doctype_apart W limit i j before nodes after asked given es source f is few same (entity_open p n m d e parameter items before' first text _ to fits begins definition lack) =
       let c = closed_there i j p items nodes before' given first es is to same in
       let r = c.front in
       let there = entity_there src utf8 c.k c.bracket p r.rest r.more r.gs r.left begins.opens in
-      end_stands p there.0 there.1 there.3 there.5 n m d e parameter first text f begins definition lack
-  in_doctype_apart limit i j before nodes after asked given es source f is few same (entity_cut p n m d e x parameter items before' request answer text to fits begins external' cut gives) =
+      absurd (end_stands p there.0 there.1 there.3 there.5 n m d e parameter first text f begins definition lack)
+  in_doctype_apart W limit i j before nodes after asked given es source f is few same (entity_cut p n m d e x parameter items before' request answer text to fits begins external' cut gives) =
       let c = closed_there i j p items nodes before' given (record { request = request; answer = answer } ∷ []) es is to same in
       let r = c.front in
       let there = entity_there src utf8 c.k c.bracket p r.rest r.more r.gs r.left begins.opens in
-      not_cut p there.0 there.1 there.3 there.5 n m d e x parameter request begins external' cut
-  in_doctype_apart limit i j before nodes after asked given es source f is few same (in_answer p n m d e x q parameter items before' request answer t _ to fits begins external' may text opens due' lack) =
+      absurd (not_cut p there.0 there.1 there.3 there.5 n m d e x parameter request begins external' cut)
+  in_doctype_apart W limit i j before nodes after asked given es source f is few same (in_answer p n m d e x q parameter items before' request answer t _ to fits begins external' may text opens due' lack) =
       let c = closed_there i j p items nodes before' given (record { request = request; answer = Some answer } ∷ []) es is to same in
       let r = c.front in
       let there = entity_there src utf8 c.k c.bracket p r.rest r.more r.gs r.left begins.opens in
-      answer_apart p there.0 there.1 there.3 there.5 n m d e q parameter request answer there.2 t f begins external' (subst (SameAnswers (record { request = request; answer = Some answer } ∷ [])) there.7 r.same) opens due' lack
-  in_doctype_apart limit i j before nodes after asked given es source f is few same (end_lacks p items _ _ to fits bracket lack) =
+      absurd (answer_apart p there.0 there.1 there.3 there.5 n m d e q parameter request answer there.2 t f begins external' (subst (SameAnswers (record { request = request; answer = Some answer } ∷ [])) there.7 r.same) opens due' lack)
+  in_doctype_apart W limit i j before nodes after asked given es source f is few same (end_lacks p items _ _ to fits bracket lack) =
       let c = closed_there i j p items nodes asked given [] es is to (subst (λ (a : List Asked). SameAnswers a given) (sym (append-nil asked)) same) in
       let r = c.front in
       let at_end = ended p c.k r.rest r.more r.gs c.bracket r.left bracket in
-      lack_apart (spaces_end src (c.k + 1)) f (subst (λ (p : ℕ). Lacks src (spaces_end src (p + 1)) doctype_end f) at_end lack) c.closes
+      absurd (lack_apart (spaces_end src (c.k + 1)) f (subst (λ (p : ℕ). Lacks src (spaces_end src (p + 1)) doctype_end f) at_end lack) c.closes)
     where
       -- nothing that a subset holds begins with a bracket
       ended : (p k : ℕ) (rest : Forest Item) (more : List Asked) (gs : List Entity) → byte src k ≡ 93 → Subset src p k rest more gs → byte src p ≡ 93 → p ≡ k
@@ -340,11 +340,11 @@ module _ (src : List ℕ) (utf8 : IsUtf8 src) where
       lack_apart : (p : ℕ) (f : Fault) → Lacks src p doctype_end f → byte src p ≡ 62 → ⊥
       lack_apart p f (no_end below no_close) closes = no_close closes
       lack_apart p f (ends_before _ byte' past) closes = let l = within src p (λ z. omega arith) in absurd (omega arith)
-  in_doctype_apart limit i j before nodes after asked given es source f is few same (unknown p items _ to fits none inside) =
+  in_doctype_apart W limit i j before nodes after asked given es source f is few same (unknown p items _ to fits none inside) =
       let c = closed_there i j p items nodes asked given [] es is to (subst (λ (a : List Asked). SameAnswers a given) (sym (append-nil asked)) same) in
       let r = c.front in
       let at_end = nothing_there src utf8 c.k c.bracket p r.rest r.more r.gs r.left none.no_space (no_item p none) (no_passed p none) none.no_entity in
-      none.no_bracket (ap (byte src) at_end ∙ c.bracket)
+      absurd (none.no_bracket (ap (byte src) at_end ∙ c.bracket))
     where
       no_item : (p : ℕ) → NoItem src p → OpensItem src p → ⊥
       no_item p none (inl is) = true≢false (sym is ∙ none.no_comment)
@@ -354,10 +354,10 @@ module _ (src : List ℕ) (utf8 : IsUtf8 src) where
       no_passed p none (inl is) = true≢false (sym is ∙ none.no_element)
       no_passed p none (inr (inl is)) = true≢false (sym is ∙ none.no_attlist)
       no_passed p none (inr (inr is)) = true≢false (sym is ∙ none.no_notation)
-  in_doctype_apart limit i j before nodes after asked given es source f is few same (no_root items _ to fits solid) =
+  in_doctype_apart W limit i j before nodes after asked given es source f is few same (no_root items _ to fits solid) =
       let c = closed_there i j (length src) items nodes asked given [] es is to (subst (λ (a : List Asked). SameAnswers a given) (sym (append-nil asked)) same) in
       let r = c.front in
-      past_end c.k r.rest r.more r.gs c.bracket r.left
+      absurd (past_end c.k r.rest r.more r.gs c.bracket r.left)
     where
       -- at the end of the text none is left
       past_end : (k : ℕ) (rest : Forest Item) (more : List Asked) (gs : List Entity) → byte src k ≡ 93 → Subset src (length src) k rest more gs → ⊥

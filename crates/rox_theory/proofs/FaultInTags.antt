@@ -1,4 +1,5 @@
--- The same for start tags: where one stands that is well named and within the limits, no fault of it does.
+-- The same for start tags: where one stands that is well named, no fault of it does but those of the limits, and where it is within
+-- the limits, none.
 use Rattle.std.proofs.Common.{◌≡◌, ◌≢◌, ℕ, ◌+◌, ◌<◌, ◌≤◌, ◌⊎◌, Bool, true, false, cond, not, List, [], ◌∷◌, ◌++◌, length, refl, sym, ap, ◌∙◌, subst, arith, inl, inr, append_assoc}
 use Rattle.std.specs.Prelude.{Ok, map, filter, bytes_eq}
 use Rattle.std.specs.List.{list_any}
@@ -36,6 +37,7 @@ use Rattle.rox_theory.proofs.AttributeLemmas.{end_complete}
 use Rattle.rox_theory.proofs.DeclaredLemmas.{pairs_more}
 use Rattle.rox_theory.proofs.Constructions.{name_byte}
 use Rattle.rox_theory.proofs.FaultBasics.{ok_one}
+use Rattle.rox_theory.proofs.FaultLimits.{IsOver, pairs_over, attributes_over}
 use Rattle.rox_theory.proofs.TagOnce.{apart, same_more, Reads, turn_is, one_attribute, one_tag}
 use Rattle.rox_theory.proofs.FaultTags.{attribute_cut}
 use Rattle.rox_theory.proofs.FaultApart.{qname_stands, byte_stands, space_stands}
@@ -174,7 +176,7 @@ module _ (how : Values) (O : Opener) (agrees : AgreesValue how.entities O how.op
   slash_apart p j b empty rest f (it_goes q c a more spaces is) slash lack = (name_byte src (spaces_end src p) a.name a.name_end is.is_name).no_slash slash
 
   module _ (s : State) (j b e : ℕ) (empty : Bool) (tag : Tag) (is : IsTag how.main O src s.at j b e empty tag) (well_named : IsWellNamed (listed (scope_of s.stack) tag.declarations) tag)
-      (few : attributes_so_far s.stack s.done + length tag.attributes ≤ most_attributes) (few_pairs : length (with_new (distinct_pairs (pairs_so_far s.stack s.done)) (listable_of tag.declarations)) ≤ most_pairs) where
+      (W : Type 0) (few : W → attributes_so_far s.stack s.done + length tag.attributes ≤ most_attributes) (few_pairs : W → length (with_new (distinct_pairs (pairs_so_far s.stack s.done)) (listable_of tag.declarations)) ≤ most_pairs) where
     -- what is read of it is a front of it
     tag_front : (p c : ℕ) (as' : List Attribute) → TagTo how.main O src s p b c as' → (rest : List Attribute) × (is.written ≡ as' ++ rest) × Next how.main O src p empty j c rest
     tag_front p c as' to =
@@ -253,34 +255,36 @@ module _ (how : Values) (O : Opener) (agrees : AgreesValue how.entities O how.op
         let is' : IsTag how.main O src s.at k b c x t = record { begins = is.begins; is_name = to.is_name; written = as'; last = p; attributes = to.attributes; ends = ends; declares = refl; has = refl } in
         (one_tag how O agrees src utf8 s.at k j b c e t tag x empty is' is).1
 
-    -- so no fault of a start tag stands in it: rows 1 to 6, 9, 10, 13 to 15, 19 to 24, 31
-    pub tag_apart : (f : Fault) → InTag how.main O src s b f → ⊥
-    tag_apart f (no_name _ lack) = qname_stands src (s.at + 1) tag.name_end tag.name f is.is_name lack
+    -- so no fault of a start tag stands in it but those of the limits: rows 1 to 6, 9, 10, 13 to 15, 19 to 24, 31
+    pub tag_apart : (f : Fault) → InTag how.main O src s b f → IsOver W f
+    tag_apart f (no_name _ lack) = absurd (qname_stands src (s.at + 1) tag.name_end tag.name f is.is_name lack)
     tag_apart f (xmlns_prefix name n named prefix) =
         let same : name ≡ tag.name = (one_qname src (s.at + 1) n tag.name_end name tag.name named is.is_name).0 in
         let prefix' : tag.name.prefix ≡ word_text word.Xmlns = ap (λ (n : Name). n.prefix) (sym same) ∙ prefix in
-        true≢false (sym ((bytes_eq-Decides tag.name.prefix (word_text word.Xmlns)).1 prefix') ∙ well_named.no_xmlns)
+        absurd (true≢false (sym ((bytes_eq-Decides tag.name.prefix (word_text word.Xmlns)).1 prefix') ∙ well_named.no_xmlns))
     tag_apart f (cut p c as' to past main') =
         let x = tag_front p c as' to in let l = next_within p j c empty x.0 x.2 in absurd (omega (arith, run_end_le is_space src p))
     tag_apart f (cut_in_replacement p c as' to past main') =
         let x = tag_front p c as' to in let l = next_within p j c empty x.0 x.2 in absurd (omega (arith, run_end_le is_space src p))
     tag_apart f (no_rest p c as' _ to below (ends_before _ byte' past)) = let x = tag_front p c as' to in let l = next_within p j c empty x.0 x.2 in absurd (omega arith)
-    tag_apart f (faults.InTag.no_space p c as' _ to below no_slash no_close lack) = let x = tag_front p c as' to in space_apart p c x.0 f (to_cut p c as' to) x.2 no_slash no_close lack
-    tag_apart f (not_closed p c as' _ to slash lack) = let x = tag_front p c as' to in slash_apart p j c empty x.0 f x.2 slash lack
-    tag_apart f (in_pair p c q as' t _ to spaces inside no_slash no_close due lack) = let x = tag_front p c as' to in pair_in p q c x.0 t f x.2 no_slash no_close due lack
-    tag_apart f (ill_declared p c d k as' a _ to spaces is' declares' ill) = let x = tag_front p c as' to in declared_in p k c d as' x.0 a f x.1 x.2 spaces is' declares' ill
+    tag_apart f (faults.InTag.no_space p c as' _ to below no_slash no_close lack) = let x = tag_front p c as' to in absurd (space_apart p c x.0 f (to_cut p c as' to) x.2 no_slash no_close lack)
+    tag_apart f (not_closed p c as' _ to slash lack) = let x = tag_front p c as' to in absurd (slash_apart p j c empty x.0 f x.2 slash lack)
+    tag_apart f (in_pair p c q as' t _ to spaces inside no_slash no_close due lack) = let x = tag_front p c as' to in absurd (pair_in p q c x.0 t f x.2 no_slash no_close due lack)
+    tag_apart f (ill_declared p c d k as' a _ to spaces is' declares' ill) = let x = tag_front p c as' to in absurd (declared_in p k c d as' x.0 a f x.1 x.2 spaces is' declares' ill)
     tag_apart f (too_many_pairs p c d k as' a to spaces is' declares' may once over) =
         let x = tag_front p c as' to in
         let known = distinct_pairs (pairs_so_far s.stack s.done) in
         let there = declared_there p k c d as' x.0 a x.1 x.2 spaces is' declares' in
         let split : tag.declarations ≡ declarations_of as' ++ declaration_of a ∷ [] ++ there.0 = there.1 ∙ sym (append_assoc (declarations_of as') (declaration_of a ∷ []) there.0) in
-        let all : length (with_new known (listable_of (declarations_of as' ++ declaration_of a ∷ [] ++ there.0))) ≤ most_pairs = subst (λ (ds : List Declaration). length (with_new known (listable_of ds)) ≤ most_pairs) split few_pairs in
         let more' = pairs_more known (declarations_of as' ++ declaration_of a ∷ []) there.0 in
-        absurd (omega arith)
+        pairs_over W (λ w.
+        (let all : length (with_new known (listable_of (declarations_of as' ++ declaration_of a ∷ [] ++ there.0))) ≤ most_pairs = subst (λ (ds : List Declaration). length (with_new known (listable_of ds)) ≤ most_pairs) split (few_pairs w) in
+        omega arith))
     tag_apart f (too_many_attributes p c k x as' to ends over) =
-        let same : length (attributes_of as') ≡ length tag.attributes = ap (λ (t : Tag). length t.attributes) (same_tag p k c x as' to ends) in absurd (omega arith)
+        let same : length (attributes_of as') ≡ length tag.attributes = ap (λ (t : Tag). length t.attributes) (same_tag p k c x as' to ends) in
+        attributes_over W (λ w. (let all = few w in omega arith))
     tag_apart f (ill_named p c k x as' _ to ends few' ill) =
-        named_in f (subst (λ (t : Tag). IllNamed src s.at (listed (scope_of s.stack) t.declarations) t.name t.attributes f) (same_tag p k c x as' to ends) ill)
+        absurd (named_in f (subst (λ (t : Tag). IllNamed src s.at (listed (scope_of s.stack) t.declarations) t.name t.attributes f) (same_tag p k c x as' to ends) ill))
 
     -- and a value in it is read
     pub value_there : (p c n v e' k : ℕ) (as' : List Attribute) (name : Name) → TagTo how.main O src s p b c as' → IsQName src (spaces_end src p) name n → IsEq src n v → IsLiteral src v e' k

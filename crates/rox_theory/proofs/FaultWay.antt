@@ -1,25 +1,27 @@
--- The way of a parse within the limits: the constructs of the main text, and of each replacement text that is opened in its content. Each
+-- The way of a parse: the constructs of the main text, and of each replacement text that is opened in its content. Each
 -- place that content reaches from the left lies on it.
 use Rattle.std.proofs.Common.{◌≡◌, ◌≢◌, ℕ, zero, suc, ◌+◌, ◌-◌, ◌<◌, ◌≤◌, Bool, true, false, List, length, Some, refl, sym, ap, ◌∙◌, subst, arith, inl, inr}
 use Rattle.std.specs.Str.{IsUtf8, IsCharBoundary}
 use Rattle.std.proofs.lemmas.Bool.{true≢false, cases_Bool}
 use Rattle.rox_grammar.specs.Forest.{Forest, join}
-use Rattle.rox_grammar.specs.Written.{Tag, Item}
+use Rattle.rox_grammar.specs.Written.{Tag, Item, Element, merge}
+use Rattle.rox_grammar.specs.Tree.{listed}
 use Rattle.rox_grammar.specs.Names.{byte, slice}
 use Rattle.rox_grammar.specs.Constructs.{at, AreChars, IsCData, IsEnd}
 use Rattle.rox_grammar.specs.Content.{Opener, Parts, IsRun, IsMisc, comment, instruction, Value, Content}
 use Rattle.rox_grammar.specs.Entities.{Replacement, Entity, text_of, most_open}
 use Rattle.rox_grammar.specs.State as grammar
-use Rattle.rox_grammar.specs.State.{Open, root, inside, is_root, depth_of}
+use Rattle.rox_grammar.specs.State.{Open, root, inside, is_root, depth_of, scope_of}
 use Rattle.rox_grammar.specs.Places.{is_main, is_content, Takes, a_run as takes_run, a_section, a_misc, an_empty_tag, a_start_tag, an_end_tag, PartsTo, RefersTo, MayOpen, Place, begins, goes, enters}
 use Rattle.rox_reading.specs.State.{State}
 use Rattle.rox_reading.specs.Machine.{value_opener, opener}
-use Rattle.rox_reading.proofs.Forests.{join_assoc}
+use Rattle.rox_reading.proofs.Forests.{join_assoc, merge-named}
 use Rattle.rox_theory.specs.Openers.{AreTexts, AgreesValue, AgreesContent}
-use Rattle.rox_theory.specs.Fine.{IsFine, state}
+use Rattle.rox_theory.specs.Fine.{AreNamed, IsFine, state}
 use Rattle.rox_theory.proofs.Basics.{within}
 use Rattle.rox_theory.proofs.Constructions.{Kind, a_run, a_comment, a_cdata, an_instruction, an_end, a_tag, nothing, kind_at, run_within, run_kind, comment_kind, cdata_kind, instruction_kind, end_kind, tag_kind, name_byte, cdata_bytes, end_bytes}
-use Rattle.rox_theory.proofs.Leaves.{fine_before}
+use Rattle.rox_theory.proofs.Standing.{item-named}
+use Rattle.rox_theory.proofs.Leaves.{fine_before, named_before}
 use Rattle.rox_theory.proofs.StepLemmas as steps
 use Rattle.rox_theory.proofs.Flat as flat
 use Rattle.rox_theory.proofs.Chains.{Drives}
@@ -72,6 +74,17 @@ module _ (main : Bool) (O : Opener) (src : List ℕ) (base : ℕ) where
   pub chain_trail : (s u : State) → flat.Chain main O src base s u → Trail s u
   chain_trail s u (flat.Chain.arrives _ at deep) = stays s
   chain_trail s u (flat.Chain.goes _ t _ takes rest) = follows s t u takes (chain_trail t u rest)
+
+  -- names that are in order behind a construct were so before it
+  pub takes_named : (s t : State) → flat.Takes main O src base s t → AreNamed t.stack t.done → AreNamed s.stack s.done
+  takes_named s t (flat.Takes.takes_run i j b c items done stack is parts) named = named_before stack done items named
+  takes_named s t (flat.Takes.takes_cdata i e j b done stack is) named = named_before stack done _ named
+  takes_named s t (flat.Takes.takes_misc i j b item done stack is) named = named_before stack done _ named
+  takes_named s t (flat.Takes.takes_empty i j b c tag done stack is) named = named_before stack done _ named
+  takes_named s t (flat.Takes.takes_start i j b c tag done stack is) named = named.0
+  takes_named s t (flat.Takes.takes_end i p j b start tag done before up deep end) named =
+      let before_end = item-named up before (Element start j tag) (merge done) named in
+      (before_end.0, before_end.1, merge-named (listed (scope_of up) tag.declarations) done before_end.2)
 
   -- the construct that stands where the way does not end
   trail_step : (s u : State) → Trail s u → (s ≡ u → ⊥) → (t : State) × flat.Takes main O src base s t × Trail t u
@@ -136,9 +149,9 @@ abbrev pub Ends : (k base : ℕ) → List ℕ → State → Type 0
 Ends zero base src e = is_root e.stack ≡ true
 Ends (suc k) base src e = (e.at ≡ length src) × (depth_of e.stack ≡ base)
 
-module _ (opens : ℕ → Opener) (es : List Entity) (all : OpensAt opens es) (limit : ℕ) where
-  -- A state lies on the way of a text, where k replacement texts are open: up to its end, which is within the limits. Where no content
-  -- stands the root element begins.
+module _ (opens : ℕ → Opener) (es : List Entity) (all : OpensAt opens es) (limit : ℕ) (W : Type 0) where
+  -- A state lies on the way of a text, where k replacement texts are open: up to its end, which is well named, and within the limits if
+  -- the parse is, which is what W says. Where no content stands the root element begins.
   pub record Reached (k base : ℕ) (src : List ℕ) (s : State) : Type 0 where
     pub d : ℕ
     pub deep : d + k ≡ most_open
@@ -147,7 +160,8 @@ module _ (opens : ℕ → Opener) (es : List Entity) (all : OpensAt opens es) (l
     pub end : State
     pub trail : Trail (is_main k) (opens k) src base s end
     pub ends : Ends k base src end
-    pub fine : IsFine limit end
+    pub fine : W → IsFine limit end
+    pub named : AreNamed end.stack end.done
     pub first : is_content k s.stack ≡ false → (s.at < end.at) × (kind_at src s.at ≡ a_tag)
 
   not_end : (k base : ℕ) (src : List ℕ) (s e : State) → Ends k base src e → (is_content k s.stack ≡ false → s.at < e.at) → s.at < length src → s ≡ e → ⊥
@@ -162,26 +176,29 @@ module _ (opens : ℕ → Opener) (es : List Entity) (all : OpensAt opens es) (l
     abbrev One : State → State → Type 0
     One s t = flat.Takes (is_main k) (opens k) src base s t
 
-    -- a state on the way is within the limits
+    -- a state on the way is within the limits if its end is
     trail_fine : (t u : State) → Trail (is_main k) (opens k) src base t u → IsFine limit u → IsFine limit t
     trail_fine t u (stays _) fine = fine
     trail_fine t u (follows _ v _ takes rest) fine =
         steps.step_back (how_at limit es r.d k base) (opens k) (all.values r.d k r.deep) (all.contents limit r.d k r.deep) src r.utf8 t v takes (trail_fine v u rest fine)
 
-    pub here_fine : IsFine limit s
-    here_fine = trail_fine s r.end r.trail r.fine
+    -- and its names are in order
+    trail_named : (t u : State) → Trail (is_main k) (opens k) src base t u → AreNamed u.stack u.done → AreNamed t.stack t.done
+    trail_named t u (stays _) named = named
+    trail_named t u (follows _ v _ takes rest) named = takes_named (is_main k) (opens k) src base t v takes (trail_named v u rest named)
 
     -- the construct that stands there
     pub record Step : Type 0 where
       pub to : State
       pub takes : flat.Takes (is_main k) (opens k) src base s to
-      pub fine : IsFine limit to
+      pub fine : W → IsFine limit to
+      pub named : AreNamed to.stack to.done
       pub rest : Trail (is_main k) (opens k) src base to r.end
 
     pub step_there : s.at < length src → Step
     step_there below =
         let x = trail_step (is_main k) (opens k) src base s r.end r.trail (not_end k base src s r.end r.ends (λ top. (r.first top).0) below) in
-        record { to = x.0; takes = x.1; fine = trail_fine x.0 r.end x.2 r.fine; rest = x.2 }
+        record { to = x.0; takes = x.1; fine = λ w. trail_fine x.0 r.end x.2 (r.fine w); named = trail_named x.0 r.end x.2 r.named; rest = x.2 }
 
     -- of this kind
     pub there_by : (kind : Kind) → (below : s.at < length src) → kind_at src s.at ≡ kind → By (is_main k) (opens k) src base kind s (step_there below).to
@@ -229,6 +246,7 @@ module _ (opens : ℕ → Opener) (es : List Entity) (all : OpensAt opens es) (l
           trail = subst (λ (t : State). Trail (is_main k) (opens k) src base t r.end) same there.rest;
           ends = r.ends;
           fine = r.fine;
+          named = r.named;
           first = λ top. absurd (true≢false (sym inner ∙ top));
         }
 
@@ -237,13 +255,14 @@ module _ (opens : ℕ → Opener) (es : List Entity) (all : OpensAt opens es) (l
       pub left : ℕ
       pub items : Forest Item
       pub parts : Parts (is_main k) (opens k) src s.at stop s.at b left items
-      pub fine : IsFine limit (state stop (join s.done items) s.stack left)
+      pub fine : W → IsFine limit (state stop (join s.done items) s.stack left)
+      pub named : AreNamed s.stack (join s.done items)
 
     pub run_there : s.at < length src → byte src s.at ≢ 60 → (stop : ℕ) × IsRun src s.at stop × RunThere stop
     run_there below other =
         let there = step_there k base src (state_of s b) r below in
         let run = there_by k base src (state_of s b) r a_run below (run_kind src s.at other) in
-        (run.0, run.2, record { left = there.to.left; items = run.1; parts = run.3; fine = subst (IsFine limit) run.4 there.fine })
+        (run.0, run.2, record { left = there.to.left; items = run.1; parts = run.3; fine = λ w. subst (IsFine limit) run.4 (there.fine w); named = subst (λ (u : State). AreNamed u.stack u.done) run.4 there.named })
 
     -- where it is read up to a reference, that opens a text there
     pub opened_there : (stop p c j : ℕ) (front : Forest Item) (t : Replacement) → IsRun src s.at stop → PartsTo (is_main k) (opens k) src s.at stop s.at p b c front → p < stop → (refers : RefersTo es src p j t)
@@ -271,7 +290,8 @@ module _ (opens : ℕ → Opener) (es : List Entity) (all : OpensAt opens es) (l
         let end : State = state (length t.source) (join done found.opened) s.stack x.2 in
         let split : join s.done run.items ≡ join (join done found.opened) found.rest =
         ap (join s.done) found.all ∙ sym (join_assoc s.done front (join found.opened found.rest)) ∙ sym (join_assoc done found.opened found.rest) in
-        let fine : IsFine limit (state stop (join (join done found.opened) found.rest) s.stack run.left) = subst (λ (f : Forest Item). IsFine limit (state stop f s.stack run.left)) split run.fine in
+        let fine : W → IsFine limit (state stop (join (join done found.opened) found.rest) s.stack run.left) = λ w. subst (λ (f : Forest Item). IsFine limit (state stop f s.stack run.left)) split (run.fine w) in
+        let named : AreNamed s.stack (join (join done found.opened) found.rest) = subst (λ (f : Forest Item). AreNamed s.stack f) split run.named in
         let chain = flat.text_complete (opens (suc k)) t.source t.start q x.2 done found.opened s.stack content in
         record {
           d = most_open - suc k;
@@ -281,7 +301,8 @@ module _ (opens : ℕ → Opener) (es : List Entity) (all : OpensAt opens es) (l
           end = end;
           trail = chain_trail false (opens (suc k)) t.source (depth_of s.stack) (state t.start done s.stack q) end chain;
           ends = (refl, refl);
-          fine = fine_before limit (length t.source) stop x.2 run.left (join done found.opened) found.rest s.stack fine;
+          fine = λ w. fine_before limit (length t.source) stop x.2 run.left (join done found.opened) found.rest s.stack (fine w);
+          named = named_before s.stack (join done found.opened) found.rest named;
           first = λ top. cc top;
         }
 

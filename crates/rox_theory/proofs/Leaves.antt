@@ -83,7 +83,7 @@ pairs_before (inside start tag before up) done more =
     let e : pairs_so_far (inside start tag before up) (join done more) ≡ pairs_so_far (inside start tag before up) done ++ pairs more = rw (pairs-join done more) (simp append_assoc) in
     rw e (distinct-grows (pairs_so_far (inside start tag before up) done) (pairs more))
 
-named_before : (stack : Open) (done more : Forest Item) → AreNamed stack (join done more) → AreNamed stack done
+pub named_before : (stack : Open) (done more : Forest Item) → AreNamed stack (join done more) → AreNamed stack done
 named_before root done more named = named-left [] done more named
 named_before (inside start tag before up) done more named = (named.0, named.1, named-left (listed (scope_of up) tag.declarations) done more named.2)
 

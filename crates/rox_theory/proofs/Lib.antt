@@ -28,6 +28,7 @@ pub mod ContentOpeners
 pub mod NoEntities
 pub mod NameSpans
 pub mod FaultBasics
+pub mod FaultLimits
 pub mod FaultRows
 pub mod FaultPoints
 pub mod FaultRuns
@@ -67,6 +68,7 @@ pub mod Answering
 pub mod Once
 pub mod PartOnce
 pub mod OneParse
+pub mod Counting
 pub mod FaultNever
 pub mod FaultRefusing
 pub mod SameReplies

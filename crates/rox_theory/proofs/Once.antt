@@ -1,5 +1,5 @@
 -- At most one element stands at a place, whatever the limits are.
-use Rattle.std.proofs.Common.{◌≡◌, ℕ, zero, suc, ◌+◌, ◌==◌, Bool, true, false, not, List, length, Ok, refl, sym, ap, ◌∙◌, subst, arith, true≢false}
+use Rattle.std.proofs.Common.{◌≡◌, ℕ, zero, suc, ◌+◌, ◌<◌, ◌==◌, Bool, true, false, not, List, length, Ok, refl, sym, ap, ◌∙◌, subst, arith, true≢false}
 use Rattle.std.specs.Prelude.{Some, Option}
 use Rattle.std.specs.Str.{IsUtf8}
 use Rattle.std.specs.List.{list_any}
@@ -11,6 +11,7 @@ use Rattle.rox_grammar.specs.Content.{Opener, Parts, IsRun, IsMisc, comment, ins
 use Rattle.rox_grammar.specs.Entities.{Replacement, Entity, Spends, Opens, opens_main, most_open}
 use Rattle.rox_grammar.specs.State.{Open, root, inside}
 use Rattle.rox_reading.specs.Markup.{comment_at, Instruction, instruction_at, cdata_at, EndTag, end_tag_at}
+use Rattle.rox_reading.specs.Values.{ValueOpener}
 use Rattle.rox_reading.specs.Tags.{Values}
 use Rattle.rox_reading.specs.State.{State}
 use Rattle.rox_reading.specs.Machine.{value_opener, values_of}
@@ -21,9 +22,7 @@ use Rattle.rox_theory.proofs.Openers.{values_agree}
 use Rattle.rox_theory.proofs.Leaves.{with_leaf}
 use Rattle.rox_theory.proofs.Steps.{after, closed}
 use Rattle.rox_theory.proofs.Flat.{Takes, takes_run, takes_cdata, takes_misc, takes_empty, takes_start, takes_end, Chain, arrives, goes, text_complete}
-use Rattle.rox_theory.proofs.Constructions.{Kind, a_run, a_comment, a_cdata, an_instruction, an_end, a_tag, nothing, kind_at, name_byte, run_within, run_kind, comment_kind, cdata_kind, instruction_kind, end_kind, tag_kind}
-use Rattle.rox_theory.proofs.Contents.{StepsAgree, within}
-use Rattle.rox_theory.proofs.ContentOpeners.{steps_agree, openers_agree}
+use Rattle.rox_theory.proofs.Constructions.{Kind, a_run, a_comment, a_cdata, an_instruction, an_end, a_tag, nothing, kind_at, name_byte, run_within, run_kind, comment_kind, cdata_kind, instruction_kind, end_kind, tag_kind, comment_bytes, cdata_bytes, instruction_bytes, end_bytes}
 use Rattle.rox_theory.proofs.FaultBasics.{ok_one}
 use Rattle.rox_theory.proofs.PartOnce.{OpensOnce, parts_once}
 use Rattle.rox_theory.proofs.TagOnce.{tag_once}
@@ -100,18 +99,37 @@ module _ (how : Values) (O : Opener) (agrees : AgreesValue how.entities O how.op
 
 -- ---- replacement texts
 
-module _ (limit : ℕ) (es : List Entity) (texts : AreTexts es) (d : ℕ) (once : OpensOnce (Opens es d false)) (src : List ℕ) (utf8 : IsUtf8 src) (base : ℕ) where
-  steps : StepsAgree (within limit es d base) (Opens es d false) src
-  steps = steps_agree (within limit es d base) (Opens es d false) (values_agree es texts d false) (openers_agree limit es texts d false) src utf8
+module _ (how : Values) (O : Opener) (src : List ℕ) where
+  -- one construct begins in the text
+  takes_within : (base : ℕ) (s t : State) → Takes how.main O src base s t → s.at < length src
+  takes_within base s t (takes_run i j b c items done stack is parts) = (run_within src i j is).0
+  takes_within base s t (takes_cdata i e j b done stack is) = omega (arith, (cdata_bytes src i is.opens).0)
+  takes_within base s t (takes_misc i j b item done stack (comment _ e _ is)) = omega (arith, (comment_bytes src i is.opens).0)
+  takes_within base s t (takes_misc i j b item done stack (instruction _ n e _ is)) = omega (arith, (instruction_bytes src i is.opens).0)
+  takes_within base s t (takes_empty i j b c tag done stack is) = omega (arith, (name_byte src (i + 1) tag.name tag.name_end is.is_name).within)
+  takes_within base s t (takes_start i j b c tag done stack is) = omega (arith, (name_byte src (i + 1) tag.name tag.name_end is.is_name).within)
+  takes_within base s t (takes_end i p j b start tag done before up deep end) = omega (arith, (end_bytes src i end.opens).0)
+
+module _ (es : List Entity) (opener : ValueOpener) (O : Opener) (agrees : AgreesValue es O opener) (once : OpensOnce O) (src : List ℕ) (utf8 : IsUtf8 src) where
+  abbrev within : Values
+  within = record { main = false; entities = es; opener = opener }
 
   -- there is one chain up to the end
-  chain_once : (s t u : State) → Chain false (Opens es d false) src base s t → Chain false (Opens es d false) src base s u → t ≡ u
-  chain_once s t u (arrives _ at deep) (arrives _ at' deep') = refl
-  chain_once s t u (arrives _ at deep) (goes _ v _ takes rest) = absurd (omega (arith, (steps.moves s v takes).0))
-  chain_once s t u (goes _ v _ takes rest) (arrives _ at deep) = absurd (omega (arith, (steps.moves s v takes).0))
-  chain_once s t u (goes _ v _ takes rest) (goes _ w _ takes' rest') =
-      let e : w ≡ v = takes_once (values_of es d false) (Opens es d false) (values_agree es texts d false) once src utf8 base s w v takes' takes in
-      chain_once v t u rest (subst (λ (w : State). Chain false (Opens es d false) src base w u) e rest')
+  chain_once : (base : ℕ) (s t u : State) → Chain false O src base s t → Chain false O src base s u → t ≡ u
+  chain_once base s t u (arrives _ at deep) (arrives _ at' deep') = refl
+  chain_once base s t u (arrives _ at deep) (goes _ v _ takes rest) = absurd (omega (arith, at, takes_within within O src base s v takes))
+  chain_once base s t u (goes _ v _ takes rest) (arrives _ at deep) = absurd (omega (arith, at, takes_within within O src base s v takes))
+  chain_once base s t u (goes _ v _ takes rest) (goes _ w _ takes' rest') =
+      let e : w ≡ v = takes_once within O agrees once src utf8 base s w v takes' takes in
+      chain_once base v t u rest (subst (λ (w : State). Chain false O src base w u) e rest')
+
+  -- a text is content in one way, and as many may be opened behind it
+  pub text_once : (i b c d : ℕ) (items more : Forest Item) → Content false O src i (length src) b c items → Content false O src i (length src) b d more → (items ≡ more) × (c ≡ d)
+  text_once i b c d items more x y =
+      let first = text_complete O src i b c Nil items root x in
+      let second = text_complete O src i b d Nil more root y in
+      let one = chain_once 0 (state i Nil root b) (state (length src) items root c) (state (length src) more root d) first second in
+      (ap (λ (s : State). s.done) one, ap (λ (s : State). s.left) one)
 
 -- what is spent leaves one budget within the text, and one behind it
 spends_once : (main : Bool) (b r l c q m d : ℕ) → Spends main b r l c → Spends main b q m d → r ≡ q
@@ -122,7 +140,7 @@ spent_once : (main : Bool) (b r l c q m d : ℕ) → Spends main b r l c → Spe
 spent_once true b r l c q m d (all, same) (all', same') e = same ∙ sym same'
 spent_once false b r l c q m d (before, same) (before', same') e = same ∙ e ∙ sym same'
 
-same_text : (x y : Replacement) → ◌≡◌ {A = Option Replacement} (Some x) (Some y) → x ≡ y
+pub same_text : (x y : Replacement) → ◌≡◌ {A = Option Replacement} (Some x) (Some y) → x ≡ y
 same_text x y h = cc h
 
 -- a reference opens one row of items
@@ -134,10 +152,8 @@ opens_once es texts (suc d) main name b c e items more (t, r, l, found, spends, 
     let O = Opens es d false in
     let content2 : Content false O t.source t.start (length t.source) q m more = subst (λ (u : Replacement). Content false O u.source u.start (length u.source) q m more) same content' in
     let content3 : Content false O t.source t.start (length t.source) r m more = subst (λ (q : ℕ). Content false O t.source t.start (length t.source) q m more) budget content2 in
-    let first = text_complete O t.source t.start r l Nil items root content in
-    let second = text_complete O t.source t.start r m Nil more root content3 in
-    let one = chain_once 0 es texts d (opens_once es texts d false) t.source (texts name t found).0 0 (state t.start Nil root r) (state (length t.source) items root l) (state (length t.source) more root m) first second in
-    (ap (λ (s : State). s.done) one, spent_once main b r l c q m e spends spends' (ap (λ (s : State). s.left) one))
+    let one = text_once es (value_opener es d false) O (values_agree es texts d false) (opens_once es texts d false) t.source (texts name t found).0 t.start r l m items more content content3 in
+    (one.0, spent_once main b r l c q m e spends spends' one.1)
 
 -- ---- the root element
 

@@ -26,7 +26,7 @@ budget_complete false after (suc n) r l c (before, same) = let e : n ≡ r = ome
 -- ---- values
 
 -- nothing stands behind the end
-no_stop : (src : List ℕ) → length src < length src → IsStop (byte src (length src))
+pub no_stop : (src : List ℕ) → length src < length src → IsStop (byte src (length src))
 no_stop src past = absurd (omega arith)
 
 values_none : (es : List Entity) (main : Bool) → AgreesValue es (Opens es zero main) (value_opener es zero main)

@@ -4,3 +4,4 @@ pub mod Without
 pub mod CharItems
 pub mod Apart
 pub mod Answers
+pub mod Limits

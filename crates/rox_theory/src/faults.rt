@@ -15,6 +15,7 @@ ghost use Rattle.rox_reading.specs.Refusals.{Refusal, here, there};
 ghost use Rattle.rox_reading.specs.Doctype.{Reply, AreTextReplies};
 ghost use Rattle.rox_reading.specs.Whole.{reading};
 ghost use Rattle.rox_theory.specs.Answers.{SameAnswers};
+ghost use Rattle.rox_theory.specs.Limits.{IsLimit};
 
 /// The fault that reading meets first stands where the grammar says that it may.
 pub fn faults_stand()
@@ -47,6 +48,15 @@ pub fn refusals_stand()
 pub fn no_false_refusals()
     ensures { (limit : ℕ) (allow dtd : Bool) (src source : List ℕ) (asked given : List Asked) (f : Fault) (t : Forest Item) → IsUtf8 src → RefusalOf limit allow src asked source f → ParseOf src dtd given t
         → IsWithinLimits limit t → Permits allow dtd → SameAnswers asked given → ⊥ }
+{}
+
+/// A text that has a parse, but none within the limits, is refused for a limit alone: a fault that stands in it says that it has
+/// too many nodes, attributes or pairs of a prefix and a URI; with a document type declaration where one may stand or without, if
+/// the answers of the parse are those that were given until then, one after the other, as far as both go.
+pub fn only_limits_refuse_a_parse()
+    ensures faults { (limit : ℕ) (src : List ℕ) (f : Fault) (asked : List Asked) (t : Forest Item) → IsUtf8 src → FaultOf limit src f → ParseOf src false asked t → IsLimit f }
+    ensures refusals { (limit : ℕ) (allow dtd : Bool) (src source : List ℕ) (asked given : List Asked) (f : Fault) (t : Forest Item) → IsUtf8 src → RefusalOf limit allow src asked source f → ParseOf src dtd given t
+        → Permits allow dtd → SameAnswers asked given → IsLimit f }
 {}
 
 /// Where no document type declaration may stand, the refusals are the faults of the text: nothing is asked, and they stand in the

@@ -1,6 +1,6 @@
 //! What users of a document rest on, each a function whose contract is the law.
 
-ghost use Rattle.std.specs.Prelude.{false, [], ◌≡◌, ◌≢◌, ◌↔◌, ℕ, Bool, ◌<◌, ◌≤◌, List, Option, Some, None, IsUtf8, length};
+ghost use Rattle.std.specs.Prelude.{false, [], ◌≡◌, ◌≢◌, ◌↔◌, ◌⊎◌, ℕ, Bool, ◌<◌, ◌≤◌, List, Option, Some, None, IsUtf8, length};
 ghost use Rattle.rox_grammar.specs.declared.fault.Fault.{Fault};
 ghost use Rattle.rox_grammar.specs.Forest.{Forest, size};
 ghost use Rattle.rox_grammar.specs.Written.{Item};
@@ -13,7 +13,11 @@ ghost use Rattle.rox_grammar.specs.Expansion.{Counts};
 ghost use Rattle.roxmltree.specs.Bounded.{IsBounded};
 ghost use Rattle.rox_grammar.specs.Faults.{FaultOf};
 ghost use Rattle.rox_grammar.specs.Refused.{RefusalOf};
+ghost use Rattle.rox_grammar.specs.Exchange.{HasTree};
 ghost use Rattle.rox_theory.specs.Answers.{SameAnswers};
+ghost use Rattle.rox_error.specs.Telling.{IsErrorOf};
+ghost use Rattle.rox_error.specs.declared.error.Error.{Error};
+ghost use Rattle.rox_error.specs.declared.error.Error.TheVariants as error;
 ghost use Rattle.roxmltree.specs.Lawful.{TextsApart, NamesDistinct, AllChars};
 ghost use Rattle.roxmltree.specs.Located.{RangesNested, AttributesInOrder, AttributesWritten, RangesSelect};
 ghost use Rattle.roxmltree.specs.Sections.{EmptyTextsAreSections};
@@ -40,6 +44,14 @@ pub fn faults_refuse()
 /// without, if the answers of the tree are the same, one after the other, as far as both go.
 pub fn refusals_refuse()
     ensures { (text source : List ℕ) (limit : ℕ) (allow dtd : Bool) (asked given : List Asked) (f : Fault) (tree : Forest grammar.Node) → IsUtf8 text → RefusalOf limit allow text asked source f → IsTreeOf text dtd given limit tree → Permits allow dtd → SameAnswers asked given → ⊥ }
+{}
+
+/// A text that has a parse, but none within the limits, is refused for a limit alone: the error of each fault that stands in it,
+/// once the answers of that parse were given, says that it has too many nodes, attributes or namespaces. A text that `exchange`
+/// answers is one that has a parse, whatever its size.
+pub fn only_limits_refuse_a_parse()
+    ensures refusals { (text source : List ℕ) (limit : ℕ) (allow dtd : Bool) (asked given : List Asked) (f : Fault) (tops : Forest Item) (e : Error) → IsUtf8 text → RefusalOf limit allow text asked source f → ParseOf text dtd given tops → Permits allow dtd → SameAnswers asked given → IsErrorOf source f e → (e ≡ error.NodesLimitReached) ⊎ ((e ≡ error.AttributesLimitReached) ⊎ (e ≡ error.NamespacesLimitReached)) }
+    ensures faults { (text : List ℕ) (limit : ℕ) (f : Fault) (tree : Forest grammar.Node) (e : Error) → IsUtf8 text → FaultOf limit text f → HasTree text tree → IsErrorOf text f e → (e ≡ error.NodesLimitReached) ⊎ ((e ≡ error.AttributesLimitReached) ⊎ (e ≡ error.NamespacesLimitReached)) }
 {}
 
 /// The tree of every document is that of its text, with what was answered for its external entities. Without a document type
@@ -144,10 +156,13 @@ pub fn trees_are_bounded(document: &Document<'_>)
 }
 
 /// Under one reference of the text at most 256 replacement texts are opened, at most ten within one another: in content, and in
-/// the value of an attribute or declaration. They are those of the entities that the text declares.
+/// the value of an attribute or declaration. They are those of the entities that the text declares. There is a count of them, and
+/// every count of what the reference opens is as small.
 pub fn openings_are_few(document: &Document<'_>)
     ensures in_content { (asked : List Asked) (tops : Forest Item) (p : ParseOf document.now.text document.now.dtd asked tops) (name : List ℕ) (b c : ℕ) (items : Forest Item) → (opens_main p.entities).content name b items c → (n : ℕ) × (Counts p.entities most_open).content name 0 items n × (n ≤ 256) }
     ensures in_value { (asked : List Asked) (tops : Forest Item) (p : ParseOf document.now.text document.now.dtd asked tops) (name : List ℕ) (b c : ℕ) (v : List ℕ) → (opens_main p.entities).value name b v c → (n : ℕ) × (Counts p.entities most_open).value name 0 v n × (n ≤ 256) }
+    ensures most_in_content { (asked : List Asked) (tops : Forest Item) (p : ParseOf document.now.text document.now.dtd asked tops) (name : List ℕ) (b c n : ℕ) (items : Forest Item) → (opens_main p.entities).content name b items c → (Counts p.entities most_open).content name 0 items n → n ≤ 256 }
+    ensures most_in_value { (asked : List Asked) (tops : Forest Item) (p : ParseOf document.now.text document.now.dtd asked tops) (name : List ℕ) (b c n : ℕ) (v : List ℕ) → (opens_main p.entities).value name b v c → (Counts p.entities most_open).value name 0 v n → n ≤ 256 }
 {
-    let _ = document;
+    document.whole();
 }
