@@ -13,18 +13,6 @@ fn places_of_a_text(rt: HostRuntime) {
         ("<!-- comment -->\n<e/>", 10, 1, 11),
         ("<!-- comment -->\n<e/>", 17, 2, 1),
         ("<!-- comment -->\n<e/>", 9999, 2, 5),
-        (
-            "<n1:e xmlns:n1='http://www.w3.org' n1:a  =   'b'/>",
-            35,
-            1,
-            36,
-        ),
-        (
-            "<n1:e xmlns:n1='http://www.w3.org' n1:a  =   'b'/>",
-            48,
-            1,
-            49,
-        ),
     ] {
         let document = document_of(&rt, text);
         assert_eq!(rt;
@@ -32,6 +20,24 @@ fn places_of_a_text(rt: HostRuntime) {
             TextPos { row, col },
             "{place} in {text:?}"
         );
+    }
+}
+
+#[test]
+fn places_of_an_attribute(rt: HostRuntime) {
+    let document = document_of(&rt, "<n1:e xmlns:n1='http://www.w3.org' n1:a  =   'b'/>");
+    let mut attributes = document.root_element().attributes();
+    let attribute = attributes.next().expect(&rt, "no attribute");
+    for (place, col) in [
+        (attribute.range().start, 36),
+        (attribute.range_qname().start, 36),
+        (attribute.range_qname().end, 40),
+        (attribute.range_value().start, 47),
+        (attribute.range_value().end, 48),
+        (attribute.range().end, 49),
+    ] {
+        let wanted = TextPos::new(1, col);
+        assert_eq!(rt; document.text_pos_at(place), wanted, "{place}");
     }
 }
 

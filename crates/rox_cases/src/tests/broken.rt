@@ -38,6 +38,7 @@ fn no_content(rt: HostRuntime) {
                 ends,
                 1,
             ),
+            ("<!DOCTYPE r [<!ENTITY p '<b>'>]><r>&p;</r>", ends, 1),
             ("<!DOCTYPE r [<!ENTITY p '<b>'>]><r>&p;</b></r>", ends, 1),
             (
                 "<!DOCTYPE r [<!ENTITY p '&q;</b>'><!ENTITY q '<b>'>]><r>&p;</r>",

@@ -7,7 +7,7 @@ use std::process::Abort;
 use std::test::Fail;
 
 /// Whether a text is no slice of the input.
-fn is_owned(storage: &StringStorage<'_>) -> bool {
+pub(super) fn is_owned(storage: &StringStorage<'_>) -> bool {
     match storage {
         StringStorage::Owned(_) => true,
         StringStorage::Borrowed(_) => false,

@@ -1,6 +1,7 @@
 //! How often entities are opened, and how deep: at most 256 under one reference of the main text, of which at most 10 stand
 //! open at once.
 
+use super::entities::is_owned;
 use super::{child_count, declared, declared_refusal, prints};
 use roxmltree::{Document, Error, ParsingOptions};
 use std::alloc::{AllocError, Global};
@@ -67,11 +68,9 @@ fn as_often_as_may_be(rt: HostRuntime) -> Result<(), Fail> {
         let document = declared(&rt, text.as_str());
         let element = document.root_element();
         assert_eq!(rt; child_count(element), 1, "{text}");
-        assert_eq!(rt;
-            count_of(element.text().unwrap_or("")),
-            Some(count),
-            "{text}"
-        );
+        let storage = element.text_storage().ok_or("no text")?;
+        assert_eq!(rt; count_of(storage.as_str()), Some(count), "{text}");
+        assert!(rt; is_owned(storage), "{text}");
     }
     Ok(())
 }

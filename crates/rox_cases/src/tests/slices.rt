@@ -92,6 +92,17 @@ fn exchanges(rt: HostRuntime) {
 }
 
 #[test]
+fn an_exchange_with_a_namespace_is_read(rt: HostRuntime) {
+    let document = document_of(&rt, "<r><b/></r>");
+    let other = document_of(&rt, "<n:x xmlns:n='u'/>");
+    let answer = exchanged(&rt, node_of(&rt, &document, 2), &other);
+    let read = document_of(&rt, answer.as_str());
+    let x = node_of(&rt, &read, 2);
+    assert!(rt; x.has_tag_name(("u", "x").into()));
+    stands(&rt, x, 3, 21);
+}
+
+#[test]
 fn places_after_an_exchange(rt: HostRuntime) {
     let document = document_of(&rt, "<?xml version='1.0'?><r>a<x y='1'>&lt;</x>c</r>");
     stands(&rt, document.root_element(), 21, 47);

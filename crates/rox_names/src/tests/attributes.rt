@@ -21,8 +21,8 @@ fn values(rt: HostRuntime) {
     for (text, value, owned) in [
         ("<e a='b'/>", "b", false),
         ("<e a='x&#10;y\nz'/>", "x\ny z", true),
-        ("<e a='x\r\ny\rz'/>", "x y z", true),
-        ("<e a='&#13;\n'/>", "\r ", true),
+        ("<r a='x\r\ny\rz'/>", "x y z", true),
+        ("<r a='&#13;\n'/>", "\r ", true),
     ] {
         let document = document_of(&rt, text);
         let attribute = only_attribute(&rt, &document);

@@ -34,6 +34,14 @@ fn names_of_elements(rt: HostRuntime) {
 }
 
 #[test]
+fn a_colon_without_a_prefix_is_no_part_of_a_name(rt: HostRuntime) {
+    let document = document_of(&rt, "<:circle></circle>");
+    let element = document.root_element();
+    assert_eq!(rt; element.tag_name().name(), "circle");
+    assert!(rt; element.has_tag_name("circle".into()));
+}
+
+#[test]
 fn other_nodes_have_no_name(rt: HostRuntime) {
     let document = document_of(&rt, "<?e?><e>e</e>");
     for node in document.descendants().filter(|node| !node.is_element()) {
@@ -55,6 +63,7 @@ fn names_of_attributes(rt: HostRuntime) {
     let first = element.attribute_local("a").map(|a| a.value());
     assert_eq!(rt; first, Some("1"));
     assert!(rt; element.attribute_local("b").is_none());
+    assert_eq!(rt; element.lookup_prefix(""), Some("n"));
 }
 
 #[test]

@@ -36,6 +36,21 @@ fn elements_list_their_own_first(rt: HostRuntime) {
 }
 
 #[test]
+fn elements_list_those_of_their_parent_last(rt: HostRuntime) {
+    let text = "<a xmlns:p='1' xmlns:q='2'><b xmlns:p='3' p:x='' q:y=''/></a>";
+    let document = document_of(&rt, text);
+    let b = node_of(&rt, &document, 2);
+    lists(&rt, b, &[(Some("p"), "3"), (Some("q"), "2")]);
+    attributes_are_in(&rt, b, &[Some("3"), Some("2")]);
+    let mut namespaces = b.namespaces();
+    for name in [Some("q"), Some("p")] {
+        let last = namespaces.next_back().expect(&rt, "no namespace");
+        assert_eq!(rt; last.name(), name);
+    }
+    assert!(rt; namespaces.next_back().is_none());
+}
+
+#[test]
 fn what_is_listed(rt: HostRuntime) {
     for (text, wanted) in [
         ("<e/>", [].as_slice()),
@@ -114,6 +129,15 @@ fn uris_of_prefixes(rt: HostRuntime) {
     finds_uri(&rt, document.root(), None, None);
     assert_eq!(rt; document.root_element().default_namespace(), Some("u"));
     assert_eq!(rt; document.root().default_namespace(), None);
+}
+
+#[test]
+fn the_uri_of_the_default_has_no_prefix(rt: HostRuntime) {
+    let document = document_of(&rt, "<e xmlns='u' xmlns:n='u'/>");
+    let element = document.root_element();
+    finds_prefix(&rt, element, "u", None);
+    finds_prefix(&rt, element, NS_XML_URI, Some("xml"));
+    finds_uri(&rt, element, None, Some("u"));
 }
 
 #[test]

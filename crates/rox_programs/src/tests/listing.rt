@@ -169,23 +169,34 @@ fn tells_faults_of_input(rt: HostRuntime) {
     }
 }
 
+/// Runs on a text with an output that refuses the write after so many, and wants that to be told. How many bytes were taken.
+fn taken_before_a_fault(rt: &impl Abort, alloc: Global, text: &[u8], writes: u32) -> usize {
+    let mut out = Refusing {
+        taken: Vec::new(alloc),
+        writes,
+    };
+    let mut err = Vec::new(alloc);
+    let status = run(alloc, &no_options(), Some(text), &mut out, &mut err);
+    assert_eq!(rt; status, 2);
+    assert_eq!(rt; err.as_slice(), b"error: cannot write output\n".as_slice());
+    out.taken.len()
+}
+
 #[test]
 fn tells_faults_of_output(rt: HostRuntime) -> Result<(), Fail> {
     let alloc = rt.alloc();
+    let text = nested(alloc, 300)?;
     for (writes, kept) in [(0, 0), (1, 65_000)] {
-        let mut out = Refusing {
-            taken: Vec::new(alloc),
-            writes,
-        };
-        let mut err = Vec::new(alloc);
-        let text = nested(alloc, 300)?;
-        let input = Some(text.as_bytes());
-        let status = run(alloc, &no_options(), input, &mut out, &mut err);
-        assert_eq!(rt; status, 2);
-        assert_eq!(rt; err.as_slice(), b"error: cannot write output\n".as_slice());
-        assert!(rt; out.taken.len() >= kept && out.taken.len() <= 65_536);
+        let taken = taken_before_a_fault(&rt, alloc, text.as_bytes(), writes);
+        assert!(rt; taken >= kept && taken <= 65_536);
     }
     Ok(())
+}
+
+/// The listing is so short that it is written at the end alone.
+#[test]
+fn tells_a_fault_at_the_end_of_output(rt: HostRuntime) {
+    assert_eq!(rt; taken_before_a_fault(&rt, rt.alloc(), b"<r/>", 0), 0);
 }
 
 #[test]
