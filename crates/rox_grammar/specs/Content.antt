@@ -31,7 +31,8 @@ abbrev pub is_literal : ℕ → Sign → Bool
 is_literal c (literal b) = b == c
 is_literal c (kept b) = false
 
--- the bytes of a character from a reference, which is kept outside replacement texts alone
+-- the bytes of a character from a reference, which is kept outside replacement texts alone; by XML 2.11 it is kept everywhere,
+-- since line ends are found before references are opened
 abbrev pub signs_of : Bool → List ℕ → List Sign
 signs_of main [] = []
 signs_of true (b ∷ bs) = kept b ∷ signs_of true bs
@@ -65,7 +66,8 @@ abbrev pub piece : ℕ → ℕ → Bool → List Sign → Forest Item
 piece start stop plain [] = Nil
 piece start stop plain (s ∷ ss) = leaf (Text start stop (line_ends (s ∷ ss)) plain)
 
--- XML 2.4, 4.1: characters and references to them, from i up to j
+-- XML 2.4, 4.1: characters and references to them, from i up to j. In a replacement text too a reference stands for a character,
+-- where by 4.5 one of an entity's literal is opened before, and may begin markup.
 pub data Part (main : Bool) (src : List ℕ) (j : ℕ) : ℕ → List Sign → Type 0 where
   part_ends : Part main src j j []
   as_written : (i : ℕ) (ss : List Sign) → i < j → byte src i ≢ 38 → Part main src j (i + 1) ss → Part main src j i (literal (byte src i) ∷ ss)
@@ -86,12 +88,13 @@ pub record IsRun (src : List ℕ) (i j : ℕ) : Type 0 where
   pub chars : AreChars src i j
   pub no_end_mark : has_mark (word_text word.CDataEnd) (slice src i j) ≡ false
 
--- a character from a reference in a value: within a replacement text white space gives a space, and `<` may not come
+-- a character from a reference in a value: within a replacement text white space gives a space, where XML 3.3.3 keeps it
 abbrev pub value_bytes : Bool → ℕ → List ℕ
 value_bytes true c = encode_utf8 c
 value_bytes false c = if c == 9 || (c == 10 || c == 13) then 32 ∷ [] else encode_utf8 c
 
--- XML 3.3.3: the value that stands from i up to j
+-- XML 3.3.3: the value that stands from i up to j. Within a replacement text a reference may not give `<` (`a_character`), where
+-- 3.1 and 4.6 let `&lt;` give one.
 pub data Value (main : Bool) (Opens : Opener) (src : List ℕ) (j : ℕ) : ℕ → ℕ → ℕ → List ℕ → Type 0 where
   value_ends : (b : ℕ) → Value main Opens src j j b b []
   line_end : (i b c : ℕ) (v : List ℕ) → i + 1 < j → byte src i ≡ 13 → byte src (i + 1) ≡ 10 → Value main Opens src j (i + 1) b c v

@@ -21,7 +21,7 @@ pub record Asked : Type 0 where
   pub request : Request
   pub answer : Option (List ℕ)
 
--- XML 2.3 [9], [11], [12]: any characters but the quote, in quotes; it ends at e
+-- XML 2.3 [9], [11], [12]: any characters but the quote, in quotes; it ends at e. They need not be Chars (2.2), nor those of [12].
 pub record IsQuoted (src : List ℕ) (i e j : ℕ) : Type 0 where
   pub quote : (byte src i ≡ 39) ⊎ (byte src i ≡ 34)
   pub end : e ≡ byte_from (λ c. c == byte src i) src (i + 1)
@@ -40,7 +40,8 @@ pub data IsExternalID (src : List ℕ) : ℕ → Request → ℕ → Type 0 wher
   public : (i p d k s e j : ℕ) → at word.Public src i ≡ true → IsSpace src (i + 6) p → IsQuoted src p d k → IsSpace src k s → IsQuoted src s e j
       → IsExternalID src i (record { public_id = Some (slice src (p + 1) d); uri = slice src (s + 1) e }) j
 
--- XML 4.2.2 [76] NDataDecl, of a general entity alone. White space before it may be none.
+-- XML 4.2.2 [76] NDataDecl, of a general entity alone. White space before it may be none, where [76] wants some, and the name may
+-- have a colon, which NS 7 forbids. The entity may be referred to, which 4.1 (Parsed Entity) forbids.
 pub data MayHaveNotation (src : List ℕ) : (parameter : Bool) → ℕ → ℕ → Type 0 where
   notation : (i s j : ℕ) → at word.NData src (spaces_end src i) ≡ true → IsSpace src (spaces_end src i + 5) s → IsName src s j → MayHaveNotation src false i j
   no_notation : (i : ℕ) → at word.NData src (spaces_end src i) ≡ false → MayHaveNotation src false i i
@@ -69,7 +70,8 @@ pub data IsKind (src : List ℕ) : ℕ → (parameter : Bool) → ℕ → Type 0
   of_parameter : (i j : ℕ) → byte src i ≡ 37 → IsSpace src (i + 1) j → IsKind src i true j
   general : (i : ℕ) → byte src i ≢ 37 → IsKind src i false i
 
--- XML 4.2 [70] EntityDecl up to its definition, which begins at d; its name stands from n up to m
+-- XML 4.2 [70] EntityDecl up to its definition, which begins at d; its name stands from n up to m, and may have a colon, which NS 7
+-- forbids
 pub record BeginsEntity (src : List ℕ) (i : ℕ) (parameter : Bool) (n m d : ℕ) : Type 0 where
   pub opens : at word.EntityStart src i ≡ true
   pub k : ℕ
@@ -78,11 +80,14 @@ pub record BeginsEntity (src : List ℕ) (i : ℕ) (parameter : Bool) (n m d : �
   pub name : IsName src n m
   pub space_behind : IsSpace src m d
 
+-- the entity of this name, or none where its request was not answered. Then a later declaration of the name is binding, where XML 4.2
+-- has the first; and without one a reference is to no entity, where 4.4.3 lets it be passed over.
 abbrev pub entry : List ℕ → Option Replacement → List Entity
 entry name None = []
 entry name (Some text) = record { name = name; text = text } ∷ []
 
--- XML 4.2 [70] EntityDecl
+-- XML 4.2 [70] EntityDecl. A literal may hold any `&` and `%`, which 2.3 [9] forbids, and a reference to the entity itself, which
+-- 4.1 (No Recursion) forbids: what it holds counts where the entity is referred to.
 pub record IsEntityDeclaration (src : List ℕ) (i j : ℕ) (asked : List Asked) (declared : List Entity) : Type 0 where
   pub parameter : Bool
   pub n : ℕ
@@ -96,7 +101,8 @@ pub record IsEntityDeclaration (src : List ℕ) (i j : ℕ) (asked : List Asked)
   pub closes : byte src (spaces_end src e) ≡ 62
   pub next : j ≡ spaces_end src e + 1
 
--- XML 3.2 [45], 3.3 [52], 4.7 [82]: declarations that are passed over, to their first `>`
+-- XML 3.2 [45], 3.3 [52], 4.7 [82]: declarations that are passed over, to their first `>`, whatever they hold. So
+-- attributes have no defaults (3.3.2) and no types (3.3.3).
 pub record IsPassedOver (src : List ℕ) (i j : ℕ) : Type 0 where
   pub opens : (at word.ElementStart src i ≡ true) ⊎ ((at word.AttlistStart src i ≡ true) ⊎ (at word.NotationStart src i ≡ true))
   pub e : ℕ
@@ -104,7 +110,8 @@ pub record IsPassedOver (src : List ℕ) (i j : ℕ) : Type 0 where
   pub closes : e < length src
   pub next : j ≡ e + 1
 
--- XML 2.8 [28b] intSubset: its comments and processing instructions, what is asked, and the entities that are declared, each in order
+-- XML 2.8 [28b] intSubset, but for the references to parameter entities of [28a]: its comments and processing instructions, what is
+-- asked, and the entities that are declared, each in order
 pub data Subset (src : List ℕ) : ℕ → ℕ → Forest Item → List Asked → List Entity → Type 0 where
   no_more : (i : ℕ) → Subset src i i Nil [] []
   space : (i j : ℕ) (items : Forest Item) (asked : List Asked) (es : List Entity) → is_space (byte src i) ≡ true → Subset src (i + 1) j items asked es
@@ -121,7 +128,7 @@ pub data MayHaveExternalID (src : List ℕ) : ℕ → ℕ → Type 0 where
   external_id : (i j : ℕ) (request : Request) → IsExternalID src i request j → MayHaveExternalID src i j
   no_external_id : (i : ℕ) → at word.System src i ≡ false → at word.Public src i ≡ false → MayHaveExternalID src i i
 
--- XML 2.8 [28] doctypedecl up to its `>` or `[`, which stands at s
+-- XML 2.8 [28] doctypedecl up to its `>` or `[`, which stands at s. The name may have any colons, where NS 4 [16] wants a QName.
 pub record BeginsDoctype (src : List ℕ) (i s : ℕ) : Type 0 where
   pub opens : at word.DoctypeStart src i ≡ true
   pub n : ℕ
@@ -132,7 +139,7 @@ pub record BeginsDoctype (src : List ℕ) (i s : ℕ) : Type 0 where
   pub external : MayHaveExternalID src (spaces_end src m) x
   pub next : s ≡ spaces_end src x
 
--- XML 2.8 [28] doctypedecl
+-- XML 2.8 [28] doctypedecl. Its name need not be that of the root element, as 2.8 (Root Element Type) wants.
 pub data IsDoctype (src : List ℕ) : ℕ → ℕ → Forest Item → List Asked → List Entity → Type 0 where
   no_subset : (i s : ℕ) → BeginsDoctype src i s → byte src s ≡ 62 → IsDoctype src i (s + 1) Nil [] []
   with_subset : (i s k : ℕ) (items : Forest Item) (asked : List Asked) (es : List Entity) → BeginsDoctype src i s → byte src s ≡ 91 → Subset src (s + 1) k items asked es

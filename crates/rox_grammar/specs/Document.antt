@@ -98,7 +98,7 @@ most_attributes = 4294967294
 abbrev pub most_pairs : ℕ
 most_pairs = 65535
 
--- the limits of a tree, the root node counted
+-- the limits of a tree, the root node counted; XML has none
 pub record IsWithinLimits (nodes_limit : ℕ) (tree : Forest Item) : Type 0 where
   pub nodes : size tree + 1 ≤ nodes_limit
   pub attributes : attribute_count tree ≤ most_attributes
@@ -111,7 +111,7 @@ pub record IsTreeOf (src : List ℕ) (dtd : Bool) (asked : List Asked) (nodes_li
   pub within : IsWithinLimits nodes_limit written
   pub shown : tree ≡ document_tree (length src) written
 
--- a document type declaration stands only where it may
+-- a document type declaration stands only where it may, and by XML 2.8 it always may
 abbrev pub Permits : (allow dtd : Bool) → Type 0
 Permits allow dtd = dtd ≡ true → allow ≡ true
 

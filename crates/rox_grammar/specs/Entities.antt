@@ -4,7 +4,8 @@ use Rattle.std.specs.Prelude.{◌≡◌, ℕ, zero, suc, ◌+◌, Bool, true, fa
 use Rattle.rox_grammar.specs.Constructs.{AreChars}
 use Rattle.rox_grammar.specs.Content.{Opener, Content, Value}
 
--- XML 4.5: a replacement text, from `start` up to the end of `source`, which is cut off there
+-- A replacement text, from `start` up to the end of `source`, which is cut off there: as it is written, where XML 4.5 opens the
+-- character references of a literal beforehand
 pub record Replacement : Type 0 where
   pub source : List ℕ
   pub start : ℕ
@@ -13,7 +14,8 @@ pub record Entity : Type 0 where
   pub name : List ℕ
   pub text : Replacement
 
--- XML 4.2: of several declarations of a name the first is binding
+-- XML 4.2: of several declarations of a name the first is binding. Those of parameter entities count too, whose names 4.1 keeps
+-- apart. The five names of 4.6 are not looked for here: a declaration of one of them, as of `lt`, means nothing, whatever it says.
 abbrev pub text_of : List Entity → List ℕ → Option Replacement
 text_of [] name = None
 text_of (e ∷ es) name = if bytes_eq e.name name then Some e.text else text_of es name
@@ -29,7 +31,8 @@ abbrev pub no_entities : Opener
 no_entities = record { content = λ name b items c. ⊥; value = λ name b v c. ⊥ }
 
 -- XML 4.4.2, 4.4.5: what a reference opens, outside replacement texts or within one, where so many may still be open within one
--- another. In content the whole text is content; in a value it is a part of a value, of Chars.
+-- another; XML knows no such bound. In content the whole text is content; in a value it is a part of a value, of Chars, and may be
+-- an external entity's, which 3.1 (No External Entity References) forbids.
 abbrev pub Opens : List Entity → (left : ℕ) → (main : Bool) → Opener
 Opens es zero main = no_entities
 Opens es (suc d) main =

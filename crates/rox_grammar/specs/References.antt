@@ -55,7 +55,7 @@ pub record IsNumber (base : ℕ) (is : ℕ → Bool) (src : List ℕ) (d e c j :
   pub allowed : is_char c ≡ true
   pub next : j ≡ e + 1
 
--- XML 4.1 [68] `&`, a name up to n, and `;`
+-- XML 4.1 [68] `&`, a name up to n, and `;`. The name may have colons, which NS 7 forbids.
 pub record IsReference (src : List ℕ) (i n j : ℕ) : Type 0 where
   pub opens : byte src i ≡ 38
   pub name : IsName src (i + 1) n

@@ -44,7 +44,8 @@ same_prefix (Some p) (Some q) = bytes_eq p q
 abbrev pub is_declared : Option (List ℕ) → List Declaration → Bool
 is_declared prefix ds = list_any (λ d. same_prefix d.prefix prefix) ds
 
--- NS 6: an element lists what it declares, but for the prefix `xml`, and then what its parent lists and it does not declare
+-- NS 6: an element lists what it declares, but for the prefix `xml`, and then what its parent lists and it does not declare. By NS 3
+-- `xml` and `xmlns` are in scope everywhere.
 abbrev pub listed : List Declaration → List Declaration → List Declaration
 listed above own =
     filter (λ d. not (same_prefix d.prefix (Some (word_text Xml)))) own ++ filter (λ d. not (is_declared d.prefix own)) above

@@ -7,7 +7,6 @@ use Rattle.std.proofs.lemmas.Bool.Decides.{nat_tests, Decides-eqb}
 use Rattle.std.proofs.lemmas.Slice.Eq.{starts_is}
 use Rattle.std.proofs.lemmas.List.{drop_more, get_or_past, get_or-take, drop-drop, take-append-drop, drop-append-le}
 use Rattle.std.proofs.lemmas.List.Folds.{list_any-append}
-use Rattle.rox_grammar.specs.Chars.{is_plain}
 use Rattle.rox_grammar.specs.Constructs.{AreChars, has_mark, double_dash}
 use Rattle.rox_grammar.specs.Marks.{byte_from, mark_from, stands}
 use Rattle.rox_grammar.specs.declared.fault.Word.TheVariants as word
@@ -15,7 +14,7 @@ use Rattle.rox_grammar.specs.Words.{word_text}
 use Rattle.rox_reading.specs.Lexical.{chars_up_to, text_to, string_at}
 use Rattle.rox_reading.specs.Markup.{raw_value_at, comment_at}
 use Rattle.rox_reading.specs.Values.{is_special}
-use Rattle.rox_scan.specs.Near.{AllPass, is_value_byte, is_text_byte, is_comment_byte}
+use Rattle.rox_scan.specs.Near.{is_plain, AllPass, is_value_byte, is_text_byte, is_comment_byte}
 use Rattle.rox_scan.specs.Longer.{Looked, ends_value, ends_run, changes_run, ends_comment, changes_comment}
 use Rattle.rox_scan.proofs.NearLemmas.{near_chars, near_found, none_among, value_is_plain, value_cut, text_is_plain, text_cut, comment_is_plain, comment_cut}
 use Rattle.rox_scan.proofs.MarkLemmas.{before_mark_is, not_from_first, fails, stands_split, stands_from_split}

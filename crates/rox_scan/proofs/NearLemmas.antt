@@ -7,13 +7,13 @@ use Rattle.std.proofs.lemmas.Bool.Decides.{nat_tests}
 use Rattle.std.proofs.lemmas.List.{length-take, get_or-take, drop_more, drop_all, get_or_past}
 use Rattle.std.proofs.lemmas.List.Sums.{position_or_len_is}
 use Rattle.std.proofs.lemmas.Str.{IsUtf8-take, IsCharBoundary-after_ascii}
-use Rattle.rox_grammar.specs.Chars.{is_char, is_part_char, is_plain}
+use Rattle.rox_grammar.specs.Chars.{is_char, is_part_char}
 use Rattle.rox_grammar.specs.Content.{is_plain_value}
 use Rattle.rox_grammar.specs.Runs.{run_end}
 use Rattle.rox_grammar.specs.Marks.{byte_from}
 use Rattle.rox_reading.specs.Lexical.{chars_up_to}
 use Rattle.rox_reading.specs.Markup.{raw_value_at}
-use Rattle.rox_scan.specs.Near.{AllPass, is_value_byte, is_text_byte, is_comment_byte, is_part_byte}
+use Rattle.rox_scan.specs.Near.{is_plain, AllPass, is_value_byte, is_text_byte, is_comment_byte, is_part_byte}
 use Rattle.rox_scan.proofs.RunLemmas.{run_on_ascii, run_stops_ascii, run_at_end}
 use Rattle.rox_scan.proofs.PlainLemmas.{plain_run}
 

@@ -8,8 +8,9 @@ use Rattle.std.proofs.lemmas.Bool.{false≢true, cases_lt, cases_eq, and_parts}
 use Rattle.std.proofs.lemmas.Bool.Decides.{nat_tests}
 use Rattle.std.proofs.lemmas.List.Folds.{list_all-append}
 use Rattle.std.proofs.lemmas.Str.{encode_ascii, length-encode, encodes-chars, IsUtf8-drop}
-use Rattle.rox_grammar.specs.Chars.{is_char, is_plain}
+use Rattle.rox_grammar.specs.Chars.{is_char}
 use Rattle.rox_grammar.specs.Runs.{passing, run_end}
+use Rattle.rox_scan.specs.Near.{is_plain}
 
 plain_ascii : (c : ℕ) → c < 128 → (is_plain c && true) ≡ true → is_char c ≡ true
 plain_ascii c ascii h = grind (arith, nat_tests)

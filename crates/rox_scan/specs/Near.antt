@@ -3,6 +3,10 @@
 use Rattle.rox_grammar.specs.Chars.{is_part_char}
 use Rattle.std.specs.Prelude.{◌≡◌, ◌≤◌, ◌<◌, ℕ, Bool, true, not, ◌&&◌, ◌||◌, ◌==◌, nat_le, nat_lt, List, slice_index}
 
+-- a byte that begins no character but a Char, or goes on with one
+abbrev pub is_plain : ℕ → Bool
+is_plain b = ((nat_le 32 b && not (b == 239)) || b == 9) || (b == 10 || b == 13)
+
 -- no control, no quote, no `&` and no `<`
 unfoldable pub is_value_byte : ℕ → Bool
 is_value_byte b = (nat_le 32 b && not (b == 239)) && not ((b == 34 || b == 39) || (b == 38 || b == 60))

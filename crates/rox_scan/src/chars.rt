@@ -93,7 +93,7 @@ pub fn is_part_byte(b: u8) -> bool
 /// A byte that begins no character but a Char, or goes on with one.
 #[inline(always)]
 pub fn is_plain_byte(b: u8) -> bool
-    ensures { result ≡ spec.is_plain b }
+    ensures { result ≡ near.is_plain b }
 {
     ((b >= 32) & (b != 239)) | (b == 9) | (b == 10) | (b == 13)
 }

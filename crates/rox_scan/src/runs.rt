@@ -5,6 +5,7 @@ ghost use Rattle.std.specs.List.{list_all};
 ghost use Rattle.std.specs.Str.{IsCharBoundary, chars};
 ghost use Rattle.rox_grammar.specs.Chars as spec;
 ghost use Rattle.rox_grammar.specs.Runs.{run_end, begins, StandsAt};
+ghost use Rattle.rox_scan.specs.Near as near;
 
 use crate::chars;
 
@@ -191,7 +192,7 @@ pub fn after_byte(text: &str, at: usize, byte: u8) -> usize
 /// Whether each byte is one of a Char, whichever character it is of. It may be false where all are Chars.
 #[inline(always)]
 pub fn is_plain(bytes: &[u8]) -> bool
-    ensures { result ≡ list_all spec.is_plain bytes.now }
+    ensures { result ≡ list_all near.is_plain bytes.now }
 {
     let mut plain = true;
     for byte in bytes {

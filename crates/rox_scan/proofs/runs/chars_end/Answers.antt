@@ -1,6 +1,6 @@
 use Rattle.std.proofs.Common.{◌∙◌, sym, ap}
 use Rattle.std.specs.List.{list_all}
-use Rattle.rox_grammar.specs.Chars.{is_plain}
+use Rattle.rox_scan.specs.Near.{is_plain}
 use Rattle.rox_scan.proofs.PlainLemmas.{plain_run}
 use Rattle.rox_scan.proofs.runs.chars_end.Goals as goal
 

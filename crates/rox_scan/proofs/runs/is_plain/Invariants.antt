@@ -1,6 +1,6 @@
 use Rattle.std.proofs.Common.{◌≡◌, take}
 use Rattle.std.specs.List.{list_all}
-use Rattle.rox_grammar.specs.Chars.{is_plain}
+use Rattle.rox_scan.specs.Near.{is_plain}
 use Rattle.rox_scan.proofs.runs.is_plain.Given as goal
 
 abbrev pub invariant-loop-byte : goal.invariant-loop-byte
