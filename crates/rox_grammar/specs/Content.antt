@@ -38,16 +38,15 @@ signs_of main [] = []
 signs_of true (b ∷ bs) = kept b ∷ signs_of true bs
 signs_of false (b ∷ bs) = literal b ∷ signs_of false bs
 
--- XML 2.11: a literal CR LF gives LF, and so does any other literal CR. The flag says that a literal CR came right before.
-abbrev pub line_ends_after : Bool → List Sign → List ℕ
-line_ends_after after [] = []
-line_ends_after after (s ∷ ss) =
-    if is_literal 13 s then 10 ∷ line_ends_after true ss
-    else if is_literal 10 s then (if after then line_ends_after false ss else 10 ∷ line_ends_after false ss)
-    else sign_byte s ∷ line_ends_after false ss
+-- a literal LF stands in front
+abbrev pub begins_with_line_feed : List Sign → Bool
+begins_with_line_feed [] = false
+begins_with_line_feed (s ∷ ss) = is_literal 10 s
 
+-- XML 2.11: a literal CR right before a literal LF gives nothing, and any other literal CR gives LF
 abbrev pub line_ends : List Sign → List ℕ
-line_ends ss = line_ends_after false ss
+line_ends [] = []
+line_ends (s ∷ ss) = if is_literal 13 s then (if begins_with_line_feed ss then line_ends ss else 10 ∷ line_ends ss) else sign_byte s ∷ line_ends ss
 
 -- each byte as it stands
 abbrev pub literals : List ℕ → List Sign

@@ -104,7 +104,7 @@ section_text src i e j utf8 is =
     let z : e + 0 ≡ e = omega arith in
     let last = cut_at src e 93 (sym (ap (byte src) z) ∙ stands_reads (word_text word.CDataEnd) src e 0 is.closes (omega arith)) (omega arith) (omega arith) in
     subst (λ (ss : List Sign). IsCharText (line_ends ss)) (sign_nil (literals (slice src (i + 9) e)))
-    (text_front false (slice src (i + 9) e) [] (chars_between src (i + 9) e utf8 first last is.chars) no_signs false)
+    (text_front false (slice src (i + 9) e) [] (chars_between src (i + 9) e utf8 first last is.chars) no_signs)
 
 -- if it has a character
 if_some : (v : List ℕ) → IsCharText v → IfSome (none_if_empty v) IsCharText

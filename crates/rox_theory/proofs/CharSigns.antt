@@ -7,7 +7,7 @@ use Rattle.std.specs.Str.{chars, IsUtf8, IsCharBoundary}
 use Rattle.std.proofs.Math.Utf8.{encodes, scalar, scalars, low_scalar}
 use Rattle.std.proofs.lemmas.Bool.{and_parts, and_from, or_cases, ltb-true, leb-true, ne_eqb, le-ltb, lt-ltb, cond_both, cases_eq}
 use Rattle.std.proofs.lemmas.List.{append-nil}
-use Rattle.std.proofs.lemmas.Str.{encodes-chars, scalars-chars, encode_ascii, inside_one, length-encode, len_utf8_bounds}
+use Rattle.std.proofs.lemmas.Str.{encodes-chars, scalars-chars, encode_ascii, inside_one}
 use Rattle.rox_grammar.specs.Chars.{is_between, is_char, is_name_char, is_part_char}
 use Rattle.rox_grammar.specs.CharText.{IsCharText}
 use Rattle.rox_grammar.specs.Forest.{Forest, Nil, Cons, join}
@@ -15,7 +15,7 @@ use Rattle.rox_grammar.specs.Written.{Item}
 use Rattle.rox_grammar.specs.Names.{byte, slice}
 use Rattle.rox_grammar.specs.Constructs.{AreChars}
 use Rattle.rox_grammar.specs.References.{number, character, predefined, IsNumber, IsCharacter, decimal, hexadecimal, named}
-use Rattle.rox_grammar.specs.Content.{Opener, Sign, literal, signs_of, literals, line_ends_after, piece, Part, part_ends, as_written, from_reference, Parts, last_part, then_entity, value_bytes, Value, value_ends, line_end, white, other, a_character, an_entity}
+use Rattle.rox_grammar.specs.Content.{Opener, Sign, literal, signs_of, literals, begins_with_line_feed, line_ends, piece, Part, part_ends, as_written, from_reference, Parts, last_part, then_entity, value_bytes, Value, value_ends, line_end, white, other, a_character, an_entity}
 use Rattle.rox_theory.specs.CharItems.{ItemsChars}
 use Rattle.rox_theory.proofs.Basics.{chosen}
 use Rattle.rox_theory.proofs.NameLemmas.{slice_nil}
@@ -79,60 +79,51 @@ referenced src i c j utf8 (named _ n _ _ r is) = (of_name (slice src (i + 1) n) 
 
 -- ---- signs
 
--- what is read of them is a text of Chars, whether or not a CR stands in front
+-- what is read of them is a text of Chars
 abbrev pub SignChars : List Sign → Type 0
-SignChars ss = (after : Bool) → IsCharText (line_ends_after after ss)
+SignChars ss = IsCharText (line_ends ss)
 
 pub no_signs : SignChars []
-no_signs = λ after. no_text
+no_signs = no_text
 
 literals_append : (v w : List ℕ) (ss : List Sign) → literals (v ++ w) ++ ss ≡ literals v ++ (literals w ++ ss)
 literals_append [] w ss = refl
 literals_append (b ∷ v) w ss = ap (λ (r : List Sign). literal b ∷ r) (literals_append v w ss)
 
--- no byte of a character but CR and LF is one of them
-no_line_end : (c k : ℕ) → c ≢ 13 → c ≢ 10 → k < length (encode_utf8 c) → (get_or (encode_utf8 c) k 0 ≢ 13) × (get_or (encode_utf8 c) k 0 ≢ 10)
-no_line_end c k no_cr no_lf below =
+-- no byte of a character but CR is one
+no_return : (c k : ℕ) → c ≢ 13 → k < length (encode_utf8 c) → get_or (encode_utf8 c) k 0 ≢ 13
+no_return c k no_cr below =
     let same : get_or (encode_utf8 c) k 0 < 128 → c ≡ get_or (encode_utf8 c) k 0 = inside_one c [] (encode_utf8 c) k (sym (append-nil (encode_utf8 c))) below in
-    (λ cr. no_cr (same (omega arith) ∙ cr), λ lf. no_lf (same (omega arith) ∙ lf))
+    λ cr. no_cr (same (omega arith) ∙ cr)
 
--- bytes other than these stand for themselves
-bytes_stay : (bs : List ℕ) (ss : List Sign) (after : Bool) → 0 < length bs → ((k : ℕ) → k < length bs → (get_or bs k 0 ≢ 13) × (get_or bs k 0 ≢ 10))
-    → line_ends_after after (literals bs ++ ss) ≡ bs ++ line_ends_after false ss
-bytes_stay [] ss after some none = absurd (omega arith)
-bytes_stay (b ∷ []) ss after some none =
-    let n = none 0 (omega arith) in
-    let cr = ne_eqb b 13 n.0 in let lf = ne_eqb b 10 n.1 in
-    rw (cr, lf) refl
-bytes_stay (b ∷ c ∷ bs) ss after some none =
-    let n = none 0 (omega arith) in
-    let cr = ne_eqb b 13 n.0 in let lf = ne_eqb b 10 n.1 in
-    rw (cr, lf) (ap (λ (r : List ℕ). b ∷ r) (bytes_stay (c ∷ bs) ss false (omega arith) (λ k below. none (suc k) (omega arith))))
+-- bytes but CR stand for themselves
+bytes_stay : (bs : List ℕ) (ss : List Sign) → ((k : ℕ) → k < length bs → get_or bs k 0 ≢ 13) → line_ends (literals bs ++ ss) ≡ bs ++ line_ends ss
+bytes_stay [] ss none = refl
+bytes_stay (b ∷ bs) ss none =
+    let cr = ne_eqb b 13 (none 0 (omega arith)) in
+    rw cr (ap (λ (r : List ℕ). b ∷ r) (bytes_stay bs ss (λ k below. none (suc k) (omega arith))))
 
 -- characters in front
 chars_front : (cs : List ℕ) (ss : List Sign) → scalars cs ≡ true → list_all is_char cs ≡ true → SignChars ss → SignChars (literals (encodes cs) ++ ss)
-chars_front [] ss s h rest after = rest after
-chars_front (c ∷ cs) ss s h rest after =
+chars_front [] ss s h rest = rest
+chars_front (c ∷ cs) ss s h rest =
     let s' = and_parts (scalar c) (scalars cs) s in
     let h' = and_parts (is_char c) (list_all is_char cs) h in
     let split = literals_append (encode_utf8 c) (encodes cs) ss in
     let more = chars_front cs ss s'.1 h'.1 rest in
     let all = literals (encodes cs) ++ ss in
-    let feed : (b : Bool) → IsCharText (10 ∷ line_ends_after b all) = λ b. texts_joined (10 ∷ []) (line_ends_after b all) (byte_text 10 (omega arith) refl) (more b) in
-    subst (λ (r : List Sign). IsCharText (line_ends_after after r)) (sym split)
-    (elim (cases_eq c 13) as (λ s. IsCharText (line_ends_after after (literals (encode_utf8 c) ++ all))) [
-      | inl cr ↦ rw (cr, encode_ascii 13 (omega arith)) (feed true)
-      | inr no_cr ↦ elim (cases_eq c 10) as (λ s. IsCharText (line_ends_after after (literals (encode_utf8 c) ++ all))) [
-        | inl lf ↦ rw (lf, encode_ascii 10 (omega arith)) (elim after as (λ b. IsCharText (line_ends_after b (literal 10 ∷ all))) [ true ↦ more false | false ↦ feed false ])
-        | inr no_lf ↦ (
-            let some : 0 < length (encode_utf8 c) = omega (arith, length-encode c, len_utf8_bounds c) in
-            let stay = bytes_stay (encode_utf8 c) all after some (λ k below. no_line_end c k no_cr no_lf below) in
-            rw stay (texts_joined (encode_utf8 c) (line_ends_after false all) (char_text c s'.0 h'.0) (more false)))
-      ]
+    let feed : IsCharText (10 ∷ line_ends all) = texts_joined (10 ∷ []) (line_ends all) (byte_text 10 (omega arith) refl) more in
+    subst SignChars (sym split)
+    (elim (cases_eq c 13) as (λ s. SignChars (literals (encode_utf8 c) ++ all)) [
+      | inl cr ↦ rw (cr, encode_ascii 13 (omega arith))
+          (cond_both (begins_with_line_feed all) (line_ends all) (10 ∷ line_ends all) (λ (v : List ℕ). IsCharText v) (λ lf. more) (λ no_lf. feed))
+      | inr no_cr ↦ (
+          let stay = bytes_stay (encode_utf8 c) all (λ k below. no_return c k no_cr below) in
+          rw stay (texts_joined (encode_utf8 c) (line_ends all) (char_text c s'.0 h'.0) more))
     ])
 
 -- what was kept stays
-kept_stay : (bs : List ℕ) (ss : List Sign) → line_ends_after false (signs_of true bs ++ ss) ≡ bs ++ line_ends_after false ss
+kept_stay : (bs : List ℕ) (ss : List Sign) → line_ends (signs_of true bs ++ ss) ≡ bs ++ line_ends ss
 kept_stay [] ss = refl
 kept_stay (b ∷ bs) ss = ap (λ (r : List ℕ). b ∷ r) (kept_stay bs ss)
 
@@ -140,13 +131,12 @@ kept_stay (b ∷ bs) ss = ap (λ (r : List ℕ). b ∷ r) (kept_stay bs ss)
 pub text_front : (main : Bool) (v : List ℕ) (ss : List Sign) → IsCharText v → SignChars ss → SignChars (signs_of main v ++ ss)
 text_front false v ss h rest =
     subst (λ (w : List ℕ). SignChars (literals w ++ ss)) (encodes-chars v h.utf8) (chars_front (chars v) ss (scalars-chars v h.utf8) h.all rest)
-text_front true [] ss h rest = rest
-text_front true (b ∷ bs) ss h rest = λ after. subst (λ (w : List ℕ). IsCharText w) (sym (ap (λ (r : List ℕ). b ∷ r) (kept_stay bs ss))) (texts_joined (b ∷ bs) (line_ends_after false ss) h (rest false))
+text_front true v ss h rest = subst (λ (w : List ℕ). IsCharText w) (sym (kept_stay v ss)) (texts_joined v (line_ends ss) h rest)
 
 -- the text of a part
 pub piece_items : (i j : ℕ) (plain : Bool) (ss : List Sign) → SignChars ss → ItemsChars (piece i j plain ss)
 piece_items i j plain [] h = tt
-piece_items i j plain (s ∷ ss) h = (h false, tt, tt)
+piece_items i j plain (s ∷ ss) h = (h, tt, tt)
 
 -- ---- items
 

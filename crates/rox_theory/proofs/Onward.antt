@@ -14,7 +14,7 @@ use Rattle.rox_grammar.specs.Words.{word_text}
 use Rattle.rox_grammar.specs.Names.{slice, spaces_end, IsQName, unprefixed, prefixed, colon_first}
 use Rattle.rox_grammar.specs.Constructs.{IsCData, IsEnd, IsEq}
 use Rattle.rox_grammar.specs.References.{IsReference, IsCharacter, decimal, hexadecimal, named, predefined}
-use Rattle.rox_grammar.specs.Content.{Sign, is_literal, signs_of, line_ends_after, value_bytes, Part, part_ends, as_written, from_reference, TagEnds, opened, closed, IsMisc, comment, instruction}
+use Rattle.rox_grammar.specs.Content.{Sign, is_literal, signs_of, begins_with_line_feed, line_ends, value_bytes, Part, part_ends, as_written, from_reference, TagEnds, opened, closed, IsMisc, comment, instruction}
 
 -- ---- characters
 
@@ -27,15 +27,13 @@ run_onward p src i = omega arith
 
 -- ---- line ends
 
-pub ends_shorten : (after : Bool) (ss : List Sign) → length (line_ends_after after ss) ≤ length ss
-ends_shorten after [] = omega arith
-ends_shorten after (s ∷ ss) =
-    let a = ends_shorten true ss in
-    let b = ends_shorten false ss in
-    cond_both (is_literal 13 s) _ _ (λ (bs : List ℕ). length bs ≤ length (s ∷ ss)) (λ _. omega (arith, a))
-    (λ _. cond_both (is_literal 10 s) _ _ (λ (bs : List ℕ). length bs ≤ length (s ∷ ss))
-    (λ _. cond_both after _ _ (λ (bs : List ℕ). length bs ≤ length (s ∷ ss)) (λ _. omega (arith, b)) (λ _. omega (arith, b)))
-    (λ _. omega (arith, b)))
+pub ends_shorten : (ss : List Sign) → length (line_ends ss) ≤ length ss
+ends_shorten [] = omega arith
+ends_shorten (s ∷ ss) =
+    let h = ends_shorten ss in
+    cond_both (is_literal 13 s) _ _ (λ (bs : List ℕ). length bs ≤ length (s ∷ ss))
+    (λ _. cond_both (begins_with_line_feed ss) _ _ (λ (bs : List ℕ). length bs ≤ length (s ∷ ss)) (λ _. omega (arith, h)) (λ _. omega (arith, h)))
+    (λ _. omega (arith, h))
 
 pub signs_length : (main : Bool) (bs : List ℕ) → length (signs_of main bs) ≡ length bs
 signs_length main [] = refl

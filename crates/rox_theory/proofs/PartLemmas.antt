@@ -9,7 +9,7 @@ use Rattle.std.proofs.lemmas.Bool.{eqb-true, eqb-false, eq-eqb, ne_eqb, lt-ltb, 
 use Rattle.rox_grammar.specs.declared.fault.Fault.{Fault}
 use Rattle.rox_grammar.specs.Names.{byte, slice}
 use Rattle.rox_grammar.specs.References.{IsReference, IsCharacter, predefined}
-use Rattle.rox_grammar.specs.Content.{Sign, literal, signs_of, line_ends_after, line_ends, literals, Part, part_ends, as_written, from_reference}
+use Rattle.rox_grammar.specs.Content.{Sign, literal, signs_of, begins_with_line_feed, line_ends, literals, Part, part_ends, as_written, from_reference}
 use Rattle.rox_grammar.specs.Entities.{Replacement, Entity, text_of}
 use Rattle.rox_reading.specs.Values.{Reference, reference_at, Bit, bytes_of, opens, expanded, expansion_at, run_bit_at, Next, at_end, opening, after_bit, run_part, part_text}
 use Rattle.rox_theory.specs.Openers.{IsStop}
@@ -28,26 +28,21 @@ kept_ends : (bs : List ℕ) (ss : List Sign) → line_ends (signs_of true bs ++ 
 kept_ends [] ss = refl
 kept_ends (b ∷ bs) ss = ap (λ (r : List ℕ). b ∷ r) (kept_ends bs ss)
 
--- after a CR too
-kept_after : (bs : List ℕ) (ss : List Sign) → 0 < length bs → line_ends_after true (signs_of true bs ++ ss) ≡ line_ends (signs_of true bs ++ ss)
+-- and is no literal LF
+kept_after : (bs : List ℕ) (ss : List Sign) → 0 < length bs → begins_with_line_feed (signs_of true bs ++ ss) ≡ false
 kept_after [] ss some = absurd (omega arith)
 kept_after (b ∷ bs) ss some = refl
 
 -- a byte but CR stands for itself
 pub literal_ends : (b : ℕ) (ss : List Sign) → b ≢ 13 → line_ends (literal b ∷ ss) ≡ b ∷ line_ends ss
-literal_ends b ss no_cr =
-    let n = ne_eqb b 13 no_cr in
-    elim (cases_eq b 10) as (λ s. line_ends (literal b ∷ ss) ≡ b ∷ line_ends ss) [
-      | inl lf ↦ rw lf refl
-      | inr other ↦ (let m = ne_eqb b 10 other in rw (n, m) refl)
-    ]
+literal_ends b ss no_cr = let n = ne_eqb b 13 no_cr in rw n refl
 
 -- CR LF gives LF
 crlf_ends : (a b : ℕ) (ss : List Sign) → a ≡ 13 → b ≡ 10 → line_ends (literal a ∷ literal b ∷ ss) ≡ 10 ∷ line_ends ss
 crlf_ends a b ss cr lf = rw (cr, lf) refl
 
--- CR gives LF
-cr_ends : (a : ℕ) (ss : List Sign) → a ≡ 13 → line_ends_after true ss ≡ line_ends ss → line_ends (literal a ∷ ss) ≡ 10 ∷ line_ends ss
+-- another CR gives LF
+cr_ends : (a : ℕ) (ss : List Sign) → a ≡ 13 → begins_with_line_feed ss ≡ false → line_ends (literal a ∷ ss) ≡ 10 ∷ line_ends ss
 cr_ends a ss cr after = rw (cr, after) refl
 
 -- the signs of two texts in a row
@@ -149,10 +144,10 @@ module _ (es : List Entity) (src : List ℕ) (utf8 : IsUtf8 src) (stop : ℕ) (l
   next_part main p i ss below other (as_written _ rest lt no_amp q) = (rest, refl, q)
   next_part main p i ss below other (from_reference _ n c rest r inside q) = absurd (other (character_opens src i c n r).0)
 
-  -- behind a CR that no LF follows
-  no_line_feed : (p i : ℕ) (ss : List Sign) → (i < p → byte src i ≢ 10) → Part true src p i ss → line_ends_after true ss ≡ line_ends ss
+  -- where no LF stands
+  no_line_feed : (p i : ℕ) (ss : List Sign) → (i < p → byte src i ≢ 10) → Part true src p i ss → begins_with_line_feed ss ≡ false
   no_line_feed p i ss none part_ends = refl
-  no_line_feed p i ss none (as_written _ rest lt no_amp q) = let n = ne_eqb (byte src i) 10 (none lt) in rw n refl
+  no_line_feed p i ss none (as_written _ rest lt no_amp q) = ne_eqb (byte src i) 10 (none lt)
   no_line_feed p i ss none (from_reference _ n c rest r inside q) = kept_after (encode_utf8 c) rest (encode_some c)
 
   -- one byte in front

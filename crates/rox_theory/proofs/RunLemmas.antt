@@ -13,7 +13,7 @@ use Rattle.rox_grammar.specs.Written.{Item, Text, leaf}
 use Rattle.rox_grammar.specs.Names.{byte, slice}
 use Rattle.rox_grammar.specs.Constructs.{has_mark}
 use Rattle.rox_grammar.specs.References.{IsReference, predefined}
-use Rattle.rox_grammar.specs.Content.{Opener, Sign, is_literal, sign_byte, line_ends_after, line_ends, literals, is_plain, piece, Part, part_ends, as_written, from_reference, Parts, last_part, then_entity, IsRun}
+use Rattle.rox_grammar.specs.Content.{Opener, Sign, is_literal, sign_byte, line_ends, literals, is_plain, piece, Part, part_ends, as_written, from_reference, Parts, last_part, then_entity, IsRun}
 use Rattle.rox_grammar.specs.Entities.{Replacement}
 use Rattle.rox_reading.specs.Lexical.{chars_up_to}
 use Rattle.rox_reading.specs.Refusals.{Refusal}
@@ -36,13 +36,18 @@ pub use Rattle.rox_theory.specs.Openers.{AgreesContent}
 
 -- a text of one sign or more has a byte
 some_line_ends : (s : Sign) (ss : List Sign) → (b : ℕ) × (bs : List ℕ) × (line_ends (s ∷ ss) ≡ b ∷ bs)
-some_line_ends s ss =
-    elim (cases_Bool (is_literal 13 s)) as (λ z. (b : ℕ) × (bs : List ℕ) × (line_ends (s ∷ ss) ≡ b ∷ bs)) [
-      | inl cr ↦ (10, line_ends_after true ss, rw cr refl)
-      | inr no_cr ↦ elim (cases_Bool (is_literal 10 s)) as (λ z. (b : ℕ) × (bs : List ℕ) × (line_ends (s ∷ ss) ≡ b ∷ bs)) [
-        | inl lf ↦ (10, line_ends_after false ss, rw (no_cr, lf) refl)
-        | inr no_lf ↦ (sign_byte s, line_ends_after false ss, rw (no_cr, no_lf) refl)
+some_line_ends s [] =
+    elim (cases_Bool (is_literal 13 s)) as (λ z. (b : ℕ) × (bs : List ℕ) × (line_ends (s ∷ []) ≡ b ∷ bs)) [
+      | inl cr ↦ (10, [], rw cr refl)
+      | inr no_cr ↦ (sign_byte s, [], rw no_cr refl)
+    ]
+some_line_ends s (t ∷ ss) =
+    elim (cases_Bool (is_literal 13 s)) as (λ z. (b : ℕ) × (bs : List ℕ) × (line_ends (s ∷ t ∷ ss) ≡ b ∷ bs)) [
+      | inl cr ↦ elim (cases_Bool (is_literal 10 t)) as (λ z. (b : ℕ) × (bs : List ℕ) × (line_ends (s ∷ t ∷ ss) ≡ b ∷ bs)) [
+        | inl lf ↦ (let more = some_line_ends t ss in (more.0, more.1, rw (cr, lf) more.2))
+        | inr no_lf ↦ (10, line_ends (t ∷ ss), rw (cr, no_lf) refl)
       ]
+      | inr no_cr ↦ (sign_byte s, line_ends (t ∷ ss), rw no_cr refl)
     ]
 
 -- a text that has a byte is an item

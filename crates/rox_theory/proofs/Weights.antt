@@ -17,12 +17,12 @@ module _ (of : Forest Item → ℕ) (is_measure : Measure of) where
   -- the text of a part
   pub piece_most : (i j : ℕ) (plain : Bool) (ss : List Sign) → of (piece i j plain ss) ≤ length ss
   piece_most i j plain [] = let h = is_measure.none in omega (arith, h)
-  piece_most i j plain (s ∷ ss) = is_measure.text i j (line_ends (s ∷ ss)) plain (length (s ∷ ss)) (omega arith) (ends_shorten false (s ∷ ss))
+  piece_most i j plain (s ∷ ss) = is_measure.text i j (line_ends (s ∷ ss)) plain (length (s ∷ ss)) (omega arith) (ends_shorten (s ∷ ss))
 
   -- a section's, of so many bytes
   pub section_most : (src : List ℕ) (i e j : ℕ) (plain : Bool) → i + 9 ≤ e → of (leaf (Text i j (line_ends (literals (slice src (i + 9) e))) plain)) + i ≤ e
   section_most src i e j plain h =
-      let a = ends_shorten false (literals (slice src (i + 9) e)) in
+      let a = ends_shorten (literals (slice src (i + 9) e)) in
       let s = signs_length false (slice src (i + 9) e) in
       let z = slice_short src (i + 9) e in
       let t = is_measure.text i j (line_ends (literals (slice src (i + 9) e))) plain (e - i) (omega (arith, h)) (omega (arith, h, a, s, z)) in

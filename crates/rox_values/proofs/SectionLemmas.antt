@@ -5,7 +5,7 @@ use Rattle.std.proofs.lemmas.Bool.{ne_eqb}
 use Rattle.std.proofs.lemmas.Bool.Decides.{eqb_tells}
 use Rattle.std.proofs.lemmas.List.{drop_more, drop_all, take_all, drop-drop}
 use Rattle.rox_grammar.specs.Marks.{byte_from}
-use Rattle.rox_grammar.specs.Content.{literals, line_ends, line_ends_after}
+use Rattle.rox_grammar.specs.Content.{literals, begins_with_line_feed, line_ends}
 use Rattle.rox_values.specs.Values.{section_rest, section_text}
 
 -- up to the next CR all stays as it is
@@ -17,16 +17,13 @@ stretch (x ∷ xs) n is =
       | inr other ↦
           let one = rw other.0 at is in
           let more : n ≡ suc (position_or_len (λ c. c == 13) xs) = omega (arith, one) in
-          elim (eqb_tells x 10) [
-            | inl feed ↦ rw (more, feed.1) (ap (λ l. 10 ∷ l) (stretch xs _ refl))
-            | inr byte ↦ rw (more, other.0, byte.0) (ap (λ l. x ∷ l) (stretch xs _ refl))
-          ]
+          rw (more, other.0) (ap (λ l. x ∷ l) (stretch xs _ refl))
     ]
 
--- a text that begins with no LF reads alike after a CR
-apart : (xs : List ℕ) → get_or xs 0 0 ≢ 10 → line_ends_after true (literals xs) ≡ line_ends (literals xs)
+-- no LF is in front
+apart : (xs : List ℕ) → get_or xs 0 0 ≢ 10 → begins_with_line_feed (literals xs) ≡ false
 apart [] h = refl
-apart (x ∷ xs) h = rw (ne_eqb x 10 h) refl
+apart (x ∷ xs) h = ne_eqb x 10 h
 
 rest_stretch : (raw : List ℕ) (i n : ℕ) → n ≡ position_or_len (λ c. c == 13) (drop i raw) → section_rest raw i ≡ slice_range raw i (i + n) ++ section_rest raw (i + n)
 rest_stretch raw i n is =
@@ -58,7 +55,7 @@ pub part_return : (old raw : List ℕ) (i : ℕ) → get_or raw i 0 ≡ 13 → g
 part_return old raw i cr other within =
     let first : drop i raw ≡ 13 ∷ drop (i + 1) raw = rw cr at (drop_more raw i 0 within) in
     let front : get_or (drop (i + 1) raw) 0 0 ≢ 10 = λ h. other (ap (λ k. get_or raw k 0) (sym (add-zero (i + 1))) ∙ sym (get_or-drop (i + 1) raw 0 0) ∙ h) in
-    append_assoc old (10 ∷ []) _ ∙ ap (λ l. old ++ l) (rw first (ap (λ l. 10 ∷ l) (sym (apart (drop (i + 1) raw) front))))
+    append_assoc old (10 ∷ []) _ ∙ ap (λ l. old ++ l) (rw (first, apart (drop (i + 1) raw) front) refl)
 
 -- whether a CR stands somewhere
 any_before : (xs : List ℕ) → position_or_len (λ c. c == 13) xs ≡ length xs → list_any (λ b. b == 13) xs ≡ false

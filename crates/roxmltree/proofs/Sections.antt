@@ -9,7 +9,7 @@ use Rattle.rox_grammar.specs.Written.{Name, Declaration, Tag, Item, Element, Tex
 use Rattle.rox_grammar.specs.Tree.{Node, node_in}
 use Rattle.rox_grammar.specs.Names.{byte, slice}
 use Rattle.rox_grammar.specs.Constructs.{at, IsCData, IsEnd}
-use Rattle.rox_grammar.specs.Content.{Sign, literal, kept, signs_of, literals, line_ends, piece, Part, part_ends, as_written, from_reference, Parts, last_part, then_entity, IsTag, IsMisc, comment, instruction, IsElement, empty, nest, Content, ends, run, cdata, misc, node}
+use Rattle.rox_grammar.specs.Content.{Sign, literal, kept, is_literal, signs_of, literals, line_ends, piece, Part, part_ends, as_written, from_reference, Parts, last_part, then_entity, IsTag, IsMisc, comment, instruction, IsElement, empty, nest, Content, ends, run, cdata, misc, node}
 use Rattle.rox_grammar.specs.Document.{Misc, no_misc, space, an_item, ParseOf, IsTreeOf}
 use Rattle.rox_theory.proofs.Without.{parse_without}
 use Rattle.rox_grammar.specs.Entities.{no_entities}
@@ -115,10 +115,11 @@ merge_sound src from to (Cons (PI a e t o) c r) markup h =
 -- signs have a byte
 some_bytes : (s : Sign) (ss : List Sign) → line_ends (s ∷ ss) ≡ [] → ⊥
 some_bytes (kept x) ss h = cc h
-some_bytes (literal x) ss h =
+some_bytes (literal x) [] h = elim (cases_Bool (x == 13)) [ inl cr ↦ (let e = rw cr at h in cc e) | inr no_cr ↦ (let e = rw no_cr at h in cc e) ]
+some_bytes (literal x) (s ∷ ss) h =
     elim (cases_Bool (x == 13)) [
-      | inl cr ↦ (let e = rw cr at h in cc e)
-      | inr no_cr ↦ elim (cases_Bool (x == 10)) [ inl lf ↦ (let e = rw (no_cr, lf) at h in cc e) | inr no_lf ↦ (let e = rw (no_cr, no_lf) at h in cc e) ]
+      | inl cr ↦ elim (cases_Bool (is_literal 10 s)) [ inl lf ↦ some_bytes s ss (rw (cr, lf) at h) | inr no_lf ↦ (let e = rw (cr, no_lf) at h in cc e) ]
+      | inr no_cr ↦ (let e = rw no_cr at h in cc e)
     ]
 
 -- and bytes signs
