@@ -142,7 +142,7 @@ pub record IsTag (main : Bool) (Opens : Opener) (src : List ℕ) (i j b c : ℕ)
   pub declares : t.declarations ≡ declarations_of written
   pub has : t.attributes ≡ attributes_of written
 
--- a comment or a processing instruction, as an item
+-- a comment or a processing instruction, as an item. Unlike in 2.11 its carriage returns are kept.
 pub data IsMisc (src : List ℕ) : ℕ → ℕ → Item → Type 0 where
   comment : (i e j : ℕ) → IsComment src i e j → IsMisc src i j (Comment i j (slice src (i + 4) e))
   instruction : (i n e j : ℕ) → IsPI src i n e j → IsMisc src i j (PI i j (slice src (i + 2) n) (none_if_empty (slice src (spaces_end src n) e)))

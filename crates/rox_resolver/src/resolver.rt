@@ -43,6 +43,15 @@ pub struct ResolveWith<F> {
     pub by: F,
 }
 
+impl<F> ResolveWith<F> {
+    /// A resolver that asks this closure. Whether the closure may be asked anything is looked at where a text is parsed.
+    pub fn new(by: F) -> ResolveWith<F>
+        ensures { result.by ≡ by }
+    {
+        ResolveWith { by }
+    }
+}
+
 impl<'input, F: Fn(Option<&str>, &str) -> Result<Option<&'input str>, String>> EntityResolver<
     'input,
 > for ResolveWith<F> {

@@ -18,15 +18,16 @@ fn answer_for<'input, R: EntityResolver<'input> + Drop>(
 #[test]
 fn a_closure_answers(rt: HostRuntime) -> Result<(), Fail> {
     let chapter = "<p/>";
-    let resolver = ResolveWith {
-        by: |pub_id: Option<&str>, uri: &str| -> Result<Option<&str>, String> {
-            if pub_id.is_some() && uri == "chapter.xml" {
-                Ok(Some(chapter))
-            } else {
-                Ok(None)
-            }
-        },
-    };
+    let resolver = ResolveWith::new(|pub_id: Option<&str>, uri: &str| -> Result<
+        Option<&str>,
+        String,
+    > {
+        if pub_id.is_some() && uri == "chapter.xml" {
+            Ok(Some(chapter))
+        } else {
+            Ok(None)
+        }
+    });
     assert_eq!(rt;
         answer_for(Some(resolver), "chapter.xml").ok(),
         Some(Some(chapter))

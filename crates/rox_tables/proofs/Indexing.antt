@@ -1,6 +1,7 @@
 -- A table of pairs and a map of their places: what is found in it, and what stays of it as the table grows.
-use Rattle.std.proofs.Common.{◌≡◌, ℕ, suc, ◌<◌, ◌||◌, Bool, true, false, cond, List, [], ◌∷◌, ◌++◌, length, length-append, map, refl, sym, ap, ◌∙◌, subst, arith, Option, Some, None, Result, Ok, Err, IfOk, OnOk}
-use Rattle.std.specs.Option.{option_map, IfSome, IfNone, option_cmp}
+use Rattle.std.proofs.Common.{◌≡◌, ℕ, suc, ◌<◌, ◌||◌, Bool, true, false, cond, List, [], ◌∷◌, ◌++◌, length, length-append, map, take, drop, zero, ◌+◌, ◌-◌, ◌≤◌, refl, sym, ap, ◌∙◌, subst, arith, Option, Some, None, Result, Ok, Err, IfOk, OnOk, ◌⊎◌, inl, inr}
+use Rattle.std.specs.Prelude.{bytes_eq, ◌&&◌}
+use Rattle.std.specs.Option.{option_map, option_eq, IfSome, IfNone, option_cmp}
 use Rattle.std.specs.Map.{lookup}
 use Rattle.std.specs.Result.{is_ok}
 use Rattle.std.specs.BTreeMap.{insert_entry, is_at}
@@ -9,14 +10,15 @@ use Rattle.std.specs.declared.cmp.Ordering.TheVariants.{Less, Equal, Greater}
 use Rattle.std.specs.Ordering.{is_eq, match_ordering, nat_cmp}
 use Rattle.std.specs.Cmp.{both_tied}
 use Rattle.std.specs.Cmp.Lexicographic.{slice_cmp, texts_ties}
-use Rattle.std.proofs.lemmas.List.{length-map, map-append}
+use Rattle.std.proofs.lemmas.List.{length-map, length-drop, map-append, take-map, drop_all, drop-append-le}
+use Rattle.std.proofs.lemmas.Bool.{cases_lt}
 use Rattle.rox_grammar.specs.Written.{Declaration}
 use Rattle.rox_grammar.specs.Tree.{same_prefix}
 use Rattle.rox_grammar.specs.Document.{same_pair, has_pair}
 use Rattle.rox_tables.specs.declared.names.Key.{Key}
 use Rattle.rox_tables.specs.declared.tables.Namespace.{Namespace}
 use Rattle.rox_tables.specs.Lines.{declaration, entry}
-use Rattle.rox_tables.specs.Index.{pair_cmp, key_cmp, place_of, place_among}
+use Rattle.rox_tables.specs.Index.{pair_cmp, key_cmp, few_pairs, place_of, place_behind, place_among}
 use Rattle.rox_tables.proofs.Pairs.{same_pair-true}
 
 -- ---- the order
@@ -75,6 +77,109 @@ absent_place : (names : List Declaration) (d : Declaration) → has_pair names d
 absent_place [] d h = refl
 absent_place (n ∷ names) d h = let (one, rest) = neither (same_pair n d) (has_pair names d) h in rw (one, absent_place names d rest) refl
 
+-- ---- the first few of a table, and those behind them
+
+inner_none : (o : Option ℕ) → option_map suc o ≡ None → o ≡ None
+inner_none None h = refl
+inner_none (Some i) h = cc h
+
+-- the first that is the same
+pub place_here : (names : List Declaration) (k : ℕ) (d : Declaration) → k < length names → place_of (take k names) d ≡ None → same_pair (entry names k) d ≡ true → place_of names d ≡ Some k
+place_here [] k d lt none same = absurd (omega arith)
+place_here (n ∷ names) zero d lt none same = rw same refl
+place_here (n ∷ names) (suc k) d lt none same = by (same_pair n d) refl (λ inner. place_here names k d (omega arith) inner same)
+  where
+    by : (b : Bool) → same_pair n d ≡ b → (place_of (take k names) d ≡ None → place_of names d ≡ Some k) → place_of (n ∷ names) d ≡ Some (suc k)
+    by true e more = cc (rw e at none)
+    by false e more = rw (e, more (inner_none (place_of (take k names) d) (rw e at none))) refl
+
+-- one more that is another
+pub place_on : (names : List Declaration) (k : ℕ) (d : Declaration) → k < length names → place_of (take k names) d ≡ None → same_pair (entry names k) d ≡ false → place_of (take (suc k) names) d ≡ None
+place_on [] k d lt none other = absurd (omega arith)
+place_on (n ∷ names) zero d lt none other = rw other refl
+place_on (n ∷ names) (suc k) d lt none other = by (same_pair n d) refl (λ inner. place_on names k d (omega arith) inner other)
+  where
+    by : (b : Bool) → same_pair n d ≡ b → (place_of (take k names) d ≡ None → place_of (take (suc k) names) d ≡ None) → place_of (take (suc (suc k)) (n ∷ names)) d ≡ None
+    by true e more = cc (rw e at none)
+    by false e more = rw (e, more (inner_none (place_of (take k names) d) (rw e at none))) refl
+
+pub place_front : (k : ℕ) (names : List Declaration) (d : Declaration) (i : ℕ) → place_of (take k names) d ≡ Some i → place_of names d ≡ Some i
+place_front zero names d i h = cc h
+place_front (suc k) [] d i h = h
+place_front (suc k) (n ∷ names) d i h = by (same_pair n d) refl (place_of (take k names) d) refl (λ j is. place_front k names d j is)
+  where
+    by : (b : Bool) → same_pair n d ≡ b → (o : Option ℕ) → place_of (take k names) d ≡ o → ((j : ℕ) → place_of (take k names) d ≡ Some j → place_of names d ≡ Some j) → place_of (n ∷ names) d ≡ Some i
+    by true e o is more = rw e (rw e at h)
+    by false e None is more = cc (rw (e, is) at h)
+    by false e (Some j) is more = rw (e, more j is) (rw (e, is) at h)
+
+pub place_back : (k : ℕ) (names : List Declaration) (d : Declaration) → place_of (take k names) d ≡ None → place_of names d ≡ option_map (λ i. k + i) (place_of (drop k names) d)
+place_back zero names d h = same_option (place_of names d)
+  where
+    same_option : (o : Option ℕ) → o ≡ option_map (λ i. zero + i) o
+    same_option None = refl
+    same_option (Some i) = ap Some (omega arith)
+place_back (suc k) [] d h = refl
+place_back (suc k) (n ∷ names) d h = by (same_pair n d) refl (place_of (take k names) d) refl (λ is. place_back k names d is)
+  where
+    next : (o : Option ℕ) → option_map suc (option_map (λ i. k + i) o) ≡ option_map (λ i. suc k + i) o
+    next None = refl
+    next (Some i) = ap Some (omega arith)
+
+    by : (b : Bool) → same_pair n d ≡ b → (o : Option ℕ) → place_of (take k names) d ≡ o → (place_of (take k names) d ≡ None → place_of names d ≡ option_map (λ i. k + i) (place_of (drop k names) d))
+        → place_of (n ∷ names) d ≡ option_map (λ i. suc k + i) (place_of (drop k names) d)
+    by true e o is more = cc (rw e at h)
+    by false e None is more = rw (e, more is) (next (place_of (drop k names) d))
+    by false e (Some j) is more = cc (rw (e, is) at h)
+
+-- pairs that are equal as the code compares them
+prefix_eq : (p q : Option (List ℕ)) → option_eq bytes_eq p q ≡ same_prefix p q
+prefix_eq None None = refl
+prefix_eq None (Some q) = refl
+prefix_eq (Some p) None = refl
+prefix_eq (Some p) (Some q) = refl
+
+pub pair_eq : (d e : Declaration) → (option_eq bytes_eq d.prefix e.prefix && bytes_eq d.uri e.uri) ≡ same_pair d e
+pair_eq d e = ap (λ b. b && bytes_eq d.uri e.uri) (prefix_eq d.prefix e.prefix)
+
+-- where nothing stands behind the first few
+pub none_behind : (names : List Declaration) (d : Declaration) → length names ≤ few_pairs → place_behind names d ≡ None
+none_behind names d few = ap (λ ds. option_map (λ i. few_pairs + i) (place_of ds d)) (drop_all few_pairs names few)
+
+-- where few are looked for one after another, and the others behind them
+
+pub row_in : (rows : List Namespace) (d : Declaration) (i k : ℕ) → Some i ≡ place_of (map declaration (take k rows)) d
+    → (i < length rows) × (entry (map declaration rows) i ≡ d) × (has_pair (map declaration rows) d ≡ true)
+row_in rows d i k e = placed_row rows d i (sym (place_front k (map declaration rows) d i (ap (λ ds. place_of ds d) (take-map declaration k rows) ∙ sym e)))
+
+not_in : (rows : List Namespace) (d : Declaration) (k : ℕ) → k ≤ few_pairs → (k < few_pairs → length rows ≤ k) → None ≡ place_of (map declaration (take k rows)) d
+    → place_of (map declaration rows) d ≡ place_behind (map declaration rows) d
+not_in rows d k few all none = by (cases_lt k few_pairs)
+  where
+    names : List Declaration
+    names = map declaration rows
+
+    front : place_of (take k names) d ≡ None
+    front = ap (λ ds. place_of ds d) (take-map declaration k rows) ∙ sym none
+
+    by : (k < few_pairs) ⊎ (few_pairs ≤ k) → place_of names d ≡ place_behind names d
+    by (inl lt) =
+        let l = length-map rows declaration in
+        let short = all lt in
+        place_back k names d front ∙ ap (λ ds. option_map (λ i. k + i) (place_of ds d)) (drop_all k names (omega arith)) ∙ sym (none_behind names d (omega arith))
+    by (inr ge) = let same : k ≡ few_pairs = omega arith in subst (λ n. place_of names d ≡ option_map (λ i. n + i) (place_of (drop n names) d)) same (place_back k names d front)
+
+pub row_behind : (rows : List Namespace) (d : Declaration) (k : ℕ) (o : Option ℕ) → k ≤ few_pairs → (k < few_pairs → length rows ≤ k) → None ≡ place_of (map declaration (take k rows)) d
+    → o ≡ place_behind (map declaration rows) d
+    → IfSome o (λ i. (i < length rows) × (entry (map declaration rows) i ≡ d) × (has_pair (map declaration rows) d ≡ true))
+row_behind rows d k None few all none is = tt
+row_behind rows d k (Some i) few all none is = placed_row rows d i (is ∙ sym (not_in rows d k few all none))
+
+pub row_nowhere : (rows : List Namespace) (d : Declaration) (k : ℕ) (o : Option ℕ) → k ≤ few_pairs → (k < few_pairs → length rows ≤ k) → None ≡ place_of (map declaration (take k rows)) d
+    → o ≡ place_behind (map declaration rows) d → IfNone o (has_pair (map declaration rows) d ≡ false)
+row_nowhere rows d k None few all none is = unplaced_row rows d (is ∙ sym (not_in rows d k few all none))
+row_nowhere rows d k (Some i) few all none is = tt
+
 -- ---- a new pair
 
 place_push : (names : List Declaration) (e d : Declaration) → has_pair names e ≡ false → place_of (names ++ e ∷ []) d ≡ cond (same_pair e d) (Some (length names)) (place_of names d)
@@ -132,20 +237,35 @@ pub was_ok : {A B P : Type 0} (r : Result A B) → is_ok r ≡ true → OnOk r P
 was_ok (Ok x) e h = h
 was_ok (Err y) e h = cc e
 
--- the map of a table with one more
-pub found_more : (rows : List Namespace) (row : Namespace) (es : List (Key × ℕ)) (k : Key) → ((d : Declaration) → place_among es d ≡ place_of (map declaration rows) d)
+-- none of those behind is a pair that is new
+absent_behind : (k : ℕ) (names : List Declaration) (d : Declaration) → has_pair names d ≡ false → has_pair (drop k names) d ≡ false
+absent_behind zero names d h = h
+absent_behind (suc k) [] d h = refl
+absent_behind (suc k) (n ∷ names) d h = absent_behind k names d (neither (same_pair n d) (has_pair names d) h).1
+
+-- the map of a table with one more behind the first few
+pub found_more : (rows : List Namespace) (row : Namespace) (es : List (Key × ℕ)) (k : Key) → few_pairs ≤ length rows → ((d : Declaration) → place_among es d ≡ place_behind (map declaration rows) d)
     → has_pair (map declaration rows) (declaration k.namespace) ≡ false → declaration row ≡ declaration k.namespace
-    → (d : Declaration) → place_among (insert_entry key_cmp es k (length rows)) d ≡ place_of (map declaration (rows ++ row ∷ [])) d
-found_more rows row es k h absent same d =
+    → (d : Declaration) → place_among (insert_entry key_cmp es k (length rows)) d ≡ place_behind (map declaration (rows ++ row ∷ [])) d
+found_more rows row es k many h absent same d =
     let names = map declaration rows in
     let mine = declaration k.namespace in
-    let none : place_among es mine ≡ None = h mine ∙ absent_place names mine absent in
+    let behind = drop few_pairs names in
+    let l = length-map rows declaration in
+    let gone = absent_behind few_pairs names mine absent in
+    let none : place_among es mine ≡ None = h mine ∙ ap (option_map (λ i. few_pairs + i)) (absent_place behind mine gone) in
+    let rest : few_pairs + length behind ≡ length rows = let r = length-drop few_pairs names in omega arith in
     among_inserted k (length rows) d es none
     ∙ ap (λ o. cond (same_pair d mine) (Some (length rows)) o) (h d)
-    ∙ rw (same_pair-sym d mine, sym (length-map rows declaration)) refl
-    ∙ sym (place_push names mine d absent)
-    ∙ ap (λ ds. place_of ds d) (sym (map-append declaration rows (row ∷ []) ∙ ap (λ x. names ++ x ∷ []) same))
+    ∙ rw (same_pair-sym d mine, sym rest) (inside (same_pair mine d) (length behind) (place_of behind d))
+    ∙ sym (ap (option_map (λ i. few_pairs + i)) (place_push behind mine d gone))
+    ∙ ap (λ ds. option_map (λ i. few_pairs + i) (place_of ds d)) (sym (drop-append-le few_pairs names (mine ∷ []) (omega arith)))
+    ∙ ap (λ ds. place_behind ds d) (sym (map-append declaration rows (row ∷ []) ∙ ap (λ x. names ++ x ∷ []) same))
   where
+    inside : (b : Bool) (i : ℕ) (o : Option ℕ) → cond b (Some (few_pairs + i)) (option_map (λ j. few_pairs + j) o) ≡ option_map (λ j. few_pairs + j) (cond b (Some i) o)
+    inside true i o = refl
+    inside false i o = refl
+
     same_pair-sym : (x y : Declaration) → same_pair x y ≡ same_pair y x
     same_pair-sym x y = by (same_pair x y) refl (same_pair y x) refl
       where

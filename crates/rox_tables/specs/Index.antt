@@ -1,5 +1,5 @@
 -- Where pairs stand in a table, and in a map of them.
-use Rattle.std.specs.Prelude.{ℕ, suc, List, [], ◌∷◌, Option, Some, None, if◌then◌else◌}
+use Rattle.std.specs.Prelude.{ℕ, suc, ◌+◌, List, [], ◌∷◌, drop, Option, Some, None, if◌then◌else◌}
 use Rattle.std.specs.Option.{option_map, option_cmp}
 use Rattle.std.specs.declared.cmp.Ordering.{Ordering}
 use Rattle.std.specs.Ordering.{ordering_then, nat_cmp}
@@ -29,6 +29,14 @@ key_total = on_total (λ k. declaration k.namespace) pair_total
 abbrev pub place_of : List Declaration → Declaration → Option ℕ
 place_of [] d = None
 place_of (n ∷ names) d = if same_pair n d then Some 0 else option_map suc (place_of names d)
+
+-- how many pairs of a table are looked for one after another
+abbrev pub few_pairs : ℕ
+few_pairs = 16
+
+-- the place of a pair that stands behind these
+abbrev pub place_behind : List Declaration → Declaration → Option ℕ
+place_behind names d = option_map (λ i. few_pairs + i) (place_of (drop few_pairs names) d)
 
 -- the place that the entries of a map give a pair
 abbrev pub place_among : List (Key × ℕ) → Declaration → Option ℕ

@@ -1,4 +1,5 @@
-//! The table of the distinct pairs of a prefix, or the default, and a URI, and a map by which a pair is found.
+//! The table of the distinct pairs of a prefix, or the default, and a URI. A pair is looked for among the first few of them, one
+//! after another, and then in a map of the others, so that a text of few pairs makes no map.
 
 ghost use Rattle.std.specs.Prelude.{◌≡◌, ◌<◌, ◌≤◌, ◌∷◌, ◌++◌, [], length, map, true, false, IfSome, IfNone, IfOk, OnOk, IfErr, Err};
 ghost use Rattle.rox_grammar.specs.Written.{Declaration};
@@ -7,7 +8,7 @@ ghost use Rattle.rox_grammar.specs.declared.fault.Fault.{Fault};
 ghost use Rattle.rox_tables.specs.Storage.{storage_bytes};
 ghost use Rattle.rox_tables.specs.Lines.{declaration, entry};
 ghost use Rattle.rox_tables.specs.Scopes.{prefix_view, pair};
-ghost use Rattle.rox_tables.specs.Index.{pair_cmp, key_cmp, key_total, place_among, place_of};
+ghost use Rattle.rox_tables.specs.Index.{pair_cmp, key_cmp, key_total, few_pairs, place_among, place_behind, place_of};
 
 use crate::storage::StringStorage;
 use crate::tables::Namespace;
@@ -19,6 +20,9 @@ use std::collections::BTreeMap;
 
 /// The most pairs that the table holds.
 const MOST_PAIRS: usize = 65_535;
+
+/// How many pairs are looked for one after another.
+const FEW: usize = 16;
 
 /// How two pairs stand to each other: by prefix, of which the default comes first, and then by URI.
 fn compare(one: &Namespace<'_>, other: &Namespace<'_>) -> Ordering
@@ -86,14 +90,27 @@ impl PartialOrd for Key<'_> {
     }
 }
 
+/// The place of a pair among these, which are few.
+fn place_in(items: &[Namespace<'_>], pair: &Namespace<'_>) -> Option<u16>
+    requires few { length items.now ≤ few_pairs }
+    ensures value { result ≡ place_of (map declaration items.now) (declaration pair.now) }
+{
+    for (place, item) in items.iter().enumerate() {
+        if item == pair {
+            return Some(place as u16);
+        }
+    }
+    None
+}
+
 /// The table, while it grows.
 #[derive(Debug, Drop)]
 pub struct NamespaceTable<'input> {
     /// In the order in which they are first declared.
     pub items: Vec<Namespace<'input>>,
-    /// The place of each.
+    /// The place of each behind the first few.
     pub places: BTreeMap<Key<'input>, u16>,
-    pub ghost found: { (d : Declaration) → place_among places.entries d ≡ place_of (map declaration items.items) d },
+    pub ghost found: { (d : Declaration) → place_among places.entries d ≡ place_behind (map declaration items.items) d },
 }
 
 impl<'input> NamespaceTable<'input> {
@@ -115,6 +132,16 @@ impl<'input> NamespaceTable<'input> {
         self.items.as_slice()
     }
 
+    /// The place of a pair behind the first few.
+    fn find_behind(&self, key: &Key<'input>) -> Option<u16>
+        ensures { result ≡ place_behind (map declaration self.now.items.items) (declaration key.now.namespace) }
+    {
+        match self.places.get(key) {
+            Some(place) => Some(*place),
+            None => None,
+        }
+    }
+
     /// The place of a pair.
     fn find(&self, key: &Key<'input>) -> Option<u16>
         ensures there { IfSome result (λ i. (i < length self.now.items.items)
@@ -122,9 +149,10 @@ impl<'input> NamespaceTable<'input> {
             × (has_pair (map declaration self.now.items.items) (declaration key.now.namespace) ≡ true)) }
         ensures absent { IfNone result (has_pair (map declaration self.now.items.items) (declaration key.now.namespace) ≡ false) }
     {
-        match self.places.get(key) {
-            Some(place) => Some(*place),
-            None => None,
+        let few = self.items.len().min(FEW);
+        match place_in(&self.items[..few], &key.namespace) {
+            Some(place) => Some(place),
+            None => self.find_behind(key),
         }
     }
 
@@ -137,6 +165,10 @@ impl<'input> NamespaceTable<'input> {
         ensures err { IfErr result (λ e. e ≡ Failure.Memory) }
     {
         let place = self.items.len() as u16;
+        if self.items.len() < FEW {
+            self.items.push(key.namespace)?;
+            return Ok(place);
+        }
         let namespace = key.namespace.clone()?;
         self.items.push(namespace)?;
         if self.places.insert(key, place).is_err() {
