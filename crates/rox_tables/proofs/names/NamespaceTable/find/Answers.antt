@@ -1,6 +1,6 @@
-use Rattle.std.proofs.Common.{◌<◌, ◌≤◌, ◌∙◌, sym, ap, map, take, length, arith}
+use Rattle.std.proofs.Common.{◌∙◌, sym, ap, map, take, arith}
 use Rattle.rox_tables.specs.Lines.{declaration}
-use Rattle.rox_tables.specs.Index.{few_pairs, place_of}
+use Rattle.rox_tables.specs.Index.{place_of}
 use Rattle.rox_tables.proofs.Indexing.{row_in, row_behind, row_nowhere}
 use Rattle.rox_tables.proofs.names.NamespaceTable.find.Goals as goal
 
