@@ -104,7 +104,10 @@ fn names_in_errors(rt: HostRuntime) {
 }
 
 /// The answer for a text that may have a document type declaration.
-fn asked<'input>(rt: &impl AllocGlobal, text: &'input str) -> Result<Document<'input>, Error> {
+pub(super) fn asked<'input>(
+    rt: &impl AllocGlobal,
+    text: &'input str,
+) -> Result<Document<'input>, Error> {
     let mut options = ParsingOptions::default();
     options.allow_dtd = true;
     Document::parse_with_options(rt.alloc(), text, options)
@@ -129,12 +132,17 @@ fn opening(alloc: Global, count: usize) -> Result<String, AllocError> {
     Ok(text)
 }
 
+/// The same, made again where its growth was refused. It has one.
+pub(super) fn opened(rt: &impl AllocGlobal, count: usize) -> Result<String, AllocError> {
+    match opening(rt.alloc(), count) {
+        Ok(text) => Ok(text),
+        Err(_) => opening(rt.alloc(), count),
+    }
+}
+
 #[test]
 fn entities(rt: HostRuntime) -> Result<(), Fail> {
-    let text = match opening(rt.alloc(), 255) {
-        Ok(text) => text,
-        Err(_) => opening(rt.alloc(), 255)?,
-    };
+    let text = opened(&rt, 255)?;
     let document = declared(&rt, text.as_str()).expect(&rt, "entities");
     let found = document.root_element().text().unwrap_or("");
     assert_eq!(rt; found.len(), 255);
@@ -144,32 +152,33 @@ fn entities(rt: HostRuntime) -> Result<(), Fail> {
 
 #[test]
 fn entities_too_often(rt: HostRuntime) -> Result<(), Fail> {
-    let text = match opening(rt.alloc(), 256) {
-        Ok(text) => text,
-        Err(_) => opening(rt.alloc(), 256)?,
-    };
+    let text = opened(&rt, 256)?;
     let error = declared(&rt, text.as_str()).expect_err(&rt, "a loop");
     let wanted = Error::EntityReferenceLoop(TextPos::new(1, 809));
     assert_eq!(rt; error, wanted);
     Ok(())
 }
 
+/// Ten entities that open one another.
+pub(super) const TEN: &str =
+    "<!DOCTYPE r [<!ENTITY e1 '&e2;'><!ENTITY e2 '&e3;'><!ENTITY e3 '&e4;'><!ENTITY e4 '&e5;'>\
+<!ENTITY e5 '&e6;'><!ENTITY e6 '&e7;'><!ENTITY e7 '&e8;'><!ENTITY e8 '&e9;'><!ENTITY e9 '&e10;'><!ENTITY e10 'x'>]><r>&e1;</r>";
+
+/// Eleven of them.
+pub(super) const ELEVEN: &str =
+    "<!DOCTYPE r [<!ENTITY e1 '&e2;'><!ENTITY e2 '&e3;'><!ENTITY e3 '&e4;'><!ENTITY e4 '&e5;'>\
+<!ENTITY e5 '&e6;'><!ENTITY e6 '&e7;'><!ENTITY e7 '&e8;'><!ENTITY e8 '&e9;'><!ENTITY e9 '&e10;'><!ENTITY e10 '&e11;'>\
+<!ENTITY e11 'x'>]><r>&e1;</r>";
+
 #[test]
 fn entities_in_one_another(rt: HostRuntime) {
-    let text =
-        "<!DOCTYPE r [<!ENTITY e1 '&e2;'><!ENTITY e2 '&e3;'><!ENTITY e3 '&e4;'><!ENTITY e4 '&e5;'>\
-<!ENTITY e5 '&e6;'><!ENTITY e6 '&e7;'><!ENTITY e7 '&e8;'><!ENTITY e8 '&e9;'><!ENTITY e9 '&e10;'><!ENTITY e10 'x'>]><r>&e1;</r>";
-    let document = declared(&rt, text).expect(&rt, "entities");
+    let document = declared(&rt, TEN).expect(&rt, "entities");
     assert_eq!(rt; document.root_element().text(), Some("x"));
 }
 
 #[test]
 fn entities_in_one_another_too_deep(rt: HostRuntime) {
-    let text =
-        "<!DOCTYPE r [<!ENTITY e1 '&e2;'><!ENTITY e2 '&e3;'><!ENTITY e3 '&e4;'><!ENTITY e4 '&e5;'>\
-<!ENTITY e5 '&e6;'><!ENTITY e6 '&e7;'><!ENTITY e7 '&e8;'><!ENTITY e8 '&e9;'><!ENTITY e9 '&e10;'><!ENTITY e10 '&e11;'>\
-<!ENTITY e11 'x'>]><r>&e1;</r>";
-    let error = declared(&rt, text).expect_err(&rt, "a loop");
+    let error = declared(&rt, ELEVEN).expect_err(&rt, "a loop");
     let wanted = Error::EntityReferenceLoop(TextPos::new(1, 205));
     assert_eq!(rt; error, wanted);
 }
@@ -177,18 +186,24 @@ fn entities_in_one_another_too_deep(rt: HostRuntime) {
 /// An external entity.
 const EXTERNAL: &str = "<!DOCTYPE foo [<!ENTITY bar SYSTEM \"baz.xml\">]> <qux>&bar;</qux>";
 
-/// The answer where the external entity has this text, asked again where a growth was refused.
-fn answered<'input>(
+/// The answer where the external entity has this text.
+pub(super) fn resolved<'input>(
     rt: &impl AllocGlobal,
     answer: Option<&'input str>,
 ) -> Result<Document<'input>, Error> {
     let resolver = ResolveWith {
         by: |_id: Option<&str>, _uri: &str| -> Result<Option<&str>, String> { Ok(answer) },
     };
-    match Document::parse_with_options(rt.alloc(), EXTERNAL, answered_by(resolver)) {
-        Err(Error::OutOfMemory) => {
-            Document::parse_with_options(rt.alloc(), EXTERNAL, answered_by(resolver))
-        }
+    Document::parse_with_options(rt.alloc(), EXTERNAL, answered_by(resolver))
+}
+
+/// The same, asked again where a growth was refused.
+fn answered<'input>(
+    rt: &impl AllocGlobal,
+    answer: Option<&'input str>,
+) -> Result<Document<'input>, Error> {
+    match resolved(rt, answer) {
+        Err(Error::OutOfMemory) => resolved(rt, answer),
         answer => answer,
     }
 }
@@ -217,7 +232,7 @@ fn external_entities_without_a_text(rt: HostRuntime) {
 }
 
 /// What a resolver's own refusal becomes.
-fn refused_by_resolver(rt: &(impl Abort + AllocGlobal), words: String) -> Error {
+pub(super) fn refused_by_resolver(rt: &(impl Abort + AllocGlobal), words: String) -> Error {
     let words = Cell::new(Some(words));
     let options = answered_by(ResolveWith {
         by: |_id: Option<&str>, _uri: &str| -> Result<Option<&str>, String> {
@@ -231,7 +246,7 @@ fn refused_by_resolver(rt: &(impl Abort + AllocGlobal), words: String) -> Error 
 }
 
 /// A text of its own, made again where a growth was refused.
-fn own_text(rt: &(impl Abort + AllocGlobal), text: &str) -> String {
+pub(super) fn own_text(rt: &(impl Abort + AllocGlobal), text: &str) -> String {
     match String::from_str(rt.alloc(), text) {
         Ok(text) => text,
         Err(_) => String::from_str(rt.alloc(), text).expect(rt, "memory"),

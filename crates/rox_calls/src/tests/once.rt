@@ -1,11 +1,156 @@
-//! Calls that are asked once, so that a growth of theirs that is refused is their answer. The document is asked for again, and has
-//! few growths, so that all those of the calls are among the ones that `tools/refuse-growths` refuses.
+//! What is asked once, so that a growth of it that is refused is its answer: texts with references, entities, answers of a
+//! resolver, namespaces and names in errors; elements alone, exchanges, paths and texts of their own. What these need is made
+//! before, again where a growth is refused, and has few growths, so that all those of what is asked are among the ones that
+//! `tools/refuse-growths` refuses.
 
-use super::memory::read;
-use super::number;
+use super::memory::{ELEVEN, TEN, asked, opened, own_text, read, refused_by_resolver, resolved};
+use super::{document_of, node_of, number, refusal_of};
 use rox_path::{PathError, parse_path, select};
-use roxmltree::Error;
+use roxmltree::{Error, StringStorage, TextPos};
+use std::fmt;
+use std::fmt::Write;
+use std::process::Abort;
 use std::test::Fail;
+
+/// What is still to be printed.
+#[derive(Drop)]
+struct Left<'a>(&'a str);
+
+impl Write for Left<'_> {
+    fn write_str(&mut self, text: &str) -> fmt::Result {
+        self.0 = self.0.strip_prefix(text).ok_or(fmt::Error)?;
+        Ok(())
+    }
+}
+
+/// Wants an error to be printed so, which takes no memory.
+fn tells(rt: &impl Abort, error: &Error, wanted: &str) {
+    assert_ne!(rt; *error, Error::OutOfMemory, "{wanted}");
+    let mut left = Left(wanted);
+    let printed = write!(left, "{error}");
+    assert!(rt; printed.is_ok() && left.0.is_empty(), "{error}");
+}
+
+#[test]
+fn a_reference(rt: HostRuntime) {
+    let document = document_of(&rt, "<root>&apos;</root>");
+    assert_eq!(rt; document.root_element().text(), Some("'"));
+}
+
+#[test]
+fn sections(rt: HostRuntime) {
+    let document = document_of(&rt, "<p><![CDATA[1]]><![CDATA[2]]></p>");
+    assert_eq!(rt; document.root_element().text(), Some("12"));
+}
+
+#[test]
+fn entities(rt: HostRuntime) -> Result<(), Fail> {
+    let text = opened(&rt, 255)?;
+    let document = asked(&rt, text.as_str()).expect(&rt, "entities");
+    let found = document.root_element().text().unwrap_or("");
+    assert_eq!(rt; found.len(), 255);
+    assert!(rt; found.bytes().all(|byte| byte == b'x'));
+    Ok(())
+}
+
+#[test]
+fn entities_too_often(rt: HostRuntime) -> Result<(), Fail> {
+    let text = opened(&rt, 256)?;
+    let error = asked(&rt, text.as_str()).expect_err(&rt, "a loop");
+    let wanted = Error::EntityReferenceLoop(TextPos::new(1, 809));
+    assert_eq!(rt; error, wanted);
+    Ok(())
+}
+
+#[test]
+fn entities_in_one_another(rt: HostRuntime) {
+    let document = asked(&rt, TEN).expect(&rt, "entities");
+    assert_eq!(rt; document.root_element().text(), Some("x"));
+}
+
+#[test]
+fn entities_in_one_another_too_deep(rt: HostRuntime) {
+    let error = asked(&rt, ELEVEN).expect_err(&rt, "a loop");
+    let wanted = Error::EntityReferenceLoop(TextPos::new(1, 205));
+    assert_eq!(rt; error, wanted);
+}
+
+#[test]
+fn an_external_entity(rt: HostRuntime) {
+    let answer = Some("<?xml version=\"1.0\"?><foobar/>");
+    let document = resolved(&rt, answer).expect(&rt, "an answer");
+    let foobar = node_of(&rt, &document, 2);
+    assert!(rt; foobar.has_tag_name("foobar".into()));
+    assert_eq!(rt; foobar.range(), 0..9);
+}
+
+#[test]
+fn an_external_entity_that_refers_to_another(rt: HostRuntime) {
+    let error = resolved(&rt, Some("<a>&x;</a>")).expect_err(&rt, "an answer");
+    tells(&rt, &error, "unknown entity reference 'x' at 1:4");
+}
+
+#[test]
+fn an_external_entity_without_a_text(rt: HostRuntime) {
+    let error = resolved(&rt, None).expect_err(&rt, "no answer");
+    tells(&rt, &error, "unknown entity reference 'bar' at 1:54");
+}
+
+#[test]
+fn a_refusal_of_a_resolver(rt: HostRuntime) {
+    let error = refused_by_resolver(&rt, own_text(&rt, "no"));
+    tells(&rt, &error, "entity resolver failed at 1:45: no");
+}
+
+#[test]
+fn namespaces(rt: HostRuntime) {
+    let text = "<a xmlns:p='1' xmlns:q='2'><b xmlns:p='3' p:x='' q:y=''/></a>";
+    let document = document_of(&rt, text);
+    let b = node_of(&rt, &document, 2);
+    assert_eq!(rt; b.namespaces().len(), 2);
+    assert_eq!(rt; b.attribute(("3", "x").into()), Some(""));
+    assert_eq!(rt; b.attribute(("2", "y").into()), Some(""));
+}
+
+#[test]
+fn attributes(rt: HostRuntime) {
+    let document = document_of(&rt, "<e xmlns:n='' n:a='1' a='2'/>");
+    let element = document.root_element();
+    assert_eq!(rt; element.attributes().len(), 2);
+    assert_eq!(rt; element.attribute("a".into()), Some("2"));
+    assert_eq!(rt; element.attribute(("", "a").into()), Some("1"));
+}
+
+#[test]
+fn a_default_declared_twice(rt: HostRuntime) {
+    let error = refusal_of(&rt, "<e xmlns='' xmlns='a'/>");
+    tells(&rt, &error, "namespace 'xmlns' at 1:13 is already defined");
+}
+
+#[test]
+fn an_unknown_prefix(rt: HostRuntime) {
+    let error = refusal_of(&rt, "<xml:e/>");
+    tells(&rt, &error, "an unknown namespace prefix 'xml' at 1:2");
+}
+
+#[test]
+fn tags_of_two_names(rt: HostRuntime) {
+    let error = refusal_of(&rt, "<a:b xmlns:a='1'></b>");
+    tells(&rt, &error, "expected 'a:b' tag, not 'b' at 1:18");
+}
+
+#[test]
+fn an_attribute_twice(rt: HostRuntime) {
+    let error = refusal_of(&rt, "<e xmlns:n='u' xmlns:m='u' n:a='1' m:a='2'/>");
+    tells(&rt, &error, "attribute 'a' at 1:36 is already defined");
+}
+
+#[test]
+fn a_text_of_its_own(rt: HostRuntime) -> Result<(), Fail> {
+    let text = StringStorage::new_owned(rt.alloc(), "text")?;
+    assert_eq!(rt; text.as_str(), "text");
+    Ok(())
+}
 
 #[test]
 fn an_element(rt: HostRuntime) -> Result<(), Error> {
@@ -19,6 +164,17 @@ fn an_element(rt: HostRuntime) -> Result<(), Error> {
 }
 
 #[test]
+fn an_element_among_texts(rt: HostRuntime) -> Result<(), Error> {
+    let document = read(&rt, "<?xml version='1.0'?><r>a<x y='1'>&lt;</x>c</r>");
+    let x = node_of(&rt, &document, 3);
+    assert!(rt; x.is_self_contained());
+    let alone = x.reparse(rt.alloc())?;
+    assert_eq!(rt; alone.root_element().range(), 0..17);
+    assert_eq!(rt; node_of(&rt, &alone, 2).range(), 9..13);
+    Ok(())
+}
+
+#[test]
 fn an_exchange(rt: HostRuntime) -> Result<(), Fail> {
     let document = read(&rt, "<r><b/></r>");
     let b = document.root_element().first_child().expect(&rt, "b");
@@ -26,6 +182,19 @@ fn an_exchange(rt: HostRuntime) -> Result<(), Fail> {
     assert!(rt; document.root_element().is_self_contained());
     let text = b.exchange(rt.alloc(), &document)?;
     assert_eq!(rt; text.as_str(), "<r><r><b/></r></r>");
+    Ok(())
+}
+
+#[test]
+fn an_exchange_with_another_document(rt: HostRuntime) -> Result<(), Fail> {
+    let document = read(&rt, "<?xml version='1.0'?><r>a<b/>c</r>");
+    let other = read(&rt, "<!--z--><x y='1'>&lt;</x>");
+    let b = node_of(&rt, &document, 3);
+    assert!(rt; b.is_self_contained());
+    assert!(rt; other.root_element().is_self_contained());
+    let text = b.exchange(rt.alloc(), &other)?;
+    let wanted = "<?xml version='1.0'?><r>a<x y='1'>&lt;</x>c</r>";
+    assert_eq!(rt; text.as_str(), wanted);
     Ok(())
 }
 
