@@ -91,15 +91,20 @@ fn exchanges(rt: HostRuntime) {
     }
 }
 
+/// Wants the second element of this text to be `x` in the namespace `u`.
+fn has_x_in_its_namespace(rt: &(impl Abort + AllocGlobal), text: &str) {
+    let document = document_of(rt, text);
+    let x = node_of(rt, &document, 2);
+    assert!(rt; x.has_tag_name(("u", "x").into()));
+    stands(rt, x, 3, 21);
+}
+
 #[test]
 fn an_exchange_with_a_namespace_is_read(rt: HostRuntime) {
     let document = document_of(&rt, "<r><b/></r>");
     let other = document_of(&rt, "<n:x xmlns:n='u'/>");
     let answer = exchanged(&rt, node_of(&rt, &document, 2), &other);
-    let read = document_of(&rt, answer.as_str());
-    let x = node_of(&rt, &read, 2);
-    assert!(rt; x.has_tag_name(("u", "x").into()));
-    stands(&rt, x, 3, 21);
+    has_x_in_its_namespace(&rt, answer.as_str());
 }
 
 #[test]
