@@ -7,9 +7,7 @@ mod memory;
 mod once;
 mod order;
 mod parsing;
-mod positions;
 mod printed;
-mod searches;
 mod text;
 
 use roxmltree::{Document, Error, Node, NodeId};

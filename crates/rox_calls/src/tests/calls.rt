@@ -114,15 +114,20 @@ fn element_has_its_name(rt: &impl Abort, e: Node<'_, '_>) {
     assert!(rt; !e.has_local_name("r"));
 }
 
+/// Wants the attributes of an element to be in these namespaces.
+fn attributes_are_in(rt: &impl Abort, element: Node<'_, '_>, wanted: &[Option<&str>]) {
+    assert_eq!(rt; element.attributes().len(), wanted.len());
+    for (attribute, uri) in element.attributes().zip(wanted) {
+        assert_eq!(rt; attribute.namespace(), *uri);
+    }
+}
+
 fn position(attribute: Attribute<'_, '_>) -> usize {
     attribute.position()
 }
 
 fn attributes_have(rt: &impl Abort, r: Node<'_, '_>) {
-    assert_eq!(rt; r.attributes().len(), 2);
-    for (attribute, uri) in r.attributes().zip([None, Some("v")]) {
-        assert_eq!(rt; attribute.namespace(), uri);
-    }
+    attributes_are_in(rt, r, &[None, Some("v")]);
     assert_eq!(rt; r.attribute("a".into()), Some("1"));
     assert_eq!(rt; r.attribute_local("a").map(position), Some(33));
     assert!(rt; !r.has_attribute("b".into()));

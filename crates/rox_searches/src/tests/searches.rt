@@ -1,7 +1,6 @@
 //! What is searched for, at each place of texts of up to 130 bytes and nowhere in them. Their characters have one byte, or three.
 
-use super::memory::asked;
-use super::{document_of, refusal_of};
+use super::{asked, document_of, refusal_of};
 use rox_path::{PathError, Step, parse_path};
 use roxmltree::{Document, Error, TextPos};
 use std::alloc::{AllocError, Global};
