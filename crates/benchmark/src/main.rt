@@ -4,14 +4,12 @@
 ghost use Rattle.std.specs.Prelude.{◌≡◌};
 ghost use Rattle.rox_measures.specs.Fault.{status_of};
 
-use rox_measures::arguments::{Command, read};
+use rox_measures::arguments::{Command, USAGE, read};
 use rox_measures::fault::Fault;
 use rox_measures::run;
 use std::env;
 use std::io::{ErrorKind, Write};
 use std::process::ExitCode;
-
-const USAGE: &str = "usage: benchmark FILE [SECONDS]";
 
 fn main(rt: HostRuntime) -> ExitCode {
     let status = match asked_for(&rt) {

@@ -8,6 +8,11 @@ use crate::numbers::number;
 use crate::options::{AnswerWord, Command, Options};
 use std::alloc::{AllocError, Global};
 
+/// What the program says where its words are wrong.
+pub const USAGE: &str =
+    "usage: xmldump [--allow-dtd] [--nodes-limit N] [--axes] [--lookups] [--batch] [--ans-file PATH] [--ans-none] \
+[--ans-err TEXT] [--main MAIN] FILE";
+
 /// What an option asks for.
 #[derive(Clone, Copy, Debug)]
 enum Change<'a> {

@@ -7,6 +7,9 @@ ghost use Rattle.rox_listing.specs.Command.{meaning, command_of, command_behind,
 use crate::options::Command;
 use std::alloc::{AllocError, Global};
 
+/// What the program says where its words are wrong.
+pub const USAGE: &str = "usage: xmltree [--allow-dtd] [--path P] [FILE]";
+
 /// Reads the words after the program's name: `[--allow-dtd] [--path P] [FILE]`. None is a wrong argument: a word that begins
 /// with `-` and is neither `--allow-dtd` as the first word nor `--path` before P and FILE, or a second FILE. P may begin with
 /// any character. The only error is want of memory.

@@ -7,6 +7,9 @@ ghost use Rattle.rox_measures.specs.Command.{meaning, AsksFor, with_file, IsSeco
 
 use std::alloc::AllocError;
 
+/// What the program says where its words are wrong.
+pub const USAGE: &str = "usage: benchmark FILE [SECONDS]";
+
 /// How many seconds are spent where the arguments do not say.
 const SECONDS: u32 = 4;
 

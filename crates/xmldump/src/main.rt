@@ -3,7 +3,7 @@
 #![tactic(auto)]
 
 use rox_dump::answers::Answer;
-use rox_dump::arguments::command;
+use rox_dump::arguments::{USAGE, command};
 use rox_dump::fault::Fault;
 use rox_dump::options::{AnswerWord, Command};
 use rox_dump::run;
@@ -13,10 +13,6 @@ use std::env;
 use std::fs::File;
 use std::io::{ErrorKind, Write};
 use std::process::ExitCode;
-
-const USAGE: &str =
-    "usage: xmldump [--allow-dtd] [--nodes-limit N] [--axes] [--lookups] [--batch] [--ans-file PATH] [--ans-none] \
-[--ans-err TEXT] [--main MAIN] FILE";
 
 fn main(rt: HostRuntime) -> ExitCode {
     let status = match run_words(&rt) {

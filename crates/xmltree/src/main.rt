@@ -1,7 +1,7 @@
 //! Prints the tree of an XML document, or the elements of a path: `xmltree [--allow-dtd] [--path P] [FILE]`.
 #![tactic(auto)]
 
-use rox_listing::arguments::command;
+use rox_listing::arguments::{USAGE, command};
 use rox_listing::fault::Fault;
 use rox_listing::options::Command;
 use rox_listing::run;
@@ -9,8 +9,6 @@ use std::env;
 use std::fs::File;
 use std::io::{ErrorKind, Write};
 use std::process::ExitCode;
-
-const USAGE: &str = "usage: xmltree [--allow-dtd] [--path P] [FILE]";
 
 fn main(rt: HostRuntime) -> ExitCode {
     let status = match asked_for(&rt) {

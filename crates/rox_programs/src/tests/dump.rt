@@ -2,7 +2,7 @@
 
 use super::{Cut, Refusing, words};
 use rox_dump::answers::Answer;
-use rox_dump::arguments::command;
+use rox_dump::arguments::{USAGE, command};
 use rox_dump::options::{AnswerWord, Options};
 use rox_dump::run::{read_text, run};
 use rox_dump::sources::Sources;
@@ -104,6 +104,24 @@ fn reads_arguments(rt: HostRuntime) -> Result<(), Fail> {
         let words = words(alloc, line)?;
         assert!(rt; command(alloc, &words)?.is_none(), "{line}");
     }
+    Ok(())
+}
+
+/// The usage line without its brackets, and with a number for N, is a command that asks for all there is.
+#[test]
+fn usage_is_a_command(rt: HostRuntime) -> Result<(), Fail> {
+    let alloc = rt.alloc();
+    let usage = "usage: xmldump [--allow-dtd] [--nodes-limit N] [--axes] [--lookups] [--batch] [--ans-file PATH] [--ans-none] \
+[--ans-err TEXT] [--main MAIN] FILE";
+    assert_eq!(rt; USAGE, usage);
+    let line = "--allow-dtd --nodes-limit 7 --axes --lookups --batch --ans-file PATH --ans-none --ans-err TEXT --main MAIN FILE";
+    let words = words(alloc, line)?;
+    let asked = command(alloc, &words)?.ok_or("a wrong argument")?;
+    assert!(rt; asked.options.allow_dtd && asked.options.axes && asked.options.lookups && asked.options.batch);
+    assert_eq!(rt; asked.options.nodes_limit, 7);
+    assert_eq!(rt; asked.answers.len(), 3);
+    assert_eq!(rt; asked.main, Some("MAIN"));
+    assert_eq!(rt; asked.file, Some("FILE"));
     Ok(())
 }
 

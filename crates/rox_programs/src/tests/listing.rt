@@ -1,7 +1,7 @@
 //! What `xmltree` prints, over readers and writers in memory.
 
 use super::{Cut, Refusing, words};
-use rox_listing::arguments::command;
+use rox_listing::arguments::{USAGE, command};
 use rox_listing::options::Command;
 use rox_listing::run::run;
 use std::alloc::{AllocError, Global};
@@ -83,6 +83,19 @@ fn reads_arguments(rt: HostRuntime) -> Result<(), Fail> {
     ] {
         assert!(rt; command(alloc, &words(alloc, line)?)?.is_none(), "{line}");
     }
+    Ok(())
+}
+
+/// The usage line without its brackets is a command that asks for all there is.
+#[test]
+fn usage_is_a_command(rt: HostRuntime) -> Result<(), Fail> {
+    let alloc = rt.alloc();
+    assert_eq!(rt; USAGE, "usage: xmltree [--allow-dtd] [--path P] [FILE]");
+    let line = "--allow-dtd --path P FILE";
+    let asked = command(alloc, &words(alloc, line)?)?.ok_or("a wrong argument")?;
+    assert!(rt; asked.allow_dtd);
+    assert_eq!(rt; asked.path.as_ref().map(|path| path.as_str()), Some("P"));
+    assert_eq!(rt; asked.file.as_ref().map(|name| name.as_str()), Some("FILE"));
     Ok(())
 }
 

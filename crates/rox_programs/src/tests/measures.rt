@@ -1,7 +1,7 @@
 //! What `benchmark` makes of figures, arguments, walks and turns. No test looks at a real clock.
 
 use super::words;
-use rox_measures::arguments::read;
+use rox_measures::arguments::{USAGE, read};
 use rox_measures::clock;
 use rox_measures::fault::Fault;
 use rox_measures::figures::{best, median, megabytes_per_second, share};
@@ -107,6 +107,11 @@ fn reads_arguments(rt: HostRuntime) -> Result<(), Fail> {
         assert!(rt; read(&words(alloc, line)?)?.is_none(), "{line}");
     }
     Ok(())
+}
+
+#[test]
+fn usage_names_file_and_seconds(rt: HostRuntime) {
+    assert_eq!(rt; USAGE, "usage: benchmark FILE [SECONDS]");
 }
 
 #[test]
