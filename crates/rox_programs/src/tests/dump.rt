@@ -111,13 +111,20 @@ fn reads_arguments(rt: HostRuntime) -> Result<(), Fail> {
 #[test]
 fn usage_is_a_command(rt: HostRuntime) -> Result<(), Fail> {
     let alloc = rt.alloc();
-    let usage = "usage: xmldump [--allow-dtd] [--nodes-limit N] [--axes] [--lookups] [--batch] [--ans-file PATH] [--ans-none] \
+    let usage =
+        "usage: xmldump [--allow-dtd] [--nodes-limit N] [--axes] [--lookups] [--batch] [--ans-file PATH] [--ans-none] \
 [--ans-err TEXT] [--main MAIN] FILE";
     assert_eq!(rt; USAGE, usage);
-    let line = "--allow-dtd --nodes-limit 7 --axes --lookups --batch --ans-file PATH --ans-none --ans-err TEXT --main MAIN FILE";
+    let line =
+        "--allow-dtd --nodes-limit 7 --axes --lookups --batch --ans-file PATH --ans-none --ans-err TEXT --main MAIN FILE";
     let words = words(alloc, line)?;
     let asked = command(alloc, &words)?.ok_or("a wrong argument")?;
-    assert!(rt; asked.options.allow_dtd && asked.options.axes && asked.options.lookups && asked.options.batch);
+    assert!(rt;
+        asked.options.allow_dtd
+            && asked.options.axes
+            && asked.options.lookups
+            && asked.options.batch
+    );
     assert_eq!(rt; asked.options.nodes_limit, 7);
     assert_eq!(rt; asked.answers.len(), 3);
     assert_eq!(rt; asked.main, Some("MAIN"));
