@@ -1,5 +1,5 @@
-//! Worked answers of the public calls, in tables, and what the calls take of memory. Those of names stand in
-//! `rox_names`, and searches and positions in `rox_searches`. The crate holds tests alone.
+//! Worked answers of the public calls, in tables, and that they take no memory. Those of names stand in `rox_names`, searches and
+//! positions in `rox_searches`, and want of memory in `rox_memory`. The crate holds tests alone.
 #![tactic(auto)]
 
 #[cfg(test)]

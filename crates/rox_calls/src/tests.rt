@@ -3,8 +3,6 @@
 mod axes;
 mod calls;
 mod iterators;
-mod memory;
-mod once;
 mod order;
 mod parsing;
 mod printed;

@@ -1,10 +1,9 @@
 //! Calls on a document that is read. None takes memory, so the answers hold as well where any one growth is refused.
 
 use super::axes::{leads_over, nearest, nearest_elements};
-use super::memory::read;
 use super::text::has;
 use super::{child_count, document_of, node_of, number};
-use roxmltree::{Attribute, Document, Node, NodeId, NodeType, PI, TextPos};
+use roxmltree::{Attribute, Document, Error, Node, NodeId, NodeType, PI, TextPos};
 use std::alloc::AllocError;
 use std::cmp::Ordering;
 use std::fmt;
@@ -16,9 +15,17 @@ use std::test::Fail;
 /// A node of each kind, a text and a value that are no slices of it, and two namespaces.
 const TEXT: &str = "<!--c--><r xmlns='u' xmlns:n='v' a='1' n:b='2&#51;'>x&amp;y<n:e/>z<?t w?></r>";
 
+/// Its document, asked again where a growth was refused.
+fn read<'input>(rt: &(impl Abort + AllocGlobal)) -> Document<'input> {
+    match Document::parse(rt.alloc(), TEXT) {
+        Err(Error::OutOfMemory) => document_of(rt, TEXT),
+        answer => answer.expect(rt, TEXT),
+    }
+}
+
 #[test]
 fn calls_take_no_memory(rt: HostRuntime) -> Result<(), Fail> {
-    let document = read(&rt, TEXT);
+    let document = read(&rt);
     assert_eq!(rt; node_of(&rt, &document, 4).tag_name(), ("v", "e").into());
     each_call(&rt, &document)
 }

@@ -1,5 +1,5 @@
-//! Want of memory. The answers hold with ample memory, and as well where any one growth is refused: each parse is then asked
-//! again.
+//! What is asked again where a growth was refused. The answers hold with ample memory, and as well where any one growth is
+//! refused.
 
 ghost use Rattle.std.specs.Prelude.{◌≡◌, Some};
 

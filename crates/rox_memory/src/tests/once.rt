@@ -3,7 +3,7 @@
 //! before, again where a growth is refused, and has few growths, so that all those of what is asked are among the ones that
 //! `tools/refuse-growths` refuses.
 
-use super::memory::{ELEVEN, TEN, asked, opened, own_text, read, refused_by_resolver, resolved};
+use super::again::{ELEVEN, TEN, asked, opened, own_text, read, refused_by_resolver, resolved};
 use super::{document_of, node_of, number, refusal_of};
 use rox_path::{PathError, parse_path, select};
 use roxmltree::{Error, StringStorage, TextPos};
