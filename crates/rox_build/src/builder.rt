@@ -27,7 +27,7 @@ use std::collections::BTreeSet;
 use std::mem;
 
 /// An element that is open: its row, its name, which stands from `name_start` up to `name_end`, and its scope.
-#[derive(Clone, Copy, Debug)]
+#[derive(Clone, Copy)]
 pub struct OpenElement<'input> {
     pub row: u32,
     pub name: QName<'input>,

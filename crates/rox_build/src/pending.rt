@@ -1,7 +1,7 @@
 //! Text that may go on.
 
 /// The text at the end of what is read, which touching pieces join.
-#[derive(Clone, Copy, Debug)]
+#[derive(Clone, Copy)]
 pub enum Pending<'input> {
     None,
     /// One piece, a slice of the source.

@@ -32,7 +32,7 @@ use rox_values::refused::Refused;
 use std::alloc::Global;
 
 /// What a reader of documents asks for.
-#[derive(Clone, Copy, Debug)]
+#[derive(Clone, Copy)]
 pub struct Options {
     /// How many nodes there may be, the root node counted.
     pub nodes_limit: u32,

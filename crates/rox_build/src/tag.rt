@@ -40,7 +40,7 @@ use std::alloc::Global;
 use std::collections::BTreeSet;
 
 /// A start tag that was read: its name, from `name_start` up to `name_end`, and what its element has.
-#[derive(Clone, Copy, Debug)]
+#[derive(Clone, Copy)]
 pub struct StartTag<'input> {
     pub name: QName<'input>,
     pub name_start: usize,

@@ -4,7 +4,7 @@ use crate::fault::Fault;
 use std::alloc::{AllocError, AllocFailed};
 
 /// Memory ran out, or the text has a fault.
-#[derive(Clone, Copy, Debug)]
+#[derive(Clone, Copy)]
 pub enum Failure {
     Memory,
     Fault(Fault),

@@ -3,14 +3,14 @@
 ghost use Rattle.std.specs.Prelude.{◌≡◌};
 
 /// The bytes of a source from `start` up to `end`.
-#[derive(Clone, Copy, Debug, PartialEq, Eq)]
+#[derive(Clone, Copy)]
 pub struct Span {
     pub start: usize,
     pub end: usize,
 }
 
 /// A fixed text that a construct holds.
-#[derive(Clone, Copy, Debug, PartialEq, Eq)]
+#[derive(Clone, Copy)]
 pub enum Word {
     CommentStart,
     CommentEnd,
@@ -72,7 +72,7 @@ impl Word {
 }
 
 /// What was due where another byte stands.
-#[derive(Clone, Copy, Debug, PartialEq, Eq)]
+#[derive(Clone, Copy)]
 pub enum Due {
     Space,
     Quote,
@@ -82,7 +82,7 @@ pub enum Due {
 }
 
 /// The first fault that reading met. The last number is the place that it is named at.
-#[derive(Clone, Copy, Debug, PartialEq, Eq)]
+#[derive(Clone, Copy)]
 pub enum Fault {
     InvalidXmlPrefixUri(usize),
     UnexpectedXmlUri(usize),

@@ -17,7 +17,7 @@ use rox_grammar::fault::{Due, Fault, Word};
 
 /// What an external entity is known by: its public identifier, if it has one, and its system identifier, as they are written
 /// (XML 1.0 [75] ExternalID).
-#[derive(Clone, Copy, Debug)]
+#[derive(Clone, Copy)]
 pub struct ExternalId<'input> {
     pub public_id: Option<&'input str>,
     pub uri: &'input str,
@@ -33,7 +33,7 @@ pub enum Definition<'input> {
 }
 
 /// An entity's declaration, up to its definition.
-#[derive(Clone, Copy, Debug)]
+#[derive(Clone, Copy)]
 pub struct EntityHead<'input> {
     /// Whether it is a parameter entity, declared by `%`.
     pub parameter: bool,

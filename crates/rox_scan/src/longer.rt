@@ -16,7 +16,7 @@ use crate::near::{CommentByte, TextByte, ValueByte, near_end};
 use crate::runs::{Class, XmlChar, char_at};
 
 /// What a longer look tells: up to `end` all is in order, and whether it stands for itself.
-#[derive(Clone, Copy, Debug)]
+#[derive(Clone, Copy)]
 pub struct Look {
     pub end: usize,
     pub plain: bool,

@@ -22,14 +22,14 @@ use rox_grammar::fault::{Due, Fault, Word};
 use rox_grammar::name::QName;
 
 /// A processing instruction as it is written. It has no value where nothing but white space follows its target.
-#[derive(Clone, Copy, Debug)]
+#[derive(Clone, Copy)]
 pub struct Instruction<'input> {
     pub target: &'input str,
     pub value: Option<&'input str>,
 }
 
 /// An end tag: its name, and the place where the name ends.
-#[derive(Clone, Copy, Debug)]
+#[derive(Clone, Copy)]
 pub struct EndTag<'input> {
     pub name: QName<'input>,
     pub name_end: usize,
@@ -38,7 +38,7 @@ pub struct EndTag<'input> {
 /// An attribute before its value is looked at. Its name stands from `start` up to `name_end`, and its value from
 /// `value_start` up to `value_end`, where the closing quote stands. `plain` says that it has no reference and no white space but
 /// spaces.
-#[derive(Clone, Copy, Debug)]
+#[derive(Clone, Copy)]
 pub struct RawAttribute<'input> {
     pub start: usize,
     pub name: QName<'input>,
@@ -57,7 +57,7 @@ struct RawValue<'input> {
 }
 
 /// What a start tag holds next: an attribute, or its end `>` or `/>`.
-#[derive(Clone, Copy, Debug)]
+#[derive(Clone, Copy)]
 pub enum Turn<'input> {
     More(RawAttribute<'input>),
     Open,

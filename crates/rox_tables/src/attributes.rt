@@ -10,7 +10,7 @@ use std::alloc::Global;
 
 /// The attributes of all elements, in document order. What an attribute is and where it stands are columns of their own,
 /// since a reader who goes over the attributes seldom asks for places, and passes fewer bytes without them.
-#[derive(Debug, Drop)]
+#[derive(Drop)]
 pub struct AttributeTable<'input> {
     pub items: Vec<AttributeData<'input>>,
     pub places: Vec<AttributePlaces>,

@@ -36,7 +36,7 @@ fn compare(one: &Namespace<'_>, other: &Namespace<'_>) -> Ordering
 }
 
 /// A pair as a key.
-#[derive(Debug, Drop)]
+#[derive(Drop)]
 pub struct Key<'input> {
     pub namespace: Namespace<'input>,
 }
@@ -104,7 +104,7 @@ fn place_in(items: &[Namespace<'_>], pair: &Namespace<'_>) -> Option<u16>
 }
 
 /// The table, while it grows.
-#[derive(Debug, Drop)]
+#[derive(Drop)]
 pub struct NamespaceTable<'input> {
     /// In the order in which they are first declared.
     pub items: Vec<Namespace<'input>>,

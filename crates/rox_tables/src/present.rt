@@ -16,21 +16,21 @@ use std::collections::BTreeMap;
 
 /// What a prefix, or the default, stands for: a place in the table of namespaces, and where it stood among the listed places
 /// when it was looked for there. That is a guess, since it may be listed anew: nothing is stated of it.
-#[derive(Clone, Copy, Debug)]
+#[derive(Clone, Copy)]
 pub struct Place {
     pub namespace: u16,
     pub listed: u32,
 }
 
 /// A prefix, or the default, that stands for something else in a scope than around it, and the place that it had there.
-#[derive(Clone, Copy, Debug)]
+#[derive(Clone, Copy)]
 pub struct Replaced<'input> {
     pub prefix: Option<&'input str>,
     pub before: Option<Place>,
 }
 
 /// A scope, by its place in the table of scopes, and how many places were replaced up to it.
-#[derive(Clone, Copy, Debug)]
+#[derive(Clone, Copy)]
 pub struct Layer {
     pub scope: u32,
     pub count: usize,

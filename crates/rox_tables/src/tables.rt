@@ -20,7 +20,7 @@ pub struct Namespace<'input> {
 }
 
 /// The namespace of an attribute's name.
-#[derive(Clone, Copy, Debug)]
+#[derive(Clone, Copy)]
 pub enum AttributeNamespace {
     None,
     /// That of the prefix `xml`.
@@ -30,7 +30,7 @@ pub enum AttributeNamespace {
 }
 
 /// What an attribute is: 48 bytes.
-#[derive(Debug, Drop)]
+#[derive(Drop)]
 pub struct AttributeData<'input> {
     pub local: &'input str,
     pub value: StringStorage<'input>,
@@ -38,7 +38,7 @@ pub struct AttributeData<'input> {
 }
 
 /// Where an attribute stands, in bytes of its source. `value_start` is behind the opening quote, `end` behind the other.
-#[derive(Clone, Copy, Debug)]
+#[derive(Clone, Copy)]
 pub struct AttributePlaces {
     pub start: usize,
     pub name_end: usize,
@@ -47,7 +47,7 @@ pub struct AttributePlaces {
 }
 
 /// What an element has: its name, where its attributes stand in their table, and the place of its scope in the table of scopes.
-#[derive(Clone, Copy, Debug)]
+#[derive(Clone, Copy)]
 pub struct ElementData<'input> {
     pub local: &'input str,
     pub attributes_from: u32,
@@ -57,7 +57,7 @@ pub struct ElementData<'input> {
     pub namespace: Option<u16>,
 }
 
-#[derive(Debug, Drop)]
+#[derive(Drop)]
 pub enum NodeKind<'input> {
     Root,
     Element(ElementData<'input>),
@@ -69,7 +69,7 @@ pub enum NodeKind<'input> {
 
 /// A node: 80 bytes. `parent`, `next` and `depth` are its only links: the id of its parent (0 at the root node too), the id
 /// past its last descendant, and how many nodes are above it.
-#[derive(Debug, Drop)]
+#[derive(Drop)]
 pub struct NodeData<'input> {
     pub start: usize,
     pub end: usize,
@@ -81,7 +81,7 @@ pub struct NodeData<'input> {
 
 /// The tables. An element names one of `scopes`, stretches of `listed`, whose numbers are places in `namespaces`; elements
 /// without declarations have their parent's scope. The first scope lists nothing: it is that of the root node.
-#[derive(Debug, Drop)]
+#[derive(Drop)]
 pub struct Tables<'input> {
     pub nodes: Vec<NodeData<'input>>,
     pub attributes: AttributeTable<'input>,
@@ -102,14 +102,14 @@ pub struct ElementTables<'input> {
 }
 
 /// A stretch of the listed places.
-#[derive(Clone, Copy, Debug)]
+#[derive(Clone, Copy)]
 pub struct Stretch {
     pub from: u32,
     pub until: u32,
 }
 
 /// What two scopes list, each a row before: the one behind the other.
-#[derive(Clone, Copy, Debug)]
+#[derive(Clone, Copy)]
 pub struct Both {
     pub first: u32,
     pub rest: u32,
@@ -121,7 +121,7 @@ pub struct Both {
 
 /// What elements of one scope list: 16 bytes. Few are a stretch, copied for each scope. Many are a rope of stretches: a scope
 /// below one that lists many has its own, and what is left of the rope of that one.
-#[derive(Clone, Copy, Debug)]
+#[derive(Clone, Copy)]
 pub enum Scope {
     /// A stretch from its front, of at most `FEW`.
     Few(Stretch),

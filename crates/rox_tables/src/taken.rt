@@ -6,7 +6,7 @@ use crate::storage::StringStorage;
 use rox_grammar::name::QName;
 
 /// An attribute of the tag that is being read, whose namespace is not known yet.
-#[derive(Debug, Drop)]
+#[derive(Drop)]
 pub struct Taken<'input> {
     pub start: usize,
     pub name_end: usize,

@@ -13,7 +13,7 @@ use rox_scan::cursor::Cursor;
 use rox_scan::runs::{NameChar, NameStart, after_byte, begins, is_at, run_end};
 
 /// What a reference names: a character, or an entity, by its name and where that stands.
-#[derive(Clone, Copy, Debug)]
+#[derive(Clone, Copy)]
 pub enum Reference<'input> {
     Character(char),
     Entity(Span, &'input str),

@@ -10,7 +10,7 @@ use std::alloc::{AllocError, AllocFailed};
 
 /// Why a text is refused: memory ran out, or there is a fault, in the source that is read or in another, or the resolver
 /// refused the request that ends at this place of the main text.
-#[derive(Debug, Drop)]
+#[derive(Drop)]
 pub enum Refused<'input> {
     Memory,
     Fault(Fault),

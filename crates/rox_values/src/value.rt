@@ -33,7 +33,7 @@ use rox_scan::runs::{after_byte, is_at};
 use std::alloc::AllocError;
 
 /// A text: a slice of the source, or what the caller's buffer holds.
-#[derive(Clone, Copy, Debug)]
+#[derive(Clone, Copy)]
 pub enum Piece<'input> {
     Plain(&'input str),
     Changed,
@@ -458,7 +458,7 @@ pub fn is_run_end(text: &str, at: usize) -> bool
 }
 
 /// A run of character data as it stands. `plain` says that it has no reference and no carriage return.
-#[derive(Clone, Copy, Debug)]
+#[derive(Clone, Copy)]
 pub struct RawRun<'input> {
     pub text: &'input str,
     pub plain: bool,

@@ -64,12 +64,12 @@ fn halved(scopes: &mut Vec<Scope>, scope: u32) -> Result<u32, Failure>
 #[test]
 fn ropes_stay_low(rt: HostRuntime) {
     let mut scopes = Vec::new(rt.alloc());
-    let scope = nested(&mut scopes).expect(&rt, "out of memory");
+    let scope = nested(&mut scopes).ok().expect(&rt, "out of memory");
     assert_eq!(rt; count(&scopes, scope), 4000);
     assert!(rt; height(&scopes, scope) < 18);
     assert_eq!(rt; find(&scopes, scope, 3999), Some(0));
     assert_eq!(rt; find(&scopes, scope, 1), Some(3998));
-    let left = halved(&mut scopes, scope).expect(&rt, "out of memory");
+    let left = halved(&mut scopes, scope).ok().expect(&rt, "out of memory");
     assert_eq!(rt; count(&scopes, left), 2000);
     assert!(rt; height(&scopes, left) < 18);
     assert_eq!(rt; find(&scopes, left, 3998), Some(0));
@@ -82,7 +82,7 @@ fn owned(
     recent: &mut Recent,
     text: &str,
 ) -> StringStorage<'static> {
-    recent.owned(rt.alloc(), text).expect(rt, "out of memory")
+    recent.owned(rt.alloc(), text).ok().expect(rt, "out of memory")
 }
 
 #[test]
