@@ -56,11 +56,12 @@ impl<'input> Document<'input> {
     /// `opt.document_key`.
     ///
     /// An `Err` but `Error::OutOfMemory` and `Error::EntityResolver` says that there are answers, allowed by the relation, to what
-    /// the text asks for, such that no parse within the limits has answers that begin with them (`no_parse`). `Error::EntityResolver` has words that the
-    /// resolver may refuse that request with, and stands at its end (`resolver`). By the clause `fault` any other error is that of
-    /// a fault which stands there by the grammar, after what was asked until then. Its kind, its position and its names are those
-    /// of the source that it counts in: this text, or a replacement text of an entity, or an answer. By the clause `first` each
-    /// error is that of what reading from left to right meets first.
+    /// the text asks for, such that no parse within the limits has answers that begin with them (`no_parse`).
+    /// `Error::EntityResolver` has words that the resolver may refuse that request with, and stands where it is made
+    /// (`resolver`). By the clause `fault` any other error is that of a fault which stands there by the grammar, after what was
+    /// asked until then. Its kind, its position and its names are those of the source that it counts in: this text, or a
+    /// replacement text of an entity, or an answer. By the clause `first` each error is that of what reading from left to right
+    /// meets first.
     pub fn parse_with_options<'w, R: EntityResolver<'input> + Drop>(
         alloc: Global,
         text: &'input str,
