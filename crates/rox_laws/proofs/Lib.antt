@@ -1,0 +1,13 @@
+mod Apart
+mod Bounded
+mod CharNodes
+mod Each
+mod Forward
+mod Nearest
+mod Nested
+mod Once
+mod OnlyOne
+mod RangeSteps
+mod Scopes
+mod Sections
+mod Selected
