@@ -11,3 +11,7 @@ mod RangeSteps
 mod Scopes
 mod Sections
 mod Selected
+mod Lying
+mod Counted
+mod Placed
+mod Literals

@@ -3,6 +3,7 @@ pub mod Lawful
 pub mod Located
 pub mod Nearest
 pub mod Sections
+pub mod Sources
 -- what the clauses cite of the crates below
 pub use Rattle.rox_grammar.specs.Written
 pub use Rattle.rox_grammar.specs.Entities

@@ -1,6 +1,6 @@
 //! What users of a document rest on, each a function whose contract is the law.
 
-ghost use Rattle.std.specs.Prelude.{false, [], ◌≡◌, ◌≢◌, ◌↔◌, ◌⊎◌, ℕ, Bool, ◌<◌, ◌≤◌, List, Option, Some, None, IsUtf8, length};
+ghost use Rattle.std.specs.Prelude.{false, [], ◌≡◌, ◌≢◌, ◌↔◌, ◌⊎◌, ℕ, Bool, ◌<◌, ◌≤◌, List, Option, Some, None, IsUtf8, length, map};
 ghost use Rattle.rox_grammar.specs.declared.fault.Fault.{Fault};
 ghost use Rattle.rox_grammar.specs.Forest.{Forest, size};
 ghost use Rattle.rox_grammar.specs.Written.{Item};
@@ -13,6 +13,7 @@ ghost use Rattle.rox_grammar.specs.Expansion.{Counts};
 ghost use Rattle.rox_laws.specs.Bounded.{IsBounded};
 ghost use Rattle.rox_grammar.specs.Faults.{FaultOf};
 ghost use Rattle.rox_grammar.specs.Refused.{RefusalOf};
+ghost use Rattle.rox_grammar.specs.Spans.{NamesText};
 ghost use Rattle.rox_grammar.specs.Exchange.{HasTree};
 ghost use Rattle.rox_theory.specs.Answers.{SameAnswers};
 ghost use Rattle.rox_error.specs.Telling.{IsErrorOf};
@@ -21,6 +22,7 @@ ghost use Rattle.rox_error.specs.declared.error.Error.TheVariants as error;
 ghost use Rattle.rox_laws.specs.Lawful.{TextsApart, NamesDistinct, AllChars};
 ghost use Rattle.rox_laws.specs.Located.{RangesNested, AttributesInOrder, AttributesWritten, RangesSelect};
 ghost use Rattle.rox_laws.specs.Sections.{EmptyTextsAreSections};
+ghost use Rattle.rox_laws.specs.Sources.{IsLiteralIn, IsAnswerIn};
 ghost use Rattle.roxmltree.specs.Places.{parent, next_sibling};
 ghost use Rattle.roxmltree.specs.Says.{node_at, start_of, end_of, attributes_of};
 ghost use Rattle.roxmltree.specs.Names.{IsNamedAt};
@@ -30,10 +32,12 @@ use roxmltree::Document;
 use roxmltree::laws::document_is_whole;
 
 /// A text has one tree at most for one list of answers, whatever the limits are. Whether it has a document type declaration is
-/// seen in the text alone.
+/// seen in the text alone. Parses are so whether they are within any limits or not, and by the answers alone: where these are
+/// the same, the same was asked, and what is written is one.
 pub fn one_tree()
     ensures tree { (text : List ℕ) (one other : Bool) (asked : List Asked) (limit most : ℕ) (s t : Forest grammar.Node) → IsUtf8 text → IsTreeOf text one asked limit s → IsTreeOf text other asked most t → s ≡ t }
     ensures dtd { (text : List ℕ) (one other : Bool) (asked answered : List Asked) (limit most : ℕ) (s t : Forest grammar.Node) → IsUtf8 text → IsTreeOf text one asked limit s → IsTreeOf text other answered most t → one ≡ other }
+    ensures parses { (text : List ℕ) (one other : Bool) (asked answered : List Asked) (s t : Forest Item) → IsUtf8 text → ParseOf text one asked s → ParseOf text other answered t → map (λ x. x.answer) asked ≡ map (λ x. x.answer) answered → (one ≡ other) × (asked ≡ answered) × (s ≡ t) }
 {}
 
 /// A text in which a fault stands has no tree within the limits. So a refusal, but for want of memory, is true.
@@ -53,6 +57,14 @@ pub fn refusals_refuse()
 pub fn only_limits_refuse_a_parse()
     ensures refusals { (text source : List ℕ) (limit : ℕ) (allow dtd : Bool) (asked given : List Asked) (f : Fault) (tops : Forest Item) (e : Error) → IsUtf8 text → RefusalOf limit allow text asked source f → ParseOf text dtd given tops → Permits allow dtd → SameAnswers asked given → IsErrorOf source f e → (e ≡ error.NodesLimitReached) ⊎ ((e ≡ error.AttributesLimitReached) ⊎ (e ≡ error.NamespacesLimitReached)) }
     ensures faults { (text : List ℕ) (limit : ℕ) (f : Fault) (tree : Forest grammar.Node) (e : Error) → IsUtf8 text → FaultOf limit text f → HasTree text tree → IsErrorOf text f e → (e ≡ error.NodesLimitReached) ⊎ ((e ≡ error.AttributesLimitReached) ⊎ (e ≡ error.NamespacesLimitReached)) }
+{}
+
+/// The source that the fault of the clause `fault` stands in is the text, a replacement text that it declares by a literal, or
+/// what was answered. A literal's replacement text is a front of the text, up to the closing quote: the error of a fault in it
+/// is that of the same fault in the text, so that its row, its column and its names are those of the text.
+pub fn literals_are_told_in_the_text()
+    ensures sources { (text source : List ℕ) (limit : ℕ) (allow : Bool) (asked : List Asked) (f : Fault) → RefusalOf limit allow text asked source f → (source ≡ text) ⊎ (IsLiteralIn text source ⊎ IsAnswerIn asked source) }
+    ensures literal { (text source : List ℕ) (limit : ℕ) (allow : Bool) (asked : List Asked) (f : Fault) (e : Error) → IsUtf8 text → RefusalOf limit allow text asked source f → IsLiteralIn text source → NamesText source f → IsErrorOf source f e → IsErrorOf text f e }
 {}
 
 /// The tree of every document is that of its text, with what was answered for its external entities. Without a document type
