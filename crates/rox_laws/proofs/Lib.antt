@@ -11,6 +11,7 @@ mod RangeSteps
 mod Scopes
 mod Sections
 mod Selected
+mod Outermost
 mod Lying
 mod Counted
 mod Placed

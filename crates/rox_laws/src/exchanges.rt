@@ -1,6 +1,6 @@
 //! Laws of elements that are put in the place of others, each a function whose contract is the law.
 
-ghost use Rattle.std.specs.Prelude.{◌≡◌, true};
+ghost use Rattle.std.specs.Prelude.{◌≡◌, true, false};
 ghost use Rattle.rox_grammar.specs.Exchange.{AreSeparate, StaysContained, GoesBack, Commutes};
 ghost use Rattle.roxmltree.specs.Alone.{stands_alone};
 ghost use Rattle.roxmltree.specs.Spot.{id_of, document_of, tree_of};
@@ -9,6 +9,14 @@ ghost use Rattle.roxmltree.specs.Elements.{root_id};
 use crate::laws::whole;
 use roxmltree::laws::document_is_whole;
 use roxmltree::{Document, Node};
+
+/// The root element of a document without a document type declaration stands alone: above it is the root node, which lists
+/// nothing. So such a document may be `exchange`'s other, as what `reparse` answers.
+pub fn root_elements_stand_alone(document: &Document<'_>)
+    ensures { document.now.dtd ≡ false → stands_alone document.now (root_id document.now.tree) ≡ true }
+{
+    document_is_whole(document);
+}
 
 /// The element that `exchange` puts in is self-contained, and so is each node outside of it that was so before.
 pub fn elements_stay_contained(node: Node<'_, '_>, other: &Document<'_>)
