@@ -64,7 +64,7 @@ impl Recent {
             self.passed += 1;
             return Ok(());
         }
-        self.make_places();
+        self.make_places()?;
         let copy = text.clone()?;
         if let Some(place) = self.texts.get_mut(length) {
             *place = Some(copy);
@@ -72,16 +72,17 @@ impl Recent {
         Ok(())
     }
 
-    /// Makes a place for each length, if there are none. Where memory is wanting there are fewer, and the texts of other lengths
-    /// are not kept.
-    fn make_places(&mut self) {
-        if !self.texts.is_empty() || self.texts.reserve_exact(LONG).is_err() {
-            return;
+    /// Makes a place for each length, if there are none. The only error is want of memory.
+    fn make_places(&mut self) -> Result<(), Failure>
+        ensures err { IfErr result (λ e. e ≡ Failure.Memory) }
+    {
+        if !self.texts.is_empty() {
+            return Ok(());
         }
+        self.texts.reserve_exact(LONG)?;
         for _turn in 0..LONG {
-            if self.texts.push(None).is_err() {
-                return;
-            }
+            self.texts.push(None)?;
         }
+        Ok(())
     }
 }
