@@ -1,7 +1,7 @@
 //! Owned texts that come again, as the indentation of a text whose lines end with a carriage return and a line feed does: a text
 //! that equals the last one of its length shares its storage.
 
-ghost use Rattle.std.specs.Prelude.{◌≡◌, false, IfOk, IfErr};
+ghost use Rattle.std.specs.Prelude.{◌≡◌, ◌<◌, false, vec_len, OnOk, IfOk, IfErr};
 ghost use Rattle.rox_tables.specs.Storage.{storage_bytes, is_borrowed};
 
 use crate::storage::StringStorage;
@@ -74,14 +74,11 @@ impl Recent {
 
     /// Makes a place for each length, if there are none. The only error is want of memory.
     fn make_places(&mut self) -> Result<(), Failure>
+        ensures places { OnOk result (0 < vec_len self.new.texts) }
         ensures err { IfErr result (λ e. e ≡ Failure.Memory) }
     {
-        if !self.texts.is_empty() {
-            return Ok(());
-        }
-        self.texts.reserve_exact(LONG)?;
-        for _turn in 0..LONG {
-            self.texts.push(None)?;
+        if self.texts.is_empty() {
+            self.texts.resize_with(LONG, || None)?;
         }
         Ok(())
     }
