@@ -1,19 +1,13 @@
-//! Worked answers for texts, in tables.
+//! What a dump of a text does not show, and what is made by code.
 
 ghost use Rattle.std.specs.Prelude.{◌≡◌, Some};
 
-mod broken;
-mod doctype;
-mod entities;
 mod generated;
 mod limits;
 mod messages;
-mod opening;
 mod paths;
-mod refusals;
 mod resolvers;
 mod slices;
-mod sources;
 mod tables;
 
 use roxmltree::{Document, Error, Node, NodeId, ParsingOptions};
