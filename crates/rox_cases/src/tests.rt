@@ -11,8 +11,13 @@ mod slices;
 mod tables;
 
 use roxmltree::{Document, Error, Node, NodeId, ParsingOptions};
-use std::fmt::Display;
+use std::fmt::{Debug, Display};
 use std::process::Abort;
+
+/// Wants a value to be this. Where it is not, what it is of is told with both.
+fn same<T: PartialEq + Debug + Drop>(rt: &impl Abort, of: &str, got: T, wanted: T) {
+    assert_eq!(rt; got, wanted, "{of}");
+}
 
 /// The document of a text that is read.
 fn document_of<'input>(rt: &(impl Abort + AllocGlobal), text: &'input str) -> Document<'input> {
@@ -22,7 +27,7 @@ fn document_of<'input>(rt: &(impl Abort + AllocGlobal), text: &'input str) -> Do
 /// Why a text is refused.
 fn refusal_of(rt: &(impl Abort + AllocGlobal), text: &str) -> Error {
     let error = Document::parse(rt.alloc(), text).expect_err(rt, text);
-    assert_ne!(rt; error, Error::OutOfMemory, "{text:?}");
+    assert!(rt; error != Error::OutOfMemory, "out of memory: {text}");
     error
 }
 
@@ -34,7 +39,7 @@ fn declared<'input>(rt: &(impl Abort + AllocGlobal), text: &'input str) -> Docum
 /// Why a text that may have a document type declaration is refused.
 fn declared_refusal(rt: &(impl Abort + AllocGlobal), text: &str) -> Error {
     let error = answer(rt, text).expect_err(rt, text);
-    assert_ne!(rt; error, Error::OutOfMemory, "{text:?}");
+    assert!(rt; error != Error::OutOfMemory, "out of memory: {text}");
     error
 }
 
@@ -78,5 +83,5 @@ fn child_count(node: Node<'_, '_>) -> usize {
 /// Wants this to be printed.
 fn prints<T: Display>(rt: &(impl Abort + AllocGlobal), printed: &T, wanted: &str) {
     let shown = printed.to_string(rt.alloc()).expect(rt, "memory");
-    assert_eq!(rt; shown.as_str(), wanted);
+    same(rt, "printed", shown.as_str(), wanted);
 }

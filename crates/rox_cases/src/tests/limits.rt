@@ -1,6 +1,6 @@
 //! How much a document may hold.
 
-use super::{child_count, declared, document_of, number, prints, refusal_of};
+use super::{child_count, declared, document_of, number, prints, refusal_of, same};
 use roxmltree::{Document, Error, ParsingOptions};
 use std::alloc::{AllocError, Global};
 use std::test::Fail;
@@ -9,8 +9,8 @@ use std::test::Fail;
 fn default_options(rt: HostRuntime) {
     let options = ParsingOptions::default();
     assert!(rt; !options.allow_dtd);
-    assert_eq!(rt; options.nodes_limit, u32::MAX);
-    assert_eq!(rt; options.document_key, 0);
+    same(&rt, "nodes_limit", options.nodes_limit, u32::MAX);
+    same(&rt, "document_key", options.document_key, 0);
 }
 
 /// An element with so many children, each of which declares another URI.
@@ -27,7 +27,7 @@ fn declaring(alloc: Global, count: u32) -> Result<String, AllocError> {
 fn as_many_namespaces_as_may_be(rt: HostRuntime) -> Result<(), Fail> {
     let text = declaring(rt.alloc(), 65535)?;
     let document = document_of(&rt, text.as_str());
-    assert_eq!(rt; child_count(document.root_element()), 65535);
+    same(&rt, "children", child_count(document.root_element()), 65535);
     Ok(())
 }
 
@@ -35,7 +35,7 @@ fn as_many_namespaces_as_may_be(rt: HostRuntime) -> Result<(), Fail> {
 fn one_namespace_too_many(rt: HostRuntime) -> Result<(), Fail> {
     let text = declaring(rt.alloc(), 65536)?;
     let error = refusal_of(&rt, text.as_str());
-    assert_eq!(rt; error, Error::NamespacesLimitReached);
+    assert!(rt; error == Error::NamespacesLimitReached);
     prints(&rt, &error, "more than 2^16 unique namespaces were parsed");
     Ok(())
 }
@@ -62,10 +62,10 @@ fn deep_elements(rt: HostRuntime) -> Result<(), Fail> {
             elements = elements.saturating_add(1);
         }
     }
-    assert_eq!(rt; elements, 200_000);
-    assert_eq!(rt; document.descendants().len(), 200_001);
+    same(&rt, "elements", elements, 200_000);
+    same(&rt, "nodes", document.descendants().len(), 200_001);
     let deepest = document.descendants().next_back().ok_or("no node")?;
-    assert_eq!(rt; deepest.ancestors().count(), 200_001);
+    same(&rt, "ancestors", deepest.ancestors().count(), 200_001);
     Ok(())
 }
 
@@ -79,11 +79,12 @@ fn many_deep_children(rt: HostRuntime) -> Result<(), Fail> {
     }
     text.push_str("</r>")?;
     let document = document_of(&rt, text.as_str());
-    assert_eq!(rt; child_count(document.root_element()), 1000);
+    same(&rt, "children", child_count(document.root_element()), 1000);
     let last = document.root_element().last_child().ok_or("no child")?;
     let mut children = document.root_element().children();
     for node in last.prev_siblings() {
-        assert_eq!(rt; children.next_back().map(number), Some(number(node)));
+        let child = children.next_back().map(number);
+        same(&rt, "child", child, Some(number(node)));
     }
     assert!(rt; children.next_back().is_none());
     Ok(())
@@ -113,7 +114,8 @@ fn each_of_many_is_found(rt: HostRuntime) -> Result<(), Fail> {
         write!(wanted, "{number},")?;
     }
     let document = declared(&rt, text.as_str());
-    assert_eq!(rt; document.root_element().text(), Some(wanted.as_str()));
+    let found = document.root_element().text();
+    same(&rt, "text", found, Some(wanted.as_str()));
     Ok(())
 }
 
@@ -148,10 +150,11 @@ fn many_references(rt: HostRuntime) -> Result<(), Fail> {
     let mut count: usize = 0;
     for node in document.root_element().children() {
         if node.is_text() {
-            assert_eq!(rt; count_of(node.text().unwrap_or("")), Some(255));
+            let length = count_of(node.text().unwrap_or(""));
+            same(&rt, "text", length, Some(255));
             count = count.saturating_add(1);
         }
     }
-    assert_eq!(rt; count, 1000);
+    same(&rt, "texts", count, 1000);
     Ok(())
 }

@@ -1,6 +1,6 @@
 //! What the errors print and compare by.
 
-use super::refusal_of;
+use super::{refusal_of, same};
 use rox_error::error::Error;
 use rox_error::position::{TextPos, text_pos_at};
 use rox_grammar::fault::{Due, Fault, Span, Word};
@@ -10,7 +10,7 @@ use std::test::Fail;
 
 fn shows(rt: &(impl Abort + AllocGlobal), error: Error<'_>, text: &str) {
     let shown = error.to_string(rt.alloc()).expect(rt, "memory");
-    assert_eq!(rt; shown.as_str(), text);
+    same(rt, "printed", shown.as_str(), text);
 }
 
 fn place() -> TextPos {
@@ -62,7 +62,7 @@ fn faults(rt: HostRuntime) {
         Error::from_fault(alloc, text, version),
         "expected 'version' at 3:1",
     );
-    assert_eq!(rt; text_pos_at(text, 1000), TextPos::new(3, 5));
+    same(&rt, text, text_pos_at(text, 1000), TextPos::new(3, 5));
 }
 
 #[test]
@@ -70,10 +70,10 @@ fn copies_are_equal(rt: HostRuntime) -> Result<(), Fail> {
     let error = Error::UnknownNamespace(String::from_str(rt.alloc(), "n")?, place());
     let other = Error::UnknownNamespace(String::from_str(rt.alloc(), "m")?, place());
     let copy = error.clone()?;
-    assert_eq!(rt; error, copy);
-    assert_ne!(rt; error, other);
-    assert_eq!(rt; copy.pos(), place());
-    assert_eq!(rt; Error::NoRootNode.pos(), TextPos::new(1, 1));
+    assert!(rt; error == copy);
+    assert!(rt; error != other);
+    same(&rt, "pos", copy.pos(), place());
+    same(&rt, "pos", Error::NoRootNode.pos(), TextPos::new(1, 1));
     Ok(())
 }
 
@@ -81,10 +81,11 @@ fn copies_are_equal(rt: HostRuntime) -> Result<(), Fail> {
 fn errors_of_texts_are_values(rt: HostRuntime) -> Result<(), Fail> {
     let error = refusal_of(&rt, "<e p:a=''/>");
     let name = String::from_str(rt.alloc(), "p")?;
-    assert_eq!(rt; error, Error::UnknownNamespace(name, TextPos::new(1, 4)));
-    assert_eq!(rt; error.clone()?, error);
-    assert_ne!(rt; error, refusal_of(&rt, "<e q:a=''/>"));
-    assert_eq!(rt; Error::OutOfMemory.pos(), TextPos::new(1, 1));
+    let wanted = Error::UnknownNamespace(name, TextPos::new(1, 4));
+    assert!(rt; error == wanted);
+    assert!(rt; error.clone()? == error);
+    assert!(rt; error != refusal_of(&rt, "<e q:a=''/>"));
+    same(&rt, "pos", Error::OutOfMemory.pos(), TextPos::new(1, 1));
     Ok(())
 }
 
@@ -98,8 +99,8 @@ fn listed(alloc: Global) -> Result<Vec<TextPos>, Error<'static>> {
 #[test]
 fn want_of_memory_is_an_error(rt: HostRuntime) -> Result<(), Fail> {
     match listed(rt.alloc()) {
-        Ok(places) => assert_eq!(rt; places.len(), 1),
-        Err(error) => assert_eq!(rt; error, Error::OutOfMemory),
+        Ok(places) => same(&rt, "places", places.len(), 1),
+        Err(error) => assert!(rt; error == Error::OutOfMemory),
     }
     Ok(())
 }
