@@ -1,25 +1,24 @@
-//! Worked answers for texts, in tables.
+//! What a dump of a text does not show, and what is made by code.
 
 ghost use Rattle.std.specs.Prelude.{◌≡◌, Some};
 
-mod broken;
-mod doctype;
-mod entities;
 mod generated;
 mod limits;
 mod messages;
-mod opening;
 mod paths;
-mod refusals;
 mod requests;
 mod resolvers;
 mod slices;
-mod sources;
 mod tables;
 
 use roxmltree::{Document, Error, Node, NodeId, ParsingOptions};
-use std::fmt::Display;
+use std::fmt::{Debug, Display};
 use std::process::Abort;
+
+/// Wants a value to be this. Where it is not, what it is of is told with both.
+fn same<T: PartialEq + Debug + Drop>(rt: &impl Abort, of: &str, got: T, wanted: T) {
+    assert_eq!(rt; got, wanted, "{of}");
+}
 
 /// The document of a text that is read.
 fn document_of<'input>(rt: &(impl Abort + AllocGlobal), text: &'input str) -> Document<'input> {
@@ -29,7 +28,7 @@ fn document_of<'input>(rt: &(impl Abort + AllocGlobal), text: &'input str) -> Do
 /// Why a text is refused.
 fn refusal_of(rt: &(impl Abort + AllocGlobal), text: &str) -> Error {
     let error = Document::parse(rt.alloc(), text).expect_err(rt, text);
-    assert_ne!(rt; error, Error::OutOfMemory, "{text:?}");
+    assert!(rt; error != Error::OutOfMemory, "out of memory: {text}");
     error
 }
 
@@ -41,7 +40,7 @@ fn declared<'input>(rt: &(impl Abort + AllocGlobal), text: &'input str) -> Docum
 /// Why a text that may have a document type declaration is refused.
 fn declared_refusal(rt: &(impl Abort + AllocGlobal), text: &str) -> Error {
     let error = answer(rt, text).expect_err(rt, text);
-    assert_ne!(rt; error, Error::OutOfMemory, "{text:?}");
+    assert!(rt; error != Error::OutOfMemory, "out of memory: {text}");
     error
 }
 
@@ -85,5 +84,5 @@ fn child_count(node: Node<'_, '_>) -> usize {
 /// Wants this to be printed.
 fn prints<T: Display>(rt: &(impl Abort + AllocGlobal), printed: &T, wanted: &str) {
     let shown = printed.to_string(rt.alloc()).expect(rt, "memory");
-    assert_eq!(rt; shown.as_str(), wanted);
+    same(rt, "printed", shown.as_str(), wanted);
 }

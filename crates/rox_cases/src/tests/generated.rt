@@ -1,7 +1,7 @@
 //! Every text `<r>`..`</r>` of up to four pieces, and what stands in it as the text of an entity.
 
 use super::slices::{exchanged, reparsed};
-use super::{answered_by, child_count, declared, declared_refusal, document_of, refusal_of};
+use super::{answered_by, child_count, declared, declared_refusal, document_of, refusal_of, same};
 use roxmltree::{Document, Error, ResolveWith};
 use std::alloc::{AllocError, Global};
 use std::process::Abort;
@@ -72,10 +72,11 @@ fn texts_of_pieces(rt: HostRuntime) -> Result<(), Fail> {
     let alloc = rt.alloc();
     for row in 0..ROWS {
         let Case { mut text, children } = case_of(alloc, row)?;
-        assert_eq!(rt; children_of(&rt, text.as_str()), children, "{text:?}");
+        let count = children_of(&rt, text.as_str());
+        same(&rt, text.as_str(), count, children);
         text.pop();
         let error = refusal_of(&rt, text.as_str());
-        assert_eq!(rt; error, Error::UnexpectedEndOfStream, "{text:?}");
+        same(&rt, text.as_str(), error, Error::UnexpectedEndOfStream);
     }
     Ok(())
 }
@@ -87,10 +88,10 @@ fn texts_of_pieces_and_an_entity(rt: HostRuntime) -> Result<(), Fail> {
     for row in 0..ROWS {
         let Case { mut text, children } = case_within(alloc, row, parts)?;
         let count = declared_children_of(&rt, text.as_str());
-        assert_eq!(rt; count, children, "{text:?}");
+        same(&rt, text.as_str(), count, children);
         text.pop();
         let error = declared_refusal(&rt, text.as_str());
-        assert_eq!(rt; error, Error::UnexpectedEndOfStream, "{text:?}");
+        same(&rt, text.as_str(), error, Error::UnexpectedEndOfStream);
     }
     Ok(())
 }
@@ -100,8 +101,8 @@ fn pieces_in_an_entity(rt: HostRuntime) -> Result<(), Fail> {
     let parts = ["<!DOCTYPE r [<!ENTITY a '", "x", "'>]><r>&a;</r>"];
     for row in 0..ROWS {
         let case = case_within(rt.alloc(), row, parts)?;
-        let count = declared_children_of(&rt, case.text.as_str());
-        assert_eq!(rt; count, case.children, "{}", case.text);
+        let text = case.text.as_str();
+        same(&rt, text, declared_children_of(&rt, text), case.children);
     }
     Ok(())
 }
@@ -119,7 +120,7 @@ fn pieces_in_an_answer(rt: HostRuntime) -> Result<(), Fail> {
         });
         let document = Document::parse_with_options(rt.alloc(), main, options).expect(&rt, answer);
         let count = child_count(document.root_element());
-        assert_eq!(rt; count, case.children, "{answer:?}");
+        same(&rt, answer, count, case.children);
     }
     Ok(())
 }
@@ -132,12 +133,8 @@ fn root_elements_of_pieces(rt: HostRuntime) -> Result<(), Fail> {
         let document = document_of(&rt, text);
         let root = document.root_element();
         let alone = reparsed(&rt, root);
-        assert_eq!(rt;
-            child_count(alone.root_element()),
-            case.children,
-            "{text:?}"
-        );
-        assert_eq!(rt; exchanged(&rt, root, &document).as_str(), text, "{text:?}");
+        same(&rt, text, child_count(alone.root_element()), case.children);
+        same(&rt, text, exchanged(&rt, root, &document).as_str(), text);
     }
     Ok(())
 }

@@ -1,6 +1,7 @@
 //! Paths and what they lead to. The answers hold with ample memory, and as well where any one growth is refused: each call is
 //! then made again.
 
+use super::same;
 use rox_path::{PathError, Step, parse_path, select};
 use roxmltree::{Document, Error, Node};
 use std::process::Abort;
@@ -44,11 +45,11 @@ fn leads(
 ) {
     let steps = read(rt, path).expect(rt, path);
     let nodes = selected(rt, start, &steps);
-    assert_eq!(rt; nodes.len(), wanted.len(), "{path}");
+    same(rt, path, nodes.len(), wanted.len());
     for (node, (start, end)) in nodes.iter().zip(wanted) {
         let range = node.range();
-        assert_eq!(rt; range.start, *start, "{path}");
-        assert_eq!(rt; range.end, *end, "{path}");
+        same(rt, path, range.start, *start);
+        same(rt, path, range.end, *end);
     }
 }
 
@@ -83,7 +84,7 @@ fn no_steps_lead_to_the_start(rt: HostRuntime) {
     let document = document_of(&rt, TEXT);
     for start in document.descendants() {
         let nodes = selected(&rt, start, &[]);
-        assert_eq!(rt; nodes.len(), 1);
+        same(&rt, TEXT, nodes.len(), 1);
         assert!(rt; nodes.iter().all(|node| *node == start));
     }
 }
@@ -124,12 +125,12 @@ fn steps_of_a_path(rt: HostRuntime) {
         Step::Child(("u", "b").into()),
         Step::Descendant(("", "c").into()),
     ];
-    assert_eq!(rt; steps.as_slice(), wanted.as_slice());
+    assert!(rt; steps.as_slice() == wanted.as_slice());
 }
 
 #[test]
 fn texts_that_are_no_paths(rt: HostRuntime) {
-    for (path, place) in [
+    for (path, place) in &[
         ("", 0),
         ("r", 0),
         ("///a", 2),
@@ -147,10 +148,7 @@ fn texts_that_are_no_paths(rt: HostRuntime) {
         ("{u}a", 0),
         ("/é}", 3),
     ] {
-        assert_eq!(rt;
-            read(&rt, path).err(),
-            Some(PathError::BadPath(place)),
-            "{path}"
-        );
+        let error = read(&rt, path).err();
+        same(&rt, path, error, Some(PathError::BadPath(*place)));
     }
 }

@@ -82,7 +82,10 @@ fn owned(
     recent: &mut Recent,
     text: &str,
 ) -> StringStorage<'static> {
-    recent.owned(rt.alloc(), text).ok().expect(rt, "out of memory")
+    recent
+        .owned(rt.alloc(), text)
+        .ok()
+        .expect(rt, "out of memory")
 }
 
 #[test]
