@@ -6,7 +6,6 @@ mod generated;
 mod limits;
 mod messages;
 mod paths;
-mod requests;
 mod resolvers;
 mod slices;
 mod tables;
