@@ -25,7 +25,7 @@ AreChars src i j = run_end is_char (take j src) i ≡ j
 abbrev pub has_mark : List ℕ → List ℕ → Bool
 has_mark mark text = nat_lt (before_mark mark text) (length text)
 
--- two dashes somewhere, or one at the end
+-- two dashes, which the text of no comment may hold (XML 2.5)
 abbrev pub double_dash : List ℕ
 double_dash = 45 ∷ 45 ∷ []
 
