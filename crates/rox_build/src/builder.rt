@@ -13,7 +13,7 @@ use rox_grammar::fault::Fault;
 use rox_grammar::name::QName;
 use rox_scan::marks::Finders;
 use rox_tables::attributes::AttributeTable;
-use rox_tables::growth::{push, trim, with_room};
+use rox_tables::growth::{push, reserve, trim};
 use rox_tables::names::NamespaceTable;
 use rox_tables::node_rows;
 use rox_tables::present::Present;
@@ -61,12 +61,17 @@ pub struct Builder<'input> {
 /// How many rows a table begins with room for, at most.
 const FIRST_ROWS: usize = 65536;
 
+/// And at least.
+const FEWEST_ROWS: usize = 32;
+
 /// The row of the root node of a text of so many bytes, with some room for more.
 fn root_row<'input>(alloc: Global, bytes: usize) -> Result<Vec<NodeData<'input>>, Failure>
     ensures ok { IfOk result (λ nodes. nodes.items ≡ record { start = 0; end = bytes; parent = 0; next = 0; depth = 0; kind = kind.Root } ∷ []) }
     ensures err { IfErr result (λ e. e ≡ failure.Memory) }
 {
-    let mut nodes = with_room(alloc, (bytes / 48 + 32).min(FIRST_ROWS));
+    let room = (bytes / 48 + FEWEST_ROWS).min(FIRST_ROWS);
+    let mut nodes = Vec::new(alloc);
+    reserve(&mut nodes, room, FEWEST_ROWS)?;
     nodes.push(NodeData {
         start: 0,
         end: bytes,
@@ -139,7 +144,7 @@ impl<'input> Builder<'input> {
         ensures err { IfErr result (λ e. e ≡ failure.Memory) }
     {
         // An allocator often gives places in turn, and a table behind which nothing stands grows where it is: the rows come last.
-        let attributes = AttributeTable::of_text(alloc, bytes)?;
+        let attributes = AttributeTable::of_text(alloc, bytes);
         let scopes = empty_scope(alloc)?;
         let nodes = root_row(alloc, bytes)?;
         Ok(Builder {

@@ -1,9 +1,9 @@
 //! The table of attributes.
 
-ghost use Rattle.std.specs.Prelude.{◌≡◌, ◌<◌, ◌++◌, ◌∷◌, [], length, vec_len, vec_capacity, if◌then◌else◌, is_ok, IfOk, OnOk, IfErr};
+ghost use Rattle.std.specs.Prelude.{◌≡◌, ◌<◌, ◌+◌, ◌/◌, ◌++◌, ◌∷◌, [], length, min, vec_len, vec_capacity, if◌then◌else◌, is_ok, IfOk, OnOk, IfErr};
 ghost use Rattle.std.proofs.Props.{props};
 
-use crate::growth::{make_room, trim, with_room};
+use crate::growth::{make_room, reserve, trim, with_room};
 use crate::tables::{AttributeData, AttributePlaces};
 use rox_grammar::failure::Failure;
 use std::alloc::Global;
@@ -22,20 +22,29 @@ pub struct AttributeTable<'input> {
 /// How many attributes a table begins with room for, at most.
 const FIRST_ATTRIBUTES: usize = 32768;
 
+/// And where there is no memory for so many.
+const FEWEST: usize = 4;
+
+/// How many attributes a table begins with room for, of a text of so many bytes.
+fn first_attributes(bytes: usize) -> usize
+    ensures { result ≡ min (bytes / 112 + 4) 32768 }
+{
+    (bytes / 112 + FEWEST).min(FIRST_ATTRIBUTES)
+}
+
 impl<'input> AttributeTable<'input> {
     ghost use Rattle.rox_tables.specs.Lines.{rows_of};
 
-    /// The table of a text of so many bytes, without attributes. The only error is want of memory.
-    pub fn of_text(alloc: Global, bytes: usize) -> Result<AttributeTable<'input>, Failure>
-        ensures ok { IfOk result (λ t. rows_of t ≡ []) }
-        ensures err { IfErr result (λ e. e ≡ Failure.Memory) }
+    /// The table of a text of so many bytes, without attributes.
+    pub fn of_text(alloc: Global, bytes: usize) -> AttributeTable<'input>
+        ensures { rows_of result ≡ [] }
     {
-        let room = (bytes / 112 + 4).min(FIRST_ATTRIBUTES);
-        Ok(AttributeTable {
+        let room = first_attributes(bytes);
+        AttributeTable {
             items: with_room(alloc, room),
             places: with_room(alloc, room),
             text_end: bytes,
-        })
+        }
     }
 
     /// How many attributes there are.
@@ -44,6 +53,19 @@ impl<'input> AttributeTable<'input> {
         ensures { result ≡ length (rows_of self.now) }
     {
         self.items.len()
+    }
+
+    /// Makes room for the first attributes. The only error is want of memory.
+    fn make_first_room(&mut self) -> Result<(), Failure>
+        ensures items { self.new.items.items ≡ self.old.items.items }
+        ensures places { self.new.places.items ≡ self.old.places.items }
+        ensures item { OnOk result (vec_len self.new.items < vec_capacity self.new.items) }
+        ensures place { OnOk result (vec_len self.new.places < vec_capacity self.new.places) }
+        ensures err { IfErr result (λ e. e ≡ Failure.Memory) }
+    {
+        let room = first_attributes(self.text_end);
+        reserve(&mut self.items, room, FEWEST)?;
+        reserve(&mut self.places, room, FEWEST)
     }
 
     /// Makes room for more attributes, as those that there are foretell it, the next of which ends at `place`. The only error is
@@ -57,6 +79,9 @@ impl<'input> AttributeTable<'input> {
         ensures place { OnOk result (vec_len self.new.places < vec_capacity self.new.places) }
         ensures err { IfErr result (λ e. e ≡ Failure.Memory) }
     {
+        if self.items.is_empty() {
+            return self.make_first_room();
+        }
         make_room(&mut self.items, place, self.text_end)?;
         make_room(&mut self.places, place, self.text_end)
     }

@@ -1,6 +1,6 @@
 //! Growth of tables.
 
-ghost use Rattle.std.specs.Prelude.{◌≡◌, ◌<◌, ◌≤◌, ◌+◌, ◌/◌, ◌^◌, ◌++◌, ◌∷◌, [], if◌then◌else◌, is_ok, vec_len, vec_capacity, OnOk, IfErr};
+ghost use Rattle.std.specs.Prelude.{◌≡◌, ◌<◌, ◌≤◌, ◌+◌, ◌/◌, ◌^◌, ◌++◌, ◌∷◌, [], if◌then◌else◌, is_ok, min, vec_len, vec_capacity, OnOk, IfErr};
 ghost use Rattle.rox_tables.specs.Room as room;
 
 use rox_grammar::failure::Failure;
@@ -34,13 +34,42 @@ pub fn push<T: Drop>(to: &mut Vec<T>, value: T) -> Result<(), Failure>
     Ok(())
 }
 
-/// An empty table with room for so many, or without where there is no memory for them: it is then asked for as the table grows.
+/// The room that is asked for but once, in rows: 16 KiB of rows of nodes, which are the widest.
+const SMALL: usize = 204;
+
+/// Makes room for `more` rows. Where that is refused and the table would not be small, it makes room for `fewer`. The only error
+/// is want of memory.
+#[cold]
+#[inline(never)]
+pub fn reserve<T: Drop>(to: &mut Vec<T>, more: usize, fewer: usize) -> Result<(), Failure>
+    ensures items { to.new.items ≡ to.old.items }
+    ensures len { vec_len to.new ≡ vec_len to.old }
+    ensures ok { OnOk result (vec_len to.new + min more fewer ≤ vec_capacity to.new) }
+    ensures small { OnOk result (vec_len to.old + more ≤ 204 → vec_len to.new + more ≤ vec_capacity to.new) }
+    ensures err { IfErr result (λ e. e ≡ Failure.Memory) }
+{
+    if to.reserve_exact(more).is_ok() {
+        return Ok(());
+    }
+    if to.len().saturating_add(more) <= SMALL {
+        return Err(Failure::Memory);
+    }
+    to.reserve_exact(fewer)?;
+    Ok(())
+}
+
+/// An empty table that is to have so many rows. Where that is small its room is asked for with the first row; else there is room
+/// already, or none where there is no memory for it: it is then asked for as the table grows.
 #[cold]
 #[inline(never)]
 pub fn with_room<T: Drop>(alloc: Global, room: usize) -> Vec<T>
     ensures items { result.items ≡ [] }
     ensures room { vec_capacity result ≤ room }
+    ensures small { room ≤ 204 → vec_capacity result ≡ 0 }
 {
+    if room <= SMALL {
+        return Vec::new(alloc);
+    }
     match Vec::with_capacity(alloc, room) {
         Ok(items) => items,
         Err(_) => Vec::new(alloc),
@@ -61,8 +90,8 @@ fn foreseen(len: usize, place: usize, end: usize) -> usize
     foretold.min(len.saturating_mul(8)).max(least)
 }
 
-/// Makes room in a table, as foreseen where `place` bytes of a text of `end` bytes are read. Where that is refused it makes room
-/// for an eighth more. The only error is want of memory.
+/// Makes room in a table, as foreseen where `place` bytes of a text of `end` bytes are read. Where that is refused and the table
+/// would not be small, it makes room for an eighth more. The only error is want of memory.
 #[cold]
 #[inline(never)]
 pub fn make_room<T: Drop>(to: &mut Vec<T>, place: usize, end: usize) -> Result<(), Failure>
@@ -70,13 +99,12 @@ pub fn make_room<T: Drop>(to: &mut Vec<T>, place: usize, end: usize) -> Result<(
     ensures len { vec_len to.new ≡ vec_len to.old }
     ensures ok { OnOk result (vec_len to.new < vec_capacity to.new) }
     ensures eighth { OnOk result (vec_len to.new + vec_len to.new / 8 < vec_capacity to.new) }
+    ensures small { OnOk result (room.foreseen (vec_len to.old) place end ≤ 204 → room.foreseen (vec_len to.old) place end ≤ vec_capacity to.new) }
     ensures err { IfErr result (λ e. e ≡ Failure.Memory) }
 {
     let len = to.len();
-    if to.reserve_exact(foreseen(len, place, end) - len).is_err() {
-        to.reserve_exact(len / 8 + 1)?;
-    }
-    Ok(())
+    let more = foreseen(len, place, end) - len;
+    reserve(to, more, len / 8 + 1)
 }
 
 /// How many rows of spare room are kept at most: giving room back costs more than it is worth where there is little of it.

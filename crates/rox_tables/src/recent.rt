@@ -1,7 +1,7 @@
 //! Owned texts that come again, as the indentation of a text whose lines end with a carriage return and a line feed does: a text
 //! that equals the last one of its length shares its storage.
 
-ghost use Rattle.std.specs.Prelude.{◌≡◌, false, IfOk, IfErr};
+ghost use Rattle.std.specs.Prelude.{◌≡◌, ◌<◌, false, vec_len, OnOk, IfOk, IfErr};
 ghost use Rattle.rox_tables.specs.Storage.{storage_bytes, is_borrowed};
 
 use crate::storage::StringStorage;
@@ -64,7 +64,7 @@ impl Recent {
             self.passed += 1;
             return Ok(());
         }
-        self.make_places();
+        self.make_places()?;
         let copy = text.clone()?;
         if let Some(place) = self.texts.get_mut(length) {
             *place = Some(copy);
@@ -72,16 +72,14 @@ impl Recent {
         Ok(())
     }
 
-    /// Makes a place for each length, if there are none. Where memory is wanting there are fewer, and the texts of other lengths
-    /// are not kept.
-    fn make_places(&mut self) {
-        if !self.texts.is_empty() || self.texts.reserve_exact(LONG).is_err() {
-            return;
+    /// Makes a place for each length, if there are none. The only error is want of memory.
+    fn make_places(&mut self) -> Result<(), Failure>
+        ensures places { OnOk result (0 < vec_len self.new.texts) }
+        ensures err { IfErr result (λ e. e ≡ Failure.Memory) }
+    {
+        if self.texts.is_empty() {
+            self.texts.resize_with(LONG, || None)?;
         }
-        for _turn in 0..LONG {
-            if self.texts.push(None).is_err() {
-                return;
-            }
-        }
+        Ok(())
     }
 }

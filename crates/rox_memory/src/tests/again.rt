@@ -1,5 +1,5 @@
-//! What is asked again where a growth was refused. The answers hold with ample memory, and as well where any one growth is
-//! refused.
+//! What is asked again where a growth was refused: the refusal leaves nothing behind, and the answer is the one with ample
+//! memory.
 
 ghost use Rattle.std.specs.Prelude.{◌≡◌, Some};
 
@@ -20,7 +20,7 @@ fn answer<'input>(rt: &impl AllocGlobal, text: &'input str) -> Result<Document<'
 }
 
 /// The document of a text that is read.
-pub(super) fn read<'input>(rt: &(impl Abort + AllocGlobal), text: &'input str) -> Document<'input> {
+fn read<'input>(rt: &(impl Abort + AllocGlobal), text: &'input str) -> Document<'input> {
     answer(rt, text).expect(rt, text)
 }
 
@@ -122,7 +122,7 @@ fn declared<'input>(rt: &impl AllocGlobal, text: &'input str) -> Result<Document
 }
 
 /// An entity that opens another so many times.
-fn opening(alloc: Global, count: usize) -> Result<String, AllocError> {
+pub(super) fn opening(alloc: Global, count: usize) -> Result<String, AllocError> {
     let mut text = String::with_capacity(alloc, 1000)?;
     text.push_str("<!DOCTYPE r [<!ENTITY a 'x'><!ENTITY b '")?;
     for _ in 0..count {
@@ -133,7 +133,7 @@ fn opening(alloc: Global, count: usize) -> Result<String, AllocError> {
 }
 
 /// The same, made again where its growth was refused. It has one.
-pub(super) fn opened(rt: &impl AllocGlobal, count: usize) -> Result<String, AllocError> {
+fn opened(rt: &impl AllocGlobal, count: usize) -> Result<String, AllocError> {
     match opening(rt.alloc(), count) {
         Ok(text) => Ok(text),
         Err(_) => opening(rt.alloc(), count),
@@ -246,7 +246,7 @@ pub(super) fn refused_by_resolver(rt: &(impl Abort + AllocGlobal), words: String
 }
 
 /// A text of its own, made again where a growth was refused.
-pub(super) fn own_text(rt: &(impl Abort + AllocGlobal), text: &str) -> String {
+fn own_text(rt: &(impl Abort + AllocGlobal), text: &str) -> String {
     match String::from_str(rt.alloc(), text) {
         Ok(text) => text,
         Err(_) => String::from_str(rt.alloc(), text).expect(rt, "memory"),

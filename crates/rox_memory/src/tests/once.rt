@@ -1,9 +1,9 @@
 //! What is asked once, so that a growth of it that is refused is its answer: texts with references, entities, answers of a
-//! resolver, namespaces and names in errors; elements alone, exchanges, paths and texts of their own. What these need is made
-//! before, again where a growth is refused, and has few growths, so that all those of what is asked are among the ones that
-//! `tools/refuse-growths` refuses.
+//! resolver, namespaces and names in errors; elements alone, exchanges, paths and texts of their own. No refused growth is passed
+//! over: each fails its test, those of what is made before as well. The last growth is the test's own, but in the test that has
+//! the most. So in the runs of `tools/refuse-growths` a test fails up to that of its last growth, and passes from there on.
 
-use super::again::{ELEVEN, TEN, asked, opened, own_text, read, refused_by_resolver, resolved};
+use super::again::{ELEVEN, TEN, asked, opening, refused_by_resolver, resolved};
 use super::{document_of, node_of, number, refusal_of};
 use rox_path::{PathError, parse_path, select};
 use roxmltree::{Error, StringStorage, TextPos};
@@ -31,34 +31,43 @@ fn tells(rt: &impl Abort, error: &Error, wanted: &str) {
     assert!(rt; printed.is_ok() && left.0.is_empty(), "{error}");
 }
 
+/// Asks for a last growth, behind all that is asked: where it is refused no other was.
+fn ends(rt: &(impl Abort + AllocGlobal)) {
+    String::from_str(rt.alloc(), "the end").expect(rt, "the end");
+}
+
 #[test]
 fn a_reference(rt: HostRuntime) {
     let document = document_of(&rt, "<root>&apos;</root>");
     assert_eq!(rt; document.root_element().text(), Some("'"));
+    ends(&rt);
 }
 
 #[test]
 fn sections(rt: HostRuntime) {
     let document = document_of(&rt, "<p><![CDATA[1]]><![CDATA[2]]></p>");
     assert_eq!(rt; document.root_element().text(), Some("12"));
+    ends(&rt);
 }
 
 #[test]
 fn entities(rt: HostRuntime) -> Result<(), Fail> {
-    let text = opened(&rt, 255)?;
+    let text = opening(rt.alloc(), 255)?;
     let document = asked(&rt, text.as_str()).expect(&rt, "entities");
     let found = document.root_element().text().unwrap_or("");
     assert_eq!(rt; found.len(), 255);
     assert!(rt; found.bytes().all(|byte| byte == b'x'));
+    ends(&rt);
     Ok(())
 }
 
 #[test]
 fn entities_too_often(rt: HostRuntime) -> Result<(), Fail> {
-    let text = opened(&rt, 256)?;
+    let text = opening(rt.alloc(), 256)?;
     let error = asked(&rt, text.as_str()).expect_err(&rt, "a loop");
     let wanted = Error::EntityReferenceLoop(TextPos::new(1, 809));
     assert_eq!(rt; error, wanted);
+    ends(&rt);
     Ok(())
 }
 
@@ -66,6 +75,7 @@ fn entities_too_often(rt: HostRuntime) -> Result<(), Fail> {
 fn entities_in_one_another(rt: HostRuntime) {
     let document = asked(&rt, TEN).expect(&rt, "entities");
     assert_eq!(rt; document.root_element().text(), Some("x"));
+    ends(&rt);
 }
 
 #[test]
@@ -73,6 +83,7 @@ fn entities_in_one_another_too_deep(rt: HostRuntime) {
     let error = asked(&rt, ELEVEN).expect_err(&rt, "a loop");
     let wanted = Error::EntityReferenceLoop(TextPos::new(1, 205));
     assert_eq!(rt; error, wanted);
+    ends(&rt);
 }
 
 #[test]
@@ -82,24 +93,29 @@ fn an_external_entity(rt: HostRuntime) {
     let foobar = node_of(&rt, &document, 2);
     assert!(rt; foobar.has_tag_name("foobar".into()));
     assert_eq!(rt; foobar.range(), 0..9);
+    ends(&rt);
 }
 
 #[test]
 fn an_external_entity_that_refers_to_another(rt: HostRuntime) {
     let error = resolved(&rt, Some("<a>&x;</a>")).expect_err(&rt, "an answer");
     tells(&rt, &error, "unknown entity reference 'x' at 1:4");
+    ends(&rt);
 }
 
 #[test]
 fn an_external_entity_without_a_text(rt: HostRuntime) {
     let error = resolved(&rt, None).expect_err(&rt, "no answer");
     tells(&rt, &error, "unknown entity reference 'bar' at 1:54");
+    ends(&rt);
 }
 
 #[test]
 fn a_refusal_of_a_resolver(rt: HostRuntime) {
-    let error = refused_by_resolver(&rt, own_text(&rt, "no"));
+    let words = String::from_str(rt.alloc(), "no").expect(&rt, "memory");
+    let error = refused_by_resolver(&rt, words);
     tells(&rt, &error, "entity resolver failed at 1:45: no");
+    ends(&rt);
 }
 
 #[test]
@@ -110,6 +126,7 @@ fn namespaces(rt: HostRuntime) {
     assert_eq!(rt; b.namespaces().len(), 2);
     assert_eq!(rt; b.attribute(("3", "x").into()), Some(""));
     assert_eq!(rt; b.attribute(("2", "y").into()), Some(""));
+    ends(&rt);
 }
 
 #[test]
@@ -119,53 +136,60 @@ fn attributes(rt: HostRuntime) {
     assert_eq!(rt; element.attributes().len(), 2);
     assert_eq!(rt; element.attribute("a".into()), Some("2"));
     assert_eq!(rt; element.attribute(("", "a").into()), Some("1"));
+    ends(&rt);
 }
 
 #[test]
 fn a_default_declared_twice(rt: HostRuntime) {
     let error = refusal_of(&rt, "<e xmlns='' xmlns='a'/>");
     tells(&rt, &error, "namespace 'xmlns' at 1:13 is already defined");
+    ends(&rt);
 }
 
 #[test]
 fn an_unknown_prefix(rt: HostRuntime) {
     let error = refusal_of(&rt, "<xml:e/>");
     tells(&rt, &error, "an unknown namespace prefix 'xml' at 1:2");
+    ends(&rt);
 }
 
 #[test]
 fn tags_of_two_names(rt: HostRuntime) {
     let error = refusal_of(&rt, "<a:b xmlns:a='1'></b>");
     tells(&rt, &error, "expected 'a:b' tag, not 'b' at 1:18");
+    ends(&rt);
 }
 
 #[test]
 fn an_attribute_twice(rt: HostRuntime) {
     let error = refusal_of(&rt, "<e xmlns:n='u' xmlns:m='u' n:a='1' m:a='2'/>");
     tells(&rt, &error, "attribute 'a' at 1:36 is already defined");
+    ends(&rt);
 }
 
 #[test]
 fn a_text_of_its_own(rt: HostRuntime) -> Result<(), Fail> {
     let text = StringStorage::new_owned(rt.alloc(), "text")?;
     assert_eq!(rt; text.as_str(), "text");
+    ends(&rt);
     Ok(())
 }
 
 #[test]
 fn an_element(rt: HostRuntime) -> Result<(), Error> {
-    let document = read(&rt, "<r><b>&lt;</b></r>");
+    let document = document_of(&rt, "<r><b>&lt;</b></r>");
     let b = document.root_element().first_child().expect(&rt, "b");
     assert!(rt; b.is_self_contained());
     let alone = b.reparse(rt.alloc())?;
     assert_eq!(rt; alone.input_text(), "<b>&lt;</b>");
     assert_eq!(rt; number(alone.root_element()), 1);
+    ends(&rt);
     Ok(())
 }
 
 #[test]
 fn an_element_among_texts(rt: HostRuntime) -> Result<(), Error> {
-    let document = read(&rt, "<?xml version='1.0'?><r>a<x y='1'>&lt;</x>c</r>");
+    let document = document_of(&rt, "<?xml version='1.0'?><r>a<x y='1'>&lt;</x>c</r>");
     let x = node_of(&rt, &document, 3);
     assert!(rt; x.is_self_contained());
     let alone = x.reparse(rt.alloc())?;
@@ -176,34 +200,37 @@ fn an_element_among_texts(rt: HostRuntime) -> Result<(), Error> {
 
 #[test]
 fn an_exchange(rt: HostRuntime) -> Result<(), Fail> {
-    let document = read(&rt, "<r><b/></r>");
+    let document = document_of(&rt, "<r><b/></r>");
     let b = document.root_element().first_child().expect(&rt, "b");
     assert!(rt; b.is_self_contained());
     assert!(rt; document.root_element().is_self_contained());
     let text = b.exchange(rt.alloc(), &document)?;
     assert_eq!(rt; text.as_str(), "<r><r><b/></r></r>");
+    ends(&rt);
     Ok(())
 }
 
 #[test]
 fn an_exchange_with_another_document(rt: HostRuntime) -> Result<(), Fail> {
-    let document = read(&rt, "<?xml version='1.0'?><r>a<b/>c</r>");
-    let other = read(&rt, "<!--z--><x y='1'>&lt;</x>");
+    let document = document_of(&rt, "<?xml version='1.0'?><r>a<b/>c</r>");
+    let other = document_of(&rt, "<!--z--><x y='1'>&lt;</x>");
     let b = node_of(&rt, &document, 3);
     assert!(rt; b.is_self_contained());
     assert!(rt; other.root_element().is_self_contained());
     let text = b.exchange(rt.alloc(), &other)?;
     let wanted = "<?xml version='1.0'?><r>a<x y='1'>&lt;</x>c</r>";
     assert_eq!(rt; text.as_str(), wanted);
+    ends(&rt);
     Ok(())
 }
 
 #[test]
 fn a_path(rt: HostRuntime) -> Result<(), PathError> {
-    let document = read(&rt, "<r/>");
+    let document = document_of(&rt, "<r/>");
     let steps = parse_path(rt.alloc(), "//r")?;
     let nodes = select(rt.alloc(), document.root(), &steps)?;
     assert_eq!(rt; nodes.iter().map(|node| number(*node)).last(), Some(1));
     assert_eq!(rt; nodes.len(), 1);
+    ends(&rt);
     Ok(())
 }
