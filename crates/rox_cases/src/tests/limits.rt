@@ -1,9 +1,9 @@
 //! How much a document may hold.
 
 use super::{child_count, declared, document_of, number, prints, refusal_of, same};
-use roxmltree::{Document, Error, ParsingOptions};
+use roxmltree::{Document, Error, Node, ParsingOptions};
 use std::alloc::{AllocError, Global};
-use std::test::Fail;
+use std::process::Abort;
 
 #[test]
 fn default_options(rt: HostRuntime) {
@@ -24,20 +24,18 @@ fn declaring(alloc: Global, count: u32) -> Result<String, AllocError> {
 }
 
 #[test]
-fn as_many_namespaces_as_may_be(rt: HostRuntime) -> Result<(), Fail> {
-    let text = declaring(rt.alloc(), 65535)?;
+fn as_many_namespaces_as_may_be(rt: HostRuntime) {
+    let text = declaring(rt.alloc(), 65535).expect(&rt, "memory");
     let document = document_of(&rt, text.as_str());
     same(&rt, "children", child_count(document.root_element()), 65535);
-    Ok(())
 }
 
 #[test]
-fn one_namespace_too_many(rt: HostRuntime) -> Result<(), Fail> {
-    let text = declaring(rt.alloc(), 65536)?;
+fn one_namespace_too_many(rt: HostRuntime) {
+    let text = declaring(rt.alloc(), 65536).expect(&rt, "memory");
     let error = refusal_of(&rt, text.as_str());
     assert!(rt; error == Error::NamespacesLimitReached);
     prints(&rt, &error, "more than 2^16 unique namespaces were parsed");
-    Ok(())
 }
 
 /// So many elements, each in the one before it.
@@ -52,42 +50,63 @@ fn nested(alloc: Global, count: usize) -> Result<String, AllocError> {
     Ok(text)
 }
 
-#[test]
-fn deep_elements(rt: HostRuntime) -> Result<(), Fail> {
-    let text = nested(rt.alloc(), 200_000)?;
-    let document = document_of(&rt, text.as_str());
-    let mut elements: usize = 0;
+/// How many elements a document has.
+fn element_count(document: &Document<'_>) -> usize {
+    let mut count: usize = 0;
     for node in document.descendants() {
         if node.is_element() {
-            elements = elements.saturating_add(1);
+            count = count.saturating_add(1);
         }
     }
-    same(&rt, "elements", elements, 200_000);
-    same(&rt, "nodes", document.descendants().len(), 200_001);
-    let deepest = document.descendants().next_back().ok_or("no node")?;
-    same(&rt, "ancestors", deepest.ancestors().count(), 200_001);
-    Ok(())
+    count
+}
+
+/// How many nodes stand around the last one of a document, and the node itself.
+fn depth_of_the_last(document: &Document<'_>) -> usize {
+    match document.descendants().next_back() {
+        Some(last) => last.ancestors().count(),
+        None => 0,
+    }
 }
 
 #[test]
-fn many_deep_children(rt: HostRuntime) -> Result<(), Fail> {
-    let alloc = rt.alloc();
+fn deep_elements(rt: HostRuntime) {
+    let text = nested(rt.alloc(), 200_000).expect(&rt, "memory");
+    let document = document_of(&rt, text.as_str());
+    same(&rt, "elements", element_count(&document), 200_000);
+    same(&rt, "nodes", document.descendants().len(), 200_001);
+    same(&rt, "depth", depth_of_the_last(&document), 200_001);
+}
+
+/// An element with so many children, each a hundred elements deep.
+fn with_deep_children(alloc: Global, count: usize) -> Result<String, AllocError> {
     let child = nested(alloc, 100)?;
     let mut text = String::from_str(alloc, "<r>")?;
-    for _ in 0..1000 {
+    for _ in 0..count {
         text.push_str(child.as_str())?;
     }
     text.push_str("</r>")?;
-    let document = document_of(&rt, text.as_str());
-    same(&rt, "children", child_count(document.root_element()), 1000);
-    let last = document.root_element().last_child().ok_or("no child")?;
-    let mut children = document.root_element().children();
+    Ok(text)
+}
+
+/// Wants the siblings in front of an element's last child to be its children from the back.
+fn ends_agree(rt: &impl Abort, element: Node<'_, '_>) {
+    let last = element.last_child().expect(rt, "no child");
+    let mut children = element.children();
     for node in last.prev_siblings() {
         let child = children.next_back().map(number);
-        same(&rt, "child", child, Some(number(node)));
+        same(rt, "child", child, Some(number(node)));
     }
     assert!(rt; children.next_back().is_none());
-    Ok(())
+}
+
+#[test]
+fn many_deep_children(rt: HostRuntime) {
+    let text = with_deep_children(rt.alloc(), 1000).expect(&rt, "memory");
+    let document = document_of(&rt, text.as_str());
+    let element = document.root_element();
+    same(&rt, "children", child_count(element), 1000);
+    ends_agree(&rt, element);
 }
 
 /// So many entities, each with its number for its text, and a reference to each from the last on.
@@ -104,19 +123,22 @@ fn numbered(alloc: Global, count: u32) -> Result<String, AllocError> {
     Ok(text)
 }
 
-#[test]
-fn each_of_many_is_found(rt: HostRuntime) -> Result<(), Fail> {
-    let alloc = rt.alloc();
-    let count = 20_000;
-    let text = numbered(alloc, count)?;
-    let mut wanted = String::new(alloc);
+/// The numbers below this one, from the last on, with a comma behind each.
+fn numbers_from_the_last(alloc: Global, count: u32) -> Result<String, AllocError> {
+    let mut text = String::new(alloc);
     for number in (0..count).rev() {
-        write!(wanted, "{number},")?;
+        write!(text, "{number},")?;
     }
+    Ok(text)
+}
+
+#[test]
+fn each_of_many_is_found(rt: HostRuntime) {
+    let text = numbered(rt.alloc(), 20_000).expect(&rt, "memory");
+    let wanted = numbers_from_the_last(rt.alloc(), 20_000).expect(&rt, "memory");
     let document = declared(&rt, text.as_str());
     let found = document.root_element().text();
     same(&rt, "text", found, Some(wanted.as_str()));
-    Ok(())
 }
 
 /// How many `x` there are, where a text is nothing else.
@@ -142,19 +164,24 @@ fn opened_often(alloc: Global, count: usize) -> Result<String, AllocError> {
     Ok(text)
 }
 
-/// Each reference of the main text may open as many entities as one may.
-#[test]
-fn many_references(rt: HostRuntime) -> Result<(), Fail> {
-    let text = opened_often(rt.alloc(), 1000)?;
-    let document = declared(&rt, text.as_str());
+/// How many texts an element has as children, each of 255 `x`.
+fn texts_of_x(rt: &impl Abort, element: Node<'_, '_>) -> usize {
     let mut count: usize = 0;
-    for node in document.root_element().children() {
+    for node in element.children() {
         if node.is_text() {
             let length = count_of(node.text().unwrap_or(""));
-            same(&rt, "text", length, Some(255));
+            same(rt, "text", length, Some(255));
             count = count.saturating_add(1);
         }
     }
+    count
+}
+
+/// Each reference of the main text may open as many entities as one may.
+#[test]
+fn many_references(rt: HostRuntime) {
+    let text = opened_often(rt.alloc(), 1000).expect(&rt, "memory");
+    let document = declared(&rt, text.as_str());
+    let count = texts_of_x(&rt, document.root_element());
     same(&rt, "texts", count, 1000);
-    Ok(())
 }

@@ -65,28 +65,40 @@ fn faults(rt: HostRuntime) {
     same(&rt, text, text_pos_at(text, 1000), TextPos::new(3, 5));
 }
 
-#[test]
-fn copies_are_equal(rt: HostRuntime) -> Result<(), Fail> {
-    let error = Error::UnknownNamespace(String::from_str(rt.alloc(), "n")?, place());
-    let other = Error::UnknownNamespace(String::from_str(rt.alloc(), "m")?, place());
-    let copy = error.clone()?;
-    assert!(rt; error == copy);
-    assert!(rt; error != other);
-    same(&rt, "pos", copy.pos(), place());
-    same(&rt, "pos", Error::NoRootNode.pos(), TextPos::new(1, 1));
-    Ok(())
+/// The error of a prefix that is not declared.
+fn unknown(rt: &(impl Abort + AllocGlobal), prefix: &str, pos: TextPos) -> Error<'static> {
+    let prefix = String::from_str(rt.alloc(), prefix).expect(rt, "memory");
+    Error::UnknownNamespace(prefix, pos)
 }
 
 #[test]
-fn errors_of_texts_are_values(rt: HostRuntime) -> Result<(), Fail> {
-    let error = refusal_of(&rt, "<e p:a=''/>");
-    let name = String::from_str(rt.alloc(), "p")?;
-    let wanted = Error::UnknownNamespace(name, TextPos::new(1, 4));
-    assert!(rt; error == wanted);
-    assert!(rt; error.clone()? == error);
-    assert!(rt; error != refusal_of(&rt, "<e q:a=''/>"));
+fn copies_are_equal(rt: HostRuntime) {
+    let error = unknown(&rt, "n", place());
+    let copy = error.clone().expect(&rt, "memory");
+    assert!(rt; error == copy);
+    same(&rt, "pos", copy.pos(), place());
+}
+
+#[test]
+fn errors_of_one_kind_differ_by_name(rt: HostRuntime) {
+    let error = unknown(&rt, "n", place());
+    let other = unknown(&rt, "m", place());
+    assert!(rt; error != other);
+}
+
+#[test]
+fn errors_of_texts_are_values(rt: HostRuntime) {
+    let error = unknown(&rt, "p", TextPos::new(1, 4));
+    let read = refusal_of(&rt, "<e p:a=''/>");
+    assert!(rt; error == read);
+    let other = refusal_of(&rt, "<e q:a=''/>");
+    assert!(rt; error != other);
+}
+
+#[test]
+fn errors_without_a_place_stand_at_the_start(rt: HostRuntime) {
+    same(&rt, "pos", Error::NoRootNode.pos(), TextPos::new(1, 1));
     same(&rt, "pos", Error::OutOfMemory.pos(), TextPos::new(1, 1));
-    Ok(())
 }
 
 /// A list of one position, whose growth may be refused.
