@@ -44,6 +44,7 @@ pub mod Onward
 pub mod Measures
 pub mod Weights
 pub mod Bound
+pub mod Pieces
 pub mod CharSigns
 pub mod CharItems
 pub mod Chains
