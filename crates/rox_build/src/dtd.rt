@@ -25,7 +25,7 @@ use rox_values::entities::Entities;
 use rox_values::refused::Refused;
 use std::alloc::Global;
 
-/// The replacement text that is answered for an external entity, if any is. The request ends at `at`.
+/// The replacement text that is answered for an external entity, if any is. It is asked for at `at`.
 fn answer_for<'input, R: EntityResolver<'input>>(
     id: ExternalId<'input>,
     at: usize,

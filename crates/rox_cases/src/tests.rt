@@ -11,6 +11,7 @@ mod messages;
 mod opening;
 mod paths;
 mod refusals;
+mod requests;
 mod resolvers;
 mod slices;
 mod sources;

@@ -24,7 +24,7 @@ impl<'w> Error<'w> {
         }
     }
 
-    /// The error of a resolver that refused the request which ends at `at` of `text`, with these words.
+    /// The error of a resolver that refused the request which `text` makes at `at`, with these words.
     #[cold]
     pub fn from_resolver(text: &str, at: usize, words: String) -> Error<'w>
         ensures { result ≡ error.EntityResolver (position_at text.now at) words }

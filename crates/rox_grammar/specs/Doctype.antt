@@ -41,10 +41,11 @@ pub data IsExternalID (src : List ℕ) : ℕ → Request → ℕ → Type 0 wher
       → IsExternalID src i (record { public_id = Some (slice src (p + 1) d); uri = slice src (s + 1) e }) j
 
 -- XML 4.2.2 [76] NDataDecl, of a general entity alone. White space before it may be none, where [76] wants some, and the name may
--- have a colon, which NS 7 forbids. The entity may be referred to, which 4.1 (Parsed Entity) forbids.
+-- have a colon, which NS 7 forbids. The entity may be referred to, which 4.1 (Parsed Entity) forbids. Without it there is the white
+-- space that 4.2 [71] GEDecl has before its `>`.
 pub data MayHaveNotation (src : List ℕ) : (parameter : Bool) → ℕ → ℕ → Type 0 where
   notation : (i s j : ℕ) → at word.NData src (spaces_end src i) ≡ true → IsSpace src (spaces_end src i + 5) s → IsName src s j → MayHaveNotation src false i j
-  no_notation : (i : ℕ) → at word.NData src (spaces_end src i) ≡ false → MayHaveNotation src false i i
+  no_notation : (i : ℕ) → at word.NData src (spaces_end src i) ≡ false → MayHaveNotation src false i (spaces_end src i)
   of_parameter : (i : ℕ) → MayHaveNotation src true i i
 
 -- The text is cut off where the name of a notation should stand: what is asked stands before it.

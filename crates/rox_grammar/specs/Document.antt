@@ -115,8 +115,8 @@ pub record IsTreeOf (src : List ℕ) (dtd : Bool) (asked : List Asked) (nodes_li
 abbrev pub Permits : (allow dtd : Bool) → Type 0
 Permits allow dtd = dtd ≡ true → allow ≡ true
 
--- After these were asked, in order, this is asked next: the declaration of an external entity is read up to p, where its
--- request ends, and everything before it is as the grammar wants.
+-- After these were asked, in order, this is asked next: the declaration of an external entity is read up to p, where the
+-- request is made, and everything before it is as the grammar wants.
 pub record AsksNext (src : List ℕ) (asked : List Asked) (request : Request) (p : ℕ) : Type 0 where
   pub declared_to : ℕ
   pub declaration : MayDeclare src (after_bom src) declared_to

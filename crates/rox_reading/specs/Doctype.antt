@@ -74,11 +74,12 @@ external_id_at src i =
 unfoldable pub name_or_end_at : List ℕ → ℕ → Read (List ℕ)
 name_or_end_at src i = if nat_le (length src) i then Ok ([], i) else name_at src i
 
+-- up to where a resolver is asked: a general entity's white space is read until then
 unfoldable pub notation_at : (parameter : Bool) → List ℕ → ℕ → Read (Unit {0})
 notation_at parameter src i =
     if parameter then Ok (tt, i)
     else if at word.NData src (spaces_end src i) then (space_at src (spaces_end src i + 5) >>= λ s. name_or_end_at src s.1 >>= λ name. Ok (tt, name.1))
-    else Ok (tt, i)
+    else Ok (tt, spaces_end src i)
 
 pub data Definition : Type 0 where
   inner : Replacement → Definition
@@ -129,7 +130,7 @@ abbrev pub other_replies : List Reply → List Reply
 other_replies [] = []
 other_replies (r ∷ rs) = rs
 
--- the reply to a request that ends at p
+-- the reply to a request that is made at p
 abbrev pub replied : Request → ℕ → Reply → Asks (Option Replacement)
 replied request p (Err message) = ([], Err (refused request p message))
 replied request p (Ok answer) = (record { request = request; answer = answer } ∷ [], answer_text answer)

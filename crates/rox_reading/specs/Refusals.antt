@@ -8,7 +8,7 @@ pub data Refusal : Type 0 where
   here : Fault → Refusal
   -- in another, which is this
   there : (source : List ℕ) → Fault → Refusal
-  -- the resolver refused this request, which ends at this place of the main text, with this message
+  -- the resolver refused this request, which is made at this place of the main text, with this message
   refused : Request → ℕ → (message : List ℕ) → Refusal
 
 -- it says what is wrong with the text, and is not the resolver's own

@@ -134,7 +134,8 @@ impl<'input> Cursor<'input> {
         self.name()
     }
 
-    /// The notation of an external entity, if one is named here (XML 1.0 [76] NDataDecl). A parameter entity has none.
+    /// White space and the notation of an external entity, if one is named here (XML 1.0 [76] NDataDecl). A parameter entity
+    /// has none, and no white space is read for it.
     #[tactic(auto, unfolding(rox_reading::specs::Doctype::notation_at))]
     fn notation(&mut self, parameter: bool) -> Result<(), Fault>
         ensures value { Reads (λ x. x) self.new result (spec.notation_at parameter self.old.text.now self.old.pos) }
@@ -144,15 +145,13 @@ impl<'input> Cursor<'input> {
         if parameter {
             return Ok(());
         }
-        let mut behind = Cursor::at(self.text, self.pos);
-        behind.spaces();
-        if !behind.starts(Word::NData) {
+        self.spaces();
+        if !self.starts(Word::NData) {
             return Ok(());
         }
-        behind.skip(Word::NData);
-        behind.space()?;
-        let _name = behind.name_or_end()?;
-        self.pos = behind.pos;
+        self.skip(Word::NData);
+        self.space()?;
+        let _name = self.name_or_end()?;
         Ok(())
     }
 

@@ -197,7 +197,7 @@ notation_onward src parameter i j (notation _ s _ opens before name) =
     let h = run_onward is_space src i in
     let g = name_onward src s j name in
     omega (arith, h, g, before.some)
-notation_onward src parameter i j (no_notation _ none) = omega arith
+notation_onward src parameter i j (no_notation _ none) = run_onward is_space src i
 notation_onward src parameter i j (of_parameter _) = omega arith
 
 definition_onward : (src : List ℕ) (parameter : Bool) (i j : ℕ) (asked : List Asked) (text : _) → IsDefinition src parameter i j asked text → i ≤ j

@@ -200,7 +200,7 @@ notation_sound false src i x h =
       | inl name ↦ inl (subst (MayHaveNotation src false i) e (notation i s.1 n.1 is sp name.0))
       | inr cut ↦ inr (let e' : s.1 ≡ x.1 = sym cut.1 ∙ e in record { is_general = refl; opens = is; space_behind = subst (IsSpace src (spaces_end src i + 5)) e' sp; cut = subst (λ (k : ℕ). length src ≤ k) e' cut.0 })
     ])))
-    (λ none h. let e : i ≡ x.1 = ap (λ p. p.1) (ok_same _ _ h) in inl (subst (MayHaveNotation src false i) e (no_notation i none)))
+    (λ none h. let e : spaces_end src i ≡ x.1 = ap (λ p. p.1) (ok_same _ _ h) in inl (subst (MayHaveNotation src false i) e (no_notation i none)))
 
 -- what stands there is read
 pub notation_complete : (parameter : Bool) (src : List ℕ) (i j : ℕ) → IsUtf8 src → MayHaveNotation src parameter i j → notation_at parameter src i ≡ Ok (tt, j)

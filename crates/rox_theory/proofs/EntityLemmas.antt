@@ -214,7 +214,7 @@ module _ (src : List ℕ) (utf8 : IsUtf8 src) where
   notation_moves parameter i j (notation _ s _ is sp name) =
       let l = name.longest in let some = sp.some in
       omega (arith, run_end_le is_space src i, run_end_le is_name_char src s)
-  notation_moves parameter i j (no_notation _ none) = omega arith
+  notation_moves parameter i j (no_notation _ none) = omega (arith, run_end_le is_space src i)
   notation_moves parameter i j (of_parameter _) = omega arith
 
   definition_moves : (parameter : Bool) (i j : ℕ) (asked : List Asked) (text : Option Replacement) → IsDefinition src parameter i j asked text → i < j

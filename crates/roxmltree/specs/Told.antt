@@ -19,7 +19,7 @@ use Rattle.rox_values.specs.declared.refused.Refused.TheVariants as why
 use Rattle.roxmltree.specs.Doc.{Doc}
 
 -- The error is what a caller is told of the refusal of this text: of a fault its kind, its names and its position in the source
--- that it counts in, of the resolver's own its words, at the end of the request in the text.
+-- that it counts in, of the resolver's own its words, where the text makes the request.
 abbrev pub IsTold : (text : List ℕ) → Refusal → Error → Type 0
 IsTold text (here f) e = NamesText text f × IsErrorOf text f e
 IsTold text (there source f) e = NamesText source f × IsErrorOf source f e

@@ -49,17 +49,19 @@ impl<'input> Document<'input> {
         Document::parse_with_options(alloc, text, ParsingOptions::default())
     }
 
-    /// The same by options. A document type declaration may stand where `opt.allow_dtd` says so. Then each external entity that
-    /// it declares is asked of the resolver, in order, and there are answers, allowed by its relation `allows`, with which the
-    /// tree is the text's (`is_parse`). There are at most `opt.nodes_limit` nodes, the root node counted, and the key is
+    /// The same by options. A document type declaration may stand where `opt.allow_dtd` says so. Then the resolver is asked for
+    /// the external entities that it declares, and there are answers, allowed by its relation `allows`, with which the tree is
+    /// the text's (`is_parse`). That each declaration is asked for once, in order, and that these answers are the ones that were
+    /// given, is shown by tests alone. There are at most `opt.nodes_limit` nodes, the root node counted, and the key is
     /// `opt.document_key`.
     ///
-    /// An `Err` but `Error::OutOfMemory` and `Error::EntityResolver` says that no parse within the limits has answers that begin
-    /// with those that were given for what the text had asked (`no_parse`). `Error::EntityResolver` has words that the
-    /// resolver may refuse that request with, and stands at its end (`resolver`). By the clause `fault` any other error is that of
-    /// a fault which stands there by the grammar, after what was asked until then. Its kind, its position and its names are those
-    /// of the source that it counts in: this text, or a replacement text of an entity, or an answer. By the clause `first` each
-    /// error is that of what reading from left to right meets first.
+    /// An `Err` but `Error::OutOfMemory` and `Error::EntityResolver` says that there are answers, allowed by the relation, to what
+    /// the text asks for, such that no parse within the limits has answers that begin with them (`no_parse`).
+    /// `Error::EntityResolver` has words that the resolver may refuse that request with, and stands where it is made
+    /// (`resolver`). By the clause `fault` any other error is that of a fault which stands there by the grammar, after what was
+    /// asked until then. Its kind, its position and its names are those of the source that it counts in: this text, or a
+    /// replacement text of an entity, or an answer. By the clause `first` each error is that of what reading from left to right
+    /// meets first.
     pub fn parse_with_options<'w, R: EntityResolver<'input> + Drop>(
         alloc: Global,
         text: &'input str,
