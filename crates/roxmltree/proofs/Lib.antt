@@ -6,9 +6,6 @@ pub mod Tops
 pub mod Parsed
 pub mod Telling
 pub mod Plain
-pub mod Bounded
-pub mod Apart
-pub mod Once
 pub mod Entries
 pub mod Prefixes
 pub mod Parts
@@ -18,16 +15,6 @@ pub mod Stretches
 pub mod Ranges
 pub mod Few
 pub mod FewAttributes
-pub mod CharNodes
-pub mod Forward
-pub mod Nested
-pub mod RangeSteps
-pub mod Each
-pub mod Selected
-pub mod Sections
 pub mod Everywhere
-pub mod Scopes
-pub mod Nearest
-pub mod OnlyOne
 pub mod Contained
 pub mod Sliced

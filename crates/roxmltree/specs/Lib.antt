@@ -6,11 +6,7 @@ pub mod Stored
 pub mod Flat
 pub mod Doc
 pub mod Whole
-pub mod Lawful
 pub mod Each
-pub mod Located
-pub mod Sections
-pub mod Nearest
 pub mod Names
 pub mod Reach
 pub mod Listed
@@ -24,22 +20,18 @@ pub mod Axis
 pub mod Speaks
 pub mod Told
 pub mod Alone
-pub mod Bounded
 -- what the public clauses cite of the crates below
 pub use Rattle.rox_grammar.specs.Forest
 pub use Rattle.rox_grammar.specs.Written
 pub use Rattle.rox_grammar.specs.Tree
 pub use Rattle.rox_grammar.specs.Document
 pub use Rattle.rox_grammar.specs.Doctype
-pub use Rattle.rox_grammar.specs.Entities
-pub use Rattle.rox_grammar.specs.Expansion
 pub use Rattle.rox_grammar.specs.Exchange
 pub use Rattle.rox_grammar.specs.Faults
 pub use Rattle.rox_grammar.specs.Refused
 pub use Rattle.rox_grammar.specs.Spans
 pub use Rattle.rox_grammar.specs.Positions
 pub use Rattle.rox_grammar.specs.declared.fault.Fault
-pub use Rattle.rox_theory.specs.Answers
 pub use Rattle.rox_reading.specs.Whole as Reading
 pub use Rattle.rox_reading.specs.Refusals
 pub use Rattle.rox_reading.specs.Doctype as Replies

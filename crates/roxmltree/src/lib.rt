@@ -4,7 +4,6 @@
 mod contents;
 mod debug;
 mod elements;
-pub mod exchanges;
 pub mod laws;
 mod lookups;
 mod names;
@@ -14,7 +13,6 @@ mod order;
 mod parse;
 mod positions;
 mod slices;
-pub mod theorem;
 mod tree;
 mod walks;
 

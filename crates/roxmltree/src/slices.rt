@@ -1,6 +1,6 @@
 //! Elements that stand by themselves in the text: parsed alone, and put in the place of others.
 
-ghost use Rattle.std.specs.Prelude.{◌≡◌, ℕ, true, IfOk, IfErr};
+ghost use Rattle.std.specs.Prelude.{◌≡◌, ℕ, true, false, IfOk, IfErr};
 ghost use Rattle.rox_grammar.specs.Names.{slice};
 ghost use Rattle.roxmltree.specs.Says.{listed_of};
 ghost use Rattle.rox_grammar.specs.Exchange.{none_of, start_at, end_at, IsReparse, IsExchange};
@@ -29,11 +29,13 @@ impl<'a, 'input> Node<'a, 'input> {
     }
 
     /// The document of its part of the text: this element alone, with what is below it, all ranges counted from its start. Its
-    /// key is 0. It fails only for want of memory.
+    /// key is 0, and it has no document type declaration, so that its root element may be exchanged for others. It fails only for
+    /// want of memory.
     pub fn reparse(&self, alloc: Global) -> Result<Document<'input>, Error<'static>>
         requires { stands_alone (document_of self.now) (id_of self.now) ≡ true }
         ensures node { IfOk result (λ d. IsReparse (tree_of self.now) (document_of self.now).text (id_of self.now) d.tree d.text) }
         ensures key { IfOk result (λ d. d.key ≡ 0) }
+        ensures dtd { IfOk result (λ d. d.dtd ≡ false) }
         ensures memory { IfErr result (λ e. e ≡ Error.OutOfMemory) }
     {
         self.document.whole();

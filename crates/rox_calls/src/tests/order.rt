@@ -1,7 +1,7 @@
 //! Nodes compared, and hashed.
 
 use super::{document_of, node_of, refusal_of};
-use roxmltree::laws::{next_then_prev, order_agrees_with_equality, order_is_by_document};
+use rox_laws::laws::{next_then_prev, order_agrees_with_equality, order_is_by_document};
 use roxmltree::{Document, NodeId, ParsingOptions, TextPos};
 use std::cmp::Ordering;
 use std::hash::{BuildHasher, BuildHasherDefault, FoldHasher, Hash};

@@ -1,0 +1,86 @@
+-- A fault that stands in a literal of the text is told at its place in the text.
+use Rattle.std.proofs.Common.{◌≡◌, ℕ, ◌<◌, Bool, true, List, length, take, refl, sym, ap, ◌∙◌, subst, inl, inr, arith, length-take}
+use Rattle.std.specs.Prelude.{◌⊎◌}
+use Rattle.std.specs.Str.{IsUtf8}
+use Rattle.std.proofs.lemmas.Str.{IsUtf8-take}
+use Rattle.rox_grammar.specs.declared.fault.Fault.{Fault}
+use Rattle.rox_grammar.specs.Forest.{Forest}
+use Rattle.rox_grammar.specs.Written.{Item}
+use Rattle.rox_grammar.specs.Names.{byte}
+use Rattle.rox_grammar.specs.Content.{Opener}
+use Rattle.rox_grammar.specs.Entities.{Entity}
+use Rattle.rox_grammar.specs.Start.{after_bom}
+use Rattle.rox_grammar.specs.Doctype.{Asked}
+use Rattle.rox_grammar.specs.Spans.{NamesText}
+use Rattle.rox_grammar.specs.Faults.{FaultFrom}
+use Rattle.rox_grammar.specs.Faults as faults
+use Rattle.rox_grammar.specs.Refused.{InDoctype, RefusalOf}
+use Rattle.rox_grammar.specs.Refused as refused
+use Rattle.rox_error.specs.declared.error.Error.{Error}
+use Rattle.rox_error.specs.Telling.{IsErrorOf}
+use Rattle.rox_theory.proofs.CharTexts.{cut_at}
+use Rattle.rox_theory.proofs.DoctypeLemmas.{quoted_closes}
+use Rattle.rox_theory.proofs.LiteralLemmas.{quote_ascii}
+use Rattle.rox_laws.specs.Sources.{IsLiteralIn}
+use Rattle.rox_laws.proofs.Counted.{IsPlaced, told_same}
+use Rattle.rox_laws.proofs.Placed.{declaration_placed, value_placed, stands_placed}
+
+-- the fault stands in the text itself, or its place lies in the source
+abbrev IsOwn : List ℕ → List ℕ → Fault → Type 0
+IsOwn text source f = (source ≡ text) ⊎ IsPlaced source f
+
+from_placed : (opens : ℕ → Opener) (es : List Entity) (limit : ℕ) (text : List ℕ) (declared : Bool) (Front : ℕ → Forest Item → Type 0) (source : List ℕ) (f : Fault) → IsUtf8 source → FaultFrom opens es limit text declared Front source f
+    → IsOwn text source f
+from_placed opens es limit text declared Front source f utf8 (faults.FaultFrom.in_misc_ahead p items _ front fits ill) = inl refl
+from_placed opens es limit text declared Front source f utf8 (faults.FaultFrom.too_many_ahead p j items item front fits is over) = inl refl
+from_placed opens es limit text declared Front source f utf8 (faults.FaultFrom.no_root items front fits) = inl refl
+from_placed opens es limit text declared Front source f utf8 (faults.FaultFrom.unknown_ahead p items front fits inside no_space no_less) = inl refl
+from_placed opens es limit text declared Front source f utf8 (faults.FaultFrom.at_place k base b _ s _ place fits ill) = inr (stands_placed source utf8 limit es k base (opens k) s b f ill)
+from_placed opens es limit text declared Front source f utf8 (faults.FaultFrom.in_value k base b p c n v e j l i stop d src _ s as' name _ place fits tag to space named eq literal part ill) =
+    inr (value_placed source utf8 es l (opens l) i stop d f ill)
+from_placed opens es limit text declared Front source f utf8 (faults.FaultFrom.in_misc_behind p items _ behind fits ill) = inl refl
+from_placed opens es limit text declared Front source f utf8 (faults.FaultFrom.too_many_behind p j items item behind fits is over) = inl refl
+from_placed opens es limit text declared Front source f utf8 (faults.FaultFrom.unknown_behind p items behind fits inside no_space no_comment no_instruction) = inl refl
+
+doctype_placed : (limit : ℕ) (text : List ℕ) (i : ℕ) (before : Forest Item) (asked : List Asked) (source : List ℕ) (f : Fault) → InDoctype limit text i before asked source f → IsOwn text source f
+doctype_placed limit text i before asked source f (refused.InDoctype.head_lacks p t _ due lacks) = inl refl
+doctype_placed limit text i before asked source f (refused.InDoctype.no_name n is cut) = inl refl
+doctype_placed limit text i before asked source f (refused.InDoctype.in_misc p items _ _ to fits ill) = inl refl
+doctype_placed limit text i before asked source f (refused.InDoctype.too_many p j items item _ to fits is over) = inl refl
+doctype_placed limit text i before asked source f (refused.InDoctype.not_passed p items _ to fits is none) = inl refl
+doctype_placed limit text i before asked source f (refused.InDoctype.in_entity p q items _ t _ to fits is due lacks) = inl refl
+doctype_placed limit text i before asked source f (refused.InDoctype.entity_open p n m d e parameter items before' first o _ to fits begins definition lacks) = inl refl
+doctype_placed limit text i before asked source f (refused.InDoctype.entity_cut p n m d e j parameter items before' request answer o to fits begins id cuts gives) = inl refl
+doctype_placed limit text i before asked source f (refused.InDoctype.in_answer p n m d e j q parameter items first request answer t _ to fits begins id behind utf8 opens due lacks) =
+    inr (declaration_placed source utf8 (after_bom source) q t f opens due lacks)
+doctype_placed limit text i before asked source f (refused.InDoctype.end_lacks p items _ _ to fits is lacks) = inl refl
+doctype_placed limit text i before asked source f (refused.InDoctype.unknown p items _ to fits none inside) = inl refl
+doctype_placed limit text i before asked source f (refused.InDoctype.no_root items _ to fits none) = inl refl
+
+refusal_placed : (limit : ℕ) (allow : Bool) (text : List ℕ) (asked : List Asked) (source : List ℕ) (f : Fault) → IsUtf8 source → RefusalOf limit allow text asked source f → IsOwn text source f
+refusal_placed limit allow text asked source f utf8 (refused.RefusalOf.in_declaration p t _ opens due lacks) = inl refl
+refusal_placed limit allow text asked source f utf8 (refused.RefusalOf.without _ from) = inl refl
+refusal_placed limit allow text asked source f utf8 (refused.RefusalOf.not_allowed i before forbids ahead fits opens) = inl refl
+refusal_placed limit allow text asked source f utf8 (refused.RefusalOf.in_doctype i before _ _ _ may ahead fits opens inside) = doctype_placed limit text i before asked source f inside
+refusal_placed limit allow text asked source f utf8 (refused.RefusalOf.behind _ es _ _ may from) = from_placed _ es limit text true _ source f utf8 from
+
+-- a literal is cut off at its closing quote
+quoted_told : (text : List ℕ) (source : List ℕ) (f : Fault) (x : Error) → IsUtf8 text → (l : IsLiteralIn text source) → (IsUtf8 source → IsOwn text source f) → NamesText source f → IsErrorOf source f x → IsErrorOf text f x
+quoted_told text source f x utf8 l own named told =
+    let low = quote_ascii (byte text l.start) l.quoted.quote in
+    let closes : byte text l.end ≡ byte text l.start = quoted_closes text l.start l.end l.next l.quoted in
+    let ascii : byte text l.end < 128 = omega arith in
+    let inside : l.end < length text = l.quoted.closes in
+    let cut = cut_at text l.end (byte text l.start) closes (omega arith) (omega arith) in
+    let front : IsUtf8 source = subst IsUtf8 (sym l.cut_off) (IsUtf8-take text l.end utf8 cut) in
+    elim (own front) as (λ q. IsErrorOf text f x) [
+      | inl whole ↦ (
+          let same : take l.end text ≡ text = sym l.cut_off ∙ whole in
+          absurd (omega (arith, ap length same, length-take l.end text)))
+      | inr placed ↦ told_same text l.end inside ascii f x (subst (λ (s : List ℕ). IsPlaced s f) l.cut_off placed) (subst (λ (s : List ℕ). NamesText s f) l.cut_off named)
+          (subst (λ (s : List ℕ). IsErrorOf s f x) l.cut_off told)
+    ]
+
+pub literal_told : (limit : ℕ) (allow : Bool) (text : List ℕ) (asked : List Asked) (source : List ℕ) (f : Fault) (x : Error) → IsUtf8 text → RefusalOf limit allow text asked source f → IsLiteralIn text source → NamesText source f
+    → IsErrorOf source f x → IsErrorOf text f x
+literal_told limit allow text asked source f x utf8 refusal l named told = quoted_told text source f x utf8 l (λ own. refusal_placed limit allow text asked source f own refusal) named told

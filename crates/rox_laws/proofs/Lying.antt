@@ -1,0 +1,145 @@
+-- Where the source of a fault lies.
+use Rattle.std.proofs.Common.{◌≡◌, ℕ, ◌+◌, Bool, true, List, [], ◌∷◌, ◌++◌, take, drop, Option, Some, None, refl, sym, ap, subst, inl, inr, arith}
+use Rattle.std.specs.Prelude.{◌⊎◌, Contains, bytes_eq}
+use Rattle.std.proofs.lemmas.Bool.{cases_Bool}
+use Rattle.std.proofs.lemmas.List.Elements.{Contains-append_left, Contains-append_right}
+use Rattle.rox_grammar.specs.declared.fault.Fault.{Fault}
+use Rattle.rox_grammar.specs.Forest.{Forest}
+use Rattle.rox_grammar.specs.Written.{Item}
+use Rattle.rox_grammar.specs.Names.{slice}
+use Rattle.rox_grammar.specs.Content.{Opener}
+use Rattle.rox_grammar.specs.Entities.{Replacement, Entity, text_of}
+use Rattle.rox_grammar.specs.Doctype.{Request, Asked, Gives, IsDefinition, entry, Subset, IsDoctype}
+use Rattle.rox_grammar.specs.Doctype as doctype
+use Rattle.rox_grammar.specs.Document.{MayHaveDoctype}
+use Rattle.rox_grammar.specs.Document as document
+use Rattle.rox_grammar.specs.State.{State}
+use Rattle.rox_grammar.specs.Places.{Place, ValuePart, AheadDeclared}
+use Rattle.rox_grammar.specs.Places as places
+use Rattle.rox_grammar.specs.Faults.{FaultFrom}
+use Rattle.rox_grammar.specs.Faults as faults
+use Rattle.rox_grammar.specs.Refused.{InDoctype, RefusalOf}
+use Rattle.rox_grammar.specs.Refused as refused
+use Rattle.rox_laws.specs.Sources.{IsLiteralIn, IsAnswerIn}
+
+-- ---- of an entity
+
+abbrev Lies : List ℕ → List Asked → List ℕ → Type 0
+Lies text asked source = IsLiteralIn text source ⊎ IsAnswerIn asked source
+
+-- also where more was asked
+lies_among : (text : List ℕ) (asked all : List Asked) (source : List ℕ) → ((x : Asked) → Contains asked x → Contains all x) → Lies text asked source → Lies text all source
+lies_among text asked all source among (inl l) = inl l
+lies_among text asked all source among (inr a) = inr (record { request = a.request; answer = a.answer; given = among _ a.given; part = a.part })
+
+given_lies : (text : List ℕ) (request : Request) (answer : Option (List ℕ)) (o : Option Replacement) (t : Replacement) → Gives answer o → o ≡ Some t → Lies text (record { request = request; answer = answer } ∷ []) t.source
+given_lies text request answer o t doctype.Gives.nothing is = cc is
+given_lies text request answer o t (doctype.Gives.the_rest told d utf8 may) is =
+    let same : ◌≡◌ {A = Replacement} (record { source = drop d told; start = 0 }) t = cc is in
+    inr (record { request = request; answer = told; given = (0, omega arith, refl); part = inr (d, may, ap (λ (r : Replacement). r.source) (sym same)) })
+
+definition_lies : (text : List ℕ) (parameter : Bool) (i j : ℕ) (asked : List Asked) (o : Option Replacement) (t : Replacement) → IsDefinition text parameter i j asked o → o ≡ Some t → Lies text asked t.source
+definition_lies text parameter i j asked o t (doctype.IsDefinition.internal _ e _ quoted) is =
+    let same : ◌≡◌ {A = Replacement} (record { source = take e text; start = i + 1 }) t = cc is in
+    inl (record { start = i; end = e; next = j; quoted = quoted; cut_off = ap (λ (r : Replacement). r.source) (sym same) })
+definition_lies text parameter i j asked o t (doctype.IsDefinition.external _ n _ request answer _ id behind gives) is = given_lies text request answer o t gives is
+
+-- the text of a name is that of the first declaration, or of one behind it
+of_first : (own : List ℕ) (o : Option Replacement) (es : List Entity) (name : List ℕ) (t : Replacement) → text_of (entry own o ++ es) name ≡ Some t → (o ≡ Some t) ⊎ (text_of es name ≡ Some t)
+of_first own None es name t found = inr found
+of_first own (Some one) es name t found =
+    elim (cases_Bool (bytes_eq own name)) as (λ q. (Some one ≡ Some t) ⊎ (text_of es name ≡ Some t)) [
+      | inl same ↦ inl (rw same at found)
+      | inr other ↦ inr (rw other at found)
+    ]
+
+subset_lies : (text : List ℕ) (i j : ℕ) (items : Forest Item) (asked : List Asked) (es : List Entity) → Subset text i j items asked es → (name : List ℕ) (t : Replacement) → text_of es name ≡ Some t → Lies text asked t.source
+subset_lies text i j items asked es (doctype.Subset.no_more _) name t found = cc found
+subset_lies text i j items asked es (doctype.Subset.space _ _ _ _ _ is more) name t found = subset_lies text (i + 1) j items asked es more name t found
+subset_lies text i j items asked es (doctype.Subset.an_item _ k _ item rest _ _ is more) name t found = subset_lies text k j rest asked es more name t found
+subset_lies text i j items asked es (doctype.Subset.passed_over _ k _ _ _ _ is more) name t found = subset_lies text k j items asked es more name t found
+subset_lies text i j items asked es (doctype.Subset.an_entity _ k _ _ first later one others is more) name t found =
+    let found' : text_of (entry (slice text is.n is.m) is.text ++ others) name ≡ Some t = subst (λ (own : List Entity). text_of (own ++ others) name ≡ Some t) is.declares found in
+    elim (of_first (slice text is.n is.m) is.text others name t found') as (λ q. Lies text (first ++ later) t.source) [
+      | inl here ↦ lies_among text first (first ++ later) t.source (λ x. Contains-append_left first later x) (definition_lies text is.parameter is.d is.e first is.text t is.definition here)
+      | inr behind ↦ lies_among text later (first ++ later) t.source (λ x. Contains-append_right first later x) (subset_lies text k j items later others more name t behind)
+    ]
+
+itself_lies : (text : List ℕ) (i j : ℕ) (items : Forest Item) (asked : List Asked) (es : List Entity) → IsDoctype text i j items asked es → (name : List ℕ) (t : Replacement) → text_of es name ≡ Some t → Lies text asked t.source
+itself_lies text i j items asked es (doctype.IsDoctype.no_subset _ s begins closes) name t found = cc found
+itself_lies text i j items asked es (doctype.IsDoctype.with_subset _ s k _ _ _ begins opens subset ends closes) name t found = subset_lies text (s + 1) k items asked es subset name t found
+
+doctype_lies : (text : List ℕ) (i j : ℕ) (dtd : Bool) (items : Forest Item) (asked : List Asked) (es : List Entity) → MayHaveDoctype text i j dtd items asked es → (name : List ℕ) (t : Replacement) → text_of es name ≡ Some t → Lies text asked t.source
+doctype_lies text i j dtd items asked es (document.MayHaveDoctype.doctype _ k _ own rest _ _ one behind) name t found = itself_lies text i k own asked es one name t found
+doctype_lies text i j dtd items asked es (document.MayHaveDoctype.no_doctype _) name t found = cc found
+
+-- ---- of a fault
+
+-- a source is the text, or that of an entity
+abbrev IsOf : List ℕ → List Entity → List ℕ → Type 0
+IsOf text es source = (source ≡ text) ⊎ ((name : List ℕ) × (t : Replacement) × (text_of es name ≡ Some t) × (source ≡ t.source))
+
+module _ (opens : ℕ → Opener) (es : List Entity) (text : List ℕ) where
+  place_of : (Root : ℕ → Forest Item → Type 0) (k base b : ℕ) (src : List ℕ) (s : State) → Place opens es text Root k base src b s → IsOf text es src
+  place_of Root k base b src s (places.Place.begins p items is) = inl refl
+  place_of Root k base b src s (places.Place.goes _ _ l c _ t u before takes inner deep) = place_of Root k base l src t before
+  place_of Root k base b src s (places.Place.enters i at l c r stop p j from u front t before inner run parts named below refers may) = inr (_, t, refers.found, refl)
+
+  place_root : (Root : ℕ → Forest Item → Type 0) (k base b : ℕ) (src : List ℕ) (s : State) → Place opens es text Root k base src b s → (p : ℕ) × (items : Forest Item) × Root p items
+  place_root Root k base b src s (places.Place.begins p items is) = (p, items, is)
+  place_root Root k base b src s (places.Place.goes _ _ l c _ t u before takes inner deep) = place_root Root k base l src t before
+  place_root Root k base b src s (places.Place.enters i at l c r stop p j from u front t before inner run parts named below refers may) = place_root Root i at l from u before
+
+  part_of : (k : ℕ) (src : List ℕ) (start end b l : ℕ) (part : List ℕ) (i stop d : ℕ) → IsOf text es src → ValuePart opens es k src start end b l part i stop d → IsOf text es part
+  part_of k src start end b l part i stop d of places.ValuePart.itself = of
+  part_of k src start end b l part i stop d of (places.ValuePart.opened n x y z c r p j from t before to below refers may) = inr (_, t, refers.found, refl)
+
+  from_of : (limit : ℕ) (declared : Bool) (Front : ℕ → Forest Item → Type 0) (source : List ℕ) (f : Fault) → FaultFrom opens es limit text declared Front source f
+      → (source ≡ text) ⊎ (((p : ℕ) × (items : Forest Item) × Front p items) × IsOf text es source)
+  from_of limit declared Front source f (faults.FaultFrom.in_misc_ahead p items _ front fits ill) = inl refl
+  from_of limit declared Front source f (faults.FaultFrom.too_many_ahead p j items item front fits is over) = inl refl
+  from_of limit declared Front source f (faults.FaultFrom.no_root items front fits) = inl refl
+  from_of limit declared Front source f (faults.FaultFrom.unknown_ahead p items front fits inside no_space no_less) = inl refl
+  from_of limit declared Front source f (faults.FaultFrom.at_place k base b _ s _ place fits ill) =
+      let root = place_root _ k base b source s place in
+      inr ((root.0, root.1, root.2.0), place_of _ k base b source s place)
+  from_of limit declared Front source f (faults.FaultFrom.in_value k base b p c n v e j l i stop d src _ s as' name _ place fits tag to space named eq literal part ill) =
+      let root = place_root _ k base b src s place in
+      inr ((root.0, root.1, root.2.0), part_of k src (v + 1) e c l source i stop d (place_of _ k base b src s place) part)
+  from_of limit declared Front source f (faults.FaultFrom.in_misc_behind p items _ behind fits ill) = inl refl
+  from_of limit declared Front source f (faults.FaultFrom.too_many_behind p j items item behind fits is over) = inl refl
+  from_of limit declared Front source f (faults.FaultFrom.unknown_behind p items behind fits inside no_space no_comment no_instruction) = inl refl
+
+-- in a document type declaration it is the text, or an answer as a whole
+in_doctype : (limit : ℕ) (text : List ℕ) (i : ℕ) (before : Forest Item) (asked : List Asked) (source : List ℕ) (f : Fault) → InDoctype limit text i before asked source f → (source ≡ text) ⊎ IsAnswerIn asked source
+in_doctype limit text i before asked source f (refused.InDoctype.head_lacks p t _ due lacks) = inl refl
+in_doctype limit text i before asked source f (refused.InDoctype.no_name n is cut) = inl refl
+in_doctype limit text i before asked source f (refused.InDoctype.in_misc p items _ _ to fits ill) = inl refl
+in_doctype limit text i before asked source f (refused.InDoctype.too_many p j items item _ to fits is over) = inl refl
+in_doctype limit text i before asked source f (refused.InDoctype.not_passed p items _ to fits is none) = inl refl
+in_doctype limit text i before asked source f (refused.InDoctype.in_entity p q items _ t _ to fits is due lacks) = inl refl
+in_doctype limit text i before asked source f (refused.InDoctype.entity_open p n m d e parameter items before' first o _ to fits begins definition lacks) = inl refl
+in_doctype limit text i before asked source f (refused.InDoctype.entity_cut p n m d e j parameter items before' request answer o to fits begins id cuts gives) = inl refl
+in_doctype limit text i before asked source f (refused.InDoctype.in_answer p n m d e j q parameter items first request answer t _ to fits begins id behind utf8 opens due lacks) =
+    inr (record { request = request; answer = source; given = Contains-append_right first _ _ (0, omega arith, refl); part = inl refl })
+in_doctype limit text i before asked source f (refused.InDoctype.end_lacks p items _ _ to fits is lacks) = inl refl
+in_doctype limit text i before asked source f (refused.InDoctype.unknown p items _ to fits none inside) = inl refl
+in_doctype limit text i before asked source f (refused.InDoctype.no_root items _ to fits none) = inl refl
+
+pub source_lies : (limit : ℕ) (allow : Bool) (text : List ℕ) (asked : List Asked) (source : List ℕ) (f : Fault) → RefusalOf limit allow text asked source f → (source ≡ text) ⊎ (IsLiteralIn text source ⊎ IsAnswerIn asked source)
+source_lies limit allow text asked source f (refused.RefusalOf.in_declaration p t _ opens due lacks) = inl refl
+source_lies limit allow text asked source f (refused.RefusalOf.without _ from) = inl refl
+source_lies limit allow text asked source f (refused.RefusalOf.not_allowed i before forbids ahead fits opens) = inl refl
+source_lies limit allow text asked source f (refused.RefusalOf.in_doctype i before _ _ _ may ahead fits opens inside) =
+    elim (in_doctype limit text i before asked source f inside) as (λ q. (source ≡ text) ⊎ (IsLiteralIn text source ⊎ IsAnswerIn asked source)) [
+      | inl own ↦ inl own
+      | inr answered ↦ inr (inr answered)
+    ]
+source_lies limit allow text asked source f (refused.RefusalOf.behind _ es _ _ may from) =
+    elim (from_of _ es text limit true _ source f from) as (λ q. (source ≡ text) ⊎ (IsLiteralIn text source ⊎ IsAnswerIn asked source)) [
+      | inl own ↦ inl own
+      | inr (front, inl own) ↦ inl own
+      | inr (front, inr (name, t, found, is)) ↦ (
+          let declared : AheadDeclared text asked es front.0 front.1 = front.2 in
+          inr (subst (λ (s : List ℕ). IsLiteralIn text s ⊎ IsAnswerIn asked s) (sym is) (doctype_lies text declared.begun front.0 true declared.nodes asked es declared.doctype name t found)))
+    ]

@@ -1,0 +1,11 @@
+use Rattle.std.proofs.Common.{◌≡◌, ◌+◌, ◌≤◌}
+use Rattle.roxmltree.specs.Says.{attributes_of}
+use Rattle.roxmltree.specs.Spot.{item_of}
+use Rattle.roxmltree.specs.Names.{expanded}
+use Rattle.rox_laws.proofs.OnlyOne.{how_many}
+use Rattle.rox_laws.proofs.laws.one_attribute_or_none.Given as goal
+
+abbrev pub invariant-loop-attribute : goal.invariant-loop-attribute
+invariant-loop-attribute l =
+    (l.count + how_many (expanded l.name) l.attribute-iterator ≡ how_many (expanded l.name) (attributes_of (item_of l.fn.node)))
+    × (how_many (expanded l.name) (attributes_of (item_of l.fn.node)) ≤ 1)

@@ -1,0 +1,6 @@
+use Rattle.std.proofs.Common.{[]}
+use Rattle.rox_theory.proofs.FaultNever.{no_false_faults}
+use Rattle.rox_laws.proofs.theorem.faults_refuse.Goals as goal
+
+pub returns : goal.returns
+returns c = λ text limit f tree utf8 stands is. no_false_faults limit text f [] is.written utf8 stands is.parse is.within

@@ -1,0 +1,5 @@
+use Rattle.rox_theory.proofs.FaultRefusing.{refused_never}
+use Rattle.rox_laws.proofs.theorem.refusals_refuse.Goals as goal
+
+pub returns : goal.returns
+returns c = λ text source limit allow dtd asked given f tree utf8 stands is permits same. refused_never limit allow dtd text source asked given f is.written utf8 stands is.parse is.within permits same

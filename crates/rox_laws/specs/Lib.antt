@@ -1,0 +1,11 @@
+pub mod Bounded
+pub mod Lawful
+pub mod Located
+pub mod Nearest
+pub mod Sections
+pub mod Sources
+-- what the clauses cite of the crates below
+pub use Rattle.rox_grammar.specs.Written
+pub use Rattle.rox_grammar.specs.Entities
+pub use Rattle.rox_grammar.specs.Expansion
+pub use Rattle.rox_theory.specs.Answers

@@ -1,0 +1,19 @@
+-- The sources that faults stand in: the text, a replacement text that the text declares by a literal, and what was answered.
+use Rattle.std.specs.Prelude.{◌≡◌, ◌⊎◌, ℕ, List, Some, Contains, take, drop}
+use Rattle.rox_grammar.specs.Start.{after_bom, MayDeclare}
+use Rattle.rox_grammar.specs.Doctype.{Request, Asked, IsQuoted}
+
+-- XML 4.2 [73]: the text up to the closing quote of a literal in it. So its places are those of the text.
+pub record IsLiteralIn (text source : List ℕ) : Type 0 where
+  pub start : ℕ
+  pub end : ℕ
+  pub next : ℕ
+  pub quoted : IsQuoted text start end next
+  pub cut_off : source ≡ take end text
+
+-- XML 4.3.1: a text that was answered, or what follows a byte order mark and a declaration in it
+pub record IsAnswerIn (asked : List Asked) (source : List ℕ) : Type 0 where
+  pub request : Request
+  pub answer : List ℕ
+  pub given : Contains asked (record { request = request; answer = Some answer })
+  pub part : (source ≡ answer) ⊎ ((d : ℕ) × MayDeclare answer (after_bom answer) d × (source ≡ drop d answer))

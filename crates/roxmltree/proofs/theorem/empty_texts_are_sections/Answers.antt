@@ -1,6 +1,0 @@
-use Rattle.roxmltree.proofs.Sections.{empty_texts}
-use Rattle.roxmltree.proofs.Plain.{plain_document}
-use Rattle.roxmltree.proofs.theorem.empty_texts_are_sections.Goals as goal
-
-pub returns : goal.returns
-returns c none = empty_texts _ _ _ (plain_document c.args.document.now c.whole.ensures.utf8 none c.whole.ensures.parsed)
