@@ -15,7 +15,7 @@ use Rattle.rox_grammar.specs.Document.{Misc, no_misc, space, an_item, MayHaveDoc
 use Rattle.rox_theory.proofs.Basics.{mark_from_le}
 use Rattle.rox_theory.proofs.DeclarationLemmas.{stands_fits}
 use Rattle.rox_theory.proofs.StretchLemmas.{slice_length}
-use Rattle.rox_theory.specs.Pieces.{Piece, written_in, Writes, parts_pieces, element_pieces, content_pieces, writes, pieces_of, merged, IsSourceIn, IsEmptySection, EmptyAreSections, EmptyTextsAreSections}
+use Rattle.rox_theory.specs.Pieces.{Piece, written_in, Writes, parts_pieces, element_pieces, content_pieces, writes, pieces_of, merged, IsSourceIn, IsEmptySection, EmptyAreSections, OnlySectionsAreEmpty}
 
 -- ---- what has no byte
 
@@ -151,11 +151,11 @@ opens_made text es (suc d) main =
     let inner = opens_made text es d false in
     record {
       content = λ name b items c (t, r, l, found, spends, is).
-      content_made text es t.source (inr (name, t, found, refl)) false (Opens es d false) (writes es d false) inner t.start (length t.source) r l items is;
+          content_made text es t.source (inr (name, t, found, refl)) false (Opens es d false) (writes es d false) inner t.start (length t.source) r l items is;
     }
 
 -- a parse
-pub parse_made : (src : List ℕ) (dtd : Bool) (asked : List Asked) (tree : Forest Item) (p : ParseOf src dtd asked tree) → EmptyTextsAreSections src p.entities tree (pieces_of src dtd asked tree p)
+pub parse_made : (src : List ℕ) (dtd : Bool) (asked : List Asked) (tree : Forest Item) (p : ParseOf src dtd asked tree) → OnlySectionsAreEmpty src p.entities tree (pieces_of src dtd asked tree p)
 parse_made src dtd asked tree p =
     let known : IsSourceIn src p.entities src = inl refl in
     let before = all_made src p.entities src known p.declared_to p.begun p.before p.misc_before in

@@ -94,6 +94,6 @@ EmptyAreSections text es (Cons p children rest) =
 
 -- The texts of the tree are made of these pieces, and an empty piece is an empty CDATA section of the text or of an entity's. So a text
 -- is empty only where all its pieces are such sections.
-pub record EmptyTextsAreSections (text : List ℕ) (es : List Entity) (tree : Forest Item) (pieces : Forest Piece) : Type 0 where
+pub record OnlySectionsAreEmpty (text : List ℕ) (es : List Entity) (tree : Forest Item) (pieces : Forest Piece) : Type 0 where
   pub made : tree ≡ merged pieces
   pub sections : EmptyAreSections text es pieces

@@ -7,7 +7,7 @@ ghost use Rattle.rox_grammar.specs.Doctype.{Asked};
 ghost use Rattle.rox_grammar.specs.Document.{ParseOf};
 ghost use Rattle.rox_theory.specs.Apart.{Apart, AnyElement};
 ghost use Rattle.rox_theory.specs.CharItems.{ItemsChars};
-ghost use Rattle.rox_theory.specs.Pieces.{pieces_of, EmptyTextsAreSections};
+ghost use Rattle.rox_theory.specs.Pieces.{pieces_of, OnlySectionsAreEmpty};
 
 /// All that they say are texts of Chars, also what entities give.
 pub fn items_are_chars()
@@ -21,7 +21,7 @@ pub fn texts_are_apart()
 
 /// A text is empty only where all its pieces are empty CDATA sections, also where entities give them, at any depth.
 pub fn empty_texts_are_sections()
-    ensures { (src : List ℕ) (dtd : Bool) (asked : List Asked) (tree : Forest Item) (p : ParseOf src dtd asked tree) → EmptyTextsAreSections src p.entities tree (pieces_of src dtd asked tree p) }
+    ensures { (src : List ℕ) (dtd : Bool) (asked : List Asked) (tree : Forest Item) (p : ParseOf src dtd asked tree) → OnlySectionsAreEmpty src p.entities tree (pieces_of src dtd asked tree p) }
 {}
 
 /// There is an element at the top.
