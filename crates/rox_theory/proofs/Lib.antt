@@ -44,6 +44,8 @@ pub mod Onward
 pub mod Measures
 pub mod Weights
 pub mod Bound
+pub mod Pieces
+pub mod Longest
 pub mod CharSigns
 pub mod CharItems
 pub mod Chains

@@ -5,3 +5,4 @@ pub mod CharItems
 pub mod Apart
 pub mod Answers
 pub mod Limits
+pub mod Pieces

@@ -1,12 +1,13 @@
 //! What entities add to a text.
 
-ghost use Rattle.std.specs.Prelude.{◌≡◌, ◌≤◌, ℕ, Bool, false, List, []};
+ghost use Rattle.std.specs.Prelude.{◌≡◌, ◌≤◌, ℕ, Bool, false, List, [], length, max};
 ghost use Rattle.rox_grammar.specs.Forest.{Forest};
 ghost use Rattle.rox_grammar.specs.Written.{Item};
 ghost use Rattle.rox_grammar.specs.Entities.{Entity, most_open, opens_main};
 ghost use Rattle.rox_grammar.specs.Doctype.{Asked};
 ghost use Rattle.rox_grammar.specs.Document.{ParseOf};
-ghost use Rattle.rox_grammar.specs.Expansion.{Counts, IsBounded};
+ghost use Rattle.rox_grammar.specs.Expansion.{Counts, IsBounded, longest};
+ghost use Rattle.rox_theory.specs.Answers.{AreShort};
 ghost use Rattle.rox_theory.specs.Openers.{AreTexts};
 ghost use Rattle.rox_theory.specs.Without.{ParseWithout};
 
@@ -33,4 +34,10 @@ pub fn few_opened()
 /// longest replacement text. There are no more nodes and attributes together than that.
 pub fn trees_are_bounded()
     ensures { (src : List ℕ) (dtd : Bool) (asked : List Asked) (tree : Forest Item) (p : ParseOf src dtd asked tree) → IsBounded src p.entities tree }
+{}
+
+/// A replacement text lies in the text itself or in an answer. So where no answer has more than so many bytes, no replacement text
+/// has more than these or those of the text.
+pub fn replacement_texts_are_short()
+    ensures { (src : List ℕ) (dtd : Bool) (asked : List Asked) (tree : Forest Item) (p : ParseOf src dtd asked tree) (most : ℕ) → AreShort most asked → longest p.entities ≤ max (length src) most }
 {}

@@ -7,6 +7,7 @@ ghost use Rattle.rox_grammar.specs.Doctype.{Asked};
 ghost use Rattle.rox_grammar.specs.Document.{ParseOf};
 ghost use Rattle.rox_theory.specs.Apart.{Apart, AnyElement};
 ghost use Rattle.rox_theory.specs.CharItems.{ItemsChars};
+ghost use Rattle.rox_theory.specs.Pieces.{pieces_of, OnlySectionsAreEmpty};
 
 /// All that they say are texts of Chars, also what entities give.
 pub fn items_are_chars()
@@ -16,6 +17,11 @@ pub fn items_are_chars()
 /// No text is followed by a text, also where entities give texts.
 pub fn texts_are_apart()
     ensures { (src : List ℕ) (dtd : Bool) (asked : List Asked) (tree : Forest Item) → ParseOf src dtd asked tree → Apart tree }
+{}
+
+/// A text is empty only where all its pieces are empty CDATA sections, also where entities give them, at any depth.
+pub fn empty_texts_are_sections()
+    ensures { (src : List ℕ) (dtd : Bool) (asked : List Asked) (tree : Forest Item) (p : ParseOf src dtd asked tree) → OnlySectionsAreEmpty src p.entities tree (pieces_of src dtd asked tree p) }
 {}
 
 /// There is an element at the top.

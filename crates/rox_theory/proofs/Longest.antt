@@ -1,0 +1,65 @@
+-- How long a replacement text can be: it lies in the text, or in an answer.
+use Rattle.std.proofs.Common.{◌≡◌, ◌+◌, ◌-◌, ◌≤◌, ℕ, Bool, List, [], ◌∷◌, ◌++◌, length, take, drop, subst, sym, arith}
+use Rattle.std.specs.Prelude.{max, Some, None, IfSome, Option}
+use Rattle.std.proofs.lemmas.List.{length-drop, length-take}
+use Rattle.rox_grammar.specs.Forest.{Forest}
+use Rattle.rox_grammar.specs.Written.{Item}
+use Rattle.rox_grammar.specs.Names.{slice}
+use Rattle.rox_grammar.specs.Entities.{Replacement, Entity}
+use Rattle.rox_grammar.specs.Doctype.{Asked, Gives, nothing, the_rest, IsDefinition, internal, external, entry, IsEntityDeclaration, Subset, no_more, space, an_item, passed_over, an_entity, IsDoctype, no_subset, with_subset}
+use Rattle.rox_grammar.specs.Document.{MayHaveDoctype, doctype, no_doctype, ParseOf}
+use Rattle.rox_grammar.specs.Expansion.{longest}
+use Rattle.rox_theory.specs.Answers.{AreShort}
+
+short_parts : (most : ℕ) (first later : List Asked) → AreShort most (first ++ later) → AreShort most first × AreShort most later
+short_parts most [] later h = (tt, h)
+short_parts most (a ∷ first) later h = let x = short_parts most first later h.1 in ((h.0, x.0), x.1)
+
+longest_both : (n : ℕ) (one others : List Entity) → longest one ≤ n → longest others ≤ n → longest (one ++ others) ≤ n
+longest_both n [] others h k = k
+longest_both n (e ∷ one) others h k =
+    let x = longest_both n one others (omega (arith, h)) k in
+    omega (arith, h, x)
+
+module _ (src : List ℕ) (most : ℕ) where
+  -- no longer than the text, or than an answer
+  abbrev IsShort : Option Replacement → Type 0
+  IsShort None = Unit {0}
+  IsShort (Some t) = length t.source - t.start ≤ max (length src) most
+
+  given_short : (answer : Option (List ℕ)) (text : Option Replacement) → Gives answer text → IfSome answer (λ a. length a ≤ most) → IsShort text
+  given_short answer text nothing h = tt
+  given_short answer text (the_rest whole d utf8 declared) h = let l = length-drop d whole in omega (arith, l, h)
+
+  definition_short : (parameter : Bool) (i j : ℕ) (asked : List Asked) (text : Option Replacement) → IsDefinition src parameter i j asked text → AreShort most asked → IsShort text
+  definition_short parameter i j asked text (internal _ e _ quoted) h = let l = length-take e src in omega (arith, l)
+  definition_short parameter i j asked text (external _ n _ request answer _ id may gives) h = given_short answer text gives h.0
+
+  entry_short : (name : List ℕ) (text : Option Replacement) → IsShort text → longest (entry name text) ≤ max (length src) most
+  entry_short name None h = omega arith
+  entry_short name (Some t) h = omega (arith, h)
+
+  declaration_short : (i j : ℕ) (asked : List Asked) (declared : List Entity) → IsEntityDeclaration src i j asked declared → AreShort most asked → longest declared ≤ max (length src) most
+  declaration_short i j asked declared is h =
+      subst (λ (es : List Entity). longest es ≤ max (length src) most) (sym is.declares)
+      (entry_short (slice src is.n is.m) is.text (definition_short is.parameter is.d is.e asked is.text is.definition h))
+
+  subset_short : (i j : ℕ) (items : Forest Item) (asked : List Asked) (es : List Entity) → Subset src i j items asked es → AreShort most asked → longest es ≤ max (length src) most
+  subset_short i j items asked es (no_more _) h = omega arith
+  subset_short i j items asked es (space _ _ _ _ _ here rest) h = subset_short (i + 1) j items asked es rest h
+  subset_short i j items asked es (an_item _ k _ item more _ _ is rest) h = subset_short k j more asked es rest h
+  subset_short i j items asked es (passed_over _ k _ _ _ _ is rest) h = subset_short k j items asked es rest h
+  subset_short i j items asked es (an_entity _ k _ _ first later one others is rest) h =
+      let x = short_parts most first later h in
+      longest_both (max (length src) most) one others (declaration_short i k first one is x.0) (subset_short k j items later others rest x.1)
+
+  itself_short : (i j : ℕ) (items : Forest Item) (asked : List Asked) (es : List Entity) → IsDoctype src i j items asked es → AreShort most asked → longest es ≤ max (length src) most
+  itself_short i j items asked es (no_subset _ s begins here) h = omega arith
+  itself_short i j items asked es (with_subset _ s k _ _ _ begins here is close end) h = subset_short (s + 1) k items asked es is h
+
+  doctype_short : (i j : ℕ) (dtd : Bool) (items : Forest Item) (asked : List Asked) (es : List Entity) → MayHaveDoctype src i j dtd items asked es → AreShort most asked → longest es ≤ max (length src) most
+  doctype_short i j dtd items asked es (no_doctype _) h = omega arith
+  doctype_short i j dtd items asked es (doctype _ k _ front more _ _ is rest) h = itself_short i k front asked es is h
+
+pub parse_short : (src : List ℕ) (dtd : Bool) (asked : List Asked) (tree : Forest Item) (p : ParseOf src dtd asked tree) (most : ℕ) → AreShort most asked → longest p.entities ≤ max (length src) most
+parse_short src dtd asked tree p most h = doctype_short src most p.begun p.start dtd p.nodes asked p.entities p.doctype h

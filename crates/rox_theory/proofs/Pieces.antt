@@ -1,0 +1,168 @@
+-- The texts of a parse are made of its pieces, and an empty piece is an empty CDATA section.
+use Rattle.std.proofs.Common.{◌≡◌, ◌+◌, ◌-◌, ◌==◌, ℕ, zero, suc, Bool, true, false, not, List, [], ◌∷◌, length, refl, sym, ◌∙◌, ap, subst, inl, inr, arith}
+use Rattle.std.specs.List.{list_any}
+use Rattle.std.proofs.lemmas.Bool.{cases_Bool}
+use Rattle.rox_grammar.specs.declared.fault.Word.TheVariants as word
+use Rattle.rox_grammar.specs.Words.{word_text}
+use Rattle.rox_grammar.specs.Forest.{Forest, Nil, Cons, join}
+use Rattle.rox_grammar.specs.Written.{Item, Element, Text, leaf, merge}
+use Rattle.rox_grammar.specs.Names.{slice}
+use Rattle.rox_grammar.specs.Constructs.{IsCData}
+use Rattle.rox_grammar.specs.Content.{Opener, Sign, literal, kept, is_literal, line_ends, literals, is_plain, piece, Parts, last_part, then_entity, IsMisc, comment, instruction, IsElement, empty, nest, Content, ends, run, cdata, misc, node}
+use Rattle.rox_grammar.specs.Entities.{Entity, Opens, most_open, opens_main}
+use Rattle.rox_grammar.specs.Doctype.{Asked, Subset, no_more as no_item, space as subset_space, an_item as subset_item, passed_over, an_entity as an_entity_declared, IsDoctype, no_subset, with_subset}
+use Rattle.rox_grammar.specs.Document.{Misc, no_misc, space, an_item, MayHaveDoctype, doctype, no_doctype, ParseOf}
+use Rattle.rox_theory.proofs.Basics.{mark_from_le}
+use Rattle.rox_theory.proofs.DeclarationLemmas.{stands_fits}
+use Rattle.rox_theory.proofs.StretchLemmas.{slice_length}
+use Rattle.rox_theory.specs.Pieces.{Piece, written_in, Writes, parts_pieces, element_pieces, content_pieces, writes, pieces_of, merged, IsSourceIn, IsEmptySection, EmptyAreSections, OnlySectionsAreEmpty}
+
+-- ---- what has no byte
+
+-- signs have one
+pub some_bytes : (s : Sign) (ss : List Sign) → line_ends (s ∷ ss) ≡ [] → ⊥
+some_bytes (kept x) ss h = cc h
+some_bytes (literal x) [] h = elim (cases_Bool (x == 13)) [ inl cr ↦ (let e = rw cr at h in cc e) | inr no_cr ↦ (let e = rw no_cr at h in cc e) ]
+some_bytes (literal x) (s ∷ ss) h =
+    elim (cases_Bool (x == 13)) [
+      | inl cr ↦ elim (cases_Bool (is_literal 10 s)) [ inl lf ↦ some_bytes s ss (rw (cr, lf) at h) | inr no_lf ↦ (let e = rw (cr, no_lf) at h in cc e) ]
+      | inr no_cr ↦ (let e = rw no_cr at h in cc e)
+    ]
+
+-- what has no line ends has no bytes
+pub no_bytes : (bs : List ℕ) → line_ends (literals bs) ≡ [] → bs ≡ []
+no_bytes [] none = refl
+no_bytes (b ∷ bs) none = absurd (some_bytes (literal b) (literals bs) none)
+
+-- a section without a byte is empty
+pub empty_section : (src : List ℕ) (i e j : ℕ) → IsCData src i e j → slice src (i + 9) e ≡ [] → IsEmptySection src i j
+empty_section src i e j is none =
+    let fits = stands_fits (word_text word.CDataEnd) src e (omega arith) is.closes in
+    let from = mark_from_le (word_text word.CDataEnd) src (i + 9) in
+    let long : length (slice src (i + 9) e) ≡ e - (i + 9) = slice_length src (i + 9) e (omega (arith, is.end)) (omega (arith, fits)) in
+    let zero : length (slice src (i + 9) e) ≡ 0 = rw none refl in
+    let here : e ≡ i + 9 = omega (arith, is.end) in
+    record { section = subst (λ (k : ℕ). IsCData src i k j) here is; long = omega (arith, is.next) }
+
+-- ---- rows
+
+merged-join : (f g : Forest Piece) → merged (join f g) ≡ join (merged f) (merged g)
+merged-join Nil g = refl
+merged-join (Cons p c r) g = ap (λ (f : Forest Item). Cons p.item (merge (merged c)) f) (merged-join r g)
+
+sections_join : (text : List ℕ) (es : List Entity) (f g : Forest Piece) → EmptyAreSections text es f → EmptyAreSections text es g → EmptyAreSections text es (join f g)
+sections_join text es Nil g h k = k
+sections_join text es (Cons p c r) g h k = (h.0, h.1, h.2, sections_join text es r g h.3 k)
+
+module _ (text : List ℕ) (es : List Entity) where
+  -- these items are made of these pieces, whose empty texts are sections
+  abbrev Made : Forest Item → Forest Piece → Type 0
+  Made items pieces = (items ≡ merged pieces) × EmptyAreSections text es pieces
+
+  made_join : (items more : Forest Item) (f g : Forest Piece) → Made items f → Made more g → Made (join items more) (join f g)
+  made_join items more f g h k =
+      (ap (λ (x : Forest Item). join x more) h.0 ∙ ap (λ (x : Forest Item). join (merged f) x) k.0 ∙ sym (merged-join f g), sections_join text es f g h.1 k.1)
+
+  -- so are those that a reference opens
+  record OpensMade (O : Opener) (opened : Writes O) : Type 0 where
+    content : (name : List ℕ) (b : ℕ) (items : Forest Item) (c : ℕ) (is : O.content name b items c) → Made items (opened.content name b items c is)
+
+  module _ (src : List ℕ) (known : IsSourceIn text es src) where
+    piece_made : (start stop : ℕ) (plain : Bool) (ss : List Sign) → Made (piece start stop plain ss) (written_in src (piece start stop plain ss))
+    piece_made start stop plain [] = (refl, tt)
+    piece_made start stop plain (s ∷ ss) = (refl, (known, λ none. absurd (some_bytes s ss none), tt, tt))
+
+    misc_made : (i j : ℕ) (item : Item) → IsMisc src i j item → Made (leaf item) (written_in src (leaf item))
+    misc_made i j item (comment _ e _ is) = (refl, (known, tt, tt, tt))
+    misc_made i j item (instruction _ n e _ is) = (refl, (known, tt, tt, tt))
+
+    section_made : (i e j : ℕ) (plain : Bool) → IsCData src i e j
+        → Made (leaf (Text i j (line_ends (literals (slice src (i + 9) e))) plain)) (written_in src (leaf (Text i j (line_ends (literals (slice src (i + 9) e))) plain)))
+    section_made i e j plain is = (refl, (known, λ none. empty_section src i e j is (no_bytes (slice src (i + 9) e) none), tt, tt))
+
+    module _ (main : Bool) (O : Opener) (opened : Writes O) (opens : OpensMade O opened) where
+      parts_made : (start stop i b c : ℕ) (items : Forest Item) (is : Parts main O src start stop i b c items) → Made items (parts_pieces main O opened src start stop i b c items is)
+      parts_made start stop i b c items (last_part _ _ ss part) = piece_made start stop (is_plain (slice src start stop)) ss
+      parts_made start stop i b d items (then_entity _ p n j _ c _ ss inner more part reference name it rest) =
+          let x = opens.content (slice src (p + 1) n) b inner c it in
+          let y = parts_made start stop j c d more rest in
+          let both = made_join inner more _ _ x y in
+          made_join (piece start stop false ss) (join inner more) _ _ (piece_made start stop false ss) both
+
+      mutual
+        element_made : (i j b c : ℕ) (one : Forest Item) (is : IsElement main O src i j b c one) → Made one (element_pieces main O opened src i j b c one is)
+        element_made i j b c one (empty _ _ _ _ t tag) = (refl, (known, tt, tt, tt))
+        element_made i j b d one (nest _ k m p _ _ c _ t kids tag inner end) =
+            let x = content_made k m c d kids inner in
+            (ap (λ (f : Forest Item). Cons (Element i j t) (merge f) Nil) x.0, (known, tt, x.1, tt))
+
+        content_made : (i j b c : ℕ) (items : Forest Item) (is : Content main O src i j b c items) → Made items (content_pieces main O opened src i j b c items is)
+        content_made i j b c items (ends _ _) = (refl, tt)
+        content_made i j b d items (run _ k _ _ c _ front more is parts rest) =
+            made_join front more _ _ (parts_made i k i b c front parts) (content_made k j c d more rest)
+        content_made i j b c items (cdata _ e k _ _ _ more is rest) =
+            made_join (leaf (Text i k (line_ends (literals (slice src (i + 9) e))) (not (list_any (λ b. b == 13) (slice src (i + 9) e))))) more
+            (written_in src (leaf (Text i k (line_ends (literals (slice src (i + 9) e))) (not (list_any (λ b. b == 13) (slice src (i + 9) e)))))) (content_pieces main O opened src k j b c more rest)
+            (section_made i e k (not (list_any (λ b. b == 13) (slice src (i + 9) e))) is) (content_made k j b c more rest)
+        content_made i j b c items (misc _ k _ _ _ item more is rest) =
+            made_join (leaf item) more (written_in src (leaf item)) (content_pieces main O opened src k j b c more rest) (misc_made i k item is) (content_made k j b c more rest)
+        content_made i j b d items (node _ k _ _ c _ one more is rest) =
+            made_join one more _ _ (element_made i k b c one is) (content_made k j c d more rest)
+
+    -- ---- around the root element
+
+    all_made : (i j : ℕ) (items : Forest Item) → Misc src i j items → Made items (written_in src items)
+    all_made i j items (no_misc _) = (refl, tt)
+    all_made i j items (space _ _ _ here rest) = all_made (i + 1) j items rest
+    all_made i j items (an_item _ k _ item more is rest) =
+        let x = misc_made i k item is in
+        let y = all_made k j more rest in
+        (ap (λ (f : Forest Item). Cons item Nil f) y.0, (x.1.0, x.1.1, tt, y.1))
+
+    subset_made : (i j : ℕ) (items : Forest Item) (asked : List Asked) (others : List Entity) → Subset src i j items asked others → Made items (written_in src items)
+    subset_made i j items asked others (no_item _) = (refl, tt)
+    subset_made i j items asked others (subset_space _ _ _ _ _ here rest) = subset_made (i + 1) j items asked others rest
+    subset_made i j items asked others (subset_item _ k _ item more _ _ is rest) =
+        let x = misc_made i k item is in
+        let y = subset_made k j more asked others rest in
+        (ap (λ (f : Forest Item). Cons item Nil f) y.0, (x.1.0, x.1.1, tt, y.1))
+    subset_made i j items asked others (passed_over _ k _ _ _ _ is rest) = subset_made k j items asked others rest
+    subset_made i j items asked others (an_entity_declared _ k _ _ first more one behind is rest) = subset_made k j items more behind rest
+
+    written-join : (f g : Forest Item) → written_in src (join f g) ≡ join (written_in src f) (written_in src g)
+    written-join Nil g = refl
+    written-join (Cons item c r) g = ap (λ (f : Forest Piece). Cons (record { source = src; item = item }) (written_in src c) f) (written-join r g)
+
+    itself_made : (i j : ℕ) (items : Forest Item) (asked : List Asked) (others : List Entity) → IsDoctype src i j items asked others → Made items (written_in src items)
+    itself_made i j items asked others (no_subset _ s begins here) = (refl, tt)
+    itself_made i j items asked others (with_subset _ s k _ _ _ begins here is close end) = subset_made (s + 1) k items asked others is
+
+    doctype_made : (i j : ℕ) (dtd : Bool) (items : Forest Item) (asked : List Asked) (others : List Entity) → MayHaveDoctype src i j dtd items asked others → Made items (written_in src items)
+    doctype_made i j dtd items asked others (no_doctype _) = (refl, tt)
+    doctype_made i j dtd items asked others (doctype _ k _ front more _ _ is rest) =
+        subst (λ (f : Forest Piece). Made items f) (sym (written-join front more))
+        (made_join front more (written_in src front) (written_in src more) (itself_made i k front asked others is) (all_made k j more rest))
+
+-- ---- what references open, by the number of texts that may still be open
+
+opens_made : (text : List ℕ) (es : List Entity) (d : ℕ) (main : Bool) → OpensMade text es (Opens es d main) (writes es d main)
+opens_made text es zero main = record { content = λ name b items c h. absurd h }
+opens_made text es (suc d) main =
+    let inner = opens_made text es d false in
+    record {
+      content = λ name b items c (t, r, l, found, spends, is).
+          content_made text es t.source (inr (name, t, found, refl)) false (Opens es d false) (writes es d false) inner t.start (length t.source) r l items is;
+    }
+
+-- a parse
+pub parse_made : (src : List ℕ) (dtd : Bool) (asked : List Asked) (tree : Forest Item) (p : ParseOf src dtd asked tree) → OnlySectionsAreEmpty src p.entities tree (pieces_of src dtd asked tree p)
+parse_made src dtd asked tree p =
+    let known : IsSourceIn src p.entities src = inl refl in
+    let before = all_made src p.entities src known p.declared_to p.begun p.before p.misc_before in
+    let nodes = doctype_made src p.entities src known p.begun p.start dtd p.nodes asked p.entities p.doctype in
+    let one = element_made src p.entities src known true (opens_main p.entities) (writes p.entities most_open true) (opens_made src p.entities most_open true) p.start p.end 255 p.left p.one p.element in
+    let after = all_made src p.entities src known p.end (length src) p.after p.misc_after in
+    let back = made_join src p.entities p.one p.after _ _ one after in
+    let more = made_join src p.entities p.nodes (join p.one p.after) _ _ nodes back in
+    let all = made_join src p.entities p.before (join p.nodes (join p.one p.after)) _ _ before more in
+    record { made = p.is_tree ∙ all.0; sections = all.1 }
