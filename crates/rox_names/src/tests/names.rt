@@ -1,12 +1,34 @@
 //! Names of elements and of attributes, with and without a namespace.
 
-use super::document_of;
-use roxmltree::{ExpandedName, NS_XML_URI, NS_XMLNS_URI};
-use std::test::Fail;
+use super::{document_of, same, same_at};
+use roxmltree::{Document, ExpandedName, NS_XML_URI, NS_XMLNS_URI, Node};
+use std::process::Abort;
+
+/// Wants the root element of a text to be named `e`, in this namespace or in none.
+fn is_named(rt: &(impl Abort + AllocGlobal), text: &str, namespace: Option<&str>) {
+    let document = document_of(rt, text);
+    let element = document.root_element();
+    let name = element.tag_name();
+    same(rt, text, name.name(), "e");
+    same(rt, text, name.namespace(), namespace);
+    same(rt, text, element.has_local_name("e"), true);
+    same(rt, text, element.has_local_name("p"), false);
+    answers_to(rt, text, element, namespace);
+}
+
+/// Wants an element to be found by the name `e` in this namespace or in none alone.
+fn answers_to(rt: &impl Abort, text: &str, element: Node<'_, '_>, namespace: Option<&str>) {
+    let named = element.has_tag_name("e".into());
+    same(rt, text, named, namespace == None);
+    let named = element.has_tag_name(("", "e").into());
+    same(rt, text, named, namespace == Some(""));
+    let named = element.has_tag_name(("u", "e").into());
+    same(rt, text, named, namespace == Some("u"));
+}
 
 #[test]
 fn names_of_elements(rt: HostRuntime) {
-    for (text, namespace) in [
+    for (text, namespace) in &[
         ("<e/>", None),
         ("<:e></e>", None),
         ("<e xmlns='u'/>", Some("u")),
@@ -15,21 +37,7 @@ fn names_of_elements(rt: HostRuntime) {
         ("<p:e xmlns:p='u'/>", Some("u")),
         ("<e xmlns:p='u'/>", None),
     ] {
-        let document = document_of(&rt, text);
-        let element = document.root_element();
-        assert_eq!(rt; element.tag_name().name(), "e", "{text:?}");
-        assert_eq!(rt; element.tag_name().namespace(), namespace, "{text:?}");
-        assert!(rt; element.has_local_name("e"), "{text:?}");
-        assert!(rt; !element.has_local_name("p"), "{text:?}");
-        assert_eq!(rt;
-            element.has_tag_name("e".into()),
-            namespace == None,
-            "{text:?}"
-        );
-        for uri in ["", "u"] {
-            let is_named = element.has_tag_name((uri, "e").into());
-            assert_eq!(rt; is_named, namespace == Some(uri), "{uri:?} of {text:?}");
-        }
+        is_named(&rt, text, *namespace);
     }
 }
 
@@ -37,63 +45,95 @@ fn names_of_elements(rt: HostRuntime) {
 fn a_colon_without_a_prefix_is_no_part_of_a_name(rt: HostRuntime) {
     let document = document_of(&rt, "<:circle></circle>");
     let element = document.root_element();
-    assert_eq!(rt; element.tag_name().name(), "circle");
-    assert!(rt; element.has_tag_name("circle".into()));
+    same(&rt, "name", element.tag_name().name(), "circle");
+    let is_named = element.has_tag_name("circle".into());
+    same(&rt, "is named", is_named, true);
+}
+
+/// Wants a node to have no name, and not to be found by an empty one.
+fn has_no_name(rt: &impl Abort, node: Node<'_, '_>) {
+    let id = node.id().get();
+    same_at(rt, id, node.tag_name(), "".into());
+    same_at(rt, id, node.has_tag_name("".into()), false);
+    same_at(rt, id, node.has_local_name(""), false);
 }
 
 #[test]
 fn other_nodes_have_no_name(rt: HostRuntime) {
     let document = document_of(&rt, "<?e?><e>e</e>");
     for node in document.descendants().filter(|node| !node.is_element()) {
-        let id = node.id().get();
-        assert_eq!(rt; node.tag_name(), "".into(), "{id}");
-        assert!(rt; !node.has_tag_name("".into()), "{id}");
-        assert!(rt; !node.has_local_name(""), "{id}");
+        has_no_name(&rt, node);
     }
+}
+
+/// Wants an element to have this value for an attribute, or none.
+fn has(rt: &impl Abort, element: Node<'_, '_>, name: ExpandedName<'_, '_>, value: Option<&str>) {
+    same(rt, name.name(), element.attribute(name), value);
 }
 
 #[test]
 fn names_of_attributes(rt: HostRuntime) {
     let document = document_of(&rt, "<e xmlns:n='' n:a='1' a='2'/>");
     let element = document.root_element();
-    assert_eq!(rt; element.attributes().len(), 2);
-    assert_eq!(rt; element.attribute("a".into()), Some("2"));
-    assert_eq!(rt; element.attribute(("", "a").into()), Some("1"));
-    assert_eq!(rt; element.attribute("b".into()), None);
+    same(&rt, "count", element.attributes().len(), 2);
+    has(&rt, element, "a".into(), Some("2"));
+    has(&rt, element, ("", "a").into(), Some("1"));
+    has(&rt, element, "b".into(), None);
+    same(&rt, "prefix", element.lookup_prefix(""), Some("n"));
+    local_names_of_attributes(&rt, element);
+}
+
+/// Wants the first attribute of a local name to be found, and none where there is none.
+fn local_names_of_attributes(rt: &impl Abort, element: Node<'_, '_>) {
     let first = element.attribute_local("a").map(|a| a.value());
-    assert_eq!(rt; first, Some("1"));
-    assert!(rt; element.attribute_local("b").is_none());
-    assert_eq!(rt; element.lookup_prefix(""), Some("n"));
+    same(rt, "a", first, Some("1"));
+    same(rt, "b", element.attribute_local("b").is_none(), true);
 }
 
 #[test]
-fn a_prefix_is_no_part_of_a_name(rt: HostRuntime) -> Result<(), Fail> {
+fn a_prefix_is_no_part_of_a_name(rt: HostRuntime) {
     let document = document_of(&rt, "<n1:e xmlns:n1='http://www.w3.org' n1:a  =   'b'/>");
     let element = document.root_element();
     let name = ExpandedName::from(("http://www.w3.org", "a"));
-    let found = element.attribute_node(name).ok_or("no attribute")?;
-    assert_eq!(rt; found.value(), "b");
-    assert_eq!(rt; found.namespace(), Some("http://www.w3.org"));
-    assert!(rt; element.has_attribute(name));
-    assert!(rt; element.attribute_node("a".into()).is_none());
-    assert!(rt; !element.has_attribute("a".into()));
-    let xml = document_of(&rt, "<e xml:a='1'/>");
+    let found = element.attribute_node(name).expect(&rt, "no attribute");
+    same(&rt, "value", found.value(), "b");
+    same(&rt, "URI", found.namespace(), Some("http://www.w3.org"));
+    same(&rt, "in a namespace", element.has_attribute(name), true);
+    has_no_attribute(&rt, element, "a".into());
+}
+
+/// Wants an element to have no attribute of this name.
+fn has_no_attribute(rt: &impl Abort, element: Node<'_, '_>, name: ExpandedName<'_, '_>) {
+    same(rt, "node", element.attribute_node(name).is_none(), true);
+    same(rt, "has", element.has_attribute(name), false);
+}
+
+#[test]
+fn xml_is_a_prefix(rt: HostRuntime) {
+    let document = document_of(&rt, "<e xml:a='1'/>");
     let name = ExpandedName::from((NS_XML_URI, "a"));
-    assert_eq!(rt; xml.root_element().attribute(name), Some("1"));
-    Ok(())
+    let value = document.root_element().attribute(name);
+    same(&rt, "xml:a", value, Some("1"));
 }
 
 #[test]
 fn expanded_names(rt: HostRuntime) {
     let name = ExpandedName::from_static("u", "e");
-    assert_eq!(rt; name.namespace(), Some("u"));
-    assert_eq!(rt; name.name(), "e");
-    assert_eq!(rt; ExpandedName::from("e").namespace(), None);
-    assert_eq!(rt; name, ("u", "e").into());
-    assert_ne!(rt; name, "e".into());
-    assert_ne!(rt; name, ("v", "e").into());
-    assert_ne!(rt; name, ("u", "f").into());
-    assert_ne!(rt; ExpandedName::from(("", "e")), "e".into());
-    assert_eq!(rt; NS_XML_URI, "http://www.w3.org/XML/1998/namespace");
-    assert_eq!(rt; NS_XMLNS_URI, "http://www.w3.org/2000/xmlns/");
+    same(&rt, "URI", name.namespace(), Some("u"));
+    same(&rt, "name", name.name(), "e");
+    same(&rt, "none", ExpandedName::from("e").namespace(), None);
+    same(&rt, "{u}e", name == ("u", "e").into(), true);
+    same(&rt, "e", name == "e".into(), false);
+    same(&rt, "{v}e", name == ("v", "e").into(), false);
+    same(&rt, "{u}f", name == ("u", "f").into(), false);
+    let empty = ExpandedName::from(("", "e"));
+    same(&rt, "{}e", empty == "e".into(), false);
+}
+
+#[test]
+fn reserved_uris(rt: HostRuntime) {
+    let xml = "http://www.w3.org/XML/1998/namespace";
+    same(&rt, "xml", NS_XML_URI, xml);
+    let xmlns = "http://www.w3.org/2000/xmlns/";
+    same(&rt, "xmlns", NS_XMLNS_URI, xmlns);
 }
