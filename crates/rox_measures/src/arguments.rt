@@ -14,7 +14,7 @@ pub const USAGE: &str = "usage: benchmark FILE [SECONDS]";
 const SECONDS: u32 = 4;
 
 /// What the words after the program's name ask for.
-#[derive(Debug, Drop)]
+#[derive(Drop)]
 pub struct Command {
     /// The file that is measured.
     pub file: String,

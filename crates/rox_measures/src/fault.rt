@@ -7,7 +7,7 @@ use std::alloc::{AllocError, AllocFailed};
 use std::{fmt, io};
 
 /// Why the program could not do what it was asked.
-#[derive(Debug, Drop)]
+#[derive(Drop)]
 pub enum Fault {
     /// The file could not be opened or read to its end.
     CannotRead,
@@ -27,15 +27,16 @@ pub enum Fault {
 
 impl fmt::Display for Fault {
     fn fmt<W: fmt::Write>(&self, f: &mut fmt::Formatter<W>) -> fmt::Result {
-        match self {
-            Fault::CannotRead => write!(f, "cannot read input"),
-            Fault::NotUtf8 => write!(f, "input is not UTF-8"),
-            Fault::Refused(error) => write!(f, "{error}"),
-            Fault::CannotWrite => write!(f, "cannot write output"),
-            Fault::NoClock => write!(f, "cannot read the clock"),
-            Fault::UnequalWalks => write!(f, "two walks came to different sums"),
-            Fault::OutOfMemory => write!(f, "out of memory"),
-        }
+        let text = match self {
+            Fault::Refused(error) => return fmt::Display::fmt(error, f),
+            Fault::CannotRead => "cannot read input",
+            Fault::NotUtf8 => "input is not UTF-8",
+            Fault::CannotWrite => "cannot write output",
+            Fault::NoClock => "cannot read the clock",
+            Fault::UnequalWalks => "two walks came to different sums",
+            Fault::OutOfMemory => "out of memory",
+        };
+        f.write_str(text)
     }
 }
 

@@ -31,7 +31,7 @@ pub fn median(times: &mut [u64]) -> Option<u64>
 }
 
 /// A number with one digit behind the point, cut off and not rounded.
-#[derive(Clone, Copy, Debug, PartialEq, Eq)]
+#[derive(Clone, Copy)]
 pub struct Tenths {
     /// Ten times the number.
     pub tenths: u128,

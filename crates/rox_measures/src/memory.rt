@@ -20,16 +20,27 @@ pub fn held<R: Files + AllocGlobal>(rt: &R, text: &str) -> Result<Option<u64>, F
     let copies = (SAMPLE / text.len().max(1)).clamp(1, MOST_COPIES);
     let mut documents = Vec::with_capacity(rt.alloc(), copies)?;
     let before = in_use(rt)?;
-    for _ in 0..copies {
-        documents.push(Document::parse(rt.alloc(), text)?)?;
-    }
+    parse_copies(rt.alloc(), text, copies, &mut documents)?;
     let after = in_use(rt)?;
-    match (before, after) {
-        (Some(before), Some(after)) => {
-            Ok(Some(after.saturating_sub(before) / documents.len().max(1) as u64))
-        }
-        _ => Ok(None),
+    Ok(each(before, after, documents.len()))
+}
+
+fn parse_copies<'t>(
+    alloc: Global,
+    text: &'t str,
+    copies: usize,
+    documents: &mut Vec<Document<'t>>,
+) -> Result<(), Fault> {
+    for _ in 0..copies {
+        documents.push(Document::parse(alloc, text)?)?;
     }
+    Ok(())
+}
+
+// What each of so many took, of the bytes in use before and after.
+fn each(before: Option<u64>, after: Option<u64>, count: usize) -> Option<u64> {
+    let taken = after?.saturating_sub(before?);
+    Some(taken / count.max(1) as u64)
 }
 
 // The bytes of anonymous memory that the process has in use.

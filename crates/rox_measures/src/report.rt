@@ -61,13 +61,26 @@ fn write_line<W: Write>(
     unit: &str,
 ) -> Result<(), Fault> {
     let (turns, repeats) = (told.turns, told.repeats);
-    let best = format!(in alloc; "{}", share(told.best, repeats as u64))?;
-    let median = format!(in alloc; "{}", share(told.median, repeats as u64))?;
-    let best_rate = format!(in alloc; "{}", rates[0])?;
-    let median_rate = format!(in alloc; "{}", rates[1])?;
-    write!(out, "{name:<14} best {best:>13} ns {best_rate:>8} {unit}, ")?;
-    write!(out, "median {median:>13} ns {median_rate:>8} {unit}, ")?;
-    writeln!(out, "{turns} turns of {repeats}")?;
+    let best = share(told.best, repeats as u64);
+    let median = share(told.median, repeats as u64);
+    write!(out, "{name:<14}")?;
+    write_figures(alloc, out, "best", [best, rates[0]], unit)?;
+    write_figures(alloc, out, "median", [median, rates[1]], unit)?;
+    writeln!(out, " {turns} turns of {repeats}")?;
+    Ok(())
+}
+
+// A time and a rate, each right-justified.
+fn write_figures<W: Write>(
+    alloc: Global,
+    out: &mut W,
+    label: &str,
+    [time, rate]: [Tenths; 2],
+    unit: &str,
+) -> Result<(), Fault> {
+    let time = format!(in alloc; "{time}")?;
+    let rate = format!(in alloc; "{rate}")?;
+    write!(out, " {label} {time:>13} ns {rate:>8} {unit},")?;
     Ok(())
 }
 

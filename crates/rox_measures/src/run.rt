@@ -23,15 +23,33 @@ pub fn run<R: Files + AllocGlobal + CpuClock, O: Write>(
     let text = input::decode(&bytes)?;
     // before anything else is parsed
     let held = memory::held(rt, text)?;
+    measure_text(rt, command, text, out)?;
+    write_held(out, text.len() as u64, held)
+}
+
+fn measure_text<R: AllocGlobal + CpuClock, O: Write>(
+    rt: &R,
+    command: &Command,
+    text: &str,
+    out: &mut O,
+) -> Result<(), Fault> {
     let document = Document::parse(rt.alloc(), text)?;
-    let length = text.len() as u64;
-    let found = count(&document);
-    write_contents(out, command.file.as_str(), length, found)?;
+    measure_document(rt, command, text, &document, out)
+}
+
+fn measure_document<R: AllocGlobal + CpuClock, O: Write>(
+    rt: &R,
+    command: &Command,
+    text: &str,
+    document: &Document<'_>,
+    out: &mut O,
+) -> Result<(), Fault> {
+    let found = count(document);
+    write_contents(out, command.file.as_str(), text.len() as u64, found)?;
     // a quarter of the time for each work
     let budget = command.seconds as u64 * 250_000_000;
     measure_parses(rt.alloc(), rt, text, budget, out)?;
-    measure_walks(rt.alloc(), rt, &document, found.nodes, budget, out)?;
-    write_held(out, length, held)
+    measure_walks(rt.alloc(), rt, document, found.nodes, budget, out)
 }
 
 fn write_contents<O: Write>(

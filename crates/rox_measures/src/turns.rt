@@ -21,7 +21,7 @@ const FEWEST: usize = 7;
 const MOST: usize = 1_000_000;
 
 /// The times of some turns.
-#[derive(Debug, Drop)]
+#[derive(Drop)]
 pub struct Turns {
     /// How often the work is done in each turn.
     pub repeats: u32,

@@ -72,7 +72,7 @@ fn next_beside<'a, 'input>(node: Node<'a, 'input>) -> Option<Node<'a, 'input>> {
 }
 
 /// How many of each there are in a document.
-#[derive(Clone, Copy, Debug, PartialEq, Eq)]
+#[derive(Clone, Copy)]
 pub struct Census {
     pub nodes: u64,
     pub elements: u64,
