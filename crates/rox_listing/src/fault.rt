@@ -8,7 +8,7 @@ use std::alloc::{AllocError, AllocFailed};
 use std::{fmt, io};
 
 /// Why the program could not do what it was asked.
-#[derive(Debug, Drop)]
+#[derive(Drop)]
 pub enum Fault {
     /// The path is none, from this byte on.
     BadPath(usize),
@@ -26,17 +26,15 @@ pub enum Fault {
 
 impl fmt::Display for Fault {
     fn fmt<W: fmt::Write>(&self, f: &mut fmt::Formatter<W>) -> fmt::Result {
-        match self {
-            Fault::BadPath(place) => {
-                let error = PathError::BadPath(*place);
-                write!(f, "{error}")
-            }
-            Fault::CannotRead => write!(f, "cannot read input"),
-            Fault::NotUtf8 => write!(f, "input is not UTF-8"),
-            Fault::Refused(error) => write!(f, "{error}"),
-            Fault::CannotWrite => write!(f, "cannot write output"),
-            Fault::OutOfMemory => write!(f, "out of memory"),
-        }
+        let text = match self {
+            Fault::BadPath(place) => return fmt::Display::fmt(&PathError::BadPath(*place), f),
+            Fault::Refused(error) => return fmt::Display::fmt(error, f),
+            Fault::CannotRead => "cannot read input",
+            Fault::NotUtf8 => "input is not UTF-8",
+            Fault::CannotWrite => "cannot write output",
+            Fault::OutOfMemory => "out of memory",
+        };
+        f.write_str(text)
     }
 }
 

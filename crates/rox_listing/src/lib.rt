@@ -7,4 +7,5 @@ pub mod fault;
 pub mod input;
 pub mod listing;
 pub mod options;
+pub mod output;
 pub mod run;

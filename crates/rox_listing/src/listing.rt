@@ -2,11 +2,11 @@
 
 ghost use Rattle.std.specs.Prelude.{◌≤◌};
 
-use crate::entries::{attribute_entries, namespace_entries};
+use crate::entries::{Entry, attribute_entries, namespace_entries};
 use crate::fault::Fault;
-use roxmltree::{Document, Node, NodeId, NodeType};
-use std::alloc::Global;
-use std::io;
+use crate::output::Output;
+use roxmltree::{Document, Node, NodeId, NodeType, PI};
+use std::alloc::{AllocError, Global};
 use std::io::Write;
 
 /// Writes the tree of a document, a node after the other, by a loop: however deep it is, no stack is used up.
@@ -15,7 +15,32 @@ pub fn write_document<W: Write>(
     document: &Document<'_>,
     out: &mut W,
 ) -> Result<(), Fault> {
-    out.write_all(b"Document:\n")?;
+    let mut out = Output::new(out);
+    out.text("Document:\n");
+    let listed = write_nodes(alloc, document, &mut out);
+    out.into_result()?;
+    Ok(listed?)
+}
+
+/// Writes a line for each of these elements: its range and its name.
+pub fn write_elements<W: Write>(elements: &[Node<'_, '_>], out: &mut W) -> Result<(), Fault> {
+    let mut out = Output::new(out);
+    for element in elements {
+        out.range(element.range());
+        out.text(" ");
+        write_name(*element, &mut out);
+        if out.has_failed() {
+            break;
+        }
+    }
+    Ok(out.into_result()?)
+}
+
+fn write_nodes<W: Write>(
+    alloc: Global,
+    document: &Document<'_>,
+    out: &mut Output<'_, W>,
+) -> Result<(), AllocError> {
     // the elements that the node lies in, the outermost first
     let mut open = Vec::new(alloc);
     for node in document.descendants() {
@@ -26,18 +51,9 @@ pub fn write_document<W: Write>(
                 open.push(node.id())?;
             }
         }
-    }
-    Ok(())
-}
-
-/// Writes a line for each of these elements: its range and its name.
-pub fn write_elements<W: Write>(elements: &[Node<'_, '_>], out: &mut W) -> Result<(), Fault> {
-    for element in elements {
-        let range = element.range();
-        let start = range.start;
-        let end = range.end;
-        write!(out, "{start}..{end} ")?;
-        write_name(*element, out)?;
+        if out.has_failed() {
+            break;
+        }
     }
     Ok(())
 }
@@ -55,68 +71,58 @@ fn write_node<W: Write>(
     alloc: Global,
     node: Node<'_, '_>,
     depth: usize,
-    out: &mut W,
-) -> Result<(), Fault> {
+    out: &mut Output<'_, W>,
+) -> Result<(), AllocError> {
     match node.node_type() {
-        NodeType::Root => Ok(()),
-        NodeType::Element => write_element(alloc, node, depth, out),
-        NodeType::Text => write_text("- Text", node, depth, out),
-        NodeType::Comment => write_text("- Comment", node, depth, out),
+        NodeType::Root => {}
+        NodeType::Element => write_element(alloc, node, depth, out)?,
+        NodeType::Text => write_text("- Text: ", node, depth, out),
+        NodeType::Comment => write_text("- Comment: ", node, depth, out),
         NodeType::PI => write_pi(node, depth, out),
     }
+    Ok(())
 }
 
 fn write_element<W: Write>(
     alloc: Global,
     node: Node<'_, '_>,
     depth: usize,
-    out: &mut W,
-) -> Result<(), Fault> {
-    indent(out, depth, 1)?;
-    out.write_all(b"- Element:\n")?;
-    write_tag_name(node, depth, out)?;
+    out: &mut Output<'_, W>,
+) -> Result<(), AllocError> {
+    write_label("- Element:\n", depth, 1, out);
+    // a tag name has no `@` where its URI is empty
+    write_label("tag_name: ", depth, 3, out);
+    write_name(node, out);
     write_attributes(alloc, node, depth, out)?;
     write_namespaces(alloc, node, depth, out)?;
     if node.has_children() {
-        indent(out, depth, 3)?;
-        out.write_all(b"children:\n")?;
+        write_label("children:\n", depth, 3, out);
     }
     Ok(())
 }
 
-// A tag name has no `@` where its URI is empty.
-fn write_tag_name<W: Write>(node: Node<'_, '_>, depth: usize, out: &mut W) -> Result<(), Fault> {
-    indent(out, depth, 3)?;
-    out.write_all(b"tag_name: ")?;
-    write_name(node, out)
-}
-
-fn write_name<W: Write>(node: Node<'_, '_>, out: &mut W) -> Result<(), Fault> {
+fn write_name<W: Write>(node: Node<'_, '_>, out: &mut Output<'_, W>) {
     let name = node.tag_name();
-    let local = name.name();
-    match name.namespace() {
-        Some(uri) if !uri.is_empty() => writeln!(out, "{local}@{uri}")?,
-        _ => writeln!(out, "{local}")?,
+    let uri = name.namespace().unwrap_or("");
+    out.text(name.name());
+    if !uri.is_empty() {
+        out.text("@");
+        out.text(uri);
     }
-    Ok(())
+    out.text("\n");
 }
 
 fn write_attributes<W: Write>(
     alloc: Global,
     node: Node<'_, '_>,
     depth: usize,
-    out: &mut W,
-) -> Result<(), Fault> {
+    out: &mut Output<'_, W>,
+) -> Result<(), AllocError> {
     let entries = attribute_entries(alloc, node)?;
-    if entries.is_empty() {
-        return Ok(());
-    }
-    indent(out, depth, 3)?;
-    out.write_all(b"attributes:\n")?;
+    write_title("attributes:\n", &entries, depth, out);
     for entry in &entries {
-        let (name, value) = (entry.name.as_str(), entry.value);
-        indent(out, depth, 4)?;
-        writeln!(out, "{name}: {value:?}")?;
+        write_label(entry.name.as_str(), depth, 4, out);
+        write_quoted(": ", entry.value, out);
     }
     Ok(())
 }
@@ -125,64 +131,75 @@ fn write_namespaces<W: Write>(
     alloc: Global,
     node: Node<'_, '_>,
     depth: usize,
-    out: &mut W,
-) -> Result<(), Fault> {
+    out: &mut Output<'_, W>,
+) -> Result<(), AllocError> {
     let entries = namespace_entries(alloc, node)?;
-    if entries.is_empty() {
-        return Ok(());
-    }
-    indent(out, depth, 3)?;
-    out.write_all(b"namespaces:\n")?;
+    write_title("namespaces:\n", &entries, depth, out);
     for entry in &entries {
-        let (name, value) = (entry.name.as_str(), entry.value);
-        indent(out, depth, 4)?;
-        writeln!(out, "{name}: {value}")?;
+        write_label(entry.name.as_str(), depth, 4, out);
+        out.text(": ");
+        out.text(entry.value);
+        out.text("\n");
     }
     Ok(())
 }
 
-fn write_text<W: Write>(
-    kind: &str,
-    node: Node<'_, '_>,
+// The line before some entries. Where there are none it is not written.
+fn write_title<W: Write>(
+    title: &str,
+    entries: &[Entry<'_>],
     depth: usize,
-    out: &mut W,
-) -> Result<(), Fault> {
+    out: &mut Output<'_, W>,
+) {
+    if !entries.is_empty() {
+        write_label(title, depth, 3, out);
+    }
+}
+
+fn write_text<W: Write>(kind: &str, node: Node<'_, '_>, depth: usize, out: &mut Output<'_, W>) {
     let text = node.text().unwrap_or("");
-    indent(out, depth, 1)?;
-    writeln!(out, "{kind}: {text:?}")?;
-    Ok(())
+    write_label(kind, depth, 1, out);
+    write_quoted("", text, out);
 }
 
 // A processing instruction beside the root element is not listed.
-fn write_pi<W: Write>(node: Node<'_, '_>, depth: usize, out: &mut W) -> Result<(), Fault> {
+fn write_pi<W: Write>(node: Node<'_, '_>, depth: usize, out: &mut Output<'_, W>) {
     if depth == 0 {
-        return Ok(());
+        return;
     }
-    let Some(pi) = node.pi() else {
-        return Ok(());
-    };
-    indent(out, depth, 1)?;
-    out.write_all(b"- PI:\n")?;
-    let target = pi.target;
-    indent(out, depth, 3)?;
-    writeln!(out, "target: {target:?}")?;
+    if let Some(pi) = node.pi() {
+        write_instruction(pi, depth, out);
+    }
+}
+
+fn write_instruction<W: Write>(pi: PI<'_>, depth: usize, out: &mut Output<'_, W>) {
+    write_label("- PI:\n", depth, 1, out);
+    write_label("target: ", depth, 3, out);
+    write_quoted("", pi.target, out);
     if let Some(value) = pi.value {
-        indent(out, depth, 3)?;
-        writeln!(out, "value: {value:?}")?;
+        write_label("value: ", depth, 3, out);
+        write_quoted("", value, out);
     }
-    Ok(())
+}
+
+// Writes a text in its debug form, behind a mark, and ends the line.
+fn write_quoted<W: Write>(mark: &str, text: &str, out: &mut Output<'_, W>) {
+    out.text(mark);
+    out.quoted(text);
+    out.text("\n");
 }
 
 // Eight times what the lines of an element's children are further right than its own.
 const SPACES: &[u8; 48] = b"                                                ";
 
-// The spaces before a line: six for each element around its node, and two for each of these steps.
-fn indent<W: Write>(out: &mut W, depth: usize, steps: usize) -> io::Result<()>
+// The spaces before a line, six for each element around its node and two for each of these steps, and how the line begins.
+fn write_label<W: Write>(label: &str, depth: usize, steps: usize, out: &mut Output<'_, W>)
     requires { steps ≤ 24 }
 {
     for _ in 0..depth / 8 {
-        out.write_all(SPACES)?;
+        out.bytes(SPACES);
     }
-    out.write_all(&SPACES[..depth % 8 * 6])?;
-    out.write_all(&SPACES[..steps * 2])
+    out.bytes(&SPACES[..depth % 8 * 6]);
+    out.bytes(&SPACES[..steps * 2]);
+    out.text(label);
 }

@@ -1,7 +1,7 @@
 //! What the program is asked to do.
 
 /// What the words after the program's name ask for.
-#[derive(Debug, Drop)]
+#[derive(Drop)]
 pub struct Command {
     /// Whether a document with a DOCTYPE is read.
     pub allow_dtd: bool,

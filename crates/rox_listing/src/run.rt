@@ -56,13 +56,22 @@ fn print<I: Read + Drop, O: Write>(
     let steps = steps_of(alloc, command)?;
     let bytes = input::read_all(alloc, input)?;
     let text = input::decode(&bytes)?;
+    print_text(alloc, text, command.allow_dtd, steps.as_ref(), out)
+}
+
+fn print_text<O: Write>(
+    alloc: Global,
+    text: &str,
+    allow_dtd: bool,
+    steps: Option<&Vec<Step<'_>>>,
+    out: &mut O,
+) -> Result<(), Fault> {
     let mut options = ParsingOptions::default();
-    options.allow_dtd = command.allow_dtd;
-    let document = match Document::parse_with_options(alloc, text, options) {
-        Ok(document) => document,
-        Err(error) => return Err(Fault::Refused(error)),
-    };
-    write_buffered(alloc, &document, steps.as_ref(), out)
+    options.allow_dtd = allow_dtd;
+    match Document::parse_with_options(alloc, text, options) {
+        Ok(document) => write_buffered(alloc, &document, steps, out),
+        Err(error) => Err(Fault::Refused(error)),
+    }
 }
 
 /// The steps of the path that is asked for, if one is.
