@@ -1,15 +1,20 @@
 -- The nodes of a tree say as much as the items that they are of.
-use Rattle.std.proofs.Common.{◌≡◌, ℕ, Bool, List, [], ◌∷◌, length, map, refl, sym, subst, arith}
+use Rattle.std.proofs.Common.{◌≡◌, ◌+◌, ◌*◌, ◌≤◌, ◌==◌, ℕ, Bool, List, [], ◌∷◌, length, map, refl, arith}
+use Rattle.std.specs.Prelude.{max, count_by, Option, Some, None, Ok, IfSome}
+use Rattle.std.proofs.lemmas.Nat.{mul-le}
 use Rattle.std.proofs.lemmas.List.{length-map}
 use Rattle.rox_grammar.specs.Forest.{Forest, Nil, Cons}
 use Rattle.rox_grammar.specs.Written as written
 use Rattle.rox_grammar.specs.Written.{Declaration, Item, Element, Text, Comment, PI}
 use Rattle.rox_grammar.specs.Tree.{Node, attribute_in, scope_in, node_in, resolved, document_tree}
-use Rattle.rox_grammar.specs.Doctype.{Asked}
+use Rattle.rox_grammar.specs.Doctype.{Request, Asked}
 use Rattle.rox_grammar.specs.Document.{own_attributes, attribute_count, ParseOf}
-use Rattle.rox_grammar.specs.Expansion.{value_bytes_of, own_bytes, bytes_in}
+use Rattle.rox_grammar.specs.Expansion.{value_bytes_of, own_bytes, bytes_in, longest}
 use Rattle.rox_reading.proofs.Forests.{size-resolved}
+use Rattle.rox_theory.specs.Answers.{AreShort}
 use Rattle.rox_theory.proofs.Bound.{is_bounded}
+use Rattle.rox_theory.proofs.Longest.{parse_short}
+use Rattle.rox_resolver.specs.Requests.{Reply, AreAllowed}
 use Rattle.rox_laws.specs.Bounded.{value_bytes, bytes_of, count_of, all_bytes, all_attributes, IsBounded}
 
 values_same : (scope : List Declaration) (as' : List written.Attribute) → value_bytes (map (attribute_in scope) as') ≡ value_bytes_of as'
@@ -36,12 +41,33 @@ all_attributes_same : (above : List Declaration) (f : Forest Item) → all_attri
 all_attributes_same above Nil = refl
 all_attributes_same above (Cons item c r) = omega (arith, count_same (scope_in above item) item, all_attributes_same (scope_in above item) c, all_attributes_same above r)
 
--- the tree of a parse is bounded
-pub tree_bounded : (src : List ℕ) (dtd : Bool) (asked : List Asked) (tops : Forest Item) (tree : Forest Node) (p : ParseOf src dtd asked tops) → tree ≡ document_tree (length src) tops → IsBounded src p.entities tree
-tree_bounded src dtd asked tops tree p shown =
+-- the tree of a parse is bounded by its longest replacement text
+pub tree_bounded : (src : List ℕ) (dtd : Bool) (asked : List Asked) (tops : Forest Item) (p : ParseOf src dtd asked tops) → IsBounded src (longest p.entities) (document_tree (length src) tops)
+tree_bounded src dtd asked tops p =
     let b = is_bounded src dtd asked tops p in
-    subst (λ (f : Forest Node). IsBounded src p.entities f) (sym shown)
-    (record {
+    record {
       bytes = omega (arith, b.bytes, all_bytes_same [] tops);
       nodes = omega (arith, b.nodes, all_attributes_same [] tops, size-resolved [] tops);
-    })
+    }
+
+-- and so by more
+bounded_more : (src : List ℕ) (n m : ℕ) (tree : Forest Node) → n ≤ m → IsBounded src n tree → IsBounded src m tree
+bounded_more src n m tree le b =
+    let amps = 256 * count_by (λ c. c == 38) src in
+    let more = mul-le amps n amps m (omega arith) le in
+    record { bytes = omega (arith, b.bytes, more); nodes = omega (arith, b.nodes, more) }
+
+-- where answers are short
+pub tree_short : (src : List ℕ) (dtd : Bool) (asked : List Asked) (tops : Forest Item) (most : ℕ) → ParseOf src dtd asked tops → AreShort most asked → IsBounded src (max (length src) most) (document_tree (length src) tops)
+tree_short src dtd asked tops most p h =
+    bounded_more src (longest p.entities) (max (length src) most) (document_tree (length src) tops) (parse_short src dtd asked tops p most h) (tree_bounded src dtd asked tops p)
+
+-- what is allowed is short where all that may be allowed is
+module _ (allows : Request → Reply → Type 0) (most : ℕ) (bound : (request : Request) (answer : List ℕ) → allows request (Ok (Some answer)) → length answer ≤ most) where
+  answer_short : (request : Request) (answer : Option (List ℕ)) → allows request (Ok answer) → IfSome answer (λ text. length text ≤ most)
+  answer_short request None h = tt
+  answer_short request (Some answer) h = bound request answer h
+
+  pub allowed_short : (asked : List Asked) → AreAllowed allows asked → AreShort most asked
+  allowed_short [] h = tt
+  allowed_short (a ∷ as') h = (answer_short a.request a.answer h.0, allowed_short as' h.1)

@@ -10,6 +10,7 @@ mod OnlyOne
 mod RangeSteps
 mod Scopes
 mod Sections
+mod First
 mod Selected
 mod Outermost
 mod Lying

@@ -13,9 +13,8 @@ use Rattle.rox_grammar.specs.Content.{Sign, literal, kept, is_literal, signs_of,
 use Rattle.rox_grammar.specs.Document.{Misc, no_misc, space, an_item, ParseOf, IsTreeOf}
 use Rattle.rox_theory.proofs.Without.{parse_without}
 use Rattle.rox_grammar.specs.Entities.{no_entities}
-use Rattle.rox_theory.proofs.Basics.{mark_from_le}
-use Rattle.rox_theory.proofs.DeclarationLemmas.{stands_reads, stands_fits}
-use Rattle.rox_theory.proofs.StretchLemmas.{slice_length}
+use Rattle.rox_theory.proofs.Pieces.{some_bytes, no_bytes, empty_section}
+use Rattle.rox_theory.proofs.DeclarationLemmas.{stands_reads}
 use Rattle.rox_theory.proofs.PartLemmas.{encode_some}
 use Rattle.rox_theory.proofs.Constructions.{comment_bytes, instruction_bytes, end_bytes, cdata_bytes, name_byte}
 use Rattle.roxmltree.specs.Each.{Each}
@@ -65,7 +64,7 @@ Begins src i (Cons (Comment a e t) c r) = IsMarkup src i
 Begins src i (Cons (PI a e t o) c r) = IsMarkup src i
 
 -- where two texts together are empty, each is
-both_empty : (v w : List ℕ) → v ++ w ≡ [] → (v ≡ []) × (w ≡ [])
+pub both_empty : (v w : List ℕ) → v ++ w ≡ [] → (v ≡ []) × (w ≡ [])
 both_empty [] w h = (refl, h)
 both_empty (x ∷ v) w h = cc h
 
@@ -112,17 +111,7 @@ merge_sound src from to (Cons (PI a e t o) c r) markup h =
 
 -- ---- pieces
 
--- signs have a byte
-some_bytes : (s : Sign) (ss : List Sign) → line_ends (s ∷ ss) ≡ [] → ⊥
-some_bytes (kept x) ss h = cc h
-some_bytes (literal x) [] h = elim (cases_Bool (x == 13)) [ inl cr ↦ (let e = rw cr at h in cc e) | inr no_cr ↦ (let e = rw no_cr at h in cc e) ]
-some_bytes (literal x) (s ∷ ss) h =
-    elim (cases_Bool (x == 13)) [
-      | inl cr ↦ elim (cases_Bool (is_literal 10 s)) [ inl lf ↦ some_bytes s ss (rw (cr, lf) at h) | inr no_lf ↦ (let e = rw (cr, no_lf) at h in cc e) ]
-      | inr no_cr ↦ (let e = rw no_cr at h in cc e)
-    ]
-
--- and bytes signs
+-- bytes have signs
 some_signs : (src : List ℕ) (i stop : ℕ) (ss : List Sign) → i < stop → Part true src stop i ss → ss ≡ [] → ⊥
 some_signs src i stop ss below part_ends none = absurd (omega (arith, below))
 some_signs src i stop ss below (as_written _ rest lt no_amp p) none = cc none
@@ -141,21 +130,10 @@ parts_cover : (src : List ℕ) (i stop b c : ℕ) (items : Forest Item) → i < 
 parts_cover src i stop b c items below (last_part _ _ ss part) = piece_covers src i stop _ ss (some_signs src i stop ss below part)
 parts_cover src i stop b c items below (then_entity _ p n j _ d _ ss inner others part reference unknown opens rest) = absurd opens
 
--- what has no line ends has no bytes
-no_bytes : (bs : List ℕ) → line_ends (literals bs) ≡ [] → bs ≡ []
-no_bytes [] none = refl
-no_bytes (b ∷ bs) none = absurd (some_bytes (literal b) (literals bs) none)
-
 -- a section without a byte is empty
 section_empty : (src : List ℕ) (i e j : ℕ) → IsCData src i e j → slice src (i + 9) e ≡ [] → IsEmpty src i j
 section_empty src i e j is none =
-    let fits = stands_fits (word_text word.CDataEnd) src e (omega arith) is.closes in
-    let from = mark_from_le (word_text word.CDataEnd) src (i + 9) in
-    let long : length (slice src (i + 9) e) ≡ e - (i + 9) = slice_length src (i + 9) e (omega (arith, is.end)) (omega (arith, fits)) in
-    let zero : length (slice src (i + 9) e) ≡ 0 = rw none refl in
-    let here : e ≡ i + 9 = omega (arith, is.end) in
-    let next : j ≡ i + 12 = omega (arith, is.next) in
-    (subst (λ (k : ℕ). IsCData src i (i + 9) k) next (subst (λ (k : ℕ). IsCData src i k j) here is), next)
+    let s = empty_section src i e j is none in (subst (λ (k : ℕ). IsCData src i (i + 9) k) s.long s.section, s.long)
 
 -- ---- markup
 

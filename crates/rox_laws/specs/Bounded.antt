@@ -1,9 +1,7 @@
 -- How much the nodes of a tree say, and how many they are, against their text.
-use Rattle.std.specs.Prelude.{ℕ, ◌+◌, ◌≤◌, List, [], ◌∷◌, length}
+use Rattle.std.specs.Prelude.{ℕ, ◌+◌, ◌*◌, ◌≤◌, ◌==◌, List, [], ◌∷◌, length, count_by}
 use Rattle.rox_grammar.specs.Forest.{Forest, Nil, Cons, size}
 use Rattle.rox_grammar.specs.Tree.{Attribute, Node, Root, Element, Text, Comment, PI}
-use Rattle.rox_grammar.specs.Entities.{Entity}
-use Rattle.rox_grammar.specs.Expansion.{most_bytes}
 
 abbrev pub value_bytes : List Attribute → ℕ
 value_bytes [] = 0
@@ -34,8 +32,12 @@ abbrev pub all_attributes : Forest Node → ℕ
 all_attributes Nil = 0
 all_attributes (Cons node children rest) = count_of node + all_attributes children + all_attributes rest
 
--- The values have at most the bytes of the text, and for each `&` in it 256 times those of the longest replacement text of these
--- entities; nodes, the root node aside, and attributes together are no more than that.
-pub record IsBounded (text : List ℕ) (entities : List Entity) (tree : Forest Node) : Type 0 where
-  pub bytes : all_bytes tree ≤ most_bytes text entities
-  pub nodes : size tree + all_attributes tree ≤ most_bytes text entities + 1
+-- the bytes of the text, and for each `&` in it 256 times so many
+abbrev pub most_bytes : (text : List ℕ) (longest : ℕ) → ℕ
+most_bytes text longest = length text + 256 * count_by (λ b. b == 38) text * longest
+
+-- The values have at most these bytes, where `longest` is how many a replacement text has at most; nodes, the root node aside, and
+-- attributes together are no more than that.
+pub record IsBounded (text : List ℕ) (longest : ℕ) (tree : Forest Node) : Type 0 where
+  pub bytes : all_bytes tree ≤ most_bytes text longest
+  pub nodes : size tree + all_attributes tree ≤ most_bytes text longest + 1

@@ -5,6 +5,8 @@ use Rattle.rox_grammar.specs.Forest.{Forest}
 use Rattle.rox_grammar.specs.Tree.{Node, Text}
 use Rattle.rox_grammar.specs.Names.{byte}
 use Rattle.rox_grammar.specs.Constructs.{at, IsCData}
+use Rattle.rox_grammar.specs.Entities.{Entity}
+use Rattle.rox_theory.specs.Pieces.{IsSourceIn, IsEmptySection}
 use Rattle.roxmltree.specs.Each.{Each}
 
 -- XML 2.7: from this place on empty CDATA sections stand, one at least, and then markup that is no such section
@@ -19,3 +21,8 @@ EmptyIsSections text other = Unit {0}
 
 abbrev pub EmptyTextsAreSections : List ℕ → Forest Node → Type 0
 EmptyTextsAreSections text tree = Each (EmptyIsSections text) tree
+
+-- With entities too: if a text is empty its range is an empty section, the first of its pieces, in the text or in a replacement text.
+abbrev pub BeginsWithSection : (text : List ℕ) (es : List Entity) → Node → Type 0
+BeginsWithSection text es (Text start end value borrowed) = value ≡ [] → (source : List ℕ) × IsSourceIn text es source × IsEmptySection source start end
+BeginsWithSection text es other = Unit {0}

@@ -1,33 +1,37 @@
 //! What users of a document rest on, each a function whose contract is the law.
 
-ghost use Rattle.std.specs.Prelude.{false, [], ◌≡◌, ◌≢◌, ◌↔◌, ◌⊎◌, ℕ, Bool, ◌<◌, ◌≤◌, List, Option, Some, None, IsUtf8, length, map};
+ghost use Rattle.std.specs.Prelude.{false, [], ◌≡◌, ◌≢◌, ◌↔◌, ◌⊎◌, ℕ, Bool, ◌<◌, ◌≤◌, List, Option, Some, None, Ok, IsUtf8, length, max, map};
 ghost use Rattle.rox_grammar.specs.declared.fault.Fault.{Fault};
 ghost use Rattle.rox_grammar.specs.Forest.{Forest, size};
 ghost use Rattle.rox_grammar.specs.Written.{Item};
 ghost use Rattle.rox_grammar.specs.Tree as grammar;
 ghost use Rattle.rox_grammar.specs.Tree.{document_tree};
 ghost use Rattle.rox_grammar.specs.Entities.{opens_main, most_open};
-ghost use Rattle.rox_grammar.specs.Doctype.{Asked};
+ghost use Rattle.rox_grammar.specs.Doctype.{Request, Asked};
 ghost use Rattle.rox_grammar.specs.Document.{ParseOf, IsTreeOf, Permits};
-ghost use Rattle.rox_grammar.specs.Expansion.{Counts};
+ghost use Rattle.rox_grammar.specs.Expansion.{Counts, longest};
 ghost use Rattle.rox_laws.specs.Bounded.{IsBounded};
 ghost use Rattle.rox_grammar.specs.Faults.{FaultOf};
 ghost use Rattle.rox_grammar.specs.Refused.{RefusalOf};
 ghost use Rattle.rox_grammar.specs.Spans.{NamesText};
 ghost use Rattle.rox_grammar.specs.Exchange.{HasTree};
-ghost use Rattle.rox_theory.specs.Answers.{SameAnswers};
+ghost use Rattle.rox_theory.specs.Answers.{SameAnswers, AreShort};
+ghost use Rattle.rox_theory.specs.Pieces.{pieces_of, OnlySectionsAreEmpty};
+ghost use Rattle.rox_resolver.specs.Requests.{Allows, AreAllowed};
+ghost use Rattle.roxmltree.specs.Each.{Each};
 ghost use Rattle.rox_error.specs.Telling.{IsErrorOf};
 ghost use Rattle.rox_error.specs.declared.error.Error.{Error};
 ghost use Rattle.rox_error.specs.declared.error.Error.TheVariants as error;
 ghost use Rattle.rox_laws.specs.Lawful.{TextsApart, NamesDistinct, AllChars};
 ghost use Rattle.rox_laws.specs.Located.{RangesNested, AttributesInOrder, AttributesWritten, RangesSelect};
-ghost use Rattle.rox_laws.specs.Sections.{EmptyTextsAreSections};
+ghost use Rattle.rox_laws.specs.Sections.{EmptyTextsAreSections, BeginsWithSection};
 ghost use Rattle.rox_laws.specs.Sources.{IsLiteralIn, IsAnswerIn};
 ghost use Rattle.roxmltree.specs.Places.{parent, next_sibling};
 ghost use Rattle.roxmltree.specs.Says.{node_at, start_of, end_of, attributes_of};
 ghost use Rattle.roxmltree.specs.Names.{IsNamedAt};
 ghost use Rattle.rox_laws.specs.Nearest.{upwards, NoneDeclares, IsNearest, IsElementAt, xml, listed_uri};
 
+use rox_resolver::resolver::EntityResolver;
 use roxmltree::Document;
 use roxmltree::laws::document_is_whole;
 
@@ -130,10 +134,15 @@ pub fn characters_are_chars(document: &Document<'_>)
     document_is_whole(document);
 }
 
-/// Without a document type declaration a text is empty only where all its pieces are empty CDATA sections: from its start on such
-/// sections stand, one at least, and then markup that is none.
+/// A text is empty only where all its pieces are empty CDATA sections, in the text itself or in replacement texts. By `pieces`,
+/// of every parse: the texts of its tree are the pieces that are written, each longest row of touching ones as one, and each piece
+/// without a byte is such a section. By `range` the range of an empty text is that of its first piece. By `plain`, without a
+/// document type declaration, they stand one after the other from its start on, and then stands markup that is none.
+/// (`document_is_a_parse`: the tree of the document is that of such a parse.)
 pub fn empty_texts_are_sections(document: &Document<'_>)
-    ensures { document.now.dtd ≡ false → EmptyTextsAreSections document.now.text document.now.tree }
+    ensures pieces { (asked : List Asked) (tops : Forest Item) (p : ParseOf document.now.text document.now.dtd asked tops) → OnlySectionsAreEmpty document.now.text p.entities tops (pieces_of document.now.text document.now.dtd asked tops p) }
+    ensures range { (asked : List Asked) (tops : Forest Item) (p : ParseOf document.now.text document.now.dtd asked tops) → Each (BeginsWithSection document.now.text p.entities) (document_tree (length document.now.text) tops) }
+    ensures plain { document.now.dtd ≡ false → EmptyTextsAreSections document.now.text document.now.tree }
 {
     document_is_whole(document);
 }
@@ -159,13 +168,25 @@ pub fn attributes_are_written(document: &Document<'_>)
     document_is_whole(document);
 }
 
-/// However much entities add, a tree is bounded by its text: the values of all texts and attributes together have at most the
-/// bytes of the text, and for each `&` in it 256 times those of the longest replacement text that it declares. There are no more
-/// nodes, the root node aside, and attributes together than that.
+/// However much entities add, a tree is bounded by its text and by what is answered. By `replacements`, in the tree of every parse
+/// of the text: the values of all texts and attributes together have at most the bytes of the text, and for each `&` in it 256
+/// times those of the longest replacement text that it declares; and there are no more nodes, the root node aside, and attributes
+/// together than that. By `answers`: no replacement text is longer than the text or the longest answer, so who bounds the answers
+/// bounds the tree. (`document_is_a_parse`: the tree of the document is that of such a parse.)
 pub fn trees_are_bounded(document: &Document<'_>)
-    ensures { (asked : List Asked) × (tops : Forest Item) × (p : ParseOf document.now.text document.now.dtd asked tops) × (document.now.tree ≡ document_tree (length document.now.text) tops) × IsBounded document.now.text p.entities document.now.tree }
+    ensures replacements { (asked : List Asked) (tops : Forest Item) (p : ParseOf document.now.text document.now.dtd asked tops) → IsBounded document.now.text (longest p.entities) (document_tree (length document.now.text) tops) }
+    ensures answers { (asked : List Asked) (tops : Forest Item) (most : ℕ) → ParseOf document.now.text document.now.dtd asked tops → AreShort most asked → IsBounded document.now.text (max (length document.now.text) most) (document_tree (length document.now.text) tops) }
 {
-    document_is_whole(document);
+    let _ = document;
+}
+
+/// The same of what `Document::parse_with_options` promises: where a resolver may answer no text of more than so many bytes, the
+/// tree of every text that is parsed with answers that it allows is bounded by these bytes and those of the text.
+pub fn answers_bound_trees<'input, R: EntityResolver<'input>>(text: &str, resolver: &Option<R>)
+    ensures { (most limit : ℕ) (dtd : Bool) (asked : List Asked) (tree : Forest grammar.Node) → ((request : Request) (answer : List ℕ) → Allows R.allows resolver.now request (Ok (Some answer)) → length answer ≤ most) → AreAllowed (Allows R.allows resolver.now) asked → IsTreeOf text.now dtd asked limit tree → IsBounded text.now (max (length text.now) most) tree }
+{
+    let _ = text;
+    let _ = resolver;
 }
 
 /// Under one reference of the text at most 256 replacement texts are opened, at most ten within one another: in content, and in

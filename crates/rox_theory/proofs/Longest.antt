@@ -1,5 +1,5 @@
 -- How long a replacement text can be: it lies in the text, or in an answer.
-use Rattle.std.proofs.Common.{◌≡◌, ◌+◌, ◌-◌, ◌≤◌, ℕ, Bool, List, [], ◌∷◌, ◌++◌, length, take, drop, subst, sym, arith}
+use Rattle.std.proofs.Common.{◌+◌, ◌-◌, ◌≤◌, ℕ, Bool, List, [], ◌∷◌, ◌++◌, length, subst, sym, arith}
 use Rattle.std.specs.Prelude.{max, Some, None, IfSome, Option}
 use Rattle.std.proofs.lemmas.List.{length-drop, length-take}
 use Rattle.rox_grammar.specs.Forest.{Forest}
@@ -29,7 +29,7 @@ module _ (src : List ℕ) (most : ℕ) where
 
   given_short : (answer : Option (List ℕ)) (text : Option Replacement) → Gives answer text → IfSome answer (λ a. length a ≤ most) → IsShort text
   given_short answer text nothing h = tt
-  given_short answer text (the_rest whole d utf8 declared) h = let l = length-drop d whole in omega (arith, l, h)
+  given_short answer text (the_rest whole d utf8 stands) h = let l = length-drop d whole in omega (arith, l, h)
 
   definition_short : (parameter : Bool) (i j : ℕ) (asked : List Asked) (text : Option Replacement) → IsDefinition src parameter i j asked text → AreShort most asked → IsShort text
   definition_short parameter i j asked text (internal _ e _ quoted) h = let l = length-take e src in omega (arith, l)
