@@ -8,9 +8,19 @@ mod parsing;
 mod printed;
 mod text;
 
-use roxmltree::{Document, Error, Node, NodeId};
-use std::fmt::Display;
+use roxmltree::{Document, Error, Node, NodeId, NodeType};
+use std::fmt::{Debug, Display};
 use std::process::Abort;
+
+/// Wants a value to be this. Where it is not, what it is of is told with both.
+fn same<T: PartialEq + Debug + Drop>(rt: &impl Abort, of: &str, got: T, wanted: T) {
+    assert_eq!(rt; got, wanted, "{of}");
+}
+
+/// The same of a node, by its id.
+fn same_at<T: PartialEq + Debug + Drop>(rt: &impl Abort, id: u32, got: T, wanted: T) {
+    assert_eq!(rt; got, wanted, "node {id}");
+}
 
 /// The document of a text that is read.
 fn document_of<'input>(rt: &(impl Abort + AllocGlobal), text: &'input str) -> Document<'input> {
@@ -20,7 +30,7 @@ fn document_of<'input>(rt: &(impl Abort + AllocGlobal), text: &'input str) -> Do
 /// Why a text is refused.
 fn refusal_of(rt: &(impl Abort + AllocGlobal), text: &str) -> Error {
     let error = Document::parse(rt.alloc(), text).expect_err(rt, text);
-    assert_ne!(rt; error, Error::OutOfMemory, "{text:?}");
+    assert!(rt; error != Error::OutOfMemory, "out of memory: {text}");
     error
 }
 
@@ -40,6 +50,17 @@ fn number(node: Node<'_, '_>) -> u32 {
     node.id().get()
 }
 
+/// Wants a node to be of this kind alone.
+fn is_of_kind(rt: &impl Abort, node: Node<'_, '_>, kind: NodeType) {
+    let id = number(node);
+    same_at(rt, id, node.node_type(), kind);
+    same_at(rt, id, node.is_root(), kind == NodeType::Root);
+    same_at(rt, id, node.is_element(), kind == NodeType::Element);
+    same_at(rt, id, node.is_text(), kind == NodeType::Text);
+    same_at(rt, id, node.is_comment(), kind == NodeType::Comment);
+    same_at(rt, id, node.is_pi(), kind == NodeType::PI);
+}
+
 /// How many children a node has.
 fn child_count(node: Node<'_, '_>) -> usize {
     node.children().count()
@@ -48,5 +69,5 @@ fn child_count(node: Node<'_, '_>) -> usize {
 /// Wants this to be printed.
 fn prints<T: Display>(rt: &(impl Abort + AllocGlobal), printed: &T, wanted: &str) {
     let shown = printed.to_string(rt.alloc()).expect(rt, "memory");
-    assert_eq!(rt; shown.as_str(), wanted);
+    same(rt, "printed", shown.as_str(), wanted);
 }

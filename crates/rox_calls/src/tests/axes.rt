@@ -1,6 +1,6 @@
 //! The neighbours of nodes.
 
-use super::{document_of, node_of, number};
+use super::{document_of, node_of, number, same, same_at};
 use roxmltree::{AxisIter, Node};
 use std::process::Abort;
 
@@ -31,7 +31,7 @@ pub(super) fn nearest_elements(node: Node<'_, '_>) -> [Option<u32>; 5] {
 #[test]
 fn neighbours(rt: HostRuntime) {
     let document = document_of(&rt, SMALL);
-    for (id, wanted) in [
+    for (id, wanted) in &[
         (0, [None, None, None, Some(1), Some(1)]),
         (1, [Some(0), None, None, Some(2), Some(5)]),
         (2, [Some(1), None, Some(3), None, None]),
@@ -39,14 +39,15 @@ fn neighbours(rt: HostRuntime) {
         (4, [Some(1), Some(3), Some(5), None, None]),
         (5, [Some(1), Some(4), None, None, None]),
     ] {
-        assert_eq!(rt; nearest(node_of(&rt, &document, id)), wanted, "{id}");
+        let node = node_of(&rt, &document, *id);
+        same_at(&rt, *id, nearest(node), *wanted);
     }
 }
 
 #[test]
 fn neighbouring_elements(rt: HostRuntime) {
     let document = document_of(&rt, SMALL);
-    for (id, wanted) in [
+    for (id, wanted) in &[
         (0, [None, None, None, Some(1), Some(1)]),
         (1, [None, None, None, Some(2), Some(4)]),
         (2, [Some(1), None, Some(4), None, None]),
@@ -54,18 +55,15 @@ fn neighbouring_elements(rt: HostRuntime) {
         (4, [Some(1), Some(2), None, None, None]),
         (5, [Some(1), Some(4), None, None, None]),
     ] {
-        assert_eq!(rt;
-            nearest_elements(node_of(&rt, &document, id)),
-            wanted,
-            "{id}"
-        );
+        let node = node_of(&rt, &document, *id);
+        same_at(&rt, *id, nearest_elements(node), *wanted);
     }
 }
 
 #[test]
 fn tails_are_the_texts_behind_elements(rt: HostRuntime) {
     let document = document_of(&rt, SMALL);
-    for (id, text, tail) in [
+    for (id, text, tail) in &[
         (0, None, None),
         (1, None, None),
         (2, None, Some("t")),
@@ -73,16 +71,16 @@ fn tails_are_the_texts_behind_elements(rt: HostRuntime) {
         (4, None, None),
         (5, Some("c"), None),
     ] {
-        let node = node_of(&rt, &document, id);
-        assert_eq!(rt; node.text(), text, "{id}");
-        assert_eq!(rt; node.tail(), tail, "{id}");
+        let node = node_of(&rt, &document, *id);
+        same_at(&rt, *id, node.text(), *text);
+        same_at(&rt, *id, node.tail(), *tail);
     }
 }
 
 #[test]
 fn whether_there_are_neighbours(rt: HostRuntime) {
     let document = document_of(&rt, SMALL);
-    for (id, siblings, children) in [
+    for (id, siblings, children) in &[
         (0, false, true),
         (1, false, true),
         (2, true, false),
@@ -90,28 +88,28 @@ fn whether_there_are_neighbours(rt: HostRuntime) {
         (4, true, false),
         (5, true, false),
     ] {
-        let node = node_of(&rt, &document, id);
-        assert_eq!(rt; node.has_siblings(), siblings, "{id}");
-        assert_eq!(rt; node.has_children(), children, "{id}");
+        let node = node_of(&rt, &document, *id);
+        same_at(&rt, *id, node.has_siblings(), *siblings);
+        same_at(&rt, *id, node.has_children(), *children);
     }
 }
 
 #[test]
 fn siblings_have_one_parent(rt: HostRuntime) {
     let document = document_of(&rt, "<r><a><b/></a><c/></r>");
-    for (id, next) in [(1, None), (2, Some(4)), (3, None), (4, None)] {
-        let node = node_of(&rt, &document, id);
-        assert_eq!(rt; node.next_sibling().map(number), next, "{id}");
+    for (id, next) in &[(1, None), (2, Some(4)), (3, None), (4, None)] {
+        let node = node_of(&rt, &document, *id);
+        same_at(&rt, *id, node.next_sibling().map(number), *next);
     }
 }
 
 /// Wants an axis to lead over these nodes, and then to stay at its end.
 pub(super) fn leads_over(rt: &impl Abort, mut nodes: AxisIter<'_, '_>, wanted: &[u32]) {
     for id in wanted {
-        assert_eq!(rt; nodes.next().map(number), Some(*id), "{wanted:?}");
+        same_at(rt, *id, nodes.next().map(number), Some(*id));
     }
-    assert!(rt; nodes.next().is_none(), "{wanted:?}");
-    assert!(rt; nodes.next().is_none(), "{wanted:?}");
+    same(rt, "end", nodes.next().map(number), None);
+    same(rt, "behind the end", nodes.next().map(number), None);
 }
 
 #[test]

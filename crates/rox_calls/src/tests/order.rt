@@ -1,8 +1,8 @@
 //! Nodes compared, and hashed.
 
-use super::{document_of, node_of, refusal_of};
+use super::{document_of, node_of, refusal_of, same};
 use rox_laws::laws::{next_then_prev, order_agrees_with_equality, order_is_by_document};
-use roxmltree::{Document, NodeId, ParsingOptions, TextPos};
+use roxmltree::{Document, Node, NodeId, ParsingOptions, TextPos};
 use std::cmp::Ordering;
 use std::hash::{BuildHasher, BuildHasherDefault, FoldHasher, Hash};
 use std::process::Abort;
@@ -25,9 +25,9 @@ fn nodes_are_grouped_by_document(rt: HostRuntime) {
     let (a, b) = (node_of(&rt, &one, 2), node_of(&rt, &two, 2));
     let mut nodes = [b, one.root(), two.root(), a];
     nodes.sort_unstable();
-    assert_eq!(rt; nodes, [one.root(), a, two.root(), b]);
-    assert!(rt; a < two.root());
-    assert!(rt; a != b);
+    same(&rt, "sorted", nodes, [one.root(), a, two.root(), b]);
+    same(&rt, "less", a < two.root(), true);
+    same(&rt, "equal", a == b, false);
 }
 
 #[test]
@@ -35,37 +35,47 @@ fn nodes_of_one_key_are_equal_by_id(rt: HostRuntime) {
     let text = "<r><a/></r>";
     let (one, two) = (keyed(&rt, text, 0), keyed(&rt, text, 0));
     let (a, b) = (node_of(&rt, &one, 2), node_of(&rt, &two, 2));
-    assert!(rt; a == b);
-    assert_eq!(rt; hash_of(a), hash_of(b));
-    assert!(rt; one.root() < b);
-    assert!(rt; one.root() != b);
+    same(&rt, "equal", a == b, true);
+    same(&rt, "hash", hash_of(a), hash_of(b));
+    same(&rt, "root is less", one.root() < b, true);
+    same(&rt, "root is equal", one.root() == b, false);
 }
 
 #[test]
 fn equal_values_have_equal_hashes(rt: HostRuntime) {
-    assert_eq!(rt; hash_of(NodeId::new(2)), hash_of(NodeId::from(2)));
-    assert_eq!(rt;
-        hash_of(TextPos::new(1, 2)),
-        hash_of(TextPos { row: 1, col: 2 })
-    );
+    let id = hash_of(NodeId::new(2));
+    same(&rt, "id", id, hash_of(NodeId::from(2)));
+    let place = hash_of(TextPos::new(1, 2));
+    same(&rt, "place", place, hash_of(TextPos { row: 1, col: 2 }));
     let error = hash_of(refusal_of(&rt, "<e p:a=''/>"));
-    assert_eq!(rt; error, hash_of(refusal_of(&rt, "<e p:b=''/>")));
+    let other = hash_of(refusal_of(&rt, "<e p:b=''/>"));
+    same(&rt, "error", error, other);
+}
+
+/// Wants the node behind a node to be behind it.
+fn next_leads_back(rt: &impl Abort, node: Node<'_, '_>) {
+    match next_then_prev(node) {
+        Some(back) => same(rt, "back", back == node, true),
+        None => same(rt, "last", node.next_sibling().is_none(), true),
+    }
+}
+
+/// Wants the order of two nodes of a document to be that of their ids.
+fn order_is_that_of_ids(rt: &impl Abort, one: Node<'_, '_>, other: Node<'_, '_>) {
+    let (order, equal) = order_agrees_with_equality(one, other);
+    same(rt, "order", order == Ordering::Equal, equal);
+    same(rt, "ids", equal, one.id() == other.id());
+    let is_less = order_is_by_document(one, other) == Ordering::Less;
+    same(rt, "less", is_less, one.id() < other.id());
 }
 
 #[test]
 fn laws_that_run(rt: HostRuntime) {
     let document = document_of(&rt, "<root><a/>t<b/><!--c--></root>");
     for one in document.descendants() {
-        match next_then_prev(one) {
-            Some(back) => assert!(rt; back == one),
-            None => assert!(rt; one.next_sibling().is_none()),
-        }
+        next_leads_back(&rt, one);
         for other in document.descendants() {
-            let (order, equal) = order_agrees_with_equality(one, other);
-            assert_eq!(rt; order == Ordering::Equal, equal);
-            assert_eq!(rt; equal, one.id() == other.id());
-            let order = order_is_by_document(one, other);
-            assert_eq!(rt; order == Ordering::Less, one.id() < other.id());
+            order_is_that_of_ids(&rt, one, other);
         }
     }
 }

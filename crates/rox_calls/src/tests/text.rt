@@ -1,10 +1,10 @@
 //! Text nodes: their characters, whether they are slices of the input, and where they stand.
 
-use super::{child_count, document_of, prints};
+use super::{child_count, document_of, prints, same, same_at};
 use roxmltree::{Node, StringStorage};
 use std::alloc::{AllocError, Global};
+use std::ops::Range;
 use std::process::Abort;
-use std::test::Fail;
 
 /// Whether a text is no slice of the input.
 fn is_owned(storage: &StringStorage<'_>) -> bool {
@@ -14,9 +14,29 @@ fn is_owned(storage: &StringStorage<'_>) -> bool {
     }
 }
 
+/// Wants the root element of a text to have one child: this text, which stands there, and is a slice of the input or owned.
+fn has_text(
+    rt: &(impl Abort + AllocGlobal),
+    text: &str,
+    value: &str,
+    owned: bool,
+    range: Range<usize>,
+) {
+    let document = document_of(rt, text);
+    let element = document.root_element();
+    same(rt, text, child_count(element), 1);
+    let child = element.first_child().expect(rt, "no child");
+    same(rt, text, child.is_text(), true);
+    same(rt, text, child.text(), Some(value));
+    same(rt, text, child.range(), range);
+    let storage = child.text_storage().expect(rt, "no text");
+    same(rt, text, storage.as_str(), value);
+    same(rt, text, is_owned(storage), owned);
+}
+
 #[test]
 fn runs_and_sections(rt: HostRuntime) {
-    for (text, value, owned, start, end) in [
+    for (text, value, owned, start, end) in &[
         ("<r>t</r>", "t", false, 3, 4),
         ("<root>&apos;</root>", "'", true, 6, 12),
         ("<p><![CDATA[1]]><![CDATA[2]]></p>", "12", true, 3, 16),
@@ -33,39 +53,26 @@ fn runs_and_sections(rt: HostRuntime) {
         ("<r>&#xD800;</r>", "\u{fffd}", true, 3, 11),
         ("<r>&#4294967295;</r>", "\u{fffd}", true, 3, 16),
     ] {
-        let document = document_of(&rt, text);
-        let element = document.root_element();
-        assert_eq!(rt; child_count(element), 1, "{text:?}");
-        let child = element.first_child().expect(&rt, "no child");
-        assert!(rt; child.is_text(), "{text:?}");
-        assert_eq!(rt; child.text(), Some(value), "{text:?}");
-        assert_eq!(rt; child.range(), start..end, "{text:?}");
-        let storage = child.text_storage().expect(&rt, "no text");
-        assert_eq!(rt; storage.as_str(), value, "{text:?}");
-        assert_eq!(rt; is_owned(storage), owned, "{text:?}");
+        has_text(&rt, text, value, *owned, *start..*end);
     }
 }
 
-/// The text of `item` and its tail, in `text`.
+/// Wants `item` and its tail to have these texts, in `text`.
 fn item_and_tail(rt: &(impl Abort + AllocGlobal), text: &str) {
     let document = document_of(rt, text);
-    let item = document
-        .root_element()
-        .children()
-        .nth(1)
-        .expect(rt, "no second child");
-    assert!(rt; item.has_tag_name("item".into()));
-    assert_eq!(rt; item.text(), Some("\n        Text2\n    "), "{text:?}");
-    assert_eq!(rt; item.tail(), Some("\n    Text3\n"), "{text:?}");
+    let mut children = document.root_element().children();
+    let item = children.nth(1).expect(rt, "no second child");
+    same(rt, text, item.has_tag_name("item".into()), true);
+    same(rt, text, item.text(), Some("\n        Text2\n    "));
+    same(rt, text, item.tail(), Some("\n    Text3\n"));
 }
 
 #[test]
-fn texts_and_tails(rt: HostRuntime) -> Result<(), Fail> {
-    let alloc = rt.alloc();
+fn texts_and_tails(rt: HostRuntime) {
     let text = "<root>\n    Text1\n    <item>\n        Text2\n    </item>\n    Text3\n</root>\n";
     item_and_tail(&rt, text);
-    item_and_tail(&rt, with_carriage_returns(alloc, text)?.as_str());
-    Ok(())
+    let text = with_carriage_returns(rt.alloc(), text).expect(&rt, "memory");
+    item_and_tail(&rt, text.as_str());
 }
 
 /// The same text with CR LF for each LF.
@@ -91,16 +98,16 @@ fn text_in<'a>(storage: Option<&'a StringStorage<'_>>) -> Option<&'a str> {
 /// Wants a node to have this text and this tail.
 pub(super) fn has(rt: &impl Abort, node: Node<'_, '_>, text: Option<&str>, tail: Option<&str>) {
     let id = node.id().get();
-    assert_eq!(rt; node.text(), text, "{id}");
-    assert_eq!(rt; text_in(node.text_storage()), text, "{id}");
-    assert_eq!(rt; node.tail(), tail, "{id}");
-    assert_eq!(rt; text_in(node.tail_storage()), tail, "{id}");
+    same_at(rt, id, node.text(), text);
+    same_at(rt, id, text_in(node.text_storage()), text);
+    same_at(rt, id, node.tail(), tail);
+    same_at(rt, id, text_in(node.tail_storage()), tail);
 }
 
 #[test]
 fn text_is_that_of_the_first_child(rt: HostRuntime) {
     let document = document_of(&rt, "<r>x<a><b/>y</a><!--c-->z<?d e?><f><!--g--></f></r>");
-    for (node, (text, tail)) in document.descendants().zip([
+    for (node, (text, tail)) in document.descendants().zip(&[
         (None, None),
         (Some("x"), None),
         (Some("x"), None),
@@ -113,21 +120,29 @@ fn text_is_that_of_the_first_child(rt: HostRuntime) {
         (None, None),
         (Some("g"), None),
     ]) {
-        has(&rt, node, text, tail);
+        has(&rt, node, *text, *tail);
     }
 }
 
 #[test]
-fn storages(rt: HostRuntime) -> Result<(), Fail> {
+fn storages(rt: HostRuntime) {
     let borrowed = StringStorage::Borrowed("text");
-    let owned = StringStorage::new_owned(rt.alloc(), "text")?;
-    assert!(rt; is_owned(&owned));
-    assert!(rt; !is_owned(&borrowed));
-    assert!(rt; borrowed == owned);
-    assert!(rt; owned != StringStorage::Borrowed("texts"));
-    assert!(rt; is_owned(&owned.clone()?));
-    assert!(rt; borrowed.clone()? == owned);
+    let owned = StringStorage::new_owned(rt.alloc(), "text").expect(&rt, "memory");
+    same(&rt, "owned", is_owned(&owned), true);
+    same(&rt, "borrowed", is_owned(&borrowed), false);
+    same(&rt, "equal", borrowed == owned, true);
+    let other = StringStorage::Borrowed("texts");
+    same(&rt, "other", owned == other, false);
     prints(&rt, &owned, "text");
     prints(&rt, &borrowed, "text");
-    Ok(())
+}
+
+#[test]
+fn copies_of_storages(rt: HostRuntime) {
+    let borrowed = StringStorage::Borrowed("text");
+    let owned = StringStorage::new_owned(rt.alloc(), "text").expect(&rt, "memory");
+    let copy = owned.clone().expect(&rt, "memory");
+    same(&rt, "owned", is_owned(&copy), true);
+    let copy = borrowed.clone().expect(&rt, "memory");
+    same(&rt, "equal", copy == owned, true);
 }
