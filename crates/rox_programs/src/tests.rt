@@ -4,9 +4,15 @@ mod dump;
 mod listing;
 mod measures;
 
-use std::alloc::{AllocError, Global};
+use std::fmt::Debug;
 use std::io;
 use std::io::{ErrorKind, Read, Write};
+use std::process::Abort;
+
+/// Wants a value to be this. Where it is not, what it is of is told with both.
+fn same<T: PartialEq + Debug + Drop>(rt: &impl Abort, of: &str, got: T, wanted: T) {
+    assert_eq!(rt; got, wanted, "{of}");
+}
 
 /// Gives its bytes, and then fails.
 #[derive(Drop)]
@@ -46,10 +52,30 @@ impl Write for Refusing {
     }
 }
 
+/// An output that takes so many writes and refuses the next.
+fn refusing(rt: &impl AllocGlobal, writes: u32) -> Refusing {
+    Refusing {
+        taken: Vec::new(rt.alloc()),
+        writes,
+    }
+}
+
+/// What was written.
+fn text_in(written: &[u8]) -> &str {
+    str::from_utf8(written).unwrap_or("?")
+}
+
 /// The words of a line, apart at spaces.
-fn words(alloc: Global, line: &str) -> Result<Vec<String>, AllocError> {
+fn words(rt: &(impl Abort + AllocGlobal), line: &str) -> Vec<String> {
+    let alloc = rt.alloc();
     line.split(' ')
         .filter(|word| !word.is_empty())
         .map(|word| String::from_str(alloc, word))
         .try_collect(alloc)
+        .expect(rt, "memory")
+}
+
+/// A text of one's own.
+fn owned(rt: &(impl Abort + AllocGlobal), text: &str) -> String {
+    String::from_str(rt.alloc(), text).expect(rt, "memory")
 }

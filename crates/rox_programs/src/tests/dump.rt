@@ -1,88 +1,117 @@
 //! What `xmldump` writes, over readers and writers in memory. The wanted dumps are those of the Rust crate.
 
-use super::{Cut, Refusing, words};
+use super::{Cut, owned, refusing, same, text_in, words};
 use rox_dump::answers::Answer;
 use rox_dump::arguments::{USAGE, command};
-use rox_dump::options::{AnswerWord, Options};
+use rox_dump::options::{AnswerWord, Command, Options};
 use rox_dump::run::{read_text, run};
 use rox_dump::sources::Sources;
-use std::alloc::Global;
 use std::process::Abort;
-use std::test::Fail;
 
 /// Nothing but the input.
-fn no_sources(alloc: Global) -> Sources {
+fn no_sources(rt: &impl AllocGlobal) -> Sources {
     Sources {
-        answers: Vec::new(alloc),
+        answers: Vec::new(rt.alloc()),
         main: None,
     }
 }
 
 /// Runs on an input, and wants this status, and these texts on standard output and standard error.
 fn wants(
-    rt: &impl Abort,
-    alloc: Global,
+    rt: &(impl Abort + AllocGlobal),
     options: Options,
     input: &[u8],
     status: u8,
     out: &str,
     err: &str,
 ) {
-    let sources = no_sources(alloc);
-    wants_with(rt, alloc, (options, &sources), input, (status, out, err));
+    wants_with(rt, options, &no_sources(rt), input, status, out, err);
 }
 
 /// The same with what is read beside the input.
 fn wants_with(
-    rt: &impl Abort,
-    alloc: Global,
-    (options, sources): (Options, &Sources),
+    rt: &(impl Abort + AllocGlobal),
+    options: Options,
+    sources: &Sources,
     input: &[u8],
-    (status, out, err): (u8, &str, &str),
+    status: u8,
+    out: &str,
+    err: &str,
 ) {
+    let alloc = rt.alloc();
     let (mut got_out, mut got_err) = (Vec::new(alloc), Vec::new(alloc));
-    let got = run(
-        alloc,
-        options,
-        sources,
-        Some(input),
-        &mut got_out,
-        &mut got_err,
-    );
-    assert_eq!(rt; str::from_utf8(&got_err).unwrap_or("?"), err);
-    assert_eq!(rt; str::from_utf8(&got_out).unwrap_or("?"), out);
-    assert_eq!(rt; got, status);
+    let input = Some(input);
+    let got = run(alloc, options, sources, input, &mut got_out, &mut got_err);
+    same(rt, "standard error", text_in(&got_err), err);
+    same(rt, "standard output", text_in(&got_out), out);
+    same(rt, "status", got, status);
+}
+
+/// What these words ask for, which are right.
+fn asked<'a>(rt: &(impl Abort + AllocGlobal), words: &'a [String]) -> Command<'a> {
+    let command = command(rt.alloc(), words).expect(rt, "memory");
+    command.expect(rt, "a wrong argument")
+}
+
+/// Wants a line to ask for nothing but this limit, axes, look-ups, a batch and a file.
+fn asks_for(
+    rt: &(impl Abort + AllocGlobal),
+    line: &str,
+    limit: u32,
+    [axes, lookups, batch]: [bool; 3],
+    file: Option<&str>,
+) {
+    let words = words(rt, line);
+    let asked = asked(rt, &words);
+    same(rt, line, asked.options.nodes_limit, limit);
+    same(rt, line, asked.options.axes, axes);
+    same(rt, line, asked.options.lookups, lookups);
+    same(rt, line, asked.options.batch, batch);
+    same(rt, line, asked.file, file);
+    same(rt, line, asked.main, None);
+    same(rt, line, asked.answers.len(), 0);
 }
 
 #[test]
-fn reads_arguments(rt: HostRuntime) -> Result<(), Fail> {
-    let alloc = rt.alloc();
-    for (line, limit, axes, batch, file) in [
-        ("-", u32::MAX, false, false, None),
-        ("a.xml", u32::MAX, false, false, Some("a.xml")),
-        ("--axes -", u32::MAX, true, false, None),
-        ("--lookups --axes -", u32::MAX, true, false, None),
-        ("--batch --nodes-limit 0 ./-", 0, false, true, Some("./-")),
+fn reads_arguments(rt: HostRuntime) {
+    for (line, limit, flags, file) in &[
+        ("-", u32::MAX, [false, false, false], None),
+        ("a.xml", u32::MAX, [false, false, false], Some("a.xml")),
+        ("--axes -", u32::MAX, [true, false, false], None),
+        ("--lookups --axes -", u32::MAX, [true, true, false], None),
+        (
+            "--batch --nodes-limit 0 ./-",
+            0,
+            [false, false, true],
+            Some("./-"),
+        ),
         (
             "--nodes-limit 4294967295 --axes a",
             u32::MAX,
-            true,
-            false,
+            [true, false, false],
             Some("a"),
         ),
-        ("--nodes-limit 7 --nodes-limit 08 -", 8, false, false, None),
+        (
+            "--nodes-limit 7 --nodes-limit 08 -",
+            8,
+            [false, false, false],
+            None,
+        ),
     ] {
-        let words = words(alloc, line)?;
-        let asked = command(alloc, &words)?.ok_or("a wrong argument")?;
-        assert_eq!(rt; asked.options.nodes_limit, limit, "{line}");
-        assert_eq!(rt; asked.options.axes, axes, "{line}");
-        assert_eq!(rt; asked.options.batch, batch, "{line}");
-        assert_eq!(rt; asked.options.lookups, line.contains("--lookups"), "{line}");
-        assert_eq!(rt; asked.file, file, "{line}");
-        assert_eq!(rt; asked.main, None, "{line}");
-        assert_eq!(rt; asked.answers.len(), 0, "{line}");
+        asks_for(&rt, line, *limit, *flags, *file);
     }
-    for line in [
+}
+
+/// Wants a line to be wrong.
+fn is_wrong(rt: &(impl Abort + AllocGlobal), line: &str) {
+    let words = words(rt, line);
+    let command = command(rt.alloc(), &words).expect(rt, "memory");
+    same(rt, line, command.is_none(), true);
+}
+
+#[test]
+fn tells_wrong_arguments(rt: HostRuntime) {
+    for line in &[
         "",
         "--axes",
         "-x",
@@ -101,122 +130,147 @@ fn reads_arguments(rt: HostRuntime) -> Result<(), Fail> {
         "--main",
         "--main a.xml",
     ] {
-        let words = words(alloc, line)?;
-        assert!(rt; command(alloc, &words)?.is_none(), "{line}");
+        is_wrong(&rt, line);
     }
-    Ok(())
 }
 
 /// The usage line without its brackets, and with a number for N, is a command that asks for all there is.
 #[test]
-fn usage_is_a_command(rt: HostRuntime) -> Result<(), Fail> {
-    let alloc = rt.alloc();
+fn usage_is_a_command(rt: HostRuntime) {
     let usage =
         "usage: xmldump [--allow-dtd] [--nodes-limit N] [--axes] [--lookups] [--batch] [--ans-file PATH] [--ans-none] \
 [--ans-err TEXT] [--main MAIN] FILE";
-    assert_eq!(rt; USAGE, usage);
+    same(&rt, "usage", USAGE, usage);
     let line =
         "--allow-dtd --nodes-limit 7 --axes --lookups --batch --ans-file PATH --ans-none --ans-err TEXT --main MAIN FILE";
-    let words = words(alloc, line)?;
-    let asked = command(alloc, &words)?.ok_or("a wrong argument")?;
-    assert!(rt;
-        asked.options.allow_dtd
-            && asked.options.axes
-            && asked.options.lookups
-            && asked.options.batch
-    );
-    assert_eq!(rt; asked.options.nodes_limit, 7);
-    assert_eq!(rt; asked.answers.len(), 3);
-    assert_eq!(rt; asked.main, Some("MAIN"));
-    assert_eq!(rt; asked.file, Some("FILE"));
-    Ok(())
+    let words = words(&rt, line);
+    let asked = asked(&rt, &words);
+    same(&rt, "limit", asked.options.nodes_limit, 7);
+    same(&rt, "answers", asked.answers.len(), 3);
+    same(&rt, "main", asked.main, Some("MAIN"));
+    same(&rt, "file", asked.file, Some("FILE"));
+    all_is_asked_for(&rt, asked.options);
+}
+
+fn all_is_asked_for(rt: &impl Abort, options: Options) {
+    same(rt, "allow-dtd", options.allow_dtd, true);
+    same(rt, "axes", options.axes, true);
+    same(rt, "lookups", options.lookups, true);
+    same(rt, "batch", options.batch, true);
+}
+
+/// Wants an answer to be of this kind and to have this word.
+fn is_answer(rt: &impl Abort, answer: AnswerWord<'_>, kind: &str, word: &str) {
+    let (got_kind, got_word) = match answer {
+        AnswerWord::File(path) => ("file", path),
+        AnswerWord::Nothing => ("none", ""),
+        AnswerWord::Refusal(words) => ("err", words),
+    };
+    same(rt, "kind", got_kind, kind);
+    same(rt, "word", got_word, word);
 }
 
 #[test]
-fn reads_answers(rt: HostRuntime) -> Result<(), Fail> {
-    let alloc = rt.alloc();
+fn reads_answers(rt: HostRuntime) {
     let line =
         "--ans-file a.xml --ans-none --main m.xml --ans-err -x --ans-file -- --main n.xml --axes b.xml";
-    let words = words(alloc, line)?;
-    let asked = command(alloc, &words)?.ok_or("a wrong argument")?;
-    assert_eq!(rt; asked.file, Some("b.xml"));
-    assert_eq!(rt; asked.main, Some("n.xml"));
-    assert!(rt; asked.options.axes);
-    assert_eq!(rt; asked.answers.len(), 4);
-    let is_wanted = match asked.answers.as_slice() {
-        [
-            AnswerWord::File(a),
-            AnswerWord::Nothing,
-            AnswerWord::Refusal(x),
-            AnswerWord::File(b),
-        ] => { *a == "a.xml" && *x == "-x" && *b == "--" }
-        _ => false,
-    };
-    assert!(rt; is_wanted);
-    Ok(())
+    let words = words(&rt, line);
+    let asked = asked(&rt, &words);
+    same(&rt, "file", asked.file, Some("b.xml"));
+    same(&rt, "main", asked.main, Some("n.xml"));
+    same(&rt, "axes", asked.options.axes, true);
+    same(&rt, "answers", asked.answers.len(), 4);
+    for (answer, (kind, word)) in asked.answers.iter().zip(&[
+        ("file", "a.xml"),
+        ("none", ""),
+        ("err", "-x"),
+        ("file", "--"),
+    ]) {
+        is_answer(&rt, *answer, kind, word);
+    }
+}
+
+/// Wants a file to be no text, with this status.
+fn is_no_text(rt: &(impl Abort + AllocGlobal), input: Option<&[u8]>, status: u8) {
+    let fault = read_text(rt.alloc(), input).err().expect(rt, "a text");
+    same(rt, "status", fault.status(), status);
 }
 
 #[test]
-fn reads_files_of_answers(rt: HostRuntime) -> Result<(), Fail> {
-    let alloc = rt.alloc();
-    let text = read_text(alloc, Some(b"<a/>".as_slice()))
-        .ok()
-        .ok_or("no text")?;
-    assert_eq!(rt; text.as_str(), "<a/>");
-    let none: Option<&[u8]> = None;
-    for (input, status) in [(Some(b"\xff".as_slice()), 2), (none, 2)] {
-        let fault = read_text(alloc, input).err().ok_or("a text")?;
-        assert_eq!(rt; fault.status(), status);
-    }
-    Ok(())
+fn reads_files_of_answers(rt: HostRuntime) {
+    let input = Some(b"<a/>".as_slice());
+    let text = read_text(rt.alloc(), input).ok().expect(&rt, "no text");
+    same(&rt, "text", text.as_str(), "<a/>");
+    is_no_text(&rt, Some(b"\xff".as_slice()), 2);
+    is_no_text(&rt, None, 2);
 }
 
 /// Two external entities, the first of which is declared twice.
 const EXTERNAL: &str =
     "<!DOCTYPE r [<!ENTITY a SYSTEM \"1\"><!ENTITY a PUBLIC 'p\"' \"\u{e9}\"><!ENTITY b SYSTEM ''>]><r>&a;&b;</r>";
 
-#[test]
-fn dumps_requests(rt: HostRuntime) -> Result<(), Fail> {
-    let alloc = rt.alloc();
-    let mut options = Options::default();
-    options.allow_dtd = true;
-    let requests = "REQ - \"1\"\nREQ \"p\\x22\" \"\\xc3\\xa9\"\nREQ - \"\"\n";
-    let mut sources = no_sources(alloc);
-    sources.answers.push(Answer::Nothing)?;
+/// No answer for the first declaration, and a text for the second.
+fn answers(rt: &(impl Abort + AllocGlobal)) -> Sources {
+    let mut sources = no_sources(rt);
+    is_answered(rt, &mut sources, Answer::Nothing);
+    is_answered(rt, &mut sources, Answer::Text(owned(rt, "<a/>")));
     sources
-        .answers
-        .push(Answer::Text(String::from_str(alloc, "<a/>")?))?;
-    let nodes = "OK 4
+}
+
+/// One more answer.
+fn is_answered(rt: &impl Abort, sources: &mut Sources, answer: Answer) {
+    sources.answers.push(answer).expect(rt, "memory");
+}
+
+/// Wants this of the external entities with these answers.
+fn external_wants(rt: &(impl Abort + AllocGlobal), allow_dtd: bool, sources: &Sources, out: &str) {
+    let mut options = Options::default();
+    options.allow_dtd = allow_dtd;
+    wants_with(rt, options, sources, EXTERNAL.as_bytes(), 0, out, "");
+}
+
+#[test]
+fn dumps_requests(rt: HostRuntime) {
+    let out = "REQ - \"1\"
+REQ \"p\\x22\" \"\\xc3\\xa9\"
+REQ - \"\"
+OK 4
 0 Root parent=- prev=- next=- first=1 last=1 range=0..99 text=- tail=-
 1 Element parent=0 prev=- next=- first=2 last=3 range=86..99 tag={-}\"r\" attrs=[] ns=[] text=- tail=-
 2 Element parent=1 prev=- next=3 first=- last=- range=0..4 tag={-}\"a\" attrs=[] ns=[] text=- tail=-
 3 Element parent=1 prev=2 next=- first=- last=- range=0..4 tag={-}\"a\" attrs=[] ns=[] text=- tail=-
 ";
-    let out = format!(in alloc; "{requests}{nodes}")?;
-    let text = EXTERNAL.as_bytes();
-    wants_with(&rt, alloc, (options, &sources), text, (0, out.as_str(), ""));
-    sources
-        .answers
-        .push(Answer::Refusal(String::from_str(alloc, "no\n")?))?;
-    let refusal = "ERR EntityResolver 1:83 entity resolver failed at 1:83: no\\x0a\n";
-    let out = format!(in alloc; "{requests}{refusal}")?;
-    wants_with(&rt, alloc, (options, &sources), text, (0, out.as_str(), ""));
-    let out = "ERR UnknownEntityReference 1:89 unknown entity reference 'a' at 1:89\n";
-    wants(&rt, alloc, options, text, 0, out, "");
-    options.allow_dtd = false;
-    let out = "ERR DtdDetected 1:1 XML with DTD detected\n";
-    wants_with(&rt, alloc, (options, &sources), text, (0, out, ""));
-    Ok(())
+    external_wants(&rt, true, &answers(&rt), out);
 }
 
 #[test]
-fn dumps_a_main_text(rt: HostRuntime) -> Result<(), Fail> {
-    let alloc = rt.alloc();
+fn dumps_a_refusal_of_a_resolver(rt: HostRuntime) {
+    let mut sources = answers(&rt);
+    is_answered(&rt, &mut sources, Answer::Refusal(owned(&rt, "no\n")));
+    let out = "REQ - \"1\"
+REQ \"p\\x22\" \"\\xc3\\xa9\"
+REQ - \"\"
+ERR EntityResolver 1:83 entity resolver failed at 1:83: no\\x0a
+";
+    external_wants(&rt, true, &sources, out);
+    let out = "ERR DtdDetected 1:1 XML with DTD detected\n";
+    external_wants(&rt, false, &sources, out);
+}
+
+#[test]
+fn without_answers_nothing_is_requested(rt: HostRuntime) {
+    let out = "ERR UnknownEntityReference 1:89 unknown entity reference 'a' at 1:89\n";
+    external_wants(&rt, true, &no_sources(&rt), out);
+}
+
+#[test]
+fn dumps_a_main_text(rt: HostRuntime) {
     let mut options = Options::default();
-    (options.allow_dtd, options.batch) = (true, true);
-    let mut sources = no_sources(alloc);
+    options.allow_dtd = true;
+    options.batch = true;
+    let mut sources = no_sources(&rt);
     let main = "<!DOCTYPE r [<!ENTITY a SYSTEM 'u'>]><r>&a;</r>";
-    sources.main = Some(String::from_str(alloc, main)?);
+    sources.main = Some(owned(&rt, main));
     let out = "CASE 0 1
 REQ - \"u\"
 OK 3
@@ -231,8 +285,7 @@ NOTUTF8
 END 3
 ";
     let batch = b"1\nx\n3\n&b;\n1\n\xff\n";
-    wants_with(&rt, alloc, (options, &sources), batch, (0, out, ""));
-    Ok(())
+    wants_with(&rt, options, &sources, batch, 0, out, "");
 }
 
 #[test]
@@ -248,36 +301,25 @@ fn dumps_each_kind_of_node(rt: HostRuntime) {
 5 Element parent=1 prev=4 next=6 first=- last=- range=53..57 tag={-}\"b\" attrs=[] ns=[\"p\"=\"u\"] text=- tail=O\"y\\x0d\"
 6 Text parent=1 prev=5 next=- first=- last=- range=57..63 text=O\"y\\x0d\" tail=-
 ";
-    wants(
-        &rt,
-        rt.alloc(),
-        Options::default(),
-        text.as_bytes(),
-        0,
-        dump,
-        "",
-    );
+    let text = text.as_bytes();
+    wants(&rt, Options::default(), text, 0, dump, "");
+}
+
+/// Wants a text to be refused so, with at most so many nodes.
+fn is_refused(rt: &(impl Abort + AllocGlobal), text: &str, limit: u32, dump: &str) {
+    let mut options = Options::default();
+    options.nodes_limit = limit;
+    wants(rt, options, text.as_bytes(), 0, dump, "");
 }
 
 #[test]
 fn dumps_refusals(rt: HostRuntime) {
-    for (text, limit, dump) in [
-        (
-            "<r>\n</s>",
-            9,
-            "ERR UnexpectedCloseTag 2:1 expected 'r' tag, not 's' at 2:1\n",
-        ),
-        (
-            "<r>\u{1}</r>",
-            9,
-            "ERR NonXmlChar 1:4 a non-XML character '\\x5cu{1}' found at 1:4\n",
-        ),
-        ("<r/>", 1, "ERR NodesLimitReached 1:1 nodes limit reached\n"),
-    ] {
-        let mut options = Options::default();
-        options.nodes_limit = limit;
-        wants(&rt, rt.alloc(), options, text.as_bytes(), 0, dump, "");
-    }
+    let dump = "ERR UnexpectedCloseTag 2:1 expected 'r' tag, not 's' at 2:1\n";
+    is_refused(&rt, "<r>\n</s>", 9, dump);
+    let dump = "ERR NonXmlChar 1:4 a non-XML character '\\x5cu{1}' found at 1:4\n";
+    is_refused(&rt, "<r>\u{1}</r>", 9, dump);
+    let dump = "ERR NodesLimitReached 1:1 nodes limit reached\n";
+    is_refused(&rt, "<r/>", 1, dump);
 }
 
 #[test]
@@ -298,8 +340,9 @@ ERR NoRootNode 1:1 the document does not have a root node
 END 4
 ";
     let mut options = Options::default();
-    (options.axes, options.batch) = (true, true);
-    wants(&rt, rt.alloc(), options, batch, 0, dump, "");
+    options.axes = true;
+    options.batch = true;
+    wants(&rt, options, batch, 0, dump, "");
 }
 
 #[test]
@@ -321,57 +364,65 @@ own=true,false,true has=false value=- attrs_back=[] ns_back=[\"n\" -] order=2 or
 ";
     let mut options = Options::default();
     options.lookups = true;
-    wants(&rt, rt.alloc(), options, text.as_bytes(), 0, dump, "");
+    wants(&rt, options, text.as_bytes(), 0, dump, "");
 }
 
 #[test]
 fn tells_faults_of_input(rt: HostRuntime) {
-    let alloc = rt.alloc();
+    let message = "error: input is not UTF-8\n";
+    wants(&rt, Options::default(), b"<r>\xff", 2, "", message);
     let mut batch = Options::default();
     batch.batch = true;
-    let message = "error: input is not UTF-8\n";
-    wants(&rt, alloc, Options::default(), b"<r>\xff", 2, "", message);
-    for bytes in [b"x".as_slice(), b"3\n<a/>\n", b"4\n<a/>", b"+4\n<a/>\n"] {
-        wants(
-            &rt,
-            alloc,
-            batch,
-            bytes,
-            2,
-            "",
-            "error: input is no batch of texts\n",
-        );
-    }
-    for bytes in [None, Some(b"<r>".as_slice())] {
-        let (mut out, mut err) = (Vec::new(alloc), Vec::new(alloc));
-        let input = bytes.map(|bytes| Cut { bytes });
-        let (options, sources) = (Options::default(), no_sources(alloc));
-        let status = run(alloc, options, &sources, input, &mut out, &mut err);
-        assert_eq!(rt; status, 2);
-        assert_eq!(rt; err.as_slice(), b"error: cannot read input\n".as_slice());
-        assert!(rt; out.is_empty());
-    }
+    let message = "error: input is no batch of texts\n";
+    wants(&rt, batch, b"x", 2, "", message);
+    wants(&rt, batch, b"3\n<a/>\n", 2, "", message);
+    wants(&rt, batch, b"4\n<a/>", 2, "", message);
+    wants(&rt, batch, b"+4\n<a/>\n", 2, "", message);
+}
+
+/// Wants an input that cannot be read to be told, behind these bytes or as there is none.
+fn cannot_be_read(rt: &(impl Abort + AllocGlobal), input: Option<Cut<'_>>) {
+    let alloc = rt.alloc();
+    let (mut out, mut err) = (Vec::new(alloc), Vec::new(alloc));
+    let (options, sources) = (Options::default(), no_sources(rt));
+    let status = run(alloc, options, &sources, input, &mut out, &mut err);
+    same(rt, "status", status, 2);
+    same(
+        rt,
+        "standard error",
+        text_in(&err),
+        "error: cannot read input\n",
+    );
+    same(rt, "standard output", text_in(&out), "");
 }
 
 #[test]
-fn tells_faults_of_output(rt: HostRuntime) -> Result<(), Fail> {
+fn tells_faults_of_reading(rt: HostRuntime) {
+    cannot_be_read(&rt, None);
+    let bytes = b"<r>".as_slice();
+    cannot_be_read(&rt, Some(Cut { bytes }));
+}
+
+/// An element with a thousand in it.
+fn long(rt: &(impl Abort + AllocGlobal)) -> String {
     let alloc = rt.alloc();
-    let mut text = String::new(alloc);
-    text.push_str("<r>")?;
-    for _ in 0..1000 {
-        text.push_str("<a/>")?;
-    }
-    text.push_str("</r>")?;
-    let mut out = Refusing {
-        taken: Vec::new(alloc),
-        writes: 0,
-    };
-    let mut err = Vec::new(alloc);
+    let elements = "<a/>".repeat(alloc, 1000).expect(rt, "memory");
+    format!(in alloc; "<r>{elements}</r>").expect(rt, "memory")
+}
+
+#[test]
+fn tells_faults_of_output(rt: HostRuntime) {
+    let text = long(&rt);
+    let (mut out, mut err) = (refusing(&rt, 0), Vec::new(rt.alloc()));
     let input = Some(text.as_bytes());
-    let (options, sources) = (Options::default(), no_sources(alloc));
-    let status = run(alloc, options, &sources, input, &mut out, &mut err);
-    assert_eq!(rt; status, 2);
-    assert_eq!(rt; err.as_slice(), b"error: cannot write output\n".as_slice());
-    assert!(rt; out.taken.is_empty());
-    Ok(())
+    let (options, sources) = (Options::default(), no_sources(&rt));
+    let status = run(rt.alloc(), options, &sources, input, &mut out, &mut err);
+    same(&rt, "status", status, 2);
+    same(
+        &rt,
+        "standard error",
+        text_in(&err),
+        "error: cannot write output\n",
+    );
+    same(&rt, "taken", out.taken.len(), 0);
 }

@@ -1,12 +1,10 @@
 //! What `xmltree` prints, over readers and writers in memory.
 
-use super::{Cut, Refusing, words};
+use super::{Cut, owned, refusing, same, text_in, words};
 use rox_listing::arguments::{USAGE, command};
 use rox_listing::options::Command;
 use rox_listing::run::run;
-use std::alloc::{AllocError, Global};
 use std::process::Abort;
-use std::test::Fail;
 
 fn no_options() -> Command {
     Command {
@@ -17,28 +15,67 @@ fn no_options() -> Command {
 }
 
 /// Asks for the elements of a path.
-fn with_path(alloc: Global, path: &str) -> Result<Command, AllocError> {
-    let path = String::from_str(alloc, path)?;
-    Ok(Command {
+fn with_path(rt: &(impl Abort + AllocGlobal), path: &str) -> Command {
+    Command {
         allow_dtd: false,
-        path: Some(path),
+        path: Some(owned(rt, path)),
         file: None,
-    })
+    }
 }
 
 /// Runs on a text, and wants this status, and these texts on standard output and standard error.
-fn wants(rt: &impl Abort, alloc: Global, text: &[u8], status: u8, out: &str, err: &str) {
+fn command_wants(
+    rt: &(impl Abort + AllocGlobal),
+    command: &Command,
+    text: &[u8],
+    status: u8,
+    out: &str,
+    err: &str,
+) {
+    let alloc = rt.alloc();
     let (mut got_out, mut got_err) = (Vec::new(alloc), Vec::new(alloc));
-    let got = run(alloc, &no_options(), Some(text), &mut got_out, &mut got_err);
-    assert_eq!(rt; str::from_utf8(&got_err).unwrap_or("?"), err);
-    assert_eq!(rt; str::from_utf8(&got_out).unwrap_or("?"), out);
-    assert_eq!(rt; got, status);
+    let got = run(alloc, command, Some(text), &mut got_out, &mut got_err);
+    same(rt, "standard error", text_in(&got_err), err);
+    same(rt, "standard output", text_in(&got_out), out);
+    same(rt, "status", got, status);
+}
+
+/// The same without options.
+fn wants(rt: &(impl Abort + AllocGlobal), text: &[u8], status: u8, out: &str, err: &str) {
+    command_wants(rt, &no_options(), text, status, out, err);
+}
+
+/// What a line asks for, which is right.
+fn asked(rt: &(impl Abort + AllocGlobal), line: &str) -> Command {
+    let command = command(rt.alloc(), &words(rt, line)).expect(rt, "memory");
+    command.expect(rt, "a wrong argument")
+}
+
+/// The text of a word, where it is there.
+fn text_of(word: &Option<String>) -> Option<&str> {
+    match word {
+        Some(text) => Some(text.as_str()),
+        None => None,
+    }
+}
+
+/// Wants a line to ask for this.
+fn asks_for(
+    rt: &(impl Abort + AllocGlobal),
+    line: &str,
+    allow_dtd: bool,
+    path: Option<&str>,
+    file: Option<&str>,
+) {
+    let asked = asked(rt, line);
+    same(rt, line, asked.allow_dtd, allow_dtd);
+    same(rt, line, text_of(&asked.path), path);
+    same(rt, line, text_of(&asked.file), file);
 }
 
 #[test]
-fn reads_arguments(rt: HostRuntime) -> Result<(), Fail> {
-    let alloc = rt.alloc();
-    for (line, allow_dtd, path, file) in [
+fn reads_arguments(rt: HostRuntime) {
+    for (line, allow_dtd, path, file) in &[
         ("", false, None, None),
         ("--allow-dtd", true, None, None),
         ("a.xml", false, None, Some("a.xml")),
@@ -52,20 +89,19 @@ fn reads_arguments(rt: HostRuntime) -> Result<(), Fail> {
             Some("a.xml"),
         ),
     ] {
-        let asked = command(alloc, &words(alloc, line)?)?.ok_or("a wrong argument")?;
-        assert_eq!(rt; asked.allow_dtd, allow_dtd, "{line}");
-        assert_eq!(rt;
-            asked.path.as_ref().map(|path| path.as_str()),
-            path,
-            "{line}"
-        );
-        assert_eq!(rt;
-            asked.file.as_ref().map(|name| name.as_str()),
-            file,
-            "{line}"
-        );
+        asks_for(&rt, line, *allow_dtd, *path, *file);
     }
-    for line in [
+}
+
+/// Wants a line to be wrong.
+fn is_wrong(rt: &(impl Abort + AllocGlobal), line: &str) {
+    let command = command(rt.alloc(), &words(rt, line)).expect(rt, "memory");
+    same(rt, line, command.is_none(), true);
+}
+
+#[test]
+fn tells_wrong_arguments(rt: HostRuntime) {
+    for line in &[
         "-",
         "-x",
         "--path",
@@ -81,22 +117,17 @@ fn reads_arguments(rt: HostRuntime) -> Result<(), Fail> {
         "--allow-dtd a.xml b.xml",
         "-- a.xml",
     ] {
-        assert!(rt; command(alloc, &words(alloc, line)?)?.is_none(), "{line}");
+        is_wrong(&rt, line);
     }
-    Ok(())
 }
 
 /// The usage line without its brackets is a command that asks for all there is.
 #[test]
-fn usage_is_a_command(rt: HostRuntime) -> Result<(), Fail> {
-    let alloc = rt.alloc();
-    assert_eq!(rt; USAGE, "usage: xmltree [--allow-dtd] [--path P] [FILE]");
+fn usage_is_a_command(rt: HostRuntime) {
+    let usage = "usage: xmltree [--allow-dtd] [--path P] [FILE]";
+    same(&rt, "usage", USAGE, usage);
     let line = "--allow-dtd --path P FILE";
-    let asked = command(alloc, &words(alloc, line)?)?.ok_or("a wrong argument")?;
-    assert!(rt; asked.allow_dtd);
-    assert_eq!(rt; asked.path.as_ref().map(|path| path.as_str()), Some("P"));
-    assert_eq!(rt; asked.file.as_ref().map(|name| name.as_str()), Some("FILE"));
-    Ok(())
+    asks_for(&rt, line, true, Some("P"), Some("FILE"));
 }
 
 #[test]
@@ -111,7 +142,7 @@ fn lists_a_tree(rt: HostRuntime) {
         - Element:
             tag_name: b
 ";
-    wants(&rt, rt.alloc(), b"<r a=\"1\">x<b/></r>", 0, listing, "");
+    wants(&rt, b"<r a=\"1\">x<b/></r>", 0, listing, "");
 }
 
 #[test]
@@ -129,7 +160,7 @@ fn lists_each_kind_of_node(rt: HostRuntime) {
             value: \"x \\\"y\\\"\"
         - Comment: \"\u{e9}\\u{301}\\u{200b}\"
 ";
-    wants(&rt, rt.alloc(), text.as_bytes(), 0, listing, "");
+    wants(&rt, text.as_bytes(), 0, listing, "");
 }
 
 #[test]
@@ -153,89 +184,95 @@ fn sorts_attributes_and_namespaces(rt: HostRuntime) {
               None: \"\"
               p: u
 ";
-    wants(&rt, rt.alloc(), text.as_bytes(), 0, listing, "");
+    wants(&rt, text.as_bytes(), 0, listing, "");
 }
 
 #[test]
 fn tells_faults_of_the_text(rt: HostRuntime) {
-    for (text, message) in [
-        ("<a>", "error: the root node was opened but never closed\n"),
-        ("<!DOCTYPE r><r/>", "error: XML with DTD detected\n"),
-        ("", "error: the document does not have a root node\n"),
-    ] {
-        wants(&rt, rt.alloc(), text.as_bytes(), 1, "", message);
-    }
+    let message = "error: the root node was opened but never closed\n";
+    wants(&rt, b"<a>", 1, "", message);
+    let message = "error: XML with DTD detected\n";
+    wants(&rt, b"<!DOCTYPE r><r/>", 1, "", message);
+    let message = "error: the document does not have a root node\n";
+    wants(&rt, b"", 1, "", message);
     let message = "error: input is not UTF-8\n";
-    wants(&rt, rt.alloc(), b"<r>\xff", 2, "", message);
+    wants(&rt, b"<r>\xff", 2, "", message);
+}
+
+/// Wants nothing to be printed but this fault, with the status 2.
+fn is_told(rt: &(impl Abort + AllocGlobal), command: &Command, input: Option<Cut<'_>>, err: &str) {
+    let alloc = rt.alloc();
+    let (mut out, mut got_err) = (Vec::new(alloc), Vec::new(alloc));
+    let status = run(alloc, command, input, &mut out, &mut got_err);
+    same(rt, "status", status, 2);
+    same(rt, "standard error", text_in(&got_err), err);
+    same(rt, "standard output", text_in(&out), "");
+}
+
+/// Wants an input to be told that cannot be read behind these bytes.
+fn is_cut(rt: &(impl Abort + AllocGlobal), bytes: &[u8]) {
+    let input = Some(Cut { bytes });
+    is_told(rt, &no_options(), input, "error: cannot read input\n");
 }
 
 #[test]
 fn tells_faults_of_input(rt: HostRuntime) {
-    let alloc = rt.alloc();
-    for bytes in [None, Some(b"<r>".as_slice()), Some(b"\xff".as_slice())] {
-        let (mut out, mut err) = (Vec::new(alloc), Vec::new(alloc));
-        let input = bytes.map(|bytes| Cut { bytes });
-        let status = run(alloc, &no_options(), input, &mut out, &mut err);
-        assert_eq!(rt; status, 2);
-        assert_eq!(rt; err.as_slice(), b"error: cannot read input\n".as_slice());
-        assert!(rt; out.is_empty());
-    }
+    is_told(&rt, &no_options(), None, "error: cannot read input\n");
+    is_cut(&rt, b"<r>");
+    is_cut(&rt, b"\xff");
 }
 
 /// Runs on a text with an output that refuses the write after so many, and wants that to be told. How many bytes were taken.
-fn taken_before_a_fault(rt: &impl Abort, alloc: Global, text: &[u8], writes: u32) -> usize {
-    let mut out = Refusing {
-        taken: Vec::new(alloc),
-        writes,
-    };
-    let mut err = Vec::new(alloc);
+fn taken_before_a_fault(rt: &(impl Abort + AllocGlobal), text: &[u8], writes: u32) -> usize {
+    let alloc = rt.alloc();
+    let (mut out, mut err) = (refusing(rt, writes), Vec::new(alloc));
     let status = run(alloc, &no_options(), Some(text), &mut out, &mut err);
-    assert_eq!(rt; status, 2);
-    assert_eq!(rt; err.as_slice(), b"error: cannot write output\n".as_slice());
+    same(rt, "status", status, 2);
+    same(
+        rt,
+        "standard error",
+        text_in(&err),
+        "error: cannot write output\n",
+    );
     out.taken.len()
 }
 
+/// Wants at least so many bytes to be taken, and one buffer of them at most.
+fn is_taken(rt: &(impl Abort + AllocGlobal), text: &[u8], writes: u32, kept: usize) {
+    let taken = taken_before_a_fault(rt, text, writes);
+    same(rt, "too few", taken < kept, false);
+    same(rt, "too many", taken > 65_536, false);
+}
+
 #[test]
-fn tells_faults_of_output(rt: HostRuntime) -> Result<(), Fail> {
-    let alloc = rt.alloc();
-    let text = nested(alloc, 300)?;
-    for (writes, kept) in [(0, 0), (1, 65_000)] {
-        let taken = taken_before_a_fault(&rt, alloc, text.as_bytes(), writes);
-        assert!(rt; taken >= kept && taken <= 65_536);
-    }
-    Ok(())
+fn tells_faults_of_output(rt: HostRuntime) {
+    let text = nested(&rt, 300);
+    is_taken(&rt, text.as_bytes(), 0, 0);
+    is_taken(&rt, text.as_bytes(), 1, 65_000);
 }
 
 /// The listing is so short that it is written at the end alone.
 #[test]
 fn tells_a_fault_at_the_end_of_output(rt: HostRuntime) {
-    assert_eq!(rt; taken_before_a_fault(&rt, rt.alloc(), b"<r/>", 0), 0);
+    same(&rt, "taken", taken_before_a_fault(&rt, b"<r/>", 0), 0);
 }
 
 #[test]
 fn passes_over_faults_of_standard_error(rt: HostRuntime) {
     let alloc = rt.alloc();
-    let mut out = Vec::new(alloc);
-    let mut err = Refusing {
-        taken: Vec::new(alloc),
-        writes: 0,
-    };
+    let (mut out, mut err) = (Vec::new(alloc), refusing(&rt, 0));
     let input = Some(b"<a>".as_slice());
-    assert_eq!(rt; run(alloc, &no_options(), input, &mut out, &mut err), 1);
-    assert!(rt; out.is_empty());
+    let status = run(alloc, &no_options(), input, &mut out, &mut err);
+    same(&rt, "status", status, 1);
+    same(&rt, "standard output", text_in(&out), "");
 }
 
 /// Runs on a text that may have a document type declaration, and wants this status, and these texts on standard output and
 /// standard error.
-fn declared_wants(rt: &impl Abort, alloc: Global, text: &str, status: u8, out: &str, err: &str) {
+fn declared_wants(rt: &(impl Abort + AllocGlobal), text: &str, status: u8, out: &str, err: &str) {
     let mut command = no_options();
     command.allow_dtd = true;
-    let (mut got_out, mut got_err) = (Vec::new(alloc), Vec::new(alloc));
-    let input = Some(text.as_bytes());
-    let got = run(alloc, &command, input, &mut got_out, &mut got_err);
-    assert_eq!(rt; str::from_utf8(&got_err).unwrap_or("?"), err);
-    assert_eq!(rt; str::from_utf8(&got_out).unwrap_or("?"), out);
-    assert_eq!(rt; got, status);
+    command_wants(rt, &command, text.as_bytes(), status, out, err);
 }
 
 #[test]
@@ -254,73 +291,64 @@ fn lists_what_entities_stand_for(rt: HostRuntime) {
               c: \"1\"
         - Text: \"y1\"
 ";
-    declared_wants(&rt, rt.alloc(), text, 0, listing, "");
+    declared_wants(&rt, text, 0, listing, "");
 }
 
 #[test]
 fn tells_faults_of_entities(rt: HostRuntime) {
-    for (text, message) in [
-        (
-            "<!DOCTYPE r [<!ENTITY a '&a;'>]><r>&a;</r>",
-            "error: a possible entity reference loop is detected at 1:29\n",
-        ),
-        (
-            "<!DOCTYPE r [<!ENTITY a SYSTEM 'a.xml'>]><r>&a;</r>",
-            "error: unknown entity reference 'a' at 1:45\n",
-        ),
-        ("<!DOCTYPE r", "error: unexpected end of stream\n"),
-    ] {
-        declared_wants(&rt, rt.alloc(), text, 1, "", message);
-    }
+    let text = "<!DOCTYPE r [<!ENTITY a '&a;'>]><r>&a;</r>";
+    let message = "error: a possible entity reference loop is detected at 1:29\n";
+    declared_wants(&rt, text, 1, "", message);
+    let text = "<!DOCTYPE r [<!ENTITY a SYSTEM 'a.xml'>]><r>&a;</r>";
+    let message = "error: unknown entity reference 'a' at 1:45\n";
+    declared_wants(&rt, text, 1, "", message);
+    let message = "error: unexpected end of stream\n";
+    declared_wants(&rt, "<!DOCTYPE r", 1, "", message);
 }
 
 /// So many elements, each in the one before it.
-fn nested(alloc: Global, count: usize) -> Result<String, AllocError> {
-    let mut text = String::new(alloc);
-    for _ in 0..count {
-        text.push_str("<a>")?;
-    }
-    for _ in 0..count {
-        text.push_str("</a>")?;
-    }
-    Ok(text)
+fn nested(rt: &(impl Abort + AllocGlobal), count: usize) -> String {
+    let alloc = rt.alloc();
+    let mut text = "<a>".repeat(alloc, count).expect(rt, "memory");
+    let ends = "</a>".repeat(alloc, count).expect(rt, "memory");
+    text.push_str(ends.as_str()).expect(rt, "memory");
+    text
 }
 
 #[test]
-fn lists_nested_elements(rt: HostRuntime) -> Result<(), Fail> {
+fn lists_nested_elements(rt: HostRuntime) {
     let alloc = rt.alloc();
     let (mut out, mut err) = (Vec::new(alloc), Vec::new(alloc));
-    let text = nested(alloc, 300)?;
+    let text = nested(&rt, 300);
     let input = Some(text.as_bytes());
     let status = run(alloc, &no_options(), input, &mut out, &mut err);
-    assert_eq!(rt; status, 0);
-    assert_eq!(rt; out.iter().filter(|byte| **byte == b'\n').count(), 900);
-    Ok(())
+    same(&rt, "status", status, 0);
+    let lines = out.iter().filter(|byte| **byte == b'\n').count();
+    same(&rt, "lines", lines, 900);
 }
 
 /// Runs on a text with a path, and wants this status, and these texts on standard output and standard error.
 fn path_wants(
-    rt: &impl Abort,
-    alloc: Global,
-    (path, text): (&str, &str),
+    rt: &(impl Abort + AllocGlobal),
+    path: &str,
+    text: &str,
     status: u8,
     out: &str,
     err: &str,
-) -> Result<(), Fail> {
-    let command = with_path(alloc, path)?;
+) {
+    let alloc = rt.alloc();
     let (mut got_out, mut got_err) = (Vec::new(alloc), Vec::new(alloc));
-    let input = Some(text.as_bytes());
+    let (command, input) = (with_path(rt, path), Some(text.as_bytes()));
     let got = run(alloc, &command, input, &mut got_out, &mut got_err);
-    assert_eq!(rt; str::from_utf8(&got_err).unwrap_or("?"), err, "{path}");
-    assert_eq!(rt; str::from_utf8(&got_out).unwrap_or("?"), out, "{path}");
-    assert_eq!(rt; got, status, "{path}");
-    Ok(())
+    same(rt, path, text_in(&got_err), err);
+    same(rt, path, text_in(&got_out), out);
+    same(rt, path, got, status);
 }
 
 #[test]
-fn lists_the_elements_of_a_path(rt: HostRuntime) -> Result<(), Fail> {
+fn lists_the_elements_of_a_path(rt: HostRuntime) {
     let text = "<r><a><b i='1'/></a><b i='2'><b i='3'/></b></r>";
-    for (path, out) in [
+    for (path, out) in &[
         ("/r/b", "20..43 b\n"),
         ("//b", "6..16 b\n20..43 b\n29..39 b\n"),
         ("/r//b", "6..16 b\n20..43 b\n29..39 b\n"),
@@ -328,47 +356,39 @@ fn lists_the_elements_of_a_path(rt: HostRuntime) -> Result<(), Fail> {
         ("//a/b", "6..16 b\n"),
         ("/b", ""),
     ] {
-        path_wants(&rt, rt.alloc(), (path, text), 0, out, "")?;
+        path_wants(&rt, path, text, 0, out, "");
     }
-    for (path, text, out) in [
-        ("//a//c", "<a><a><c/></a></a>", "6..10 c\n"),
-        ("/{u}e", "<e xmlns='u'/>", "0..14 e@u\n"),
-        ("/e", "<e xmlns='u'/>", ""),
-        ("/{}e", "<e xmlns=''/>", "0..13 e\n"),
-    ] {
-        path_wants(&rt, rt.alloc(), (path, text), 0, out, "")?;
-    }
-    Ok(())
+    let text = "<a><a><c/></a></a>";
+    path_wants(&rt, "//a//c", text, 0, "6..10 c\n", "");
 }
 
 #[test]
-fn tells_bad_paths(rt: HostRuntime) -> Result<(), Fail> {
-    for (path, err) in [
+fn lists_the_elements_of_a_path_by_namespace(rt: HostRuntime) {
+    let text = "<e xmlns='u'/>";
+    path_wants(&rt, "/{u}e", text, 0, "0..14 e@u\n", "");
+    path_wants(&rt, "/e", text, 0, "", "");
+    path_wants(&rt, "/{}e", "<e xmlns=''/>", 0, "0..13 e\n", "");
+}
+
+#[test]
+fn tells_bad_paths(rt: HostRuntime) {
+    for (path, err) in &[
         ("", "error: bad path at byte 0\n"),
         ("r", "error: bad path at byte 0\n"),
         ("///a", "error: bad path at byte 2\n"),
         ("/{u", "error: bad path at byte 1\n"),
         ("/a}", "error: bad path at byte 2\n"),
     ] {
-        path_wants(&rt, rt.alloc(), (path, "<r>"), 2, "", err)?;
+        path_wants(&rt, path, "<r>", 2, "", err);
     }
     let err = "error: the root node was opened but never closed\n";
-    path_wants(&rt, rt.alloc(), ("/r", "<r>"), 1, "", err)
+    path_wants(&rt, "/r", "<r>", 1, "", err);
 }
 
 #[test]
-fn reads_the_path_before_the_input(rt: HostRuntime) -> Result<(), Fail> {
-    let alloc = rt.alloc();
-    for (path, message) in [
-        ("r", b"error: bad path at byte 0\n".as_slice()),
-        ("/r", b"error: cannot read input\n".as_slice()),
-    ] {
-        let command = with_path(alloc, path)?;
-        let (mut out, mut err) = (Vec::new(alloc), Vec::new(alloc));
-        let input: Option<&[u8]> = None;
-        assert_eq!(rt; run(alloc, &command, input, &mut out, &mut err), 2);
-        assert_eq!(rt; err.as_slice(), message);
-        assert!(rt; out.is_empty());
-    }
-    Ok(())
+fn reads_the_path_before_the_input(rt: HostRuntime) {
+    let command = with_path(&rt, "r");
+    is_told(&rt, &command, None, "error: bad path at byte 0\n");
+    let command = with_path(&rt, "/r");
+    is_told(&rt, &command, None, "error: cannot read input\n");
 }

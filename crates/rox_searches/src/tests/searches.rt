@@ -1,11 +1,90 @@
 //! What is searched for, at each place of texts of up to 130 bytes and nowhere in them. Their characters have one byte, or three.
 
-use super::{asked, document_of, refusal_of};
+use super::{asked, document_of, refusal_of, same, told};
 use rox_path::{PathError, Step, parse_path};
 use roxmltree::{Document, Error, TextPos};
 use std::alloc::{AllocError, Global};
 use std::process::Abort;
-use std::test::Fail;
+
+/// How many bytes a character has, how many of it are 130 bytes at most, and those.
+const FILLS: [(usize, usize, &str); 2] = [
+    (
+        1,
+        130,
+        "xxxxxxxxxxxxxxxxxxxxxxxxxxxxxxxxxxxxxxxxxxxxxxxxxxxxxxxxxxxxxxxxx\
+xxxxxxxxxxxxxxxxxxxxxxxxxxxxxxxxxxxxxxxxxxxxxxxxxxxxxxxxxxxxxxxxx",
+    ),
+    (3, 43, "€€€€€€€€€€€€€€€€€€€€€€€€€€€€€€€€€€€€€€€€€€€"),
+];
+
+/// What stands before what is sought and behind it.
+#[derive(Clone, Copy)]
+struct Around {
+    before: &'static str,
+    after: &'static str,
+}
+
+/// The first characters of a fill.
+fn first(fill: &str, width: usize, count: usize) -> &str {
+    fill.get(..count.saturating_mul(width)).unwrap_or("")
+}
+
+/// Each fill of no character and more.
+fn fills(rt: &(impl Abort + AllocGlobal)) -> Vec<&'static str> {
+    let mut all = Vec::with_capacity(rt.alloc(), 175).expect(rt, "memory");
+    for (width, most, fill) in FILLS {
+        for count in 0..=most {
+            all.push(first(fill, width, count)).expect(rt, "memory");
+        }
+    }
+    all
+}
+
+/// Each two fills of one character that have 130 bytes together at most.
+fn arounds(rt: &(impl Abort + AllocGlobal)) -> Vec<Around> {
+    let mut all = Vec::with_capacity(rt.alloc(), 9636).expect(rt, "memory");
+    for (width, most, fill) in FILLS {
+        for before in 0..=most {
+            for after in 0..=most.saturating_sub(before) {
+                let before = first(fill, width, before);
+                let after = first(fill, width, after);
+                all.push(Around { before, after }).expect(rt, "memory");
+            }
+        }
+    }
+    all
+}
+
+#[test]
+fn fills_are_counted(rt: HostRuntime) {
+    same(&rt, "fills", fills(&rt).len(), 131 + 44);
+    same(
+        &rt,
+        "two fills",
+        arounds(&rt).len(),
+        131 * 132 / 2 + 44 * 45 / 2,
+    );
+}
+
+/// The text of these, one behind the other.
+fn joined(
+    alloc: Global,
+    [open, sought, close]: [&str; 3],
+    before: &str,
+    after: &str,
+) -> Result<String, AllocError> {
+    let mut text = String::from_str(alloc, open)?;
+    text.push_str(before)?;
+    text.push_str(sought)?;
+    text.push_str(after)?;
+    text.push_str(close)?;
+    Ok(text)
+}
+
+/// A text of these parts, with the fills between them.
+fn filled(rt: &(impl Abort + AllocGlobal), parts: [&str; 3], around: Around) -> String {
+    joined(rt.alloc(), parts, around.before, around.after).expect(rt, "memory")
+}
 
 /// Where a text is read.
 #[derive(Clone, Copy)]
@@ -27,82 +106,50 @@ fn read<'a>(document: &'a Document<'_>, place: Place) -> Option<&'a str> {
     }
 }
 
-/// `open`, so much of `fill`, `sought`, so much of `fill`, `close`.
-fn filled(
-    alloc: Global,
-    [open, sought, close]: [&str; 3],
-    fill: &str,
-    before: usize,
-    after: usize,
-) -> Result<String, AllocError> {
-    let mut text = String::from_str(alloc, open)?;
-    text.push_str(fill.get(..before).unwrap_or(""))?;
-    text.push_str(sought)?;
-    text.push_str(fill.get(..after).unwrap_or(""))?;
-    text.push_str(close)?;
-    Ok(text)
+/// Wants a text to be read there so.
+fn is_read(rt: &(impl Abort + AllocGlobal), place: Place, text: &str, wanted: &str) {
+    let document = document_of(rt, text);
+    same(rt, text, read(&document, place), Some(wanted));
 }
-
-/// A character, and how many of it are 130 bytes at most.
-const FILLERS: [(&str, usize); 2] = [("x", 130), ("\u{20ac}", 43)];
 
 /// Wants what is sought to be read as `wanted`, wherever it stands between other characters.
-fn is_found(
-    rt: &(impl Abort + AllocGlobal),
-    place: Place,
-    parts: [&str; 3],
-    wanted: &str,
-) -> Result<(), AllocError> {
-    let alloc = rt.alloc();
-    for (filler, most) in FILLERS {
-        let fill = filler.repeat(alloc, most)?;
-        let width = filler.len();
-        for before in 0..=most {
-            for after in 0..=most.saturating_sub(before) {
-                let (before, after) = (before.saturating_mul(width), after.saturating_mul(width));
-                let text = filled(alloc, parts, fill.as_str(), before, after)?;
-                let wanted = filled(alloc, ["", wanted, ""], fill.as_str(), before, after)?;
-                let document = document_of(rt, text.as_str());
-                assert_eq!(rt; read(&document, place), Some(wanted.as_str()), "{text:?}");
-            }
-        }
+fn is_found(rt: &(impl Abort + AllocGlobal), place: Place, parts: [&str; 3], wanted: &str) {
+    for around in &arounds(rt) {
+        let text = filled(rt, parts, *around);
+        let wanted = filled(rt, ["", wanted, ""], *around);
+        is_read(rt, place, text.as_str(), wanted.as_str());
     }
-    Ok(())
 }
 
 #[test]
-fn in_content(rt: HostRuntime) -> Result<(), Fail> {
-    for (open, sought, close, wanted) in [
-        ("<r>", "&amp;", "</r>", "&"),
-        ("<r>", "\r", "</r>", "\n"),
-        ("<r>", "]]", "</r>", "]]"),
-        ("<r><![CDATA[", "\r", "]]></r>", "\n"),
-        ("<r><![CDATA[", "]]", "]]></r>", "]]"),
-    ] {
-        is_found(&rt, Place::Content, [open, sought, close], wanted)?;
-    }
-    Ok(())
+fn in_content(rt: HostRuntime) {
+    let place = Place::Content;
+    is_found(&rt, place, ["<r>", "&amp;", "</r>"], "&");
+    is_found(&rt, place, ["<r>", "\r", "</r>"], "\n");
+    is_found(&rt, place, ["<r>", "]]", "</r>"], "]]");
+    is_found(&rt, place, ["<r><![CDATA[", "\r", "]]></r>"], "\n");
+    is_found(&rt, place, ["<r><![CDATA[", "]]", "]]></r>"], "]]");
 }
 
 #[test]
-fn in_values(rt: HostRuntime) -> Result<(), Fail> {
-    for (sought, wanted) in [
+fn in_values(rt: HostRuntime) {
+    for (sought, wanted) in &[
         ("&amp;", "&"),
         ("\t", " "),
         ("\n", " "),
         ("\r", " "),
         ("\">", "\">"),
     ] {
-        is_found(&rt, Place::Value, ["<r a='", sought, "'/>"], wanted)?;
+        is_found(&rt, Place::Value, ["<r a='", sought, "'/>"], wanted);
     }
-    Ok(())
 }
 
 #[test]
-fn in_comments_and_instructions(rt: HostRuntime) -> Result<(), Fail> {
-    is_found(&rt, Place::Comment, ["<!--", "->", "--><r/>"], "->")?;
-    is_found(&rt, Place::Instruction, ["<?p ", "?", "?><r/>"], "?")?;
-    Ok(())
+fn in_comments_and_instructions(rt: HostRuntime) {
+    let parts = ["<!--", "->", "--><r/>"];
+    is_found(&rt, Place::Comment, parts, "->");
+    let parts = ["<?p ", "?", "?><r/>"];
+    is_found(&rt, Place::Instruction, parts, "?");
 }
 
 /// What is refused where it stands, wherever that is.
@@ -116,18 +163,24 @@ enum Refused {
     Dashes,
 }
 
+/// How many characters stand in a fill.
+fn count(fill: &str) -> usize {
+    fill.chars().count()
+}
+
 /// The place behind so many characters of the first row.
 fn behind(count: usize) -> TextPos {
     let col = u32::try_from(count).unwrap_or(u32::MAX);
     TextPos::new(1, col.saturating_add(1))
 }
 
-/// The error, with so many characters before what is refused and behind it.
-fn error_of(refused: Refused, before: usize, after: usize) -> Error {
+/// The error, with these fills around what is refused.
+fn error_of(refused: Refused, around: Around) -> Error {
+    let before = count(around.before);
     match refused {
         Refused::Less => Error::InvalidChar(b'\'', b'<', behind(before.saturating_add(6))),
         Refused::SectionEnd => {
-            let count = before.saturating_add(after);
+            let count = before.saturating_add(count(around.after));
             Error::InvalidCharacterData(behind(count.saturating_add(6)))
         }
         Refused::Dashes => Error::InvalidComment(behind(0)),
@@ -135,237 +188,195 @@ fn error_of(refused: Refused, before: usize, after: usize) -> Error {
 }
 
 /// Wants a text to be refused for what stands in it, wherever it stands between other characters.
-fn is_refused(
-    rt: &(impl Abort + AllocGlobal),
-    refused: Refused,
-    parts: [&str; 3],
-) -> Result<(), AllocError> {
-    let alloc = rt.alloc();
-    for (filler, most) in FILLERS {
-        let fill = filler.repeat(alloc, most)?;
-        let width = filler.len();
-        for before in 0..=most {
-            for after in 0..=most.saturating_sub(before) {
-                let wanted = error_of(refused, before, after);
-                let (before, after) = (before.saturating_mul(width), after.saturating_mul(width));
-                let text = filled(alloc, parts, fill.as_str(), before, after)?;
-                assert_eq!(rt; refusal_of(rt, text.as_str()), wanted, "{text:?}");
-            }
-        }
+fn is_refused(rt: &(impl Abort + AllocGlobal), refused: Refused, parts: [&str; 3]) {
+    for around in &arounds(rt) {
+        let text = filled(rt, parts, *around);
+        let error = refusal_of(rt, text.as_str());
+        same(rt, text.as_str(), error, error_of(refused, *around));
     }
-    Ok(())
 }
 
 #[test]
-fn what_is_refused(rt: HostRuntime) -> Result<(), Fail> {
-    is_refused(&rt, Refused::Less, ["<r a='", "<", "'/>"])?;
-    is_refused(&rt, Refused::SectionEnd, ["<r>", "]]>", "</r>"])?;
-    is_refused(&rt, Refused::Dashes, ["<!--", "--", "--><r/>"])?;
-    Ok(())
+fn what_is_refused(rt: HostRuntime) {
+    is_refused(&rt, Refused::Less, ["<r a='", "<", "'/>"]);
+    is_refused(&rt, Refused::SectionEnd, ["<r>", "]]>", "</r>"]);
+    is_refused(&rt, Refused::Dashes, ["<!--", "--", "--><r/>"]);
+}
+
+/// Wants the first child of a text's root to be this comment, and the text of its root element to be this.
+fn is_behind(rt: &(impl Abort + AllocGlobal), text: &str, comment: &str, opened: &str) {
+    let document = asked(rt, text).expect(rt, text);
+    let first = document.root().first_child().expect(rt, "no comment");
+    same(rt, text, first.is_comment(), true);
+    same(rt, text, first.text(), Some(comment));
+    let found = document.root_element().text();
+    same(rt, text, found.unwrap_or(""), opened);
 }
 
 /// Wants a part of a document type declaration to end where what is sought stands, wherever it stands: a comment begins behind
 /// it. What is before it is the text of the root element where that refers to it.
-fn is_end(
-    rt: &(impl Abort + AllocGlobal),
-    parts: [&str; 3],
-    is_opened: bool,
-) -> Result<(), AllocError> {
-    let alloc = rt.alloc();
-    for (filler, most) in FILLERS {
-        let fill = filler.repeat(alloc, most)?;
-        let width = filler.len();
-        for before in 0..=most {
-            for after in 0..=most.saturating_sub(before) {
-                let (before, after) = (before.saturating_mul(width), after.saturating_mul(width));
-                let text = filled(alloc, parts, fill.as_str(), before, after)?;
-                let document = asked(rt, text.as_str()).expect(rt, text.as_str());
-                let comment = document.root().first_child().expect(rt, "no comment");
-                assert!(rt; comment.is_comment(), "{text:?}");
-                assert_eq!(rt; comment.text(), fill.get(..after), "{text:?}");
-                let opened = if is_opened { before } else { 0 };
-                let found = document.root_element().text().unwrap_or("");
-                assert_eq!(rt; Some(found), fill.get(..opened), "{text:?}");
-            }
-        }
+fn is_end(rt: &(impl Abort + AllocGlobal), parts: [&str; 3], is_opened: bool) {
+    for around in &arounds(rt) {
+        let text = filled(rt, parts, *around);
+        let opened = if is_opened { around.before } else { "" };
+        is_behind(rt, text.as_str(), around.after, opened);
     }
-    Ok(())
 }
 
 #[test]
-fn in_document_type_declarations(rt: HostRuntime) -> Result<(), Fail> {
-    for (open, sought) in [
-        ("<!DOCTYPE r [<!ELEMENT ", "><!--"),
-        ("<!DOCTYPE r [<!ENTITY a SYSTEM '", "'><!--"),
-    ] {
-        is_end(&rt, [open, sought, "-->]><r/>"], false)?;
-    }
-    let parts = ["<!DOCTYPE r [<!ENTITY a '", "'><!--", "-->]><r>&a;</r>"];
-    is_end(&rt, parts, true)?;
-    Ok(())
+fn in_document_type_declarations(rt: HostRuntime) {
+    let open = "<!DOCTYPE r [<!ELEMENT ";
+    is_end(&rt, [open, "><!--", "-->]><r/>"], false);
+    let open = "<!DOCTYPE r [<!ENTITY a SYSTEM '";
+    is_end(&rt, [open, "'><!--", "-->]><r/>"], false);
+    let open = "<!DOCTYPE r [<!ENTITY a '";
+    is_end(&rt, [open, "'><!--", "-->]><r>&a;</r>"], true);
 }
 
-/// Wants names and URIs of a path to end where that is due, with so much of `fill` before that place and behind it.
-fn names_end(
-    rt: &(impl Abort + AllocGlobal),
-    fill: &str,
-    before: usize,
-    after: usize,
-) -> Result<(), AllocError> {
-    let alloc = rt.alloc();
-    let one = filled(alloc, ["n", "", ""], fill, before, 0)?;
-    let other = filled(alloc, ["n", "", ""], fill, after, 0)?;
-    let path = filled(alloc, ["/n", "/n", ""], fill, before, after)?;
-    let steps = parse_path(alloc, path.as_str()).expect(rt, path.as_str());
-    let wanted = [
-        Step::Child(one.as_str().into()),
-        Step::Child(other.as_str().into()),
-    ];
-    assert_eq!(rt; steps.as_slice(), wanted.as_slice());
-    let path = filled(alloc, ["/{n", "}n", ""], fill, before, after)?;
-    let steps = parse_path(alloc, path.as_str()).expect(rt, path.as_str());
-    let wanted = [Step::Child((one.as_str(), other.as_str()).into())];
-    assert_eq!(rt; steps.as_slice(), wanted.as_slice());
-    for sought in ["{", "}"] {
-        let path = filled(alloc, ["/n", sought, ""], fill, before, after)?;
-        let wanted = PathError::BadPath(before.saturating_add(2));
-        assert_eq!(rt; parse_path(alloc, path.as_str()).err(), Some(wanted));
-    }
-    let path = filled(alloc, ["/{n", "", ""], fill, before, after)?;
-    let wanted = PathError::BadPath(1);
-    assert_eq!(rt; parse_path(alloc, path.as_str()).err(), Some(wanted));
-    Ok(())
+/// Wants a path to have these steps.
+fn has_steps(rt: &(impl Abort + AllocGlobal), path: &str, wanted: &[Step<'_>]) {
+    let steps = parse_path(rt.alloc(), path).expect(rt, path);
+    same(rt, path, steps.as_slice(), wanted);
+}
+
+/// Wants a path to be wrong at this byte.
+fn is_bad(rt: &(impl Abort + AllocGlobal), path: &str, place: usize) {
+    let error = parse_path(rt.alloc(), path).err();
+    same(rt, path, error, Some(PathError::BadPath(place)));
+}
+
+/// Wants names and URIs of a path to end where that is due, with these fills before that place and behind it.
+fn names_end(rt: &(impl Abort + AllocGlobal), around: Around) {
+    let one = filled(rt, ["n", "", ""], alone(around.before));
+    let other = filled(rt, ["n", "", ""], alone(around.after));
+    let (one, other) = (one.as_str(), other.as_str());
+    let path = filled(rt, ["/n", "/n", ""], around);
+    let steps = [Step::Child(one.into()), Step::Child(other.into())];
+    has_steps(rt, path.as_str(), &steps);
+    let path = filled(rt, ["/{n", "}n", ""], around);
+    let steps = [Step::Child((one, other).into())];
+    has_steps(rt, path.as_str(), &steps);
+}
+
+/// Wants a brace that does not stand where it is due to be told.
+fn braces_are_told(rt: &(impl Abort + AllocGlobal), around: Around) {
+    let place = around.before.len().saturating_add(2);
+    is_bad(rt, filled(rt, ["/n", "{", ""], around).as_str(), place);
+    is_bad(rt, filled(rt, ["/n", "}", ""], around).as_str(), place);
+    is_bad(rt, filled(rt, ["/{n", "", ""], around).as_str(), 1);
 }
 
 #[test]
-fn in_paths(rt: HostRuntime) -> Result<(), Fail> {
-    for (filler, most) in FILLERS {
-        let fill = filler.repeat(rt.alloc(), most)?;
-        let width = filler.len();
-        for before in 0..=most {
-            for after in 0..=most.saturating_sub(before) {
-                let (before, after) = (before.saturating_mul(width), after.saturating_mul(width));
-                names_end(&rt, fill.as_str(), before, after)?;
-            }
-        }
+fn in_paths(rt: HostRuntime) {
+    for around in &arounds(&rt) {
+        names_end(&rt, *around);
+        braces_are_told(&rt, *around);
     }
-    Ok(())
+}
+
+/// Wants the line feed between these fills to be found before a place in front of it and one behind it.
+fn line_feed_is_found(rt: &(impl Abort + AllocGlobal), around: Around) {
+    let text = filled(rt, ["<r>", "\n", "</r>"], around);
+    let document = document_of(rt, text.as_str());
+    let place = around.before.len().saturating_add(3);
+    let wanted = behind(count(around.before).saturating_add(3));
+    same(rt, text.as_str(), document.text_pos_at(place), wanted);
+    let place = place.saturating_add(around.after.len()).saturating_add(1);
+    let wanted = TextPos::new(2, behind(count(around.after)).col);
+    same(rt, text.as_str(), document.text_pos_at(place), wanted);
 }
 
 /// The line feed of a text is looked for from the front, for the row, and from the back, for the column.
 #[test]
-fn in_positions(rt: HostRuntime) -> Result<(), Fail> {
-    for (filler, most) in FILLERS {
-        let fill = filler.repeat(rt.alloc(), most)?;
-        let width = filler.len();
-        for before in 0..=most {
-            for after in 0..=most.saturating_sub(before) {
-                let first = behind(before.saturating_add(3));
-                let second = TextPos::new(2, behind(after).col);
-                let (before, after) = (before.saturating_mul(width), after.saturating_mul(width));
-                let parts = ["<r>", "\n", "</r>"];
-                let text = filled(rt.alloc(), parts, fill.as_str(), before, after)?;
-                let document = document_of(&rt, text.as_str());
-                let place = before.saturating_add(3);
-                assert_eq!(rt; document.text_pos_at(place), first, "{text:?}");
-                let place = place.saturating_add(after).saturating_add(1);
-                assert_eq!(rt; document.text_pos_at(place), second, "{text:?}");
-            }
-        }
+fn in_positions(rt: HostRuntime) {
+    for around in &arounds(&rt) {
+        line_feed_is_found(&rt, *around);
     }
-    Ok(())
+}
+
+/// One fill.
+fn alone(fill: &'static str) -> Around {
+    Around {
+        before: fill,
+        after: "",
+    }
 }
 
 /// Wants a text to be read as it is where nothing that is sought stands in it.
-fn is_read(
-    rt: &(impl Abort + AllocGlobal),
-    place: Place,
-    [open, close]: [&str; 2],
-) -> Result<(), AllocError> {
-    let alloc = rt.alloc();
-    for (filler, most) in FILLERS {
-        for count in 1..=most {
-            let fill = filler.repeat(alloc, count)?;
-            let text = filled(alloc, [open, "", close], fill.as_str(), fill.len(), 0)?;
-            let document = document_of(rt, text.as_str());
-            assert_eq!(rt; read(&document, place), Some(fill.as_str()), "{text:?}");
-        }
+fn is_read_whole(rt: &(impl Abort + AllocGlobal), place: Place, [open, close]: [&str; 2]) {
+    for fill in fills(rt).iter().filter(|fill| !fill.is_empty()) {
+        let text = filled(rt, [open, "", close], alone(fill));
+        is_read(rt, place, text.as_str(), fill);
     }
-    Ok(())
 }
 
 #[test]
-fn nothing_is_found(rt: HostRuntime) -> Result<(), Fail> {
-    is_read(&rt, Place::Content, ["<r>", "</r>"])?;
-    is_read(&rt, Place::Content, ["<r><![CDATA[", "]]></r>"])?;
-    is_read(&rt, Place::Value, ["<r a='", "'/>"])?;
-    is_read(&rt, Place::Comment, ["<!--", "--><r/>"])?;
-    is_read(&rt, Place::Instruction, ["<?p ", "?><r/>"])?;
-    Ok(())
+fn nothing_is_found(rt: HostRuntime) {
+    is_read_whole(&rt, Place::Content, ["<r>", "</r>"]);
+    is_read_whole(&rt, Place::Content, ["<r><![CDATA[", "]]></r>"]);
+    is_read_whole(&rt, Place::Value, ["<r a='", "'/>"]);
+    is_read_whole(&rt, Place::Comment, ["<!--", "--><r/>"]);
+    is_read_whole(&rt, Place::Instruction, ["<?p ", "?><r/>"]);
 }
 
-/// Why a text that may have a document type declaration is refused.
-fn declared_refusal(rt: &(impl Abort + AllocGlobal), text: &str) -> Error {
-    let error = asked(rt, text).expect_err(rt, text);
-    assert_ne!(rt; error, Error::OutOfMemory, "{text:?}");
-    error
+/// Wants an answer to be a refusal whose message begins so.
+fn is_told(rt: &(impl Abort + AllocGlobal), text: &str, wanted: &str) {
+    let error = told(rt, text, asked(rt, text));
+    let message = error.to_string(rt.alloc()).expect(rt, "memory");
+    let start = message.as_str().get(..wanted.len());
+    same(rt, text, start, Some(wanted));
 }
 
 /// Wants a text to be refused that ends where something is sought: its error there, which is told without its column.
-fn is_cut_off(rt: &(impl Abort + AllocGlobal), open: &str, wanted: &str) -> Result<(), AllocError> {
-    let alloc = rt.alloc();
-    for (filler, most) in FILLERS {
-        for count in 0..=most {
-            let fill = filler.repeat(alloc, count)?;
-            let text = filled(alloc, [open, "", ""], fill.as_str(), fill.len(), 0)?;
-            let told = declared_refusal(rt, text.as_str()).to_string(alloc)?;
-            assert!(rt; told.as_str().starts_with(wanted), "{text:?}: {told}");
-        }
+fn is_cut_off(rt: &(impl Abort + AllocGlobal), open: &str, wanted: &str) {
+    for fill in &fills(rt) {
+        let text = filled(rt, [open, "", ""], alone(fill));
+        is_told(rt, text.as_str(), wanted);
     }
-    Ok(())
 }
 
 #[test]
-fn ends_are_nowhere(rt: HostRuntime) -> Result<(), Fail> {
-    is_cut_off(&rt, "<!--", "expected '-->' at 1:")?;
-    is_cut_off(&rt, "<?p ", "expected '?>' at 1:")?;
-    is_cut_off(&rt, "<r><![CDATA[", "expected ']]>' at 1:")?;
-    is_cut_off(&rt, "<r a='", "unexpected end of stream")?;
-    is_cut_off(&rt, "<r>", "the root node was opened but never closed")?;
-    let cut_off = "unknown token at 1:1";
-    is_cut_off(&rt, "<!DOCTYPE r [<!ELEMENT ", cut_off)?;
-    for open in [
-        "<!DOCTYPE r [<!ENTITY a '",
-        "<!DOCTYPE r [<!ENTITY a SYSTEM '",
+fn ends_are_nowhere(rt: HostRuntime) {
+    for (open, wanted) in &[
+        ("<!--", "expected '-->' at 1:"),
+        ("<?p ", "expected '?>' at 1:"),
+        ("<r><![CDATA[", "expected ']]>' at 1:"),
+        ("<r a='", "unexpected end of stream"),
+        ("<r>", "the root node was opened but never closed"),
+        ("<!DOCTYPE r [<!ELEMENT ", "unknown token at 1:1"),
+        ("<!DOCTYPE r [<!ENTITY a '", "unexpected end of stream"),
+        (
+            "<!DOCTYPE r [<!ENTITY a SYSTEM '",
+            "unexpected end of stream",
+        ),
     ] {
-        is_cut_off(&rt, open, "unexpected end of stream")?;
+        is_cut_off(&rt, open, wanted);
     }
-    Ok(())
+}
+
+/// Wants a text to be refused for the character U+FFFE, in this column.
+fn is_refused_in(rt: &(impl Abort + AllocGlobal), text: &str, col: u32) {
+    let wanted = Error::NonXmlChar('\u{fffe}', TextPos::new(1, col));
+    same(rt, text, refusal_of(rt, text), wanted);
+}
+
+/// Wants U+FFFE to be refused where it stands, with 131 other characters before it and behind it.
+fn is_tested(rt: &(impl Abort + AllocGlobal), [open, close]: [&str; 2], col: u32) {
+    let fill = "x".repeat(rt.alloc(), 131).expect(rt, "memory");
+    for before in 0..131u32 {
+        let front = first(fill.as_str(), 1, before as usize);
+        let back = first(fill.as_str(), 1, 131 - before as usize);
+        let parts = [open, "\u{fffe}", close];
+        let text = joined(rt.alloc(), parts, front, back).expect(rt, "memory");
+        is_refused_in(rt, text.as_str(), col.saturating_add(before));
+    }
 }
 
 #[test]
-fn characters_before_the_end_are_tested(rt: HostRuntime) -> Result<(), Fail> {
-    let fill = "x".repeat(rt.alloc(), 131)?;
-    for (open, close, col) in [
-        ("<r>", "</r>", 4),
-        ("<r a='", "'/>", 7),
-        ("<r><![CDATA[", "]]></r>", 13),
-        ("<!--", "--><r/>", 5),
-        ("<?p ", "?><r/>", 5),
-    ] {
-        for before in 0..131u32 {
-            let parts = [open, "\u{fffe}", close];
-            let text = filled(
-                rt.alloc(),
-                parts,
-                fill.as_str(),
-                before as usize,
-                131 - before as usize,
-            )?;
-            let place = TextPos::new(1, before + col);
-            let wanted = Error::NonXmlChar('\u{fffe}', place);
-            assert_eq!(rt; refusal_of(&rt, text.as_str()), wanted, "{text:?}");
-        }
-    }
-    Ok(())
+fn characters_before_the_end_are_tested(rt: HostRuntime) {
+    is_tested(&rt, ["<r>", "</r>"], 4);
+    is_tested(&rt, ["<r a='", "'/>"], 7);
+    is_tested(&rt, ["<r><![CDATA[", "]]></r>"], 13);
+    is_tested(&rt, ["<!--", "--><r/>"], 5);
+    is_tested(&rt, ["<?p ", "?><r/>"], 5);
 }
