@@ -53,7 +53,7 @@ impl Write for Refusing {
 }
 
 /// An output that takes so many writes and refuses the next.
-fn refusing(rt: &impl AllocGlobal, writes: u32) -> Refusing {
+fn refusing_after(rt: &impl AllocGlobal, writes: u32) -> Refusing {
     Refusing {
         taken: Vec::new(rt.alloc()),
         writes,

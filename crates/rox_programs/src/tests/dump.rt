@@ -1,6 +1,6 @@
 //! What `xmldump` writes, over readers and writers in memory. The wanted dumps are those of the Rust crate.
 
-use super::{Cut, owned, refusing, same, text_in, words};
+use super::{Cut, owned, refusing_after, same, text_in, words};
 use rox_dump::answers::Answer;
 use rox_dump::arguments::{USAGE, command};
 use rox_dump::options::{AnswerWord, Command, Options};
@@ -413,7 +413,7 @@ fn long(rt: &(impl Abort + AllocGlobal)) -> String {
 #[test]
 fn tells_faults_of_output(rt: HostRuntime) {
     let text = long(&rt);
-    let (mut out, mut err) = (refusing(&rt, 0), Vec::new(rt.alloc()));
+    let (mut out, mut err) = (refusing_after(&rt, 0), Vec::new(rt.alloc()));
     let input = Some(text.as_bytes());
     let (options, sources) = (Options::default(), no_sources(&rt));
     let status = run(rt.alloc(), options, &sources, input, &mut out, &mut err);

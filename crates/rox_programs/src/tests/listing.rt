@@ -1,6 +1,6 @@
 //! What `xmltree` prints, over readers and writers in memory.
 
-use super::{Cut, owned, refusing, same, text_in, words};
+use super::{Cut, owned, refusing_after, same, text_in, words};
 use rox_listing::arguments::{USAGE, command};
 use rox_listing::options::Command;
 use rox_listing::run::run;
@@ -225,7 +225,7 @@ fn tells_faults_of_input(rt: HostRuntime) {
 /// Runs on a text with an output that refuses the write after so many, and wants that to be told. How many bytes were taken.
 fn taken_before_a_fault(rt: &(impl Abort + AllocGlobal), text: &[u8], writes: u32) -> usize {
     let alloc = rt.alloc();
-    let (mut out, mut err) = (refusing(rt, writes), Vec::new(alloc));
+    let (mut out, mut err) = (refusing_after(rt, writes), Vec::new(alloc));
     let status = run(alloc, &no_options(), Some(text), &mut out, &mut err);
     same(rt, "status", status, 2);
     same(
@@ -260,7 +260,7 @@ fn tells_a_fault_at_the_end_of_output(rt: HostRuntime) {
 #[test]
 fn passes_over_faults_of_standard_error(rt: HostRuntime) {
     let alloc = rt.alloc();
-    let (mut out, mut err) = (Vec::new(alloc), refusing(&rt, 0));
+    let (mut out, mut err) = (Vec::new(alloc), refusing_after(&rt, 0));
     let input = Some(b"<a>".as_slice());
     let status = run(alloc, &no_options(), input, &mut out, &mut err);
     same(&rt, "status", status, 1);
