@@ -48,24 +48,15 @@ impl<'a> Answers<'a> {
     ) -> Result<Result<Option<&'a str>, String>, AllocError>
         ensures { IfOk result (λ r. result_map_both (option_map (λ x. x.now)) string_bytes r ≡ spec.reply_at self.now call) }
     {
-        match self {
-            Answers::InOrder(answers) => reply_of(alloc, answers.get(call).or(answers.last())),
-            Answers::Each(text) => Ok(Ok(Some(*text))),
+        let answers = match self {
+            Answers::InOrder(answers) => *answers,
+            Answers::Each(text) => return Ok(Ok(Some(*text))),
+        };
+        match answers.get(call).or(answers.last()) {
+            Some(Answer::Text(text)) => Ok(Ok(Some(text.as_str()))),
+            Some(Answer::Nothing) | None => Ok(Ok(None)),
+            Some(Answer::Refusal(words)) => Ok(Err(String::from_str(alloc, words.as_str())?)),
         }
-    }
-}
-
-/// The reply of an answer.
-fn reply_of<'a>(
-    alloc: Global,
-    answer: Option<&'a Answer>,
-) -> Result<Result<Option<&'a str>, String>, AllocError>
-    ensures { IfOk result (λ r. result_map_both (option_map (λ x. x.now)) string_bytes r ≡ spec.reply_of (option_map (λ x. x.now) answer)) }
-{
-    match answer {
-        Some(Answer::Text(text)) => Ok(Ok(Some(text.as_str()))),
-        Some(Answer::Nothing) | None => Ok(Ok(None)),
-        Some(Answer::Refusal(words)) => Ok(Err(String::from_str(alloc, words.as_str())?)),
     }
 }
 
