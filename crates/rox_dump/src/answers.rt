@@ -4,14 +4,15 @@ ghost use Rattle.std.specs.Prelude.{◌≡◌, IfOk, option_map, string_bytes};
 ghost use Rattle.std.specs.Result.{result_map_both};
 ghost use Rattle.rox_dump.specs.Answers as spec;
 
-use crate::escape::write_quoted;
+use crate::node::write_text;
+use crate::output::Output;
 use std::alloc::{AllocError, Global};
 use std::cell::{Cell, RefCell};
 use std::io;
 use std::io::Write;
 
 /// An answer of a resolver.
-#[derive(Debug, Drop)]
+#[derive(Drop)]
 pub enum Answer {
     Text(String),
     Nothing,
@@ -20,7 +21,7 @@ pub enum Answer {
 }
 
 /// The answers of a resolver.
-#[derive(Clone, Copy, Debug)]
+#[derive(Clone, Copy)]
 pub enum Answers<'a> {
     /// To its first call, its second, and so on, and the last one again and again. Where there is none, there is no resolver.
     InOrder(&'a [Answer]),
@@ -119,12 +120,9 @@ impl<'a> Recorder<'a> {
 
 /// Writes what is asked: the public identifier, and the system identifier.
 fn write_request<W: Write>(public_id: Option<&str>, uri: &str, out: &mut W) -> io::Result<()> {
-    out.write_all(b"REQ ")?;
-    match public_id {
-        Some(public_id) => write_quoted(public_id, out)?,
-        None => out.write_all(b"-")?,
-    }
-    out.write_all(b" ")?;
-    write_quoted(uri, out)?;
-    out.write_all(b"\n")
+    let mut out = Output::new(out);
+    write_text("REQ ", public_id, &mut out);
+    write_text(" ", Some(uri), &mut out);
+    out.text("\n");
+    out.into_result()
 }

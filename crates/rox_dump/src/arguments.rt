@@ -14,7 +14,7 @@ pub const USAGE: &str =
 [--ans-err TEXT] [--main MAIN] FILE";
 
 /// What an option asks for.
-#[derive(Clone, Copy, Debug)]
+#[derive(Clone, Copy)]
 enum Change<'a> {
     AllowDtd,
     NodesLimit(u32),

@@ -2,58 +2,49 @@
 
 ghost use Rattle.std.specs.Iterator.{IsFinite};
 
-use crate::node::write_link;
-use roxmltree::{Node, NodeId};
-use std::io;
+use crate::node::{write_link, write_truth};
+use crate::output::Output;
+use roxmltree::Node;
 use std::io::Write;
 
 /// Writes the second line of a node.
-pub fn write_axes<W: Write>(node: Node<'_, '_>, out: &mut W) -> io::Result<()> {
-    out.write_all(b" ")?;
-    write_elements(node, out)?;
-    let (siblings, children) = (node.has_siblings(), node.has_children());
-    write!(out, " sib={siblings} kids={children}")?;
-    write_ids("anc", node.ancestors().map(|node| node.id()), out)?;
-    write_ids("prevs", node.prev_siblings().map(|node| node.id()), out)?;
-    write_ids("nexts", node.next_siblings().map(|node| node.id()), out)?;
-    write_ids("firsts", node.first_children().map(|node| node.id()), out)?;
-    write_ids("lasts", node.last_children().map(|node| node.id()), out)?;
-    write_ids("children", node.children().map(|node| node.id()), out)?;
-    write_ids(
-        "children_back",
-        node.children().rev().map(|node| node.id()),
-        out,
-    )?;
-    let count = node.descendants().len();
-    writeln!(out, " desc={count}")
+pub fn write_axes<'a, W: Write>(node: Node<'a, 'a>, out: &mut Output<'_, W>) {
+    write_elements(node, out);
+    write_truth(" sib=", node.has_siblings(), out);
+    write_truth(" kids=", node.has_children(), out);
+    write_ids(" anc=", node.ancestors(), out);
+    write_ids(" prevs=", node.prev_siblings(), out);
+    write_ids(" nexts=", node.next_siblings(), out);
+    write_ids(" firsts=", node.first_children(), out);
+    write_ids(" lasts=", node.last_children(), out);
+    write_ids(" children=", node.children(), out);
+    write_ids(" children_back=", node.children().rev(), out);
+    out.text(" desc=");
+    out.number(node.descendants().len() as u64);
+    out.text("\n");
 }
 
-fn write_elements<W: Write>(node: Node<'_, '_>, out: &mut W) -> io::Result<()> {
-    write_link("pe", node.parent_element(), out)?;
-    write_link("pse", node.prev_sibling_element(), out)?;
-    write_link("nse", node.next_sibling_element(), out)?;
-    write_link("fec", node.first_element_child(), out)?;
-    write_link("lec", node.last_element_child(), out)
+fn write_elements<W: Write>(node: Node<'_, '_>, out: &mut Output<'_, W>) {
+    write_link("  pe=", node.parent_element(), out);
+    write_link(" pse=", node.prev_sibling_element(), out);
+    write_link(" nse=", node.next_sibling_element(), out);
+    write_link(" fec=", node.first_element_child(), out);
+    write_link(" lec=", node.last_element_child(), out);
 }
 
-/// Writes a label and a list of ids.
-pub fn write_ids<I: Iterator<Item = NodeId>, W: Write>(
+/// Writes a label and the ids of these nodes.
+pub fn write_ids<'a, I: Iterator<Item = Node<'a, 'a>>, W: Write>(
     label: &str,
-    ids: I,
-    out: &mut W,
-) -> io::Result<()>
-    requires can { I.can_next ids }
-    requires ends { IsFinite (I.remaining ids) }
+    nodes: I,
+    out: &mut Output<'_, W>,
+)
+    requires can { I.can_next nodes }
+    requires ends { IsFinite (I.remaining nodes) }
 {
-    write!(out, " {label}=")?;
+    out.text(label);
     let mut is_first = true;
-    for id in ids {
-        if !is_first {
-            out.write_all(b",")?;
-        }
+    for node in nodes {
+        write_link(if is_first { "" } else { "," }, Some(node), out);
         is_first = false;
-        let number = id.get();
-        write!(out, "{number}")?;
     }
-    Ok(())
 }

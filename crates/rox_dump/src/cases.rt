@@ -7,7 +7,7 @@ ghost use Rattle.rox_dump.specs.Batch.{BeginsWith};
 use crate::numbers::number;
 
 /// A text of a batch, and what follows it.
-#[derive(Clone, Copy, Debug)]
+#[derive(Clone, Copy)]
 pub struct Case<'a> {
     pub text: &'a [u8],
     pub rest: &'a [u8],

@@ -6,10 +6,10 @@ use crate::fault::Fault;
 use crate::lookups::write_lookups;
 use crate::node::write_node;
 use crate::options::Options;
+use crate::output::Output;
 use crate::refusal::write_refusal;
-use roxmltree::{Document, ParsingOptions, ResolveWith};
+use roxmltree::{Document, Error, Node, ParsingOptions, ResolveWith};
 use std::alloc::Global;
-use std::io;
 use std::io::Write;
 
 /// Writes what is asked of a text's resolver, which gives these answers, and then the refusal of the text, or its nodes.
@@ -21,6 +21,21 @@ pub fn write_dump<W: Write>(
     out: &mut W,
 ) -> Result<(), Fault> {
     let recorder = Recorder::new(alloc, answers);
+    let answer = parse(alloc, text, answers, &recorder, options);
+    write_requests(recorder, out)?;
+    match answer {
+        Ok(document) => write_document(&document, options, out),
+        Err(error) => write_refusal(alloc, &error, out),
+    }
+}
+
+fn parse<'t>(
+    alloc: Global,
+    text: &'t str,
+    answers: Answers<'t>,
+    recorder: &Recorder<'t>,
+    options: Options,
+) -> Result<Document<'t>, Error> {
     let resolver = ResolveWith {
         by: |public_id: Option<&str>, uri: &str| -> Result<Option<&str>, String> {
             recorder.answer(alloc, public_id, uri)
@@ -36,17 +51,13 @@ pub fn write_dump<W: Write>(
         },
         document_key: 0,
     };
-    let answer = Document::parse_with_options(alloc, text, parsing);
-    let Some(requests) = recorder.into_requests() else {
-        return Err(Fault::OutOfMemory);
-    };
-    out.write_all(&requests)?;
-    match answer {
-        Ok(document) => {
-            write_document(&document, options, out)?;
-            Ok(())
-        }
-        Err(error) => write_refusal(alloc, &error, out),
+    Document::parse_with_options(alloc, text, parsing)
+}
+
+fn write_requests<W: Write>(recorder: Recorder<'_>, out: &mut W) -> Result<(), Fault> {
+    match recorder.into_requests() {
+        Some(requests) => Ok(out.write_all(&requests)?),
+        None => Err(Fault::OutOfMemory),
     }
 }
 
@@ -55,18 +66,27 @@ fn write_document<W: Write>(
     document: &Document<'_>,
     options: Options,
     out: &mut W,
-) -> io::Result<()> {
+) -> Result<(), Fault> {
     let nodes = document.descendants();
-    let count = nodes.len();
-    writeln!(out, "OK {count}")?;
+    let mut out = Output::new(out);
+    out.text("OK ");
+    out.number(nodes.len() as u64);
+    out.text("\n");
     for node in nodes {
-        write_node(node, out)?;
-        if options.axes {
-            write_axes(node, out)?;
-        }
-        if options.lookups {
-            write_lookups(node, out)?;
+        write_lines(node, options, &mut out);
+        if out.has_failed() {
+            break;
         }
     }
-    Ok(())
+    Ok(out.into_result()?)
+}
+
+fn write_lines<W: Write>(node: Node<'_, '_>, options: Options, out: &mut Output<'_, W>) {
+    write_node(node, out);
+    if options.axes {
+        write_axes(node, out);
+    }
+    if options.lookups {
+        write_lookups(node, out);
+    }
 }

@@ -7,7 +7,7 @@ use std::alloc::{AllocError, AllocFailed};
 use std::{fmt, io};
 
 /// Why the program could not do what it was asked. A text that the library refuses is none: the refusal is written.
-#[derive(Debug, Drop)]
+#[derive(Drop)]
 pub enum Fault {
     /// The input could not be opened or read to its end.
     CannotRead,
@@ -30,7 +30,7 @@ impl fmt::Display for Fault {
             Fault::CannotWrite => "cannot write output",
             Fault::OutOfMemory => "out of memory",
         };
-        write!(f, "{text}")
+        f.write_str(text)
     }
 }
 

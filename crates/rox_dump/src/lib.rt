@@ -13,6 +13,7 @@ pub mod lookups;
 pub mod node;
 pub mod numbers;
 pub mod options;
+pub mod output;
 pub mod refusal;
 pub mod run;
 pub mod sources;

@@ -1,148 +1,153 @@
 //! The first line of a node: its neighbours, its place, its names and its texts.
 
-use crate::escape::write_quoted;
+use crate::output::Output;
 use roxmltree::{Attribute, Node, NodeType, PI, StringStorage};
-use std::io;
 use std::io::Write;
 use std::ops::Range;
 
 /// Writes the first line of a node.
-pub fn write_node<W: Write>(node: Node<'_, '_>, out: &mut W) -> io::Result<()> {
-    let (id, kind) = (node.id().get(), kind_name(node.node_type()));
-    write!(out, "{id} {kind}")?;
-    write_links(node, out)?;
-    out.write_all(b" range=")?;
-    write_range(node.range(), out)?;
+pub fn write_node<W: Write>(node: Node<'_, '_>, out: &mut Output<'_, W>) {
+    out.number(node.id().get() as u64);
+    out.text(kind_name(node.node_type()));
+    write_links(node, out);
+    write_range(" range=", node.range(), out);
     if node.is_element() {
-        write_element(node, out)?;
+        write_element(node, out);
     }
     if let Some(pi) = node.pi() {
-        write_pi(pi, out)?;
+        write_pi(pi, out);
     }
-    out.write_all(b" text=")?;
-    write_option(node.text_storage(), out)?;
-    out.write_all(b" tail=")?;
-    write_option(node.tail_storage(), out)?;
-    out.write_all(b"\n")
+    write_storage_or_none(" text=", node.text_storage(), out);
+    write_storage_or_none(" tail=", node.tail_storage(), out);
+    out.text("\n");
 }
 
+// The name of a kind, behind a space.
 fn kind_name(kind: NodeType) -> &'static str {
     match kind {
-        NodeType::Root => "Root",
-        NodeType::Element => "Element",
-        NodeType::PI => "PI",
-        NodeType::Comment => "Comment",
-        NodeType::Text => "Text",
+        NodeType::Root => " Root",
+        NodeType::Element => " Element",
+        NodeType::PI => " PI",
+        NodeType::Comment => " Comment",
+        NodeType::Text => " Text",
     }
 }
 
-fn write_links<W: Write>(node: Node<'_, '_>, out: &mut W) -> io::Result<()> {
-    write_link("parent", node.parent(), out)?;
-    write_link("prev", node.prev_sibling(), out)?;
-    write_link("next", node.next_sibling(), out)?;
-    write_link("first", node.first_child(), out)?;
-    write_link("last", node.last_child(), out)
+fn write_links<W: Write>(node: Node<'_, '_>, out: &mut Output<'_, W>) {
+    write_link(" parent=", node.parent(), out);
+    write_link(" prev=", node.prev_sibling(), out);
+    write_link(" next=", node.next_sibling(), out);
+    write_link(" first=", node.first_child(), out);
+    write_link(" last=", node.last_child(), out);
 }
 
 /// Writes a label and the id of a node.
-pub fn write_link<W: Write>(
-    label: &str,
-    node: Option<Node<'_, '_>>,
-    out: &mut W,
-) -> io::Result<()> {
+pub fn write_link<W: Write>(label: &str, node: Option<Node<'_, '_>>, out: &mut Output<'_, W>) {
+    out.text(label);
     match node {
-        None => write!(out, " {label}=-"),
-        Some(node) => {
-            let id = node.id().get();
-            write!(out, " {label}={id}")
-        }
+        None => out.text("-"),
+        Some(node) => out.number(node.id().get() as u64),
     }
 }
 
-fn write_range<W: Write>(range: Range<usize>, out: &mut W) -> io::Result<()> {
-    let (start, end) = (range.start, range.end);
-    write!(out, "{start}..{end}")
+/// Writes a label and `true` or `false`.
+pub fn write_truth<W: Write>(label: &str, is_so: bool, out: &mut Output<'_, W>) {
+    out.text(label);
+    out.text(if is_so { "true" } else { "false" });
 }
 
-fn write_element<W: Write>(node: Node<'_, '_>, out: &mut W) -> io::Result<()> {
+fn write_range<W: Write>(label: &str, range: Range<usize>, out: &mut Output<'_, W>) {
+    out.text(label);
+    out.number(range.start as u64);
+    out.text("..");
+    out.number(range.end as u64);
+}
+
+fn write_element<W: Write>(node: Node<'_, '_>, out: &mut Output<'_, W>) {
     let name = node.tag_name();
-    out.write_all(b" tag=")?;
-    write_name(name.namespace(), name.name(), out)?;
-    out.write_all(b" attrs=[")?;
-    write_attributes(node, out)?;
-    out.write_all(b"] ns=[")?;
-    write_namespaces(node, out)?;
-    out.write_all(b"]")
+    write_name(" tag=", name.namespace(), name.name(), out);
+    write_attributes(node, out);
+    write_namespaces(node, out);
 }
 
-fn write_attributes<W: Write>(node: Node<'_, '_>, out: &mut W) -> io::Result<()> {
-    for (index, attribute) in node.attributes().enumerate() {
-        if index > 0 {
-            out.write_all(b" ")?;
-        }
-        write_attribute(attribute, out)?;
+fn write_attributes<W: Write>(node: Node<'_, '_>, out: &mut Output<'_, W>) {
+    out.text(" attrs=[");
+    let mut is_first = true;
+    for attribute in node.attributes() {
+        write_attribute(gap(is_first), attribute, out);
+        is_first = false;
     }
-    Ok(())
+    out.text("]");
 }
 
-fn write_attribute<W: Write>(attribute: Attribute<'_, '_>, out: &mut W) -> io::Result<()> {
-    write_name(attribute.namespace(), attribute.name(), out)?;
-    out.write_all(b"=")?;
-    write_storage(attribute.value_storage(), out)?;
-    out.write_all(b"@")?;
-    write_range(attribute.range(), out)?;
-    out.write_all(b",")?;
-    write_range(attribute.range_qname(), out)?;
-    out.write_all(b",")?;
-    write_range(attribute.range_value(), out)
+/// What stands before an item of a list.
+pub fn gap(is_first: bool) -> &'static str {
+    if is_first { "" } else { " " }
 }
 
-fn write_namespaces<W: Write>(node: Node<'_, '_>, out: &mut W) -> io::Result<()> {
-    for (index, namespace) in node.namespaces().enumerate() {
-        if index > 0 {
-            out.write_all(b" ")?;
-        }
-        write_text(namespace.name(), out)?;
-        out.write_all(b"=")?;
-        write_quoted(namespace.uri(), out)?;
+fn write_attribute<W: Write>(gap: &str, attribute: Attribute<'_, '_>, out: &mut Output<'_, W>) {
+    write_name(gap, attribute.namespace(), attribute.name(), out);
+    write_storage("=", attribute.value_storage(), out);
+    write_range("@", attribute.range(), out);
+    write_range(",", attribute.range_qname(), out);
+    write_range(",", attribute.range_value(), out);
+}
+
+fn write_namespaces<W: Write>(node: Node<'_, '_>, out: &mut Output<'_, W>) {
+    out.text(" ns=[");
+    let mut is_first = true;
+    for namespace in node.namespaces() {
+        write_text(gap(is_first), namespace.name(), out);
+        write_text("=", Some(namespace.uri()), out);
+        is_first = false;
     }
-    Ok(())
+    out.text("]");
 }
 
-fn write_pi<W: Write>(pi: PI<'_>, out: &mut W) -> io::Result<()> {
-    out.write_all(b" target=")?;
-    write_quoted(pi.target, out)?;
-    out.write_all(b" value=")?;
-    write_text(pi.value, out)
+fn write_pi<W: Write>(pi: PI<'_>, out: &mut Output<'_, W>) {
+    write_text(" target=", Some(pi.target), out);
+    write_text(" value=", pi.value, out);
 }
 
-/// Writes a name: its namespace and its local part.
-pub fn write_name<W: Write>(namespace: Option<&str>, local: &str, out: &mut W) -> io::Result<()> {
-    out.write_all(b"{")?;
-    write_text(namespace, out)?;
-    out.write_all(b"}")?;
-    write_quoted(local, out)
+/// Writes a label and a name: its namespace and its local part.
+pub fn write_name<W: Write>(
+    label: &str,
+    namespace: Option<&str>,
+    local: &str,
+    out: &mut Output<'_, W>,
+) {
+    out.text(label);
+    write_text("{", namespace, out);
+    out.text("}");
+    out.quoted(local);
 }
 
-/// Writes a text, or that there is none.
-pub fn write_text<W: Write>(text: Option<&str>, out: &mut W) -> io::Result<()> {
+/// Writes a label and a text, or that there is none.
+pub fn write_text<W: Write>(label: &str, text: Option<&str>, out: &mut Output<'_, W>) {
+    out.text(label);
     match text {
-        None => out.write_all(b"-"),
-        Some(text) => write_quoted(text, out),
+        None => out.text("-"),
+        Some(text) => out.quoted(text),
     }
 }
 
-fn write_option<W: Write>(storage: Option<&StringStorage<'_>>, out: &mut W) -> io::Result<()> {
+fn write_storage_or_none<W: Write>(
+    label: &str,
+    storage: Option<&StringStorage<'_>>,
+    out: &mut Output<'_, W>,
+) {
     match storage {
-        None => out.write_all(b"-"),
-        Some(storage) => write_storage(storage, out),
+        None => write_text(label, None, out),
+        Some(storage) => write_storage(label, storage, out),
     }
 }
 
-fn write_storage<W: Write>(storage: &StringStorage<'_>, out: &mut W) -> io::Result<()> {
+// Whether a text is borrowed or owned is told before it.
+fn write_storage<W: Write>(label: &str, storage: &StringStorage<'_>, out: &mut Output<'_, W>) {
+    out.text(label);
     match storage {
-        StringStorage::Borrowed(_) => out.write_all(b"B")?,
-        StringStorage::Owned(_) => out.write_all(b"O")?,
+        StringStorage::Borrowed(_) => out.text("B"),
+        StringStorage::Owned(_) => out.text("O"),
     }
-    write_quoted(storage.as_str(), out)
+    out.quoted(storage.as_str());
 }

@@ -1,7 +1,7 @@
 //! What the program is asked to do.
 
 /// How texts are read, and what is written of them.
-#[derive(Clone, Copy, Debug)]
+#[derive(Clone, Copy)]
 pub struct Options {
     /// Whether a document with a DOCTYPE is read.
     pub allow_dtd: bool,
@@ -33,7 +33,7 @@ impl Default for Options {
 }
 
 /// What the resolver of external entities is to answer.
-#[derive(Clone, Copy, Debug)]
+#[derive(Clone, Copy)]
 pub enum AnswerWord<'a> {
     /// The text of this file.
     File(&'a str),
@@ -44,7 +44,7 @@ pub enum AnswerWord<'a> {
 }
 
 /// What the words after the program's name ask for.
-#[derive(Debug, Drop)]
+#[derive(Drop)]
 pub struct Command<'a> {
     pub options: Options,
     /// The answers to the first declaration, to the second, and so on.

@@ -8,7 +8,7 @@ use std::alloc::Global;
 use std::io::Write;
 
 /// What is read beside the input.
-#[derive(Debug, Drop)]
+#[derive(Drop)]
 pub struct Sources {
     /// What the resolver of external entities answers.
     pub answers: Vec<Answer>,
