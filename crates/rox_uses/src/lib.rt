@@ -1,6 +1,7 @@
 //! Callers of the library, proved by its public contracts alone.
 #![tactic(auto)]
 
+pub mod exchanges;
 pub mod ids;
 pub mod paths;
 pub mod qualified;
@@ -8,6 +9,7 @@ pub mod records;
 #[cfg(test)]
 mod tests;
 
+pub use crate::exchanges::with_copy;
 pub use crate::ids::element_by_id;
 pub use crate::paths::{QueryError, records_at};
 pub use crate::qualified::resolve;

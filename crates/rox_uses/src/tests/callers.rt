@@ -1,7 +1,9 @@
 //! The callers.
 
 use super::{document_of, node_of, number, same};
-use crate::{QueryError, Record, RecordsError, element_by_id, read_records, records_at, resolve};
+use crate::{
+    QueryError, Record, RecordsError, element_by_id, read_records, records_at, resolve, with_copy,
+};
 use rox_path::PathError;
 use roxmltree::{ExpandedName, Node};
 use std::process::Abort;
@@ -66,6 +68,17 @@ fn records_by_a_path(rt: HostRuntime) {
 /// Wants a qualified name at a node to stand for this one.
 fn stands_for(rt: &impl Abort, node: Node<'_, '_>, name: &str, wanted: ExpandedName<'_, '_>) {
     same(rt, name, resolve(node, name), Some(wanted));
+}
+
+#[test]
+fn copies_in_the_place_of_others(rt: HostRuntime) {
+    let document = document_of(&rt, "<r>a<b x='1'>c</b><!-- --><d/></r>");
+    let (b, d) = (node_of(&rt, &document, 3), node_of(&rt, &document, 6));
+    same(&rt, "b", b.is_self_contained(), true);
+    same(&rt, "d", d.is_self_contained(), true);
+    let text = with_copy(rt.alloc(), d, b).expect(&rt, "memory");
+    let wanted = "<r>a<b x='1'>c</b><!-- --><b x='1'>c</b></r>";
+    same(&rt, "the text", text.as_str(), wanted);
 }
 
 #[test]

@@ -1,0 +1,34 @@
+//! Elements put in the place of others.
+
+ghost use Rattle.std.specs.Prelude.{◌≡◌, ℕ, true, List, IfOk, IfErr, string_bytes};
+ghost use Rattle.rox_error.specs.declared.error.Error.TheVariants.{OutOfMemory};
+ghost use Rattle.roxmltree.specs.Forest.{Forest};
+ghost use Rattle.roxmltree.specs.Tree as grammar;
+ghost use Rattle.roxmltree.specs.Exchange.{IsReparse, IsExchange};
+ghost use Rattle.roxmltree.specs.Alone.{stands_alone};
+ghost use Rattle.roxmltree.specs.Elements.{root_id};
+ghost use Rattle.roxmltree.specs.Spot.{id_of, document_of, tree_of};
+
+use rox_laws::exchanges::root_elements_stand_alone;
+use roxmltree::{Error, Node};
+use std::alloc::Global;
+
+/// The text that an element is in, with a copy of another element in its place, which may be one of the same document.
+pub fn with_copy(alloc: Global, element: Node<'_, '_>, other: Node<'_, '_>) -> Result<String, Error>
+    requires mine { stands_alone (document_of element) (id_of element) ≡ true }
+    requires others { stands_alone (document_of other) (id_of other) ≡ true }
+    ensures exchanged { IfOk result (λ text. (own : Forest grammar.Node) × (own_text : List ℕ)
+        × IsReparse (tree_of other.entry) (document_of other.entry).text (id_of other.entry) own own_text
+        × IsExchange (tree_of element.entry) (document_of element.entry).text (id_of element.entry) own own_text (root_id own) (string_bytes text)) }
+    ensures memory { IfErr result (λ e. e ≡ OutOfMemory) }
+{
+    let copy = match other.reparse(alloc) {
+        Ok(copy) => copy,
+        Err(error) => return Err(error),
+    };
+    root_elements_stand_alone(&copy);
+    match element.exchange(alloc, &copy) {
+        Ok(text) => Ok(text),
+        Err(_) => Err(Error::OutOfMemory),
+    }
+}
