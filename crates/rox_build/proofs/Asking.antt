@@ -12,8 +12,8 @@ use Rattle.rox_reading.specs.Doctype.{Reply, Asks, Dtd, EntityHead, Definition, 
 use Rattle.rox_reading.specs.Answering.{Answered, Stops, left_with}
 use Rattle.rox_reading.proofs.Settling.{entity_run, declared_there}
 use Rattle.rox_build.specs.Asking.{AreGiven, StopsBy}
-use Rattle.rox_values.specs.declared.refused.Refused.{Refused}
-use Rattle.rox_values.specs.declared.refused.Refused.TheVariants as code
+use Rattle.rox_values.specs.declared.parse_error.ParseError.{ParseError}
+use Rattle.rox_values.specs.declared.parse_error.ParseError.TheVariants as code
 
 -- it is this text, or none
 abbrev pub IsText : Definition → ℕ → List Asked → Option Replacement → Type 0
@@ -51,10 +51,10 @@ module _ (allows : Request → Reply → Type 0) where
 
 -- a whole stops as its part does
 pub stops_by : {A B : Type 0} (allows : Request → Reply → Type 0) (run : List Reply → Asks A) (whole : List Reply → Asks B) (asked more_asked : List Asked)
-    → ((e : Refusal) → Stops run asked e → Stops whole more_asked e) → (e : Refused) → StopsBy allows run asked e → StopsBy allows whole more_asked e
+    → ((e : Refusal) → Stops run asked e → Stops whole more_asked e) → (e : ParseError) → StopsBy allows run asked e → StopsBy allows whole more_asked e
 stops_by allows run whole asked more_asked on code.Memory h = tt
 stops_by allows run whole asked more_asked on (code.Fault f) h = on (here f) h
-stops_by allows run whole asked more_asked on (code.Elsewhere source f) h = on (there source.now f) h
+stops_by allows run whole asked more_asked on (code.FaultIn source f) h = on (there source.now f) h
 stops_by allows run whole asked more_asked on (code.Resolver at message) h = (h.0, h.1, on (refused h.0 at (string_bytes message)) h.2)
 
 -- ---- a declaration of an entity

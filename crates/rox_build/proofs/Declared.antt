@@ -9,9 +9,9 @@ use Rattle.std.specs.Ordering.{nat_cmp}
 use Rattle.std.proofs.lemmas.Map.Text.{is_eq-slice_cmp}
 use Rattle.std.proofs.lemmas.Cmp.{nat_list_eq_equiv}
 use Rattle.rox_grammar.specs.Entities.{Replacement, Entity, text_of}
-use Rattle.rox_scan.specs.Doctypes.{replacement_view}
+use Rattle.rox_scan.specs.DoctypeViews.{replacement_view}
 use Rattle.rox_scan.specs.declared.cursor.Cursor.{Cursor}
-use Rattle.rox_values.specs.Named.{AreDeclared}
+use Rattle.rox_values.specs.DeclaredEntities.{AreDeclared}
 use Rattle.rox_values.specs.declared.entities.Entities.{Entities}
 
 declarations : List (Bor (List ℕ) × Cursor) → List Entity

@@ -3,12 +3,12 @@ use Rattle.std.proofs.Common.{◌≡◌, ℕ, ◌<◌, ◌≤◌, List, ◌++◌
 use Rattle.std.specs.List.{AllByRecursion}
 use Rattle.std.proofs.lemmas.List.{length-map}
 use Rattle.rox_grammar.specs.Forest.{Forest}
-use Rattle.rox_grammar.specs.Written.{Item, Declaration}
+use Rattle.rox_grammar.specs.Written.{Item, NamespaceDecl}
 use Rattle.rox_grammar.specs.State.{Open}
-use Rattle.rox_tables.specs.Lines.{line, declaration, scope_at, NamespaceWithin, KindWithin, AttributeRow, rows_of}
+use Rattle.rox_tables.specs.Rows.{row_view, declaration, scope_at, NamespaceWithin, KindWithin, AttributeRow, attribute_rows}
 use Rattle.rox_tables.specs.Scopes.{Once}
 use Rattle.rox_tables.specs.TagScopes.{lists_in}
-use Rattle.rox_build.specs.Shown.{opened, opened_in, names_in, line_in, IsWithin, IsOpenWithin, AreSound, HasEmpty, Shows, Grown}
+use Rattle.rox_build.specs.BuilderState.{opened, opened_in, names_in, line_in, IsRowWithin, IsOpenWithin, AreSound, HasEmpty, Represents, Grown}
 use Rattle.rox_tables.specs.declared.tables.NodeData.{NodeData}
 use Rattle.rox_tables.specs.declared.tables.ElementTables.{ElementTables}
 use Rattle.rox_build.specs.declared.builder.OpenElement.{OpenElement}
@@ -16,8 +16,8 @@ use Rattle.rox_build.specs.declared.builder.Builder.{Builder}
 use Rattle.rox_tables.proofs.Stable.{all_weaker, map_same, scope_at-append, lines-append, kind_more}
 use Rattle.rox_tables.proofs.Ropes.{length-lists}
 
-opened-append : (lists more : List (List Declaration)) (o : OpenElement) → o.scope < length lists → opened (lists ++ more) o ≡ opened lists o
-opened-append lists more o within = ap (λ (l : List Declaration). record (opened lists o) { scope = l }) (scope_at-append lists more o.scope within)
+opened-append : (lists more : List (List NamespaceDecl)) (o : OpenElement) → o.scope < length lists → opened (lists ++ more) o ≡ opened lists o
+opened-append lists more o within = ap (λ (l : List NamespaceDecl). record (opened lists o) { scope = l }) (scope_at-append lists more o.scope within)
 
 names_count : (t : ElementTables) → length (names_in t) ≡ length t.namespaces.items.items
 names_count t = length-map t.namespaces.items.items declaration
@@ -26,9 +26,9 @@ lists_count : (t : ElementTables) → length (lists_in t) ≡ length t.scopes.it
 lists_count t = length-lists (names_in t) t.listed.items t.scopes.items
 
 pub grown_counts : (old new : ElementTables) → Grown old new
-    → (length (rows_of old.attributes) ≤ length (rows_of new.attributes)) × (length old.namespaces.items.items ≤ length new.namespaces.items.items) × (length old.scopes.items ≤ length new.scopes.items)
+    → (length (attribute_rows old.attributes) ≤ length (attribute_rows new.attributes)) × (length old.namespaces.items.items ≤ length new.namespaces.items.items) × (length old.scopes.items ≤ length new.scopes.items)
 grown_counts old new g =
-    let a = ap length g.attributes ∙ length-append (rows_of old.attributes) g.more_attributes in
+    let a = ap length g.attributes ∙ length-append (attribute_rows old.attributes) g.more_attributes in
     let n = ap length g.names ∙ length-append (names_in old) g.more_names in
     let l = ap length g.lists ∙ length-append (lists_in old) g.more_lists in
     let x = names_count old in let y = names_count new in
@@ -59,32 +59,32 @@ grown_empty old new g h =
       none = ap (λ ls. scope_at ls 0) g.lists ∙ scope_at-append (lists_in old) g.more_lists 0 within ∙ h.none;
     }
 
-pub grown_shows : (end : ℕ) (o : Open) (done : Forest Item) (b u : Builder) → Shows end o done b → AreSound b.tables → AllByRecursion (IsOpenWithin b.tables) b.opened.items
-    → Grown b.tables u.tables → u.nodes ≡ b.nodes → u.opened ≡ b.opened → u.pending ≡ b.pending → u.joined ≡ b.joined → Shows end o done u
+pub grown_shows : (end : ℕ) (o : Open) (done : Forest Item) (b u : Builder) → Represents end o done b → AreSound b.tables → AllByRecursion (IsOpenWithin b.tables) b.opened.items
+    → Grown b.tables u.tables → u.nodes ≡ b.nodes → u.opened ≡ b.opened → u.pending ≡ b.pending → u.joined ≡ b.joined → Represents end o done u
 grown_shows end o done b u h sound elements g nodes opens waits joined =
     let t = b.tables in
     let n = names_count t in
     let m = lists_count t in
-    let all_attributes : AllByRecursion (λ (a : AttributeRow). NamespaceWithin (length (names_in t)) a.0.namespace) (rows_of t.attributes) =
-    subst (λ (n : ℕ). AllByRecursion (λ (a : AttributeRow). NamespaceWithin n a.0.namespace) (rows_of t.attributes)) (sym n) sound.attributes in
-    let all_rows : AllByRecursion (λ (r : NodeData). KindWithin (length (rows_of t.attributes)) (length (names_in t)) (length (lists_in t)) r.kind) b.nodes.items =
-    subst (λ (m : ℕ). AllByRecursion (λ (r : NodeData). KindWithin (length (rows_of t.attributes)) (length (names_in t)) m r.kind) b.nodes.items) (sym m)
-    (subst (λ (n : ℕ). AllByRecursion (λ (r : NodeData). KindWithin (length (rows_of t.attributes)) n (length t.scopes.items) r.kind) b.nodes.items) (sym n) h.within) in
+    let all_attributes : AllByRecursion (λ (a : AttributeRow). NamespaceWithin (length (names_in t)) a.0.namespace) (attribute_rows t.attributes) =
+    subst (λ (n : ℕ). AllByRecursion (λ (a : AttributeRow). NamespaceWithin n a.0.namespace) (attribute_rows t.attributes)) (sym n) sound.attributes in
+    let all_rows : AllByRecursion (λ (r : NodeData). KindWithin (length (attribute_rows t.attributes)) (length (names_in t)) (length (lists_in t)) r.kind) b.nodes.items =
+    subst (λ (m : ℕ). AllByRecursion (λ (r : NodeData). KindWithin (length (attribute_rows t.attributes)) (length (names_in t)) m r.kind) b.nodes.items) (sym m)
+    (subst (λ (n : ℕ). AllByRecursion (λ (r : NodeData). KindWithin (length (attribute_rows t.attributes)) n (length t.scopes.items) r.kind) b.nodes.items) (sym n) h.within) in
     let all_opened : AllByRecursion (λ (o : OpenElement). o.scope < length (lists_in t)) b.opened.items =
     subst (λ (m : ℕ). AllByRecursion (λ (o : OpenElement). o.scope < m) b.opened.items) (sym m)
     (all_weaker (IsOpenWithin t) (λ (o : OpenElement). o.scope < length t.scopes.items) b.opened.items (λ o x. x.0) elements) in
     let rows : map (line_in u.tables) b.nodes.items ≡ map (line_in t) b.nodes.items =
-    ap (λ (xs : List AttributeRow). map (line xs (names_in u.tables) (lists_in u.tables)) b.nodes.items) g.attributes
-    ∙ ap (λ (ns : List Declaration). map (line ((rows_of t.attributes) ++ g.more_attributes) ns (lists_in u.tables)) b.nodes.items) g.names
-    ∙ ap (λ (ls : List (List Declaration)). map (line ((rows_of t.attributes) ++ g.more_attributes) (names_in t ++ g.more_names) ls) b.nodes.items) g.lists
-    ∙ lines-append (rows_of t.attributes) g.more_attributes (names_in t) g.more_names (lists_in t) g.more_lists b.nodes.items all_attributes all_rows in
+    ap (λ (xs : List AttributeRow). map (row_view xs (names_in u.tables) (lists_in u.tables)) b.nodes.items) g.attributes
+    ∙ ap (λ (ns : List NamespaceDecl). map (row_view ((attribute_rows t.attributes) ++ g.more_attributes) ns (lists_in u.tables)) b.nodes.items) g.names
+    ∙ ap (λ (ls : List (List NamespaceDecl)). map (row_view ((attribute_rows t.attributes) ++ g.more_attributes) (names_in t ++ g.more_names) ls) b.nodes.items) g.lists
+    ∙ lines-append (attribute_rows t.attributes) g.more_attributes (names_in t) g.more_names (lists_in t) g.more_lists b.nodes.items all_attributes all_rows in
     let os : opened_in u.tables b.opened.items ≡ opened_in t b.opened.items =
-    ap (λ (ls : List (List Declaration)). map (opened ls) b.opened.items) g.lists
+    ap (λ (ls : List (List NamespaceDecl)). map (opened ls) b.opened.items) g.lists
     ∙ map_same (opened (lists_in t ++ g.more_lists)) (opened (lists_in t)) (λ (o : OpenElement). o.scope < length (lists_in t)) b.opened.items
     (λ o x. opened-append (lists_in t) g.more_lists o x) all_opened in
     let k = grown_counts t u.tables g in
-    let w = all_weaker (λ (r : NodeData). IsWithin t r.kind) (λ (r : NodeData). IsWithin u.tables r.kind) b.nodes.items
-    (λ r x. kind_more (length (rows_of t.attributes)) (length t.namespaces.items.items) (length t.scopes.items) (length (rows_of u.tables.attributes)) (length u.tables.namespaces.items.items) (length u.tables.scopes.items) r.kind k.0 k.1 k.2 x) h.within in
+    let w = all_weaker (λ (r : NodeData). IsRowWithin t r.kind) (λ (r : NodeData). IsRowWithin u.tables r.kind) b.nodes.items
+    (λ r x. kind_more (length (attribute_rows t.attributes)) (length t.namespaces.items.items) (length t.scopes.items) (length (attribute_rows u.tables.attributes)) (length u.tables.namespaces.items.items) (length u.tables.scopes.items) r.kind k.0 k.1 k.2 x) h.within in
     record {
       front = h.front;
       merged = rw (waits, joined) h.merged;

@@ -7,10 +7,10 @@ use Rattle.rox_grammar.specs.declared.fault.Fault.{Fault}
 use Rattle.rox_grammar.specs.declared.fault.Fault.TheVariants as fault
 use Rattle.rox_grammar.specs.declared.fault.Word.{Word}
 use Rattle.rox_grammar.specs.declared.fault.Word.TheVariants as word
-use Rattle.rox_grammar.specs.Marks.{byte_from, stands}
+use Rattle.rox_grammar.specs.Search.{byte_from, stands}
 use Rattle.rox_grammar.specs.Names.{spaces_end}
 use Rattle.rox_grammar.specs.Constructs.{at}
-use Rattle.rox_grammar.specs.Words.{word_text}
+use Rattle.rox_grammar.specs.FixedTexts.{word_text}
 use Rattle.rox_grammar.specs.Doctype.{Request, Asked}
 use Rattle.rox_reading.specs.Refusals.{here, lifted}
 use Rattle.rox_reading.specs.State.{State}
@@ -24,14 +24,14 @@ use Rattle.rox_resolver.specs.Requests.{AreAllowed}
 use Rattle.rox_scan.specs.declared.cursor.Cursor.{Cursor}
 use Rattle.rox_grammar.specs.declared.failure.Failure.{Failure}
 use Rattle.rox_grammar.specs.declared.failure.Failure.TheVariants as failure
-use Rattle.rox_scan.specs.Doctypes.{is_passed_over, passed_over_at, subset_end_at}
-use Rattle.rox_build.specs.Asking.{AreGiven, Comes, IsEntityRead, IsRead, IsGoing, Turns}
-use Rattle.rox_values.specs.Named.{AreDeclared}
-use Rattle.rox_values.specs.Refusing.{of_failure}
-use Rattle.rox_build.specs.Shown.{Sees, Stepped}
+use Rattle.rox_scan.specs.DoctypeViews.{is_skipped_declaration, skipped_declaration_at, subset_end_at}
+use Rattle.rox_build.specs.Asking.{AreGiven, AskOutcome, IsEntityRead, IsRead, IsSubsetSoFar, ItemOutcome}
+use Rattle.rox_values.specs.DeclaredEntities.{AreDeclared}
+use Rattle.rox_values.specs.Refusals.{of_failure}
+use Rattle.rox_build.specs.BuilderState.{IsInState, ScansTo}
 use Rattle.rox_build.specs.declared.builder.Builder.{Builder}
 use Rattle.rox_values.specs.declared.entities.Entities.{Entities}
-use Rattle.rox_values.specs.declared.refused.Refused.{Refused}
+use Rattle.rox_values.specs.declared.parse_error.ParseError.{ParseError}
 use Rattle.rox_build.proofs.Asking.{none_given, stops_by}
 use Rattle.rox_build.proofs.Lifting.{lifted_ok, lifted_err}
 
@@ -50,7 +50,7 @@ given_both allows a b h k = record { allowed = allowed_both allows a b h.allowed
 
 -- ---- the state at another place
 
-pub sees_at : (limit end : ℕ) (s : State) (c e : Cursor) (b : Builder) (j : ℕ) → Sees limit end s c b → e.pos ≡ j → Sees limit end (at_place j s) e b
+pub sees_at : (limit end : ℕ) (s : State) (c e : Cursor) (b : Builder) (j : ℕ) → IsInState limit end s c b → e.pos ≡ j → IsInState limit end (at_place j s) e b
 sees_at limit end s c e b j h is = record { here = is; limit_is = h.limit_is; shows = h.shows; names = h.names; attributes = h.attributes; left_is = h.left_is }
 
 -- ---- what has no value of its own
@@ -67,18 +67,18 @@ same_fault : (f g : Fault) → ◌≡◌ {A = Result (Unit {0} × ℕ) Fault} (E
 same_fault f g h = cc
 
 -- how an item ended that no more is said of
-abbrev pub ended : Result (Unit {0}) Refused → Result Bool Refused
+abbrev pub ended : Result (Unit {0}) ParseError → Result Bool ParseError
 ended (Ok x) = Ok false
 ended (Err e) = Err e
 
-abbrev pub ended_plainly : Result (Unit {0}) Failure → Result Bool Refused
+abbrev pub ended_plainly : Result (Unit {0}) Failure → Result Bool ParseError
 ended_plainly (Ok x) = Ok false
 ended_plainly (Err e) = Err (of_failure e)
 
 -- ---- a turn
 
 module _ (limit end i n m : ℕ) (src : List ℕ) (allows : Request → Reply → Type 0) (run : List Reply → Asks Dtd) (one : n ≡ suc m) (old c : Cursor) (b : Builder) (es : Entities)
-    (going : IsGoing limit end i n src allows run old b es) (within : old.pos < length src) (same : c.text.now ≡ src) (next : c.pos ≡ spaces_end src old.pos) where
+    (going : IsSubsetSoFar limit end i n src allows run old b es) (within : old.pos < length src) (same : c.text.now ≡ src) (next : c.pos ≡ spaces_end src old.pos) where
   abbrev d : Dtd
   d = going.dtd
 
@@ -94,25 +94,25 @@ module _ (limit end i n m : ℕ) (src : List ℕ) (allows : Request → Reply �
   found : (w : Word) (t : Bool) → stands (word_text w) c.text.now c.pos ≡ t → at w src s.at ≡ t
   found w t h = rw (same, place) at h
 
-  sees_here : Sees limit end s c b
+  sees_here : IsInState limit end s c b
   sees_here = sees_at limit end d.state old c b s.at going.sees place
 
   -- nothing more is asked
-  goes_on : (t : State) (e : Cursor) (u : Builder) → Continues run going.asked limit i m src (with_state d t) → Sees limit end t e u → IsGoing limit end i m src allows run e u es
+  goes_on : (t : State) (e : Cursor) (u : Builder) → Continues run going.asked limit i m src (with_state d t) → IsInState limit end t e u → IsSubsetSoFar limit end i m src allows run e u es
   goes_on t e u on sees = record { asked = going.asked; given = going.given; dtd = with_state d t; continues = on; sees = sees; declared = going.declared }
 
-  module _ (r : Result (Unit {0}) Refused) (is : stands (word_text word.EntityStart) c.text.now c.pos ≡ true) where
+  module _ (r : Result (Unit {0}) ParseError) (is : stands (word_text word.EntityStart) c.text.now c.pos ≡ true) where
     pub entity_turn : (e : Cursor) (fs : Entities)
         → ((d : Dtd) → c.pos ≡ d.state.at → AreDeclared d.entities es
-        → Comes allows (λ replies. entity_step c.text.now (left_with replies d)) (λ asked x. IsEntityRead (λ replies. entity_step c.text.now (left_with replies d)) d e fs asked) r)
-        → Turns limit end i m src allows run e b fs (ended r)
+        → AskOutcome allows (λ replies. entity_step c.text.now (left_with replies d)) (λ asked x. IsEntityRead (λ replies. entity_step c.text.now (left_with replies d)) d e fs asked) r)
+        → ItemOutcome limit end i m src allows run e b fs (ended r)
     entity_turn e fs comes = by_result r (subst (λ (text : List ℕ). Came text r) same (comes (spaced src d) place going.declared))
       where
-        Came : List ℕ → Result (Unit {0}) Refused → Type 0
+        Came : List ℕ → Result (Unit {0}) ParseError → Type 0
         Came text q =
-            Comes allows (λ replies. entity_step text (left_with replies (spaced src d))) (λ asked x. IsEntityRead (λ replies. entity_step text (left_with replies (spaced src d))) (spaced src d) e fs asked) q
+            AskOutcome allows (λ replies. entity_step text (left_with replies (spaced src d))) (λ asked x. IsEntityRead (λ replies. entity_step text (left_with replies (spaced src d))) (spaced src d) e fs asked) q
 
-        by_result : (q : Result (Unit {0}) Refused) → Came src q → Turns limit end i m src allows run e b fs (ended q)
+        by_result : (q : Result (Unit {0}) ParseError) → Came src q → ItemOutcome limit end i m src allows run e b fs (ended q)
         by_result (Ok x) k = record {
           asked = going.asked ++ k.0;
           given = given_both allows going.asked k.0 going.given k.1;
@@ -130,10 +130,10 @@ module _ (limit end i n m : ℕ) (src : List ℕ) (allows : Request → Reply �
 
   module _ (no_entity : stands (word_text word.EntityStart) c.text.now c.pos ≡ false) where
     pub comment_turn : (e : Cursor) (u : Builder) (r : Result (Unit {0}) Failure) → stands (word_text word.CommentStart) c.text.now c.pos ≡ true
-        → (Sees limit end s c b → Stepped limit end r e u (lifted (comment_step limit c.text.now s))) → Turns limit end i m src allows run e u es (ended_plainly r)
-    comment_turn e u r is steps = by_result r (subst (λ (text : List ℕ). Stepped limit end r e u (lifted (comment_step limit text s))) same (steps sees_here))
+        → (IsInState limit end s c b → ScansTo limit end r e u (lifted (comment_step limit c.text.now s))) → ItemOutcome limit end i m src allows run e u es (ended_plainly r)
+    comment_turn e u r is steps = by_result r (subst (λ (text : List ℕ). ScansTo limit end r e u (lifted (comment_step limit text s))) same (steps sees_here))
       where
-        by_result : (q : Result (Unit {0}) Failure) → Stepped limit end q e u (lifted (comment_step limit src s)) → Turns limit end i m src allows run e u es (ended_plainly q)
+        by_result : (q : Result (Unit {0}) Failure) → ScansTo limit end q e u (lifted (comment_step limit src s)) → ItemOutcome limit end i m src allows run e u es (ended_plainly q)
         by_result (Ok x) k =
             goes_on k.0 e u
             (turn.turn_comment run going.asked limit i n m src d going.continues one inside (found word.EntityStart false no_entity) k.0 (found word.CommentStart true is) (lifted_ok _ k.0 k.1)) k.2
@@ -146,10 +146,10 @@ module _ (limit end i n m : ℕ) (src : List ℕ) (allows : Request → Reply �
 
     module _ (no_comment : stands (word_text word.CommentStart) c.text.now c.pos ≡ false) where
       pub instruction_turn : (e : Cursor) (u : Builder) (r : Result (Unit {0}) Failure) → stands (word_text word.PIStart) c.text.now c.pos ≡ true
-          → (Sees limit end s c b → Stepped limit end r e u (lifted (instruction_step limit c.text.now s))) → Turns limit end i m src allows run e u es (ended_plainly r)
-      instruction_turn e u r is steps = by_result r (subst (λ (text : List ℕ). Stepped limit end r e u (lifted (instruction_step limit text s))) same (steps sees_here))
+          → (IsInState limit end s c b → ScansTo limit end r e u (lifted (instruction_step limit c.text.now s))) → ItemOutcome limit end i m src allows run e u es (ended_plainly r)
+      instruction_turn e u r is steps = by_result r (subst (λ (text : List ℕ). ScansTo limit end r e u (lifted (instruction_step limit text s))) same (steps sees_here))
         where
-          by_result : (q : Result (Unit {0}) Failure) → Stepped limit end q e u (lifted (instruction_step limit src s)) → Turns limit end i m src allows run e u es (ended_plainly q)
+          by_result : (q : Result (Unit {0}) Failure) → ScansTo limit end q e u (lifted (instruction_step limit src s)) → ItemOutcome limit end i m src allows run e u es (ended_plainly q)
           by_result (Ok x) k =
               goes_on k.0 e u
               (turn.turn_instruction run going.asked limit i n m src d going.continues one inside (found word.EntityStart false no_entity) (found word.CommentStart false no_comment) k.0
@@ -165,13 +165,13 @@ module _ (limit end i n m : ℕ) (src : List ℕ) (allows : Request → Reply �
 
       module _ (no_instruction : stands (word_text word.PIStart) c.text.now c.pos ≡ false) where
         -- none of the first three
-        skipped : (t : Bool) → is_passed_over c.text.now c.pos ≡ t → is_passed_over src s.at ≡ t
+        skipped : (t : Bool) → is_skipped_declaration c.text.now c.pos ≡ t → is_skipped_declaration src s.at ≡ t
         skipped t h = rw (same, place) at h
 
-        pub passed_turn : (e : Cursor) → is_passed_over c.text.now c.pos ≡ true → passed_over_at i c.text.now c.pos ≡ Ok (tt, e.pos) → Turns limit end i m src allows run e b es (Ok false)
+        pub passed_turn : (e : Cursor) → is_skipped_declaration c.text.now c.pos ≡ true → skipped_declaration_at i c.text.now c.pos ≡ Ok (tt, e.pos) → ItemOutcome limit end i m src allows run e b es (Ok false)
         passed_turn e is h =
             let stop = byte_from (λ k. k == 62) src s.at in
-            let k : passed_over_at i src s.at ≡ Ok (tt, e.pos) = rw (same, place) at h in
+            let k : skipped_declaration_at i src s.at ≡ Ok (tt, e.pos) = rw (same, place) at h in
             by_test (ltb stop (length src)) _ _ _ k
             (λ closes r. goes_on (at_place (stop + 1) d.state) e b
             (turn.turn_passed run going.asked limit i n m src d going.continues one inside (found word.EntityStart false no_entity) (found word.CommentStart false no_comment)
@@ -179,16 +179,16 @@ module _ (limit end i n m : ℕ) (src : List ℕ) (allows : Request → Reply �
             (sees_at limit end d.state old e b (stop + 1) going.sees (same_place _ _ r)))
             (λ out r. cc)
 
-        pub passed_stops : (f : Fault) → is_passed_over c.text.now c.pos ≡ true → passed_over_at i c.text.now c.pos ≡ Err f → Stops run going.asked (here f)
+        pub passed_stops : (f : Fault) → is_skipped_declaration c.text.now c.pos ≡ true → skipped_declaration_at i c.text.now c.pos ≡ Err f → Stops run going.asked (here f)
         passed_stops f is h =
             let stop = byte_from (λ k. k == 62) src s.at in
-            let k : passed_over_at i src s.at ≡ Err f = rw (same, place) at h in
+            let k : skipped_declaration_at i src s.at ≡ Err f = rw (same, place) at h in
             by_test (ltb stop (length src)) _ _ _ k (λ closes r. cc)
             (λ out r. rw (same_fault _ _ r)
             (turn.passed_stops run going.asked limit i n m src d going.continues one inside (found word.EntityStart false no_entity) (found word.CommentStart false no_comment)
             (found word.PIStart false no_instruction) (skipped true is) (ltb-false _ _ out)))
 
-        module _ (no_skipped : is_passed_over c.text.now c.pos ≡ false) where
+        module _ (no_skipped : is_skipped_declaration c.text.now c.pos ≡ false) where
           pub unknown_stops : (slice_index c.text.now c.pos == 93) ≡ false → Stops run going.asked (here (fault.UnknownToken c.pos))
           unknown_stops other =
               let o : (slice_index src s.at == 93) ≡ false = rw (same, place) at other in
@@ -231,13 +231,13 @@ module _ (limit end i n m : ℕ) (src : List ℕ) (allows : Request → Reply �
 -- ---- the items, one after the other
 
 -- before the first
-pub none_yet : (limit end i n : ℕ) (src : List ℕ) (allows : Request → Reply → Type 0) (d : Dtd) (c : Cursor) (b : Builder) (es : Entities) → n ≡ length src → Sees limit end d.state c b
-    → AreDeclared d.entities es → IsGoing limit end i n src allows (λ replies. subset limit i (length src) src (left_with replies d)) c b es
+pub none_yet : (limit end i n : ℕ) (src : List ℕ) (allows : Request → Reply → Type 0) (d : Dtd) (c : Cursor) (b : Builder) (es : Entities) → n ≡ length src → IsInState limit end d.state c b
+    → AreDeclared d.entities es → IsSubsetSoFar limit end i n src allows (λ replies. subset limit i (length src) src (left_with replies d)) c b es
 none_yet limit end i n src allows d c b es all sees declared =
     record { asked = []; given = none_given allows; dtd = d; continues = rw all (turn.none_yet limit i (length src) src d); sees = sees; declared = declared }
 
 module _ (limit end i n : ℕ) (src : List ℕ) (allows : Request → Reply → Type 0) (run : List Reply → Asks Dtd) (c : Cursor) (b : Builder) (es : Entities)
-    (going : IsGoing limit end i n src allows run c b es) where
+    (going : IsSubsetSoFar limit end i n src allows run c b es) where
   -- the text ends here
   pub text_ends : (m : ℕ) → n ≡ suc m → length src ≤ c.pos → IsRead limit end run c b es going.asked
   text_ends m one out = record {
@@ -259,10 +259,10 @@ stands_within src p b is some =
     elim (cases_lt p (length src)) as (λ x. p < length src) [ inl l ↦ l | inr l ↦ let out : slice_index src p ≡ 0 = get_or_past src p 0 l in absurd (omega arith) ]
 
 -- with a subset, whose `[` stands at p
-pub with_subset : (limit end : ℕ) (src : List ℕ) (allows : Request → Reply → Type 0) (x : Dtd) (p : ℕ) (c : Cursor) (b : Builder) (es : Entities) (r : Result (Unit {0}) Refused)
+pub with_subset : (limit end : ℕ) (src : List ℕ) (allows : Request → Reply → Type 0) (x : Dtd) (p : ℕ) (c : Cursor) (b : Builder) (es : Entities) (r : Result (Unit {0}) ParseError)
     → (is : doctype_head_at src x.state.at ≡ Ok (tt, p)) → (fits : p < length src) → slice_index src p ≡ 91
-    → Comes allows (subset_run limit src x tt p is fits) (λ asked u. IsRead limit end (subset_run limit src x tt p is fits) c b es asked) r
-    → Comes allows (step_run limit src x) (λ asked u. IsRead limit end (step_run limit src x) c b es asked) r
+    → AskOutcome allows (subset_run limit src x tt p is fits) (λ asked u. IsRead limit end (subset_run limit src x tt p is fits) c b es asked) r
+    → AskOutcome allows (step_run limit src x) (λ asked u. IsRead limit end (step_run limit src x) c b es asked) r
 with_subset limit end src allows x p c b es (Ok u) is fits opens k = (
   k.0,
   k.1,

@@ -2,10 +2,10 @@
 use Rattle.std.proofs.Common.{◌≡◌, Result, Ok, Err, ap}
 use Rattle.rox_grammar.specs.declared.fault.Fault.{Fault}
 use Rattle.rox_reading.specs.Refusals.{Refusal, here, lifted}
-use Rattle.rox_grammar.specs.Failing.{Fails}
+use Rattle.rox_grammar.specs.Failures.{Fails}
 use Rattle.rox_grammar.specs.declared.failure.Failure.{Failure}
 use Rattle.rox_grammar.specs.declared.failure.Failure.TheVariants as failure
-use Rattle.rox_values.specs.Refusing.{Stops, Refuses, of_failure}
+use Rattle.rox_values.specs.Refusals.{IsFailure, IsRefusal, of_failure}
 
 pub lifted_ok : {A : Type 0} (r : Result A Fault) (x : A) → lifted r ≡ Ok x → r ≡ Ok x
 lifted_ok (Ok y) x h = cc h
@@ -15,14 +15,14 @@ pub lifted_err : {A : Type 0} (r : Result A Fault) (f : Fault) → lifted r ≡ 
 lifted_err (Ok y) f h = cc h
 lifted_err (Err g) f h = cc h
 
-pub refuses : {A : Type 0} (e : Failure) (r : Result A Fault) → Fails e r → Stops e (lifted r)
+pub refuses : {A : Type 0} (e : Failure) (r : Result A Fault) → Fails e r → IsFailure e (lifted r)
 refuses failure.Memory r h = tt
 refuses (failure.Fault f) r h = ap lifted h
 
-pub fails : {A : Type 0} (e : Failure) (r : Result A Fault) → Stops e (lifted r) → Fails e r
+pub fails : {A : Type 0} (e : Failure) (r : Result A Fault) → IsFailure e (lifted r) → Fails e r
 fails failure.Memory r h = tt
 fails (failure.Fault f) r h = lifted_err r f h
 
-pub refused_too : {A : Type 0} (e : Failure) (r : Result A Refusal) → Stops e r → Refuses (of_failure e) r
+pub refused_too : {A : Type 0} (e : Failure) (r : Result A Refusal) → IsFailure e r → IsRefusal (of_failure e) r
 refused_too failure.Memory r h = tt
 refused_too (failure.Fault f) r h = h

@@ -5,15 +5,15 @@ use Rattle.std.proofs.lemmas.Bool.Decides.{eqb_tells, leb_tells}
 use Rattle.std.proofs.lemmas.Bool.{lt-ltb, le-ltb}
 use Rattle.std.proofs.lemmas.List.{get_or-take, drop_more, length-take-le}
 use Rattle.rox_grammar.specs.declared.fault.Fault.{Fault}
-use Rattle.rox_grammar.specs.Marks.{byte_from}
+use Rattle.rox_grammar.specs.Search.{byte_from}
 use Rattle.rox_grammar.specs.Entities.{Entity}
 use Rattle.rox_grammar.specs.Written.{Text}
 use Rattle.rox_reading.specs.State.{State}
 use Rattle.rox_reading.specs.Lexical.{◌>>=◌}
 use Rattle.rox_reading.specs.Refusals.{lifted}
-use Rattle.rox_reading.specs.Values.{run_bit_at, run_part, bytes_of, at_end}
-use Rattle.rox_reading.specs.Machine.{How, with_item, run_parts, at_place}
-use Rattle.rox_build.specs.Parted.{IsLine}
+use Rattle.rox_reading.specs.Values.{data_bit_at, data_part, bytes_of, at_end}
+use Rattle.rox_reading.specs.Machine.{Context, with_item, data_parts, at_place}
+use Rattle.rox_build.specs.DataParts.{IsLine}
 
 -- the first byte behind which a search goes on
 neither : (x : ℕ) (xs : List ℕ) → 0 < position_or_len (λ c. c == 38 || c == 13) (x ∷ xs) → ((x == 38) ≡ false) × ((x == 13) ≡ false)
@@ -27,16 +27,16 @@ neither x xs h =
     ]
 
 -- the line end
-first_bit : (es : List Entity) (src : List ℕ) (i j : ℕ) → IsLine src i j → run_bit_at true es src j i ≡ Ok (bytes_of (10 ∷ []), i + 1 + 1)
-unfolding run_bit_at
+first_bit : (es : List Entity) (src : List ℕ) (i j : ℕ) → IsLine src i j → data_bit_at true es src j i ≡ Ok (bytes_of (10 ∷ []), i + 1 + 1)
+unfolding data_bit_at
 first_bit es src i j h =
     let feed : slice_index (take j src) (i + 1) ≡ 10 = get_or-take j src (i + 1) 0 h.some ∙ h.feed in
     let two : i + 2 ≡ i + 1 + 1 = omega arith in
     rw (h.cr, feed, two) refl
 
 -- and what stands behind it
-second_bit : (es : List Entity) (src : List ℕ) (i j : ℕ) → IsLine src i j → i + 1 + 1 < j → run_bit_at true es src j (i + 1 + 1) ≡ Ok (bytes_of (slice_range src (i + 1 + 1) j), j)
-unfolding run_bit_at byte_from
+second_bit : (es : List Entity) (src : List ℕ) (i j : ℕ) → IsLine src i j → i + 1 + 1 < j → data_bit_at true es src j (i + 1 + 1) ≡ Ok (bytes_of (slice_range src (i + 1 + 1) j), j)
+unfolding data_bit_at byte_from
 second_bit es src i j h more =
     let count = length-take-le j src h.within in
     let here : drop (i + 1 + 1) (take j src) ≡ get_or (take j src) (i + 1 + 1) 0 ∷ drop (i + 1 + 1 + 1) (take j src) = drop_more (take j src) (i + 1 + 1) 0 (omega arith) in
@@ -48,8 +48,8 @@ second_bit es src i j h more =
     rw (amp, cr, h.rest) refl
 
 -- nothing stands at the end
-no_part : (es : List Entity) (n : ℕ) (src : List ℕ) (j : ℕ) → run_part true es n src j j ≡ Ok ([], at_end)
-unfolding run_part
+no_part : (es : List Entity) (n : ℕ) (src : List ℕ) (j : ℕ) → data_part true es n src j j ≡ Ok ([], at_end)
+unfolding data_part
 no_part es zero src j = refl
 no_part es (suc n) src j = rw (le-ltb j j (omega arith)) refl
 
@@ -59,8 +59,8 @@ one_more src a b some within =
     let n : b - a ≡ suc (b - (a + 1)) = omega arith in
     rw (first, n) refl
 
-rest_part : (es : List Entity) (src : List ℕ) (i j m : ℕ) → IsLine src i j → run_part true es (suc m) src j (i + 1 + 1) ≡ Ok (slice_range src (i + 1 + 1) j, at_end)
-unfolding run_part
+rest_part : (es : List Entity) (src : List ℕ) (i j m : ℕ) → IsLine src i j → data_part true es (suc m) src j (i + 1 + 1) ≡ Ok (slice_range src (i + 1 + 1) j, at_end)
+unfolding data_part
 rest_part es src i j m h =
     let some = h.some in
     elim (leb_tells (suc (i + 1 + 1)) j) [
@@ -71,8 +71,8 @@ rest_part es src i j m h =
           rw (le-ltb (i + 1 + 1) j (omega arith), k) refl
     ]
 
-line_part : (es : List Entity) (src : List ℕ) (i j : ℕ) → IsLine src i j → run_part true es (j - i) src j i ≡ Ok (10 ∷ slice_range src (i + 1 + 1) j, at_end)
-unfolding run_part
+line_part : (es : List Entity) (src : List ℕ) (i j : ℕ) → IsLine src i j → data_part true es (j - i) src j i ≡ Ok (10 ∷ slice_range src (i + 1 + 1) j, at_end)
+unfolding data_part
 line_part es src i j h =
     let some = h.some in
     let n : j - i ≡ suc (suc (j - i - 2)) = omega arith in
@@ -83,19 +83,19 @@ counted_at : (b : Bool) (u : State) (f : Fault) (j : ℕ) → at_place j u ≡ u
 counted_at true u f j same = ap (λ (v : State). Ok v) same
 counted_at false u f j same = refl
 
-at_state : (how : How) (src : List ℕ) (s : State) (j : ℕ) → how.values.main ≡ true → IsLine src s.at j
-    → run_parts how (length src) src s.at j s ≡ lifted (with_item how.limit s j (Text s.at j (slice_range src (s.at + 1) j) false))
-unfolding run_parts
+at_state : (how : Context) (src : List ℕ) (s : State) (j : ℕ) → how.values.main ≡ true → IsLine src s.at j
+    → data_parts how (length src) src s.at j s ≡ lifted (with_item how.limit s j (Text s.at j (slice_range src (s.at + 1) j) false))
+unfolding data_parts
 at_state how src s j main h =
     let some = h.some in
     let within = h.within in
     let len : length src ≡ suc (length src - 1) = omega arith in
-    let part : run_part how.values.main how.values.entities (j - s.at) src j s.at ≡ Ok (10 ∷ slice_range src (s.at + 1 + 1) j, at_end) = rw main (line_part how.values.entities src s.at j h) in
+    let part : data_part how.values.main how.values.entities (j - s.at) src j s.at ≡ Ok (10 ∷ slice_range src (s.at + 1 + 1) j, at_end) = rw main (line_part how.values.entities src s.at j h) in
     let text : slice_range src (s.at + 1) j ≡ 10 ∷ slice_range src (s.at + 1 + 1) j = one_more src (s.at + 1) j some within ∙ ap (λ b. b ∷ slice_range src (s.at + 1 + 1) j) h.feed in
     rw (len, part, text, main) (counted_at _ _ _ j refl)
 
-pub line_run : (how : How) (src : List ℕ) (s : State) (i j : ℕ) → i ≡ s.at → how.values.main ≡ true → IsLine src i j
-    → run_parts how (length src) src i j s ≡ lifted (with_item how.limit s j (Text s.at j (slice_range src (i + 1) j) false))
+pub line_run : (how : Context) (src : List ℕ) (s : State) (i j : ℕ) → i ≡ s.at → how.values.main ≡ true → IsLine src i j
+    → data_parts how (length src) src i j s ≡ lifted (with_item how.limit s j (Text s.at j (slice_range src (i + 1) j) false))
 line_run how src s i j e main h =
-    subst (λ (n : ℕ). run_parts how (length src) src n j s ≡ lifted (with_item how.limit s j (Text s.at j (slice_range src (n + 1) j) false))) (sym e)
+    subst (λ (n : ℕ). data_parts how (length src) src n j s ≡ lifted (with_item how.limit s j (Text s.at j (slice_range src (n + 1) j) false))) (sym e)
     (at_state how src s j main (subst (λ (n : ℕ). IsLine src n j) e h))

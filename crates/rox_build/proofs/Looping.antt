@@ -8,42 +8,42 @@ use Rattle.rox_reading.specs.Lexical.{◌>>=◌}
 use Rattle.rox_grammar.specs.State.{is_root}
 use Rattle.rox_reading.specs.Refusals.{Refusal, here, lifted}
 use Rattle.rox_reading.specs.State.{State}
-use Rattle.rox_reading.specs.Machine.{How, step, drive, comment_step, instruction_step}
-use Rattle.rox_reading.specs.Whole.{misc}
+use Rattle.rox_reading.specs.Machine.{Context, step, drive, comment_step, instruction_step}
+use Rattle.rox_reading.specs.WholeText.{misc}
 use Rattle.rox_scan.specs.declared.cursor.Cursor.{Cursor}
 use Rattle.rox_grammar.specs.declared.failure.Failure.{Failure}
 use Rattle.rox_grammar.specs.declared.failure.Failure.TheVariants as failure
-use Rattle.rox_values.specs.Refusing.{Stops, Refuses}
-use Rattle.rox_values.specs.declared.refused.Refused.{Refused}
+use Rattle.rox_values.specs.Refusals.{IsFailure, IsRefusal}
+use Rattle.rox_values.specs.declared.parse_error.ParseError.{ParseError}
 use Rattle.rox_values.proofs.PartLemmas.{refuses_by}
-use Rattle.rox_build.specs.Shown.{Sees, Stepped, Went}
+use Rattle.rox_build.specs.BuilderState.{IsInState, ScansTo, ParsesTo}
 use Rattle.rox_build.proofs.Lifting.{lifted_ok, lifted_err}
 use Rattle.rox_build.specs.declared.builder.Builder.{Builder}
 
 -- ---- content
 
-pub record Driving (how : How) (end : ℕ) (src : List ℕ) (whole : Result State Refusal) (n : ℕ) (c : Cursor) (b : Builder) : Type 0 where
+pub record Driving (how : Context) (end : ℕ) (src : List ℕ) (whole : Result State Refusal) (n : ℕ) (c : Cursor) (b : Builder) : Type 0 where
   pub s : State
-  pub sees : Sees how.limit end s c b
+  pub sees : IsInState how.limit end s c b
   pub same : drive how n src s ≡ whole
 
-driven : (how : How) (n m : ℕ) (src : List ℕ) (s : State) → n ≡ suc m → is_root s.stack ≡ false → s.at < length src → drive how n src s ≡ (step how src s >>= λ t. drive how m src t)
+driven : (how : Context) (n m : ℕ) (src : List ℕ) (s : State) → n ≡ suc m → is_root s.stack ≡ false → s.at < length src → drive how n src s ≡ (step how src s >>= λ t. drive how m src t)
 unfolding drive
 driven how n m src s one inner inside = let k = lt-ltb _ _ inside in rw (one, inner, k) refl
 
-pub drives_on : (how : How) (end : ℕ) (src : List ℕ) (whole : Result State Refusal) (n m : ℕ) (c d : Cursor) (b u : Builder) (x : Unit {0}) (g : Driving how end src whole n c b) → n ≡ suc m → is_root g.s.stack ≡ false
-    → g.s.at < length src → Went how.limit end (Ok x) d u (step how src g.s) → Driving how end src whole m d u
+pub drives_on : (how : Context) (end : ℕ) (src : List ℕ) (whole : Result State Refusal) (n m : ℕ) (c d : Cursor) (b u : Builder) (x : Unit {0}) (g : Driving how end src whole n c b) → n ≡ suc m → is_root g.s.stack ≡ false
+    → g.s.at < length src → ParsesTo how.limit end (Ok x) d u (step how src g.s) → Driving how end src whole m d u
 drives_on how end src whole n m c d b u x g one inner inside (t, read, sees) =
     record { s = t; sees = sees; same = sym (driven how n m src g.s one inner inside ∙ rw read refl) ∙ g.same }
 
-pub drive_fails : (how : How) (end : ℕ) (src : List ℕ) (whole : Result State Refusal) (n m : ℕ) (c : Cursor) (b : Builder) (e : Refused) (g : Driving how end src whole n c b) → n ≡ suc m → is_root g.s.stack ≡ false
-    → g.s.at < length src → Refuses e (step how src g.s) → Refuses e whole
+pub drive_fails : (how : Context) (end : ℕ) (src : List ℕ) (whole : Result State Refusal) (n m : ℕ) (c : Cursor) (b : Builder) (e : ParseError) (g : Driving how end src whole n c b) → n ≡ suc m → is_root g.s.stack ≡ false
+    → g.s.at < length src → IsRefusal e (step how src g.s) → IsRefusal e whole
 drive_fails how end src whole n m c b e g one inner inside h =
     refuses_by e (step how src g.s) whole (λ r err. sym g.same ∙ driven how n m src g.s one inner inside ∙ rw err refl) h
 
 -- the root element is closed
-pub drive_done : (how : How) (end : ℕ) (src : List ℕ) (whole : Result State Refusal) (n : ℕ) (c : Cursor) (b : Builder) (g : Driving how end src whole n c b) → is_root g.s.stack ≡ true
-    → (s : State) × (whole ≡ Ok s) × Sees how.limit end s c b
+pub drive_done : (how : Context) (end : ℕ) (src : List ℕ) (whole : Result State Refusal) (n : ℕ) (c : Cursor) (b : Builder) (g : Driving how end src whole n c b) → is_root g.s.stack ≡ true
+    → (s : State) × (whole ≡ Ok s) × IsInState how.limit end s c b
 unfolding drive
 drive_done how end src whole n c b g closed = (g.s, sym g.same ∙ stays n, g.sees)
   where
@@ -52,7 +52,7 @@ drive_done how end src whole n c b g closed = (g.s, sym g.same ∙ stays n, g.se
     stays (suc n) = rw closed refl
 
 -- the text ends within it
-pub drive_cut : (how : How) (end : ℕ) (src : List ℕ) (whole : Result State Refusal) (n : ℕ) (c : Cursor) (b : Builder) (g : Driving how end src whole n c b) → is_root g.s.stack ≡ false
+pub drive_cut : (how : Context) (end : ℕ) (src : List ℕ) (whole : Result State Refusal) (n : ℕ) (c : Cursor) (b : Builder) (g : Driving how end src whole n c b) → is_root g.s.stack ≡ false
     → length src ≤ g.s.at → whole ≡ Err (here fault.UnclosedRootNode)
 unfolding drive
 drive_cut how end src whole n c b g inner past = sym g.same ∙ stops n
@@ -61,7 +61,7 @@ drive_cut how end src whole n c b g inner past = sym g.same ∙ stops n
     stops zero = rw inner refl
     stops (suc n) = let k = le-ltb _ _ past in rw (inner, k) refl
 
-pub drive_spent : (how : How) (end : ℕ) (src : List ℕ) (whole : Result State Refusal) (n : ℕ) (c : Cursor) (b : Builder) (g : Driving how end src whole n c b) → is_root g.s.stack ≡ false
+pub drive_spent : (how : Context) (end : ℕ) (src : List ℕ) (whole : Result State Refusal) (n : ℕ) (c : Cursor) (b : Builder) (g : Driving how end src whole n c b) → is_root g.s.stack ≡ false
     → n ≡ 0 → whole ≡ Err (here fault.UnclosedRootNode)
 unfolding drive
 drive_spent how end src whole n c b g inner none = sym g.same ∙ rw (none, inner) refl
@@ -70,14 +70,14 @@ drive_spent how end src whole n c b g inner none = sym g.same ∙ rw (none, inne
 
 pub record Going (limit end : ℕ) (src : List ℕ) (whole : Result State Refusal) (n : ℕ) (c : Cursor) (b : Builder) : Type 0 where
   pub s : State
-  pub sees : Sees limit end s c b
+  pub sees : IsInState limit end s c b
   pub same : lifted (misc limit n src s) ≡ whole
 
 -- behind white space
 abbrev pub spaced : List ℕ → State → State
 spaced src s = record { at = spaces_end src s.at; done = s.done; stack = s.stack; left = s.left }
 
-pub sees_spaced : (limit end : ℕ) (src : List ℕ) (s : State) (c d : Cursor) (b : Builder) → Sees limit end s c b → d.pos ≡ spaces_end src c.pos → Sees limit end (spaced src s) d b
+pub sees_spaced : (limit end : ℕ) (src : List ℕ) (s : State) (c d : Cursor) (b : Builder) → IsInState limit end s c b → d.pos ≡ spaces_end src c.pos → IsInState limit end (spaced src s) d b
 sees_spaced limit end src s c d b h next =
     record { here = next ∙ ap (spaces_end src) h.here; limit_is = h.limit_is; shows = h.shows; names = h.names; attributes = h.attributes; left_is = h.left_is }
 
@@ -92,33 +92,33 @@ unfolding misc
 instructed limit n m src s one other is = rw (one, other, is) refl
 
 pub comment_on : (limit end : ℕ) (src : List ℕ) (whole : Result State Refusal) (n m : ℕ) (c d : Cursor) (b u : Builder) (x : Unit {0}) (g : Going limit end src whole n c b) → n ≡ suc m
-    → at word.CommentStart src (spaces_end src g.s.at) ≡ true → Stepped limit end (Ok x) d u (lifted (comment_step limit src (spaced src g.s))) → Going limit end src whole m d u
+    → at word.CommentStart src (spaces_end src g.s.at) ≡ true → ScansTo limit end (Ok x) d u (lifted (comment_step limit src (spaced src g.s))) → Going limit end src whole m d u
 comment_on limit end src whole n m c d b u x g one is (t, read, sees) = record { s = t; sees = sees; same = sym (ap lifted (commented limit n m src g.s one is) ∙ rw (lifted_ok _ _ read) refl) ∙ g.same }
 
 pub instruction_on : (limit end : ℕ) (src : List ℕ) (whole : Result State Refusal) (n m : ℕ) (c d : Cursor) (b u : Builder) (x : Unit {0}) (g : Going limit end src whole n c b) → n ≡ suc m
     → at word.CommentStart src (spaces_end src g.s.at) ≡ false → at word.PIStart src (spaces_end src g.s.at) ≡ true
-    → Stepped limit end (Ok x) d u (lifted (instruction_step limit src (spaced src g.s))) → Going limit end src whole m d u
+    → ScansTo limit end (Ok x) d u (lifted (instruction_step limit src (spaced src g.s))) → Going limit end src whole m d u
 instruction_on limit end src whole n m c d b u x g one other is (t, read, sees) = record { s = t; sees = sees; same = sym (ap lifted (instructed limit n m src g.s one other is) ∙ rw (lifted_ok _ _ read) refl) ∙ g.same }
 
 pub comment_fails : (limit end : ℕ) (src : List ℕ) (whole : Result State Refusal) (n m : ℕ) (c : Cursor) (b : Builder) (e : Failure) (g : Going limit end src whole n c b) → n ≡ suc m
-    → at word.CommentStart src (spaces_end src g.s.at) ≡ true → Stops e (lifted (comment_step limit src (spaced src g.s))) → Stops e whole
+    → at word.CommentStart src (spaces_end src g.s.at) ≡ true → IsFailure e (lifted (comment_step limit src (spaced src g.s))) → IsFailure e whole
 comment_fails limit end src whole n m c b failure.Memory g one is h = tt
 comment_fails limit end src whole n m c b (failure.Fault f) g one is h = sym g.same ∙ ap lifted (commented limit n m src g.s one is) ∙ rw (lifted_err _ f h) refl
 
 pub instruction_fails : (limit end : ℕ) (src : List ℕ) (whole : Result State Refusal) (n m : ℕ) (c : Cursor) (b : Builder) (e : Failure) (g : Going limit end src whole n c b) → n ≡ suc m
-    → at word.CommentStart src (spaces_end src g.s.at) ≡ false → at word.PIStart src (spaces_end src g.s.at) ≡ true → Stops e (lifted (instruction_step limit src (spaced src g.s))) → Stops e whole
+    → at word.CommentStart src (spaces_end src g.s.at) ≡ false → at word.PIStart src (spaces_end src g.s.at) ≡ true → IsFailure e (lifted (instruction_step limit src (spaced src g.s))) → IsFailure e whole
 instruction_fails limit end src whole n m c b failure.Memory g one other is h = tt
 instruction_fails limit end src whole n m c b (failure.Fault f) g one other is h = sym g.same ∙ ap lifted (instructed limit n m src g.s one other is) ∙ rw (lifted_err _ f h) refl
 
 -- something else stands here
 pub misc_done : (limit end : ℕ) (src : List ℕ) (whole : Result State Refusal) (n m : ℕ) (c d : Cursor) (b : Builder) (g : Going limit end src whole n c b) → n ≡ suc m
     → at word.CommentStart src (spaces_end src g.s.at) ≡ false → at word.PIStart src (spaces_end src g.s.at) ≡ false → d.pos ≡ spaces_end src c.pos
-    → (s : State) × (whole ≡ Ok s) × Sees limit end s d b
+    → (s : State) × (whole ≡ Ok s) × IsInState limit end s d b
 unfolding misc
 misc_done limit end src whole n m c d b g one other also next =
     (spaced src g.s, sym g.same ∙ rw (one, other, also) refl, sees_spaced limit end src g.s c d b g.sees next)
 
 pub misc_spent : (limit end : ℕ) (src : List ℕ) (whole : Result State Refusal) (n : ℕ) (c : Cursor) (b : Builder) (g : Going limit end src whole n c b) → n ≡ 0
-    → (s : State) × (whole ≡ Ok s) × Sees limit end s c b
+    → (s : State) × (whole ≡ Ok s) × IsInState limit end s c b
 unfolding misc
 misc_spent limit end src whole n c b g none = (g.s, sym g.same ∙ rw none refl, g.sees)

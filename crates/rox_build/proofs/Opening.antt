@@ -4,7 +4,7 @@ use Rattle.std.specs.List.{AllByRecursion, slice_range}
 use Rattle.std.proofs.lemmas.List.{length-map}
 use Rattle.rox_grammar.specs.declared.fault.Fault.{Fault}
 use Rattle.rox_grammar.specs.Forest.{Nil, join}
-use Rattle.rox_grammar.specs.Written.{Declaration, Tag, Item, Element, leaf}
+use Rattle.rox_grammar.specs.Written.{NamespaceDecl, Tag, Item, Element, leaf}
 use Rattle.rox_grammar.specs.Tree as tree
 use Rattle.rox_grammar.specs.Tree.{listed, attribute_in, element_namespace, node_in}
 use Rattle.rox_grammar.specs.Document.{listable, with_new, distinct_pairs}
@@ -12,17 +12,17 @@ use Rattle.rox_reading.specs.Tags.{tag_at}
 use Rattle.rox_grammar.specs.State.{inside, scope_of, pairs_so_far, attributes_so_far}
 use Rattle.rox_reading.specs.State.{State}
 use Rattle.rox_reading.specs.Refusals.{lifted}
-use Rattle.rox_reading.specs.Machine.{How, tag_step, cut_off, opened_by, counted}
-use Rattle.rox_values.specs.Refusing.{Refuses}
-use Rattle.rox_values.specs.declared.refused.Refused.{Refused}
+use Rattle.rox_reading.specs.Machine.{Context, tag_step, cut_off, opened_by, counted}
+use Rattle.rox_values.specs.Refusals.{IsRefusal}
+use Rattle.rox_values.specs.declared.parse_error.ParseError.{ParseError}
 use Rattle.rox_values.proofs.PartLemmas.{refuses_by}
 use Rattle.rox_scan.specs.declared.cursor.Cursor.{Cursor}
 use Rattle.rox_grammar.specs.declared.failure.Failure.{Failure}
-use Rattle.rox_tables.specs.Lines.{node, declaration, attribute, scope_at, NamespaceWithin, AttributeRow, rows_of}
+use Rattle.rox_tables.specs.Rows.{node, declaration, attribute, scope_at, NamespaceWithin, AttributeRow, attribute_rows}
 use Rattle.rox_tables.specs.Scopes.{Once}
 use Rattle.rox_tables.specs.TagScopes.{lists_in}
-use Rattle.rox_build.specs.Tagged.{Tagged}
-use Rattle.rox_build.specs.Shown.{names_in, IsWithin, AreSound, IsOpenWithin, Fine, Grown, IsNode, IsOpening, Adds, Stepped}
+use Rattle.rox_build.specs.ElementRow.{Tagged}
+use Rattle.rox_build.specs.BuilderState.{names_in, IsRowWithin, AreSound, IsOpenWithin, IsConsistent, Grown, IsNode, IsOpening, Adds, ScansTo}
 use Rattle.std.specs.Result.{OnOk}
 use Rattle.rox_tables.specs.declared.tables.NodeKind.TheVariants as kind
 use Rattle.rox_tables.specs.declared.tables.ElementTables.{ElementTables}
@@ -35,7 +35,7 @@ use Rattle.rox_reading.proofs.Stretches.{slice-rest}
 use Rattle.rox_build.proofs.Growing.{grown_counts, grown_elements, grown_empty}
 use Rattle.rox_build.proofs.Stepping.{pairs_more, attributes_more, adds_stepped}
 
-pub grown_by : (old new : ElementTables) (t : StartTag) (above : List Declaration) (tag : Tag) → Tagged old new t above tag → Grown old new
+pub grown_by : (old new : ElementTables) (t : StartTag) (above : List NamespaceDecl) (tag : Tag) → Tagged old new t above tag → Grown old new
 grown_by old new t above tag h =
     let w = with_new-front (names_in old) (listable tag) in
     record {
@@ -47,15 +47,15 @@ grown_by old new t above tag h =
       lists = h.lists_more;
     }
 
-pub sound_by : (old new : ElementTables) (t : StartTag) (above : List Declaration) (tag : Tag) → Tagged old new t above tag → AreSound old → AreSound new
+pub sound_by : (old new : ElementTables) (t : StartTag) (above : List NamespaceDecl) (tag : Tag) → Tagged old new t above tag → AreSound old → AreSound new
 sound_by old new t above tag h s =
     let k = grown_counts old new (grown_by old new t above tag h) in
     let n : length (names_in new) ≡ length new.namespaces.items.items = length-map new.namespaces.items.items declaration in
-    let a = all_weaker (λ (a : AttributeRow). NamespaceWithin (length old.namespaces.items.items) a.0.namespace) (λ (a : AttributeRow). NamespaceWithin (length new.namespaces.items.items) a.0.namespace) (rows_of old.attributes)
+    let a = all_weaker (λ (a : AttributeRow). NamespaceWithin (length old.namespaces.items.items) a.0.namespace) (λ (a : AttributeRow). NamespaceWithin (length new.namespaces.items.items) a.0.namespace) (attribute_rows old.attributes)
     (λ a x. namespace_more (length old.namespaces.items.items) (length new.namespaces.items.items) a.0.namespace k.1 x) s.attributes in
     let m = subst (λ (n : ℕ). AllByRecursion (λ (a : AttributeRow). NamespaceWithin n a.0.namespace) h.element.attributes.more) n h.element.attributes.within in
     record {
-      attributes = rw h.element.attributes.grown (all_append (λ (a : AttributeRow). NamespaceWithin (length new.namespaces.items.items) a.0.namespace) (rows_of old.attributes) h.element.attributes.more a m);
+      attributes = rw h.element.attributes.grown (all_append (λ (a : AttributeRow). NamespaceWithin (length new.namespaces.items.items) a.0.namespace) (attribute_rows old.attributes) h.element.attributes.more a m);
       listed = h.places;
       scopes = h.scopes;
     }
@@ -67,34 +67,34 @@ drop_front (x ∷ xs) ys = drop_front xs ys
 own_slice : (old new more : List AttributeRow) (i j : ℕ) → new ≡ old ++ more → i ≡ length old → j ≡ length new → slice_range new i j ≡ more
 own_slice old new more i j grown from until = rw (from, until) (slice-rest new (length old) ∙ ap (drop (length old)) grown ∙ drop_front old more)
 
-pub node_by : (old new : ElementTables) (t : StartTag) (above : List Declaration) (tag : Tag) (s e : ℕ) → Tagged old new t above tag
-    → node (rows_of new.attributes) (names_in new) (lists_in new) s e (kind.Element t.element) ≡ node_in (listed above tag.declarations) (Element s e tag)
+pub node_by : (old new : ElementTables) (t : StartTag) (above : List NamespaceDecl) (tag : Tag) (s e : ℕ) → Tagged old new t above tag
+    → node (attribute_rows new.attributes) (names_in new) (lists_in new) s e (kind.Element t.element) ≡ node_in (listed above tag.declarations) (Element s e tag)
 node_by old new t above tag s e h =
     let scope = listed above tag.declarations in
     let x = h.element in
-    let a : map (attribute (names_in new)) (slice_range (rows_of new.attributes) t.element.attributes_from t.element.attributes_until) ≡ map (attribute_in scope) tag.attributes =
-    ap (map (attribute (names_in new))) (own_slice (rows_of old.attributes) (rows_of new.attributes) x.attributes.more t.element.attributes_from t.element.attributes_until x.attributes.grown x.attributes_from x.attributes_until) ∙ x.attributes.same in
-    ap (λ (u : Option (List ℕ)). tree.Element s e u t.element.local.now (scope_at (lists_in new) t.element.scope) (map (attribute (names_in new)) (slice_range (rows_of new.attributes) t.element.attributes_from t.element.attributes_until))) x.namespace
-    ∙ ap (λ (l : List ℕ). tree.Element s e (element_namespace scope tag.name) l (scope_at (lists_in new) t.element.scope) (map (attribute (names_in new)) (slice_range (rows_of new.attributes) t.element.attributes_from t.element.attributes_until))) x.local
-    ∙ ap (λ (l : List Declaration). tree.Element s e (element_namespace scope tag.name) tag.name.local l (map (attribute (names_in new)) (slice_range (rows_of new.attributes) t.element.attributes_from t.element.attributes_until))) x.lists
+    let a : map (attribute (names_in new)) (slice_range (attribute_rows new.attributes) t.element.attributes_from t.element.attributes_until) ≡ map (attribute_in scope) tag.attributes =
+    ap (map (attribute (names_in new))) (own_slice (attribute_rows old.attributes) (attribute_rows new.attributes) x.attributes.more t.element.attributes_from t.element.attributes_until x.attributes.grown x.attributes_from x.attributes_until) ∙ x.attributes.same in
+    ap (λ (u : Option (List ℕ)). tree.Element s e u t.element.local.now (scope_at (lists_in new) t.element.scope) (map (attribute (names_in new)) (slice_range (attribute_rows new.attributes) t.element.attributes_from t.element.attributes_until))) x.namespace
+    ∙ ap (λ (l : List ℕ). tree.Element s e (element_namespace scope tag.name) l (scope_at (lists_in new) t.element.scope) (map (attribute (names_in new)) (slice_range (attribute_rows new.attributes) t.element.attributes_from t.element.attributes_until))) x.local
+    ∙ ap (λ (l : List NamespaceDecl). tree.Element s e (element_namespace scope tag.name) tag.name.local l (map (attribute (names_in new)) (slice_range (attribute_rows new.attributes) t.element.attributes_from t.element.attributes_until))) x.lists
     ∙ ap (λ (l : List tree.Attribute). tree.Element s e (element_namespace scope tag.name) tag.name.local scope l) a
 
-pub within_by : (old new : ElementTables) (t : StartTag) (above : List Declaration) (tag : Tag) → Tagged old new t above tag → IsWithin new (kind.Element t.element)
+pub within_by : (old new : ElementTables) (t : StartTag) (above : List NamespaceDecl) (tag : Tag) → Tagged old new t above tag → IsRowWithin new (kind.Element t.element)
 within_by old new t above tag h =
     let x = h.element in
-    let n = ap length x.attributes.grown ∙ length-append (rows_of old.attributes) x.attributes.more in
+    let n = ap length x.attributes.grown ∙ length-append (attribute_rows old.attributes) x.attributes.more in
     let a = x.attributes_from in let b = x.attributes_until in
     (omega arith, omega arith, x.scope_within, x.namespace_within)
 
-pub is_node : (old new : ElementTables) (t : StartTag) (above : List Declaration) (tag : Tag) (s e : ℕ) → Tagged old new t above tag → IsNode new above s e (kind.Element t.element) (Element s e tag)
+pub is_node : (old new : ElementTables) (t : StartTag) (above : List NamespaceDecl) (tag : Tag) (s e : ℕ) → Tagged old new t above tag → IsNode new above s e (kind.Element t.element) (Element s e tag)
 is_node old new t above tag s e h = record { is = node_by old new t above tag s e h; within = within_by old new t above tag h; no_text = refl }
 
-pub is_opening : (old new : ElementTables) (t : StartTag) (above : List Declaration) (tag : Tag) (s : ℕ) → Tagged old new t above tag → t.name_start ≡ s + 1 → IsOpening new above s t tag
+pub is_opening : (old new : ElementTables) (t : StartTag) (above : List NamespaceDecl) (tag : Tag) (s : ℕ) → Tagged old new t above tag → t.name_start ≡ s + 1 → IsOpening new above s t tag
 is_opening old new t above tag s h starts =
     record { node = is_node old new t above tag s 0 h; name = h.name; name_start = starts; name_end = h.name_end; scope = h.element.lists }
 
 -- what stays so
-pub fine_by : (old new : ElementTables) (t : StartTag) (above : List Declaration) (tag : Tag) (os : List OpenElement) → Tagged old new t above tag → Fine old os → Fine new os
+pub fine_by : (old new : ElementTables) (t : StartTag) (above : List NamespaceDecl) (tag : Tag) (os : List OpenElement) → Tagged old new t above tag → IsConsistent old os → IsConsistent new os
 fine_by old new t above tag os h f =
     record {
       sound = sound_by old new t above tag h f.sound;
@@ -105,25 +105,25 @@ fine_by old new t above tag os h f =
       few_attributes = h.element.few;
     }
 
-pub fine_opened : (t : ElementTables) (os qs : List OpenElement) (x : OpenElement) → Fine t os → qs ≡ os ++ x ∷ [] → IsOpenWithin t x → Fine t qs
+pub fine_opened : (t : ElementTables) (os qs : List OpenElement) (x : OpenElement) → IsConsistent t os → qs ≡ os ++ x ∷ [] → IsOpenWithin t x → IsConsistent t qs
 fine_opened t os qs x f is within =
     record { sound = f.sound; elements = rw is (all_append (IsOpenWithin t) os (x ∷ []) f.elements (within, tt)); empty = f.empty; kept = f.kept; few_names = f.few_names; few_attributes = f.few_attributes }
 
 -- the counts after a tag
-pub names_by : (old new : ElementTables) (t : StartTag) (above : List Declaration) (tag : Tag) (ps : List Declaration) → Tagged old new t above tag → names_in old ≡ distinct_pairs ps → names_in new ≡ distinct_pairs (ps ++ listable tag)
+pub names_by : (old new : ElementTables) (t : StartTag) (above : List NamespaceDecl) (tag : Tag) (ps : List NamespaceDecl) → Tagged old new t above tag → names_in old ≡ distinct_pairs ps → names_in new ≡ distinct_pairs (ps ++ listable tag)
 names_by old new t above tag ps h e = h.names ∙ ap (λ ds. with_new ds (listable tag)) e ∙ sym (with_new-append [] ps (listable tag))
 
-pub attributes_by : (old new : ElementTables) (t : StartTag) (above : List Declaration) (tag : Tag) → Tagged old new t above tag → length (rows_of new.attributes) ≡ length (rows_of old.attributes) + length tag.attributes
+pub attributes_by : (old new : ElementTables) (t : StartTag) (above : List NamespaceDecl) (tag : Tag) → Tagged old new t above tag → length (attribute_rows new.attributes) ≡ length (attribute_rows old.attributes) + length tag.attributes
 attributes_by old new t above tag h =
     let x = h.element.attributes in
-    let n = ap length x.grown ∙ length-append (rows_of old.attributes) x.more in
+    let n = ap length x.grown ∙ length-append (attribute_rows old.attributes) x.more in
     let m : length x.more ≡ length tag.attributes = sym (length-map x.more (attribute (names_in new))) ∙ ap length x.same ∙ length-map tag.attributes (attribute_in (listed above tag.declarations)) in
     omega arith
 
 -- ---- one start tag, read and kept
 
-pub tag_fails : (how : How) (src : List ℕ) (s : State) (i : ℕ) (cut : Fault) (above : List Declaration) (count : ℕ) (known : List Declaration) (e : Refused) → i ≡ s.at → cut ≡ cut_off how.values.main s.stack → above ≡ scope_of s.stack
-    → count ≡ attributes_so_far s.stack s.done → known ≡ distinct_pairs (pairs_so_far s.stack s.done) → Refuses e (tag_at how.values cut above count known src i s.left) → Refuses e (tag_step how src s)
+pub tag_fails : (how : Context) (src : List ℕ) (s : State) (i : ℕ) (cut : Fault) (above : List NamespaceDecl) (count : ℕ) (known : List NamespaceDecl) (e : ParseError) → i ≡ s.at → cut ≡ cut_off how.values.main s.stack → above ≡ scope_of s.stack
+    → count ≡ attributes_so_far s.stack s.done → known ≡ distinct_pairs (pairs_so_far s.stack s.done) → IsRefusal e (tag_at how.values cut above count known src i s.left) → IsRefusal e (tag_step how src s)
 unfolding tag_step
 tag_fails how src s i cut above count known e here c a n k h =
     refuses_by e (tag_at how.values cut above count known src i s.left) (tag_step how src s)
@@ -132,7 +132,7 @@ tag_fails how src s i cut above count known e here c a n k h =
     rw t refl)
     h
 
-pub tag_is : (how : How) (src : List ℕ) (s : State) (i : ℕ) (cut : Fault) (above : List Declaration) (count : ℕ) (known : List Declaration) (tag : Tag) (empty : Bool) (left j : ℕ) → i ≡ s.at → cut ≡ cut_off how.values.main s.stack
+pub tag_is : (how : Context) (src : List ℕ) (s : State) (i : ℕ) (cut : Fault) (above : List NamespaceDecl) (count : ℕ) (known : List NamespaceDecl) (tag : Tag) (empty : Bool) (left j : ℕ) → i ≡ s.at → cut ≡ cut_off how.values.main s.stack
     → above ≡ scope_of s.stack → count ≡ attributes_so_far s.stack s.done → known ≡ distinct_pairs (pairs_so_far s.stack s.done)
     → tag_at how.values cut above count known src i s.left ≡ Ok (record { tag = tag; empty = empty; left = left }, j) → tag_step how src s ≡ lifted (opened_by how.limit s tag empty left j)
 unfolding tag_step
@@ -142,9 +142,9 @@ tag_is how src s i cut above count known tag empty left j here c a n k h =
     rw t refl
 
 -- an element without content
-pub empty_stepped : (limit end left : ℕ) (s : State) (d : Cursor) (old new : ElementTables) (m : ℕ) (u : Builder) (r : Result (Unit {0}) Failure) (t : StartTag) (above : List Declaration) (tag : Tag)
-    → Tagged old new t above tag → names_in old ≡ distinct_pairs (pairs_so_far s.stack s.done) → length (rows_of old.attributes) ≡ attributes_so_far s.stack s.done → m ≡ limit
-    → u.left ≡ left → u.tables ≡ new → u.nodes_limit ≡ m → Adds end r u (opened_by m s tag true left d.pos) → Stepped limit end r d u (lifted (opened_by limit s tag true left d.pos))
+pub empty_stepped : (limit end left : ℕ) (s : State) (d : Cursor) (old new : ElementTables) (m : ℕ) (u : Builder) (r : Result (Unit {0}) Failure) (t : StartTag) (above : List NamespaceDecl) (tag : Tag)
+    → Tagged old new t above tag → names_in old ≡ distinct_pairs (pairs_so_far s.stack s.done) → length (attribute_rows old.attributes) ≡ attributes_so_far s.stack s.done → m ≡ limit
+    → u.left ≡ left → u.tables ≡ new → u.nodes_limit ≡ m → Adds end r u (opened_by m s tag true left d.pos) → ScansTo limit end r d u (lifted (opened_by limit s tag true left d.pos))
 empty_stepped limit end left s d old new m u r t above tag h names attributes limit_is left_is tables same adds =
     let i : Item = Element s.at d.pos tag in
     let next : State = record { at = d.pos; done = join s.done (leaf i); stack = s.stack; left = left } in
@@ -152,24 +152,24 @@ empty_stepped limit end left s d old new m u r t above tag h names attributes li
     let p : pairs_so_far s.stack (join s.done (leaf i)) ≡ pairs_so_far s.stack s.done ++ listable tag = pairs_more s.stack s.done i Nil ∙ ap (λ xs. pairs_so_far s.stack s.done ++ xs) (nil_right (listable tag)) in
     let n = attributes_more s.stack s.done i Nil in
     let m = attributes_by old new t above tag h in
-    let q : attributes_so_far s.stack (join s.done (leaf i)) ≡ length (rows_of new.attributes) = omega arith in
-    adds_stepped limit end next d u r a refl (same ∙ limit_is) (ap names_in tables ∙ names_by old new t above tag (pairs_so_far s.stack s.done) h names ∙ sym (ap distinct_pairs p)) (ap (λ (t : ElementTables). length (rows_of t.attributes)) tables ∙ sym q) left_is
+    let q : attributes_so_far s.stack (join s.done (leaf i)) ≡ length (attribute_rows new.attributes) = omega arith in
+    adds_stepped limit end next d u r a refl (same ∙ limit_is) (ap names_in tables ∙ names_by old new t above tag (pairs_so_far s.stack s.done) h names ∙ sym (ap distinct_pairs p)) (ap (λ (t : ElementTables). length (attribute_rows t.attributes)) tables ∙ sym q) left_is
   where
     nil_right : {A : Type 0} (xs : List A) → xs ++ [] ≡ xs
     nil_right [] = refl
     nil_right (x ∷ xs) = ap (λ ys. x ∷ ys) (nil_right xs)
 
 -- one that opens
-pub open_stepped : (limit end left : ℕ) (s : State) (d : Cursor) (old new : ElementTables) (m : ℕ) (u : Builder) (r : Result (Unit {0}) Failure) (t : StartTag) (above : List Declaration) (tag : Tag)
-    → Tagged old new t above tag → names_in old ≡ distinct_pairs (pairs_so_far s.stack s.done) → length (rows_of old.attributes) ≡ attributes_so_far s.stack s.done → m ≡ limit
-    → u.left ≡ left → u.tables ≡ new → u.nodes_limit ≡ m → Adds end r u (opened_by m s tag false left d.pos) → Stepped limit end r d u (lifted (opened_by limit s tag false left d.pos))
+pub open_stepped : (limit end left : ℕ) (s : State) (d : Cursor) (old new : ElementTables) (m : ℕ) (u : Builder) (r : Result (Unit {0}) Failure) (t : StartTag) (above : List NamespaceDecl) (tag : Tag)
+    → Tagged old new t above tag → names_in old ≡ distinct_pairs (pairs_so_far s.stack s.done) → length (attribute_rows old.attributes) ≡ attributes_so_far s.stack s.done → m ≡ limit
+    → u.left ≡ left → u.tables ≡ new → u.nodes_limit ≡ m → Adds end r u (opened_by m s tag false left d.pos) → ScansTo limit end r d u (lifted (opened_by limit s tag false left d.pos))
 open_stepped limit end left s d old new m u r t above tag h names attributes limit_is left_is tables same adds =
     let next : State = record { at = d.pos; done = Nil; stack = inside s.at tag s.done s.stack; left = left } in
     let a : Adds end r u (counted limit next) = subst (λ (n : ℕ). Adds end r u (counted n next)) limit_is adds in
     let p : pairs_so_far s.stack s.done ++ (listable tag ++ []) ≡ pairs_so_far s.stack s.done ++ listable tag = ap (λ xs. pairs_so_far s.stack s.done ++ xs) (nil_right (listable tag)) in
     let m = attributes_by old new t above tag h in
-    let q : attributes_so_far s.stack s.done + (length tag.attributes + 0) ≡ length (rows_of new.attributes) = omega arith in
-    adds_stepped limit end next d u r a refl (same ∙ limit_is) (ap names_in tables ∙ names_by old new t above tag (pairs_so_far s.stack s.done) h names ∙ sym (ap distinct_pairs p)) (ap (λ (t : ElementTables). length (rows_of t.attributes)) tables ∙ sym q) left_is
+    let q : attributes_so_far s.stack s.done + (length tag.attributes + 0) ≡ length (attribute_rows new.attributes) = omega arith in
+    adds_stepped limit end next d u r a refl (same ∙ limit_is) (ap names_in tables ∙ names_by old new t above tag (pairs_so_far s.stack s.done) h names ∙ sym (ap distinct_pairs p)) (ap (λ (t : ElementTables). length (attribute_rows t.attributes)) tables ∙ sym q) left_is
   where
     nil_right : {A : Type 0} (xs : List A) → xs ++ [] ≡ xs
     nil_right [] = refl
@@ -179,13 +179,13 @@ always : (r : Result (Unit {0}) Failure) (P : Type 0) → P → OnOk r P
 always (Ok x) P h = h
 always (Err e) P h = tt
 
-pub fine_kept : (r : Result (Unit {0}) Failure) (t : ElementTables) (os : List OpenElement) (u : Builder) → Fine t os → u.tables ≡ t → u.opened.items ≡ os → OnOk r (Fine u.tables u.opened.items)
-fine_kept r t os u f tables opens = always r (Fine u.tables u.opened.items) (subst (λ (qs : List OpenElement). Fine u.tables qs) (sym opens) (subst (λ (t : ElementTables). Fine t os) (sym tables) f))
+pub fine_kept : (r : Result (Unit {0}) Failure) (t : ElementTables) (os : List OpenElement) (u : Builder) → IsConsistent t os → u.tables ≡ t → u.opened.items ≡ os → OnOk r (IsConsistent u.tables u.opened.items)
+fine_kept r t os u f tables opens = always r (IsConsistent u.tables u.opened.items) (subst (λ (qs : List OpenElement). IsConsistent u.tables qs) (sym opens) (subst (λ (t : ElementTables). IsConsistent t os) (sym tables) f))
 
-pub fine_more : (r : Result (Unit {0}) Failure) (t : ElementTables) (os : List OpenElement) (u : Builder) (tag : StartTag) → Fine t os → u.tables ≡ t
+pub fine_more : (r : Result (Unit {0}) Failure) (t : ElementTables) (os : List OpenElement) (u : Builder) (tag : StartTag) → IsConsistent t os → u.tables ≡ t
     → OnOk r ((x : OpenElement) × (u.opened.items ≡ os ++ x ∷ []) × (x.scope ≡ tag.element.scope))
-    → tag.element.scope < length t.scopes.items → Once (scope_at (lists_in t) tag.element.scope) → OnOk r (Fine u.tables u.opened.items)
+    → tag.element.scope < length t.scopes.items → Once (scope_at (lists_in t) tag.element.scope) → OnOk r (IsConsistent u.tables u.opened.items)
 fine_more (Ok x) t os u tag f tables (o, is, scope) within once =
     let w : IsOpenWithin t o = subst (λ (s : ℕ). (s < length t.scopes.items) × Once (scope_at (lists_in t) s)) (sym scope) (within, once) in
-    subst (λ (t : ElementTables). Fine t u.opened.items) (sym tables) (fine_opened t os u.opened.items o f is w)
+    subst (λ (t : ElementTables). IsConsistent t u.opened.items) (sym tables) (fine_opened t os u.opened.items o f is w)
 fine_more (Err e) t os u tag f tables h within once = tt

@@ -2,35 +2,35 @@
 use Rattle.std.proofs.Common.{◌≡◌, ℕ, zero, suc, ◌||◌, ◌==◌, Bool, true, false, cond, List, Result, Ok, Err, length, nat_le, nat_lt, slice_index, refl, ◌∙◌, ◌+◌, subst}
 use Rattle.rox_grammar.specs.declared.fault.Fault.{Fault}
 use Rattle.rox_grammar.specs.declared.fault.Word.TheVariants as word
-use Rattle.rox_grammar.specs.Marks.{byte_from}
+use Rattle.rox_grammar.specs.Search.{byte_from}
 use Rattle.rox_grammar.specs.Names.{spaces_end}
 use Rattle.rox_grammar.specs.Constructs.{at}
 use Rattle.rox_grammar.specs.State.{Open}
 use Rattle.rox_reading.specs.Refusals.{lifted}
 use Rattle.rox_reading.specs.Lexical.{byte_at}
 use Rattle.rox_reading.specs.Machine.{at_place, comment_step, instruction_step}
-use Rattle.rox_reading.specs.Doctype.{Asks, asks_nothing, ◌>>>◌, Dtd, with_state, entity_head_at, definition_at, defined, entity_step, passed_over, subset_end, subset, doctype_head_at, doctype_step}
-use Rattle.rox_reading.specs.Whole.{misc, doctype}
+use Rattle.rox_reading.specs.Doctype.{Asks, asks_nothing, ◌>>>◌, Dtd, with_state, entity_head_at, definition_at, defined, entity_step, skipped_declaration, subset_end, subset, doctype_head_at, doctype_step}
+use Rattle.rox_reading.specs.WholeText.{misc, doctype}
 use Rattle.rox_build.proofs.Wholes.{comment_open, instruction_open, misc_open}
 
 -- what comes of an asking has this, where something does
-abbrev Keeps : {A : Type 0} → (A → Type 0) → Asks A → Type 0
-Keeps P (asked, Ok x) = P x
-Keeps P (asked, Err e) = Unit {0}
+abbrev AreBindingsOf : {A : Type 0} → (A → Type 0) → Asks A → Type 0
+AreBindingsOf P (asked, Ok x) = P x
+AreBindingsOf P (asked, Err e) = Unit {0}
 
-keeps_after : {A B : Type 0} (P : B → Type 0) (r : Asks A) (f : A → Asks B) → ((x : A) → r.1 ≡ Ok x → Keeps P (f x)) → Keeps P (r >>> f)
+keeps_after : {A B : Type 0} (P : B → Type 0) (r : Asks A) (f : A → Asks B) → ((x : A) → r.1 ≡ Ok x → AreBindingsOf P (f x)) → AreBindingsOf P (r >>> f)
 keeps_after P (asked, Ok x) f go = by_rest (f x) (go x refl)
   where
-    by_rest : (q : Asks _) → Keeps P q → Keeps P ((asked, Ok x) >>> λ u. q)
+    by_rest : (q : Asks _) → AreBindingsOf P q → AreBindingsOf P ((asked, Ok x) >>> λ u. q)
     by_rest (more, Ok y) h = h
     by_rest (more, Err e) h = tt
 keeps_after P (asked, Err e) f go = tt
 
-kept_by : {A : Type 0} (P : A → Type 0) (r : Asks A) (x : A) → Keeps P r → r.1 ≡ Ok x → P x
+kept_by : {A : Type 0} (P : A → Type 0) (r : Asks A) (x : A) → AreBindingsOf P r → r.1 ≡ Ok x → P x
 kept_by P (asked, Ok y) x h is = let e : y ≡ x = cc in subst P e h
 kept_by P (asked, Err f) x h is = cc is
 
-keeps_choice : {A : Type 0} (P : A → Type 0) (b : Bool) (x y : Asks A) → Keeps P x → Keeps P y → Keeps P (cond b x y)
+keeps_choice : {A : Type 0} (P : A → Type 0) (b : Bool) (x y : Asks A) → AreBindingsOf P x → AreBindingsOf P y → AreBindingsOf P (cond b x y)
 keeps_choice P true x y h k = h
 keeps_choice P false x y h k = k
 
@@ -43,7 +43,7 @@ module _ (open' : Open) where
   abbrev Same : Dtd → Type 0
   Same d = d.state.stack ≡ open'
 
-  entity_same : (src : List ℕ) (d : Dtd) → Same d → Keeps Same (entity_step src d)
+  entity_same : (src : List ℕ) (d : Dtd) → Same d → AreBindingsOf Same (entity_step src d)
   unfolding entity_step
   entity_same src d h =
       keeps_after Same (asks_nothing (lifted (entity_head_at src d.state.at))) _ (λ head e.
@@ -51,17 +51,17 @@ module _ (open' : Open) where
       keeps_after Same (defined definition.0 definition.1 d.replies) _ (λ text e.
       keeps_after Same (asks_nothing (lifted (byte_at 62 src (spaces_end src definition.1)))) _ (λ end e. h))))
 
-  passed_same : (i : ℕ) (src : List ℕ) (d : Dtd) → Same d → Keeps Same (passed_over i src d)
-  unfolding passed_over
+  passed_same : (i : ℕ) (src : List ℕ) (d : Dtd) → Same d → AreBindingsOf Same (skipped_declaration i src d)
+  unfolding skipped_declaration
   passed_same i src d h = keeps_choice Same (nat_lt (byte_from (λ c. c == 62) src d.state.at) (length src)) _ _ h tt
 
-  end_same : (src : List ℕ) (d : Dtd) → Same d → Keeps Same (subset_end src d)
+  end_same : (src : List ℕ) (d : Dtd) → Same d → AreBindingsOf Same (subset_end src d)
   unfolding subset_end
   end_same src d h =
       let e = spaces_end src (d.state.at + 1) in
       keeps_choice Same (nat_le (length src) e) _ _ tt (keeps_choice Same (slice_index src e == 62) _ _ h tt)
 
-  subset_same : (limit i n : ℕ) (src : List ℕ) (d : Dtd) → Same d → Keeps Same (subset limit i n src d)
+  subset_same : (limit i n : ℕ) (src : List ℕ) (d : Dtd) → Same d → AreBindingsOf Same (subset limit i n src d)
   unfolding subset
   subset_same limit i zero src d h = h
   subset_same limit i (suc n) src d h =
@@ -71,17 +71,17 @@ module _ (open' : Open) where
       (keeps_choice Same (at word.CommentStart src s.at) _ _ (keeps_after Same (asks_nothing (lifted (comment_step limit src s))) _ (λ t is. subset_same limit i n src (with_state d t) (comment_open limit src s t (lifted_is _ t is) ∙ h)))
       (keeps_choice Same (at word.PIStart src s.at) _ _ (keeps_after Same (asks_nothing (lifted (instruction_step limit src s))) _ (λ t is. subset_same limit i n src (with_state d t) (instruction_open limit src s t (lifted_is _ t is) ∙ h)))
       (keeps_choice Same (at word.ElementStart src s.at || (at word.AttlistStart src s.at || at word.NotationStart src s.at)) _ _
-      (keeps_after Same (passed_over i src (with_state d s)) _ (λ e is. subset_same limit i n src e (kept_by Same (passed_over i src (with_state d s)) e (passed_same i src (with_state d s) h) is)))
+      (keeps_after Same (skipped_declaration i src (with_state d s)) _ (λ e is. subset_same limit i n src e (kept_by Same (skipped_declaration i src (with_state d s)) e (passed_same i src (with_state d s) h) is)))
       (keeps_choice Same (slice_index src s.at == 93) _ _ (end_same src (with_state d s) h) tt)))))
 
-  type_same : (limit : ℕ) (src : List ℕ) (d : Dtd) → Same d → Keeps Same (doctype_step limit src d)
+  type_same : (limit : ℕ) (src : List ℕ) (d : Dtd) → Same d → AreBindingsOf Same (doctype_step limit src d)
   unfolding doctype_step
   type_same limit src d h =
       keeps_after Same (asks_nothing (lifted (doctype_head_at src d.state.at))) _ (λ head e.
       keeps_choice Same (nat_le (length src) head.1) _ _ tt (keeps_choice Same (slice_index src head.1 == 62) _ _ h
       (keeps_choice Same (slice_index src head.1 == 91) _ _ (subset_same limit d.state.at (length src) src (with_state d (at_place (head.1 + 1) d.state)) h) tt)))
 
-  doctype_same : (limit : ℕ) (allow : Bool) (src : List ℕ) (d : Dtd) → Same d → Keeps Same (doctype limit allow src d)
+  doctype_same : (limit : ℕ) (allow : Bool) (src : List ℕ) (d : Dtd) → Same d → AreBindingsOf Same (doctype limit allow src d)
   unfolding doctype
   doctype_same limit allow src d h =
       keeps_choice Same (at word.DoctypeStart src d.state.at) _ _

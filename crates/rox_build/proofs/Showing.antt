@@ -7,18 +7,18 @@ use Rattle.std.proofs.lemmas.List.{map-append, length-map, length_push, map-set,
 use Rattle.std.specs.String.{string_bytes}
 use Rattle.rox_grammar.specs.declared.fault.Fault.TheVariants as fault
 use Rattle.rox_grammar.specs.Forest.{Forest, Nil, Cons, join, size}
-use Rattle.rox_grammar.specs.Written.{Tag, Item, Element, Text, Declaration, merge, leaf}
+use Rattle.rox_grammar.specs.Written.{Tag, Item, Element, Text, NamespaceDecl, merge, leaf}
 use Rattle.rox_grammar.specs.Tree as tree
 use Rattle.rox_grammar.specs.Tree.{Node, listed, node_in, scope_in, resolved}
 use Rattle.rox_grammar.specs.State.{Open, root, inside, scope_of, nodes_so_far}
 use Rattle.rox_reading.specs.State.{State}
 use Rattle.rox_reading.specs.Machine.{counted}
 use Rattle.rox_reading.proofs.Forests.{is_text, add, join-nil, size-join, merge-piece, add-text, add_clean, merge-item, clean-item}
-use Rattle.rox_tables.specs.Lines.{Line, line, lines, node, AttributeRow, rows_of}
-use Rattle.rox_build.specs.SoFar.{top, depth_of, open_line, rows_to, so_far}
-use Rattle.rox_build.specs.Waiting.{waiting}
+use Rattle.rox_tables.specs.Rows.{RowView, row_view, preorder_rows, node, AttributeRow, attribute_rows}
+use Rattle.rox_build.specs.OpenRows.{top, depth_of, open_line, rows_to, so_far}
+use Rattle.rox_build.specs.PendingText.{waiting}
 use Rattle.rox_tables.specs.TagScopes.{lists_in}
-use Rattle.rox_build.specs.Shown.{OpenLine, opened, open_lines, last_row, pending_text, names_in, line_in, opened_in, IsWithin, Shows, Settled, IsNode}
+use Rattle.rox_build.specs.BuilderState.{OpenRow, opened, open_lines, last_row, pending_text, names_in, line_in, opened_in, IsRowWithin, Represents, RepresentsFlushed, IsNode}
 use Rattle.rox_tables.specs.declared.tables.NodeKind.{NodeKind}
 use Rattle.rox_tables.specs.declared.tables.NodeKind.TheVariants as kind
 use Rattle.rox_tables.specs.declared.tables.NodeData.{NodeData}
@@ -32,7 +32,7 @@ use Rattle.rox_tables.proofs.Stable.{all_append}
 
 -- ---- the open elements
 
-last_row-push : (xs : List OpenLine) (y : OpenLine) → last_row (xs ++ y ∷ []) ≡ y.row
+last_row-push : (xs : List OpenRow) (y : OpenRow) → last_row (xs ++ y ∷ []) ≡ y.row
 last_row-push [] y = refl
 last_row-push (x ∷ []) y = refl
 last_row-push (x ∷ z ∷ xs) y = last_row-push (z ∷ xs) y
@@ -61,7 +61,7 @@ size-pending pending.None joined = refl
 size-pending (pending.Slice s e t) joined = refl
 size-pending (pending.Joined s e) joined = refl
 
-pub count_is : (end : ℕ) (o : Open) (done : Forest Item) (b : Builder) → Shows end o done b → length b.nodes.items + waiting b.pending ≡ nodes_so_far o done
+pub count_is : (end : ℕ) (o : Open) (done : Forest Item) (b : Builder) → Represents end o done b → length b.nodes.items + waiting b.pending ≡ nodes_so_far o done
 count_is end o done b h =
     let n = rows_count b.tables end o h.front b.nodes.items h.rows in
     let m = ap size h.merged ∙ size-join h.front (pending_text b.pending (string_bytes b.joined)) in
@@ -76,8 +76,8 @@ counted_err limit s h = let k = lt-leb (nodes_so_far s.stack s.done) limit h in 
 
 -- ---- one more row
 
-leaf_line : (p d at : ℕ) (scope : List Declaration) (i : Item)
-    → lines p d at (resolved scope (leaf i)) ≡ record { parent = p; next = at + 1; depth = d; node = node_in (scope_in scope i) i } ∷ []
+leaf_line : (p d at : ℕ) (scope : List NamespaceDecl) (i : Item)
+    → preorder_rows p d at (resolved scope (leaf i)) ≡ record { parent = p; next = at + 1; depth = d; node = node_in (scope_in scope i) i } ∷ []
 leaf_line p d at scope i = let e : at + 1 + 0 ≡ at + 1 = omega arith in rw e refl
 
 abbrev pub row_of : ElementTables → List NodeData → List OpenElement → ℕ → ℕ → NodeKind → NodeData
@@ -89,7 +89,7 @@ row_open t next os s k = record { start = s; end = 0; parent = last_row (opened_
 
 row_shows : (t : ElementTables) (end : ℕ) (o : Open) (front : Forest Item) (i : Item) (rows : List NodeData) (os : List OpenElement) (s e : ℕ) (k : NodeKind)
     → map (line_in t) rows ≡ so_far end o front → opened_in t os ≡ open_lines o
-    → node (rows_of t.attributes) (names_in t) (lists_in t) s e k ≡ node_in (scope_in (scope_of o) i) i
+    → node (attribute_rows t.attributes) (names_in t) (lists_in t) s e k ≡ node_in (scope_in (scope_of o) i) i
     → map (line_in t) (rows ++ row_of t rows os s e k ∷ []) ≡ so_far end o (join front (leaf i))
 row_shows t end o front i rows os s e k h opens is =
     let n = rows_count t end o front rows h in
@@ -101,8 +101,8 @@ row_shows t end o front i rows os s e k h opens is =
 
 -- ---- the text that may go on
 
-pub settled_none : (end : ℕ) (o : Open) (done : Forest Item) (b u : Builder) → Shows end o done b → b.pending ≡ pending.None → u.nodes ≡ b.nodes → u.tables ≡ b.tables → u.opened ≡ b.opened
-    → u.pending ≡ pending.None → Settled end o done u
+pub settled_none : (end : ℕ) (o : Open) (done : Forest Item) (b u : Builder) → Represents end o done b → b.pending ≡ pending.None → u.nodes ≡ b.nodes → u.tables ≡ b.tables → u.opened ≡ b.opened
+    → u.pending ≡ pending.None → RepresentsFlushed end o done u
 settled_none end o done b u h was nodes tables opens empty =
     let m : h.front ≡ merge done = sym (h.merged ∙ ap (λ (p : Pending). join h.front (pending_text p (string_bytes b.joined))) was ∙ join-nil h.front) in
     record {
@@ -112,14 +112,14 @@ settled_none end o done b u h was nodes tables opens empty =
       empty = empty;
     }
 
-pub settled_some : (end : ℕ) (o : Open) (done : Forest Item) (b u : Builder) (s e : ℕ) (v : List ℕ) (p : Bool) (k : NodeKind) → Shows end o done b
-    → pending_text b.pending (string_bytes b.joined) ≡ leaf (Text s e v p) → node (rows_of b.tables.attributes) (names_in b.tables) (lists_in b.tables) s e k ≡ node_in (scope_of o) (Text s e v p)
-    → IsWithin b.tables k → u.nodes.items ≡ b.nodes.items ++ row_of b.tables b.nodes.items b.opened.items s e k ∷ [] → u.tables ≡ b.tables → u.opened ≡ b.opened
-    → u.pending ≡ pending.None → Settled end o done u
+pub settled_some : (end : ℕ) (o : Open) (done : Forest Item) (b u : Builder) (s e : ℕ) (v : List ℕ) (p : Bool) (k : NodeKind) → Represents end o done b
+    → pending_text b.pending (string_bytes b.joined) ≡ leaf (Text s e v p) → node (attribute_rows b.tables.attributes) (names_in b.tables) (lists_in b.tables) s e k ≡ node_in (scope_of o) (Text s e v p)
+    → IsRowWithin b.tables k → u.nodes.items ≡ b.nodes.items ++ row_of b.tables b.nodes.items b.opened.items s e k ∷ [] → u.tables ≡ b.tables → u.opened ≡ b.opened
+    → u.pending ≡ pending.None → RepresentsFlushed end o done u
 settled_some end o done b u s e v p k h was is within nodes tables opens empty =
     let m : join h.front (leaf (Text s e v p)) ≡ merge done = sym (h.merged ∙ ap (join h.front) was) in
     let r = row_shows b.tables end o h.front (Text s e v p) b.nodes.items b.opened.items s e k h.rows h.open_rows is in
-    let w = all_append (λ (r : NodeData). IsWithin b.tables r.kind) b.nodes.items (row_of b.tables b.nodes.items b.opened.items s e k ∷ []) h.within (within, tt) in
+    let w = all_append (λ (r : NodeData). IsRowWithin b.tables r.kind) b.nodes.items (row_of b.tables b.nodes.items b.opened.items s e k ∷ []) h.within (within, tt) in
     record {
       rows = rw (nodes, tables) (r ∙ ap (so_far end o) m);
       open_rows = rw (tables, opens) h.open_rows;
@@ -129,12 +129,12 @@ settled_some end o done b u s e v p k h was is within nodes tables opens empty =
 
 -- ---- items
 
-pub leaf_shows : (end : ℕ) (o : Open) (done : Forest Item) (b u : Builder) (s e : ℕ) (k : NodeKind) (i : Item) → Settled end o done b → IsNode b.tables (scope_of o) s e k i
+pub leaf_shows : (end : ℕ) (o : Open) (done : Forest Item) (b u : Builder) (s e : ℕ) (k : NodeKind) (i : Item) → RepresentsFlushed end o done b → IsNode b.tables (scope_of o) s e k i
     → u.nodes.items ≡ b.nodes.items ++ row_of b.tables b.nodes.items b.opened.items s e k ∷ [] → u.tables ≡ b.tables → u.opened ≡ b.opened → u.pending ≡ b.pending
-    → Shows end o (join done (leaf i)) u
+    → Represents end o (join done (leaf i)) u
 leaf_shows end o done b u s e k i h is nodes tables opens same =
     let r = row_shows b.tables end o (merge done) i b.nodes.items b.opened.items s e k h.rows h.open_rows is.is in
-    let w = all_append (λ (r : NodeData). IsWithin b.tables r.kind) b.nodes.items (row_of b.tables b.nodes.items b.opened.items s e k ∷ []) h.within (is.within, tt) in
+    let w = all_append (λ (r : NodeData). IsRowWithin b.tables r.kind) b.nodes.items (row_of b.tables b.nodes.items b.opened.items s e k ∷ []) h.within (is.within, tt) in
     let z : u.pending ≡ pending.None = same ∙ h.empty in
     record {
       front = join (merge done) (leaf i);
@@ -151,13 +151,13 @@ leaf_count o done i no_text =
     let m = ap size (merge-item done i Nil no_text) ∙ size-join (merge done) (leaf i) in
     omega (arith, m, nodes_are o done, nodes_are o (join done (leaf i)))
 
-pub settled_count : (end : ℕ) (o : Open) (done : Forest Item) (b : Builder) → Settled end o done b → length b.nodes.items ≡ nodes_so_far o done
+pub settled_count : (end : ℕ) (o : Open) (done : Forest Item) (b : Builder) → RepresentsFlushed end o done b → length b.nodes.items ≡ nodes_so_far o done
 settled_count end o done b h = omega (arith, rows_count b.tables end o (merge done) b.nodes.items h.rows, nodes_are o done)
 
 -- ---- text
 
-pub piece_first : (end : ℕ) (o : Open) (done : Forest Item) (b u : Builder) (s e : ℕ) (v : List ℕ) (p : Bool) → Shows end o done b → b.pending ≡ pending.None
-    → u.nodes ≡ b.nodes → u.tables ≡ b.tables → u.opened ≡ b.opened → pending_text u.pending (string_bytes u.joined) ≡ leaf (Text s e v p) → Shows end o (join done (leaf (Text s e v p))) u
+pub piece_first : (end : ℕ) (o : Open) (done : Forest Item) (b u : Builder) (s e : ℕ) (v : List ℕ) (p : Bool) → Represents end o done b → b.pending ≡ pending.None
+    → u.nodes ≡ b.nodes → u.tables ≡ b.tables → u.opened ≡ b.opened → pending_text u.pending (string_bytes u.joined) ≡ leaf (Text s e v p) → Represents end o (join done (leaf (Text s e v p))) u
 piece_first end o done b u s e v p h was nodes tables opens is =
     let m : merge done ≡ h.front = h.merged ∙ ap (λ (p : Pending). join h.front (pending_text p (string_bytes b.joined))) was ∙ join-nil h.front in
     record {
@@ -169,9 +169,9 @@ piece_first end o done b u s e v p h was nodes tables opens is =
       within = rw (nodes, tables) h.within;
     }
 
-pub piece_more : (end : ℕ) (o : Open) (done : Forest Item) (b u : Builder) (x y : ℕ) (w : List ℕ) (q : Bool) (s e : ℕ) (v : List ℕ) (p : Bool) → Shows end o done b
+pub piece_more : (end : ℕ) (o : Open) (done : Forest Item) (b u : Builder) (x y : ℕ) (w : List ℕ) (q : Bool) (s e : ℕ) (v : List ℕ) (p : Bool) → Represents end o done b
     → pending_text b.pending (string_bytes b.joined) ≡ leaf (Text x y w q) → u.nodes ≡ b.nodes → u.tables ≡ b.tables → u.opened ≡ b.opened
-    → pending_text u.pending (string_bytes u.joined) ≡ leaf (Text x y (w ++ v) false) → Shows end o (join done (leaf (Text s e v p))) u
+    → pending_text u.pending (string_bytes u.joined) ≡ leaf (Text x y (w ++ v) false) → Represents end o (join done (leaf (Text s e v p))) u
 piece_more end o done b u x y w q s e v p h was nodes tables opens is =
     let m : merge done ≡ join h.front (leaf (Text x y w q)) = h.merged ∙ ap (join h.front) was in
     record {
@@ -183,14 +183,14 @@ piece_more end o done b u x y w q s e v p h was nodes tables opens is =
       within = rw (nodes, tables) h.within;
     }
 
-pub first_count : (end : ℕ) (o : Open) (done : Forest Item) (b : Builder) (s e : ℕ) (v : List ℕ) (p : Bool) → Shows end o done b → b.pending ≡ pending.None
+pub first_count : (end : ℕ) (o : Open) (done : Forest Item) (b : Builder) (s e : ℕ) (v : List ℕ) (p : Bool) → Represents end o done b → b.pending ≡ pending.None
     → nodes_so_far o (join done (leaf (Text s e v p))) ≡ length b.nodes.items + 1
 first_count end o done b s e v p h was =
     let m : merge done ≡ h.front = h.merged ∙ ap (λ (p : Pending). join h.front (pending_text p (string_bytes b.joined))) was ∙ join-nil h.front in
     let k = ap size (merge-piece done s e v p ∙ ap (add s e v p) m ∙ add_clean h.front s e v p h.clean) ∙ size-join h.front (leaf (Text s e v p)) in
     omega (arith, k, nodes_are o (join done (leaf (Text s e v p))), rows_count b.tables end o h.front b.nodes.items h.rows)
 
-pub more_count : (end : ℕ) (o : Open) (done : Forest Item) (b : Builder) (x y : ℕ) (w : List ℕ) (q : Bool) (s e : ℕ) (v : List ℕ) (p : Bool) → Shows end o done b
+pub more_count : (end : ℕ) (o : Open) (done : Forest Item) (b : Builder) (x y : ℕ) (w : List ℕ) (q : Bool) (s e : ℕ) (v : List ℕ) (p : Bool) → Represents end o done b
     → pending_text b.pending (string_bytes b.joined) ≡ leaf (Text x y w q) → nodes_so_far o (join done (leaf (Text s e v p))) ≡ length b.nodes.items + 1
 more_count end o done b x y w q s e v p h was =
     let m : merge done ≡ join h.front (leaf (Text x y w q)) = h.merged ∙ ap (join h.front) was in
@@ -199,20 +199,20 @@ more_count end o done b x y w q s e v p h was =
 
 -- ---- elements
 
-pub open_shows : (end : ℕ) (o : Open) (done : Forest Item) (b u : Builder) (s : ℕ) (k : NodeKind) (t : Tag) (x : OpenElement) → Settled end o done b
-    → node (rows_of b.tables.attributes) (names_in b.tables) (lists_in b.tables) s 0 k ≡ node_in (listed (scope_of o) t.declarations) (Element s 0 t) → IsWithin b.tables k
+pub open_shows : (end : ℕ) (o : Open) (done : Forest Item) (b u : Builder) (s : ℕ) (k : NodeKind) (t : Tag) (x : OpenElement) → RepresentsFlushed end o done b
+    → node (attribute_rows b.tables.attributes) (names_in b.tables) (lists_in b.tables) s 0 k ≡ node_in (listed (scope_of o) t.declarations) (Element s 0 t) → IsRowWithin b.tables k
     → x.row ≡ length b.nodes.items → opened (lists_in b.tables) x ≡ record { row = x.row; name = t.name; name_start = s + 1; name_end = t.name_end; scope = listed (scope_of o) t.declarations }
     → u.nodes.items ≡ b.nodes.items ++ row_open b.tables 0 b.opened.items s k ∷ [] → u.tables ≡ b.tables → u.opened.items ≡ b.opened.items ++ x ∷ [] → u.pending ≡ b.pending
-    → Shows end (inside s t done o) Nil u
+    → Represents end (inside s t done o) Nil u
 open_shows end o done b u s k t x h is within place view nodes tables opens same =
     let r = row_open b.tables 0 b.opened.items s k in
     let row : line_in b.tables r ≡ open_line s t o = rw (parent_is b.tables o b.opened.items h.open_rows, depth_is b.tables o b.opened.items h.open_rows, is) refl in
     let n = rows_count b.tables end o (merge done) b.nodes.items h.rows in
-    let w = all_append (λ (r : NodeData). IsWithin b.tables r.kind) b.nodes.items (r ∷ []) h.within (within, tt) in
+    let w = all_append (λ (r : NodeData). IsRowWithin b.tables r.kind) b.nodes.items (r ∷ []) h.within (within, tt) in
     let z : u.pending ≡ pending.None = same ∙ h.empty in
     let g = map-append (line_in b.tables) b.nodes.items (r ∷ []) ∙ ap (λ xs. xs ++ line_in b.tables r ∷ []) h.rows ∙ ap (λ x. so_far end o (merge done) ++ x ∷ []) row ∙ sym (so_far-open end o s t done) in
     let v : opened (lists_in b.tables) x ≡ record { row = top o + 1 + size (merge done); name = t.name; name_start = s + 1; name_end = t.name_end; scope = listed (scope_of o) t.declarations } =
-    view ∙ ap (λ (n : ℕ). let l : OpenLine = record { row = n; name = t.name; name_start = s + 1; name_end = t.name_end; scope = listed (scope_of o) t.declarations } in l) (place ∙ n) in
+    view ∙ ap (λ (n : ℕ). let l : OpenRow = record { row = n; name = t.name; name_start = s + 1; name_end = t.name_end; scope = listed (scope_of o) t.declarations } in l) (place ∙ n) in
     let os = map-append (opened (lists_in b.tables)) b.opened.items (x ∷ []) ∙ ap (λ xs. xs ++ opened (lists_in b.tables) x ∷ []) h.open_rows
     ∙ ap (λ l. open_lines o ++ l ∷ []) v in
     record {
@@ -238,18 +238,18 @@ some_row [] h = absurd (omega arith)
 some_row (r ∷ rows) h = r
 
 -- the row of an element, closed
-pub within_set : (t : ElementTables) (rows : List NodeData) (i : ℕ) (r : NodeData) → AllByRecursion (λ (r : NodeData). IsWithin t r.kind) rows → IsWithin t r.kind
-    → AllByRecursion (λ (r : NodeData). IsWithin t r.kind) (set rows i r)
+pub within_set : (t : ElementTables) (rows : List NodeData) (i : ℕ) (r : NodeData) → AllByRecursion (λ (r : NodeData). IsRowWithin t r.kind) rows → IsRowWithin t r.kind
+    → AllByRecursion (λ (r : NodeData). IsRowWithin t r.kind) (set rows i r)
 within_set t [] i r h k = tt
 within_set t (x ∷ xs) zero r (p, h) k = (k, h)
 within_set t (x ∷ xs) (suc i) r (p, h) k = (p, within_set t xs i r h k)
 
-pub within_at : (t : ElementTables) (rows : List NodeData) (i : ℕ) (d : NodeData) → AllByRecursion (λ (r : NodeData). IsWithin t r.kind) rows → IsWithin t d.kind → IsWithin t (get_or rows i d).kind
+pub within_at : (t : ElementTables) (rows : List NodeData) (i : ℕ) (d : NodeData) → AllByRecursion (λ (r : NodeData). IsRowWithin t r.kind) rows → IsRowWithin t d.kind → IsRowWithin t (get_or rows i d).kind
 within_at t [] i d h k = k
 within_at t (x ∷ xs) zero d (p, h) k = p
 within_at t (x ∷ xs) (suc i) d (p, h) k = within_at t xs i d h k
 
-pub first_within : (t : ElementTables) (rows : List NodeData) (h : 0 < length rows) → AllByRecursion (λ (r : NodeData). IsWithin t r.kind) rows → IsWithin t (some_row rows h).kind
+pub first_within : (t : ElementTables) (rows : List NodeData) (h : 0 < length rows) → AllByRecursion (λ (r : NodeData). IsRowWithin t r.kind) rows → IsRowWithin t (some_row rows h).kind
 unfolding some_row
 first_within t [] h k = absurd (omega arith)
 first_within t (r ∷ rows) h (p, k) = p
@@ -262,7 +262,7 @@ with_end e (tree.Text s x v b) = tree.Text s e v b
 with_end e (tree.Comment s x t) = tree.Comment s e t
 with_end e (tree.PI s x t v) = tree.PI s e t v
 
-node_end : (as' : List AttributeRow) (names : List Declaration) (ls : List (List Declaration)) (s x e : ℕ) (k : NodeKind) → node as' names ls s e k ≡ with_end e (node as' names ls s x k)
+node_end : (as' : List AttributeRow) (names : List NamespaceDecl) (ls : List (List NamespaceDecl)) (s x e : ℕ) (k : NodeKind) → node as' names ls s e k ≡ with_end e (node as' names ls s x k)
 unfolding with_end
 node_end as' names ls s x e kind.Root = refl
 node_end as' names ls s x e (kind.Element d) = refl
@@ -272,41 +272,41 @@ node_end as' names ls s x e (kind.PI p) = refl
 
 so_far-inside : (end : ℕ) (up : Open) (start : ℕ) (tag : Tag) (before front : Forest Item)
     → so_far end (inside start tag before up) front
-    ≡ so_far end up (merge before) ++ open_line start tag up ∷ lines (top (inside start tag before up)) (depth_of up + 1 + 1) (top (inside start tag before up) + 1) (resolved (listed (scope_of up) tag.declarations) front)
+    ≡ so_far end up (merge before) ++ open_line start tag up ∷ preorder_rows (top (inside start tag before up)) (depth_of up + 1 + 1) (top (inside start tag before up) + 1) (resolved (listed (scope_of up) tag.declarations) front)
 so_far-inside end up start tag before front =
-    let inner = lines (top (inside start tag before up)) (depth_of up + 1 + 1) (top (inside start tag before up) + 1) (resolved (listed (scope_of up) tag.declarations) front) in
-    let below = lines (top up) (depth_of up + 1) (top up + 1) (resolved (scope_of up) (merge before)) in
+    let inner = preorder_rows (top (inside start tag before up)) (depth_of up + 1 + 1) (top (inside start tag before up) + 1) (resolved (listed (scope_of up) tag.declarations) front) in
+    let below = preorder_rows (top up) (depth_of up + 1) (top up + 1) (resolved (scope_of up) (merge before)) in
     append_assoc (rows_to end up) (below ++ open_line start tag up ∷ []) inner
     ∙ ap (λ xs. rows_to end up ++ xs) (append_assoc below (open_line start tag up ∷ []) inner)
     ∙ sym (append_assoc (rows_to end up) below (open_line start tag up ∷ inner))
 
-closed_is : (as' : List AttributeRow) (names : List Declaration) (ls : List (List Declaration)) (r : NodeData) (s e next : ℕ) (tag : Tag) (up : Open) → line as' names ls r ≡ open_line s tag up
-    → line as' names ls (record r { end = e; next = next }) ≡ closed_line s e tag up next
+closed_is : (as' : List AttributeRow) (names : List NamespaceDecl) (ls : List (List NamespaceDecl)) (r : NodeData) (s e next : ℕ) (tag : Tag) (up : Open) → row_view as' names ls r ≡ open_line s tag up
+    → row_view as' names ls (record r { end = e; next = next }) ≡ closed_line s e tag up next
 unfolding with_end
 closed_is as' names ls r s e next tag up h =
     let n : node as' names ls r.start e r.kind ≡ with_end e (node as' names ls r.start r.end r.kind) = node_end as' names ls r.start r.end e r.kind in
-    ap (λ (n : Node). let l : Line = record { parent = r.parent; next = next; depth = r.depth; node = n } in l) n
-    ∙ ap (λ (l : Line). record l { next = next; node = with_end e l.node }) h
+    ap (λ (n : Node). let l : RowView = record { parent = r.parent; next = next; depth = r.depth; node = n } in l) n
+    ∙ ap (λ (l : RowView). record l { next = next; node = with_end e l.node }) h
 
 close_with : (end s e : ℕ) (t : Tag) (before : Forest Item) (up : Open) (done : Forest Item) (b u : Builder) (outer : List OpenElement) (x : OpenElement) (d : NodeData)
-    → Settled end (inside s t before up) done b → b.opened.items ≡ outer ++ x ∷ [] → u.opened.items ≡ outer → u.tables ≡ b.tables → u.pending ≡ b.pending
-    → u.nodes.items ≡ set b.nodes.items x.row (record (get_or b.nodes.items x.row d) { end = e; next = length b.nodes.items }) → IsWithin b.tables d.kind
-    → Shows end up (join before (Cons (Element s e t) (merge done) Nil)) u
+    → RepresentsFlushed end (inside s t before up) done b → b.opened.items ≡ outer ++ x ∷ [] → u.opened.items ≡ outer → u.tables ≡ b.tables → u.pending ≡ b.pending
+    → u.nodes.items ≡ set b.nodes.items x.row (record (get_or b.nodes.items x.row d) { end = e; next = length b.nodes.items }) → IsRowWithin b.tables d.kind
+    → Represents end up (join before (Cons (Element s e t) (merge done) Nil)) u
 close_with end s e t before up done b u outer x d h was opens tables same change fine =
     let tt' = b.tables in
     let view = opened (lists_in tt') in
     let k = top (inside s t before up) in
-    let l : OpenLine = record { row = k; name = t.name; name_start = s + 1; name_end = t.name_end; scope = listed (scope_of up) t.declarations } in
+    let l : OpenRow = record { row = k; name = t.name; name_start = s + 1; name_end = t.name_end; scope = listed (scope_of up) t.declarations } in
     let both = same_from_push (map view outer) (open_lines up) (view x) l (sym (map-append view outer (x ∷ [])) ∙ ap (map view) (sym was) ∙ h.open_rows) in
-    let row : x.row ≡ k = ap (λ (x : OpenLine). x.row) both.1 in
+    let row : x.row ≡ k = ap (λ (x : OpenRow). x.row) both.1 in
     let n = rows_count tt' end (inside s t before up) (merge done) b.nodes.items h.rows in
-    let rest = lines k (depth_of up + 1 + 1) (k + 1) (resolved (listed (scope_of up) t.declarations) (merge done)) in
+    let rest = preorder_rows k (depth_of up + 1 + 1) (k + 1) (resolved (listed (scope_of up) t.declarations) (merge done)) in
     let found : line_in tt' (get_or b.nodes.items k d) ≡ open_line s t up =
     sym (get_or-map (line_in tt') b.nodes.items k d) ∙ ap (λ xs. get_or xs k (line_in tt' d)) (h.rows ∙ so_far-inside end up s t before (merge done))
     ∙ get_or_at (so_far end up (merge before)) (open_line s t up) rest (line_in tt' d) k (length-so_far end up (merge before)) in
     let new : NodeData = record (get_or b.nodes.items k d) { end = e; next = length b.nodes.items } in
     let is_closed : line_in tt' new ≡ closed_line s e t up (k + 1 + size (merge done)) =
-    closed_is (rows_of tt'.attributes) (names_in tt') (lists_in tt') (get_or b.nodes.items k d) s e (length b.nodes.items) t up found ∙ ap (closed_line s e t up) n in
+    closed_is (attribute_rows tt'.attributes) (names_in tt') (lists_in tt') (get_or b.nodes.items k d) s e (length b.nodes.items) t up found ∙ ap (closed_line s e t up) n in
     let one = Cons (Element s e t) (merge done) Nil in
     let z : u.pending ≡ pending.None = same ∙ h.empty in
     let set_is : u.nodes.items ≡ set b.nodes.items k new = subst (λ (i : ℕ). u.nodes.items ≡ set b.nodes.items i (record (get_or b.nodes.items i d) { end = e; next = length b.nodes.items })) row change in
@@ -323,9 +323,9 @@ close_with end s e t before up done b u outer x d h was opens tables same change
     }
 
 pub close_shows : (end s e : ℕ) (t : Tag) (before : Forest Item) (up : Open) (done : Forest Item) (b u : Builder) (outer : List OpenElement) (x : OpenElement)
-    → Settled end (inside s t before up) done b → b.opened.items ≡ outer ++ x ∷ [] → u.opened.items ≡ outer → u.tables ≡ b.tables → u.pending ≡ b.pending
+    → RepresentsFlushed end (inside s t before up) done b → b.opened.items ≡ outer ++ x ∷ [] → u.opened.items ≡ outer → u.tables ≡ b.tables → u.pending ≡ b.pending
     → ((d : NodeData) → u.nodes.items ≡ set b.nodes.items x.row (record (get_or b.nodes.items x.row d) { end = e; next = length b.nodes.items }))
-    → Shows end up (join before (Cons (Element s e t) (merge done) Nil)) u
+    → Represents end up (join before (Cons (Element s e t) (merge done) Nil)) u
 close_shows end s e t before up done b u outer x h was opens tables same change =
     let n = rows_count b.tables end (inside s t before up) (merge done) b.nodes.items h.rows in
     let some : 0 < length b.nodes.items = omega arith in

@@ -3,40 +3,40 @@ use Rattle.std.proofs.Common.{◌≡◌, ℕ, ◌+◌, ◌≤◌, Bool, true, fa
 use Rattle.std.proofs.lemmas.List.{append-nil}
 use Rattle.rox_grammar.specs.declared.fault.Fault.{Fault}
 use Rattle.rox_grammar.specs.declared.fault.Word.TheVariants.{Xmlns}
-use Rattle.rox_grammar.specs.Words.{word_text}
+use Rattle.rox_grammar.specs.FixedTexts.{word_text}
 use Rattle.rox_grammar.specs.declared.fault.Fault.TheVariants as fault
-use Rattle.rox_grammar.specs.Written.{Attribute, Name, Declaration, prefix_span}
+use Rattle.rox_grammar.specs.Written.{Attribute, Name, NamespaceDecl, prefix_span}
 use Rattle.rox_grammar.specs.WellNamed.{may_name}
 use Rattle.rox_grammar.specs.Tree.{listed, attribute_in, element_namespace}
 use Rattle.rox_grammar.specs.Document.{most_pairs, most_attributes}
 use Rattle.rox_reading.specs.Lexical.{◌>>=◌, qname_at}
 use Rattle.rox_reading.specs.Refusals.{lifted}
-use Rattle.rox_reading.specs.Tags.{Held, Values, attributes_at, names_tested, tested_at, tag_tested, tag_at}
-use Rattle.rox_grammar.specs.Failing.{Fails, name_view}
+use Rattle.rox_reading.specs.Tags.{TagSoFar, Values, attributes_at, names_tested, tested_at, tag_tested, tag_at}
+use Rattle.rox_grammar.specs.Failures.{Fails, name_view}
 use Rattle.rox_grammar.specs.declared.failure.Failure.{Failure}
 use Rattle.rox_grammar.specs.declared.failure.Failure.TheVariants as failure
-use Rattle.rox_values.specs.Refusing.{Refuses, of_failure}
-use Rattle.rox_values.specs.declared.refused.Refused.{Refused}
+use Rattle.rox_values.specs.Refusals.{IsRefusal, of_failure}
+use Rattle.rox_values.specs.declared.parse_error.ParseError.{ParseError}
 use Rattle.rox_values.proofs.PartLemmas.{refuses_by}
 use Rattle.rox_tables.specs.declared.tables.ElementTables.{ElementTables}
-use Rattle.rox_tables.specs.declared.taken.Taken.{Taken}
+use Rattle.rox_tables.specs.declared.unresolved_attribute.UnresolvedAttribute.{UnresolvedAttribute}
 use Rattle.rox_build.specs.declared.tag.StartTag.{StartTag}
-use Rattle.rox_tables.specs.Lines.{declaration, lists_of, AreScopes, rows_of}
+use Rattle.rox_tables.specs.Rows.{declaration, lists_of, AreScopes, attribute_rows}
 use Rattle.rox_tables.specs.Scopes.{ArePlaces, Once}
-use Rattle.rox_tables.specs.Declares.{taken_view}
-use Rattle.rox_build.specs.Tags.{Holding}
-use Rattle.rox_tables.specs.TagScopes.{KeepsPlaces, lists_in}
-use Rattle.rox_build.specs.Tagged.{IsElement, Tagged, scope_in_tables}
+use Rattle.rox_tables.specs.TagDeclarations.{unresolved_view}
+use Rattle.rox_build.specs.TagState.{HoldsTag}
+use Rattle.rox_tables.specs.TagScopes.{HasBindings, lists_in}
+use Rattle.rox_build.specs.ElementRow.{IsElement, Tagged, scope_in_tables}
 
 -- nothing is held before the first attribute
-pub holds_nothing : (names : List Declaration) (listed : List ℕ) (taken : List Taken) → length names ≤ most_pairs → taken ≡ []
-    → Holding names listed names listed false taken (record { own = []; attributes = [] })
+pub holds_nothing : (names : List NamespaceDecl) (listed : List ℕ) (taken : List UnresolvedAttribute) → length names ≤ most_pairs → taken ≡ []
+    → HoldsTag names listed names listed false taken (record { own = []; attributes = [] })
 holds_nothing names listed taken few none = record {
-  declares = record { names_are = refl; few = few; xml_is = refl; mine = []; listed_are = sym (append-nil listed); places = tt; same = refl };
-  attributes = ap (map taken_view) none;
+  is_namespace_decl = record { names_are = refl; few = few; xml_is = refl; mine = []; listed_are = sym (append-nil listed); places = tt; same = refl };
+  attributes = ap (map unresolved_view) none;
 }
 
-tag_rest : (how : Values) (cut : Fault) (above : List Declaration) (count : ℕ) (known : List Declaration) (src : List ℕ) (i left : ℕ) (name : Name) (n : ℕ) → qname_at src (i + 1) ≡ Ok (name, n)
+tag_rest : (how : Values) (cut : Fault) (above : List NamespaceDecl) (count : ℕ) (known : List NamespaceDecl) (src : List ℕ) (i left : ℕ) (name : Name) (n : ℕ) → qname_at src (i + 1) ≡ Ok (name, n)
     → bytes_eq name.prefix (word_text Xmlns) ≡ false
     → tag_at how cut above count known src i left
     ≡ (attributes_at (length src) how cut known src n left (record { own = []; attributes = [] }) >>= λ x.
@@ -46,63 +46,63 @@ unfolding tag_at
 tag_rest how cut above count known src i left name n is other = rw (is, other) refl
 
 -- its attributes are refused
-pub tag_unread : (how : Values) (cut : Fault) (above : List Declaration) (count : ℕ) (known : List Declaration) (src : List ℕ) (i left : ℕ) (name : Name) (n : ℕ) (e : Refused) → qname_at src (i + 1) ≡ Ok (name, n)
-    → bytes_eq name.prefix (word_text Xmlns) ≡ false → Refuses e (attributes_at (length src) how cut known src n left (record { own = []; attributes = [] })) → Refuses e (tag_at how cut above count known src i left)
+pub tag_unread : (how : Values) (cut : Fault) (above : List NamespaceDecl) (count : ℕ) (known : List NamespaceDecl) (src : List ℕ) (i left : ℕ) (name : Name) (n : ℕ) (e : ParseError) → qname_at src (i + 1) ≡ Ok (name, n)
+    → bytes_eq name.prefix (word_text Xmlns) ≡ false → IsRefusal e (attributes_at (length src) how cut known src n left (record { own = []; attributes = [] })) → IsRefusal e (tag_at how cut above count known src i left)
 tag_unread how cut above count known src i left name n e is other h =
     refuses_by e (attributes_at (length src) how cut known src n left (record { own = []; attributes = [] })) (tag_at how cut above count known src i left)
     (λ r err. tag_rest how cut above count known src i left name n is other ∙ rw err refl) h
 
 -- its names are tested where its own stands, right behind the `<`
-tested_is : (scope : List Declaration) (count i : ℕ) (name : Name) (as' : List Attribute) → tag_tested scope count i name as' ≡ tested_at scope count (i + 1) name as'
+tested_is : (scope : List NamespaceDecl) (count i : ℕ) (name : Name) (as' : List Attribute) → tag_tested scope count i name as' ≡ tested_at scope count (i + 1) name as'
 unfolding tag_tested
 tested_is scope count i name as' = refl
 
-pub tested_fails : (e : Failure) (scope : List Declaration) (count i : ℕ) (name : Name) (as' : List Attribute) → Fails e (tested_at scope count (i + 1) name as') → Fails e (tag_tested scope count i name as')
+pub tested_fails : (e : Failure) (scope : List NamespaceDecl) (count i : ℕ) (name : Name) (as' : List Attribute) → Fails e (tested_at scope count (i + 1) name as') → Fails e (tag_tested scope count i name as')
 tested_fails e scope count i name as' h = rw (tested_is scope count i name as') h
 
-pub tested_passes : (scope : List Declaration) (count i : ℕ) (name : Name) (as' : List Attribute) → tested_at scope count (i + 1) name as' ≡ Ok tt → tag_tested scope count i name as' ≡ Ok tt
+pub tested_passes : (scope : List NamespaceDecl) (count i : ℕ) (name : Name) (as' : List Attribute) → tested_at scope count (i + 1) name as' ≡ Ok tt → tag_tested scope count i name as' ≡ Ok tt
 tested_passes scope count i name as' h = tested_is scope count i name as' ∙ h
 
 -- the names of a tag with few attributes
-tested_rest : (scope : List Declaration) (count at : ℕ) (name : Name) (as' : List Attribute) → count + length as' ≤ most_attributes
+tested_rest : (scope : List NamespaceDecl) (count at : ℕ) (name : Name) (as' : List Attribute) → count + length as' ≤ most_attributes
     → tested_at scope count at name as' ≡ (names_tested scope [] as' >>= λ _. if may_name scope name then Ok tt else Err (fault.UnknownNamespace (prefix_span name at) at))
 tested_rest scope count at name as' few = let k = le-ltb _ _ few in rw k refl
 
-pub tested_amiss : (e : Failure) (scope : List Declaration) (count at : ℕ) (name : Name) (as' : List Attribute) → count + length as' ≤ most_attributes → Fails e (names_tested scope [] as')
+pub tested_amiss : (e : Failure) (scope : List NamespaceDecl) (count at : ℕ) (name : Name) (as' : List Attribute) → count + length as' ≤ most_attributes → Fails e (names_tested scope [] as')
     → Fails e (tested_at scope count at name as')
 tested_amiss failure.Memory scope count at name as' few h = tt
 tested_amiss (failure.Fault f) scope count at name as' few h = tested_rest scope count at name as' few ∙ rw h refl
 
-pub tested_unknown : (scope : List Declaration) (count at : ℕ) (name : Name) (as' : List Attribute) (f : Fault) → count + length as' ≤ most_attributes → names_tested scope [] as' ≡ Ok tt
+pub tested_unknown : (scope : List NamespaceDecl) (count at : ℕ) (name : Name) (as' : List Attribute) (f : Fault) → count + length as' ≤ most_attributes → names_tested scope [] as' ≡ Ok tt
     → f ≡ fault.UnknownNamespace (prefix_span name at) at → may_name scope name ≡ false → tested_at scope count at name as' ≡ Err f
 tested_unknown scope count at name as' f few fine is unknown = tested_rest scope count at name as' few ∙ rw (fine, unknown, is) refl
 
-pub tested_known : (scope : List Declaration) (count at : ℕ) (name : Name) (as' : List Attribute) → count + length as' ≤ most_attributes → names_tested scope [] as' ≡ Ok tt → may_name scope name ≡ true
+pub tested_known : (scope : List NamespaceDecl) (count at : ℕ) (name : Name) (as' : List Attribute) → count + length as' ≤ most_attributes → names_tested scope [] as' ≡ Ok tt → may_name scope name ≡ true
     → tested_at scope count at name as' ≡ Ok tt
 tested_known scope count at name as' few fine known = tested_rest scope count at name as' few ∙ rw (fine, known) refl
 
 -- its names are refused
-pub tag_untested : (how : Values) (cut : Fault) (above : List Declaration) (count : ℕ) (known : List Declaration) (src : List ℕ) (i left : ℕ) (name : Name) (n j : ℕ) (h : Held) (empty : Bool) (l : ℕ) (e : Failure) → qname_at src (i + 1) ≡ Ok (name, n)
+pub tag_untested : (how : Values) (cut : Fault) (above : List NamespaceDecl) (count : ℕ) (known : List NamespaceDecl) (src : List ℕ) (i left : ℕ) (name : Name) (n j : ℕ) (h : TagSoFar) (empty : Bool) (l : ℕ) (e : Failure) → qname_at src (i + 1) ≡ Ok (name, n)
     → bytes_eq name.prefix (word_text Xmlns) ≡ false → attributes_at (length src) how cut known src n left (record { own = []; attributes = [] }) ≡ Ok (record { held = h; empty = empty; left = l }, j)
-    → Fails e (tag_tested (listed above h.own) count i name h.attributes) → Refuses (of_failure e) (tag_at how cut above count known src i left)
+    → Fails e (tag_tested (listed above h.own) count i name h.attributes) → IsRefusal (of_failure e) (tag_at how cut above count known src i left)
 tag_untested how cut above count known src i left name n j h empty l failure.Memory is other read fails = tt
 tag_untested how cut above count known src i left name n j h empty l (failure.Fault f) is other read fails = tag_rest how cut above count known src i left name n is other ∙ rw (read, fails) refl
 
-pub tag_made : (how : Values) (cut : Fault) (above : List Declaration) (count : ℕ) (known : List Declaration) (src : List ℕ) (i left : ℕ) (name : Name) (n j : ℕ) (h : Held) (empty : Bool) (l : ℕ) → qname_at src (i + 1) ≡ Ok (name, n)
+pub tag_made : (how : Values) (cut : Fault) (above : List NamespaceDecl) (count : ℕ) (known : List NamespaceDecl) (src : List ℕ) (i left : ℕ) (name : Name) (n j : ℕ) (h : TagSoFar) (empty : Bool) (l : ℕ) → qname_at src (i + 1) ≡ Ok (name, n)
     → bytes_eq name.prefix (word_text Xmlns) ≡ false → attributes_at (length src) how cut known src n left (record { own = []; attributes = [] }) ≡ Ok (record { held = h; empty = empty; left = l }, j)
     → tag_tested (listed above h.own) count i name h.attributes ≡ Ok tt
     → tag_at how cut above count known src i left ≡ Ok (record { tag = record { name = name; name_end = n; declarations = h.own; attributes = h.attributes }; empty = empty; left = l }, j)
 tag_made how cut above count known src i left name n j h empty l is other read fine = tag_rest how cut above count known src i left name n is other ∙ rw (read, fine) refl
 
-pub tagged : (o a s e : ElementTables) (t : StartTag) (above : List Declaration) (name : Name) (n : ℕ) (h : Held) (xml : Bool) (taken : List Taken) (scope : ℕ)
+pub tagged : (o a s e : ElementTables) (t : StartTag) (above : List NamespaceDecl) (name : Name) (n : ℕ) (h : TagSoFar) (xml : Bool) (taken : List UnresolvedAttribute) (scope : ℕ)
     → name_view t.name ≡ name → t.name_end ≡ n → a.attributes ≡ o.attributes
-    → Holding (map declaration o.namespaces.items.items) o.listed.items (map declaration a.namespaces.items.items) a.listed.items xml taken h → length a.namespaces.items.items ≤ most_pairs
-    → s.namespaces ≡ a.namespaces → s.attributes ≡ a.attributes → lists_in a ≡ lists_in o → (more : List (List Declaration)) × (lists_in s ≡ lists_in a ++ more) → ArePlaces (length s.namespaces.items.items) s.listed.items
+    → HoldsTag (map declaration o.namespaces.items.items) o.listed.items (map declaration a.namespaces.items.items) a.listed.items xml taken h → length a.namespaces.items.items ≤ most_pairs
+    → s.namespaces ≡ a.namespaces → s.attributes ≡ a.attributes → lists_in a ≡ lists_in o → (more : List (List NamespaceDecl)) × (lists_in s ≡ lists_in a ++ more) → ArePlaces (length s.namespaces.items.items) s.listed.items
     → AreScopes (length s.listed.items) s.scopes.items
-    → scope_in_tables s scope ≡ listed above h.own → e.namespaces ≡ s.namespaces → e.listed ≡ s.listed → e.scopes ≡ s.scopes → IsElement s e t.element (scope_in_tables s scope) name (map taken_view taken)
-    → KeepsPlaces s → e.present ≡ s.present → Once (scope_in_tables s scope) → Tagged o e t above (record { name = name; name_end = n; declarations = h.own; attributes = h.attributes })
+    → scope_in_tables s scope ≡ listed above h.own → e.namespaces ≡ s.namespaces → e.listed ≡ s.listed → e.scopes ≡ s.scopes → IsElement s e t.element (scope_in_tables s scope) name (map unresolved_view taken)
+    → HasBindings s → e.present ≡ s.present → Once (scope_in_tables s scope) → Tagged o e t above (record { name = name; name_end = n; declarations = h.own; attributes = h.attributes })
 tagged o a s e t above name n h xml taken scope is ends same hold few names attributes before (more, lists_are) places stretches lists names' listed' scopes' k known present' once =
-    let d = hold.declares in
+    let d = hold.is_namespace_decl in
     let kept = attributes ∙ same in
     let after : lists_in e ≡ lists_in s =
     ap (λ v. lists_of (map declaration v.items.items) e.listed.items e.scopes.items) names'
@@ -122,11 +122,11 @@ tagged o a s e t above name n h xml taken scope is ends same hold few names attr
       element = record {
         attributes = record {
           more = k.attributes.more;
-          grown = k.attributes.grown ∙ ap (λ v. rows_of v ++ k.attributes.more) kept;
-          same = k.attributes.same ∙ ap (λ sc. map (attribute_in sc) (map taken_view taken)) lists ∙ ap (map (attribute_in (listed above h.own))) hold.attributes;
+          grown = k.attributes.grown ∙ ap (λ v. attribute_rows v ++ k.attributes.more) kept;
+          same = k.attributes.same ∙ ap (λ sc. map (attribute_in sc) (map unresolved_view taken)) lists ∙ ap (map (attribute_in (listed above h.own))) hold.attributes;
           within = k.attributes.within;
         };
-        attributes_from = k.attributes_from ∙ ap (λ v. length (rows_of v)) kept;
+        attributes_from = k.attributes_from ∙ ap (λ v. length (attribute_rows v)) kept;
         attributes_until = k.attributes_until;
         few = k.few;
         local = k.local;

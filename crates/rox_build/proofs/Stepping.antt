@@ -1,8 +1,8 @@
 -- What one construct does to the builder, against what is read.
 use Rattle.std.proofs.lemmas.Bool.{lt-leb}
-use Rattle.rox_grammar.specs.Marks.{stands}
+use Rattle.rox_grammar.specs.Search.{stands}
 use Rattle.std.specs.List.{starts_with}
-use Rattle.rox_tables.specs.Lines.{rows_of, scope_at}
+use Rattle.rox_tables.specs.Rows.{attribute_rows, scope_at}
 use Rattle.rox_tables.specs.TagScopes.{lists_in}
 use Rattle.std.proofs.Common.{eqb, eq-eqb, ne_eqb, if◌then◌else◌, slice_index, ◌≡◌, ℕ, zero, suc, ◌+◌, ◌<◌, Bool, true, false, List, [], ◌∷◌, ◌++◌, length, map, leb, refl, sym, ap, subst, ◌∙◌, arith, Result, Ok, Err, append_assoc, length-append}
 use Rattle.std.proofs.lemmas.List.{append-nil, length-map, map-append, same_from_push}
@@ -10,27 +10,27 @@ use Rattle.rox_grammar.specs.declared.fault.Fault.{Fault}
 use Rattle.rox_grammar.specs.declared.fault.Span.{Span}
 use Rattle.rox_grammar.specs.declared.fault.Fault.TheVariants as fault
 use Rattle.rox_grammar.specs.Forest.{Forest, Nil, Cons, join, size}
-use Rattle.rox_grammar.specs.Written.{Name, Tag, Item, Element, Text, Comment, PI, Declaration, merge, leaf}
+use Rattle.rox_grammar.specs.Written.{Name, Tag, Item, Element, Text, Comment, PI, NamespaceDecl, merge, leaf}
 use Rattle.rox_grammar.specs.Document.{own_pairs, own_attributes, pairs, attribute_count, distinct_pairs, listable}
 use Rattle.rox_reading.specs.State.{State, depth_of}
 use Rattle.rox_reading.specs.Refusals as refusal
 use Rattle.rox_reading.specs.Refusals.{lifted}
 use Rattle.rox_grammar.specs.State.{Open, root, inside, scope_of, nodes_so_far, pairs_so_far, attributes_so_far}
-use Rattle.rox_reading.specs.Machine.{How, run_parts, counted, with_item, comment_step, instruction_step, cdata_step, run_step, end_step, tag_step, step, closed_by, same_name, name_span}
+use Rattle.rox_reading.specs.Machine.{Context, data_parts, counted, with_item, comment_step, instruction_step, cdata_step, character_data_step, end_step, tag_step, step, closed_by, same_qname, name_span}
 use Rattle.rox_reading.specs.Markup.{Instruction, EndTag, comment_at, instruction_at, cdata_at, end_tag_at}
-use Rattle.rox_grammar.specs.Content.{is_plain}
-use Rattle.rox_reading.specs.Values.{RunText, raw_run_at}
+use Rattle.rox_grammar.specs.Content.{is_verbatim}
+use Rattle.rox_reading.specs.Values.{ReadText, raw_character_data_at}
 use Rattle.rox_reading.proofs.Forests.{pairs-join, attribute_count-join, pairs-merge, attribute_count-merge}
-use Rattle.rox_grammar.specs.Failing.{name_view}
+use Rattle.rox_grammar.specs.Failures.{name_view}
 use Rattle.rox_values.specs.Values.{section_text}
-use Rattle.rox_build.specs.SoFar.{top}
+use Rattle.rox_build.specs.OpenRows.{top}
 use Rattle.rox_tables.specs.declared.tables.ElementTables.{ElementTables}
 use Rattle.rox_build.specs.declared.builder.OpenElement.{OpenElement}
 use Rattle.rox_grammar.specs.Tree.{listed}
 use Rattle.rox_scan.specs.declared.cursor.Cursor.{Cursor}
 use Rattle.rox_grammar.specs.declared.failure.Failure.{Failure}
 use Rattle.rox_build.proofs.Lifting.{refuses}
-use Rattle.rox_build.specs.Shown.{OpenLine, opened, opened_in, open_lines, names_in, Shows, Adds, Sees, Stepped}
+use Rattle.rox_build.specs.BuilderState.{OpenRow, opened, opened_in, open_lines, names_in, Represents, Adds, IsInState, ScansTo}
 use Rattle.rox_build.specs.declared.builder.Builder.{Builder}
 
 pairs_last : (done : Forest Item) (i : Item) (c : Forest Item) → pairs (join done (Cons i c Nil)) ≡ pairs done ++ (own_pairs i ++ pairs c)
@@ -57,20 +57,20 @@ counted_is limit t s h = by_cases (leb (nodes_so_far t.stack t.done) limit) refl
 
 -- what a builder adds is what is read
 pub adds_stepped : (limit end : ℕ) (t : State) (c : Cursor) (u : Builder) (r : Result (Unit {0}) Failure) → Adds end r u (counted limit t) → c.pos ≡ t.at → u.nodes_limit ≡ limit
-    → names_in u.tables ≡ distinct_pairs (pairs_so_far t.stack t.done) → length (rows_of u.tables.attributes) ≡ attributes_so_far t.stack t.done → u.left ≡ t.left
-    → Stepped limit end r c u (lifted (counted limit t))
+    → names_in u.tables ≡ distinct_pairs (pairs_so_far t.stack t.done) → length (attribute_rows u.tables.attributes) ≡ attributes_so_far t.stack t.done → u.left ≡ t.left
+    → ScansTo limit end r c u (lifted (counted limit t))
 adds_stepped limit end t c u (Ok x) (s, is, shows) here l names attributes left =
     let e = counted_is limit t s is in
-    (t, ap lifted (is ∙ ap (λ (s : State). Ok s) e), record { here = here; limit_is = l; shows = subst (λ (s : State). Shows end s.stack s.done u) e shows; names = names; attributes = attributes; left_is = left })
+    (t, ap lifted (is ∙ ap (λ (s : State). Ok s) e), record { here = here; limit_is = l; shows = subst (λ (s : State). Represents end s.stack s.done u) e shows; names = names; attributes = attributes; left_is = left })
 adds_stepped limit end t c u (Err e) h here l names attributes left = refuses e (counted limit t) h
 
 -- an item with nothing below it that declares nothing
-pub item_stepped : (limit end : ℕ) (s : State) (c d : Cursor) (b u : Builder) (r : Result (Unit {0}) Failure) (i : Item) → Sees limit end s c b → own_pairs i ≡ [] → own_attributes i ≡ 0
-    → u.tables ≡ b.tables → u.nodes_limit ≡ b.nodes_limit → u.left ≡ b.left → Adds end r u (with_item b.nodes_limit s d.pos i) → Stepped limit end r d u (lifted (with_item limit s d.pos i))
+pub item_stepped : (limit end : ℕ) (s : State) (c d : Cursor) (b u : Builder) (r : Result (Unit {0}) Failure) (i : Item) → IsInState limit end s c b → own_pairs i ≡ [] → own_attributes i ≡ 0
+    → u.tables ≡ b.tables → u.nodes_limit ≡ b.nodes_limit → u.left ≡ b.left → Adds end r u (with_item b.nodes_limit s d.pos i) → ScansTo limit end r d u (lifted (with_item limit s d.pos i))
 item_stepped limit end s c d b u r i h no_pairs no_attributes tables same left adds =
     let t : State = record { at = d.pos; done = join s.done (leaf i); stack = s.stack; left = s.left } in
     let a : Adds end r u (counted limit t) = subst (λ (n : ℕ). Adds end r u (counted n t)) h.limit_is adds in
-    let p : pairs_so_far s.stack (join s.done (leaf i)) ≡ pairs_so_far s.stack s.done = pairs_more s.stack s.done i Nil ∙ ap (λ (xs : List Declaration). pairs_so_far s.stack s.done ++ (xs ++ [])) no_pairs ∙ append-nil (pairs_so_far s.stack s.done) in
+    let p : pairs_so_far s.stack (join s.done (leaf i)) ≡ pairs_so_far s.stack s.done = pairs_more s.stack s.done i Nil ∙ ap (λ (xs : List NamespaceDecl). pairs_so_far s.stack s.done ++ (xs ++ [])) no_pairs ∙ append-nil (pairs_so_far s.stack s.done) in
     let n : attributes_so_far s.stack (join s.done (leaf i)) ≡ attributes_so_far s.stack s.done = omega (arith, attributes_more s.stack s.done i Nil) in
     adds_stepped limit end t d u r a refl (same ∙ h.limit_is) (rw (tables, p) h.names) (rw (tables, n) h.attributes) (left ∙ h.left_is)
 
@@ -93,37 +93,37 @@ pub instruction_fails : (limit : ℕ) (src : List ℕ) (s : State) (i : ℕ) (f 
 unfolding instruction_step
 instruction_fails limit src s i f e h = let k : instruction_at src s.at ≡ Err f = subst (λ (n : ℕ). instruction_at src n ≡ Err f) e h in rw k refl
 
-pub cdata_is : (limit : ℕ) (src : List ℕ) (s : State) (i j : ℕ) (raw : List ℕ) (t : RunText) → i ≡ s.at → cdata_at src i ≡ Ok (raw, j) → section_text raw ≡ t
+pub cdata_is : (limit : ℕ) (src : List ℕ) (s : State) (i j : ℕ) (raw : List ℕ) (t : ReadText) → i ≡ s.at → cdata_at src i ≡ Ok (raw, j) → section_text raw ≡ t
     → cdata_step limit src s ≡ with_item limit s j (Text s.at j t.value t.plain)
 unfolding cdata_step
 cdata_is limit src s i j raw t e h is =
     let k : cdata_at src s.at ≡ Ok (raw, j) = subst (λ (n : ℕ). cdata_at src n ≡ Ok (raw, j)) e h in
-    rw k (ap (λ (t : RunText). with_item limit s j (Text s.at j t.value t.plain)) is)
+    rw k (ap (λ (t : ReadText). with_item limit s j (Text s.at j t.value t.plain)) is)
 
 pub cdata_fails : (limit : ℕ) (src : List ℕ) (s : State) (i : ℕ) (f : Fault) → i ≡ s.at → cdata_at src i ≡ Err f → cdata_step limit src s ≡ Err f
 unfolding cdata_step
 cdata_fails limit src s i f e h = let k : cdata_at src s.at ≡ Err f = subst (λ (n : ℕ). cdata_at src n ≡ Err f) e h in rw k refl
 
 -- a run that is a slice of the source
-pub plain_run : (how : How) (src : List ℕ) (s : State) (i j : ℕ) (raw : List ℕ) → i ≡ s.at → raw_run_at src i ≡ Ok (raw, j) → is_plain raw ≡ true
-    → run_step how src s ≡ lifted (with_item how.limit s j (Text s.at j raw true))
-unfolding run_step
-plain_run how src s i j raw e h plain = let k : raw_run_at src s.at ≡ Ok (raw, j) = subst (λ (n : ℕ). raw_run_at src n ≡ Ok (raw, j)) e h in rw (k, plain) refl
+pub plain_run : (how : Context) (src : List ℕ) (s : State) (i j : ℕ) (raw : List ℕ) → i ≡ s.at → raw_character_data_at src i ≡ Ok (raw, j) → is_verbatim raw ≡ true
+    → character_data_step how src s ≡ lifted (with_item how.limit s j (Text s.at j raw true))
+unfolding character_data_step
+plain_run how src s i j raw e h plain = let k : raw_character_data_at src s.at ≡ Ok (raw, j) = subst (λ (n : ℕ). raw_character_data_at src n ≡ Ok (raw, j)) e h in rw (k, plain) refl
 
 -- one that is read by parts
-pub parted_run : (how : How) (src : List ℕ) (s : State) (i j : ℕ) (raw : List ℕ) → i ≡ s.at → raw_run_at src i ≡ Ok (raw, j) → is_plain raw ≡ false
-    → run_step how src s ≡ run_parts how (length src) src i j s
-unfolding run_step
+pub parted_run : (how : Context) (src : List ℕ) (s : State) (i j : ℕ) (raw : List ℕ) → i ≡ s.at → raw_character_data_at src i ≡ Ok (raw, j) → is_verbatim raw ≡ false
+    → character_data_step how src s ≡ data_parts how (length src) src i j s
+unfolding character_data_step
 parted_run how src s i j raw e h other =
-    let k : raw_run_at src s.at ≡ Ok (raw, j) = subst (λ (n : ℕ). raw_run_at src n ≡ Ok (raw, j)) e h in
-    rw (k, other) (ap (λ (n : ℕ). run_parts how (length src) src n j s) (sym e))
+    let k : raw_character_data_at src s.at ≡ Ok (raw, j) = subst (λ (n : ℕ). raw_character_data_at src n ≡ Ok (raw, j)) e h in
+    rw (k, other) (ap (λ (n : ℕ). data_parts how (length src) src n j s) (sym e))
 
-pub run_fails : (how : How) (src : List ℕ) (s : State) (i : ℕ) (f : Fault) → i ≡ s.at → raw_run_at src i ≡ Err f → run_step how src s ≡ Err (refusal.here f)
-unfolding run_step
-run_fails how src s i f e h = let k : raw_run_at src s.at ≡ Err f = subst (λ (n : ℕ). raw_run_at src n ≡ Err f) e h in rw k refl
+pub run_fails : (how : Context) (src : List ℕ) (s : State) (i : ℕ) (f : Fault) → i ≡ s.at → raw_character_data_at src i ≡ Err f → character_data_step how src s ≡ Err (refusal.here f)
+unfolding character_data_step
+run_fails how src s i f e h = let k : raw_character_data_at src s.at ≡ Err f = subst (λ (n : ℕ). raw_character_data_at src n ≡ Err f) e h in rw k refl
 
-pub same_shows : (end : ℕ) (o : Open) (done : Forest Item) (b u : Builder) → Shows end o done b → u.nodes ≡ b.nodes → u.tables ≡ b.tables → u.opened ≡ b.opened → u.pending ≡ b.pending → u.joined ≡ b.joined
-    → Shows end o done u
+pub same_shows : (end : ℕ) (o : Open) (done : Forest Item) (b u : Builder) → Represents end o done b → u.nodes ≡ b.nodes → u.tables ≡ b.tables → u.opened ≡ b.opened → u.pending ≡ b.pending → u.joined ≡ b.joined
+    → Represents end o done u
 same_shows end o done b u h nodes tables opens waits joined =
     record {
       front = h.front;
@@ -136,12 +136,12 @@ same_shows end o done b u h nodes tables opens waits joined =
 
 -- ---- end tags
 
-pub end_fails : (how : How) (src : List ℕ) (s : State) (i : ℕ) (f : Fault) → i ≡ s.at → end_tag_at src i ≡ Err f → end_step how src s ≡ Err f
+pub end_fails : (how : Context) (src : List ℕ) (s : State) (i : ℕ) (f : Fault) → i ≡ s.at → end_tag_at src i ≡ Err f → end_step how src s ≡ Err f
 unfolding end_step
 end_fails how src s i f e h = let k : end_tag_at src s.at ≡ Err f = subst (λ (n : ℕ). end_tag_at src n ≡ Err f) e h in rw k refl
 
 -- it closes an element of its own text
-pub end_is : (how : How) (src : List ℕ) (s : State) (i j : ℕ) (t : EndTag) → i ≡ s.at → end_tag_at src i ≡ Ok (t, j) → leb (depth_of s.stack) how.base ≡ false
+pub end_is : (how : Context) (src : List ℕ) (s : State) (i j : ℕ) (t : EndTag) → i ≡ s.at → end_tag_at src i ≡ Ok (t, j) → leb (depth_of s.stack) how.base ≡ false
     → end_step how src s ≡ closed_by i t.name t.name_end j s.done s.stack s.left
 unfolding end_step
 end_is how src s i j t e h within =
@@ -149,7 +149,7 @@ end_is how src s i j t e h within =
     rw (k, within) (ap (λ (n : ℕ). closed_by n t.name t.name_end j s.done s.stack s.left) (sym e))
 
 -- it would close one that was open before
-pub end_below : (how : How) (src : List ℕ) (s : State) (i j : ℕ) (t : EndTag) → i ≡ s.at → end_tag_at src i ≡ Ok (t, j) → leb (depth_of s.stack) how.base ≡ true
+pub end_below : (how : Context) (src : List ℕ) (s : State) (i j : ℕ) (t : EndTag) → i ≡ s.at → end_tag_at src i ≡ Ok (t, j) → leb (depth_of s.stack) how.base ≡ true
     → end_step how src s ≡ Err (fault.UnexpectedEntityCloseTag i)
 unfolding end_step
 end_below how src s i j t e h below =
@@ -161,7 +161,7 @@ lines_deep : (o : Open) → length (open_lines o) ≡ depth_of o
 lines_deep root = refl
 lines_deep (inside start tag before up) = length-append (open_lines up) _ ∙ ap (λ (n : ℕ). n + 1) (lines_deep up)
 
-pub opened_deep : (end : ℕ) (o : Open) (done : Forest Item) (b : Builder) → Shows end o done b → length b.opened.items ≡ depth_of o
+pub opened_deep : (end : ℕ) (o : Open) (done : Forest Item) (b : Builder) → Represents end o done b → length b.opened.items ≡ depth_of o
 opened_deep end o done b h = sym (length-map b.opened.items (opened (lists_in b.tables))) ∙ ap length h.open_rows ∙ lines_deep o
 
 -- no element is open
@@ -185,31 +185,31 @@ outer_not_nil t [] x h = cc h
 outer_not_nil t (y ∷ outer) x h = cc h
 
 pub closed_other : (t : ElementTables) (o : Open) (outer : List OpenElement) (x : OpenElement) (i n j : ℕ) (name : Name) (done : Forest Item) (left : ℕ) → opened_in t (outer ++ x ∷ []) ≡ open_lines o
-    → same_name (name_view x.name) name ≡ false
+    → same_qname (name_view x.name) name ≡ false
     → closed_by i name n j done o left ≡ Err (fault.UnexpectedCloseTag (name_span (name_view x.name) x.name_start x.name_end) (name_span name (i + 2) n) i)
 unfolding closed_by
 closed_other t root outer x i n j name done left h other = absurd (outer_not_nil t outer x h)
 closed_other t (inside start tag before up) outer x i n j name done left h other =
     let v = top_view t start tag before up outer x h in
-    let a : name_view x.name ≡ tag.name = ap (λ (l : OpenLine). l.name) v in
-    let g : name_span (name_view x.name) x.name_start x.name_end ≡ name_span tag.name (start + 1) tag.name_end = ap (λ (l : OpenLine). name_span l.name l.name_start l.name_end) v in
-    let d : same_name tag.name name ≡ false = subst (λ (m : Name). same_name m name ≡ false) a other in
+    let a : name_view x.name ≡ tag.name = ap (λ (l : OpenRow). l.name) v in
+    let g : name_span (name_view x.name) x.name_start x.name_end ≡ name_span tag.name (start + 1) tag.name_end = ap (λ (l : OpenRow). name_span l.name l.name_start l.name_end) v in
+    let d : same_qname tag.name name ≡ false = subst (λ (m : Name). same_qname m name ≡ false) a other in
     rw d (ap (λ (sp : Span). Err (fault.UnexpectedCloseTag sp (name_span name (i + 2) n) i)) (sym g))
 
-pub closed_stepped : (limit end : ℕ) (s : State) (c d : Cursor) (b u : Builder) (outer : List OpenElement) (x : OpenElement) (i n : ℕ) (name : Name) → Sees limit end s c b → b.opened.items ≡ outer ++ x ∷ []
-    → same_name (name_view x.name) name ≡ true → u.tables ≡ b.tables → u.nodes_limit ≡ b.nodes_limit → u.left ≡ b.left
-    → ((total start : ℕ) (t : Tag) (before : Forest Item) (up : Open) (done : Forest Item) → Shows total (inside start t before up) done b → Shows total up (join before (Cons (Element start d.pos t) (merge done) Nil)) u)
-    → (r : State) × (lifted (closed_by i name n d.pos s.done s.stack s.left) ≡ Ok r) × Sees limit end r d u
+pub closed_stepped : (limit end : ℕ) (s : State) (c d : Cursor) (b u : Builder) (outer : List OpenElement) (x : OpenElement) (i n : ℕ) (name : Name) → IsInState limit end s c b → b.opened.items ≡ outer ++ x ∷ []
+    → same_qname (name_view x.name) name ≡ true → u.tables ≡ b.tables → u.nodes_limit ≡ b.nodes_limit → u.left ≡ b.left
+    → ((total start : ℕ) (t : Tag) (before : Forest Item) (up : Open) (done : Forest Item) → Represents total (inside start t before up) done b → Represents total up (join before (Cons (Element start d.pos t) (merge done) Nil)) u)
+    → (r : State) × (lifted (closed_by i name n d.pos s.done s.stack s.left) ≡ Ok r) × IsInState limit end r d u
 unfolding closed_by
 closed_stepped limit end s c d b u outer x i n name h os same tables limits left close = by_stack s.stack refl
   where
-    by_stack : (o : Open) → o ≡ s.stack → (r : State) × (lifted (closed_by i name n d.pos s.done o s.left) ≡ Ok r) × Sees limit end r d u
+    by_stack : (o : Open) → o ≡ s.stack → (r : State) × (lifted (closed_by i name n d.pos s.done o s.left) ≡ Ok r) × IsInState limit end r d u
     by_stack root e = absurd (outer_not_nil b.tables outer x (sym (ap (opened_in b.tables) os) ∙ h.shows.open_rows ∙ ap open_lines (sym e)))
     by_stack (inside start tag before up) e =
         let v = top_view b.tables start tag before up outer x (sym (ap (opened_in b.tables) os) ∙ h.shows.open_rows ∙ ap open_lines (sym e)) in
-        let a : name_view x.name ≡ tag.name = ap (λ (l : OpenLine). l.name) v in
-        let k : same_name tag.name name ≡ true = subst (λ (m : Name). same_name m name ≡ true) a same in
-        let sh = close end start tag before up s.done (subst (λ (o : Open). Shows end o s.done b) (sym e) h.shows) in
+        let a : name_view x.name ≡ tag.name = ap (λ (l : OpenRow). l.name) v in
+        let k : same_qname tag.name name ≡ true = subst (λ (m : Name). same_qname m name ≡ true) a same in
+        let sh = close end start tag before up s.done (subst (λ (o : Open). Represents end o s.done b) (sym e) h.shows) in
         let done = join before (Cons (Element start d.pos tag) (merge s.done) Nil) in
         let p : pairs_so_far up done ≡ pairs_so_far s.stack s.done =
         pairs_more up before (Element start d.pos tag) (merge s.done) ∙ ap (λ xs. pairs_so_far up before ++ (listable tag ++ xs)) (pairs-merge s.done) ∙ ap (λ (o : Open). pairs_so_far o s.done) e in
@@ -222,15 +222,15 @@ closed_stepped limit end s c d b u outer x i n name h os same tables limits left
           record { here = refl; limit_is = limits ∙ h.limit_is; shows = sh; names = rw (tables, p) h.names; attributes = rw (tables, m) h.attributes; left_is = left ∙ h.left_is },
         )
 
-abbrev pub text_or : Result RunText Fault → RunText
+abbrev pub text_or : Result ReadText Fault → ReadText
 text_or (Ok t) = t
 text_or (Err f) = record { value = []; plain = true }
 
-pub text_stepped : (limit end : ℕ) (s : State) (c d : Cursor) (b u : Builder) (r : Result (Unit {0}) Failure) (t : RunText) → Sees limit end s c b
+pub text_stepped : (limit end : ℕ) (s : State) (c d : Cursor) (b u : Builder) (r : Result (Unit {0}) Failure) (t : ReadText) → IsInState limit end s c b
     → u.tables ≡ b.tables → u.nodes_limit ≡ b.nodes_limit → u.left ≡ b.left → Adds end r u (with_item b.nodes_limit s d.pos (Text c.pos d.pos t.value t.plain))
-    → Stepped limit end r d u (lifted (with_item limit s d.pos (Text s.at d.pos t.value t.plain)))
+    → ScansTo limit end r d u (lifted (with_item limit s d.pos (Text s.at d.pos t.value t.plain)))
 text_stepped limit end s c d b u r t h tables limits left adds =
-    subst (λ (n : ℕ). Stepped limit end r d u (lifted (with_item limit s d.pos (Text n d.pos t.value t.plain)))) h.here
+    subst (λ (n : ℕ). ScansTo limit end r d u (lifted (with_item limit s d.pos (Text n d.pos t.value t.plain)))) h.here
     (item_stepped limit end s c d b u r (Text c.pos d.pos t.value t.plain) h refl refl tables limits left adds)
 
 -- ---- what the innermost open element lists
@@ -238,9 +238,9 @@ text_stepped limit end s c d b u r t h tables limits left adds =
 pub top_scope : (t : ElementTables) (o : Open) (outer : List OpenElement) (x : OpenElement) → opened_in t (outer ++ x ∷ []) ≡ open_lines o
     → scope_at (lists_in t) x.scope ≡ scope_of o
 top_scope t root outer x h = absurd (outer_not_nil t outer x h)
-top_scope t (inside start tag before up) outer x h = ap (λ (l : OpenLine). l.scope) (top_view t start tag before up outer x h)
+top_scope t (inside start tag before up) outer x h = ap (λ (l : OpenRow). l.scope) (top_view t start tag before up outer x h)
 
-pub no_scope : (t : ElementTables) (o : Open) → opened_in t [] ≡ open_lines o → (let ds : List Declaration = [] in ds) ≡ scope_of o
+pub no_scope : (t : ElementTables) (o : Open) → opened_in t [] ≡ open_lines o → (let ds : List NamespaceDecl = [] in ds) ≡ scope_of o
 no_scope t root h = refl
 no_scope t (inside start tag before up) h = absurd (push_not_nil (open_lines up) _ (sym h))
   where
@@ -250,7 +250,7 @@ no_scope t (inside start tag before up) h = absurd (push_not_nil (open_lines up)
 
 -- ---- which construct a step is
 
-pub step_is_run : (how : How) (src xs : List ℕ) (s : State) (i : ℕ) → xs ≡ src → i ≡ s.at → (slice_index xs i ≡ 60 → ⊥) → step how src s ≡ run_step how src s
+pub step_is_run : (how : Context) (src xs : List ℕ) (s : State) (i : ℕ) → xs ≡ src → i ≡ s.at → (slice_index xs i ≡ 60 → ⊥) → step how src s ≡ character_data_step how src s
 unfolding step
 step_is_run how src xs s i same e other =
     let x : slice_index xs i ≡ slice_index src s.at = ap (λ (ys : List ℕ). slice_index ys i) same ∙ ap (slice_index src) e in
@@ -258,7 +258,7 @@ step_is_run how src xs s i same e other =
     rw k refl
 
 -- `<` with a byte behind it that is no `!`
-pub step_is_markup : (how : How) (src xs : List ℕ) (s : State) (i b : ℕ) → xs ≡ src → i ≡ s.at → slice_index xs i ≡ 60 → i + 1 < length xs → slice_index xs (i + 1) ≡ b → (b ≡ 33 → ⊥)
+pub step_is_markup : (how : Context) (src xs : List ℕ) (s : State) (i b : ℕ) → xs ≡ src → i ≡ s.at → slice_index xs i ≡ 60 → i + 1 < length xs → slice_index xs (i + 1) ≡ b → (b ≡ 33 → ⊥)
     → step how src s ≡ (if eqb b 63 then lifted (instruction_step how.limit src s) else if eqb b 47 then lifted (end_step how src s) else tag_step how src s)
 unfolding step
 step_is_markup how src xs s i b same e here more next other =

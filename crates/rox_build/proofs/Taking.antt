@@ -3,75 +3,75 @@ use Rattle.std.proofs.Common.{◌≡◌, ℕ, zero, suc, ◌+◌, ◌<◌, ◌�
 use Rattle.std.proofs.lemmas.List.{map-append}
 use Rattle.std.proofs.lemmas.Bool.{leb-false, lt-leb}
 use Rattle.rox_grammar.specs.declared.fault.Fault.{Fault}
-use Rattle.rox_grammar.specs.Written.{Attribute, Declaration, declares}
+use Rattle.rox_grammar.specs.Written.{Attribute, NamespaceDecl, is_namespace_decl}
 use Rattle.rox_grammar.specs.Names.{spaces_end}
 use Rattle.rox_reading.specs.Refusals.{Refusal, here, lifted}
 use Rattle.rox_reading.specs.Lexical.{◌>>=◌, byte_at, quote_at, qname_at}
-use Rattle.rox_reading.specs.Markup.{RawAttribute, Turn, more, opened, closed, turn_at, attribute_at, raw_value_at}
-use Rattle.rox_reading.specs.Values.{RunText, value_at}
+use Rattle.rox_reading.specs.Markup.{RawAttribute, TagItem, more, opened, closed, tag_item_at, attribute_at, raw_value_at}
+use Rattle.rox_reading.specs.Values.{ReadText, value_at}
 use Rattle.rox_reading.specs.Tags as tags
-use Rattle.rox_reading.specs.Tags.{Held, TagRest, Values, declared, attribute_with, after_turn, attributes_at}
-use Rattle.rox_grammar.specs.Failing.{Fails, name_view}
-use Rattle.rox_scan.specs.Parts.{attribute_view}
+use Rattle.rox_reading.specs.Tags.{TagSoFar, TagRest, Values, declared, attribute_with, after_tag_item, attributes_at}
+use Rattle.rox_grammar.specs.Failures.{Fails, name_view}
+use Rattle.rox_scan.specs.Views.{attribute_view}
 use Rattle.rox_grammar.specs.declared.failure.Failure.{Failure}
 use Rattle.rox_grammar.specs.declared.failure.Failure.TheVariants as failure
 use Rattle.rox_scan.specs.declared.markup.RawAttribute.{RawAttribute as CodeRaw}
-use Rattle.rox_values.specs.Refusing.{Refuses, of_failure}
-use Rattle.rox_values.specs.declared.refused.Refused.{Refused}
+use Rattle.rox_values.specs.Refusals.{IsRefusal, of_failure}
+use Rattle.rox_values.specs.declared.parse_error.ParseError.{ParseError}
 use Rattle.rox_values.proofs.PartLemmas.{refuses_by}
 use Rattle.rox_tables.specs.Storage.{storage_bytes, is_borrowed}
-use Rattle.rox_tables.specs.declared.taken.Taken.{Taken}
-use Rattle.rox_tables.specs.Declares.{taken_view, Declared}
-use Rattle.rox_build.specs.Tags.{Holding, Took, one_more}
+use Rattle.rox_tables.specs.declared.unresolved_attribute.UnresolvedAttribute.{UnresolvedAttribute}
+use Rattle.rox_tables.specs.TagDeclarations.{unresolved_view, Declared}
+use Rattle.rox_build.specs.TagState.{HoldsTag, AddsAttribute, one_more}
 
 -- an attribute with its value is the one that the code makes of it
-pub view_is : (raw : CodeRaw) (v : RunText) (t : Taken) → t.start ≡ raw.start → t.name_end ≡ raw.name_end → t.value_start ≡ raw.value_start → t.end ≡ raw.value_end + 1
-    → t.name ≡ raw.name → storage_bytes t.value ≡ v.value → is_borrowed t.value ≡ v.plain → attribute_with (attribute_view raw) v ≡ taken_view t
+pub view_is : (raw : CodeRaw) (v : ReadText) (t : UnresolvedAttribute) → t.start ≡ raw.start → t.name_end ≡ raw.name_end → t.value_start ≡ raw.value_start → t.end ≡ raw.value_end + 1
+    → t.name ≡ raw.name → storage_bytes t.value ≡ v.value → is_borrowed t.value ≡ v.plain → attribute_with (attribute_view raw) v ≡ unresolved_view t
 view_is raw v t a b c d e f g = rw (a, b, c, d, e, f, g) refl
 
 -- what is read of one attribute, where so many may be opened behind it
-abbrev kept_left : ℕ → Result Held Fault → Result (Held × ℕ) Refusal
+abbrev kept_left : ℕ → Result TagSoFar Fault → Result (TagSoFar × ℕ) Refusal
 kept_left left r = lifted r >>= λ held. Ok (held, left)
 
-one_is : (how : Values) (known : List Declaration) (src : List ℕ) (raw : RawAttribute) (left l : ℕ) (h : Held) (v : RunText) (a : Attribute)
+one_is : (how : Values) (known : List NamespaceDecl) (src : List ℕ) (raw : RawAttribute) (left l : ℕ) (h : TagSoFar) (v : ReadText) (a : Attribute)
     → value_at how.main how.entities how.opener src raw.value_start raw.value_end left ≡ Ok (v, l) → attribute_with raw v ≡ a
     → one_more how known src raw left h ≡ kept_left l (tags.taken known a h)
 one_is how known src raw left l h v a is view =
-    ap (λ (r : Result (RunText × ℕ) Refusal). r >>= λ v. lifted (tags.taken known (attribute_with raw v.0) h) >>= λ held. Ok (held, v.1)) is ∙ ap (λ (a : Attribute). kept_left l (tags.taken known a h)) view
+    ap (λ (r : Result (ReadText × ℕ) Refusal). r >>= λ v. lifted (tags.taken known (attribute_with raw v.0) h) >>= λ held. Ok (held, v.1)) is ∙ ap (λ (a : Attribute). kept_left l (tags.taken known a h)) view
 
-stops_left : (left : ℕ) (e : Failure) (r : Result Held Fault) → Fails e r → Refuses (of_failure e) (kept_left left r)
+stops_left : (left : ℕ) (e : Failure) (r : Result TagSoFar Fault) → Fails e r → IsRefusal (of_failure e) (kept_left left r)
 stops_left left failure.Memory r h = tt
 stops_left left (failure.Fault f) r h = ap (kept_left left) h
 
-pub took_declaration : (how : Values) (known : List Declaration) (before : List ℕ) (names : List Declaration) (listed : List ℕ) (xml : Bool) (taken : List Taken) (src : List ℕ) (raw : RawAttribute) (left l : ℕ) (h : Held)
-    (v : RunText) (a : Attribute) → value_at how.main how.entities how.opener src raw.value_start raw.value_end left ≡ Ok (v, l) → attribute_with raw v ≡ a → declares a.name ≡ true → map taken_view taken ≡ h.attributes
-    → Declared known before names listed (Ok xml) h (declared known a h) → Took known before names listed taken (Ok (xml, l)) (one_more how known src raw left h)
+pub took_declaration : (how : Values) (known : List NamespaceDecl) (before : List ℕ) (names : List NamespaceDecl) (listed : List ℕ) (xml : Bool) (taken : List UnresolvedAttribute) (src : List ℕ) (raw : RawAttribute) (left l : ℕ) (h : TagSoFar)
+    (v : ReadText) (a : Attribute) → value_at how.main how.entities how.opener src raw.value_start raw.value_end left ≡ Ok (v, l) → attribute_with raw v ≡ a → is_namespace_decl a.name ≡ true → map unresolved_view taken ≡ h.attributes
+    → Declared known before names listed (Ok xml) h (declared known a h) → AddsAttribute known before names listed taken (Ok (xml, l)) (one_more how known src raw left h)
 took_declaration how known before names listed xml taken src raw left l h v a is view dec same (own, read, d) =
-    (record { own = own; attributes = h.attributes }, one_is how known src raw left l h v a is view ∙ rw dec (ap (kept_left l) read), record { declares = d; attributes = same })
+    (record { own = own; attributes = h.attributes }, one_is how known src raw left l h v a is view ∙ rw dec (ap (kept_left l) read), record { is_namespace_decl = d; attributes = same })
 
-pub refused_declaration : (how : Values) (known : List Declaration) (src : List ℕ) (raw : RawAttribute) (left l : ℕ) (h : Held) (v : RunText) (a : Attribute) (e : Failure)
-    → value_at how.main how.entities how.opener src raw.value_start raw.value_end left ≡ Ok (v, l) → attribute_with raw v ≡ a → declares a.name ≡ true
-    → Fails e (declared known a h) → Refuses (of_failure e) (one_more how known src raw left h)
+pub refused_declaration : (how : Values) (known : List NamespaceDecl) (src : List ℕ) (raw : RawAttribute) (left l : ℕ) (h : TagSoFar) (v : ReadText) (a : Attribute) (e : Failure)
+    → value_at how.main how.entities how.opener src raw.value_start raw.value_end left ≡ Ok (v, l) → attribute_with raw v ≡ a → is_namespace_decl a.name ≡ true
+    → Fails e (declared known a h) → IsRefusal (of_failure e) (one_more how known src raw left h)
 refused_declaration how known src raw left l h v a e is view dec fails =
     let k : kept_left l (declared known a h) ≡ one_more how known src raw left h = sym (one_is how known src raw left l h v a is view ∙ rw dec refl) in
-    subst (λ (r : Result (Held × ℕ) Refusal). Refuses (of_failure e) r) k (stops_left l e (declared known a h) fails)
+    subst (λ (r : Result (TagSoFar × ℕ) Refusal). IsRefusal (of_failure e) r) k (stops_left l e (declared known a h) fails)
 
 -- its value is refused
-pub refused_value : (how : Values) (known : List Declaration) (src : List ℕ) (raw : RawAttribute) (left : ℕ) (h : Held) (e : Refused)
-    → Refuses e (value_at how.main how.entities how.opener src raw.value_start raw.value_end left) → Refuses e (one_more how known src raw left h)
+pub refused_value : (how : Values) (known : List NamespaceDecl) (src : List ℕ) (raw : RawAttribute) (left : ℕ) (h : TagSoFar) (e : ParseError)
+    → IsRefusal e (value_at how.main how.entities how.opener src raw.value_start raw.value_end left) → IsRefusal e (one_more how known src raw left h)
 refused_value how known src raw left h e fails = refuses_by e (value_at how.main how.entities how.opener src raw.value_start raw.value_end left) (one_more how known src raw left h) (λ r is. rw is refl) fails
 
-pub took_attribute : (how : Values) (known : List Declaration) (before : List ℕ) (names : List Declaration) (listed : List ℕ) (xml : Bool) (taken kept : List Taken) (src : List ℕ) (raw : CodeRaw) (left l : ℕ) (h : Held)
-    (v : RunText) (t : Taken) → kept ≡ taken ++ t ∷ [] → value_at how.main how.entities how.opener src raw.value_start raw.value_end left ≡ Ok (v, l) → t.start ≡ raw.start → t.name_end ≡ raw.name_end → t.value_start ≡ raw.value_start
-    → t.end ≡ raw.value_end + 1 → t.name ≡ raw.name → storage_bytes t.value ≡ v.value → is_borrowed t.value ≡ v.plain → declares (name_view raw.name) ≡ false
-    → Holding known before names listed xml taken h
-    → (x : Held) × (one_more how known src (attribute_view raw) left h ≡ Ok (x, l)) × Holding known before names listed xml kept x
+pub took_attribute : (how : Values) (known : List NamespaceDecl) (before : List ℕ) (names : List NamespaceDecl) (listed : List ℕ) (xml : Bool) (taken kept : List UnresolvedAttribute) (src : List ℕ) (raw : CodeRaw) (left l : ℕ) (h : TagSoFar)
+    (v : ReadText) (t : UnresolvedAttribute) → kept ≡ taken ++ t ∷ [] → value_at how.main how.entities how.opener src raw.value_start raw.value_end left ≡ Ok (v, l) → t.start ≡ raw.start → t.name_end ≡ raw.name_end → t.value_start ≡ raw.value_start
+    → t.end ≡ raw.value_end + 1 → t.name ≡ raw.name → storage_bytes t.value ≡ v.value → is_borrowed t.value ≡ v.plain → is_namespace_decl (name_view raw.name) ≡ false
+    → HoldsTag known before names listed xml taken h
+    → (x : TagSoFar) × (one_more how known src (attribute_view raw) left h ≡ Ok (x, l)) × HoldsTag known before names listed xml kept x
 took_attribute how known before names listed xml taken kept src raw left l h v t push is a b d e n f g dec hold =
     let view = view_is raw v t a b d e n f g in
-    let other : declares (taken_view t).name ≡ false = ap (λ n. declares (name_view n)) n ∙ dec in (
-      record { own = h.own; attributes = h.attributes ++ taken_view t ∷ [] },
-      one_is how known src (attribute_view raw) left l h v (taken_view t) is view ∙ rw other refl,
-      record { declares = hold.declares; attributes = ap (map taken_view) push ∙ map-append taken_view taken (t ∷ []) ∙ ap (λ xs. xs ++ taken_view t ∷ []) hold.attributes },
+    let other : is_namespace_decl (unresolved_view t).name ≡ false = ap (λ n. is_namespace_decl (name_view n)) n ∙ dec in (
+      record { own = h.own; attributes = h.attributes ++ unresolved_view t ∷ [] },
+      one_is how known src (attribute_view raw) left l h v (unresolved_view t) is view ∙ rw other refl,
+      record { is_namespace_decl = hold.is_namespace_decl; attributes = ap (map unresolved_view) push ∙ map-append unresolved_view taken (t ∷ []) ∙ ap (λ xs. xs ++ unresolved_view t ∷ []) hold.attributes },
     )
 
 -- ---- what a turn gives
@@ -111,20 +111,20 @@ attribute_gives src i raw j h =
     same_ok : (p q : RawAttribute × ℕ) → ◌≡◌ {A = Result (RawAttribute × ℕ) Fault} (Ok p) (Ok q) → p ≡ q
     same_ok p q h = cc h
 
-same_turn : (p q : Turn × ℕ) → ◌≡◌ {A = Result (Turn × ℕ) Fault} (Ok p) (Ok q) → p ≡ q
+same_turn : (p q : TagItem × ℕ) → ◌≡◌ {A = Result (TagItem × ℕ) Fault} (Ok p) (Ok q) → p ≡ q
 same_turn p q h = cc h
 
-closed_no : (raw : RawAttribute) (j k : ℕ) → ◌≡◌ {A = Result (Turn × ℕ) Fault} (Ok (closed, k)) (Ok (more raw, j)) → ⊥
-closed_no raw j k h = let e : ◌≡◌ {A = Turn} closed (more raw) = ap (λ p. p.0) (same_turn (closed, k) (more raw, j) h) in cc e
+closed_no : (raw : RawAttribute) (j k : ℕ) → ◌≡◌ {A = Result (TagItem × ℕ) Fault} (Ok (closed, k)) (Ok (more raw, j)) → ⊥
+closed_no raw j k h = let e : ◌≡◌ {A = TagItem} closed (more raw) = ap (λ p. p.0) (same_turn (closed, k) (more raw, j) h) in cc e
 
-opened_no : (raw : RawAttribute) (j k : ℕ) → ◌≡◌ {A = Result (Turn × ℕ) Fault} (Ok (opened, k)) (Ok (more raw, j)) → ⊥
-opened_no raw j k h = let e : ◌≡◌ {A = Turn} opened (more raw) = ap (λ p. p.0) (same_turn (opened, k) (more raw, j) h) in cc e
+opened_no : (raw : RawAttribute) (j k : ℕ) → ◌≡◌ {A = Result (TagItem × ℕ) Fault} (Ok (opened, k)) (Ok (more raw, j)) → ⊥
+opened_no raw j k h = let e : ◌≡◌ {A = TagItem} opened (more raw) = ap (λ p. p.0) (same_turn (opened, k) (more raw, j) h) in cc e
 
-fault_no : (f : Fault) (x : Turn × ℕ) → ◌≡◌ {A = Result (Turn × ℕ) Fault} (Err f) (Ok x) → ⊥
+fault_no : (f : Fault) (x : TagItem × ℕ) → ◌≡◌ {A = Result (TagItem × ℕ) Fault} (Err f) (Ok x) → ⊥
 fault_no f x h = cc h
 
-pub turn_gives : (src : List ℕ) (i : ℕ) (raw : RawAttribute) (j : ℕ) → turn_at src i ≡ Ok (more raw, j) → TurnGives src raw j
-unfolding turn_at
+pub turn_gives : (src : List ℕ) (i : ℕ) (raw : RawAttribute) (j : ℕ) → tag_item_at src i ≡ Ok (more raw, j) → TurnGives src raw j
+unfolding tag_item_at
 turn_gives src i raw j h =
     let k = spaces_end src i in
     chosen (nat_le (length src) k) _ _ _ h (λ t h. absurd (fault_no _ _ h)) (λ inside h.
@@ -132,74 +132,74 @@ turn_gives src i raw j h =
     chosen (eqb (get_or src k 0) 62) _ _ _ h (λ t h. absurd (opened_no raw j (k + 1) h)) (λ f h.
     chosen (eqb k i) _ _ _ h (λ t h. absurd (fault_no _ _ h)) (λ f h.
     bind_ok (attribute_at src k) _ _ h (λ x is h.
-    let e : ◌≡◌ {A = Turn × ℕ} (more x.0, x.1) (more raw, j) = same_turn (more x.0, x.1) (more raw, j) h in
+    let e : ◌≡◌ {A = TagItem × ℕ} (more x.0, x.1) (more raw, j) = same_turn (more x.0, x.1) (more raw, j) h in
     let r : x.0 ≡ raw = same_more x.0 raw (ap (λ p. p.0) e) in
     let n : x.1 ≡ j = ap (λ p. p.1) e in
     let g = attribute_gives src k x.0 x.1 is in
     record { within = subst (λ (m : ℕ). m < length src) (sym g.0 ∙ ap (λ r. r.start) r) (leb-false _ _ inside); end = sym n ∙ g.1 ∙ ap (λ r. r.value_end + 1) r })))))
   where
-    same_more : (a b : RawAttribute) → ◌≡◌ {A = Turn} (more a) (more b) → a ≡ b
+    same_more : (a b : RawAttribute) → ◌≡◌ {A = TagItem} (more a) (more b) → a ≡ b
     same_more a b h = cc h
 
 -- ---- the loop
 
-pub record Going (how : Values) (known : List Declaration) (before : List ℕ) (cut : Fault) (src : List ℕ) (whole : Result (TagRest × ℕ) Refusal) (n i left : ℕ) (names : List Declaration) (listed : List ℕ) (xml : Bool) (taken : List Taken) : Type 0 where
-  pub h : Held
-  pub holding : Holding known before names listed xml taken h
+pub record Going (how : Values) (known : List NamespaceDecl) (before : List ℕ) (cut : Fault) (src : List ℕ) (whole : Result (TagRest × ℕ) Refusal) (n i left : ℕ) (names : List NamespaceDecl) (listed : List ℕ) (xml : Bool) (taken : List UnresolvedAttribute) : Type 0 where
+  pub h : TagSoFar
+  pub holding : HoldsTag known before names listed xml taken h
   pub same : attributes_at n how cut known src i left h ≡ whole
 
 -- the text ends
-pub going_cut : (how : Values) (known : List Declaration) (before : List ℕ) (cut : Fault) (src : List ℕ) (whole : Result (TagRest × ℕ) Refusal) (n i left : ℕ) (names : List Declaration) (listed : List ℕ) (xml : Bool) (taken : List Taken)
+pub going_cut : (how : Values) (known : List NamespaceDecl) (before : List ℕ) (cut : Fault) (src : List ℕ) (whole : Result (TagRest × ℕ) Refusal) (n i left : ℕ) (names : List NamespaceDecl) (listed : List ℕ) (xml : Bool) (taken : List UnresolvedAttribute)
     → Going how known before cut src whole n i left names listed xml taken → length src ≤ i → whole ≡ Err (here cut)
 unfolding attributes_at
 going_cut how known before cut src whole zero i left names listed xml taken g past = sym g.same
 going_cut how known before cut src whole (suc n) i left names listed xml taken g past = let k = le-leb _ _ past in sym g.same ∙ rw k refl
 
 -- the turns are used up
-pub going_none : (how : Values) (known : List Declaration) (before : List ℕ) (cut : Fault) (src : List ℕ) (whole : Result (TagRest × ℕ) Refusal) (n i left : ℕ) (names : List Declaration) (listed : List ℕ) (xml : Bool) (taken : List Taken)
+pub going_none : (how : Values) (known : List NamespaceDecl) (before : List ℕ) (cut : Fault) (src : List ℕ) (whole : Result (TagRest × ℕ) Refusal) (n i left : ℕ) (names : List NamespaceDecl) (listed : List ℕ) (xml : Bool) (taken : List UnresolvedAttribute)
     → Going how known before cut src whole n i left names listed xml taken → n ≡ 0 → whole ≡ Err (here cut)
 unfolding attributes_at
 going_none how known before cut src whole n i left names listed xml taken g none = sym g.same ∙ rw none refl
 
-turned : (how : Values) (cut : Fault) (known : List Declaration) (src : List ℕ) (n m i left : ℕ) (h : Held) → n ≡ suc m → i < length src
-    → attributes_at n how cut known src i left h ≡ (lifted (turn_at src i) >>= λ x. after_turn (λ j l held. attributes_at m how cut known src j l held) how known src left h x.0 x.1)
+turned : (how : Values) (cut : Fault) (known : List NamespaceDecl) (src : List ℕ) (n m i left : ℕ) (h : TagSoFar) → n ≡ suc m → i < length src
+    → attributes_at n how cut known src i left h ≡ (lifted (tag_item_at src i) >>= λ x. after_tag_item (λ j l held. attributes_at m how cut known src j l held) how known src left h x.0 x.1)
 unfolding attributes_at
 turned how cut known src n m i left h one inside = let k = lt-leb _ _ inside in rw (one, k) refl
 
-pub going_fails : (how : Values) (known : List Declaration) (before : List ℕ) (cut : Fault) (src : List ℕ) (whole : Result (TagRest × ℕ) Refusal) (n m i left : ℕ) (names : List Declaration) (listed : List ℕ) (xml : Bool) (taken : List Taken) (f : Fault)
-    → Going how known before cut src whole n i left names listed xml taken → n ≡ suc m → i < length src → turn_at src i ≡ Err f → whole ≡ Err (here f)
+pub going_fails : (how : Values) (known : List NamespaceDecl) (before : List ℕ) (cut : Fault) (src : List ℕ) (whole : Result (TagRest × ℕ) Refusal) (n m i left : ℕ) (names : List NamespaceDecl) (listed : List ℕ) (xml : Bool) (taken : List UnresolvedAttribute) (f : Fault)
+    → Going how known before cut src whole n i left names listed xml taken → n ≡ suc m → i < length src → tag_item_at src i ≡ Err f → whole ≡ Err (here f)
 going_fails how known before cut src whole n m i left names listed xml taken f g one inside is = sym g.same ∙ turned how cut known src n m i left g.h one inside ∙ rw is refl
 
-pub going_ends : (how : Values) (known : List Declaration) (before : List ℕ) (cut : Fault) (src : List ℕ) (whole : Result (TagRest × ℕ) Refusal) (n m i j left : ℕ) (names : List Declaration) (listed : List ℕ) (xml empty : Bool) (taken : List Taken) (t : Turn)
-    → Going how known before cut src whole n i left names listed xml taken → n ≡ suc m → i < length src → turn_at src i ≡ Ok (t, j) → (t ≡ (if empty then closed else opened))
-    → (h : Held) × (whole ≡ Ok (record { held = h; empty = empty; left = left }, j)) × Holding known before names listed xml taken h
+pub going_ends : (how : Values) (known : List NamespaceDecl) (before : List ℕ) (cut : Fault) (src : List ℕ) (whole : Result (TagRest × ℕ) Refusal) (n m i j left : ℕ) (names : List NamespaceDecl) (listed : List ℕ) (xml empty : Bool) (taken : List UnresolvedAttribute) (t : TagItem)
+    → Going how known before cut src whole n i left names listed xml taken → n ≡ suc m → i < length src → tag_item_at src i ≡ Ok (t, j) → (t ≡ (if empty then closed else opened))
+    → (h : TagSoFar) × (whole ≡ Ok (record { held = h; empty = empty; left = left }, j)) × HoldsTag known before names listed xml taken h
 going_ends how known before cut src whole n m i j left names listed xml true taken t g one inside is kind = (g.h, sym g.same ∙ turned how cut known src n m i left g.h one inside ∙ rw (is, kind) refl, g.holding)
 going_ends how known before cut src whole n m i j left names listed xml false taken t g one inside is kind = (g.h, sym g.same ∙ turned how cut known src n m i left g.h one inside ∙ rw (is, kind) refl, g.holding)
 
 -- an attribute or a declaration, and then the others
-kept_on : {X : Type 0} (left : ℕ) (r : Result Held Fault) (next : ℕ → Held → Result X Refusal) → (lifted r >>= λ held. next left held) ≡ (kept_left left r >>= λ x. next x.1 x.0)
+kept_on : {X : Type 0} (left : ℕ) (r : Result TagSoFar Fault) (next : ℕ → TagSoFar → Result X Refusal) → (lifted r >>= λ held. next left held) ≡ (kept_left left r >>= λ x. next x.1 x.0)
 kept_on left (Ok x) next = refl
 kept_on left (Err f) next = refl
 
-regrouped : {X : Type 0} (known : List Declaration) (raw : RawAttribute) (h : Held) (r : Result (RunText × ℕ) Refusal) (one : Result (Held × ℕ) Refusal) (next : ℕ → Held → Result X Refusal)
+regrouped : {X : Type 0} (known : List NamespaceDecl) (raw : RawAttribute) (h : TagSoFar) (r : Result (ReadText × ℕ) Refusal) (one : Result (TagSoFar × ℕ) Refusal) (next : ℕ → TagSoFar → Result X Refusal)
     → one ≡ (r >>= λ v. kept_left v.1 (tags.taken known (attribute_with raw v.0) h))
     → (r >>= λ v. lifted (tags.taken known (attribute_with raw v.0) h) >>= λ held. next v.1 held) ≡ (one >>= λ x. next x.1 x.0)
 regrouped known raw h (Err e) one next is = rw is refl
 regrouped known raw h (Ok v) one next is = kept_on v.1 (tags.taken known (attribute_with raw v.0) h) next ∙ rw is refl
 
-more_turn : (how : Values) (cut : Fault) (known : List Declaration) (src : List ℕ) (n m i j left : ℕ) (h : Held) (raw : RawAttribute) → n ≡ suc m → i < length src → turn_at src i ≡ Ok (more raw, j)
+more_turn : (how : Values) (cut : Fault) (known : List NamespaceDecl) (src : List ℕ) (n m i j left : ℕ) (h : TagSoFar) (raw : RawAttribute) → n ≡ suc m → i < length src → tag_item_at src i ≡ Ok (more raw, j)
     → attributes_at n how cut known src i left h ≡ (one_more how known src raw left h >>= λ x. attributes_at m how cut known src j x.1 x.0)
 more_turn how cut known src n m i j left h raw one inside is = turned how cut known src n m i left h one inside ∙ rw is refl
     ∙ regrouped known raw h (value_at how.main how.entities how.opener src raw.value_start raw.value_end left) (one_more how known src raw left h) (λ l held. attributes_at m how cut known src j l held) refl
 
-pub going_on : (how : Values) (known : List Declaration) (before : List ℕ) (cut : Fault) (src : List ℕ) (whole : Result (TagRest × ℕ) Refusal) (n m i j left l : ℕ) (names next : List Declaration) (listed after : List ℕ) (xml now : Bool) (taken kept : List Taken) (raw : RawAttribute)
-    → (g : Going how known before cut src whole n i left names listed xml taken) → n ≡ suc m → i < length src → turn_at src i ≡ Ok (more raw, j)
-    → Took known before next after kept (Ok (now, l)) (one_more how known src raw left g.h) → Going how known before cut src whole m j l next after now kept
+pub going_on : (how : Values) (known : List NamespaceDecl) (before : List ℕ) (cut : Fault) (src : List ℕ) (whole : Result (TagRest × ℕ) Refusal) (n m i j left l : ℕ) (names next : List NamespaceDecl) (listed after : List ℕ) (xml now : Bool) (taken kept : List UnresolvedAttribute) (raw : RawAttribute)
+    → (g : Going how known before cut src whole n i left names listed xml taken) → n ≡ suc m → i < length src → tag_item_at src i ≡ Ok (more raw, j)
+    → AddsAttribute known before next after kept (Ok (now, l)) (one_more how known src raw left g.h) → Going how known before cut src whole m j l next after now kept
 going_on how known before cut src whole n m i j left l names next listed after xml now taken kept raw g one inside is (h, read, hold) =
     record { h = h; holding = hold; same = sym (more_turn how cut known src n m i j left g.h raw one inside is ∙ rw read refl) ∙ g.same }
 
-pub going_stops : (how : Values) (known : List Declaration) (before : List ℕ) (cut : Fault) (src : List ℕ) (whole : Result (TagRest × ℕ) Refusal) (n m i j left : ℕ) (names : List Declaration) (listed : List ℕ) (xml : Bool) (taken : List Taken) (raw : RawAttribute) (e : Refused)
-    → (g : Going how known before cut src whole n i left names listed xml taken) → n ≡ suc m → i < length src → turn_at src i ≡ Ok (more raw, j)
-    → Refuses e (one_more how known src raw left g.h) → Refuses e whole
+pub going_stops : (how : Values) (known : List NamespaceDecl) (before : List ℕ) (cut : Fault) (src : List ℕ) (whole : Result (TagRest × ℕ) Refusal) (n m i j left : ℕ) (names : List NamespaceDecl) (listed : List ℕ) (xml : Bool) (taken : List UnresolvedAttribute) (raw : RawAttribute) (e : ParseError)
+    → (g : Going how known before cut src whole n i left names listed xml taken) → n ≡ suc m → i < length src → tag_item_at src i ≡ Ok (more raw, j)
+    → IsRefusal e (one_more how known src raw left g.h) → IsRefusal e whole
 going_stops how known before cut src whole n m i j left names listed xml taken raw e g one inside is h =
     refuses_by e (one_more how known src raw left g.h) whole (λ r err. sym g.same ∙ more_turn how cut known src n m i j left g.h raw one inside is ∙ rw err refl) h

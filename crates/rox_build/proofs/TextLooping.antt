@@ -7,12 +7,12 @@ use Rattle.rox_reading.specs.Refusals as refusal
 use Rattle.rox_reading.specs.Refusals.{Refusal}
 use Rattle.rox_reading.specs.State as reading
 use Rattle.rox_reading.specs.State.{State}
-use Rattle.rox_reading.specs.Machine.{How, step, drive_text, text_ends}
+use Rattle.rox_reading.specs.Machine.{Context, step, drive_text, text_ends}
 use Rattle.rox_scan.specs.declared.cursor.Cursor.{Cursor}
-use Rattle.rox_build.specs.SoFar.{depth_of}
-use Rattle.rox_values.specs.Refusing.{Refuses}
-use Rattle.rox_build.specs.Shown.{Sees, Rests, Rested, Went}
-use Rattle.rox_values.specs.declared.refused.Refused.{Refused}
+use Rattle.rox_build.specs.OpenRows.{depth_of}
+use Rattle.rox_values.specs.Refusals.{IsRefusal}
+use Rattle.rox_build.specs.BuilderState.{IsInState, HoldsState, ParsesToHeld, ParsesTo}
+use Rattle.rox_values.specs.declared.parse_error.ParseError.{ParseError}
 use Rattle.rox_build.specs.declared.builder.Builder.{Builder}
 use Rattle.rox_values.proofs.PartLemmas.{refuses_by}
 use Rattle.rox_build.proofs.Showing.{depth_is}
@@ -21,52 +21,52 @@ pub same_depth : (o : Open) → depth_of o ≡ reading.depth_of o
 same_depth root = refl
 same_depth (inside start tag before up) = ap (λ (n : ℕ). n + 1) (same_depth up)
 
-pub record Texting (how : How) (end : ℕ) (src : List ℕ) (whole : Result State Refusal) (n : ℕ) (c : Cursor) (b : Builder) : Type 0 where
+pub record Texting (how : Context) (end : ℕ) (src : List ℕ) (whole : Result State Refusal) (n : ℕ) (c : Cursor) (b : Builder) : Type 0 where
   pub s : State
-  pub sees : Sees how.limit end s c b
+  pub sees : IsInState how.limit end s c b
   pub same : drive_text how n src s ≡ whole
 
-texted : (how : How) (n m : ℕ) (src : List ℕ) (s : State) → n ≡ suc m → s.at < length src → drive_text how n src s ≡ (step how src s >>= λ t. drive_text how m src t)
+texted : (how : Context) (n m : ℕ) (src : List ℕ) (s : State) → n ≡ suc m → s.at < length src → drive_text how n src s ≡ (step how src s >>= λ t. drive_text how m src t)
 unfolding drive_text
 texted how n m src s one more = let k = lt-ltb _ _ more in rw (one, k) refl
 
-pub text_on : (how : How) (end : ℕ) (src : List ℕ) (whole : Result State Refusal) (n m : ℕ) (c d : Cursor) (b u : Builder) (x : Unit {0}) (g : Texting how end src whole n c b) → n ≡ suc m
-    → g.s.at < length src → Went how.limit end (Ok x) d u (step how src g.s) → Texting how end src whole m d u
+pub text_on : (how : Context) (end : ℕ) (src : List ℕ) (whole : Result State Refusal) (n m : ℕ) (c d : Cursor) (b u : Builder) (x : Unit {0}) (g : Texting how end src whole n c b) → n ≡ suc m
+    → g.s.at < length src → ParsesTo how.limit end (Ok x) d u (step how src g.s) → Texting how end src whole m d u
 text_on how end src whole n m c d b u x g one more (t, read, sees) =
     record { s = t; sees = sees; same = sym (texted how n m src g.s one more ∙ rw read refl) ∙ g.same }
 
-pub text_fails : (how : How) (end : ℕ) (src : List ℕ) (whole : Result State Refusal) (n m : ℕ) (c : Cursor) (b : Builder) (e : Refused) (g : Texting how end src whole n c b) → n ≡ suc m
-    → g.s.at < length src → Refuses e (step how src g.s) → Refuses e whole
+pub text_fails : (how : Context) (end : ℕ) (src : List ℕ) (whole : Result State Refusal) (n m : ℕ) (c : Cursor) (b : Builder) (e : ParseError) (g : Texting how end src whole n c b) → n ≡ suc m
+    → g.s.at < length src → IsRefusal e (step how src g.s) → IsRefusal e whole
 text_fails how end src whole n m c b e g one more h = refuses_by e (step how src g.s) whole (λ r err. sym g.same ∙ texted how n m src g.s one more ∙ rw err refl) h
 
 -- the end of the text
-ended : (how : How) (n : ℕ) (src : List ℕ) (s : State) → length src ≤ s.at → drive_text how n src s ≡ text_ends how s
+ended : (how : Context) (n : ℕ) (src : List ℕ) (s : State) → length src ≤ s.at → drive_text how n src s ≡ text_ends how s
 unfolding drive_text
 ended how zero src s past = refl
 ended how (suc n) src s past = let k = le-ltb _ _ past in rw k refl
 
-spent : (how : How) (n : ℕ) (src : List ℕ) (s : State) → n ≡ 0 → drive_text how n src s ≡ text_ends how s
+spent : (how : Context) (n : ℕ) (src : List ℕ) (s : State) → n ≡ 0 → drive_text how n src s ≡ text_ends how s
 unfolding drive_text
 spent how n src s none = rw none refl
 
-moved : (limit end : ℕ) (b : Builder) (r : Result (Unit {0}) Refused) (one other : Result State Refusal) → one ≡ other → Rested limit end r b one → Rested limit end r b other
+moved : (limit end : ℕ) (b : Builder) (r : Result (Unit {0}) ParseError) (one other : Result State Refusal) → one ≡ other → ParsesToHeld limit end r b one → ParsesToHeld limit end r b other
 moved limit end b r one other e h = rw (← e) h
 
-pub text_at_end : (how : How) (end : ℕ) (src : List ℕ) (whole : Result State Refusal) (n : ℕ) (c : Cursor) (b : Builder) (r : Result (Unit {0}) Refused) (g : Texting how end src whole n c b)
-    → length src ≤ g.s.at → Rested how.limit end r b (text_ends how g.s) → Rested how.limit end r b whole
+pub text_at_end : (how : Context) (end : ℕ) (src : List ℕ) (whole : Result State Refusal) (n : ℕ) (c : Cursor) (b : Builder) (r : Result (Unit {0}) ParseError) (g : Texting how end src whole n c b)
+    → length src ≤ g.s.at → ParsesToHeld how.limit end r b (text_ends how g.s) → ParsesToHeld how.limit end r b whole
 text_at_end how end src whole n c b r g past h = moved how.limit end b r (text_ends how g.s) whole (sym (ended how n src g.s past) ∙ g.same) h
 
-pub text_spent : (how : How) (end : ℕ) (src : List ℕ) (whole : Result State Refusal) (n : ℕ) (c : Cursor) (b : Builder) (r : Result (Unit {0}) Refused) (g : Texting how end src whole n c b)
-    → n ≡ 0 → Rested how.limit end r b (text_ends how g.s) → Rested how.limit end r b whole
+pub text_spent : (how : Context) (end : ℕ) (src : List ℕ) (whole : Result State Refusal) (n : ℕ) (c : Cursor) (b : Builder) (r : Result (Unit {0}) ParseError) (g : Texting how end src whole n c b)
+    → n ≡ 0 → ParsesToHeld how.limit end r b (text_ends how g.s) → ParsesToHeld how.limit end r b whole
 text_spent how end src whole n c b r g none h = moved how.limit end b r (text_ends how g.s) whole (sym (spent how n src g.s none) ∙ g.same) h
 
 -- ---- whether it ends where it began
 
-pub opened_depth : (limit end : ℕ) (s : State) (b : Builder) → Rests limit end s b → length b.opened.items ≡ reading.depth_of s.stack
+pub opened_depth : (limit end : ℕ) (s : State) (b : Builder) → HoldsState limit end s b → length b.opened.items ≡ reading.depth_of s.stack
 opened_depth limit end s b h = depth_is b.tables s.stack b.opened.items h.shows.open_rows ∙ same_depth s.stack
 
-pub text_closed : (how : How) (s : State) → reading.depth_of s.stack ≡ how.base → text_ends how s ≡ Ok s
+pub text_closed : (how : Context) (s : State) → reading.depth_of s.stack ≡ how.base → text_ends how s ≡ Ok s
 text_closed how s h = let k = eq-eqb _ _ h in rw k refl
 
-pub text_open : (how : How) (s : State) → (reading.depth_of s.stack ≡ how.base → ⊥) → text_ends how s ≡ Err (refusal.here fault.UnexpectedEndOfStream)
+pub text_open : (how : Context) (s : State) → (reading.depth_of s.stack ≡ how.base → ⊥) → text_ends how s ≡ Err (refusal.here fault.UnexpectedEndOfStream)
 text_open how s h = let k = ne_eqb _ _ h in rw k refl

@@ -7,11 +7,11 @@ use Rattle.rox_reading.specs.Lexical.{◌>>=◌}
 use Rattle.rox_reading.specs.Refusals as refusal
 use Rattle.rox_reading.specs.Refusals.{Refusal, elsewhere}
 use Rattle.rox_reading.specs.State.{State, depth_of}
-use Rattle.rox_reading.specs.Machine.{How, left_behind, values_of, opener, drive_text}
-use Rattle.rox_values.specs.Named.{opened_at}
-use Rattle.rox_values.specs.Refusing.{Refuses, seen_from}
-use Rattle.rox_values.specs.declared.refused.Refused.{Refused}
-use Rattle.rox_values.specs.declared.refused.Refused.TheVariants as refused
+use Rattle.rox_reading.specs.Machine.{Context, left_behind, values_of, opener, drive_text}
+use Rattle.rox_values.specs.DeclaredEntities.{opened_at}
+use Rattle.rox_values.specs.Refusals.{IsRefusal, seen_from}
+use Rattle.rox_values.specs.declared.parse_error.ParseError.{ParseError}
+use Rattle.rox_values.specs.declared.parse_error.ParseError.TheVariants as refused
 
 -- it may not be opened
 pub opens_err : (limit : ℕ) (es : List Entity) (deep : ℕ) (main : Bool) (t : Replacement) (after : ℕ) (s : State) (f : Fault) → opened_at deep main after s.left ≡ Err f → opener limit es deep main t after s ≡ Err (refusal.here f)
@@ -20,7 +20,7 @@ opens_err limit es zero main t after s f h = cc h
 opens_err limit es (suc d) main t after s f h = rw h refl
 
 -- how it is read, and from where
-abbrev pub inner_how : ℕ → List Entity → ℕ → State → How
+abbrev pub inner_how : ℕ → List Entity → ℕ → State → Context
 inner_how limit es d s = record { limit = limit; values = values_of es d false; base = depth_of s.stack; opener = opener limit es d false }
 
 abbrev pub inner_state : Replacement → State → ℕ → State
@@ -43,15 +43,15 @@ pub opens_reads : (limit : ℕ) (es : List Entity) (deep d : ℕ) (main : Bool) 
     → drive_text (inner_how limit es d s) (length t.source) t.source (inner_state t s r) ≡ Ok u → opener limit es deep main t after s ≡ Ok (outer_state main after s u)
 opens_reads limit es deep d main t after s u r below h read = opens_ok limit es deep d main t after s r below h ∙ rw read refl
 
-refused_there : (source : Bor (List ℕ)) (main : Bool) (after : ℕ) (s : State) (e : Refused) (read : Result State Refusal) → Refuses e read → Refuses (seen_from source e) (behind_it main after s source.now read)
+refused_there : (source : Bor (List ℕ)) (main : Bool) (after : ℕ) (s : State) (e : ParseError) (read : Result State Refusal) → IsRefusal e read → IsRefusal (seen_from source e) (behind_it main after s source.now read)
 refused_there source main after s refused.Memory read h = tt
 refused_there source main after s (refused.Fault f) read h = rw h refl
-refused_there source main after s (refused.Elsewhere o f) read h = rw h refl
+refused_there source main after s (refused.FaultIn o f) read h = rw h refl
 refused_there source main after s (refused.Resolver at message) read (request, h) = (request, rw h refl)
 
-pub opens_refuses : (limit : ℕ) (es : List Entity) (deep d : ℕ) (main : Bool) (source : Bor (List ℕ)) (start after : ℕ) (s : State) (r : ℕ) (e : Refused) → d ≡ deep - 1 → opened_at deep main after s.left ≡ Ok r
-    → Refuses e (drive_text (inner_how limit es d s) (length source.now) source.now (inner_state (record { source = source.now; start = start }) s r))
-    → Refuses (seen_from source e) (opener limit es deep main (record { source = source.now; start = start }) after s)
+pub opens_refuses : (limit : ℕ) (es : List Entity) (deep d : ℕ) (main : Bool) (source : Bor (List ℕ)) (start after : ℕ) (s : State) (r : ℕ) (e : ParseError) → d ≡ deep - 1 → opened_at deep main after s.left ≡ Ok r
+    → IsRefusal e (drive_text (inner_how limit es d s) (length source.now) source.now (inner_state (record { source = source.now; start = start }) s r))
+    → IsRefusal (seen_from source e) (opener limit es deep main (record { source = source.now; start = start }) after s)
 opens_refuses limit es deep d main source start after s r e below h read =
     rw (opens_ok limit es deep d main (record { source = source.now; start = start }) after s r below h)
     (refused_there source main after s e (drive_text (inner_how limit es d s) (length source.now) source.now (inner_state (record { source = source.now; start = start }) s r)) read)

@@ -9,12 +9,12 @@ use Rattle.rox_reading.specs.Lexical.{◌>>=◌}
 use Rattle.rox_reading.specs.Markup.{comment_at, instruction_at}
 use Rattle.rox_grammar.specs.State.{Open, root, inside, is_root, nodes_so_far}
 use Rattle.rox_reading.specs.State.{State}
-use Rattle.rox_reading.specs.Machine.{How, main_text, counted, comment_step, instruction_step, tag_step, step, drive}
-use Rattle.rox_reading.specs.Whole.{misc, body}
+use Rattle.rox_reading.specs.Machine.{Context, main_text, counted, comment_step, instruction_step, tag_step, step, drive}
+use Rattle.rox_reading.specs.WholeText.{misc, body}
 use Rattle.rox_grammar.specs.declared.failure.Failure.{Failure}
 use Rattle.rox_grammar.specs.declared.failure.Failure.TheVariants as failure
-use Rattle.rox_values.specs.Refusing.{Stops, Refuses, of_failure}
-use Rattle.rox_values.specs.declared.refused.Refused.{Refused}
+use Rattle.rox_values.specs.Refusals.{IsFailure, IsRefusal, of_failure}
+use Rattle.rox_values.specs.declared.parse_error.ParseError.{ParseError}
 use Rattle.rox_values.proofs.PartLemmas.{refuses_by}
 use Rattle.rox_grammar.specs.Entities.{Entity}
 use Rattle.rox_build.proofs.Lifting.{lifted_ok, lifted_err}
@@ -25,27 +25,27 @@ pub no_body : (limit : ℕ) (es : List Entity) (src : List ℕ) (s : State) → 
 unfolding body
 no_body limit es src s other = let k = ne_eqb _ _ other in rw k refl
 
-begun : (limit : ℕ) (es : List Entity) (how : How) (src : List ℕ) (s : State) → how ≡ main_text limit es → slice_index src s.at ≡ 60
+begun : (limit : ℕ) (es : List Entity) (how : Context) (src : List ℕ) (s : State) → how ≡ main_text limit es → slice_index src s.at ≡ 60
     → body limit es src s ≡ (tag_step how src s >>= λ t. drive how (length src) src t >>= λ u. lifted (misc limit (length src) src u) >>= λ v. Ok (v, true))
 unfolding body
 begun limit es how src s main here =
-    subst (λ (w : How). body limit es src s ≡ (tag_step w src s >>= λ t. drive w (length src) src t >>= λ u. lifted (misc limit (length src) src u) >>= λ v. Ok (v, true))) (sym main)
+    subst (λ (w : Context). body limit es src s ≡ (tag_step w src s >>= λ t. drive w (length src) src t >>= λ u. lifted (misc limit (length src) src u) >>= λ v. Ok (v, true))) (sym main)
     (let k = eq-eqb _ _ here in rw k refl)
 
-pub tag_fails_body : (limit : ℕ) (es : List Entity) (how : How) (src : List ℕ) (s : State) (e : Refused) → how ≡ main_text limit es → slice_index src s.at ≡ 60 → Refuses e (tag_step how src s) → Refuses e (body limit es src s)
+pub tag_fails_body : (limit : ℕ) (es : List Entity) (how : Context) (src : List ℕ) (s : State) (e : ParseError) → how ≡ main_text limit es → slice_index src s.at ≡ 60 → IsRefusal e (tag_step how src s) → IsRefusal e (body limit es src s)
 tag_fails_body limit es how src s e main here h = refuses_by e (tag_step how src s) (body limit es src s) (λ r err. begun limit es how src s main here ∙ rw err refl) h
 
-pub content_fails_body : (limit : ℕ) (es : List Entity) (how : How) (src : List ℕ) (s t : State) (e : Refused) → how ≡ main_text limit es → slice_index src s.at ≡ 60 → tag_step how src s ≡ Ok t
-    → Refuses e (drive how (length src) src t) → Refuses e (body limit es src s)
+pub content_fails_body : (limit : ℕ) (es : List Entity) (how : Context) (src : List ℕ) (s t : State) (e : ParseError) → how ≡ main_text limit es → slice_index src s.at ≡ 60 → tag_step how src s ≡ Ok t
+    → IsRefusal e (drive how (length src) src t) → IsRefusal e (body limit es src s)
 content_fails_body limit es how src s t e main here tag h =
     refuses_by e (drive how (length src) src t) (body limit es src s) (λ r err. begun limit es how src s main here ∙ rw (tag, err) refl) h
 
-pub misc_fails_body : (limit : ℕ) (es : List Entity) (how : How) (src : List ℕ) (s t u : State) (e : Failure) → how ≡ main_text limit es → slice_index src s.at ≡ 60 → tag_step how src s ≡ Ok t
-    → drive how (length src) src t ≡ Ok u → Stops e (lifted (misc limit (length src) src u)) → Refuses (of_failure e) (body limit es src s)
+pub misc_fails_body : (limit : ℕ) (es : List Entity) (how : Context) (src : List ℕ) (s t u : State) (e : Failure) → how ≡ main_text limit es → slice_index src s.at ≡ 60 → tag_step how src s ≡ Ok t
+    → drive how (length src) src t ≡ Ok u → IsFailure e (lifted (misc limit (length src) src u)) → IsRefusal (of_failure e) (body limit es src s)
 misc_fails_body limit es how src s t u failure.Memory main here tag inner h = tt
 misc_fails_body limit es how src s t u (failure.Fault f) main here tag inner h = let k = lifted_err (misc limit (length src) src u) f h in begun limit es how src s main here ∙ rw (tag, inner, k) refl
 
-pub a_body : (limit : ℕ) (es : List Entity) (how : How) (src : List ℕ) (s t u v : State) → how ≡ main_text limit es → slice_index src s.at ≡ 60 → tag_step how src s ≡ Ok t → drive how (length src) src t ≡ Ok u
+pub a_body : (limit : ℕ) (es : List Entity) (how : Context) (src : List ℕ) (s t u v : State) → how ≡ main_text limit es → slice_index src s.at ≡ 60 → tag_step how src s ≡ Ok t → drive how (length src) src t ≡ Ok u
     → lifted (misc limit (length src) src u) ≡ Ok v → body limit es src s ≡ Ok (v, true)
 a_body limit es how src s t u v main here tag inner after = let k = lifted_ok (misc limit (length src) src u) v after in begun limit es how src s main here ∙ rw (tag, inner, k) refl
 
@@ -88,7 +88,7 @@ misc_open limit (suc n) src s t h =
     (λ one. bound (instruction_step limit src a) (λ u. misc limit n src u) t one (λ u is e. misc_open limit n src u t e ∙ instruction_open limit src a u is))
     (λ none. cc))
 
-drive_open : (how : How) (n : ℕ) (src : List ℕ) (s t : State) → drive how n src s ≡ Ok t → is_root t.stack ≡ true
+drive_open : (how : Context) (n : ℕ) (src : List ℕ) (s t : State) → drive how n src s ≡ Ok t → is_root t.stack ≡ true
 unfolding drive
 drive_open how zero src s t h = chosen (is_root s.stack) _ _ _ h (λ is e. cc) (λ is e. cc)
 drive_open how (suc n) src s t h =

@@ -6,14 +6,14 @@ use Rattle.rox_reading.specs.Doctype.{Asks, Definition, Dtd, defined, replies_of
 use Rattle.rox_reading.specs.Machine.{at_place}
 use Rattle.rox_reading.specs.Answering.{Answered, Stops, Continues}
 use Rattle.rox_resolver.specs.Requests.{Reply, AreAllowed}
-use Rattle.rox_scan.specs.Doctypes.{replacement_view}
+use Rattle.rox_scan.specs.DoctypeViews.{replacement_view}
 use Rattle.rox_scan.specs.declared.cursor.Cursor.{Cursor}
-use Rattle.rox_values.specs.Named.{AreDeclared}
-use Rattle.rox_build.specs.Shown.{Sees}
+use Rattle.rox_values.specs.DeclaredEntities.{AreDeclared}
+use Rattle.rox_build.specs.BuilderState.{IsInState}
 use Rattle.rox_build.specs.declared.builder.Builder.{Builder}
 use Rattle.rox_values.specs.declared.entities.Entities.{Entities}
-use Rattle.rox_values.specs.declared.refused.Refused.{Refused}
-use Rattle.rox_values.specs.declared.refused.Refused.TheVariants as code
+use Rattle.rox_values.specs.declared.parse_error.ParseError.{ParseError}
+use Rattle.rox_values.specs.declared.parse_error.ParseError.TheVariants as code
 
 -- each answer may be given to its request, and is a text
 pub record AreGiven (allows : Request → Reply → Type 0) (asked : List Asked) : Type 0 where
@@ -21,20 +21,20 @@ pub record AreGiven (allows : Request → Reply → Type 0) (asked : List Asked)
   pub texts : AreTextReplies (replies_of asked)
 
 -- why a run stopped that asked for this, whatever replies follow. Nothing is said where memory ran out.
-abbrev pub StopsBy : {A : Type 0} → (Request → Reply → Type 0) → (run : List Reply → Asks A) → List Asked → Refused → Type 0
+abbrev pub StopsBy : {A : Type 0} → (Request → Reply → Type 0) → (run : List Reply → Asks A) → List Asked → ParseError → Type 0
 StopsBy allows run asked code.Memory = Unit {0}
 StopsBy allows run asked (code.Fault f) = Stops run asked (here f)
-StopsBy allows run asked (code.Elsewhere source f) = Stops run asked (there source.now f)
+StopsBy allows run asked (code.FaultIn source f) = Stops run asked (there source.now f)
 StopsBy allows run asked (code.Resolver at message) =
     (request : Request) × allows request (Err (string_bytes message)) × Stops run asked (refused request at (string_bytes message))
 
 -- How it ended: what holds of what was asked and of the value, or why it stopped.
-abbrev pub Ends : {A T : Type 0} → (Request → Reply → Type 0) → (run : List Reply → Asks A) → List Asked → (T → Type 0) → Result T Refused → Type 0
+abbrev pub Ends : {A T : Type 0} → (Request → Reply → Type 0) → (run : List Reply → Asks A) → List Asked → (T → Type 0) → Result T ParseError → Type 0
 Ends allows run asked ok (Ok x) = ok x
 Ends allows run asked ok (Err e) = StopsBy allows run asked e
 
-abbrev pub Comes : {A T : Type 0} → (Request → Reply → Type 0) → (run : List Reply → Asks A) → (List Asked → T → Type 0) → Result T Refused → Type 0
-Comes allows run ok result = (asked : List Asked) × AreGiven allows asked × Ends allows run asked (ok asked) result
+abbrev pub AskOutcome : {A T : Type 0} → (Request → Reply → Type 0) → (run : List Reply → Asks A) → (List Asked → T → Type 0) → Result T ParseError → Type 0
+AskOutcome allows run ok result = (asked : List Asked) × AreGiven allows asked × Ends allows run asked (ok asked) result
 
 -- an entity's definition was this text, or none, whatever replies follow
 abbrev pub IsDefined : Definition → ℕ → List Asked → Option Cursor → Type 0
@@ -51,20 +51,20 @@ pub record IsEntityRead (run : List Reply → Asks Dtd) (d : Dtd) (c : Cursor) (
 pub record IsRead (limit end : ℕ) (run : List Reply → Asks Dtd) (c : Cursor) (b : Builder) (es : Entities) (asked : List Asked) : Type 0 where
   pub dtd : Dtd
   pub answered : Answered run asked dtd
-  pub sees : Sees limit end dtd.state c b
+  pub sees : IsInState limit end dtd.state c b
   pub declared : AreDeclared dtd.entities es
 
 -- the same of a declaration that begins at i, of whose subset n more items may be read
-pub record IsGoing (limit end i n : ℕ) (src : List ℕ) (allows : Request → Reply → Type 0) (run : List Reply → Asks Dtd) (c : Cursor) (b : Builder) (es : Entities) : Type 0 where
+pub record IsSubsetSoFar (limit end i n : ℕ) (src : List ℕ) (allows : Request → Reply → Type 0) (run : List Reply → Asks Dtd) (c : Cursor) (b : Builder) (es : Entities) : Type 0 where
   pub asked : List Asked
   pub given : AreGiven allows asked
   pub dtd : Dtd
   pub continues : Continues run asked limit i n src dtd
-  pub sees : Sees limit end dtd.state c b
+  pub sees : IsInState limit end dtd.state c b
   pub declared : AreDeclared dtd.entities es
 
 -- how an item ended: the declaration is read, or goes on with one item less
-abbrev pub Turns : (limit end i n : ℕ) → List ℕ → (Request → Reply → Type 0) → (run : List Reply → Asks Dtd) → Cursor → Builder → Entities → Result Bool Refused → Type 0
-Turns limit end i n src allows run c b es (Ok true) = (asked : List Asked) × AreGiven allows asked × IsRead limit end run c b es asked
-Turns limit end i n src allows run c b es (Ok false) = IsGoing limit end i n src allows run c b es
-Turns limit end i n src allows run c b es (Err e) = (asked : List Asked) × AreGiven allows asked × StopsBy allows run asked e
+abbrev pub ItemOutcome : (limit end i n : ℕ) → List ℕ → (Request → Reply → Type 0) → (run : List Reply → Asks Dtd) → Cursor → Builder → Entities → Result Bool ParseError → Type 0
+ItemOutcome limit end i n src allows run c b es (Ok true) = (asked : List Asked) × AreGiven allows asked × IsRead limit end run c b es asked
+ItemOutcome limit end i n src allows run c b es (Ok false) = IsSubsetSoFar limit end i n src allows run c b es
+ItemOutcome limit end i n src allows run c b es (Err e) = (asked : List Asked) × AreGiven allows asked × StopsBy allows run asked e

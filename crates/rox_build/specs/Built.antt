@@ -9,12 +9,12 @@ use Rattle.rox_reading.specs.Refusals as refusal
 use Rattle.rox_reading.specs.Refusals.{Refusal}
 use Rattle.rox_reading.specs.Doctype.{Reply, replies_of, AreTextReplies}
 use Rattle.rox_reading.specs.Answering.{Stops}
-use Rattle.rox_reading.specs.Whole.{has_doctype, reading}
+use Rattle.rox_reading.specs.WholeText.{has_doctype, reading}
 use Rattle.rox_resolver.specs.Requests.{AreAllowed}
-use Rattle.rox_tables.specs.Lines.{Holds}
+use Rattle.rox_tables.specs.Rows.{HoldsTree}
 use Rattle.rox_tables.specs.declared.tables.Tables.{Tables}
-use Rattle.rox_values.specs.declared.refused.Refused.{Refused}
-use Rattle.rox_values.specs.declared.refused.Refused.TheVariants as refused
+use Rattle.rox_values.specs.declared.parse_error.ParseError.{ParseError}
+use Rattle.rox_values.specs.declared.parse_error.ParseError.TheVariants as refused
 
 -- These were asked, and the answers are allowed and are text. With them the text is read to these items, whatever replies follow;
 -- the tables are those of their tree, and it is told whether there is a document type declaration.
@@ -25,7 +25,7 @@ pub record Built (limit : ℕ) (allow : Bool) (allows : Request → Reply → Ty
   pub tops : Forest Item
   pub read : (more : List Reply) → reading limit allow (replies_of asked ++ more) text ≡ (asked, Ok tops)
   pub seen : dtd ≡ has_doctype limit text
-  pub holds : Holds tables (document_tree (length text) (merge tops))
+  pub holds : HoldsTree tables (document_tree (length text) (merge tops))
 
 -- the same of a text that is refused so, whatever replies follow
 pub record BuiltNone (limit : ℕ) (allow : Bool) (allows : Request → Reply → Type 0) (text : List ℕ) (e : Refusal) : Type 0 where
@@ -35,9 +35,9 @@ pub record BuiltNone (limit : ℕ) (allow : Bool) (allows : Request → Reply �
   pub stops : Stops (λ replies. reading limit allow replies text) asked e
 
 -- Nothing is said where memory ran out. The resolver's own refusal is one that it may reply to that request.
-abbrev pub BuiltRefusal : (limit : ℕ) (allow : Bool) (allows : Request → Reply → Type 0) (text : List ℕ) → Refused → Type 0
+abbrev pub BuiltRefusal : (limit : ℕ) (allow : Bool) (allows : Request → Reply → Type 0) (text : List ℕ) → ParseError → Type 0
 BuiltRefusal limit allow allows text refused.Memory = Unit {0}
 BuiltRefusal limit allow allows text (refused.Fault f) = BuiltNone limit allow allows text (refusal.here f)
-BuiltRefusal limit allow allows text (refused.Elsewhere source f) = BuiltNone limit allow allows text (refusal.there source.now f)
+BuiltRefusal limit allow allows text (refused.FaultIn source f) = BuiltNone limit allow allows text (refusal.there source.now f)
 BuiltRefusal limit allow allows text (refused.Resolver at message) =
     (request : Request) × allows request (Err (string_bytes message)) × BuiltNone limit allow allows text (refusal.refused request at (string_bytes message))

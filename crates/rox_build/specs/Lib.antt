@@ -1,9 +1,9 @@
-pub mod SoFar
-pub mod Parted
-pub mod Waiting
-pub mod Shown
-pub mod Tags
-pub mod Tagged
+pub mod OpenRows
+pub mod DataParts
+pub mod PendingText
+pub mod BuilderState
+pub mod TagState
+pub mod ElementRow
 pub mod Asking
 pub mod Built
-pub mod Wholes
+pub mod WholeTexts

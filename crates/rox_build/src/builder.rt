@@ -4,24 +4,24 @@ ghost use Rattle.std.specs.Prelude.{◌<◌, ◌≤◌, ◌+◌, ◌^◌, ◌≡
 ghost use Rattle.rox_tables.specs.declared.tables.NodeData.{NodeData};
 ghost use Rattle.rox_tables.specs.declared.tables.NodeKind.TheVariants as kind;
 ghost use Rattle.rox_grammar.specs.declared.failure.Failure.TheVariants as failure;
-ghost use Rattle.rox_build.specs.Waiting.{waiting};
+ghost use Rattle.rox_build.specs.PendingText.{waiting};
 
 use crate::pending::Pending;
 use crate::tag::{Buffers, StartTag};
 use rox_grammar::failure::Failure;
 use rox_grammar::fault::Fault;
 use rox_grammar::name::QName;
-use rox_scan::marks::Finders;
+use rox_scan::search::Finders;
 use rox_tables::attributes::AttributeTable;
 use rox_tables::growth::{push, reserve, trim};
-use rox_tables::names::NamespaceTable;
+use rox_tables::namespace_table::NamespaceTable;
 use rox_tables::node_rows;
-use rox_tables::present::Present;
-use rox_tables::recent::Recent;
+use rox_tables::bindings::PrefixBindings;
+use rox_tables::recent_texts::Recent;
 use rox_tables::storage::StringStorage;
 use rox_tables::tables::{ElementTables, NodeData, NodeKind, Scope, Stretch, Tables};
-use rox_values::how::MOST_WITHIN;
-use rox_values::value::Piece;
+use rox_values::context::MOST_WITHIN;
+use rox_values::value::TextValue;
 use std::alloc::Global;
 use std::collections::BTreeSet;
 use std::mem;
@@ -125,20 +125,20 @@ impl<'input> Builder<'input> {
     ghost use Rattle.rox_grammar.specs.State.{Open, root, inside, is_root, scope_of, nodes_so_far};
     ghost use Rattle.rox_reading.specs.State.{State};
     ghost use Rattle.rox_reading.specs.Machine.{with_item, opened_by, counted};
-    ghost use Rattle.rox_grammar.specs.Failing.{Fails};
+    ghost use Rattle.rox_grammar.specs.Failures.{Fails};
     ghost use Rattle.rox_values.specs.Values.{piece_view};
-    ghost use Rattle.rox_build.specs.Shown.{Shows, Settled, IsNode, IsOpening, AreSound, Adds, Fine, names_in, opened_in, last_row};
-    ghost use Rattle.rox_tables.specs.Lines.{Holds, rows_of};
+    ghost use Rattle.rox_build.specs.BuilderState.{Represents, RepresentsFlushed, IsNode, IsOpening, AreSound, Adds, IsConsistent, names_in, opened_in, last_row};
+    ghost use Rattle.rox_tables.specs.Rows.{HoldsTree, attribute_rows};
     ghost use Rattle.rox_tables.specs.Scopes.{Once};
-    ghost use Rattle.rox_build.specs.Tagged.{scope_in_tables};
+    ghost use Rattle.rox_build.specs.ElementRow.{scope_in_tables};
     ghost use Rattle.rox_grammar.specs.Tree.{document_tree};
     ghost use Rattle.rox_build.specs.declared.builder.OpenElement.{OpenElement};
 
     /// The tables with the root node of a text of so many bytes.
     pub fn new(alloc: Global, bytes: usize, nodes_limit: u32) -> Result<Builder<'input>, Failure>
-        ensures empty { IfOk result (λ b. (names_in b.tables ≡ []) × (length (rows_of b.tables.attributes) ≡ 0)) }
-        ensures fine { IfOk result (λ b. Fine b.tables b.opened.items) }
-        ensures shows { IfOk result (λ b. Shows bytes root Nil b) }
+        ensures empty { IfOk result (λ b. (names_in b.tables ≡ []) × (length (attribute_rows b.tables.attributes) ≡ 0)) }
+        ensures fine { IfOk result (λ b. IsConsistent b.tables b.opened.items) }
+        ensures shows { IfOk result (λ b. Represents bytes root Nil b) }
         ensures limit { IfOk result (λ b. b.nodes_limit ≡ nodes_limit) }
         ensures left { IfOk result (λ b. b.left ≡ 255) }
         ensures err { IfErr result (λ e. e ≡ failure.Memory) }
@@ -154,7 +154,7 @@ impl<'input> Builder<'input> {
                 namespaces: NamespaceTable::new(alloc),
                 listed: Vec::new(alloc),
                 scopes,
-                present: Present::new(alloc),
+                present: PrefixBindings::new(alloc),
             },
             opened: Vec::new(alloc),
             pending: Pending::None,
@@ -175,7 +175,7 @@ impl<'input> Builder<'input> {
     /// No element is open.
     #[inline]
     pub fn is_at_root(&self) -> bool
-        ensures { (end : ℕ) (stack : Open) (done : Forest Item) → Shows end stack done self.now → result ≡ is_root stack }
+        ensures { (end : ℕ) (stack : Open) (done : Forest Item) → Represents end stack done self.now → result ≡ is_root stack }
     {
         self.opened.is_empty()
     }
@@ -194,10 +194,10 @@ impl<'input> Builder<'input> {
     /// The scope of the innermost open element, or of the root node.
     #[inline]
     pub fn scope(&self) -> u32
-        ensures value { Fine self.now.tables self.now.opened.items → (end : ℕ) (stack : Open) (done : Forest Item) → Shows end stack done self.now
+        ensures value { IsConsistent self.now.tables self.now.opened.items → (end : ℕ) (stack : Open) (done : Forest Item) → Represents end stack done self.now
             → scope_in_tables self.now.tables result ≡ scope_of stack }
-        ensures within { Fine self.now.tables self.now.opened.items → result < length self.now.tables.scopes.items }
-        ensures once { Fine self.now.tables self.now.opened.items → Once (scope_in_tables self.now.tables result) }
+        ensures within { IsConsistent self.now.tables self.now.opened.items → result < length self.now.tables.scopes.items }
+        ensures once { IsConsistent self.now.tables self.now.opened.items → Once (scope_in_tables self.now.tables result) }
     {
         match self.opened.last() {
             Some(element) => element.scope,
@@ -256,7 +256,7 @@ impl<'input> Builder<'input> {
     /// Writes the text that may go on.
     #[inline(always)]
     fn flush(&mut self, alloc: Global) -> Result<(), Failure>
-        ensures ok { OnOk result ((end : ℕ) (stack : Open) (done : Forest Item) → Shows end stack done self.old → Settled end stack done self.new) }
+        ensures ok { OnOk result ((end : ℕ) (stack : Open) (done : Forest Item) → Represents end stack done self.old → RepresentsFlushed end stack done self.new) }
         ensures empty { OnOk result (waiting self.new.pending ≡ 0) }
         ensures count { OnOk result (vec_len self.new.nodes ≡ vec_len self.old.nodes + waiting self.old.pending) }
         ensures tables { self.new.tables ≡ self.old.tables }
@@ -290,7 +290,7 @@ impl<'input> Builder<'input> {
         end: usize,
         kind: NodeKind<'input>,
     ) -> Result<(), Failure>
-        ensures value { (total at : ℕ) (s : State) (item : Item) → Shows total s.stack s.done self.old → IsNode self.old.tables (scope_of s.stack) start end kind.entry item
+        ensures value { (total at : ℕ) (s : State) (item : Item) → Represents total s.stack s.done self.old → IsNode self.old.tables (scope_of s.stack) start end kind.entry item
             → Adds total result self.new (with_item self.old.nodes_limit s at item) }
         ensures tables { self.new.tables ≡ self.old.tables }
         ensures opened { self.new.opened ≡ self.old.opened }
@@ -312,7 +312,7 @@ impl<'input> Builder<'input> {
         end: usize,
         text: &'input str,
     ) -> Result<(), Failure>
-        ensures value { (total at : ℕ) (s : State) → Shows total s.stack s.done self.old
+        ensures value { (total at : ℕ) (s : State) → Represents total s.stack s.done self.old
             → Adds total result self.new (with_item self.old.nodes_limit s at (Text start end text.now true)) }
         ensures tables { self.new.tables ≡ self.old.tables }
         ensures opened { self.new.opened ≡ self.old.opened }
@@ -337,7 +337,7 @@ impl<'input> Builder<'input> {
 
     /// A piece of text that stands in the buffer for values. The only fault is that there are too many nodes.
     pub fn buffered_piece(&mut self, start: usize, end: usize) -> Result<(), Failure>
-        ensures value { (total at : ℕ) (s : State) → Shows total s.stack s.done self.old
+        ensures value { (total at : ℕ) (s : State) → Represents total s.stack s.done self.old
             → Adds total result self.new (with_item self.old.nodes_limit s at (Text start end (string_bytes self.old.buffers.scratch) false)) }
         ensures tables { self.new.tables ≡ self.old.tables }
         ensures opened { self.new.opened ≡ self.old.opened }
@@ -364,8 +364,8 @@ impl<'input> Builder<'input> {
     /// A piece of text: a slice of the source where it is one, else what the buffer for values holds. The only fault is that
     /// there are too many nodes.
     #[inline(always)]
-    pub fn piece(&mut self, start: usize, end: usize, piece: Piece<'input>) -> Result<(), Failure>
-        ensures value { (total at : ℕ) (s : State) → Shows total s.stack s.done self.old
+    pub fn piece(&mut self, start: usize, end: usize, piece: TextValue<'input>) -> Result<(), Failure>
+        ensures value { (total at : ℕ) (s : State) → Represents total s.stack s.done self.old
             → let text = piece_view piece.entry (string_bytes self.old.buffers.scratch) in
             Adds total result self.new (with_item self.old.nodes_limit s at (Text start end text.value text.plain)) }
         ensures tables { self.new.tables ≡ self.old.tables }
@@ -374,8 +374,8 @@ impl<'input> Builder<'input> {
         ensures left { self.new.left ≡ self.old.left }
     {
         match piece {
-            Piece::Plain(text) => self.slice_piece(start, end, text),
-            Piece::Changed => self.buffered_piece(start, end),
+            TextValue::Plain(text) => self.slice_piece(start, end, text),
+            TextValue::Changed => self.buffered_piece(start, end),
         }
     }
 
@@ -387,7 +387,7 @@ impl<'input> Builder<'input> {
         start: usize,
         tag: &StartTag<'input>,
     ) -> Result<(), Failure>
-        ensures value { (total at left : ℕ) (s : State) (t : Tag) → Shows total s.stack s.done self.old → s.at ≡ start → IsOpening self.old.tables (scope_of s.stack) start tag.now t
+        ensures value { (total at left : ℕ) (s : State) (t : Tag) → Represents total s.stack s.done self.old → s.at ≡ start → IsOpening self.old.tables (scope_of s.stack) start tag.now t
             → Adds total result self.new (opened_by self.old.nodes_limit s t false left at) }
         ensures tables { self.new.tables ≡ self.old.tables }
         ensures opened { OnOk result ((x : OpenElement) × (self.new.opened.items ≡ self.old.opened.items ++ x ∷ []) × (x.scope ≡ tag.now.element.scope)) }
@@ -414,8 +414,8 @@ impl<'input> Builder<'input> {
     /// The innermost open element ends. The only error is want of memory.
     #[inline(always)]
     pub fn close(&mut self, alloc: Global, end: usize) -> Result<(), Failure>
-        ensures ok { OnOk result ((total start : ℕ) (t : Tag) (before : Forest Item) (up : Open) (done : Forest Item) → Shows total (inside start t before up) done self.old
-            → Shows total up (join before (Cons (Element start end t) (merge done) Nil)) self.new) }
+        ensures ok { OnOk result ((total start : ℕ) (t : Tag) (before : Forest Item) (up : Open) (done : Forest Item) → Represents total (inside start t before up) done self.old
+            → Represents total up (join before (Cons (Element start end t) (merge done) Nil)) self.new) }
         ensures tables { self.new.tables ≡ self.old.tables }
         ensures opened { OnOk result (self.new.opened.items ≡ take (length self.old.opened.items - 1) self.old.opened.items) }
         ensures limit { self.new.nodes_limit ≡ self.old.nodes_limit }
@@ -431,7 +431,7 @@ impl<'input> Builder<'input> {
 
     /// The tables of a whole text. The only error is want of memory.
     pub fn finish(mut self, alloc: Global) -> Result<Tables<'input>, Failure>
-        ensures ok { IfOk result (λ t. (end : ℕ) (done : Forest Item) → Shows end root done self.entry → AreSound self.entry.tables → Holds t (document_tree end (merge done))) }
+        ensures ok { IfOk result (λ t. (end : ℕ) (done : Forest Item) → Represents end root done self.entry → AreSound self.entry.tables → HoldsTree t (document_tree end (merge done))) }
         ensures err { IfErr result (λ e. e ≡ failure.Memory) }
     {
         self.flush(alloc)?;

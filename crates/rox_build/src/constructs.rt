@@ -2,20 +2,20 @@
 //! (XML 1.0 sections 2.5, 2.6, 2.7, 3.1).
 
 ghost use Rattle.std.specs.Prelude.{◌≡◌, ◌≢◌, ◌<◌, ◌+◌, ℕ, List, OnOk, length, slice_index, true};
-ghost use Rattle.rox_grammar.specs.Marks.{stands};
-ghost use Rattle.rox_grammar.specs.Words.{word_text};
+ghost use Rattle.rox_grammar.specs.Search.{stands};
+ghost use Rattle.rox_grammar.specs.FixedTexts.{word_text};
 ghost use Rattle.rox_grammar.specs.declared.fault.Word.TheVariants as word;
 ghost use Rattle.rox_reading.specs.State.{State};
 ghost use Rattle.rox_reading.specs.Machine as machine;
-ghost use Rattle.rox_grammar.specs.Failing.{name_view};
+ghost use Rattle.rox_grammar.specs.Failures.{name_view};
 ghost use Rattle.rox_grammar.specs.Forest.{Forest};
 ghost use Rattle.rox_grammar.specs.Written.{Item, local_span};
 ghost use Rattle.rox_grammar.specs.State.{Open};
 ghost use Rattle.rox_grammar.specs.Entities.{Entity};
 ghost use Rattle.rox_reading.specs.Refusals.{lifted};
-ghost use Rattle.rox_values.specs.Named.{AreDeclared};
-ghost use Rattle.rox_values.specs.Hows.{how_of};
-ghost use Rattle.rox_build.specs.Shown.{Fine, Sees, Stepped, Went, Shows};
+ghost use Rattle.rox_values.specs.DeclaredEntities.{AreDeclared};
+ghost use Rattle.rox_values.specs.Contexts.{context_of};
+ghost use Rattle.rox_build.specs.BuilderState.{IsConsistent, IsInState, ScansTo, ParsesTo, Represents};
 
 use crate::builder::Builder;
 use crate::tag::start_tag;
@@ -23,11 +23,11 @@ use rox_grammar::failure::Failure;
 use rox_grammar::fault::{Fault, Span, Word};
 use rox_grammar::name::QName;
 use rox_scan::cursor::Cursor;
-use rox_tables::alike::same_text;
+use rox_tables::compare::same_text;
 use rox_tables::storage::StringStorage;
 use rox_tables::tables::{NodeKind, PI};
-use rox_values::how::How;
-use rox_values::refused::Refused;
+use rox_values::context::Context;
+use rox_values::parse_error::ParseError;
 use rox_values::value::cdata_text;
 use std::alloc::Global;
 
@@ -38,10 +38,10 @@ pub fn comment<'input>(
     builder: &mut Builder<'input>,
 ) -> Result<(), Failure>
     requires here { stands (word_text word.CommentStart) cursor.old.text.now cursor.old.pos ≡ true }
-    requires fine { Fine builder.old.tables builder.old.opened.items }
-    ensures value { (limit end : ℕ) (s : State) → Sees limit end s cursor.old builder.old
-        → Stepped limit end result cursor.new builder.new (lifted (machine.comment_step limit cursor.old.text.now s)) }
-    ensures fine { OnOk result (Fine builder.new.tables builder.new.opened.items) }
+    requires fine { IsConsistent builder.old.tables builder.old.opened.items }
+    ensures value { (limit end : ℕ) (s : State) → IsInState limit end s cursor.old builder.old
+        → ScansTo limit end result cursor.new builder.new (lifted (machine.comment_step limit cursor.old.text.now s)) }
+    ensures fine { OnOk result (IsConsistent builder.new.tables builder.new.opened.items) }
     ensures source { cursor.new.text ≡ cursor.old.text }
 {
     let start = cursor.pos;
@@ -61,10 +61,10 @@ pub fn instruction<'input>(
     builder: &mut Builder<'input>,
 ) -> Result<(), Failure>
     requires here { stands (word_text word.PIStart) cursor.old.text.now cursor.old.pos ≡ true }
-    requires fine { Fine builder.old.tables builder.old.opened.items }
-    ensures value { (limit end : ℕ) (s : State) → Sees limit end s cursor.old builder.old
-        → Stepped limit end result cursor.new builder.new (lifted (machine.instruction_step limit cursor.old.text.now s)) }
-    ensures fine { OnOk result (Fine builder.new.tables builder.new.opened.items) }
+    requires fine { IsConsistent builder.old.tables builder.old.opened.items }
+    ensures value { (limit end : ℕ) (s : State) → IsInState limit end s cursor.old builder.old
+        → ScansTo limit end result cursor.new builder.new (lifted (machine.instruction_step limit cursor.old.text.now s)) }
+    ensures fine { OnOk result (IsConsistent builder.new.tables builder.new.opened.items) }
     ensures source { cursor.new.text ≡ cursor.old.text }
 {
     let start = cursor.pos;
@@ -83,10 +83,10 @@ pub fn instruction<'input>(
 /// A CDATA section, from `<![CDATA[`.
 fn cdata<'input>(cursor: &mut Cursor<'input>, builder: &mut Builder<'input>) -> Result<(), Failure>
     requires here { stands (word_text word.CDataStart) cursor.old.text.now cursor.old.pos ≡ true }
-    requires fine { Fine builder.old.tables builder.old.opened.items }
-    ensures value { (limit end : ℕ) (s : State) → Sees limit end s cursor.old builder.old
-        → Stepped limit end result cursor.new builder.new (lifted (machine.cdata_step limit cursor.old.text.now s)) }
-    ensures fine { OnOk result (Fine builder.new.tables builder.new.opened.items) }
+    requires fine { IsConsistent builder.old.tables builder.old.opened.items }
+    ensures value { (limit end : ℕ) (s : State) → IsInState limit end s cursor.old builder.old
+        → ScansTo limit end result cursor.new builder.new (lifted (machine.cdata_step limit cursor.old.text.now s)) }
+    ensures fine { OnOk result (IsConsistent builder.new.tables builder.new.opened.items) }
     ensures source { cursor.new.text ≡ cursor.old.text }
 {
     let start = cursor.pos;
@@ -105,10 +105,10 @@ fn comment_or_section<'input>(
     requires there { cursor.old.pos + 1 < length cursor.old.text.now }
     requires here { slice_index cursor.old.text.now cursor.old.pos ≡ 60 }
     requires next { slice_index cursor.old.text.now (cursor.old.pos + 1) ≡ 33 }
-    requires fine { Fine builder.old.tables builder.old.opened.items }
-    ensures value { (how : machine.How) (end : ℕ) (s : State) → Sees how.limit end s cursor.old builder.old
-        → Stepped how.limit end result cursor.new builder.new (machine.step how cursor.old.text.now s) }
-    ensures fine { OnOk result (Fine builder.new.tables builder.new.opened.items) }
+    requires fine { IsConsistent builder.old.tables builder.old.opened.items }
+    ensures value { (how : machine.Context) (end : ℕ) (s : State) → IsInState how.limit end s cursor.old builder.old
+        → ScansTo how.limit end result cursor.new builder.new (machine.step how cursor.old.text.now s) }
+    ensures fine { OnOk result (IsConsistent builder.new.tables builder.new.opened.items) }
     ensures source { cursor.new.text ≡ cursor.old.text }
 {
     if cursor.starts(Word::CommentStart) {
@@ -121,8 +121,8 @@ fn comment_or_section<'input>(
 }
 
 /// The fault of a start tag that is cut off by the end of the text.
-fn cut_off(builder: &Builder<'_>, how: How<'_, '_>) -> Fault
-    ensures { (end : ℕ) (stack : Open) (done : Forest Item) → Shows end stack done builder.now → result ≡ machine.cut_off how.entry.main stack }
+fn cut_off(builder: &Builder<'_>, how: Context<'_, '_>) -> Fault
+    ensures { (end : ℕ) (stack : Open) (done : Forest Item) → Represents end stack done builder.now → result ≡ machine.cut_off how.entry.main stack }
 {
     if !how.main {
         Fault::UnexpectedEndOfStream
@@ -138,14 +138,14 @@ pub fn element<'input>(
     alloc: Global,
     cursor: &mut Cursor<'input>,
     builder: &mut Builder<'input>,
-    how: How<'_, 'input>,
-) -> Result<(), Refused<'input>>
+    how: Context<'_, 'input>,
+) -> Result<(), ParseError<'input>>
     requires there { cursor.old.pos < length cursor.old.text.now }
     requires here { slice_index cursor.old.text.now cursor.old.pos ≡ 60 }
-    requires fine { Fine builder.old.tables builder.old.opened.items }
-    ensures value { (limit end : ℕ) (es : List Entity) (s : State) → AreDeclared es how.entry.entities.now → Sees limit end s cursor.old builder.old
-        → Went limit end result cursor.new builder.new (machine.tag_step (how_of limit es how.entry) cursor.old.text.now s) }
-    ensures fine { OnOk result (Fine builder.new.tables builder.new.opened.items) }
+    requires fine { IsConsistent builder.old.tables builder.old.opened.items }
+    ensures value { (limit end : ℕ) (es : List Entity) (s : State) → AreDeclared es how.entry.entities.now → IsInState limit end s cursor.old builder.old
+        → ParsesTo limit end result cursor.new builder.new (machine.tag_step (context_of limit es how.entry) cursor.old.text.now s) }
+    ensures fine { OnOk result (IsConsistent builder.new.tables builder.new.opened.items) }
     ensures source { cursor.new.text ≡ cursor.old.text }
 {
     let start = cursor.pos;
@@ -195,8 +195,8 @@ fn name_span(name: QName<'_>, start: usize, end: usize) -> Span
 
 /// Whether two names are written alike.
 #[inline(always)]
-fn same_name(one: QName<'_>, other: QName<'_>) -> bool
-    ensures { result ≡ machine.same_name (name_view one.entry) (name_view other.entry) }
+fn same_qname(one: QName<'_>, other: QName<'_>) -> bool
+    ensures { result ≡ machine.same_qname (name_view one.entry) (name_view other.entry) }
 {
     same_text(one.prefix, other.prefix) && same_text(one.local, other.local)
 }
@@ -207,13 +207,13 @@ pub fn end_tag<'input>(
     alloc: Global,
     cursor: &mut Cursor<'input>,
     builder: &mut Builder<'input>,
-    how: How<'_, 'input>,
+    how: Context<'_, 'input>,
 ) -> Result<(), Failure>
     requires here { stands (word_text word.EndTagStart) cursor.old.text.now cursor.old.pos ≡ true }
-    requires fine { Fine builder.old.tables builder.old.opened.items }
-    ensures value { (limit end : ℕ) (es : List Entity) (s : State) → Sees limit end s cursor.old builder.old
-        → Stepped limit end result cursor.new builder.new (lifted (machine.end_step (how_of limit es how.entry) cursor.old.text.now s)) }
-    ensures fine { OnOk result (Fine builder.new.tables builder.new.opened.items) }
+    requires fine { IsConsistent builder.old.tables builder.old.opened.items }
+    ensures value { (limit end : ℕ) (es : List Entity) (s : State) → IsInState limit end s cursor.old builder.old
+        → ScansTo limit end result cursor.new builder.new (lifted (machine.end_step (context_of limit es how.entry) cursor.old.text.now s)) }
+    ensures fine { OnOk result (IsConsistent builder.new.tables builder.new.opened.items) }
     ensures source { cursor.new.text ≡ cursor.old.text }
 {
     let start = cursor.pos;
@@ -224,7 +224,7 @@ pub fn end_tag<'input>(
     let Some(open) = builder.opened.last() else {
         return Err(Failure::Fault(Fault::UnexpectedEntityCloseTag(start)));
     };
-    if !same_name(open.name, tag.name) {
+    if !same_qname(open.name, tag.name) {
         let expected = name_span(open.name, open.name_start, open.name_end);
         let found = name_span(tag.name, start + 2, tag.name_end);
         return Err(Failure::Fault(Fault::UnexpectedCloseTag(expected, found, start)));
@@ -240,15 +240,15 @@ pub fn markup<'input>(
     alloc: Global,
     cursor: &mut Cursor<'input>,
     builder: &mut Builder<'input>,
-    how: How<'_, 'input>,
-) -> Result<(), Refused<'input>>
+    how: Context<'_, 'input>,
+) -> Result<(), ParseError<'input>>
     requires there { cursor.old.pos + 1 < length cursor.old.text.now }
     requires here { slice_index cursor.old.text.now cursor.old.pos ≡ 60 }
     requires no_end_tag { slice_index cursor.old.text.now (cursor.old.pos + 1) ≢ 47 }
-    requires fine { Fine builder.old.tables builder.old.opened.items }
-    ensures value { (limit end : ℕ) (es : List Entity) (s : State) → AreDeclared es how.entry.entities.now → Sees limit end s cursor.old builder.old
-        → Went limit end result cursor.new builder.new (machine.step (how_of limit es how.entry) cursor.old.text.now s) }
-    ensures fine { OnOk result (Fine builder.new.tables builder.new.opened.items) }
+    requires fine { IsConsistent builder.old.tables builder.old.opened.items }
+    ensures value { (limit end : ℕ) (es : List Entity) (s : State) → AreDeclared es how.entry.entities.now → IsInState limit end s cursor.old builder.old
+        → ParsesTo limit end result cursor.new builder.new (machine.step (context_of limit es how.entry) cursor.old.text.now s) }
+    ensures fine { OnOk result (IsConsistent builder.new.tables builder.new.opened.items) }
     ensures source { cursor.new.text ≡ cursor.old.text }
 {
     let bytes = cursor.text.as_bytes();

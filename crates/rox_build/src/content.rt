@@ -9,11 +9,11 @@ ghost use Rattle.rox_reading.specs.Machine as machine;
 ghost use Rattle.rox_reading.specs.Machine.{with_item};
 ghost use Rattle.rox_grammar.specs.Entities.{Entity};
 ghost use Rattle.rox_reading.specs.Values as spec;
-ghost use Rattle.rox_scan.specs.Doctypes.{replacement_view};
-ghost use Rattle.rox_values.specs.Named.{AreDeclared};
-ghost use Rattle.rox_values.specs.Hows.{how_of};
-ghost use Rattle.rox_build.specs.Shown.{Fine, Sees, Went, Rests, Rested, GivesPart, Adds, Shows};
-ghost use Rattle.rox_build.specs.Parted.{Parted, IsLine, next_part};
+ghost use Rattle.rox_scan.specs.DoctypeViews.{replacement_view};
+ghost use Rattle.rox_values.specs.DeclaredEntities.{AreDeclared};
+ghost use Rattle.rox_values.specs.Contexts.{context_of};
+ghost use Rattle.rox_build.specs.BuilderState.{IsConsistent, IsInState, ParsesTo, HoldsState, ParsesToHeld, GivesPart, Adds, Represents};
+ghost use Rattle.rox_build.specs.DataParts.{GivesDataPart, IsLine, next_part};
 
 use crate::builder::Builder;
 use crate::constructs::{end_tag, markup};
@@ -21,12 +21,12 @@ use crate::tag::Buffers;
 use rox_grammar::failure::Failure;
 use rox_grammar::fault::Fault;
 use rox_scan::cursor::Cursor;
-use rox_scan::marks::either_from;
-use rox_scan::near::{TextByte, near_end};
+use rox_scan::search::either_from;
+use rox_scan::byte_set::{TextByte, skip_set};
 use rox_scan::runs::{after_byte, is_at};
-use rox_values::how::How;
-use rox_values::refused::Refused;
-use rox_values::value::{is_run_end, line_feeds, raw_run, run_part};
+use rox_values::context::Context;
+use rox_values::parse_error::ParseError;
+use rox_values::value::{ends_character_data, line_feeds, raw_character_data, data_part};
 use std::alloc::Global;
 
 /// Whether a run is a line end, a CR and a LF, and then bytes that stand for themselves.
@@ -55,7 +55,7 @@ fn changed_piece(
     end: usize,
     text: &str,
 ) -> Result<(), Failure>
-    ensures value { (total at : ℕ) (s : State) → Shows total s.stack s.done builder.old
+    ensures value { (total at : ℕ) (s : State) → Represents total s.stack s.done builder.old
         → Adds total result builder.new (with_item builder.old.nodes_limit s at (Text start end text.now false)) }
     ensures tables { builder.new.tables ≡ builder.old.tables }
     ensures opened { builder.new.opened ≡ builder.old.opened }
@@ -70,20 +70,20 @@ fn changed_piece(
 /// Character data, up to the next `<` or the end, which is no slice of the source as far as a quick look tells.
 #[cycle(content)]
 #[inline(never)]
-fn far_run<'input>(
+fn slow_character_data<'input>(
     alloc: Global,
     cursor: &mut Cursor<'input>,
     builder: &mut Builder<'input>,
-    how: How<'_, 'input>,
-) -> Result<(), Refused<'input>>
-    requires fine { Fine builder.old.tables builder.old.opened.items }
-    ensures value { (limit end : ℕ) (es : List Entity) (s : State) → AreDeclared es how.entry.entities.now → Sees limit end s cursor.old builder.old
-        → Went limit end result cursor.new builder.new (machine.run_step (how_of limit es how.entry) cursor.old.text.now s) }
-    ensures fine { OnOk result (Fine builder.new.tables builder.new.opened.items) }
+    how: Context<'_, 'input>,
+) -> Result<(), ParseError<'input>>
+    requires fine { IsConsistent builder.old.tables builder.old.opened.items }
+    ensures value { (limit end : ℕ) (es : List Entity) (s : State) → AreDeclared es how.entry.entities.now → IsInState limit end s cursor.old builder.old
+        → ParsesTo limit end result cursor.new builder.new (machine.character_data_step (context_of limit es how.entry) cursor.old.text.now s) }
+    ensures fine { OnOk result (IsConsistent builder.new.tables builder.new.opened.items) }
     ensures source { cursor.new.text ≡ cursor.old.text }
 {
     let start = cursor.pos;
-    let raw = raw_run(cursor)?;
+    let raw = raw_character_data(cursor)?;
     if raw.plain {
         builder.slice_piece(start, cursor.pos, raw.text)?;
         return Ok(());
@@ -95,7 +95,7 @@ fn far_run<'input>(
         return Ok(());
     }
     cursor.pos = start;
-    run_parts(alloc, cursor, builder, how, start, stop)
+    data_parts(alloc, cursor, builder, how, start, stop)
 }
 
 /// Character data, up to the next `<` or the end.
@@ -105,40 +105,40 @@ fn character_data<'input>(
     alloc: Global,
     cursor: &mut Cursor<'input>,
     builder: &mut Builder<'input>,
-    how: How<'_, 'input>,
-) -> Result<(), Refused<'input>>
-    requires fine { Fine builder.old.tables builder.old.opened.items }
-    ensures value { (limit end : ℕ) (es : List Entity) (s : State) → AreDeclared es how.entry.entities.now → Sees limit end s cursor.old builder.old
-        → Went limit end result cursor.new builder.new (machine.run_step (how_of limit es how.entry) cursor.old.text.now s) }
-    ensures fine { OnOk result (Fine builder.new.tables builder.new.opened.items) }
+    how: Context<'_, 'input>,
+) -> Result<(), ParseError<'input>>
+    requires fine { IsConsistent builder.old.tables builder.old.opened.items }
+    ensures value { (limit end : ℕ) (es : List Entity) (s : State) → AreDeclared es how.entry.entities.now → IsInState limit end s cursor.old builder.old
+        → ParsesTo limit end result cursor.new builder.new (machine.character_data_step (context_of limit es how.entry) cursor.old.text.now s) }
+    ensures fine { OnOk result (IsConsistent builder.new.tables builder.new.opened.items) }
     ensures source { cursor.new.text ≡ cursor.old.text }
 {
     let start = cursor.pos;
     let text = cursor.text;
-    let near = near_end::<TextByte>(text, start);
-    if is_run_end(text, near) {
+    let near = skip_set::<TextByte>(text, start);
+    if ends_character_data(text, near) {
         cursor.pos = near;
         builder.slice_piece(start, near, &text[start..near])?;
         return Ok(());
     }
-    far_run(alloc, cursor, builder, how)
+    slow_character_data(alloc, cursor, builder, how)
 }
 
 /// The parts of a run from `start` up to `stop`, from here on, and the replacement texts between them.
 #[cycle(content)]
-fn run_parts<'input>(
+fn data_parts<'input>(
     alloc: Global,
     cursor: &mut Cursor<'input>,
     builder: &mut Builder<'input>,
-    how: How<'_, 'input>,
+    how: Context<'_, 'input>,
     start: usize,
     stop: usize,
-) -> Result<(), Refused<'input>>
+) -> Result<(), ParseError<'input>>
     requires stop { IsCharBoundary cursor.old.text.now stop }
-    requires fine { Fine builder.old.tables builder.old.opened.items }
-    ensures value { (limit end : ℕ) (es : List Entity) (s : State) → AreDeclared es how.entry.entities.now → Sees limit end s cursor.old builder.old
-        → Went limit end result cursor.new builder.new (machine.run_parts (how_of limit es how.entry) (length cursor.old.text.now) cursor.old.text.now start stop s) }
-    ensures fine { OnOk result (Fine builder.new.tables builder.new.opened.items) }
+    requires fine { IsConsistent builder.old.tables builder.old.opened.items }
+    ensures value { (limit end : ℕ) (es : List Entity) (s : State) → AreDeclared es how.entry.entities.now → IsInState limit end s cursor.old builder.old
+        → ParsesTo limit end result cursor.new builder.new (machine.data_parts (context_of limit es how.entry) (length cursor.old.text.now) cursor.old.text.now start stop s) }
+    ensures fine { OnOk result (IsConsistent builder.new.tables builder.new.opened.items) }
     ensures source { cursor.new.text ≡ cursor.old.text }
 {
     for _turn in 0..cursor.text.len() {
@@ -158,20 +158,20 @@ fn run_parts<'input>(
 fn part<'input>(
     cursor: &mut Cursor<'input>,
     buffers: &mut Buffers<'input>,
-    how: How<'_, 'input>,
+    how: Context<'_, 'input>,
     stop: usize,
 ) -> Result<Option<Cursor<'input>>, Failure>
     requires { IsCharBoundary cursor.old.text.now stop }
     ensures value { (es : List Entity) → AreDeclared es how.entry.entities.now
-        → GivesPart how.entry.main (string_bytes buffers.new.scratch) cursor.new result (spec.run_part how.entry.main es (stop - cursor.old.pos) cursor.old.text.now stop cursor.old.pos) }
+        → GivesPart how.entry.main (string_bytes buffers.new.scratch) cursor.new result (spec.data_part how.entry.main es (stop - cursor.old.pos) cursor.old.text.now stop cursor.old.pos) }
     ensures source { cursor.new.text ≡ cursor.old.text }
 {
     buffers.scratch.clear();
     if how.main {
-        return run_part(cursor, stop, how, &mut buffers.scratch);
+        return data_part(cursor, stop, how, &mut buffers.scratch);
     }
     buffers.raw.clear();
-    let next = run_part(cursor, stop, how, &mut buffers.raw)?;
+    let next = data_part(cursor, stop, how, &mut buffers.raw)?;
     line_feeds(buffers.raw.as_str(), &mut buffers.scratch)?;
     Ok(next)
 }
@@ -181,15 +181,15 @@ fn part<'input>(
 fn part_piece<'input>(
     cursor: &mut Cursor<'input>,
     builder: &mut Builder<'input>,
-    how: How<'_, 'input>,
+    how: Context<'_, 'input>,
     start: usize,
     stop: usize,
 ) -> Result<Option<Cursor<'input>>, Failure>
     requires stop { IsCharBoundary cursor.old.text.now stop }
-    requires fine { Fine builder.old.tables builder.old.opened.items }
-    ensures value { (limit end : ℕ) (es : List Entity) (s : State) → AreDeclared es how.entry.entities.now → Sees limit end s cursor.old builder.old
-        → Parted limit end result cursor.new builder.new (next_part (how_of limit es how.entry) cursor.old.text.now start stop s) }
-    ensures fine { OnOk result (Fine builder.new.tables builder.new.opened.items) }
+    requires fine { IsConsistent builder.old.tables builder.old.opened.items }
+    ensures value { (limit end : ℕ) (es : List Entity) (s : State) → AreDeclared es how.entry.entities.now → IsInState limit end s cursor.old builder.old
+        → GivesDataPart limit end result cursor.new builder.new (next_part (context_of limit es how.entry) cursor.old.text.now start stop s) }
+    ensures fine { OnOk result (IsConsistent builder.new.tables builder.new.opened.items) }
     ensures source { cursor.new.text ≡ cursor.old.text }
 {
     let next = part(cursor, &mut builder.buffers, how, stop)?;
@@ -208,13 +208,13 @@ fn open_text<'input>(
     alloc: Global,
     after: usize,
     builder: &mut Builder<'input>,
-    how: How<'_, 'input>,
+    how: Context<'_, 'input>,
     text: Cursor<'input>,
-) -> Result<(), Refused<'input>>
-    requires fine { Fine builder.old.tables builder.old.opened.items }
-    ensures value { (limit end : ℕ) (es : List Entity) (s : State) → AreDeclared es how.entry.entities.now → Rests limit end s builder.old
-        → Rested limit end result builder.new (machine.opener limit es how.entry.deep how.entry.main (replacement_view text.entry) after s) }
-    ensures fine { OnOk result (Fine builder.new.tables builder.new.opened.items) }
+) -> Result<(), ParseError<'input>>
+    requires fine { IsConsistent builder.old.tables builder.old.opened.items }
+    ensures value { (limit end : ℕ) (es : List Entity) (s : State) → AreDeclared es how.entry.entities.now → HoldsState limit end s builder.old
+        → ParsesToHeld limit end result builder.new (machine.opener limit es how.entry.deep how.entry.main (replacement_view text.entry) after s) }
+    ensures fine { OnOk result (IsConsistent builder.new.tables builder.new.opened.items) }
 {
     let before = builder.left;
     let (within, inner) = how.opened(after, before, builder.opened.len())?;
@@ -233,13 +233,13 @@ fn open_text<'input>(
 fn content_text<'input>(
     alloc: Global,
     builder: &mut Builder<'input>,
-    how: How<'_, 'input>,
+    how: Context<'_, 'input>,
     text: Cursor<'input>,
-) -> Result<(), Refused<'input>>
-    requires fine { Fine builder.old.tables builder.old.opened.items }
-    ensures value { (limit end : ℕ) (es : List Entity) (s : State) → AreDeclared es how.entry.entities.now → Rests limit end s builder.old → s.at ≡ text.entry.pos
-        → Rested limit end result builder.new (machine.drive_text (how_of limit es how.entry) (length text.entry.text.now) text.entry.text.now s) }
-    ensures fine { OnOk result (Fine builder.new.tables builder.new.opened.items) }
+) -> Result<(), ParseError<'input>>
+    requires fine { IsConsistent builder.old.tables builder.old.opened.items }
+    ensures value { (limit end : ℕ) (es : List Entity) (s : State) → AreDeclared es how.entry.entities.now → HoldsState limit end s builder.old → s.at ≡ text.entry.pos
+        → ParsesToHeld limit end result builder.new (machine.drive_text (context_of limit es how.entry) (length text.entry.text.now) text.entry.text.now s) }
+    ensures fine { OnOk result (IsConsistent builder.new.tables builder.new.opened.items) }
 {
     let mut cursor = text;
     for _turn in 0..text.text.len() {
@@ -252,13 +252,13 @@ fn content_text<'input>(
 }
 
 /// The end of a replacement text: no element may be open that it opened.
-fn text_end<'input>(builder: &Builder<'input>, how: How<'_, 'input>) -> Result<(), Refused<'input>>
-    ensures { (limit end : ℕ) (es : List Entity) (s : State) → Rests limit end s builder.now → Rested limit end result builder.now (machine.text_ends (how_of limit es how.entry) s) }
+fn text_end<'input>(builder: &Builder<'input>, how: Context<'_, 'input>) -> Result<(), ParseError<'input>>
+    ensures { (limit end : ℕ) (es : List Entity) (s : State) → HoldsState limit end s builder.now → ParsesToHeld limit end result builder.now (machine.text_ends (context_of limit es how.entry) s) }
 {
     if builder.opened.len() == how.base {
         Ok(())
     } else {
-        Err(Refused::Fault(Fault::UnexpectedEndOfStream))
+        Err(ParseError::Fault(Fault::UnexpectedEndOfStream))
     }
 }
 
@@ -270,13 +270,13 @@ fn step<'input>(
     alloc: Global,
     cursor: &mut Cursor<'input>,
     builder: &mut Builder<'input>,
-    how: How<'_, 'input>,
-) -> Result<(), Refused<'input>>
+    how: Context<'_, 'input>,
+) -> Result<(), ParseError<'input>>
     requires there { cursor.old.pos < length cursor.old.text.now }
-    requires fine { Fine builder.old.tables builder.old.opened.items }
-    ensures value { (limit end : ℕ) (es : List Entity) (s : State) → AreDeclared es how.entry.entities.now → Sees limit end s cursor.old builder.old
-        → Went limit end result cursor.new builder.new (machine.step (how_of limit es how.entry) cursor.old.text.now s) }
-    ensures fine { OnOk result (Fine builder.new.tables builder.new.opened.items) }
+    requires fine { IsConsistent builder.old.tables builder.old.opened.items }
+    ensures value { (limit end : ℕ) (es : List Entity) (s : State) → AreDeclared es how.entry.entities.now → IsInState limit end s cursor.old builder.old
+        → ParsesTo limit end result cursor.new builder.new (machine.step (context_of limit es how.entry) cursor.old.text.now s) }
+    ensures fine { OnOk result (IsConsistent builder.new.tables builder.new.opened.items) }
     ensures source { cursor.new.text ≡ cursor.old.text }
 {
     let bytes = cursor.text.as_bytes();
@@ -284,7 +284,7 @@ fn step<'input>(
         return character_data(alloc, cursor, builder, how);
     }
     if cursor.pos + 1 >= bytes.len() {
-        return Err(Refused::Fault(Fault::UnknownToken(cursor.pos)));
+        return Err(ParseError::Fault(Fault::UnknownToken(cursor.pos)));
     }
     let next = bytes[cursor.pos + 1];
     if next == b'/' {
@@ -300,12 +300,12 @@ pub fn content<'input>(
     alloc: Global,
     cursor: &mut Cursor<'input>,
     builder: &mut Builder<'input>,
-    how: How<'_, 'input>,
-) -> Result<(), Refused<'input>>
-    requires fine { Fine builder.old.tables builder.old.opened.items }
-    ensures value { (limit end : ℕ) (es : List Entity) (s : State) → AreDeclared es how.entry.entities.now → Sees limit end s cursor.old builder.old
-        → Went limit end result cursor.new builder.new (machine.drive (how_of limit es how.entry) (length cursor.old.text.now) cursor.old.text.now s) }
-    ensures fine { OnOk result (Fine builder.new.tables builder.new.opened.items) }
+    how: Context<'_, 'input>,
+) -> Result<(), ParseError<'input>>
+    requires fine { IsConsistent builder.old.tables builder.old.opened.items }
+    ensures value { (limit end : ℕ) (es : List Entity) (s : State) → AreDeclared es how.entry.entities.now → IsInState limit end s cursor.old builder.old
+        → ParsesTo limit end result cursor.new builder.new (machine.drive (context_of limit es how.entry) (length cursor.old.text.now) cursor.old.text.now s) }
+    ensures fine { OnOk result (IsConsistent builder.new.tables builder.new.opened.items) }
     ensures source { cursor.new.text ≡ cursor.old.text }
 {
     for _turn in 0..cursor.text.len() {
@@ -313,13 +313,13 @@ pub fn content<'input>(
             return Ok(());
         }
         if cursor.is_at_end() {
-            return Err(Refused::Fault(Fault::UnclosedRootNode));
+            return Err(ParseError::Fault(Fault::UnclosedRootNode));
         }
         step(alloc, cursor, builder, how)?;
     }
     if builder.is_at_root() {
         Ok(())
     } else {
-        Err(Refused::Fault(Fault::UnclosedRootNode))
+        Err(ParseError::Fault(Fault::UnclosedRootNode))
     }
 }

@@ -2,17 +2,17 @@
 //! internal subsets, which are children of the root node. A resolver is asked for each external entity, at its declaration.
 
 ghost use Rattle.std.specs.Prelude.{◌≡◌, ◌<◌, ◌++◌, ℕ, suc, Bool, List, OnOk, length, slice_index, true};
-ghost use Rattle.rox_grammar.specs.Marks.{stands};
-ghost use Rattle.rox_grammar.specs.Words.{word_text};
+ghost use Rattle.rox_grammar.specs.Search.{stands};
+ghost use Rattle.rox_grammar.specs.FixedTexts.{word_text};
 ghost use Rattle.rox_grammar.specs.declared.fault.Word.TheVariants as word;
 ghost use Rattle.rox_reading.specs.Doctype as reading;
 ghost use Rattle.rox_reading.specs.Doctype.{Asks, Dtd};
 ghost use Rattle.rox_reading.specs.Answering.{left_with};
 ghost use Rattle.rox_resolver.specs.Requests.{Reply, Allows, MayAsk};
-ghost use Rattle.rox_scan.specs.Doctypes.{definition_view, request_view};
-ghost use Rattle.rox_build.specs.Asking.{Comes, IsDefined, IsEntityRead, IsGoing, IsRead, Turns};
-ghost use Rattle.rox_values.specs.Named.{AreDeclared};
-ghost use Rattle.rox_build.specs.Shown.{Fine, Sees};
+ghost use Rattle.rox_scan.specs.DoctypeViews.{definition_view, request_view};
+ghost use Rattle.rox_build.specs.Asking.{AskOutcome, IsDefined, IsEntityRead, IsSubsetSoFar, IsRead, ItemOutcome};
+ghost use Rattle.rox_values.specs.DeclaredEntities.{AreDeclared};
+ghost use Rattle.rox_build.specs.BuilderState.{IsConsistent, IsInState};
 
 use crate::builder::Builder;
 use crate::constructs::{comment, instruction};
@@ -22,7 +22,7 @@ use rox_scan::cursor::Cursor;
 use rox_scan::doctype::{Definition, ExternalId, replacement_in};
 use rox_scan::runs::is_at;
 use rox_values::entities::Entities;
-use rox_values::refused::Refused;
+use rox_values::parse_error::ParseError;
 use std::alloc::Global;
 
 /// The replacement text that is answered for an external entity, if any is. It is asked for at `at`.
@@ -30,17 +30,17 @@ fn answer_for<'input, R: EntityResolver<'input>>(
     id: ExternalId<'input>,
     at: usize,
     resolver: &Option<R>,
-) -> Result<Option<Cursor<'input>>, Refused<'input>>
+) -> Result<Option<Cursor<'input>>, ParseError<'input>>
     requires { MayAsk R.can_resolve resolver.now }
-    ensures { Comes (Allows R.allows resolver.now) (reading.defined (reading.outer (request_view id.entry)) at) (IsDefined (reading.outer (request_view id.entry)) at) result }
+    ensures { AskOutcome (Allows R.allows resolver.now) (reading.defined (reading.outer (request_view id.entry)) at) (IsDefined (reading.outer (request_view id.entry)) at) result }
 {
     match ask(resolver, id.public_id, id.uri) {
         Ok(Some(answer)) => match replacement_in(answer) {
             Ok(text) => Ok(Some(text)),
-            Err(fault) => Err(Refused::Elsewhere(answer, fault)),
+            Err(fault) => Err(ParseError::FaultIn(answer, fault)),
         },
         Ok(None) => Ok(None),
-        Err(message) => Err(Refused::Resolver(at, message)),
+        Err(message) => Err(ParseError::Resolver(at, message)),
     }
 }
 
@@ -49,9 +49,9 @@ fn text_of<'input, R: EntityResolver<'input>>(
     definition: Definition<'input>,
     at: usize,
     resolver: &Option<R>,
-) -> Result<Option<Cursor<'input>>, Refused<'input>>
+) -> Result<Option<Cursor<'input>>, ParseError<'input>>
     requires { MayAsk R.can_resolve resolver.now }
-    ensures { Comes (Allows R.allows resolver.now) (reading.defined (definition_view definition.entry) at) (IsDefined (definition_view definition.entry) at) result }
+    ensures { AskOutcome (Allows R.allows resolver.now) (reading.defined (definition_view definition.entry) at) (IsDefined (definition_view definition.entry) at) result }
 {
     match definition {
         Definition::Inner(text) => Ok(Some(text)),
@@ -64,11 +64,11 @@ fn entity<'input, R: EntityResolver<'input>>(
     cursor: &mut Cursor<'input>,
     entities: &mut Entities<'input>,
     resolver: &Option<R>,
-) -> Result<(), Refused<'input>>
+) -> Result<(), ParseError<'input>>
     requires here { stands (word_text word.EntityStart) cursor.old.text.now cursor.old.pos ≡ true }
     requires may { MayAsk R.can_resolve resolver.now }
     ensures value { (d : Dtd) → cursor.old.pos ≡ d.state.at → AreDeclared d.entities entities.old
-        → Comes (Allows R.allows resolver.now) (λ replies. reading.entity_step cursor.old.text.now (left_with replies d))
+        → AskOutcome (Allows R.allows resolver.now) (λ replies. reading.entity_step cursor.old.text.now (left_with replies d))
         (λ asked x. IsEntityRead (λ replies. reading.entity_step cursor.old.text.now (left_with replies d)) d cursor.new entities.new asked) result }
     ensures source { cursor.new.text ≡ cursor.old.text }
 {
@@ -92,14 +92,14 @@ fn item<'input, R: EntityResolver<'input>>(
     entities: &mut Entities<'input>,
     resolver: &Option<R>,
     start: usize,
-) -> Result<bool, Refused<'input>>
+) -> Result<bool, ParseError<'input>>
     requires inside { cursor.old.pos < length cursor.old.text.now }
     requires may { MayAsk R.can_resolve resolver.now }
-    requires fine { Fine builder.old.tables builder.old.opened.items }
+    requires fine { IsConsistent builder.old.tables builder.old.opened.items }
     ensures value { (limit end n m : ℕ) (run : List Reply → Asks Dtd) → n ≡ suc m
-        → IsGoing limit end start n cursor.old.text.now (Allows R.allows resolver.now) run cursor.old builder.old entities.old
-        → Turns limit end start m cursor.old.text.now (Allows R.allows resolver.now) run cursor.new builder.new entities.new result }
-    ensures fine { OnOk result (Fine builder.new.tables builder.new.opened.items) }
+        → IsSubsetSoFar limit end start n cursor.old.text.now (Allows R.allows resolver.now) run cursor.old builder.old entities.old
+        → ItemOutcome limit end start m cursor.old.text.now (Allows R.allows resolver.now) run cursor.new builder.new entities.new result }
+    ensures fine { OnOk result (IsConsistent builder.new.tables builder.new.opened.items) }
     ensures source { cursor.new.text ≡ cursor.old.text }
 {
     cursor.spaces();
@@ -115,12 +115,12 @@ fn item<'input, R: EntityResolver<'input>>(
         instruction(alloc, cursor, builder)?;
         return Ok(false);
     }
-    if cursor.is_passed_over() {
-        cursor.pass_over(start)?;
+    if cursor.is_skipped_declaration() {
+        cursor.skip_declaration(start)?;
         return Ok(false);
     }
     if !is_at(cursor.text, cursor.pos, b']') {
-        return Err(Refused::Fault(Fault::UnknownToken(cursor.pos)));
+        return Err(ParseError::Fault(Fault::UnknownToken(cursor.pos)));
     }
     cursor.subset_end()?;
     Ok(true)
@@ -135,13 +135,13 @@ fn subset<'input, R: EntityResolver<'input>>(
     entities: &mut Entities<'input>,
     resolver: &Option<R>,
     start: usize,
-) -> Result<(), Refused<'input>>
+) -> Result<(), ParseError<'input>>
     requires may { MayAsk R.can_resolve resolver.now }
-    requires fine { Fine builder.old.tables builder.old.opened.items }
-    ensures value { (limit end : ℕ) (d : Dtd) → Sees limit end d.state cursor.old builder.old → AreDeclared d.entities entities.old
-        → Comes (Allows R.allows resolver.now) (λ replies. reading.subset limit start (length cursor.old.text.now) cursor.old.text.now (left_with replies d))
+    requires fine { IsConsistent builder.old.tables builder.old.opened.items }
+    ensures value { (limit end : ℕ) (d : Dtd) → IsInState limit end d.state cursor.old builder.old → AreDeclared d.entities entities.old
+        → AskOutcome (Allows R.allows resolver.now) (λ replies. reading.subset limit start (length cursor.old.text.now) cursor.old.text.now (left_with replies d))
         (λ asked x. IsRead limit end (λ replies. reading.subset limit start (length cursor.old.text.now) cursor.old.text.now (left_with replies d)) cursor.new builder.new entities.new asked) result }
-    ensures fine { OnOk result (Fine builder.new.tables builder.new.opened.items) }
+    ensures fine { OnOk result (IsConsistent builder.new.tables builder.new.opened.items) }
     ensures source { cursor.new.text ≡ cursor.old.text }
 {
     for _turn in 0..cursor.text.len() {
@@ -162,14 +162,14 @@ pub fn document_type<'input, R: EntityResolver<'input>>(
     builder: &mut Builder<'input>,
     entities: &mut Entities<'input>,
     resolver: &Option<R>,
-) -> Result<(), Refused<'input>>
+) -> Result<(), ParseError<'input>>
     requires here { stands (word_text word.DoctypeStart) cursor.old.text.now cursor.old.pos ≡ true }
     requires may { MayAsk R.can_resolve resolver.now }
-    requires fine { Fine builder.old.tables builder.old.opened.items }
-    ensures value { (limit end : ℕ) (d : Dtd) → Sees limit end d.state cursor.old builder.old → AreDeclared d.entities entities.old
-        → Comes (Allows R.allows resolver.now) (λ replies. reading.doctype_step limit cursor.old.text.now (left_with replies d))
+    requires fine { IsConsistent builder.old.tables builder.old.opened.items }
+    ensures value { (limit end : ℕ) (d : Dtd) → IsInState limit end d.state cursor.old builder.old → AreDeclared d.entities entities.old
+        → AskOutcome (Allows R.allows resolver.now) (λ replies. reading.doctype_step limit cursor.old.text.now (left_with replies d))
         (λ asked x. IsRead limit end (λ replies. reading.doctype_step limit cursor.old.text.now (left_with replies d)) cursor.new builder.new entities.new asked) result }
-    ensures fine { OnOk result (Fine builder.new.tables builder.new.opened.items) }
+    ensures fine { OnOk result (IsConsistent builder.new.tables builder.new.opened.items) }
     ensures source { cursor.new.text ≡ cursor.old.text }
 {
     let start = cursor.pos;
@@ -179,11 +179,11 @@ pub fn document_type<'input, R: EntityResolver<'input>>(
         return subset(alloc, cursor, builder, entities, resolver, start);
     }
     if cursor.is_at_end() {
-        return Err(Refused::Fault(Fault::UnexpectedEndOfStream));
+        return Err(ParseError::Fault(Fault::UnexpectedEndOfStream));
     }
     let here = cursor.text.as_bytes()[cursor.pos];
     if here != b'>' {
-        return Err(Refused::Fault(Fault::InvalidChar2(Due::SubsetOrEnd, here, cursor.pos)));
+        return Err(ParseError::Fault(Fault::InvalidChar2(Due::SubsetOrEnd, here, cursor.pos)));
     }
     cursor.advance();
     Ok(())

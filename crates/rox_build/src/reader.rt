@@ -2,19 +2,19 @@
 
 ghost use Rattle.std.specs.Prelude.{◌≡◌, ℕ, List, OnOk, IfOk, IfErr, length};
 ghost use Rattle.rox_reading.specs.State.{State};
-ghost use Rattle.rox_grammar.specs.Start.{after_bom};
+ghost use Rattle.rox_grammar.specs.TextStart.{after_bom};
 ghost use Rattle.rox_grammar.specs.State.{root};
 ghost use Rattle.rox_grammar.specs.Entities.{Entity};
 ghost use Rattle.rox_reading.specs.Refusals.{lifted};
-ghost use Rattle.rox_reading.specs.Whole as whole;
-ghost use Rattle.rox_values.specs.Named.{AreDeclared};
-ghost use Rattle.rox_build.specs.Shown.{Fine, Sees, Stepped, WentWith};
+ghost use Rattle.rox_reading.specs.WholeText as whole;
+ghost use Rattle.rox_values.specs.DeclaredEntities.{AreDeclared};
+ghost use Rattle.rox_build.specs.BuilderState.{IsConsistent, IsInState, ScansTo, ParsesToWith};
 ghost use Rattle.rox_reading.specs.Doctype.{Dtd};
 ghost use Rattle.rox_reading.specs.Answering.{left_with};
 ghost use Rattle.rox_resolver.specs.Requests.{Allows, MayAsk};
-ghost use Rattle.rox_build.specs.Asking.{Comes};
+ghost use Rattle.rox_build.specs.Asking.{AskOutcome};
 ghost use Rattle.rox_build.specs.Built.{Built, BuiltRefusal};
-ghost use Rattle.rox_build.specs.Wholes.{Finishes, IsDoctypeRead, IsWholeRead, beginning, root_read, start_at};
+ghost use Rattle.rox_build.specs.WholeTexts.{Finishes, IsDoctypeRead, IsWholeRead, beginning, root_read, start_state};
 
 use crate::builder::Builder;
 use crate::constructs::{comment, element, instruction};
@@ -27,8 +27,8 @@ use rox_scan::cursor::Cursor;
 use rox_scan::doctype::start_of;
 use rox_tables::tables::Tables;
 use rox_values::entities::Entities;
-use rox_values::how::How;
-use rox_values::refused::Refused;
+use rox_values::context::Context;
+use rox_values::parse_error::ParseError;
 use std::alloc::Global;
 
 /// What a reader of documents asks for.
@@ -46,10 +46,10 @@ fn misc<'input>(
     cursor: &mut Cursor<'input>,
     builder: &mut Builder<'input>,
 ) -> Result<(), Failure>
-    requires fine { Fine builder.old.tables builder.old.opened.items }
-    ensures value { (limit end : ℕ) (s : State) → Sees limit end s cursor.old builder.old
-        → Stepped limit end result cursor.new builder.new (lifted (whole.misc limit (length cursor.old.text.now) cursor.old.text.now s)) }
-    ensures fine { OnOk result (Fine builder.new.tables builder.new.opened.items) }
+    requires fine { IsConsistent builder.old.tables builder.old.opened.items }
+    ensures value { (limit end : ℕ) (s : State) → IsInState limit end s cursor.old builder.old
+        → ScansTo limit end result cursor.new builder.new (lifted (whole.misc limit (length cursor.old.text.now) cursor.old.text.now s)) }
+    ensures fine { OnOk result (IsConsistent builder.new.tables builder.new.opened.items) }
     ensures source { cursor.new.text ≡ cursor.old.text }
 {
     for _turn in 0..cursor.text.len() {
@@ -71,17 +71,17 @@ fn body<'input>(
     cursor: &mut Cursor<'input>,
     builder: &mut Builder<'input>,
     entities: &Entities<'input>,
-) -> Result<bool, Refused<'input>>
-    requires fine { Fine builder.old.tables builder.old.opened.items }
-    ensures value { (limit end : ℕ) (es : List Entity) (s : State) → AreDeclared es entities.now → Sees limit end s cursor.old builder.old
-        → WentWith limit end result cursor.new builder.new (whole.body limit es cursor.old.text.now s) }
-    ensures fine { OnOk result (Fine builder.new.tables builder.new.opened.items) }
+) -> Result<bool, ParseError<'input>>
+    requires fine { IsConsistent builder.old.tables builder.old.opened.items }
+    ensures value { (limit end : ℕ) (es : List Entity) (s : State) → AreDeclared es entities.now → IsInState limit end s cursor.old builder.old
+        → ParsesToWith limit end result cursor.new builder.new (whole.body limit es cursor.old.text.now s) }
+    ensures fine { OnOk result (IsConsistent builder.new.tables builder.new.opened.items) }
     ensures source { cursor.new.text ≡ cursor.old.text }
 {
     if cursor.is_at_end() || cursor.text.as_bytes()[cursor.pos] != b'<' {
         return Ok(false);
     }
-    let how = How::main_text(entities);
+    let how = Context::main_text(entities);
     element(alloc, cursor, builder, how)?;
     content(alloc, cursor, builder, how)?;
     misc(alloc, cursor, builder)?;
@@ -94,13 +94,13 @@ fn lead<'input>(
     cursor: &mut Cursor<'input>,
     builder: &mut Builder<'input>,
 ) -> Result<(), Failure>
-    requires fine { Fine builder.old.tables builder.old.opened.items }
-    ensures value { (limit end : ℕ) → cursor.old.pos ≡ after_bom cursor.old.text.now → Sees limit end (start_at cursor.old.pos) cursor.old builder.old
-        → Stepped limit end result cursor.new builder.new (lifted (beginning limit cursor.old.text.now)) }
-    ensures fine { OnOk result (Fine builder.new.tables builder.new.opened.items) }
+    requires fine { IsConsistent builder.old.tables builder.old.opened.items }
+    ensures value { (limit end : ℕ) → cursor.old.pos ≡ after_bom cursor.old.text.now → IsInState limit end (start_state cursor.old.pos) cursor.old builder.old
+        → ScansTo limit end result cursor.new builder.new (lifted (beginning limit cursor.old.text.now)) }
+    ensures fine { OnOk result (IsConsistent builder.new.tables builder.new.opened.items) }
     ensures source { cursor.new.text ≡ cursor.old.text }
 {
-    cursor.declaration_if()?;
+    cursor.xml_decl_if()?;
     misc(alloc, cursor, builder)
 }
 
@@ -113,20 +113,20 @@ fn doctype<'input, R: EntityResolver<'input>>(
     entities: &mut Entities<'input>,
     allow: bool,
     resolver: &Option<R>,
-) -> Result<bool, Refused<'input>>
+) -> Result<bool, ParseError<'input>>
     requires may { MayAsk R.can_resolve resolver.now }
-    requires fine { Fine builder.old.tables builder.old.opened.items }
-    ensures value { (limit end : ℕ) (d : Dtd) → Sees limit end d.state cursor.old builder.old → AreDeclared d.entities entities.old
-        → Comes (Allows R.allows resolver.now) (λ replies. whole.doctype limit allow cursor.old.text.now (left_with replies d))
+    requires fine { IsConsistent builder.old.tables builder.old.opened.items }
+    ensures value { (limit end : ℕ) (d : Dtd) → IsInState limit end d.state cursor.old builder.old → AreDeclared d.entities entities.old
+        → AskOutcome (Allows R.allows resolver.now) (λ replies. whole.doctype limit allow cursor.old.text.now (left_with replies d))
         (λ asked some. IsDoctypeRead limit end allow cursor.old.text.now d cursor.new builder.new entities.new asked some) result }
-    ensures fine { OnOk result (Fine builder.new.tables builder.new.opened.items) }
+    ensures fine { OnOk result (IsConsistent builder.new.tables builder.new.opened.items) }
     ensures source { cursor.new.text ≡ cursor.old.text }
 {
     if !cursor.starts(Word::DoctypeStart) {
         return Ok(false);
     }
     if !allow {
-        return Err(Refused::Fault(Fault::DtdDetected));
+        return Err(ParseError::Fault(Fault::DtdDetected));
     }
     document_type(alloc, cursor, builder, entities, resolver)?;
     misc(alloc, cursor, builder)?;
@@ -139,19 +139,19 @@ fn rest<'input>(
     cursor: &mut Cursor<'input>,
     builder: &mut Builder<'input>,
     entities: &Entities<'input>,
-) -> Result<(), Refused<'input>>
-    requires fine { Fine builder.old.tables builder.old.opened.items }
-    ensures value { (limit end : ℕ) (es : List Entity) (s : State) → AreDeclared es entities.now → Sees limit end s cursor.old builder.old → s.stack ≡ root
+) -> Result<(), ParseError<'input>>
+    requires fine { IsConsistent builder.old.tables builder.old.opened.items }
+    ensures value { (limit end : ℕ) (es : List Entity) (s : State) → AreDeclared es entities.now → IsInState limit end s cursor.old builder.old → s.stack ≡ root
         → Finishes end result builder.new (root_read limit es cursor.old.text.now s) }
-    ensures fine { OnOk result (Fine builder.new.tables builder.new.opened.items) }
+    ensures fine { OnOk result (IsConsistent builder.new.tables builder.new.opened.items) }
     ensures source { cursor.new.text ≡ cursor.old.text }
 {
     let some = body(alloc, cursor, builder, entities)?;
     if !cursor.is_at_end() {
-        return Err(Refused::Fault(Fault::UnknownToken(cursor.pos)));
+        return Err(ParseError::Fault(Fault::UnknownToken(cursor.pos)));
     }
     if !some {
-        return Err(Refused::Fault(Fault::NoRootNode));
+        return Err(ParseError::Fault(Fault::NoRootNode));
     }
     Ok(())
 }
@@ -163,13 +163,13 @@ fn document<'input, R: EntityResolver<'input>>(
     builder: &mut Builder<'input>,
     allow: bool,
     resolver: &Option<R>,
-) -> Result<bool, Refused<'input>>
+) -> Result<bool, ParseError<'input>>
     requires may { MayAsk R.can_resolve resolver.now }
-    requires fine { Fine builder.old.tables builder.old.opened.items }
-    ensures value { (limit end : ℕ) → cursor.old.pos ≡ after_bom cursor.old.text.now → Sees limit end (start_at cursor.old.pos) cursor.old builder.old
-        → Comes (Allows R.allows resolver.now) (λ replies. whole.reading limit allow replies cursor.old.text.now)
+    requires fine { IsConsistent builder.old.tables builder.old.opened.items }
+    ensures value { (limit end : ℕ) → cursor.old.pos ≡ after_bom cursor.old.text.now → IsInState limit end (start_state cursor.old.pos) cursor.old builder.old
+        → AskOutcome (Allows R.allows resolver.now) (λ replies. whole.reading limit allow replies cursor.old.text.now)
         (λ asked dtd. IsWholeRead limit end allow cursor.old.text.now builder.new asked dtd) result }
-    ensures fine { OnOk result (Fine builder.new.tables builder.new.opened.items) }
+    ensures fine { OnOk result (IsConsistent builder.new.tables builder.new.opened.items) }
 {
     let mut entities: Entities<'input> = Entities::new(alloc);
     lead(alloc, cursor, builder)?;
@@ -184,7 +184,7 @@ pub fn build<'input, R: EntityResolver<'input>>(
     text: &'input str,
     options: Options,
     resolver: &Option<R>,
-) -> Result<(Tables<'input>, bool), Refused<'input>>
+) -> Result<(Tables<'input>, bool), ParseError<'input>>
     requires may { MayAsk R.can_resolve resolver.now }
     ensures ok { IfOk result (λ x. Built options.nodes_limit options.allow_dtd (Allows R.allows resolver.now) text.now x.0 x.1) }
     ensures refused { IfErr result (λ e. BuiltRefusal options.nodes_limit options.allow_dtd (Allows R.allows resolver.now) text.now e) }

@@ -1,41 +1,41 @@
 //! Start tags: attributes and declarations, each tested in order (XML 1.0 section 3.1, Namespaces in XML 1.0).
 
 ghost use Rattle.std.specs.Prelude.{◌≡◌, ◌<◌, ◌≤◌, ◌+◌, ◌-◌, ◌^◌, ◌∷◌, [], Bool, false, true, List, ℕ, length, map, drop, Ok, Err, OnOk, IfOk, slice_index, IfErr, ◌++◌};
-ghost use Rattle.rox_grammar.specs.Written.{Declaration};
+ghost use Rattle.rox_grammar.specs.Written.{NamespaceDecl};
 ghost use Rattle.rox_grammar.specs.Document.{most_pairs, most_attributes};
-ghost use Rattle.rox_reading.specs.Tags.{Held, attributes_at, tag_at, tested_at};
-ghost use Rattle.rox_grammar.specs.Failing.{Fails, name_view};
-ghost use Rattle.rox_tables.specs.TagScopes.{IsPresent, KeepsPlaces, lists_in};
-ghost use Rattle.rox_build.specs.Tagged.{IsElement, GivesTag, scope_in_tables};
-ghost use Rattle.rox_scan.specs.Parts.{HasValue, attribute_view};
+ghost use Rattle.rox_reading.specs.Tags.{TagSoFar, attributes_at, tag_at, tested_at};
+ghost use Rattle.rox_grammar.specs.Failures.{Fails, name_view};
+ghost use Rattle.rox_tables.specs.TagScopes.{HasBindingsOf, HasBindings, lists_in};
+ghost use Rattle.rox_build.specs.ElementRow.{IsElement, GivesTag, scope_in_tables};
+ghost use Rattle.rox_scan.specs.Views.{HasValue, attribute_view};
 ghost use Rattle.rox_grammar.specs.Entities.{Entity};
-ghost use Rattle.rox_values.specs.Named.{AreDeclared, values_in};
+ghost use Rattle.rox_values.specs.DeclaredEntities.{AreDeclared, values_in};
 ghost use Rattle.rox_values.specs.Values.{piece_view};
 ghost use Rattle.rox_tables.specs.Storage.{storage_bytes, is_borrowed};
-ghost use Rattle.rox_tables.specs.Lines.{declaration, scope_at, AreScopes, rows_of};
+ghost use Rattle.rox_tables.specs.Rows.{declaration, scope_at, AreScopes, attribute_rows};
 ghost use Rattle.rox_tables.specs.Scopes.{ArePlaces, Once, entries};
-ghost use Rattle.rox_tables.specs.Prefixes.{Remembers};
-ghost use Rattle.rox_tables.specs.Declares.{Declares, taken_view};
-ghost use Rattle.rox_build.specs.Tags.{Holding, Took, TookAll, one_more};
+ghost use Rattle.rox_tables.specs.PrefixSet.{IsPrefixSet};
+ghost use Rattle.rox_tables.specs.TagDeclarations.{Declares, unresolved_view};
+ghost use Rattle.rox_build.specs.TagState.{HoldsTag, AddsAttribute, AddsAttributes, one_more};
 ghost use Rattle.rox_grammar.specs.Tree.{listed};
 
 use rox_grammar::failure::Failure;
 use rox_grammar::fault::Fault;
 use rox_grammar::name::QName;
 use rox_scan::cursor::Cursor;
-use rox_scan::markup::{RawAttribute, Turn};
-use rox_tables::alike::same_text;
-use rox_tables::declaration::{declares, take_declaration};
+use rox_scan::markup::{RawAttribute, TagItem};
+use rox_tables::compare::same_text;
+use rox_tables::declaration::{is_namespace_decl, declare_namespace};
 use rox_tables::growth::push;
 use rox_tables::resolve::{element_namespace, resolve};
 use rox_tables::scope::few_places;
 use rox_tables::storage::StringStorage;
 use rox_tables::tables::{ElementData, ElementTables};
 use rox_tables::tag_scope::scope_of_tag;
-use rox_tables::taken::Taken;
-use rox_values::how::How;
-use rox_values::refused::Refused;
-use rox_values::value::{Piece, value};
+use rox_tables::unresolved_attribute::UnresolvedAttribute;
+use rox_values::context::Context;
+use rox_values::parse_error::ParseError;
+use rox_values::value::{TextValue, value};
 use std::alloc::Global;
 use std::collections::BTreeSet;
 
@@ -60,7 +60,7 @@ pub struct Buffers<'input> {
     /// A part of a run of a replacement text, with its line ends as they stand.
     pub raw: String,
     /// The attributes of the tag.
-    pub taken: Vec<Taken<'input>>,
+    pub taken: Vec<UnresolvedAttribute<'input>>,
     /// The prefixes that the tag declares, where these are many.
     pub many: BTreeSet<Option<&'input str>>,
 }
@@ -69,7 +69,7 @@ pub struct Buffers<'input> {
 #[inline]
 pub fn stored<'input>(
     alloc: Global,
-    piece: Piece<'input>,
+    piece: TextValue<'input>,
     scratch: &str,
 ) -> Result<StringStorage<'input>, Failure>
     ensures bytes { IfOk result (λ s. storage_bytes s ≡ (piece_view piece.entry scratch.now).value) }
@@ -77,8 +77,8 @@ pub fn stored<'input>(
     ensures err { IfErr result (λ e. e ≡ Failure.Memory) }
 {
     match piece {
-        Piece::Plain(text) => Ok(StringStorage::Borrowed(text)),
-        Piece::Changed => {
+        TextValue::Plain(text) => Ok(StringStorage::Borrowed(text)),
+        TextValue::Changed => {
             let text = StringStorage::new_owned(alloc, scratch)?;
             Ok(text)
         }
@@ -96,35 +96,35 @@ fn take<'input>(
     buffers: &mut Buffers<'input>,
     own: usize,
     xml: bool,
-    how: How<'_, 'input>,
+    how: Context<'_, 'input>,
     left: u32,
-) -> Result<(bool, u32), Refused<'input>>
+) -> Result<(bool, u32), ParseError<'input>>
     requires value { HasValue text.now raw.now }
     requires placed { raw.now.start < 2 ^ 63 }
     requires end { end ≡ raw.now.value_end + 1 }
     requires places { ArePlaces (length elements.old.namespaces.items.items) elements.old.listed.items }
     requires own { own ≤ length elements.old.listed.items }
     requires few { length elements.old.namespaces.items.items ≤ most_pairs }
-    requires many { Remembers (map declaration elements.old.namespaces.items.items) (drop own elements.old.listed.items) buffers.old.many.keys }
+    requires many { IsPrefixSet (map declaration elements.old.namespaces.items.items) (drop own elements.old.listed.items) buffers.old.many.keys }
     requires once { Once (entries (map declaration elements.old.namespaces.items.items) (drop own elements.old.listed.items)) }
     requires scopes { AreScopes own elements.old.scopes.items }
-    requires kept { KeepsPlaces elements.old }
+    requires kept { HasBindings elements.old }
     ensures places { OnOk result (ArePlaces (length elements.new.namespaces.items.items) elements.new.listed.items) }
     ensures own { OnOk result (own ≤ length elements.new.listed.items) }
     ensures few { OnOk result (length elements.new.namespaces.items.items ≤ most_pairs) }
-    ensures many { OnOk result (Remembers (map declaration elements.new.namespaces.items.items) (drop own elements.new.listed.items) buffers.new.many.keys) }
+    ensures many { OnOk result (IsPrefixSet (map declaration elements.new.namespaces.items.items) (drop own elements.new.listed.items) buffers.new.many.keys) }
     ensures once { OnOk result (Once (entries (map declaration elements.new.namespaces.items.items) (drop own elements.new.listed.items))) }
-    ensures kept { OnOk result (KeepsPlaces elements.new) }
+    ensures kept { OnOk result (HasBindings elements.new) }
     ensures scopes { elements.new.scopes ≡ elements.old.scopes }
     ensures lists { OnOk result (lists_in elements.new ≡ lists_in elements.old) }
     ensures attributes { elements.new.attributes ≡ elements.old.attributes }
-    ensures took { (es : List Entity) (known : List Declaration) (before : List ℕ) (h : Held) → AreDeclared es how.entry.entities.now → own ≡ length before
-        → Holding known before (map declaration elements.old.namespaces.items.items) elements.old.listed.items xml buffers.old.taken.items h
-        → Took known before (map declaration elements.new.namespaces.items.items) elements.new.listed.items buffers.new.taken.items result (one_more (values_in es how.entry) known text.now (attribute_view raw.now) left h) }
+    ensures took { (es : List Entity) (known : List NamespaceDecl) (before : List ℕ) (h : TagSoFar) → AreDeclared es how.entry.entities.now → own ≡ length before
+        → HoldsTag known before (map declaration elements.old.namespaces.items.items) elements.old.listed.items xml buffers.old.taken.items h
+        → AddsAttribute known before (map declaration elements.new.namespaces.items.items) elements.new.listed.items buffers.new.taken.items result (one_more (values_in es how.entry) known text.now (attribute_view raw.now) left h) }
 {
     let (piece, left) = value(text, raw, how, left, &mut buffers.scratch)?;
     let value = stored(alloc, piece, buffers.scratch.as_str())?;
-    let one = Taken {
+    let one = UnresolvedAttribute {
         start: raw.start,
         name_end: raw.name_end,
         value_start: raw.value_start,
@@ -132,8 +132,8 @@ fn take<'input>(
         name: raw.name,
         value,
     };
-    if declares(raw.name) {
-        let xml = take_declaration(
+    if is_namespace_decl(raw.name) {
+        let xml = declare_namespace(
             &mut elements.namespaces,
             &mut elements.listed,
             &mut buffers.many,
@@ -169,39 +169,39 @@ fn attributes<'input>(
     buffers: &mut Buffers<'input>,
     own: usize,
     cut: Fault,
-    how: How<'_, 'input>,
+    how: Context<'_, 'input>,
     mut left: u32,
-) -> Result<(bool, bool, u32), Refused<'input>>
+) -> Result<(bool, bool, u32), ParseError<'input>>
     requires places { ArePlaces (length elements.old.namespaces.items.items) elements.old.listed.items }
     requires own { own ≤ length elements.old.listed.items }
     requires few { length elements.old.namespaces.items.items ≤ most_pairs }
-    requires many { Remembers (map declaration elements.old.namespaces.items.items) (drop own elements.old.listed.items) buffers.old.many.keys }
+    requires many { IsPrefixSet (map declaration elements.old.namespaces.items.items) (drop own elements.old.listed.items) buffers.old.many.keys }
     requires once { Once (entries (map declaration elements.old.namespaces.items.items) (drop own elements.old.listed.items)) }
     requires scopes { AreScopes own elements.old.scopes.items }
-    requires kept { KeepsPlaces elements.old }
+    requires kept { HasBindings elements.old }
     ensures places { OnOk result (ArePlaces (length elements.new.namespaces.items.items) elements.new.listed.items) }
     ensures own { OnOk result (own ≤ length elements.new.listed.items) }
     ensures few { OnOk result (length elements.new.namespaces.items.items ≤ most_pairs) }
-    ensures many { OnOk result (Remembers (map declaration elements.new.namespaces.items.items) (drop own elements.new.listed.items) buffers.new.many.keys) }
+    ensures many { OnOk result (IsPrefixSet (map declaration elements.new.namespaces.items.items) (drop own elements.new.listed.items) buffers.new.many.keys) }
     ensures once { OnOk result (Once (entries (map declaration elements.new.namespaces.items.items) (drop own elements.new.listed.items))) }
-    ensures kept { OnOk result (KeepsPlaces elements.new) }
+    ensures kept { OnOk result (HasBindings elements.new) }
     ensures scopes { elements.new.scopes ≡ elements.old.scopes }
     ensures lists { OnOk result (lists_in elements.new ≡ lists_in elements.old) }
     ensures attributes { elements.new.attributes ≡ elements.old.attributes }
     ensures source { cursor.new.text ≡ cursor.old.text }
-    ensures took { (es : List Entity) (known : List Declaration) (before : List ℕ) (h : Held) → AreDeclared es how.entry.entities.now → own ≡ length before
-        → Holding known before (map declaration elements.old.namespaces.items.items) elements.old.listed.items false buffers.old.taken.items h
-        → TookAll known before (map declaration elements.new.namespaces.items.items) elements.new.listed.items buffers.new.taken.items cursor.new result
+    ensures took { (es : List Entity) (known : List NamespaceDecl) (before : List ℕ) (h : TagSoFar) → AreDeclared es how.entry.entities.now → own ≡ length before
+        → HoldsTag known before (map declaration elements.old.namespaces.items.items) elements.old.listed.items false buffers.old.taken.items h
+        → AddsAttributes known before (map declaration elements.new.namespaces.items.items) elements.new.listed.items buffers.new.taken.items cursor.new result
         (attributes_at (length cursor.old.text.now) (values_in es how.entry) cut known cursor.old.text.now cursor.old.pos left h) }
 {
     let mut xml = false;
     let count = byte_count(cursor.text);
     'attributes: for _turn in 0..count {
         if cursor.is_at_end() {
-            return Err(Refused::Fault(cut));
+            return Err(ParseError::Fault(cut));
         }
         match cursor.turn()? {
-            Turn::More(raw) => {
+            TagItem::More(raw) => {
                 (xml, left) = take(
                     alloc,
                     cursor.text,
@@ -215,11 +215,11 @@ fn attributes<'input>(
                     left,
                 )?;
             }
-            Turn::Open => return Ok((xml, false, left)),
-            Turn::Empty => return Ok((xml, true, left)),
+            TagItem::Open => return Ok((xml, false, left)),
+            TagItem::Empty => return Ok((xml, true, left)),
         }
     }
-    Err(Refused::Fault(cut))
+    Err(ParseError::Fault(cut))
 }
 
 /// How many attributes a document may have.
@@ -230,7 +230,7 @@ const MOST_ATTRIBUTES: usize = 4294967294;
 fn element_data<'input>(
     alloc: Global,
     elements: &mut ElementTables<'input>,
-    taken: &mut Vec<Taken<'input>>,
+    taken: &mut Vec<UnresolvedAttribute<'input>>,
     name: QName<'input>,
     at: usize,
     scope: u32,
@@ -238,16 +238,16 @@ fn element_data<'input>(
     requires places { ArePlaces (length elements.old.namespaces.items.items) elements.old.listed.items }
     requires scopes { AreScopes (length elements.old.listed.items) elements.old.scopes.items }
     requires within { scope < length elements.old.scopes.items }
-    requires present { IsPresent elements.old scope }
-    requires few { length (rows_of elements.old.attributes) ≤ most_attributes }
+    requires present { HasBindingsOf elements.old scope }
+    requires few { length (attribute_rows elements.old.attributes) ≤ most_attributes }
     requires small { at < 2 ^ 63 }
     ensures names { elements.new.namespaces ≡ elements.old.namespaces }
     ensures listed { elements.new.listed ≡ elements.old.listed }
     ensures scopes { elements.new.scopes ≡ elements.old.scopes }
     ensures present { elements.new.present ≡ elements.old.present }
-    ensures tested { OnOk result (tested_at (scope_in_tables elements.old scope) (length (rows_of elements.old.attributes)) at (name_view name.entry) (map taken_view taken.old.items) ≡ Ok tt) }
-    ensures element { IfOk result (λ e. IsElement elements.old elements.new e (scope_in_tables elements.old scope) (name_view name.entry) (map taken_view taken.old.items)) }
-    ensures err { IfErr result (λ e. Fails e (tested_at (scope_in_tables elements.old scope) (length (rows_of elements.old.attributes)) at (name_view name.entry) (map taken_view taken.old.items))) }
+    ensures tested { OnOk result (tested_at (scope_in_tables elements.old scope) (length (attribute_rows elements.old.attributes)) at (name_view name.entry) (map unresolved_view taken.old.items) ≡ Ok tt) }
+    ensures element { IfOk result (λ e. IsElement elements.old elements.new e (scope_in_tables elements.old scope) (name_view name.entry) (map unresolved_view taken.old.items)) }
+    ensures err { IfErr result (λ e. Fails e (tested_at (scope_in_tables elements.old scope) (length (attribute_rows elements.old.attributes)) at (name_view name.entry) (map unresolved_view taken.old.items))) }
 {
     let from = elements.attributes.len();
     if taken.len() > MOST_ATTRIBUTES - from {
@@ -289,22 +289,22 @@ pub fn start_tag<'input>(
     buffers: &mut Buffers<'input>,
     above: u32,
     cut: Fault,
-    how: How<'_, 'input>,
+    how: Context<'_, 'input>,
     left: u32,
-) -> Result<StartTag<'input>, Refused<'input>>
+) -> Result<StartTag<'input>, ParseError<'input>>
     requires there { cursor.old.pos < length cursor.old.text.now }
     requires here { slice_index cursor.old.text.now cursor.old.pos ≡ 60 }
     requires places { ArePlaces (length elements.old.namespaces.items.items) elements.old.listed.items }
     requires few { length elements.old.namespaces.items.items ≤ most_pairs }
-    requires few_attributes { length (rows_of elements.old.attributes) ≤ most_attributes }
+    requires few_attributes { length (attribute_rows elements.old.attributes) ≤ most_attributes }
     requires scopes { AreScopes (length elements.old.listed.items) elements.old.scopes.items }
     requires above { above < length elements.old.scopes.items }
     requires once { Once (scope_in_tables elements.old above) }
-    requires kept { KeepsPlaces elements.old }
+    requires kept { HasBindings elements.old }
     ensures source { cursor.new.text ≡ cursor.old.text }
     ensures starts { IfOk result (λ t. t.name_start ≡ cursor.old.pos + 1) }
     ensures value { (es : List Entity) → AreDeclared es how.entry.entities.now → GivesTag elements.old elements.new cursor.new result (scope_in_tables elements.old above)
-        (tag_at (values_in es how.entry) cut (scope_in_tables elements.old above) (length (rows_of elements.old.attributes)) (map declaration elements.old.namespaces.items.items) cursor.old.text.now cursor.old.pos left) }
+        (tag_at (values_in es how.entry) cut (scope_in_tables elements.old above) (length (attribute_rows elements.old.attributes)) (map declaration elements.old.namespaces.items.items) cursor.old.text.now cursor.old.pos left) }
 {
     let small = byte_count(cursor.text);
     cursor.advance();
@@ -312,7 +312,7 @@ pub fn start_tag<'input>(
     let name = cursor.qname()?;
     let name_end = cursor.pos;
     if same_text(name.prefix, "xmlns") {
-        return Err(Refused::Fault(Fault::InvalidElementNamePrefix(name_start)));
+        return Err(ParseError::Fault(Fault::InvalidElementNamePrefix(name_start)));
     }
     let own = elements.listed.len();
     buffers.taken.clear();

@@ -21,33 +21,33 @@ answer_of (word.Refusal text) = refusal text.now
 
 -- what is asked for: the options, the resolver's answers in order, the file of the main text, if the input's texts are answers, and the
 -- file, or None for standard input
-pub record Asked : Type 0 where
+pub record CommandView : Type 0 where
   pub options : Options
   pub answers : List Answer
   pub main : Option (List ℕ)
   pub file : Option (List ℕ)
 
 -- what a command asks for
-abbrev pub meaning : Command → Asked
+abbrev pub meaning : Command → CommandView
 meaning c = record { options = c.options; answers = map answer_of c.answers.items; main = option_map (λ s. s.now) c.main; file = option_map (λ s. s.now) c.file }
 
 -- where no option stands
 abbrev pub no_options : Options
 no_options = record { allow_dtd = false; nodes_limit = 4294967295; axes = false; lookups = false; batch = false }
 
-abbrev pub nothing_asked : Asked
+abbrev pub nothing_asked : CommandView
 nothing_asked = record { options = no_options; answers = []; main = None; file = None }
 
-abbrev pub with_options : Asked → Options → Asked
+abbrev pub with_options : CommandView → Options → CommandView
 with_options a o = record a { options = o }
 
-abbrev pub with_answer : Asked → Answer → Asked
+abbrev pub with_answer : CommandView → Answer → CommandView
 with_answer a answer = record a { answers = a.answers ++ (answer ∷ []) }
 
-abbrev pub with_main : Asked → List ℕ → Asked
+abbrev pub with_main : CommandView → List ℕ → CommandView
 with_main a path = record a { main = Some path }
 
-abbrev pub changed : Asked → Change → Asked
+abbrev pub changed : CommandView → Change → CommandView
 changed a change.AllowDtd = with_options a (record a.options { allow_dtd = true })
 changed a (change.NodesLimit n) = with_options a (record a.options { nodes_limit = n })
 changed a change.Axes = with_options a (record a.options { axes = true })
@@ -61,7 +61,7 @@ abbrev pub limit_of : List ℕ → Option ℕ
 limit_of word = option_and_then (λ n. if nat_lt n (2 ^ 32) then Some n else None) (number_of word)
 
 -- what was asked for and what a word asks for alone
-abbrev pub with_flag : Asked → List ℕ → Option Asked
+abbrev pub with_flag : CommandView → List ℕ → Option CommandView
 with_flag a word =
     (if bytes_eq word (codes "--allow-dtd") then Some (with_options a (record a.options { allow_dtd = true }))
     else if bytes_eq word (codes "--axes") then Some (with_options a (record a.options { axes = true }))
@@ -71,7 +71,7 @@ with_flag a word =
     else None)
 
 -- what was asked for and what a word asks for with the one behind it
-abbrev pub with_value : Asked → List ℕ → List ℕ → Option Asked
+abbrev pub with_value : CommandView → List ℕ → List ℕ → Option CommandView
 with_value a word value =
     (if bytes_eq word (codes "--nodes-limit") then option_map (λ n. with_options a (record a.options { nodes_limit = n })) (limit_of value)
     else if bytes_eq word (codes "--ans-file") then Some (with_answer a (text_of value))
@@ -84,20 +84,20 @@ begins_with_dash [] = false
 begins_with_dash (byte ∷ _) = byte == 45
 
 -- `-` is standard input, and no other word that begins with it is a file
-abbrev pub with_file : Asked → List ℕ → Option Asked
+abbrev pub with_file : CommandView → List ℕ → Option CommandView
 with_file a word =
     (if bytes_eq word (codes "-") then Some a
     else if begins_with_dash word then None
     else Some (record a { file = Some word }))
 
 -- what words without a further option ask for: they are one file, or wrong
-abbrev pub with_last : Asked → List (List ℕ) → Option Asked
+abbrev pub with_last : CommandView → List (List ℕ) → Option CommandView
 with_last a [] = None
 with_last a (word ∷ []) = with_file a word
 with_last a (_ ∷ _ ∷ _) = None
 
 -- what words ask for behind others that ask for this
-abbrev pub command_with : Asked → List (List ℕ) → Option Asked
+abbrev pub command_with : CommandView → List (List ℕ) → Option CommandView
 command_with a [] = None
 command_with a (word ∷ []) = with_file a word
 command_with a (word ∷ next ∷ words) =
@@ -106,5 +106,5 @@ command_with a (word ∷ next ∷ words) =
 
 -- what the words after the program's name ask for: `[--allow-dtd] [--nodes-limit N] [--axes] [--lookups] [--batch] [--ans-file PATH]
 -- [--ans-none] [--ans-err TEXT] [--main MAIN] FILE`, the options in any order, and None where a word is wrong
-abbrev pub command_of : List (List ℕ) → Option Asked
+abbrev pub command_of : List (List ℕ) → Option CommandView
 command_of words = command_with nothing_asked words

@@ -3,19 +3,19 @@ use Rattle.std.specs.List.{flat_map}
 use Rattle.std.specs.Fmt.{digit_glyph}
 
 -- printable ASCII, but for `"` and `\`
-abbrev pub is_plain : ℕ → Bool
-is_plain byte = nat_le 32 byte && nat_lt byte 127 && not (byte == 34) && not (byte == 92)
+abbrev pub is_printable : ℕ → Bool
+is_printable byte = nat_le 32 byte && nat_lt byte 127 && not (byte == 34) && not (byte == 92)
 
 -- `\x` and two hexadecimal digits
 abbrev pub hexadecimal : ℕ → List ℕ
 hexadecimal byte = 92 ∷ 120 ∷ digit_glyph false (byte / 16) ∷ digit_glyph false (byte % 16) ∷ []
 
 abbrev pub escaped_byte : ℕ → List ℕ
-escaped_byte byte = (if is_plain byte then byte ∷ [] else hexadecimal byte)
+escaped_byte byte = (if is_printable byte then byte ∷ [] else hexadecimal byte)
 
 abbrev pub escaped : List ℕ → List ℕ
 escaped text = flat_map escaped_byte text
 
 -- a text between quotes
-abbrev pub quoted : List ℕ → List ℕ
-quoted text = 34 ∷ (escaped text ++ 34 ∷ [])
+abbrev pub quoted_bytes : List ℕ → List ℕ
+quoted_bytes text = 34 ∷ (escaped text ++ 34 ∷ [])

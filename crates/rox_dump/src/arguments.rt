@@ -2,7 +2,7 @@
 
 ghost use Rattle.std.specs.Prelude.{◌≡◌, ◌<◌, map, length, string_bytes, IfOk, IfSome, IsNone, OnOk};
 ghost use Rattle.std.specs.Option.{option_map};
-ghost use Rattle.rox_dump.specs.Command.{Asked, meaning, nothing_asked, changed, limit_of, with_flag, with_value, with_file, with_last, command_with, command_of};
+ghost use Rattle.rox_dump.specs.Command.{CommandView, meaning, nothing_asked, changed, limit_of, with_flag, with_value, with_file, with_last, command_with, command_of};
 
 use crate::numbers::number;
 use crate::options::{AnswerWord, Command, Options};
@@ -57,9 +57,9 @@ fn no_command<'a>(alloc: Global) -> Command<'a>
 
 /// What the first of these words asks for, and the words behind it. None where it is no option.
 fn next_option(words: &[String]) -> Option<(Change<'_>, &[String])>
-    ensures some { IfSome result (λ next. (a : Asked) → command_with a (map string_bytes words.now) ≡ command_with (changed a next.0) (map string_bytes next.1.now)) }
+    ensures some { IfSome result (λ next. (a : CommandView) → command_with a (map string_bytes words.now) ≡ command_with (changed a next.0) (map string_bytes next.1.now)) }
     ensures fewer { IfSome result (λ next. length next.1.now < length words.now) }
-    ensures none { IsNone result → (a : Asked) → command_with a (map string_bytes words.now) ≡ with_last a (map string_bytes words.now) }
+    ensures none { IsNone result → (a : CommandView) → command_with a (map string_bytes words.now) ≡ with_last a (map string_bytes words.now) }
 {
     let (word, rest) = words.split_first()?;
     if let Some(change) = flag(word.as_str()) {
@@ -72,7 +72,7 @@ fn next_option(words: &[String]) -> Option<(Change<'_>, &[String])>
 
 /// What a word asks for alone. None where it is no such option.
 fn flag<'a>(word: &str) -> Option<Change<'a>>
-    ensures { (a : Asked) → option_map (changed a) result ≡ with_flag a word.now }
+    ensures { (a : CommandView) → option_map (changed a) result ≡ with_flag a word.now }
 {
     match word {
         "--allow-dtd" => Some(Change::AllowDtd),
@@ -86,7 +86,7 @@ fn flag<'a>(word: &str) -> Option<Change<'a>>
 
 /// What a word asks for with the one behind it. None where it is no such option.
 fn valued<'a>(word: &str, value: &'a str) -> Option<Change<'a>>
-    ensures { (a : Asked) → option_map (changed a) result ≡ with_value a word.now value.now }
+    ensures { (a : CommandView) → option_map (changed a) result ≡ with_value a word.now value.now }
 {
     match word {
         "--nodes-limit" => Some(Change::NodesLimit(limit(value)?)),

@@ -3,14 +3,14 @@
 ghost use Rattle.std.specs.Prelude.{◌≡◌, ◌<◌, false, OnOk};
 ghost use Rattle.std.specs.Fmt.{digit_glyph};
 ghost use Rattle.std.specs.Io.KnownBytes.{Appends};
-ghost use Rattle.rox_dump.specs.Escaped.{is_plain, hexadecimal, escaped_byte, escaped, quoted};
+ghost use Rattle.rox_dump.specs.Escaped.{is_printable, hexadecimal, escaped_byte, escaped, quoted_bytes};
 
 use std::io;
 use std::io::Write;
 
 /// Writes a text between quotes.
 pub fn write_quoted<W: Write>(text: &str, out: &mut W) -> io::Result<()>
-    ensures { OnOk result (Appends (W.contents out.old) (W.contents out.new) (quoted text.now)) }
+    ensures { OnOk result (Appends (W.contents out.old) (W.contents out.new) (quoted_bytes text.now)) }
 {
     out.write_all(b"\"")?;
     write_escaped(text, out)?;
@@ -30,15 +30,15 @@ pub fn write_escaped<W: Write>(text: &str, out: &mut W) -> io::Result<()>
 fn write_byte<W: Write>(byte: u8, out: &mut W) -> io::Result<()>
     ensures { OnOk result (Appends (W.contents out.old) (W.contents out.new) (escaped_byte byte)) }
 {
-    if is_plain(byte) {
+    if is_printable(byte) {
         out.write_all(&[byte])
     } else {
         out.write_all(&hexadecimal(byte))
     }
 }
 
-fn is_plain(byte: u8) -> bool
-    ensures { result ≡ is_plain byte }
+fn is_printable(byte: u8) -> bool
+    ensures { result ≡ is_printable byte }
 {
     matches!(byte, b' '..=b'~') && byte != b'"' && byte != b'\\'
 }

@@ -78,7 +78,7 @@ pub enum Error<'w> {
 
 impl Error<'_> {
     ghost use Rattle.std.specs.Prelude.{◌≡◌};
-    ghost use Rattle.rox_error.specs.Telling.{position_of};
+    ghost use Rattle.rox_error.specs.FaultErrors.{position_of};
 
     /// The position that the error is named at, or 1:1 where it keeps none.
     pub fn pos(&self) -> TextPos

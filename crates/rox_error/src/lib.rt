@@ -3,4 +3,4 @@
 
 pub mod error;
 pub mod position;
-mod telling;
+mod from_fault;

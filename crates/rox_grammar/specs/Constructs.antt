@@ -4,8 +4,8 @@ use Rattle.rox_grammar.specs.declared.fault.Word.{Word}
 use Rattle.rox_grammar.specs.declared.fault.Word.TheVariants as word
 use Rattle.rox_grammar.specs.Chars.{is_char}
 use Rattle.rox_grammar.specs.Runs.{run_end}
-use Rattle.rox_grammar.specs.Marks.{stands, before_mark, mark_from, byte_from}
-use Rattle.rox_grammar.specs.Words.{word_text}
+use Rattle.rox_grammar.specs.Search.{stands, before_mark, mark_from, byte_from}
+use Rattle.rox_grammar.specs.FixedTexts.{word_text}
 use Rattle.rox_grammar.specs.Written.{Name}
 use Rattle.rox_grammar.specs.Names.{byte, slice, spaces_end, IsName, IsQName}
 
@@ -43,7 +43,7 @@ pub record IsComment (src : List ℕ) (i e j : ℕ) : Type 0 where
 -- `xml` with a space behind it is no target: 2.6 [17] wants white space and forbids `xml` in any letters, NS 7 a colon.
 pub record IsPI (src : List ℕ) (i n e j : ℕ) : Type 0 where
   pub opens : at word.PIStart src i ≡ true
-  pub no_declaration : at word.DeclarationStart src i ≡ false
+  pub no_declaration : at word.XmlDeclStart src i ≡ false
   pub target : IsName src (i + 2) n
   pub end : e ≡ first word.PIEnd src (spaces_end src n)
   pub chars : AreChars src (spaces_end src n) e
@@ -99,8 +99,8 @@ pub data MayEndPair (w : Word) (src : List ℕ) : ℕ → ℕ → Type 0 where
   no_last : (i : ℕ) → at w src i ≡ false → MayEndPair w src i i
 
 -- XML 2.8 [23] XMLDecl, but only where a space follows `<?xml`: with other white space there it is read as an instruction
-pub record IsDeclaration (src : List ℕ) (i j : ℕ) : Type 0 where
-  pub opens : at word.DeclarationStart src i ≡ true
+pub record IsXmlDecl (src : List ℕ) (i j : ℕ) : Type 0 where
+  pub opens : at word.XmlDeclStart src i ≡ true
   pub version : at word.Version src (spaces_end src (i + 5)) ≡ true
   pub v : ℕ
   pub first_pair : MayBePair word.Version src (spaces_end src (i + 5)) v

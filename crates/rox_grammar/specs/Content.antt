@@ -3,10 +3,10 @@ use Rattle.std.specs.Prelude.{◌≡◌, ◌≢◌, ℕ, ◌+◌, ◌<◌, ◌�
 use Rattle.std.specs.List.{list_any}
 use Rattle.std.specs.Char.{encode_utf8}
 use Rattle.rox_grammar.specs.declared.fault.Word.TheVariants as word
-use Rattle.rox_grammar.specs.Words.{word_text}
-use Rattle.rox_grammar.specs.Marks.{byte_from}
+use Rattle.rox_grammar.specs.FixedTexts.{word_text}
+use Rattle.rox_grammar.specs.Search.{byte_from}
 use Rattle.rox_grammar.specs.Forest.{Forest, Nil, Cons, join}
-use Rattle.rox_grammar.specs.Written.{Attribute, Tag, Item, Element, Text, Comment, PI, declarations_of, attributes_of, merge, leaf}
+use Rattle.rox_grammar.specs.Written.{Attribute, Tag, Item, Element, Text, Comment, PI, namespace_decls_of, plain_attributes_of, merge, leaf}
 use Rattle.rox_grammar.specs.Tree.{none_if_empty}
 use Rattle.rox_grammar.specs.Names.{byte, slice, spaces_end, IsQName}
 use Rattle.rox_grammar.specs.Constructs.{AreChars, has_mark, IsComment, IsPI, IsCData, IsEq, IsLiteral, IsEnd}
@@ -14,74 +14,74 @@ use Rattle.rox_grammar.specs.References.{IsReference, IsCharacter, predefined}
 
 -- What a reference to a name means: in content, with this many openings left, these items, and so many are left then;
 -- in a value likewise these bytes.
-pub record Opener : Type 1 where
+pub record Inclusion : Type 1 where
   pub content : List ℕ → ℕ → Forest Item → ℕ → Type 0
   pub value : List ℕ → ℕ → List ℕ → ℕ → Type 0
 
 -- A byte of character data: as it stands, or kept as it is since it came from a reference.
-pub data Sign : Type 0 where
-  literal : ℕ → Sign
-  kept : ℕ → Sign
+pub data DataByte : Type 0 where
+  literal : ℕ → DataByte
+  kept : ℕ → DataByte
 
-abbrev pub sign_byte : Sign → ℕ
-sign_byte (literal b) = b
-sign_byte (kept b) = b
+abbrev pub data_byte : DataByte → ℕ
+data_byte (literal b) = b
+data_byte (kept b) = b
 
-abbrev pub is_literal : ℕ → Sign → Bool
+abbrev pub is_literal : ℕ → DataByte → Bool
 is_literal c (literal b) = b == c
 is_literal c (kept b) = false
 
 -- the bytes of a character from a reference, which is kept outside replacement texts alone; by XML 2.11 it is kept everywhere,
 -- since line ends are found before references are opened
-abbrev pub signs_of : Bool → List ℕ → List Sign
-signs_of main [] = []
-signs_of true (b ∷ bs) = kept b ∷ signs_of true bs
-signs_of false (b ∷ bs) = literal b ∷ signs_of false bs
+abbrev pub data_bytes_of : Bool → List ℕ → List DataByte
+data_bytes_of main [] = []
+data_bytes_of true (b ∷ bs) = kept b ∷ data_bytes_of true bs
+data_bytes_of false (b ∷ bs) = literal b ∷ data_bytes_of false bs
 
 -- a literal LF stands in front
-abbrev pub begins_with_line_feed : List Sign → Bool
+abbrev pub begins_with_line_feed : List DataByte → Bool
 begins_with_line_feed [] = false
 begins_with_line_feed (s ∷ ss) = is_literal 10 s
 
 -- XML 2.11: a literal CR right before a literal LF gives nothing, and any other literal CR gives LF
-abbrev pub line_ends : List Sign → List ℕ
+abbrev pub line_ends : List DataByte → List ℕ
 line_ends [] = []
-line_ends (s ∷ ss) = if is_literal 13 s then (if begins_with_line_feed ss then line_ends ss else 10 ∷ line_ends ss) else sign_byte s ∷ line_ends ss
+line_ends (s ∷ ss) = if is_literal 13 s then (if begins_with_line_feed ss then line_ends ss else 10 ∷ line_ends ss) else data_byte s ∷ line_ends ss
 
 -- each byte as it stands
-abbrev pub literals : List ℕ → List Sign
-literals bs = signs_of false bs
+abbrev pub literals : List ℕ → List DataByte
+literals bs = data_bytes_of false bs
 
 -- no `&` and no CR
-abbrev pub is_plain : List ℕ → Bool
-is_plain bs = not (list_any (λ b. b == 38 || b == 13) bs)
+abbrev pub is_verbatim : List ℕ → Bool
+is_verbatim bs = not (list_any (λ b. b == 38 || b == 13) bs)
 
 -- no `&` and no white space but space
-abbrev pub is_plain_value : List ℕ → Bool
-is_plain_value bs = not (list_any (λ b. b == 38 || (b == 9 || (b == 10 || b == 13))) bs)
+abbrev pub is_verbatim_value : List ℕ → Bool
+is_verbatim_value bs = not (list_any (λ b. b == 38 || (b == 9 || (b == 10 || b == 13))) bs)
 
 -- the text of a part, if it has a character
-abbrev pub piece : ℕ → ℕ → Bool → List Sign → Forest Item
+abbrev pub piece : ℕ → ℕ → Bool → List DataByte → Forest Item
 piece start stop plain [] = Nil
 piece start stop plain (s ∷ ss) = leaf (Text start stop (line_ends (s ∷ ss)) plain)
 
 -- XML 2.4, 4.1: characters and references to them, from i up to j. In a replacement text too a reference stands for a character,
 -- where by 4.5 one of an entity's literal is opened before, and may begin markup.
-pub data Part (main : Bool) (src : List ℕ) (j : ℕ) : ℕ → List Sign → Type 0 where
+pub data Part (main : Bool) (src : List ℕ) (j : ℕ) : ℕ → List DataByte → Type 0 where
   part_ends : Part main src j j []
-  as_written : (i : ℕ) (ss : List Sign) → i < j → byte src i ≢ 38 → Part main src j (i + 1) ss → Part main src j i (literal (byte src i) ∷ ss)
-  from_reference : (i n c : ℕ) (ss : List Sign) → IsCharacter src i c n → n ≤ j → Part main src j n ss → Part main src j i (signs_of main (encode_utf8 c) ++ ss)
+  as_written : (i : ℕ) (ss : List DataByte) → i < j → byte src i ≢ 38 → Part main src j (i + 1) ss → Part main src j i (literal (byte src i) ∷ ss)
+  from_reference : (i n c : ℕ) (ss : List DataByte) → IsCharacter src i c n → n ≤ j → Part main src j n ss → Part main src j i (data_bytes_of main (encode_utf8 c) ++ ss)
 
 -- the parts of the run from start up to stop, from i on, which references to entities cut
-pub data Parts (main : Bool) (Opens : Opener) (src : List ℕ) (start stop : ℕ) : ℕ → ℕ → ℕ → Forest Item → Type 0 where
-  last_part : (i b : ℕ) (ss : List Sign) → Part main src stop i ss
-      → Parts main Opens src start stop i b b (piece start stop (is_plain (slice src start stop)) ss)
-  then_entity : (i p n j b c d : ℕ) (ss : List Sign) (items more : Forest Item) → Part main src p i ss → IsReference src p n j → predefined (slice src (p + 1) n) ≡ None
-      → Opens.content (slice src (p + 1) n) b items c → Parts main Opens src start stop j c d more
-      → Parts main Opens src start stop i b d (join (piece start stop false ss) (join items more))
+pub data Parts (main : Bool) (Includes : Inclusion) (src : List ℕ) (start stop : ℕ) : ℕ → ℕ → ℕ → Forest Item → Type 0 where
+  last_part : (i b : ℕ) (ss : List DataByte) → Part main src stop i ss
+      → Parts main Includes src start stop i b b (piece start stop (is_verbatim (slice src start stop)) ss)
+  then_entity : (i p n j b c d : ℕ) (ss : List DataByte) (items more : Forest Item) → Part main src p i ss → IsReference src p n j → predefined (slice src (p + 1) n) ≡ None
+      → Includes.content (slice src (p + 1) n) b items c → Parts main Includes src start stop j c d more
+      → Parts main Includes src start stop i b d (join (piece start stop false ss) (join items more))
 
 -- XML 2.4: a run reaches to the next `<` or the end
-pub record IsRun (src : List ℕ) (i j : ℕ) : Type 0 where
+pub record IsCharacterData (src : List ℕ) (i j : ℕ) : Type 0 where
   pub some : i < j
   pub end : j ≡ byte_from (λ c. c == 60) src i
   pub chars : AreChars src i j
@@ -94,21 +94,21 @@ value_bytes false c = if c == 9 || (c == 10 || c == 13) then 32 ∷ [] else enco
 
 -- XML 3.3.3: the value that stands from i up to j. Within a replacement text a reference may not give `<` (`a_character`), where
 -- 3.1 and 4.6 let `&lt;` give one.
-pub data Value (main : Bool) (Opens : Opener) (src : List ℕ) (j : ℕ) : ℕ → ℕ → ℕ → List ℕ → Type 0 where
-  value_ends : (b : ℕ) → Value main Opens src j j b b []
-  line_end : (i b c : ℕ) (v : List ℕ) → i + 1 < j → byte src i ≡ 13 → byte src (i + 1) ≡ 10 → Value main Opens src j (i + 1) b c v
-      → Value main Opens src j i b c v
+pub data Value (main : Bool) (Includes : Inclusion) (src : List ℕ) (j : ℕ) : ℕ → ℕ → ℕ → List ℕ → Type 0 where
+  value_ends : (b : ℕ) → Value main Includes src j j b b []
+  line_end : (i b c : ℕ) (v : List ℕ) → i + 1 < j → byte src i ≡ 13 → byte src (i + 1) ≡ 10 → Value main Includes src j (i + 1) b c v
+      → Value main Includes src j i b c v
   white : (i b c : ℕ) (v : List ℕ) → i < j → (byte src i ≡ 9) ⊎ ((byte src i ≡ 10) ⊎ ((byte src i ≡ 13) × ((j ≡ i + 1) ⊎ (byte src (i + 1) ≢ 10))))
-      → Value main Opens src j (i + 1) b c v → Value main Opens src j i b c (32 ∷ v)
+      → Value main Includes src j (i + 1) b c v → Value main Includes src j i b c (32 ∷ v)
   other : (i b c : ℕ) (v : List ℕ) → i < j → byte src i ≢ 38 → byte src i ≢ 9 → byte src i ≢ 10 → byte src i ≢ 13 → byte src i ≢ 60
-      → Value main Opens src j (i + 1) b c v → Value main Opens src j i b c (byte src i ∷ v)
-  a_character : (i n x b c : ℕ) (v : List ℕ) → IsCharacter src i x n → n ≤ j → (main ≡ true) ⊎ (x ≢ 60) → Value main Opens src j n b c v
-      → Value main Opens src j i b c (value_bytes main x ++ v)
-  an_entity : (i n k b c d : ℕ) (w v : List ℕ) → IsReference src i n k → predefined (slice src (i + 1) n) ≡ None → k ≤ j → Opens.value (slice src (i + 1) n) b w c
-      → Value main Opens src j k c d v → Value main Opens src j i b d (w ++ v)
+      → Value main Includes src j (i + 1) b c v → Value main Includes src j i b c (byte src i ∷ v)
+  a_character : (i n x b c : ℕ) (v : List ℕ) → IsCharacter src i x n → n ≤ j → (main ≡ true) ⊎ (x ≢ 60) → Value main Includes src j n b c v
+      → Value main Includes src j i b c (value_bytes main x ++ v)
+  an_entity : (i n k b c d : ℕ) (w v : List ℕ) → IsReference src i n k → predefined (slice src (i + 1) n) ≡ None → k ≤ j → Includes.value (slice src (i + 1) n) b w c
+      → Value main Includes src j k c d v → Value main Includes src j i b d (w ++ v)
 
 -- XML 3.1 [41] Attribute
-pub record IsAttribute (main : Bool) (Opens : Opener) (src : List ℕ) (i j b c : ℕ) (a : Attribute) : Type 0 where
+pub record IsAttribute (main : Bool) (Includes : Inclusion) (src : List ℕ) (i j b c : ℕ) (a : Attribute) : Type 0 where
   pub starts : a.start ≡ i
   pub is_name : IsQName src i a.name a.name_end
   pub v : ℕ
@@ -117,14 +117,14 @@ pub record IsAttribute (main : Bool) (Opens : Opener) (src : List ℕ) (i j b c 
   pub literal : IsLiteral src v e j
   pub value_start : a.value_start ≡ v + 1
   pub end : a.end ≡ j
-  pub value : Value main Opens src e (v + 1) b c a.value
-  pub borrowed : a.borrowed ≡ is_plain_value (slice src (v + 1) e)
+  pub value : Value main Includes src e (v + 1) b c a.value
+  pub borrowed : a.borrowed ≡ is_verbatim_value (slice src (v + 1) e)
 
 -- attributes, each after white space
-pub data Attributes (main : Bool) (Opens : Opener) (src : List ℕ) : ℕ → ℕ → ℕ → ℕ → List Attribute → Type 0 where
-  no_more : (i b : ℕ) → Attributes main Opens src i i b b []
-  one_more : (i j k b c d : ℕ) (a : Attribute) (as' : List Attribute) → i < spaces_end src i → IsAttribute main Opens src (spaces_end src i) j b c a
-      → Attributes main Opens src j k c d as' → Attributes main Opens src i k b d (a ∷ as')
+pub data Attributes (main : Bool) (Includes : Inclusion) (src : List ℕ) : ℕ → ℕ → ℕ → ℕ → List Attribute → Type 0 where
+  no_more : (i b : ℕ) → Attributes main Includes src i i b b []
+  one_more : (i j k b c d : ℕ) (a : Attribute) (as' : List Attribute) → i < spaces_end src i → IsAttribute main Includes src (spaces_end src i) j b c a
+      → Attributes main Includes src j k c d as' → Attributes main Includes src i k b d (a ∷ as')
 
 -- `>`, or `/>` where the element is empty, after white space
 pub data TagEnds (src : List ℕ) : ℕ → Bool → ℕ → Type 0 where
@@ -132,15 +132,15 @@ pub data TagEnds (src : List ℕ) : ℕ → Bool → ℕ → Type 0 where
   closed : (i : ℕ) → byte src (spaces_end src i) ≡ 47 → byte src (spaces_end src i + 1) ≡ 62 → TagEnds src i true (spaces_end src i + 2)
 
 -- XML 3.1 [40] STag, [44] EmptyElemTag; the flag says that the element is empty
-pub record IsTag (main : Bool) (Opens : Opener) (src : List ℕ) (i j b c : ℕ) (empty : Bool) (t : Tag) : Type 0 where
+pub record IsTag (main : Bool) (Includes : Inclusion) (src : List ℕ) (i j b c : ℕ) (empty : Bool) (t : Tag) : Type 0 where
   pub begins : byte src i ≡ 60
   pub is_name : IsQName src (i + 1) t.name t.name_end
   pub written : List Attribute
   pub last : ℕ
-  pub attributes : Attributes main Opens src t.name_end last b c written
+  pub attributes : Attributes main Includes src t.name_end last b c written
   pub ends : TagEnds src last empty j
-  pub declares : t.declarations ≡ declarations_of written
-  pub has : t.attributes ≡ attributes_of written
+  pub is_namespace_decl : t.declarations ≡ namespace_decls_of written
+  pub has : t.attributes ≡ plain_attributes_of written
 
 -- a comment or a processing instruction, as an item. Unlike in 2.11 its carriage returns are kept.
 pub data IsMisc (src : List ℕ) : ℕ → ℕ → Item → Type 0 where
@@ -149,19 +149,19 @@ pub data IsMisc (src : List ℕ) : ℕ → ℕ → Item → Type 0 where
 
 mutual
   -- XML 3 [39] element: from i up to j
-  pub data IsElement (main : Bool) (Opens : Opener) (src : List ℕ) : ℕ → ℕ → ℕ → ℕ → Forest Item → Type 0 where
-    empty : (i j b c : ℕ) (t : Tag) → IsTag main Opens src i j b c true t → IsElement main Opens src i j b c (leaf (Element i j t))
-    nest : (i j m p e b c d : ℕ) (t : Tag) (kids : Forest Item) → IsTag main Opens src i j b c false t → Content main Opens src j m c d kids
-        → IsEnd src m t.name p e → IsElement main Opens src i e b d (Cons (Element i e t) (merge kids) Nil)
+  pub data IsElement (main : Bool) (Includes : Inclusion) (src : List ℕ) : ℕ → ℕ → ℕ → ℕ → Forest Item → Type 0 where
+    empty : (i j b c : ℕ) (t : Tag) → IsTag main Includes src i j b c true t → IsElement main Includes src i j b c (leaf (Element i j t))
+    nest : (i j m p e b c d : ℕ) (t : Tag) (kids : Forest Item) → IsTag main Includes src i j b c false t → Content main Includes src j m c d kids
+        → IsEnd src m t.name p e → IsElement main Includes src i e b d (Cons (Element i e t) (merge kids) Nil)
 
   -- XML 3.1 [43] content: from i up to j
-  pub data Content (main : Bool) (Opens : Opener) (src : List ℕ) : ℕ → ℕ → ℕ → ℕ → Forest Item → Type 0 where
-    ends : (i b : ℕ) → Content main Opens src i i b b Nil
-    run : (i j l b c d : ℕ) (items more : Forest Item) → IsRun src i j → Parts main Opens src i j i b c items → Content main Opens src j l c d more
-        → Content main Opens src i l b d (join items more)
-    cdata : (i e j l b c : ℕ) (more : Forest Item) → IsCData src i e j → Content main Opens src j l b c more
-        → Content main Opens src i l b c (join (leaf (Text i j (line_ends (literals (slice src (i + 9) e))) (not (list_any (λ b. b == 13) (slice src (i + 9) e))))) more)
-    misc : (i j l b c : ℕ) (item : Item) (more : Forest Item) → IsMisc src i j item → Content main Opens src j l b c more
-        → Content main Opens src i l b c (join (leaf item) more)
-    node : (i j l b c d : ℕ) (one more : Forest Item) → IsElement main Opens src i j b c one → Content main Opens src j l c d more
-        → Content main Opens src i l b d (join one more)
+  pub data Content (main : Bool) (Includes : Inclusion) (src : List ℕ) : ℕ → ℕ → ℕ → ℕ → Forest Item → Type 0 where
+    ends : (i b : ℕ) → Content main Includes src i i b b Nil
+    run : (i j l b c d : ℕ) (items more : Forest Item) → IsCharacterData src i j → Parts main Includes src i j i b c items → Content main Includes src j l c d more
+        → Content main Includes src i l b d (join items more)
+    cdata : (i e j l b c : ℕ) (more : Forest Item) → IsCData src i e j → Content main Includes src j l b c more
+        → Content main Includes src i l b c (join (leaf (Text i j (line_ends (literals (slice src (i + 9) e))) (not (list_any (λ b. b == 13) (slice src (i + 9) e))))) more)
+    misc : (i j l b c : ℕ) (item : Item) (more : Forest Item) → IsMisc src i j item → Content main Includes src j l b c more
+        → Content main Includes src i l b c (join (leaf item) more)
+    node : (i j l b c d : ℕ) (one more : Forest Item) → IsElement main Includes src i j b c one → Content main Includes src j l c d more
+        → Content main Includes src i l b d (join one more)

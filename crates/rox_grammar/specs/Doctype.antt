@@ -2,13 +2,13 @@
 use Rattle.std.specs.Prelude.{◌≡◌, ◌≢◌, ℕ, ◌+◌, ◌<◌, ◌≤◌, ◌⊎◌, ◌==◌, Bool, true, false, List, [], ◌∷◌, ◌++◌, Option, Some, None, length, take, drop, IsUtf8}
 use Rattle.rox_grammar.specs.declared.fault.Word.TheVariants as word
 use Rattle.rox_grammar.specs.Chars.{is_space}
-use Rattle.rox_grammar.specs.Marks.{byte_from}
+use Rattle.rox_grammar.specs.Search.{byte_from}
 use Rattle.rox_grammar.specs.Forest.{Forest, Nil, join}
 use Rattle.rox_grammar.specs.Written.{Item, leaf}
 use Rattle.rox_grammar.specs.Names.{byte, slice, spaces_end, IsName}
 use Rattle.rox_grammar.specs.Constructs.{at}
 use Rattle.rox_grammar.specs.Content.{IsMisc}
-use Rattle.rox_grammar.specs.Start.{after_bom, MayDeclare}
+use Rattle.rox_grammar.specs.TextStart.{after_bom, MayHaveXmlDecl}
 use Rattle.rox_grammar.specs.Entities.{Replacement, Entity}
 
 -- XML 4.2.2: what is asked for an external entity: its public identifier, if it has one, and its system identifier, as written
@@ -56,15 +56,15 @@ pub record CutsNotation (src : List ℕ) (parameter : Bool) (i j : ℕ) : Type 0
   pub cut : length src ≤ j
 
 -- XML 4.3.1: an answer is a text, and its replacement text what follows a byte order mark and a declaration in it
-pub data Gives : Option (List ℕ) → Option Replacement → Type 0 where
-  nothing : Gives None None
-  the_rest : (text : List ℕ) (d : ℕ) → IsUtf8 text → MayDeclare text (after_bom text) d → Gives (Some text) (Some (record { source = drop d text; start = 0 }))
+pub data GivesReplacement : Option (List ℕ) → Option Replacement → Type 0 where
+  nothing : GivesReplacement None None
+  the_rest : (text : List ℕ) (d : ℕ) → IsUtf8 text → MayHaveXmlDecl text (after_bom text) d → GivesReplacement (Some text) (Some (record { source = drop d text; start = 0 }))
 
 -- XML 4.2 [73] EntityDef, [74] PEDef: from i up to j, with what is asked there and the text that is declared, if any
 pub data IsDefinition (src : List ℕ) (parameter : Bool) : ℕ → ℕ → List Asked → Option Replacement → Type 0 where
   internal : (i e j : ℕ) → IsQuoted src i e j → IsDefinition src parameter i j [] (Some (record { source = take e src; start = i + 1 }))
   external : (i n j : ℕ) (request : Request) (answer : Option (List ℕ)) (text : Option Replacement) → IsExternalID src i request n → MayHaveNotation src parameter n j
-      → Gives answer text → IsDefinition src parameter i j (record { request = request; answer = answer } ∷ []) text
+      → GivesReplacement answer text → IsDefinition src parameter i j (record { request = request; answer = answer } ∷ []) text
 
 -- `%` and white space before the name of a parameter entity
 pub data IsKind (src : List ℕ) : ℕ → (parameter : Bool) → ℕ → Type 0 where
@@ -98,7 +98,7 @@ pub record IsEntityDeclaration (src : List ℕ) (i j : ℕ) (asked : List Asked)
   pub e : ℕ
   pub text : Option Replacement
   pub definition : IsDefinition src parameter d e asked text
-  pub declares : declared ≡ entry (slice src n m) text
+  pub is_namespace_decl : declared ≡ entry (slice src n m) text
   pub closes : byte src (spaces_end src e) ≡ 62
   pub next : j ≡ spaces_end src e + 1
 
@@ -119,7 +119,7 @@ pub data Subset (src : List ℕ) : ℕ → ℕ → Forest Item → List Asked �
       → Subset src i j items asked es
   an_item : (i j k : ℕ) (item : Item) (items : Forest Item) (asked : List Asked) (es : List Entity) → IsMisc src i j item → Subset src j k items asked es
       → Subset src i k (join (leaf item) items) asked es
-  passed_over : (i j k : ℕ) (items : Forest Item) (asked : List Asked) (es : List Entity) → IsPassedOver src i j → Subset src j k items asked es
+  skipped_declaration : (i j k : ℕ) (items : Forest Item) (asked : List Asked) (es : List Entity) → IsPassedOver src i j → Subset src j k items asked es
       → Subset src i k items asked es
   an_entity : (i j k : ℕ) (items : Forest Item) (first asked : List Asked) (one es : List Entity) → IsEntityDeclaration src i j first one → Subset src j k items asked es
       → Subset src i k items (first ++ asked) (one ++ es)

@@ -3,12 +3,12 @@ use Rattle.std.specs.Prelude.{◌≡◌, ℕ, ◌+◌, ◌≤◌, ◌⊎◌, Opt
 use Rattle.std.specs.List.{list_any}
 use Rattle.rox_grammar.specs.Chars.{is_space}
 use Rattle.rox_grammar.specs.Forest.{Forest, Nil, Cons, join, size}
-use Rattle.rox_grammar.specs.Written.{Declaration, Tag, Item, Element, Text, Comment, PI, leaf}
+use Rattle.rox_grammar.specs.Written.{NamespaceDecl, Tag, Item, Element, Text, Comment, PI, leaf}
 use Rattle.rox_grammar.specs.Tree.{Node, same_prefix, document_tree}
 use Rattle.rox_grammar.specs.Names.{byte}
 use Rattle.rox_grammar.specs.Content.{IsMisc, IsElement}
-use Rattle.rox_grammar.specs.Start.{after_bom, MayDeclare}
-use Rattle.rox_grammar.specs.Entities.{Entity, opens_main}
+use Rattle.rox_grammar.specs.TextStart.{after_bom, MayHaveXmlDecl}
+use Rattle.rox_grammar.specs.Entities.{Entity, included_in_main}
 use Rattle.rox_grammar.specs.Doctype.{Request, Asked, IsExternalID, MayHaveNotation, CutsNotation, BeginsEntity, Subset, BeginsDoctype, IsDoctype}
 use Rattle.rox_grammar.specs.WellNamed.{is_xml, AreWellNamed}
 
@@ -29,7 +29,7 @@ pub data MayHaveDoctype (src : List ℕ) : ℕ → ℕ → Bool → Forest Item 
 -- A reference outside replacement texts may open 255 more within the one that it opens.
 pub record ParseOf (src : List ℕ) (dtd : Bool) (asked : List Asked) (tree : Forest Item) : Type 0 where
   pub declared_to : ℕ
-  pub declaration : MayDeclare src (after_bom src) declared_to
+  pub declaration : MayHaveXmlDecl src (after_bom src) declared_to
   pub begun : ℕ
   pub before : Forest Item
   pub misc_before : Misc src declared_to begun before
@@ -40,44 +40,44 @@ pub record ParseOf (src : List ℕ) (dtd : Bool) (asked : List Asked) (tree : Fo
   pub end : ℕ
   pub left : ℕ
   pub one : Forest Item
-  pub element : IsElement true (opens_main entities) src start end 255 left one
+  pub element : IsElement true (included_in_main entities) src start end 255 left one
   pub after : Forest Item
   pub misc_after : Misc src end (length src) after
   pub is_tree : tree ≡ join before (join nodes (join one after))
   pub well_named : AreWellNamed [] tree
 
 -- of these declarations those that are listed
-abbrev pub listable_of : List Declaration → List Declaration
+abbrev pub listable_of : List NamespaceDecl → List NamespaceDecl
 listable_of ds = filter (λ d. not (is_xml d.prefix)) ds
 
 -- what a tag declares and its element lists
-abbrev pub listable : Tag → List Declaration
+abbrev pub listable : Tag → List NamespaceDecl
 listable t = listable_of t.declarations
 
-abbrev pub own_pairs : Item → List Declaration
+abbrev pub own_pairs : Item → List NamespaceDecl
 own_pairs (Element start end t) = listable t
 own_pairs (Text start end value borrowed) = []
 own_pairs (Comment start end text) = []
 own_pairs (PI start end target value) = []
 
 -- all that is declared and listed, in document order
-abbrev pub pairs : Forest Item → List Declaration
+abbrev pub pairs : Forest Item → List NamespaceDecl
 pairs Nil = []
 pairs (Cons item children rest) = own_pairs item ++ (pairs children ++ pairs rest)
 
-abbrev pub same_pair : Declaration → Declaration → Bool
+abbrev pub same_pair : NamespaceDecl → NamespaceDecl → Bool
 same_pair d e = same_prefix d.prefix e.prefix && bytes_eq d.uri e.uri
 
-abbrev pub has_pair : List Declaration → Declaration → Bool
+abbrev pub has_pair : List NamespaceDecl → NamespaceDecl → Bool
 has_pair ds d = list_any (λ e. same_pair e d) ds
 
 -- these, and of the others each one that is not there yet, once
-abbrev pub with_new : List Declaration → List Declaration → List Declaration
+abbrev pub with_new : List NamespaceDecl → List NamespaceDecl → List NamespaceDecl
 with_new ds [] = ds
 with_new ds (e ∷ es) = if has_pair ds e then with_new ds es else with_new (ds ++ e ∷ []) es
 
 -- each pair of a prefix, or the default, and a URI once
-abbrev pub distinct_pairs : List Declaration → List Declaration
+abbrev pub distinct_pairs : List NamespaceDecl → List NamespaceDecl
 distinct_pairs ds = with_new [] ds
 
 abbrev pub own_attributes : Item → ℕ
@@ -119,7 +119,7 @@ Permits allow dtd = dtd ≡ true → allow ≡ true
 -- request is made, and everything before it is as the grammar wants.
 pub record AsksNext (src : List ℕ) (asked : List Asked) (request : Request) (p : ℕ) : Type 0 where
   pub declared_to : ℕ
-  pub declaration : MayDeclare src (after_bom src) declared_to
+  pub declaration : MayHaveXmlDecl src (after_bom src) declared_to
   pub begun : ℕ
   pub before : Forest Item
   pub misc_before : Misc src declared_to begun before

@@ -7,35 +7,35 @@ use Rattle.rox_grammar.specs.declared.fault.Fault.{Fault}
 use Rattle.rox_grammar.specs.declared.fault.Fault.TheVariants as fault
 use Rattle.rox_grammar.specs.Chars.{is_space, is_char}
 use Rattle.rox_grammar.specs.Runs.{run_end, StandsAt}
-use Rattle.rox_grammar.specs.Marks.{byte_from}
+use Rattle.rox_grammar.specs.Search.{byte_from}
 use Rattle.rox_grammar.specs.Written.{Name}
 use Rattle.rox_grammar.specs.Names.{byte, spaces_end, IsName, IsQName}
 use Rattle.rox_grammar.specs.Doctype.{Request, IsQuoted, IsSpace, IsExternalID, IsKind, BeginsEntity, BeginsDoctype}
 use Rattle.rox_grammar.specs.Constructs.{at, first, AreChars, IsEq, IsPair, MayBePair, MayEndPair}
 
 -- what a construct can go on with
-pub data Thing : Type 0 where
-  a_name : Thing
-  a_qname : Thing
-  a_byte : ℕ → Thing
-  a_word : Word → Thing
-  a_space : Thing
-  a_quote : Thing
+pub data DueItem : Type 0 where
+  a_name : DueItem
+  a_qname : DueItem
+  a_byte : ℕ → DueItem
+  a_word : Word → DueItem
+  a_space : DueItem
+  a_quote : DueItem
   -- white space, `?>` or the end
-  a_gap : Thing
+  a_gap : DueItem
   -- Chars up to this place
-  chars_to : ℕ → Thing
+  chars_to : ℕ → DueItem
   -- white space and more of a tag
-  tag_rest : Thing
+  tag_rest : DueItem
   -- `[` or `>` of a document type declaration
-  subset_or_end : Thing
+  subset_or_end : DueItem
   -- its `>` behind the subset
-  doctype_end : Thing
+  doctype_end : DueItem
   -- a literal or an external id of an entity
-  a_definition : Thing
+  a_definition : DueItem
 
 -- it is looked for byte by byte, so that at the end of the text there is none
-abbrev pub takes_byte : Thing → Bool
+abbrev pub takes_byte : DueItem → Bool
 takes_byte (a_byte b) = true
 takes_byte a_space = true
 takes_byte a_quote = true
@@ -46,42 +46,42 @@ takes_byte a_definition = true
 takes_byte other = false
 
 -- the thing is due at p, does not stand there, and this is the fault
-pub data Lacks (src : List ℕ) (p : ℕ) : Thing → Fault → Type 0 where
-  no_name : ((j : ℕ) → IsName src p j → ⊥) → Lacks src p a_name (fault.InvalidName p)
-  no_qname : ((name : Name) (j : ℕ) → IsQName src p name j → ⊥) → Lacks src p a_qname (fault.InvalidName p)
-  other_byte : (b : ℕ) → p < length src → byte src p ≢ b → Lacks src p (a_byte b) (fault.InvalidChar b (byte src p) p)
-  other_word : (w : Word) → at w src p ≡ false → Lacks src p (a_word w) (fault.InvalidString w p)
-  no_space : p < length src → is_space (byte src p) ≡ false → Lacks src p a_space (fault.InvalidChar2 due.Space (byte src p) p)
-  no_quote : p < length src → byte src p ≢ 39 → byte src p ≢ 34 → Lacks src p a_quote (fault.InvalidChar2 due.Quote (byte src p) p)
-  no_gap : p < length src → is_space (byte src p) ≡ false → at word.PIEnd src p ≡ false → Lacks src p a_gap (fault.InvalidChar2 due.Space (byte src p) p)
+pub data IsMissing (src : List ℕ) (p : ℕ) : DueItem → Fault → Type 0 where
+  no_name : ((j : ℕ) → IsName src p j → ⊥) → IsMissing src p a_name (fault.InvalidName p)
+  no_qname : ((name : Name) (j : ℕ) → IsQName src p name j → ⊥) → IsMissing src p a_qname (fault.InvalidName p)
+  other_byte : (b : ℕ) → p < length src → byte src p ≢ b → IsMissing src p (a_byte b) (fault.InvalidChar b (byte src p) p)
+  other_word : (w : Word) → at w src p ≡ false → IsMissing src p (a_word w) (fault.InvalidString w p)
+  no_space : p < length src → is_space (byte src p) ≡ false → IsMissing src p a_space (fault.InvalidChar2 due.Space (byte src p) p)
+  no_quote : p < length src → byte src p ≢ 39 → byte src p ≢ 34 → IsMissing src p a_quote (fault.InvalidChar2 due.Quote (byte src p) p)
+  no_gap : p < length src → is_space (byte src p) ≡ false → at word.PIEnd src p ≡ false → IsMissing src p a_gap (fault.InvalidChar2 due.Space (byte src p) p)
   -- XML 2.2 [2]: the longest stretch of Chars ends at q, before e, with this character
-  no_char : (e q c : ℕ) → q ≡ run_end is_char (take e src) p → q < e → StandsAt c src q → is_char c ≡ false → Lacks src p (chars_to e) (fault.NonXmlChar c q)
-  no_subset : p < length src → byte src p ≢ 91 → byte src p ≢ 62 → Lacks src p subset_or_end (fault.InvalidChar2 due.SubsetOrEnd (byte src p) p)
-  no_end : p < length src → byte src p ≢ 62 → Lacks src p doctype_end (fault.InvalidChar2 due.End (byte src p) p)
-  no_definition : p < length src → byte src p ≢ 34 → byte src p ≢ 39 → byte src p ≢ 83 → byte src p ≢ 80 → Lacks src p a_definition (fault.InvalidChar2 due.EntityDefinition (byte src p) p)
+  no_char : (e q c : ℕ) → q ≡ run_end is_char (take e src) p → q < e → StandsAt c src q → is_char c ≡ false → IsMissing src p (chars_to e) (fault.NonXmlChar c q)
+  no_subset : p < length src → byte src p ≢ 91 → byte src p ≢ 62 → IsMissing src p subset_or_end (fault.InvalidChar2 due.SubsetOrEnd (byte src p) p)
+  no_end : p < length src → byte src p ≢ 62 → IsMissing src p doctype_end (fault.InvalidChar2 due.End (byte src p) p)
+  no_definition : p < length src → byte src p ≢ 34 → byte src p ≢ 39 → byte src p ≢ 83 → byte src p ≢ 80 → IsMissing src p a_definition (fault.InvalidChar2 due.EntityDefinition (byte src p) p)
   -- `S` or `P`
-  no_external_id : (byte src p ≡ 83) ⊎ (byte src p ≡ 80) → at word.System src p ≡ false → at word.Public src p ≡ false → Lacks src p a_definition (fault.InvalidExternalID p)
-  ends_before : (t : Thing) → takes_byte t ≡ true → length src ≤ p → Lacks src p t fault.UnexpectedEndOfStream
+  no_external_id : (byte src p ≡ 83) ⊎ (byte src p ≡ 80) → at word.System src p ≡ false → at word.Public src p ≡ false → IsMissing src p a_definition (fault.InvalidExternalID p)
+  ends_before : (t : DueItem) → takes_byte t ≡ true → length src ≤ p → IsMissing src p t fault.UnexpectedEndOfStream
 
 -- XML 2.5 [15]: in the comment that begins at i
-pub data DueInComment (src : List ℕ) (i : ℕ) : ℕ → Thing → Type 0 where
+pub data DueInComment (src : List ℕ) (i : ℕ) : ℕ → DueItem → Type 0 where
   its_text : at word.CommentStart src i ≡ true → DueInComment src i (i + 4) (chars_to (first word.CommentEnd src (i + 4)))
   its_end : at word.CommentStart src i ≡ true → AreChars src (i + 4) (first word.CommentEnd src (i + 4)) → DueInComment src i (first word.CommentEnd src (i + 4)) (a_word word.CommentEnd)
 
 -- XML 2.6 [16]: in the processing instruction that begins at i
-pub data DueInPI (src : List ℕ) (i : ℕ) : ℕ → Thing → Type 0 where
+pub data DueInPI (src : List ℕ) (i : ℕ) : ℕ → DueItem → Type 0 where
   its_target : at word.PIStart src i ≡ true → DueInPI src i (i + 2) a_name
   its_value : (n : ℕ) → at word.PIStart src i ≡ true → IsName src (i + 2) n → DueInPI src i (spaces_end src n) (chars_to (first word.PIEnd src (spaces_end src n)))
   its_end : (n : ℕ) → at word.PIStart src i ≡ true → IsName src (i + 2) n → AreChars src (spaces_end src n) (first word.PIEnd src (spaces_end src n))
       → DueInPI src i (first word.PIEnd src (spaces_end src n)) (a_word word.PIEnd)
 
 -- XML 2.7 [18]: in the CDATA section that begins at i
-pub data DueInCData (src : List ℕ) (i : ℕ) : ℕ → Thing → Type 0 where
+pub data DueInCData (src : List ℕ) (i : ℕ) : ℕ → DueItem → Type 0 where
   its_text : at word.CDataStart src i ≡ true → DueInCData src i (i + 9) (chars_to (first word.CDataEnd src (i + 9)))
   its_end : at word.CDataStart src i ≡ true → AreChars src (i + 9) (first word.CDataEnd src (i + 9)) → DueInCData src i (first word.CDataEnd src (i + 9)) (a_word word.CDataEnd)
 
 -- XML 3.1 [42]: in the end tag that begins at i
-pub data DueInEnd (src : List ℕ) (i : ℕ) : ℕ → Thing → Type 0 where
+pub data DueInEnd (src : List ℕ) (i : ℕ) : ℕ → DueItem → Type 0 where
   its_name : at word.EndTagStart src i ≡ true → DueInEnd src i (i + 2) a_qname
   its_end : (name : Name) (n : ℕ) → at word.EndTagStart src i ≡ true → IsQName src (i + 2) name n → DueInEnd src i (spaces_end src n) (a_byte 62)
 
@@ -90,7 +90,7 @@ abbrev pub value_end : List ℕ → ℕ → ℕ
 value_end src v = byte_from (λ c. c == byte src v || c == 60) src (v + 1)
 
 -- XML 3.1 [41], 2.8 [24]: in a name, Eq and a literal, from i on
-pub data DueInPair (src : List ℕ) (i : ℕ) : ℕ → Thing → Type 0 where
+pub data DueInPair (src : List ℕ) (i : ℕ) : ℕ → DueItem → Type 0 where
   its_name : DueInPair src i i a_qname
   equals : (name : Name) (n : ℕ) → IsQName src i name n → DueInPair src i (spaces_end src n) (a_byte 61)
   opening : (name : Name) (n v : ℕ) → IsQName src i name n → IsEq src n v → DueInPair src i v a_quote
@@ -109,34 +109,34 @@ pub data PairBegins (src : List ℕ) (i : ℕ) : Bool → ℕ → Type 0 where
       → at word.Standalone src e ≡ true → PairBegins src i false e
 
 -- in the declaration that begins at i
-pub data DueInDeclaration (src : List ℕ) (i : ℕ) : ℕ → Thing → Type 0 where
-  its_version : DueInDeclaration src i (spaces_end src (i + 5)) (a_word word.Version)
-  in_pair : (gap : Bool) (j p : ℕ) (t : Thing) → PairBegins src i gap j → DueInPair src j p t → DueInDeclaration src i p t
-  behind_pair : (j p : ℕ) → PairBegins src i true j → IsPair src j p → DueInDeclaration src i p a_gap
+pub data DueInXmlDecl (src : List ℕ) (i : ℕ) : ℕ → DueItem → Type 0 where
+  its_version : DueInXmlDecl src i (spaces_end src (i + 5)) (a_word word.Version)
+  in_pair : (gap : Bool) (j p : ℕ) (t : DueItem) → PairBegins src i gap j → DueInPair src j p t → DueInXmlDecl src i p t
+  behind_pair : (j p : ℕ) → PairBegins src i true j → IsPair src j p → DueInXmlDecl src i p a_gap
   its_end : (v e s : ℕ) → at word.Version src (spaces_end src (i + 5)) ≡ true → MayBePair word.Version src (spaces_end src (i + 5)) v → MayBePair word.Encoding src v e
-      → MayEndPair word.Standalone src e s → DueInDeclaration src i (spaces_end src s) (a_word word.PIEnd)
+      → MayEndPair word.Standalone src e s → DueInXmlDecl src i (spaces_end src s) (a_word word.PIEnd)
 
 -- XML 2.3 [9], [11], [12]: in a literal of any characters but the quote, which begins at i
-pub data DueInLiteral (src : List ℕ) (i : ℕ) : ℕ → Thing → Type 0 where
+pub data DueInLiteral (src : List ℕ) (i : ℕ) : ℕ → DueItem → Type 0 where
   its_quote : DueInLiteral src i i a_quote
   its_end : (byte src i ≡ 39) ⊎ (byte src i ≡ 34) → DueInLiteral src i (byte_from (λ c. c == byte src i) src (i + 1)) (a_byte (byte src i))
 
 -- XML 4.2.2 [75]: in the external id that begins at i
-pub data DueInExternalID (src : List ℕ) (i : ℕ) : ℕ → Thing → Type 0 where
+pub data DueInExternalID (src : List ℕ) (i : ℕ) : ℕ → DueItem → Type 0 where
   space_before : (at word.System src i ≡ true) ⊎ (at word.Public src i ≡ true) → DueInExternalID src i (i + 6) a_space
-  its_literal : (s p : ℕ) (t : Thing) → (at word.System src i ≡ true) ⊎ (at word.Public src i ≡ true) → IsSpace src (i + 6) s → DueInLiteral src s p t → DueInExternalID src i p t
+  its_literal : (s p : ℕ) (t : DueItem) → (at word.System src i ≡ true) ⊎ (at word.Public src i ≡ true) → IsSpace src (i + 6) s → DueInLiteral src s p t → DueInExternalID src i p t
   space_between : (s e j : ℕ) → at word.Public src i ≡ true → IsSpace src (i + 6) s → IsQuoted src s e j → DueInExternalID src i j a_space
-  second_literal : (s e j v p : ℕ) (t : Thing) → at word.Public src i ≡ true → IsSpace src (i + 6) s → IsQuoted src s e j → IsSpace src j v → DueInLiteral src v p t → DueInExternalID src i p t
+  second_literal : (s e j v p : ℕ) (t : DueItem) → at word.Public src i ≡ true → IsSpace src (i + 6) s → IsQuoted src s e j → IsSpace src j v → DueInLiteral src v p t → DueInExternalID src i p t
 
 -- XML 4.2 [70]: in the entity declaration that begins at i, up to its definition
-pub data DueInEntity (src : List ℕ) (i : ℕ) : ℕ → Thing → Type 0 where
+pub data DueInEntity (src : List ℕ) (i : ℕ) : ℕ → DueItem → Type 0 where
   space_before : DueInEntity src i (i + 8) a_space
   space_of_kind : (k : ℕ) → IsSpace src (i + 8) k → byte src k ≡ 37 → DueInEntity src i (k + 1) a_space
   its_name : (k n : ℕ) (parameter : Bool) → IsSpace src (i + 8) k → IsKind src k parameter n → DueInEntity src i n a_name
   space_behind : (k n m : ℕ) (parameter : Bool) → IsSpace src (i + 8) k → IsKind src k parameter n → IsName src n m → DueInEntity src i m a_space
   its_definition : (parameter : Bool) (n m d : ℕ) → BeginsEntity src i parameter n m d → DueInEntity src i d a_definition
-  its_literal : (parameter : Bool) (n m d p : ℕ) (t : Thing) → BeginsEntity src i parameter n m d → (byte src d ≡ 39) ⊎ (byte src d ≡ 34) → DueInLiteral src d p t → DueInEntity src i p t
-  its_external_id : (parameter : Bool) (n m d p : ℕ) (t : Thing) → BeginsEntity src i parameter n m d → DueInExternalID src d p t → DueInEntity src i p t
+  its_literal : (parameter : Bool) (n m d p : ℕ) (t : DueItem) → BeginsEntity src i parameter n m d → (byte src d ≡ 39) ⊎ (byte src d ≡ 34) → DueInLiteral src d p t → DueInEntity src i p t
+  its_external_id : (parameter : Bool) (n m d p : ℕ) (t : DueItem) → BeginsEntity src i parameter n m d → DueInExternalID src d p t → DueInEntity src i p t
   space_of_notation : (n m d e : ℕ) (request : Request) → BeginsEntity src i false n m d → IsExternalID src d request e → at word.NData src (spaces_end src e) ≡ true
       → DueInEntity src i (spaces_end src e + 5) a_space
   -- at the end of the text it is not asked for
@@ -144,9 +144,9 @@ pub data DueInEntity (src : List ℕ) (i : ℕ) : ℕ → Thing → Type 0 where
       → IsSpace src (spaces_end src e + 5) s → s < length src → DueInEntity src i s a_name
 
 -- XML 2.8 [28]: in the document type declaration that begins at i, up to its subset
-pub data DueInDoctype (src : List ℕ) (i : ℕ) : ℕ → Thing → Type 0 where
+pub data DueInDoctype (src : List ℕ) (i : ℕ) : ℕ → DueItem → Type 0 where
   space_before : DueInDoctype src i (i + 9) a_space
   -- at the end of the text it is not asked for
   its_name : (n : ℕ) → IsSpace src (i + 9) n → n < length src → DueInDoctype src i n a_name
-  its_external_id : (n m p : ℕ) (t : Thing) → IsSpace src (i + 9) n → IsName src n m → DueInExternalID src (spaces_end src m) p t → DueInDoctype src i p t
+  its_external_id : (n m p : ℕ) (t : DueItem) → IsSpace src (i + 9) n → IsName src n m → DueInExternalID src (spaces_end src m) p t → DueInDoctype src i p t
   its_end : (s : ℕ) → BeginsDoctype src i s → DueInDoctype src i s subset_or_end

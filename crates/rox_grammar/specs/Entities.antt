@@ -2,7 +2,7 @@
 -- the text ends; its places count as those of the source that it lies in: the main text, or the rest of a resolver's answer.
 use Rattle.std.specs.Prelude.{◌≡◌, ℕ, zero, suc, ◌+◌, Bool, true, false, List, [], ◌∷◌, Option, Some, None, length, bytes_eq, if◌then◌else◌}
 use Rattle.rox_grammar.specs.Constructs.{AreChars}
-use Rattle.rox_grammar.specs.Content.{Opener, Content, Value}
+use Rattle.rox_grammar.specs.Content.{Inclusion, Content, Value}
 
 -- A replacement text, from `start` up to the end of `source`, which is cut off there: as it is written, where XML 4.5 opens the
 -- character references of a literal beforehand
@@ -27,28 +27,28 @@ Spends true b r l c = (r ≡ 255) × (c ≡ b)
 Spends false b r l c = (b ≡ r + 1) × (c ≡ l)
 
 -- no name is declared as an entity, or none may be opened
-abbrev pub no_entities : Opener
+abbrev pub no_entities : Inclusion
 no_entities = record { content = λ name b items c. ⊥; value = λ name b v c. ⊥ }
 
 -- XML 4.4.2, 4.4.5: what a reference opens, outside replacement texts or within one, where so many may still be open within one
 -- another; XML knows no such bound. In content the whole text is content; in a value it is a part of a value, of Chars, and may be
 -- an external entity's, which 3.1 (No External Entity References) forbids.
-abbrev pub Opens : List Entity → (left : ℕ) → (main : Bool) → Opener
-Opens es zero main = no_entities
-Opens es (suc d) main =
+abbrev pub Includes : List Entity → (left : ℕ) → (main : Bool) → Inclusion
+Includes es zero main = no_entities
+Includes es (suc d) main =
     record {
       content = λ name b items c.
           (t : Replacement) × (r : ℕ) × (l : ℕ) × (text_of es name ≡ Some t) × Spends main b r l c
-          × Content false (Opens es d false) t.source t.start (length t.source) r l items;
+          × Content false (Includes es d false) t.source t.start (length t.source) r l items;
       value = λ name b v c.
           (t : Replacement) × (r : ℕ) × (l : ℕ) × (text_of es name ≡ Some t) × Spends main b r l c × AreChars t.source t.start (length t.source)
-          × Value false (Opens es d false) t.source (length t.source) t.start r l v;
+          × Value false (Includes es d false) t.source (length t.source) t.start r l v;
     }
 
 -- at most ten replacement texts are open at once
-abbrev pub most_open : ℕ
-most_open = 10
+abbrev pub most_deep : ℕ
+most_deep = 10
 
 -- what a reference outside replacement texts opens
-abbrev pub opens_main : List Entity → Opener
-opens_main es = Opens es most_open true
+abbrev pub included_in_main : List Entity → Inclusion
+included_in_main es = Includes es most_deep true

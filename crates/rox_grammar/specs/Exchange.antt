@@ -2,7 +2,7 @@
 -- where the first node of a row has the id 0.
 use Rattle.std.specs.Prelude.{◌≡◌, ℕ, zero, suc, ◌+◌, ◌-◌, ◌<◌, ◌≤◌, ◌&&◌, ◌⊎◌, Bool, true, false, List, [], ◌∷◌, ◌++◌, map, length, take, drop, nat_lt, if◌then◌else◌}
 use Rattle.rox_grammar.specs.Forest.{Forest, Nil, Cons, join, size}
-use Rattle.rox_grammar.specs.Written.{Declaration, Item}
+use Rattle.rox_grammar.specs.Written.{NamespaceDecl, Item}
 use Rattle.rox_grammar.specs.Tree.{Attribute, Node, Root, Element, Text, Comment, PI, document_tree}
 use Rattle.rox_grammar.specs.Names.{slice}
 use Rattle.rox_grammar.specs.Document.{ParseOf}
@@ -70,7 +70,7 @@ abbrev pub is_an_element : Node → Bool
 is_an_element (Element start end namespace local listed attributes) = true
 is_an_element other = false
 
-abbrev pub none_of : List Declaration → Bool
+abbrev pub none_of : List NamespaceDecl → Bool
 none_of [] = true
 none_of (d ∷ ds) = false
 

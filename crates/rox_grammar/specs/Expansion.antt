@@ -3,13 +3,13 @@ use Rattle.std.specs.Prelude.{◌≡◌, ℕ, zero, suc, ◌+◌, ◌-◌, ◌*�
 use Rattle.rox_grammar.specs.Forest.{Forest, Nil, Cons, size}
 use Rattle.rox_grammar.specs.Written.{Attribute, Item, Element, Text, Comment, PI}
 use Rattle.rox_grammar.specs.Constructs.{AreChars}
-use Rattle.rox_grammar.specs.Content.{Opener, Content, Value}
+use Rattle.rox_grammar.specs.Content.{Inclusion, Content, Value}
 use Rattle.rox_grammar.specs.Entities.{Replacement, Entity, text_of, no_entities}
 use Rattle.rox_grammar.specs.Document.{attribute_count}
 
 -- The replacement texts that a reference opens, at most so many within one another, with no limit but this: the numbers count
 -- those that were opened before it and after it.
-abbrev pub Counts : List Entity → (deep : ℕ) → Opener
+abbrev pub Counts : List Entity → (deep : ℕ) → Inclusion
 Counts es zero = no_entities
 Counts es (suc d) =
     record {

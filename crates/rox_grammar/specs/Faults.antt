@@ -7,84 +7,84 @@ use Rattle.rox_grammar.specs.declared.fault.Fault.{Fault}
 use Rattle.rox_grammar.specs.declared.fault.Fault.TheVariants as fault
 use Rattle.rox_grammar.specs.Chars.{is_space, is_char}
 use Rattle.rox_grammar.specs.Runs.{StandsAt}
-use Rattle.rox_grammar.specs.Words.{word_text}
-use Rattle.rox_grammar.specs.Marks.{byte_from}
+use Rattle.rox_grammar.specs.FixedTexts.{word_text}
+use Rattle.rox_grammar.specs.Search.{byte_from}
 use Rattle.rox_grammar.specs.Forest.{Forest, join}
-use Rattle.rox_grammar.specs.Written.{Name, Attribute, Declaration, Tag, Item, declares, declaration_of, declarations_of, attributes_of, leaf}
+use Rattle.rox_grammar.specs.Written.{Name, Attribute, NamespaceDecl, Tag, Item, is_namespace_decl, namespace_decl_of, namespace_decls_of, plain_attributes_of, leaf}
 use Rattle.rox_grammar.specs.Tree.{xml_uri, xmlns_uri, is_declared, listed}
 use Rattle.rox_grammar.specs.Names.{byte, slice, spaces_end, IsQName}
 use Rattle.rox_grammar.specs.Constructs.{at, first, double_dash, has_mark, AreChars, IsEq, IsLiteral, IsEnd}
 use Rattle.rox_grammar.specs.References.{IsReference, IsCharacter, predefined}
-use Rattle.rox_grammar.specs.Content.{Opener, IsRun, IsAttribute, TagEnds, IsMisc}
+use Rattle.rox_grammar.specs.Content.{Inclusion, IsCharacterData, IsAttribute, TagEnds, IsMisc}
 use Rattle.rox_grammar.specs.WellNamed.{is_xml, may_declare, is_known, same_expanded, AreDistinct, may_name, AreWellNamed}
-use Rattle.rox_grammar.specs.Start.{after_bom}
+use Rattle.rox_grammar.specs.TextStart.{after_bom}
 use Rattle.rox_grammar.specs.Entities.{Replacement, Entity, text_of, no_entities}
 use Rattle.rox_grammar.specs.Document.{listable_of, with_new, distinct_pairs, most_attributes, most_pairs}
 use Rattle.rox_grammar.specs.State.{Open, root, inside, State, depth_of, scope_of, nodes_so_far, attributes_so_far, pairs_so_far, FitsLimits}
-use Rattle.rox_grammar.specs.Due.{Thing, a_byte, a_space, a_qname, chars_to, tag_rest, Lacks, DueInComment, DueInPI, DueInCData, DueInEnd, DueInPair, DueInDeclaration}
-use Rattle.rox_grammar.specs.Places.{Ahead, RootBegins, Behind, is_content, is_main, TagBegins, Takes, PartsTo, RefersTo, IsSpent, Place, ValueTo, ValuePart, TagTo}
+use Rattle.rox_grammar.specs.Due.{DueItem, a_byte, a_space, a_qname, chars_to, tag_rest, IsMissing, DueInComment, DueInPI, DueInCData, DueInEnd, DueInPair, DueInXmlDecl}
+use Rattle.rox_grammar.specs.ContentPoints.{PrologTo, RootBegins, Behind, is_content, is_main, TagBegins, StepsOver, PartsTo, RefersTo, IsSpent, ContentPoint, ValueTo, ValuePart, TagTo}
 
 -- the bytes of a name as it is written, without the colon if there is no prefix
 abbrev pub spelled : Name → List ℕ
 spelled n = if bytes_eq n.prefix [] then n.local else n.prefix ++ 58 ∷ n.local
 
 -- the span holds these bytes
-abbrev pub Holds : List ℕ → Span → List ℕ → Type 0
-Holds src span bytes = slice src span.start span.end ≡ bytes
+abbrev pub SpanIs : List ℕ → Span → List ℕ → Type 0
+SpanIs src span bytes = slice src span.start span.end ≡ bytes
 
 -- ---- in a comment or a processing instruction that begins at i
 pub data InMisc (src : List ℕ) (i : ℕ) : Fault → Type 0 where
-  comment_lacks : (p : ℕ) (t : Thing) (f : Fault) → DueInComment src i p t → Lacks src p t f → InMisc src i f
+  comment_lacks : (p : ℕ) (t : DueItem) (f : Fault) → DueInComment src i p t → IsMissing src p t f → InMisc src i f
   -- two dashes in the text, or one at its end
   double_dashes : (e : ℕ) → at word.CommentStart src i ≡ true → e ≡ first word.CommentEnd src (i + 4) → AreChars src (i + 4) e → at word.CommentEnd src e ≡ true
       → (has_mark double_dash (slice src (i + 4) e) ≡ true) ⊎ (byte (slice src (i + 4) e) (length (slice src (i + 4) e) - 1) ≡ 45) → InMisc src i (fault.InvalidComment i)
-  a_declaration : at word.DeclarationStart src i ≡ true → InMisc src i (fault.UnexpectedDeclaration i)
-  instruction_lacks : (p : ℕ) (t : Thing) (f : Fault) → at word.DeclarationStart src i ≡ false → DueInPI src i p t → Lacks src p t f → InMisc src i f
+  a_declaration : at word.XmlDeclStart src i ≡ true → InMisc src i (fault.UnexpectedDeclaration i)
+  instruction_lacks : (p : ℕ) (t : DueItem) (f : Fault) → at word.XmlDeclStart src i ≡ false → DueInPI src i p t → IsMissing src p t f → InMisc src i f
 
 -- ---- references, in a run or a value (XML 4.1)
 pub data InReferences (es : List Entity) (src : List ℕ) (p : ℕ) : Fault → Type 0 where
   malformed : byte src p ≡ 38 → ((c j : ℕ) → IsCharacter src p c j → ⊥) → ((n j : ℕ) → IsReference src p n j → ⊥) → InReferences es src p (fault.MalformedEntityReference p)
-  undeclared : (n j : ℕ) (name : Span) → IsReference src p n j → predefined (slice src (p + 1) n) ≡ None → text_of es (slice src (p + 1) n) ≡ None → Holds src name (slice src (p + 1) n)
+  undeclared : (n j : ℕ) (name : Span) → IsReference src p n j → predefined (slice src (p + 1) n) ≡ None → text_of es (slice src (p + 1) n) ≡ None → SpanIs src name (slice src (p + 1) n)
       → InReferences es src p (fault.UnknownEntityReference name p)
 
 -- ---- in a run that begins at i (XML 2.4), where k replacement texts are open and b openings are left
-pub data InRun (es : List Entity) (k : ℕ) (Opens : Opener) (src : List ℕ) (i b : ℕ) : Fault → Type 0 where
-  no_char : (f : Fault) → Lacks src i (chars_to (byte_from (λ c. c == 60) src i)) f → InRun es k Opens src i b f
-  end_mark : (e : ℕ) → e ≡ byte_from (λ c. c == 60) src i → AreChars src i e → has_mark (word_text word.CDataEnd) (slice src i e) ≡ true → InRun es k Opens src i b (fault.InvalidCharacterData e)
+pub data InRun (es : List Entity) (k : ℕ) (Includes : Inclusion) (src : List ℕ) (i b : ℕ) : Fault → Type 0 where
+  no_char : (f : Fault) → IsMissing src i (chars_to (byte_from (λ c. c == 60) src i)) f → InRun es k Includes src i b f
+  end_mark : (e : ℕ) → e ≡ byte_from (λ c. c == 60) src i → AreChars src i e → has_mark (word_text word.CDataEnd) (slice src i e) ≡ true → InRun es k Includes src i b (fault.InvalidCharacterData e)
   -- any of its references
   in_reference : (e p : ℕ) (f : Fault) → e ≡ byte_from (λ c. c == 60) src i → AreChars src i e → has_mark (word_text word.CDataEnd) (slice src i e) ≡ false
-      → i ≤ p → p < e → InReferences es src p f → InRun es k Opens src i b f
+      → i ≤ p → p < e → InReferences es src p f → InRun es k Includes src i b f
   -- the first one that may open none
-  too_many : (stop p j c : ℕ) (front : Forest Item) (t : Replacement) → IsRun src i stop → PartsTo (is_main k) Opens src i stop i p b c front → p < stop → RefersTo es src p j t → IsSpent k c
-      → InRun es k Opens src i b (fault.EntityReferenceLoop j)
+  too_many : (stop p j c : ℕ) (front : Forest Item) (t : Replacement) → IsCharacterData src i stop → PartsTo (is_main k) Includes src i stop i p b c front → p < stop → RefersTo es src p j t → IsSpent k c
+      → InRun es k Includes src i b (fault.EntityReferenceLoop j)
 
 -- ---- in a part of a value, from i up to stop (XML 3.3.3), where k replacement texts are open and b openings are left
-pub data InValue (es : List Entity) (k : ℕ) (Opens : Opener) (src : List ℕ) (i stop b : ℕ) : Fault → Type 0 where
+pub data InValue (es : List Entity) (k : ℕ) (Includes : Inclusion) (src : List ℕ) (i stop b : ℕ) : Fault → Type 0 where
   -- any of its references
-  in_reference : (p : ℕ) (f : Fault) → i ≤ p → p < stop → InReferences es src p f → InValue es k Opens src i stop b f
-  too_many : (p j c : ℕ) (t : Replacement) → ValueTo Opens src i p b c → p < stop → RefersTo es src p j t → IsSpent k c
-      → InValue es k Opens src i stop b (fault.EntityReferenceLoop j)
+  in_reference : (p : ℕ) (f : Fault) → i ≤ p → p < stop → InReferences es src p f → InValue es k Includes src i stop b f
+  too_many : (p j c : ℕ) (t : Replacement) → ValueTo Includes src i p b c → p < stop → RefersTo es src p j t → IsSpent k c
+      → InValue es k Includes src i stop b (fault.EntityReferenceLoop j)
   -- in a replacement text `<`, a reference that gives it, or what is no Char
-  less : (p : ℕ) → is_main k ≡ false → i ≤ p → p < stop → byte src p ≡ 60 → InValue es k Opens src i stop b (fault.InvalidAttributeValue p)
-  less_by_reference : (p j : ℕ) → is_main k ≡ false → i ≤ p → p < stop → IsCharacter src p 60 j → InValue es k Opens src i stop b (fault.InvalidAttributeValue p)
-  no_char : (q c : ℕ) → is_main k ≡ false → i ≤ q → q < stop → StandsAt c src q → is_char c ≡ false → InValue es k Opens src i stop b (fault.NonXmlChar c q)
+  less : (p : ℕ) → is_main k ≡ false → i ≤ p → p < stop → byte src p ≡ 60 → InValue es k Includes src i stop b (fault.InvalidAttributeValue p)
+  less_by_reference : (p j : ℕ) → is_main k ≡ false → i ≤ p → p < stop → IsCharacter src p 60 j → InValue es k Includes src i stop b (fault.InvalidAttributeValue p)
+  no_char : (q c : ℕ) → is_main k ≡ false → i ≤ q → q < stop → StandsAt c src q → is_char c ≡ false → InValue es k Includes src i stop b (fault.NonXmlChar c q)
 
 -- ---- a declaration that a start tag holds behind these (Namespaces in XML 1.0 section 3)
-pub data IllDeclared (src : List ℕ) (before : List Declaration) (a : Attribute) : Fault → Type 0 where
+pub data IllDeclared (src : List ℕ) (before : List NamespaceDecl) (a : Attribute) : Fault → Type 0 where
   -- `xmlns:xml`
   other_uri : a.name.prefix ≡ word_text word.Xmlns → a.name.local ≡ word_text word.Xml → a.value ≢ xml_uri → a.value ≢ xmlns_uri → IllDeclared src before a (fault.InvalidXmlPrefixUri a.start)
-  uri_of_xml : (is_xml (declaration_of a).prefix ≡ false) → a.value ≡ xml_uri → IllDeclared src before a (fault.UnexpectedXmlUri a.start)
+  uri_of_xml : (is_xml (namespace_decl_of a).prefix ≡ false) → a.value ≡ xml_uri → IllDeclared src before a (fault.UnexpectedXmlUri a.start)
   uri_of_xmlns : a.value ≡ xmlns_uri → IllDeclared src before a (fault.UnexpectedXmlnsUri a.start)
-  again : (name : Span) → may_declare (declaration_of a) ≡ true → is_declared (declaration_of a).prefix before ≡ true → Holds src name a.name.local → IllDeclared src before a (fault.DuplicatedNamespace name a.start)
+  again : (name : Span) → may_declare (namespace_decl_of a) ≡ true → is_declared (namespace_decl_of a).prefix before ≡ true → SpanIs src name a.name.local → IllDeclared src before a (fault.DuplicatedNamespace name a.start)
 
 -- ---- names of a whole start tag that begins at i, with this name and these attributes, whose element lists this scope
 -- (Namespaces in XML 1.0 sections 5 and 6): of its attributes in order, and then its own
-pub data IllNamed (src : List ℕ) (i : ℕ) (scope : List Declaration) (n : Name) (as' : List Attribute) : Fault → Type 0 where
+pub data IllNamed (src : List ℕ) (i : ℕ) (scope : List NamespaceDecl) (n : Name) (as' : List Attribute) : Fault → Type 0 where
   unknown_attribute : (before after : List Attribute) (a : Attribute) (name : Span) → as' ≡ before ++ a ∷ after → AreDistinct scope [] before → is_known scope a.name ≡ false
-      → Holds src name a.name.prefix → IllNamed src i scope n as' (fault.UnknownNamespace name a.start)
+      → SpanIs src name a.name.prefix → IllNamed src i scope n as' (fault.UnknownNamespace name a.start)
   twice : (before after : List Attribute) (a : Attribute) (name : Span) → as' ≡ before ++ a ∷ after → AreDistinct scope [] before → is_known scope a.name ≡ true
-      → list_any (λ e. same_expanded scope e.name a.name) before ≡ true → Holds src name a.name.local → IllNamed src i scope n as' (fault.DuplicatedAttribute name a.start)
-  unknown_element : (name : Span) → AreDistinct scope [] as' → may_name scope n ≡ false → Holds src name n.prefix → IllNamed src i scope n as' (fault.UnknownNamespace name (i + 1))
+      → list_any (λ e. same_expanded scope e.name a.name) before ≡ true → SpanIs src name a.name.local → IllNamed src i scope n as' (fault.DuplicatedAttribute name a.start)
+  unknown_element : (name : Span) → AreDistinct scope [] as' → may_name scope n ≡ false → SpanIs src name n.prefix → IllNamed src i scope n as' (fault.UnknownNamespace name (i + 1))
 
 -- the main text ends right behind the name, an attribute or a declaration of a tag
 abbrev pub cut_off : Open → Fault
@@ -92,77 +92,77 @@ cut_off root = fault.NoRootNode
 cut_off (inside start tag before up) = fault.UnclosedRootNode
 
 -- ---- in the start tag that begins at a place (XML 3.1 [40], [44]); up to p it is as it should be (Places: TagTo)
-pub data InTag (main : Bool) (Opens : Opener) (src : List ℕ) (s : State) (b : ℕ) : Fault → Type 0 where
-  no_name : (f : Fault) → Lacks src (s.at + 1) a_qname f → InTag main Opens src s b f
-  xmlns_prefix : (name : Name) (n : ℕ) → IsQName src (s.at + 1) name n → name.prefix ≡ word_text word.Xmlns → InTag main Opens src s b (fault.InvalidElementNamePrefix (s.at + 1))
-  cut : (p c : ℕ) (as' : List Attribute) → TagTo main Opens src s p b c as' → length src ≤ p → main ≡ true → InTag main Opens src s b (cut_off s.stack)
-  cut_in_replacement : (p c : ℕ) (as' : List Attribute) → TagTo main Opens src s p b c as' → length src ≤ p → main ≡ false → InTag main Opens src s b fault.UnexpectedEndOfStream
+pub data InTag (main : Bool) (Includes : Inclusion) (src : List ℕ) (s : State) (b : ℕ) : Fault → Type 0 where
+  no_name : (f : Fault) → IsMissing src (s.at + 1) a_qname f → InTag main Includes src s b f
+  xmlns_prefix : (name : Name) (n : ℕ) → IsQName src (s.at + 1) name n → name.prefix ≡ word_text word.Xmlns → InTag main Includes src s b (fault.InvalidElementNamePrefix (s.at + 1))
+  cut : (p c : ℕ) (as' : List Attribute) → TagTo main Includes src s p b c as' → length src ≤ p → main ≡ true → InTag main Includes src s b (cut_off s.stack)
+  cut_in_replacement : (p c : ℕ) (as' : List Attribute) → TagTo main Includes src s p b c as' → length src ≤ p → main ≡ false → InTag main Includes src s b fault.UnexpectedEndOfStream
   -- white space up to the end
-  no_rest : (p c : ℕ) (as' : List Attribute) (f : Fault) → TagTo main Opens src s p b c as' → p < length src → Lacks src (spaces_end src p) tag_rest f → InTag main Opens src s b f
-  no_space : (p c : ℕ) (as' : List Attribute) (f : Fault) → TagTo main Opens src s p b c as' → p < length src → byte src p ≢ 47 → byte src p ≢ 62 → Lacks src p a_space f → InTag main Opens src s b f
+  no_rest : (p c : ℕ) (as' : List Attribute) (f : Fault) → TagTo main Includes src s p b c as' → p < length src → IsMissing src (spaces_end src p) tag_rest f → InTag main Includes src s b f
+  no_space : (p c : ℕ) (as' : List Attribute) (f : Fault) → TagTo main Includes src s p b c as' → p < length src → byte src p ≢ 47 → byte src p ≢ 62 → IsMissing src p a_space f → InTag main Includes src s b f
   -- `/` without `>`
-  not_closed : (p c : ℕ) (as' : List Attribute) (f : Fault) → TagTo main Opens src s p b c as' → byte src (spaces_end src p) ≡ 47 → Lacks src (spaces_end src p + 1) (a_byte 62) f
-      → InTag main Opens src s b f
+  not_closed : (p c : ℕ) (as' : List Attribute) (f : Fault) → TagTo main Includes src s p b c as' → byte src (spaces_end src p) ≡ 47 → IsMissing src (spaces_end src p + 1) (a_byte 62) f
+      → InTag main Includes src s b f
   -- an attribute or a declaration
-  in_pair : (p c q : ℕ) (as' : List Attribute) (t : Thing) (f : Fault) → TagTo main Opens src s p b c as' → p < spaces_end src p → spaces_end src p < length src
-      → byte src (spaces_end src p) ≢ 47 → byte src (spaces_end src p) ≢ 62 → DueInPair src (spaces_end src p) q t → Lacks src q t f → InTag main Opens src s b f
-  ill_declared : (p c d j : ℕ) (as' : List Attribute) (a : Attribute) (f : Fault) → TagTo main Opens src s p b c as' → p < spaces_end src p
-      → IsAttribute main Opens src (spaces_end src p) j c d a → declares a.name ≡ true → IllDeclared src (declarations_of as') a f → InTag main Opens src s b f
+  in_pair : (p c q : ℕ) (as' : List Attribute) (t : DueItem) (f : Fault) → TagTo main Includes src s p b c as' → p < spaces_end src p → spaces_end src p < length src
+      → byte src (spaces_end src p) ≢ 47 → byte src (spaces_end src p) ≢ 62 → DueInPair src (spaces_end src p) q t → IsMissing src q t f → InTag main Includes src s b f
+  ill_declared : (p c d j : ℕ) (as' : List Attribute) (a : Attribute) (f : Fault) → TagTo main Includes src s p b c as' → p < spaces_end src p
+      → IsAttribute main Includes src (spaces_end src p) j c d a → is_namespace_decl a.name ≡ true → IllDeclared src (namespace_decls_of as') a f → InTag main Includes src s b f
   -- with the next declaration, which may stand there
-  too_many_pairs : (p c d j : ℕ) (as' : List Attribute) (a : Attribute) → TagTo main Opens src s p b c as' → p < spaces_end src p
-      → IsAttribute main Opens src (spaces_end src p) j c d a → declares a.name ≡ true → may_declare (declaration_of a) ≡ true → is_declared (declaration_of a).prefix (declarations_of as') ≡ false
-      → most_pairs < length (with_new (distinct_pairs (pairs_so_far s.stack s.done)) (listable_of (declarations_of as' ++ declaration_of a ∷ []))) → InTag main Opens src s b fault.NamespacesLimitReached
+  too_many_pairs : (p c d j : ℕ) (as' : List Attribute) (a : Attribute) → TagTo main Includes src s p b c as' → p < spaces_end src p
+      → IsAttribute main Includes src (spaces_end src p) j c d a → is_namespace_decl a.name ≡ true → may_declare (namespace_decl_of a) ≡ true → is_declared (namespace_decl_of a).prefix (namespace_decls_of as') ≡ false
+      → most_pairs < length (with_new (distinct_pairs (pairs_so_far s.stack s.done)) (listable_of (namespace_decls_of as' ++ namespace_decl_of a ∷ []))) → InTag main Includes src s b fault.NamespacesLimitReached
   -- with those of the whole tag
-  too_many_attributes : (p c j : ℕ) (empty : Bool) (as' : List Attribute) → TagTo main Opens src s p b c as' → TagEnds src p empty j
-      → most_attributes < attributes_so_far s.stack s.done + length (attributes_of as') → InTag main Opens src s b fault.AttributesLimitReached
-  ill_named : (p c j : ℕ) (empty : Bool) (as' : List Attribute) (f : Fault) (to : TagTo main Opens src s p b c as') → TagEnds src p empty j
-      → attributes_so_far s.stack s.done + length (attributes_of as') ≤ most_attributes → IllNamed src s.at (listed (scope_of s.stack) (declarations_of as')) to.name (attributes_of as') f
-      → InTag main Opens src s b f
+  too_many_attributes : (p c j : ℕ) (empty : Bool) (as' : List Attribute) → TagTo main Includes src s p b c as' → TagEnds src p empty j
+      → most_attributes < attributes_so_far s.stack s.done + length (plain_attributes_of as') → InTag main Includes src s b fault.AttributesLimitReached
+  ill_named : (p c j : ℕ) (empty : Bool) (as' : List Attribute) (f : Fault) (to : TagTo main Includes src s p b c as') → TagEnds src p empty j
+      → attributes_so_far s.stack s.done + length (plain_attributes_of as') ≤ most_attributes → IllNamed src s.at (listed (scope_of s.stack) (namespace_decls_of as')) to.name (plain_attributes_of as') f
+      → InTag main Includes src s b f
 
 -- ---- in the end tag that begins at a place (XML 3.1 [42]), where `base` elements are open around the replacement text
 pub data InEnd (base : ℕ) (src : List ℕ) (s : State) : Fault → Type 0 where
-  lacks : (p : ℕ) (t : Thing) (f : Fault) → DueInEnd src s.at p t → Lacks src p t f → InEnd base src s f
+  lacks : (p : ℕ) (t : DueItem) (f : Fault) → DueInEnd src s.at p t → IsMissing src p t f → InEnd base src s f
   other_name : (n j start : ℕ) (name : Name) (tag : Tag) (before : Forest Item) (up : Open) (expected actual : Span) → s.stack ≡ inside start tag before up → base < depth_of s.stack
-      → IsEnd src s.at name n j → tag.name ≢ name → Holds src expected (spelled tag.name) → Holds src actual (spelled name)
+      → IsEnd src s.at name n j → tag.name ≢ name → SpanIs src expected (spelled tag.name) → SpanIs src actual (spelled name)
       → InEnd base src s (fault.UnexpectedCloseTag expected actual s.at)
   -- the replacement text has no element open
   none_open : (n j : ℕ) (name : Name) → depth_of s.stack ≡ base → IsEnd src s.at name n j → InEnd base src s (fault.UnexpectedEntityCloseTag s.at)
 
 -- ---- at a place
-pub data Stands (limit : ℕ) (es : List Entity) (k base : ℕ) (Opens : Opener) (src : List ℕ) (s : State) (b : ℕ) : Fault → Type 0 where
-  in_run : (f : Fault) → is_content k s.stack ≡ true → s.at < length src → byte src s.at ≢ 60 → InRun es k Opens src s.at b f → Stands limit es k base Opens src s b f
-  in_section : (p : ℕ) (t : Thing) (f : Fault) → is_content k s.stack ≡ true → DueInCData src s.at p t → Lacks src p t f → Stands limit es k base Opens src s b f
-  in_misc : (f : Fault) → is_content k s.stack ≡ true → InMisc src s.at f → Stands limit es k base Opens src s b f
-  in_tag : (f : Fault) → TagBegins src s.at (is_content k s.stack) → InTag (is_main k) Opens src s b f → Stands limit es k base Opens src s b f
-  in_end : (f : Fault) → is_content k s.stack ≡ true → InEnd base src s f → Stands limit es k base Opens src s b f
+pub data Stands (limit : ℕ) (es : List Entity) (k base : ℕ) (Includes : Inclusion) (src : List ℕ) (s : State) (b : ℕ) : Fault → Type 0 where
+  in_run : (f : Fault) → is_content k s.stack ≡ true → s.at < length src → byte src s.at ≢ 60 → InRun es k Includes src s.at b f → Stands limit es k base Includes src s b f
+  in_section : (p : ℕ) (t : DueItem) (f : Fault) → is_content k s.stack ≡ true → DueInCData src s.at p t → IsMissing src p t f → Stands limit es k base Includes src s b f
+  in_misc : (f : Fault) → is_content k s.stack ≡ true → InMisc src s.at f → Stands limit es k base Includes src s b f
+  in_tag : (f : Fault) → TagBegins src s.at (is_content k s.stack) → InTag (is_main k) Includes src s b f → Stands limit es k base Includes src s b f
+  in_end : (f : Fault) → is_content k s.stack ≡ true → InEnd base src s f → Stands limit es k base Includes src s b f
   -- `<` at the end, or `<!` of neither a comment nor a section
   unknown : is_content k s.stack ≡ true → byte src s.at ≡ 60
-      → (length src ≡ s.at + 1) ⊎ ((byte src (s.at + 1) ≡ 33) × (at word.CommentStart src s.at ≡ false) × (at word.CDataStart src s.at ≡ false)) → Stands limit es k base Opens src s b (fault.UnknownToken s.at)
-  unclosed : (start : ℕ) (tag : Tag) (before : Forest Item) (up : Open) → s.stack ≡ inside start tag before up → length src ≤ s.at → is_main k ≡ true → Stands limit es k base Opens src s b fault.UnclosedRootNode
-  unclosed_in_replacement : base < depth_of s.stack → length src ≤ s.at → is_main k ≡ false → Stands limit es k base Opens src s b fault.UnexpectedEndOfStream
+      → (length src ≡ s.at + 1) ⊎ ((byte src (s.at + 1) ≡ 33) × (at word.CommentStart src s.at ≡ false) × (at word.CDataStart src s.at ≡ false)) → Stands limit es k base Includes src s b (fault.UnknownToken s.at)
+  unclosed : (start : ℕ) (tag : Tag) (before : Forest Item) (up : Open) → s.stack ≡ inside start tag before up → length src ≤ s.at → is_main k ≡ true → Stands limit es k base Includes src s b fault.UnclosedRootNode
+  unclosed_in_replacement : base < depth_of s.stack → length src ≤ s.at → is_main k ≡ false → Stands limit es k base Includes src s b fault.UnexpectedEndOfStream
   -- behind the construct that begins here; of a tag its pairs and its attributes are counted first
-  too_many_nodes : (c : ℕ) (t : State) → Takes k Opens src s b t c → attributes_so_far t.stack t.done ≤ most_attributes → length (distinct_pairs (pairs_so_far t.stack t.done)) ≤ most_pairs
-      → limit < nodes_so_far t.stack t.done → Stands limit es k base Opens src s b fault.NodesLimitReached
+  too_many_nodes : (c : ℕ) (t : State) → StepsOver k Includes src s b t c → attributes_so_far t.stack t.done ≤ most_attributes → length (distinct_pairs (pairs_so_far t.stack t.done)) ≤ most_pairs
+      → limit < nodes_so_far t.stack t.done → Stands limit es k base Includes src s b fault.NodesLimitReached
   -- behind the parts of a run up to a reference to an entity: a text is counted before the reference behind it is opened
-  too_many_pieces : (stop p j c : ℕ) (front : Forest Item) (t : Replacement) → is_content k s.stack ≡ true → IsRun src s.at stop → PartsTo (is_main k) Opens src s.at stop s.at p b c front
+  too_many_pieces : (stop p j c : ℕ) (front : Forest Item) (t : Replacement) → is_content k s.stack ≡ true → IsCharacterData src s.at stop → PartsTo (is_main k) Includes src s.at stop s.at p b c front
       → AreWellNamed (scope_of s.stack) front → p < stop → RefersTo es src p j t → attributes_so_far s.stack (join s.done front) ≤ most_attributes
-      → length (distinct_pairs (pairs_so_far s.stack (join s.done front))) ≤ most_pairs → limit < nodes_so_far s.stack (join s.done front) → Stands limit es k base Opens src s b fault.NodesLimitReached
+      → length (distinct_pairs (pairs_so_far s.stack (join s.done front))) ≤ most_pairs → limit < nodes_so_far s.stack (join s.done front) → Stands limit es k base Includes src s b fault.NodesLimitReached
 
 -- Of this text, with at most `limit` nodes, the fault stands in this source, in the part that begins where `Front` says what
 -- stands before: before the root element, in it, or behind it. All before it is as the grammar wants and within the limits.
 -- Positions and names of the fault count in the source. The flag says that a document type declaration stands before.
-pub data FaultFrom (opens : ℕ → Opener) (es : List Entity) (limit : ℕ) (text : List ℕ) (declared : Bool) (Front : ℕ → Forest Item → Type 0) : List ℕ → Fault → Type 0 where
+pub data FaultFrom (opens : ℕ → Inclusion) (es : List Entity) (limit : ℕ) (text : List ℕ) (declared : Bool) (Front : ℕ → Forest Item → Type 0) : List ℕ → Fault → Type 0 where
   in_misc_ahead : (p : ℕ) (items : Forest Item) (f : Fault) → Front p items → FitsLimits limit root items → InMisc text p f → FaultFrom opens es limit text declared Front text f
   too_many_ahead : (p j : ℕ) (items : Forest Item) (item : Item) → Front p items → FitsLimits limit root items → IsMisc text p j item
       → limit < nodes_so_far root (join items (leaf item)) → FaultFrom opens es limit text declared Front text fault.NodesLimitReached
   no_root : (items : Forest Item) → Front (length text) items → FitsLimits limit root items → FaultFrom opens es limit text declared Front text fault.NoRootNode
   unknown_ahead : (p : ℕ) (items : Forest Item) → Front p items → FitsLimits limit root items → p < length text → is_space (byte text p) ≡ false → byte text p ≢ 60
       → FaultFrom opens es limit text declared Front text (fault.UnknownToken p)
-  at_place : (k base b : ℕ) (src : List ℕ) (s : State) (f : Fault) → Place opens es text (λ p items. Front p items × RootBegins declared text p) k base src b s → FitsLimits limit s.stack s.done
+  at_place : (k base b : ℕ) (src : List ℕ) (s : State) (f : Fault) → ContentPoint opens es text (λ p items. Front p items × RootBegins declared text p) k base src b s → FitsLimits limit s.stack s.done
       → Stands limit es k base (opens k) src s b f → FaultFrom opens es limit text declared Front src f
   -- in the value of an attribute or a declaration of the start tag at a place, or in a replacement text that is opened in it
   in_value : (k base b p c n v e j l i stop d : ℕ) (src part : List ℕ) (s : State) (as' : List Attribute) (name : Name) (f : Fault)
-      → Place opens es text (λ p items. Front p items × RootBegins declared text p) k base src b s → FitsLimits limit s.stack s.done → TagBegins src s.at (is_content k s.stack)
+      → ContentPoint opens es text (λ p items. Front p items × RootBegins declared text p) k base src b s → FitsLimits limit s.stack s.done → TagBegins src s.at (is_content k s.stack)
       → TagTo (is_main k) (opens k) src s p b c as' → p < spaces_end src p → IsQName src (spaces_end src p) name n → IsEq src n v → IsLiteral src v e j
       → ValuePart opens es k src (v + 1) e c l part i stop d → InValue es l (opens l) part i stop d f → FaultFrom opens es limit text declared Front part f
   in_misc_behind : (p : ℕ) (items : Forest Item) (f : Fault) → Behind opens text Front p items → FitsLimits limit root items → InMisc text p f → FaultFrom opens es limit text declared Front text f
@@ -174,6 +174,6 @@ pub data FaultFrom (opens : ℕ → Opener) (es : List Entity) (limit : ℕ) (te
 -- The fault stands in this text, with at most `limit` nodes, where no document type declaration may stand. No entity is declared,
 -- so that it stands in the text itself.
 pub data FaultOf (limit : ℕ) (text : List ℕ) : Fault → Type 0 where
-  in_declaration : (p : ℕ) (t : Thing) (f : Fault) → at word.DeclarationStart text (after_bom text) ≡ true → DueInDeclaration text (after_bom text) p t → Lacks text p t f → FaultOf limit text f
-  doctype : (p : ℕ) (items : Forest Item) → Ahead text p items → FitsLimits limit root items → at word.DoctypeStart text p ≡ true → FaultOf limit text fault.DtdDetected
-  without : (f : Fault) → FaultFrom (λ k. no_entities) [] limit text false (Ahead text) text f → FaultOf limit text f
+  in_declaration : (p : ℕ) (t : DueItem) (f : Fault) → at word.XmlDeclStart text (after_bom text) ≡ true → DueInXmlDecl text (after_bom text) p t → IsMissing text p t f → FaultOf limit text f
+  doctype : (p : ℕ) (items : Forest Item) → PrologTo text p items → FitsLimits limit root items → at word.DoctypeStart text p ≡ true → FaultOf limit text fault.DtdDetected
+  without : (f : Fault) → FaultFrom (λ k. no_entities) [] limit text false (PrologTo text) text f → FaultOf limit text f

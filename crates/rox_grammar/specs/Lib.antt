@@ -1,9 +1,9 @@
 pub mod Chars
 pub mod Runs
-pub mod Marks
+pub mod Search
 pub mod Positions
 pub mod Spans
-pub mod Words
+pub mod FixedTexts
 pub mod Forest
 pub mod Written
 pub mod Tree
@@ -11,7 +11,7 @@ pub mod Names
 pub mod Constructs
 pub mod References
 pub mod Content
-pub mod Start
+pub mod TextStart
 pub mod Entities
 pub mod Doctype
 pub mod WellNamed
@@ -19,9 +19,9 @@ pub mod Document
 pub mod Expansion
 pub mod State
 pub mod Due
-pub mod Places
+pub mod ContentPoints
 pub mod Faults
-pub mod Refused
+pub mod FaultsWithDoctype
 pub mod Exchange
 pub mod CharText
-pub mod Failing
+pub mod Failures

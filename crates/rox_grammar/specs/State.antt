@@ -1,7 +1,7 @@
 -- Where reading stands: what is read so far, and which elements are open.
 use Rattle.std.specs.Prelude.{ℕ, ◌+◌, ◌≤◌, max, Bool, true, false, List, [], ◌++◌, length}
 use Rattle.rox_grammar.specs.Forest.{Forest, Nil, Cons, size}
-use Rattle.rox_grammar.specs.Written.{Declaration, Tag, Item, merge}
+use Rattle.rox_grammar.specs.Written.{NamespaceDecl, Tag, Item, merge}
 use Rattle.rox_grammar.specs.Tree.{listed}
 use Rattle.rox_grammar.specs.Document.{listable, pairs, distinct_pairs, attribute_count, most_attributes, most_pairs}
 
@@ -30,7 +30,7 @@ depth_of root = 0
 depth_of (inside start tag before up) = depth_of up + 1
 
 -- what the innermost open element lists
-abbrev pub scope_of : Open → List Declaration
+abbrev pub scope_of : Open → List NamespaceDecl
 scope_of root = []
 scope_of (inside start tag before up) = listed (scope_of up) tag.declarations
 
@@ -45,7 +45,7 @@ attributes_so_far root done = attribute_count done
 attributes_so_far (inside start tag before up) done = attributes_so_far up before + (length tag.attributes + attribute_count done)
 
 -- what is declared and listed, in order
-abbrev pub pairs_so_far : Open → Forest Item → List Declaration
+abbrev pub pairs_so_far : Open → Forest Item → List NamespaceDecl
 pairs_so_far root done = pairs done
 pairs_so_far (inside start tag before up) done = pairs_so_far up before ++ (listable tag ++ pairs done)
 

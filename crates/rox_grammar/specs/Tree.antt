@@ -2,10 +2,10 @@
 use Rattle.std.specs.Prelude.{ℕ, Bool, true, false, not, List, [], ◌∷◌, ◌++◌, Option, Some, None, bytes_eq, filter, map, if◌then◌else◌}
 use Rattle.std.specs.List.{list_any}
 use Rattle.rox_grammar.specs.declared.fault.Word.TheVariants.{Xml}
-use Rattle.rox_grammar.specs.Words.{word_text}
+use Rattle.rox_grammar.specs.FixedTexts.{word_text}
 use Rattle.rox_grammar.specs.Forest.{Forest, Nil, Cons}
 use Rattle.rox_grammar.specs.Written as written
-use Rattle.rox_grammar.specs.Written.{Name, Declaration, Item}
+use Rattle.rox_grammar.specs.Written.{Name, NamespaceDecl, Item}
 
 pub record Attribute : Type 0 where
   pub start : ℕ
@@ -21,7 +21,7 @@ pub record Attribute : Type 0 where
 pub data Node : Type 0 where
   Root : (end : ℕ) → Node
   -- its namespace and local name, the namespaces that it lists, and its attributes
-  Element : (start end : ℕ) → (namespace : Option (List ℕ)) → (local : List ℕ) → (listed : List Declaration) → (attributes : List Attribute) → Node
+  Element : (start end : ℕ) → (namespace : Option (List ℕ)) → (local : List ℕ) → (listed : List NamespaceDecl) → (attributes : List Attribute) → Node
   Text : (start end : ℕ) → (value : List ℕ) → (borrowed : Bool) → Node
   Comment : (start end : ℕ) → (text : List ℕ) → Node
   PI : (start end : ℕ) → (target : List ℕ) → (value : Option (List ℕ)) → Node
@@ -41,17 +41,17 @@ same_prefix (Some p) None = false
 same_prefix (Some p) (Some q) = bytes_eq p q
 
 -- the prefix, or the default, is declared here
-abbrev pub is_declared : Option (List ℕ) → List Declaration → Bool
+abbrev pub is_declared : Option (List ℕ) → List NamespaceDecl → Bool
 is_declared prefix ds = list_any (λ d. same_prefix d.prefix prefix) ds
 
 -- NS 6: an element lists what it declares, but for the prefix `xml`, and then what its parent lists and it does not declare. By NS 3
 -- `xml` and `xmlns` are in scope everywhere.
-abbrev pub listed : List Declaration → List Declaration → List Declaration
+abbrev pub listed : List NamespaceDecl → List NamespaceDecl → List NamespaceDecl
 listed above own =
     filter (λ d. not (same_prefix d.prefix (Some (word_text Xml)))) own ++ filter (λ d. not (is_declared d.prefix own)) above
 
 -- the URI that is listed for a prefix, or for the default
-abbrev pub uri_of : List Declaration → Option (List ℕ) → Option (List ℕ)
+abbrev pub uri_of : List NamespaceDecl → Option (List ℕ) → Option (List ℕ)
 uri_of [] prefix = None
 uri_of (d ∷ ds) prefix = if same_prefix d.prefix prefix then Some d.uri else uri_of ds prefix
 
@@ -60,17 +60,17 @@ none_if_empty [] = None
 none_if_empty (b ∷ bs) = Some (b ∷ bs)
 
 -- NS 6.2: an element without prefix takes the default. Where that is the empty text, so is its namespace, which by NS 6.2 is none.
-abbrev pub element_namespace : List Declaration → Name → Option (List ℕ)
+abbrev pub element_namespace : List NamespaceDecl → Name → Option (List ℕ)
 element_namespace scope name = uri_of scope (none_if_empty name.prefix)
 
 -- NS 6.2, 3: an attribute without prefix has none, and `xml` stands for its own
-abbrev pub attribute_namespace : List Declaration → Name → Option (List ℕ)
+abbrev pub attribute_namespace : List NamespaceDecl → Name → Option (List ℕ)
 attribute_namespace scope name =
     if bytes_eq name.prefix [] then None
     else if bytes_eq name.prefix (word_text Xml) then Some xml_uri
     else uri_of scope (Some name.prefix)
 
-abbrev pub attribute_in : List Declaration → written.Attribute → Attribute
+abbrev pub attribute_in : List NamespaceDecl → written.Attribute → Attribute
 attribute_in scope a = record {
   start = a.start;
   name_end = a.name_end;
@@ -83,14 +83,14 @@ attribute_in scope a = record {
 }
 
 -- what an element lists, where its parent lists these
-abbrev pub scope_in : List Declaration → Item → List Declaration
+abbrev pub scope_in : List NamespaceDecl → Item → List NamespaceDecl
 scope_in above (written.Element start end tag) = listed above tag.declarations
 scope_in above (written.Text start end value borrowed) = above
 scope_in above (written.Comment start end text) = above
 scope_in above (written.PI start end target value) = above
 
 -- an item as its readers see it, where it, or its parent if it is no element, lists these
-abbrev pub node_in : List Declaration → Item → Node
+abbrev pub node_in : List NamespaceDecl → Item → Node
 node_in scope (written.Element start end tag) =
     Element start end (element_namespace scope tag.name) tag.name.local scope (map (attribute_in scope) tag.attributes)
 node_in scope (written.Text start end value borrowed) = Text start end value borrowed
@@ -98,7 +98,7 @@ node_in scope (written.Comment start end text) = Comment start end text
 node_in scope (written.PI start end target value) = PI start end target value
 
 -- a row of siblings below an element that lists these
-abbrev pub resolved : List Declaration → Forest Item → Forest Node
+abbrev pub resolved : List NamespaceDecl → Forest Item → Forest Node
 resolved above Nil = Nil
 resolved above (Cons item children rest) =
     Cons (node_in (scope_in above item) item) (resolved (scope_in above item) children) (resolved above rest)

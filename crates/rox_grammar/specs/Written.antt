@@ -2,7 +2,7 @@
 use Rattle.std.specs.Prelude.{ℕ, ◌+◌, ◌-◌, Bool, false, ◌||◌, not, List, ◌++◌, Option, Some, None, bytes_eq, filter, map, if◌then◌else◌, length}
 use Rattle.rox_grammar.specs.declared.fault.Word.TheVariants.{Xmlns}
 use Rattle.rox_grammar.specs.declared.fault.Span.{Span}
-use Rattle.rox_grammar.specs.Words.{word_text}
+use Rattle.rox_grammar.specs.FixedTexts.{word_text}
 use Rattle.rox_grammar.specs.Forest.{Forest, Nil, Cons, join}
 
 -- NS 4: a prefix, which is empty where none is written, and a local part
@@ -22,7 +22,7 @@ pub record Attribute : Type 0 where
   pub borrowed : Bool
 
 -- NS 3: a prefix, or none for the default, and the URI that it stands for
-pub record Declaration : Type 0 where
+pub record NamespaceDecl : Type 0 where
   pub prefix : Option (List ℕ)
   pub uri : List ℕ
 
@@ -31,7 +31,7 @@ pub record Tag : Type 0 where
   pub name : Name
   -- the place where its name ends
   pub name_end : ℕ
-  pub declarations : List Declaration
+  pub declarations : List NamespaceDecl
   pub attributes : List Attribute
 
 -- each with its range
@@ -43,18 +43,18 @@ pub data Item : Type 0 where
   PI : (start end : ℕ) → (target : List ℕ) → (value : Option (List ℕ)) → Item
 
 -- NS 3: `xmlns:p` declares p, and any other name with the local part `xmlns` the default, where NS 3 has `xmlns` alone for it
-abbrev pub declares : Name → Bool
-declares n = bytes_eq n.prefix (word_text Xmlns) || bytes_eq n.local (word_text Xmlns)
+abbrev pub is_namespace_decl : Name → Bool
+is_namespace_decl n = bytes_eq n.prefix (word_text Xmlns) || bytes_eq n.local (word_text Xmlns)
 
-abbrev pub declaration_of : Attribute → Declaration
-declaration_of a = record { prefix = if bytes_eq a.name.prefix (word_text Xmlns) then Some a.name.local else None; uri = a.value }
+abbrev pub namespace_decl_of : Attribute → NamespaceDecl
+namespace_decl_of a = record { prefix = if bytes_eq a.name.prefix (word_text Xmlns) then Some a.name.local else None; uri = a.value }
 
 -- of the attributes as written those that declare, and the others
-abbrev pub declarations_of : List Attribute → List Declaration
-declarations_of as' = map declaration_of (filter (λ a. declares a.name) as')
+abbrev pub namespace_decls_of : List Attribute → List NamespaceDecl
+namespace_decls_of as' = map namespace_decl_of (filter (λ a. is_namespace_decl a.name) as')
 
-abbrev pub attributes_of : List Attribute → List Attribute
-attributes_of as' = filter (λ a. not (declares a.name)) as'
+abbrev pub plain_attributes_of : List Attribute → List Attribute
+plain_attributes_of as' = filter (λ a. not (is_namespace_decl a.name)) as'
 
 -- a text in front: it takes in one that it touches (nothing ever stands below a text)
 abbrev pub glue : ℕ → ℕ → List ℕ → Bool → Forest Item → Forest Item → Forest Item

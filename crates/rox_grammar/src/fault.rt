@@ -16,7 +16,7 @@ pub enum Word {
     CommentEnd,
     PIStart,
     PIEnd,
-    DeclarationStart,
+    XmlDeclStart,
     CDataStart,
     CDataEnd,
     EndTagStart,
@@ -37,7 +37,7 @@ pub enum Word {
 }
 
 impl Word {
-    ghost use Rattle.rox_grammar.specs.Words.{word_text};
+    ghost use Rattle.rox_grammar.specs.FixedTexts.{word_text};
 
     /// Its bytes.
     #[inline]
@@ -49,7 +49,7 @@ impl Word {
             Word::CommentEnd => b"-->",
             Word::PIStart => b"<?",
             Word::PIEnd => b"?>",
-            Word::DeclarationStart => b"<?xml ",
+            Word::XmlDeclStart => b"<?xml ",
             Word::CDataStart => b"<![CDATA[",
             Word::CDataEnd => b"]]>",
             Word::EndTagStart => b"</",

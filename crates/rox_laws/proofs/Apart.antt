@@ -1,16 +1,16 @@
 -- No text of a document is followed by a text.
 use Rattle.std.proofs.Common.{ℕ, Bool, List, [], refl, sym, subst}
 use Rattle.rox_grammar.specs.Forest.{Forest, Nil, Cons}
-use Rattle.rox_grammar.specs.Written.{Declaration, Item, Element, Text, Comment, PI}
+use Rattle.rox_grammar.specs.Written.{NamespaceDecl, Item, Element, Text, Comment, PI}
 use Rattle.rox_grammar.specs.Tree.{Node, scope_in, resolved}
 use Rattle.rox_grammar.specs.Doctype.{Asked}
 use Rattle.rox_grammar.specs.Document.{IsTreeOf}
 use Rattle.rox_theory.specs.Apart.{Apart}
 use Rattle.rox_theory.proofs.Apart.{parse_apart}
-use Rattle.rox_laws.specs.Lawful.{TextsApart}
+use Rattle.rox_laws.specs.TreeLaws.{TextsApart}
 
 -- names resolved change no text
-resolved_apart : (above : List Declaration) (f : Forest Item) → Apart f → TextsApart (resolved above f)
+resolved_apart : (above : List NamespaceDecl) (f : Forest Item) → Apart f → TextsApart (resolved above f)
 resolved_apart above Nil h = tt
 resolved_apart above (Cons (Element a e t) c r) h = (refl, resolved_apart (scope_in above (Element a e t)) c h.1, resolved_apart above r h.2)
 resolved_apart above (Cons (Comment a e t) c r) h = (refl, resolved_apart above c h.1, resolved_apart above r h.2)

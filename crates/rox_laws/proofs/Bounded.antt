@@ -5,7 +5,7 @@ use Rattle.std.proofs.lemmas.Nat.{mul-le}
 use Rattle.std.proofs.lemmas.List.{length-map}
 use Rattle.rox_grammar.specs.Forest.{Forest, Nil, Cons}
 use Rattle.rox_grammar.specs.Written as written
-use Rattle.rox_grammar.specs.Written.{Declaration, Item, Element, Text, Comment, PI}
+use Rattle.rox_grammar.specs.Written.{NamespaceDecl, Item, Element, Text, Comment, PI}
 use Rattle.rox_grammar.specs.Tree.{Node, attribute_in, scope_in, node_in, resolved, document_tree}
 use Rattle.rox_grammar.specs.Doctype.{Request, Asked}
 use Rattle.rox_grammar.specs.Document.{own_attributes, attribute_count, ParseOf}
@@ -15,34 +15,34 @@ use Rattle.rox_theory.specs.Answers.{AreShort}
 use Rattle.rox_theory.proofs.Bound.{is_bounded}
 use Rattle.rox_theory.proofs.Longest.{parse_short}
 use Rattle.rox_resolver.specs.Requests.{Reply, AreAllowed}
-use Rattle.rox_laws.specs.Bounded.{value_bytes, bytes_of, count_of, all_bytes, all_attributes, IsBounded}
+use Rattle.rox_laws.specs.TreeSize.{attribute_bytes, bytes_of, attribute_count_of, all_bytes, all_attributes, IsTreeBounded}
 
-values_same : (scope : List Declaration) (as' : List written.Attribute) → value_bytes (map (attribute_in scope) as') ≡ value_bytes_of as'
+values_same : (scope : List NamespaceDecl) (as' : List written.Attribute) → attribute_bytes (map (attribute_in scope) as') ≡ value_bytes_of as'
 values_same scope [] = refl
 values_same scope (a ∷ as') = omega (arith, values_same scope as')
 
-bytes_same : (scope : List Declaration) (item : Item) → bytes_of (node_in scope item) ≡ own_bytes item
+bytes_same : (scope : List NamespaceDecl) (item : Item) → bytes_of (node_in scope item) ≡ own_bytes item
 bytes_same scope (Element start end tag) = values_same scope tag.attributes
 bytes_same scope (Text start end value borrowed) = refl
 bytes_same scope (Comment start end text) = refl
 bytes_same scope (PI start end target value) = refl
 
-count_same : (scope : List Declaration) (item : Item) → count_of (node_in scope item) ≡ own_attributes item
+count_same : (scope : List NamespaceDecl) (item : Item) → attribute_count_of (node_in scope item) ≡ own_attributes item
 count_same scope (Element start end tag) = length-map tag.attributes (attribute_in scope)
 count_same scope (Text start end value borrowed) = refl
 count_same scope (Comment start end text) = refl
 count_same scope (PI start end target value) = refl
 
-all_bytes_same : (above : List Declaration) (f : Forest Item) → all_bytes (resolved above f) ≡ bytes_in f
+all_bytes_same : (above : List NamespaceDecl) (f : Forest Item) → all_bytes (resolved above f) ≡ bytes_in f
 all_bytes_same above Nil = refl
 all_bytes_same above (Cons item c r) = omega (arith, bytes_same (scope_in above item) item, all_bytes_same (scope_in above item) c, all_bytes_same above r)
 
-all_attributes_same : (above : List Declaration) (f : Forest Item) → all_attributes (resolved above f) ≡ attribute_count f
+all_attributes_same : (above : List NamespaceDecl) (f : Forest Item) → all_attributes (resolved above f) ≡ attribute_count f
 all_attributes_same above Nil = refl
 all_attributes_same above (Cons item c r) = omega (arith, count_same (scope_in above item) item, all_attributes_same (scope_in above item) c, all_attributes_same above r)
 
 -- the tree of a parse is bounded by its longest replacement text
-pub tree_bounded : (src : List ℕ) (dtd : Bool) (asked : List Asked) (tops : Forest Item) (p : ParseOf src dtd asked tops) → IsBounded src (longest p.entities) (document_tree (length src) tops)
+pub tree_bounded : (src : List ℕ) (dtd : Bool) (asked : List Asked) (tops : Forest Item) (p : ParseOf src dtd asked tops) → IsTreeBounded src (longest p.entities) (document_tree (length src) tops)
 tree_bounded src dtd asked tops p =
     let b = is_bounded src dtd asked tops p in
     record {
@@ -51,14 +51,14 @@ tree_bounded src dtd asked tops p =
     }
 
 -- and so by more
-bounded_more : (src : List ℕ) (n m : ℕ) (tree : Forest Node) → n ≤ m → IsBounded src n tree → IsBounded src m tree
+bounded_more : (src : List ℕ) (n m : ℕ) (tree : Forest Node) → n ≤ m → IsTreeBounded src n tree → IsTreeBounded src m tree
 bounded_more src n m tree le b =
     let amps = 256 * count_by (λ c. c == 38) src in
     let more = mul-le amps n amps m (omega arith) le in
     record { bytes = omega (arith, b.bytes, more); nodes = omega (arith, b.nodes, more) }
 
 -- where answers are short
-pub tree_short : (src : List ℕ) (dtd : Bool) (asked : List Asked) (tops : Forest Item) (most : ℕ) → ParseOf src dtd asked tops → AreShort most asked → IsBounded src (max (length src) most) (document_tree (length src) tops)
+pub tree_short : (src : List ℕ) (dtd : Bool) (asked : List Asked) (tops : Forest Item) (most : ℕ) → ParseOf src dtd asked tops → AreShort most asked → IsTreeBounded src (max (length src) most) (document_tree (length src) tops)
 tree_short src dtd asked tops most p h =
     bounded_more src (longest p.entities) (max (length src) most) (document_tree (length src) tops) (parse_short src dtd asked tops p most h) (tree_bounded src dtd asked tops p)
 

@@ -6,16 +6,16 @@ use Rattle.std.specs.Str.{chars}
 use Rattle.std.proofs.lemmas.Bool.{cond_both}
 use Rattle.std.proofs.lemmas.List.Elements.{All-nil, All-head, All-tail, All-append, All-map, All-filter, All-weaker}
 use Rattle.rox_grammar.specs.declared.fault.Word.TheVariants.{Xml}
-use Rattle.rox_grammar.specs.Words.{word_text}
+use Rattle.rox_grammar.specs.FixedTexts.{word_text}
 use Rattle.rox_grammar.specs.Forest.{Forest, Nil, Cons}
 use Rattle.rox_grammar.specs.Written as written
-use Rattle.rox_grammar.specs.Written.{Name, Declaration, Tag, Item}
+use Rattle.rox_grammar.specs.Written.{Name, NamespaceDecl, Tag, Item}
 use Rattle.rox_grammar.specs.Tree.{Node, xml_uri, same_prefix, is_declared, listed, uri_of, none_if_empty, attribute_namespace, attribute_in, resolved}
 use Rattle.rox_grammar.specs.Doctype.{Asked}
 use Rattle.rox_grammar.specs.Document.{IsTreeOf}
 use Rattle.rox_theory.specs.CharItems.{WrittenChars, ItemsChars}
 use Rattle.rox_theory.proofs.CharItems.{parse_items}
-use Rattle.rox_laws.specs.Lawful.{IsCharText, DeclarationChars, AttributeChars, AllChars}
+use Rattle.rox_laws.specs.TreeLaws.{IsCharText, NamespaceDeclChars, AttributeChars, AllChars}
 
 -- the URI of `xml`
 xml_text : IsCharText xml_uri
@@ -23,22 +23,22 @@ unfolding chars encode_utf8
 xml_text = record { utf8 = (xml_uri, (refl, refl)); all = refl }
 
 -- what an element lists
-listed_text : (above own : List Declaration) → All DeclarationChars above → All DeclarationChars own → All DeclarationChars (listed above own)
+listed_text : (above own : List NamespaceDecl) → All NamespaceDeclChars above → All NamespaceDeclChars own → All NamespaceDeclChars (listed above own)
 listed_text above own h k =
-    let kept : Declaration → Bool = λ (d : Declaration). not (same_prefix d.prefix (Some (word_text Xml))) in
-    let other : Declaration → Bool = λ (d : Declaration). not (is_declared d.prefix own) in
-    All-append DeclarationChars (filter kept own) (filter other above) (All-filter kept DeclarationChars own k) (All-filter other DeclarationChars above h)
+    let kept : NamespaceDecl → Bool = λ (d : NamespaceDecl). not (same_prefix d.prefix (Some (word_text Xml))) in
+    let other : NamespaceDecl → Bool = λ (d : NamespaceDecl). not (is_declared d.prefix own) in
+    All-append NamespaceDeclChars (filter kept own) (filter other above) (All-filter kept NamespaceDeclChars own k) (All-filter other NamespaceDeclChars above h)
 
 -- the URI of a prefix that is listed
-uri_text : (ds : List Declaration) (prefix : Option (List ℕ)) → All DeclarationChars ds → IfSome (uri_of ds prefix) IsCharText
+uri_text : (ds : List NamespaceDecl) (prefix : Option (List ℕ)) → All NamespaceDeclChars ds → IfSome (uri_of ds prefix) IsCharText
 uri_text [] prefix h = tt
 uri_text (d ∷ ds) prefix h =
     cond_both (same_prefix d.prefix prefix) (Some d.uri) (uri_of ds prefix) (λ (o : Option (List ℕ)). IfSome o IsCharText)
-    (λ here. (All-head DeclarationChars d ds h).uri)
-    (λ later. uri_text ds prefix (All-tail DeclarationChars d ds h))
+    (λ here. (All-head NamespaceDeclChars d ds h).uri)
+    (λ later. uri_text ds prefix (All-tail NamespaceDeclChars d ds h))
 
 -- the namespace of an attribute
-namespace_text : (scope : List Declaration) (name : Name) → All DeclarationChars scope → IfSome (attribute_namespace scope name) IsCharText
+namespace_text : (scope : List NamespaceDecl) (name : Name) → All NamespaceDeclChars scope → IfSome (attribute_namespace scope name) IsCharText
 namespace_text scope name h =
     cond_both (bytes_eq name.prefix []) None _ (λ (o : Option (List ℕ)). IfSome o IsCharText) (λ none. tt)
     (λ some. cond_both (bytes_eq name.prefix (word_text Xml)) (Some xml_uri) (uri_of scope (Some name.prefix)) (λ (o : Option (List ℕ)). IfSome o IsCharText)
@@ -46,14 +46,14 @@ namespace_text scope name h =
     (λ other. uri_text scope (Some name.prefix) h))
 
 -- the attributes of an element
-attributes_text : (scope : List Declaration) (as' : List written.Attribute) → All DeclarationChars scope → All WrittenChars as' → All AttributeChars (map (attribute_in scope) as')
+attributes_text : (scope : List NamespaceDecl) (as' : List written.Attribute) → All NamespaceDeclChars scope → All WrittenChars as' → All AttributeChars (map (attribute_in scope) as')
 attributes_text scope as' h all =
     All-map AttributeChars (attribute_in scope) as'
     (All-weaker WrittenChars (λ (a : written.Attribute). AttributeChars (attribute_in scope a))
     (λ a one. record { namespace = namespace_text scope a.name h; local = one.local; value = one.value }) as' all)
 
 -- below an element that lists these
-resolved_chars : (above : List Declaration) (f : Forest Item) → All DeclarationChars above → ItemsChars f → AllChars (resolved above f)
+resolved_chars : (above : List NamespaceDecl) (f : Forest Item) → All NamespaceDeclChars above → ItemsChars f → AllChars (resolved above f)
 resolved_chars above Nil h k = tt
 resolved_chars above (Cons (written.Element a e t) c r) h k =
     let scope = listed above t.declarations in
@@ -70,4 +70,4 @@ resolved_chars above (Cons (written.PI a e t o) c r) h k = (k.0, resolved_chars 
 pub tree_chars : {dtd : Bool} {asked : List Asked} (src : List ℕ) (limit : ℕ) (tree : Forest Node) → IsUtf8 src → IsTreeOf src dtd asked limit tree → AllChars tree
 tree_chars src limit tree utf8 h =
     subst (λ (f : Forest Node). AllChars f) (sym h.shown)
-    (tt, resolved_chars [] h.written (All-nil DeclarationChars) (parse_items src _ _ h.written utf8 h.parse), tt)
+    (tt, resolved_chars [] h.written (All-nil NamespaceDeclChars) (parse_items src _ _ h.written utf8 h.parse), tt)

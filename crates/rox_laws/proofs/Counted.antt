@@ -13,7 +13,7 @@ use Rattle.rox_grammar.specs.Positions.{is_cut, round_from, round_down, last_lin
 use Rattle.rox_grammar.specs.Spans.{IsTextSpan, NamesText}
 use Rattle.rox_error.specs.declared.error.Error.{Error}
 use Rattle.rox_error.specs.declared.error.Error.TheVariants as error
-use Rattle.rox_error.specs.Telling.{position_at, Names, IsNamed, IsNamedTwice, IsErrorOf}
+use Rattle.rox_error.specs.FaultErrors.{position_at, Names, IsErrorWithName, IsErrorWithNames, IsErrorOf}
 
 -- the place of a fault, if it has one, lies in the source
 abbrev pub IsPlaced : List ℕ → Fault → Type 0
@@ -122,12 +122,12 @@ module _ (text : List ℕ) (e : ℕ) (inside : e < length text) (ascii : byte te
   named_same : (span : Span) (name : String Global) → IsTextSpan (take e text) span → Names (take e text) span name → Names text span name
   named_same span name is names = λ there. names is ∙ slice_same span.start span.end is.ordered is.end.0
 
-  one_name : (span : Span) (kind other : String Global → Error) (x : Error) → IsTextSpan (take e text) span → ((n : String Global) → kind n ≡ other n) → IsNamed (take e text) span kind x → IsNamed text span other x
+  one_name : (span : Span) (kind other : String Global → Error) (x : Error) → IsTextSpan (take e text) span → ((n : String Global) → kind n ≡ other n) → IsErrorWithName (take e text) span kind x → IsErrorWithName text span other x
   one_name span kind other x is same (inl (name, names, made)) = inl (name, named_same span name is names, made ∙ same name)
   one_name span kind other x is same (inr memory) = inr memory
 
   two_names : (span more : Span) (kind other : String Global → String Global → Error) (x : Error) → IsTextSpan (take e text) span → IsTextSpan (take e text) more → ((n m : String Global) → kind n m ≡ other n m)
-      → IsNamedTwice (take e text) span more kind x → IsNamedTwice text span more other x
+      → IsErrorWithNames (take e text) span more kind x → IsErrorWithNames text span more other x
   two_names span more kind other x is is' same (inl (first, second, names, names', made)) = inl (first, second, named_same span first is names, named_same more second is' names', made ∙ same first second)
   two_names span more kind other x is is' same (inr memory) = inr memory
 

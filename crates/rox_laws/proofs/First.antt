@@ -1,16 +1,16 @@
 -- The range of an empty text is that of its first piece.
 use Rattle.std.proofs.Common.{◌≡◌, ℕ, Bool, List, [], ◌++◌, length, sym, subst}
 use Rattle.rox_grammar.specs.Forest.{Forest, Nil, Cons}
-use Rattle.rox_grammar.specs.Written.{Declaration, Item, Element, Text, Comment, PI, glue, merge}
+use Rattle.rox_grammar.specs.Written.{NamespaceDecl, Item, Element, Text, Comment, PI, glue, merge}
 use Rattle.rox_grammar.specs.Tree.{node_in, document_tree}
 use Rattle.rox_grammar.specs.Entities.{Entity}
 use Rattle.rox_grammar.specs.Doctype.{Asked}
 use Rattle.rox_grammar.specs.Document.{ParseOf}
 use Rattle.rox_theory.specs.Pieces.{Piece, merged, IsSourceIn, IsEmptySection, IsSectionIfEmpty, EmptyAreSections}
 use Rattle.rox_theory.proofs.Pieces.{parse_made}
-use Rattle.roxmltree.specs.Each.{Each}
-use Rattle.rox_laws.specs.Sections.{BeginsWithSection}
-use Rattle.rox_laws.proofs.Each.{each_join, each_resolved}
+use Rattle.roxmltree.specs.EachNode.{EachNode}
+use Rattle.rox_laws.specs.EmptySections.{BeginsWithSection}
+use Rattle.rox_laws.proofs.EachNodeLemmas.{each_join, each_resolved}
 use Rattle.rox_laws.proofs.Sections.{both_empty}
 
 module _ (text : List ℕ) (es : List Entity) where
@@ -21,14 +21,14 @@ module _ (text : List ℕ) (es : List Entity) where
   Begins (PI a e t o) = Unit {0}
 
   -- a text in front
-  glue_begins : (a e : ℕ) (v : List ℕ) (b : Bool) (c f : Forest Item) → Begins (Text a e v b) → Each Begins c → Each Begins f → Each Begins (glue a e v b c f)
+  glue_begins : (a e : ℕ) (v : List ℕ) (b : Bool) (c f : Forest Item) → Begins (Text a e v b) → EachNode Begins c → EachNode Begins f → EachNode Begins (glue a e v b c f)
   glue_begins a e v b c Nil own h k = (own, h, tt)
   glue_begins a e v b c (Cons (Text x y w p) d r) own h k = (λ none. own (both_empty v w none).0, each_join Begins c d h k.1, k.2)
   glue_begins a e v b c (Cons (Element x y t) d r) own h k = (own, h, k)
   glue_begins a e v b c (Cons (Comment x y t) d r) own h k = (own, h, k)
   glue_begins a e v b c (Cons (PI x y t o) d r) own h k = (own, h, k)
 
-  merge_begins : (f : Forest Item) → Each Begins f → Each Begins (merge f)
+  merge_begins : (f : Forest Item) → EachNode Begins f → EachNode Begins (merge f)
   merge_begins Nil h = tt
   merge_begins (Cons (Text a e v b) c r) h = glue_begins a e v b c (merge r) h.0 h.1 (merge_begins r h.2)
   merge_begins (Cons (Element a e t) c r) h = (h.0, h.1, merge_begins r h.2)
@@ -41,19 +41,19 @@ module _ (text : List ℕ) (es : List Entity) where
   piece_begins source (Comment a e t) known section = tt
   piece_begins source (PI a e t o) known section = tt
 
-  pieces_begin : (f : Forest Piece) → EmptyAreSections text es f → Each Begins (merged f)
+  pieces_begin : (f : Forest Piece) → EmptyAreSections text es f → EachNode Begins (merged f)
   pieces_begin Nil h = tt
   pieces_begin (Cons p c r) h = (piece_begins p.source p.item h.0 h.1, merge_begins (merged c) (pieces_begin c h.2), pieces_begin r h.3)
 
 -- in the tree of a parse
 pub first_pieces : (text : List ℕ) (dtd : Bool) (asked : List Asked) (tops : Forest Item) (p : ParseOf text dtd asked tops)
-    → Each (BeginsWithSection text p.entities) (document_tree (length text) tops)
+    → EachNode (BeginsWithSection text p.entities) (document_tree (length text) tops)
 first_pieces text dtd asked tops p =
     let h = parse_made text dtd asked tops p in
-    let begins = subst (λ (f : Forest Item). Each (Begins text p.entities) f) (sym h.made) (pieces_begin text p.entities _ h.sections) in
+    let begins = subst (λ (f : Forest Item). EachNode (Begins text p.entities) f) (sym h.made) (pieces_begin text p.entities _ h.sections) in
     (tt, each_resolved (Begins text p.entities) (BeginsWithSection text p.entities) has [] tops begins, tt)
   where
-    has : (scope : List Declaration) (item : Item) → Begins text p.entities item → BeginsWithSection text p.entities (node_in scope item)
+    has : (scope : List NamespaceDecl) (item : Item) → Begins text p.entities item → BeginsWithSection text p.entities (node_in scope item)
     has scope (Text a e v b) own = own
     has scope (Element a e t) own = tt
     has scope (Comment a e t) own = tt

@@ -1,7 +1,7 @@
 mod Apart
 mod Bounded
 mod CharNodes
-mod Each
+mod EachNode
 mod Forward
 mod Nearest
 mod Nested

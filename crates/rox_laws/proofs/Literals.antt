@@ -7,17 +7,17 @@ use Rattle.rox_grammar.specs.declared.fault.Fault.{Fault}
 use Rattle.rox_grammar.specs.Forest.{Forest}
 use Rattle.rox_grammar.specs.Written.{Item}
 use Rattle.rox_grammar.specs.Names.{byte}
-use Rattle.rox_grammar.specs.Content.{Opener}
+use Rattle.rox_grammar.specs.Content.{Inclusion}
 use Rattle.rox_grammar.specs.Entities.{Entity}
-use Rattle.rox_grammar.specs.Start.{after_bom}
+use Rattle.rox_grammar.specs.TextStart.{after_bom}
 use Rattle.rox_grammar.specs.Doctype.{Asked}
 use Rattle.rox_grammar.specs.Spans.{NamesText}
 use Rattle.rox_grammar.specs.Faults.{FaultFrom}
 use Rattle.rox_grammar.specs.Faults as faults
-use Rattle.rox_grammar.specs.Refused.{InDoctype, RefusalOf}
-use Rattle.rox_grammar.specs.Refused as refused
+use Rattle.rox_grammar.specs.FaultsWithDoctype.{InDoctype, RefusalOf}
+use Rattle.rox_grammar.specs.FaultsWithDoctype as refused
 use Rattle.rox_error.specs.declared.error.Error.{Error}
-use Rattle.rox_error.specs.Telling.{IsErrorOf}
+use Rattle.rox_error.specs.FaultErrors.{IsErrorOf}
 use Rattle.rox_theory.proofs.CharTexts.{cut_at}
 use Rattle.rox_theory.proofs.DoctypeLemmas.{quoted_closes}
 use Rattle.rox_theory.proofs.LiteralLemmas.{quote_ascii}
@@ -29,7 +29,7 @@ use Rattle.rox_laws.proofs.Placed.{declaration_placed, value_placed, stands_plac
 abbrev IsOwn : List ℕ → List ℕ → Fault → Type 0
 IsOwn text source f = (source ≡ text) ⊎ IsPlaced source f
 
-from_placed : (opens : ℕ → Opener) (es : List Entity) (limit : ℕ) (text : List ℕ) (declared : Bool) (Front : ℕ → Forest Item → Type 0) (source : List ℕ) (f : Fault) → IsUtf8 source → FaultFrom opens es limit text declared Front source f
+from_placed : (opens : ℕ → Inclusion) (es : List Entity) (limit : ℕ) (text : List ℕ) (declared : Bool) (Front : ℕ → Forest Item → Type 0) (source : List ℕ) (f : Fault) → IsUtf8 source → FaultFrom opens es limit text declared Front source f
     → IsOwn text source f
 from_placed opens es limit text declared Front source f utf8 (faults.FaultFrom.in_misc_ahead p items _ front fits ill) = inl refl
 from_placed opens es limit text declared Front source f utf8 (faults.FaultFrom.too_many_ahead p j items item front fits is over) = inl refl

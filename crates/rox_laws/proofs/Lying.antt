@@ -7,19 +7,19 @@ use Rattle.rox_grammar.specs.declared.fault.Fault.{Fault}
 use Rattle.rox_grammar.specs.Forest.{Forest}
 use Rattle.rox_grammar.specs.Written.{Item}
 use Rattle.rox_grammar.specs.Names.{slice}
-use Rattle.rox_grammar.specs.Content.{Opener}
+use Rattle.rox_grammar.specs.Content.{Inclusion}
 use Rattle.rox_grammar.specs.Entities.{Replacement, Entity, text_of}
-use Rattle.rox_grammar.specs.Doctype.{Request, Asked, Gives, IsDefinition, entry, Subset, IsDoctype}
+use Rattle.rox_grammar.specs.Doctype.{Request, Asked, GivesReplacement, IsDefinition, entry, Subset, IsDoctype}
 use Rattle.rox_grammar.specs.Doctype as doctype
 use Rattle.rox_grammar.specs.Document.{MayHaveDoctype}
 use Rattle.rox_grammar.specs.Document as document
 use Rattle.rox_grammar.specs.State.{State}
-use Rattle.rox_grammar.specs.Places.{Place, ValuePart, AheadDeclared}
-use Rattle.rox_grammar.specs.Places as places
+use Rattle.rox_grammar.specs.ContentPoints.{ContentPoint, ValuePart, PrologWithDoctype}
+use Rattle.rox_grammar.specs.ContentPoints as places
 use Rattle.rox_grammar.specs.Faults.{FaultFrom}
 use Rattle.rox_grammar.specs.Faults as faults
-use Rattle.rox_grammar.specs.Refused.{InDoctype, RefusalOf}
-use Rattle.rox_grammar.specs.Refused as refused
+use Rattle.rox_grammar.specs.FaultsWithDoctype.{InDoctype, RefusalOf}
+use Rattle.rox_grammar.specs.FaultsWithDoctype as refused
 use Rattle.rox_laws.specs.Sources.{IsLiteralIn, IsAnswerIn}
 
 -- ---- of an entity
@@ -32,9 +32,9 @@ lies_among : (text : List ℕ) (asked all : List Asked) (source : List ℕ) → 
 lies_among text asked all source among (inl l) = inl l
 lies_among text asked all source among (inr a) = inr (record { request = a.request; answer = a.answer; given = among _ a.given; part = a.part })
 
-given_lies : (text : List ℕ) (request : Request) (answer : Option (List ℕ)) (o : Option Replacement) (t : Replacement) → Gives answer o → o ≡ Some t → Lies text (record { request = request; answer = answer } ∷ []) t.source
-given_lies text request answer o t doctype.Gives.nothing is = cc is
-given_lies text request answer o t (doctype.Gives.the_rest told d utf8 may) is =
+given_lies : (text : List ℕ) (request : Request) (answer : Option (List ℕ)) (o : Option Replacement) (t : Replacement) → GivesReplacement answer o → o ≡ Some t → Lies text (record { request = request; answer = answer } ∷ []) t.source
+given_lies text request answer o t doctype.GivesReplacement.nothing is = cc is
+given_lies text request answer o t (doctype.GivesReplacement.the_rest told d utf8 may) is =
     let same : ◌≡◌ {A = Replacement} (record { source = drop d told; start = 0 }) t = cc is in
     inr (record { request = request; answer = told; given = (0, omega arith, refl); part = inr (d, may, ap (λ (r : Replacement). r.source) (sym same)) })
 
@@ -57,9 +57,9 @@ subset_lies : (text : List ℕ) (i j : ℕ) (items : Forest Item) (asked : List 
 subset_lies text i j items asked es (doctype.Subset.no_more _) name t found = cc found
 subset_lies text i j items asked es (doctype.Subset.space _ _ _ _ _ is more) name t found = subset_lies text (i + 1) j items asked es more name t found
 subset_lies text i j items asked es (doctype.Subset.an_item _ k _ item rest _ _ is more) name t found = subset_lies text k j rest asked es more name t found
-subset_lies text i j items asked es (doctype.Subset.passed_over _ k _ _ _ _ is more) name t found = subset_lies text k j items asked es more name t found
+subset_lies text i j items asked es (doctype.Subset.skipped_declaration _ k _ _ _ _ is more) name t found = subset_lies text k j items asked es more name t found
 subset_lies text i j items asked es (doctype.Subset.an_entity _ k _ _ first later one others is more) name t found =
-    let found' : text_of (entry (slice text is.n is.m) is.text ++ others) name ≡ Some t = subst (λ (own : List Entity). text_of (own ++ others) name ≡ Some t) is.declares found in
+    let found' : text_of (entry (slice text is.n is.m) is.text ++ others) name ≡ Some t = subst (λ (own : List Entity). text_of (own ++ others) name ≡ Some t) is.is_namespace_decl found in
     elim (of_first (slice text is.n is.m) is.text others name t found') as (λ q. Lies text (first ++ later) t.source) [
       | inl here ↦ lies_among text first (first ++ later) t.source (λ x. Contains-append_left first later x) (definition_lies text is.parameter is.d is.e first is.text t is.definition here)
       | inr behind ↦ lies_among text later (first ++ later) t.source (λ x. Contains-append_right first later x) (subset_lies text k j items later others more name t behind)
@@ -79,16 +79,16 @@ doctype_lies text i j dtd items asked es (document.MayHaveDoctype.no_doctype _) 
 abbrev IsOf : List ℕ → List Entity → List ℕ → Type 0
 IsOf text es source = (source ≡ text) ⊎ ((name : List ℕ) × (t : Replacement) × (text_of es name ≡ Some t) × (source ≡ t.source))
 
-module _ (opens : ℕ → Opener) (es : List Entity) (text : List ℕ) where
-  place_of : (Root : ℕ → Forest Item → Type 0) (k base b : ℕ) (src : List ℕ) (s : State) → Place opens es text Root k base src b s → IsOf text es src
-  place_of Root k base b src s (places.Place.begins p items is) = inl refl
-  place_of Root k base b src s (places.Place.goes _ _ l c _ t u before takes inner deep) = place_of Root k base l src t before
-  place_of Root k base b src s (places.Place.enters i at l c r stop p j from u front t before inner run parts named below refers may) = inr (_, t, refers.found, refl)
+module _ (opens : ℕ → Inclusion) (es : List Entity) (text : List ℕ) where
+  place_of : (Root : ℕ → Forest Item → Type 0) (k base b : ℕ) (src : List ℕ) (s : State) → ContentPoint opens es text Root k base src b s → IsOf text es src
+  place_of Root k base b src s (places.ContentPoint.begins p items is) = inl refl
+  place_of Root k base b src s (places.ContentPoint.goes _ _ l c _ t u before takes inner deep) = place_of Root k base l src t before
+  place_of Root k base b src s (places.ContentPoint.enters i at l c r stop p j from u front t before inner run parts named below refers may) = inr (_, t, refers.found, refl)
 
-  place_root : (Root : ℕ → Forest Item → Type 0) (k base b : ℕ) (src : List ℕ) (s : State) → Place opens es text Root k base src b s → (p : ℕ) × (items : Forest Item) × Root p items
-  place_root Root k base b src s (places.Place.begins p items is) = (p, items, is)
-  place_root Root k base b src s (places.Place.goes _ _ l c _ t u before takes inner deep) = place_root Root k base l src t before
-  place_root Root k base b src s (places.Place.enters i at l c r stop p j from u front t before inner run parts named below refers may) = place_root Root i at l from u before
+  place_root : (Root : ℕ → Forest Item → Type 0) (k base b : ℕ) (src : List ℕ) (s : State) → ContentPoint opens es text Root k base src b s → (p : ℕ) × (items : Forest Item) × Root p items
+  place_root Root k base b src s (places.ContentPoint.begins p items is) = (p, items, is)
+  place_root Root k base b src s (places.ContentPoint.goes _ _ l c _ t u before takes inner deep) = place_root Root k base l src t before
+  place_root Root k base b src s (places.ContentPoint.enters i at l c r stop p j from u front t before inner run parts named below refers may) = place_root Root i at l from u before
 
   part_of : (k : ℕ) (src : List ℕ) (start end b l : ℕ) (part : List ℕ) (i stop d : ℕ) → IsOf text es src → ValuePart opens es k src start end b l part i stop d → IsOf text es part
   part_of k src start end b l part i stop d of places.ValuePart.itself = of
@@ -140,6 +140,6 @@ source_lies limit allow text asked source f (refused.RefusalOf.behind _ es _ _ m
       | inl own ↦ inl own
       | inr (front, inl own) ↦ inl own
       | inr (front, inr (name, t, found, is)) ↦ (
-          let declared : AheadDeclared text asked es front.0 front.1 = front.2 in
+          let declared : PrologWithDoctype text asked es front.0 front.1 = front.2 in
           inr (subst (λ (s : List ℕ). IsLiteralIn text s ⊎ IsAnswerIn asked s) (sym is) (doctype_lies text declared.begun front.0 true declared.nodes asked es declared.doctype name t found)))
     ]

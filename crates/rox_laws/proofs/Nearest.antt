@@ -5,7 +5,7 @@ use Rattle.std.proofs.lemmas.Bool.{cases_lt, cases_eq}
 use Rattle.std.proofs.lemmas.List.{get_or_append_left, get_or-append-add, get_or_past, length-append}
 use Rattle.std.proofs.lemmas.List.Elements.{All-nil, All-cons, All-head, All-tail, All-append, All-get_or}
 use Rattle.rox_grammar.specs.Forest.{Forest, Nil, Cons, size}
-use Rattle.rox_grammar.specs.Written.{Declaration, Item, Element, Text, Comment, PI}
+use Rattle.rox_grammar.specs.Written.{NamespaceDecl, Item, Element, Text, Comment, PI}
 use Rattle.rox_grammar.specs.Tree as tree
 use Rattle.rox_grammar.specs.Tree.{Node, is_declared, uri_of, scope_in, node_in, resolved, document_tree}
 use Rattle.rox_grammar.specs.WellNamed.{AreDeclarable, AreWellNamed}
@@ -13,22 +13,22 @@ use Rattle.rox_grammar.specs.Doctype.{Asked}
 use Rattle.rox_grammar.specs.Document.{ParseOf}
 use Rattle.rox_reading.proofs.Forests.{size-resolved}
 use Rattle.roxmltree.specs.Places.{Place, nowhere, preorder, place}
-use Rattle.roxmltree.specs.Says.{says_element, listed_of}
-use Rattle.rox_laws.specs.Nearest.{declared_at, declared_in, upwards, NoneDeclares, IsNearest, IsElementAt, xml, listed_uri}
+use Rattle.roxmltree.specs.NodeParts.{is_element_node, listed_of}
+use Rattle.rox_laws.specs.NearestDeclaration.{declared_at, declared_in, upwards, NoneDeclares, IsNearest, IsElementAt, xml, listed_uri}
 use Rattle.roxmltree.proofs.Preorder.{at, Sits, length-preorder}
 use Rattle.roxmltree.proofs.Tops.{whole_sits}
-use Rattle.roxmltree.specs.Each.{Each}
+use Rattle.roxmltree.specs.EachNode.{EachNode}
 use Rattle.roxmltree.proofs.Everywhere.{at_each}
 use Rattle.rox_laws.proofs.Scopes.{undeclared, declared, declared_if_some, says_declared, declared_says, item_declares, nearest, Agree, agree_more, HasNoXml, scope_no_xml}
 
 -- ---- what is declared at each id
 
 -- the row of an id
-abbrev row : List (List Declaration) → ℕ → List Declaration
+abbrev row : List (List NamespaceDecl) → ℕ → List NamespaceDecl
 row rows id = get_or rows id []
 
 -- the rows have what these items declare, from this id on
-abbrev Rows : List (List Declaration) → ℕ → Forest Item → Type 0
+abbrev Rows : List (List NamespaceDecl) → ℕ → Forest Item → Type 0
 Rows rows id Nil = Unit {0}
 Rows rows id (Cons item children rest) = (row rows id ≡ declared_at item) × Rows rows (id + 1) children × Rows rows (id + (1 + size children)) rest
 
@@ -36,7 +36,7 @@ length-declared_in : (f : Forest Item) → length (declared_in f) ≡ size f
 length-declared_in Nil = refl
 length-declared_in (Cons item c r) = omega (arith, length-append (declared_in c) (declared_in r), length-declared_in c, length-declared_in r)
 
-have_rows : (rows : List (List Declaration)) (b : ℕ) (f : Forest Item) → ((k : ℕ) → k < size f → row rows (b + k) ≡ row (declared_in f) k) → Rows rows b f
+have_rows : (rows : List (List NamespaceDecl)) (b : ℕ) (f : Forest Item) → ((k : ℕ) → k < size f → row rows (b + k) ≡ row (declared_in f) k) → Rows rows b f
 have_rows rows b Nil h = tt
 have_rows rows b (Cons item c r) h =
     let inner = declared_in c in
@@ -55,30 +55,30 @@ have_rows rows b (Cons item c r) h =
     )
 
 -- each of them may be declared
-rows_declarable : (above : List Declaration) (f : Forest Item) → AreWellNamed above f → All (AreDeclarable []) (declared_in f)
+rows_declarable : (above : List NamespaceDecl) (f : Forest Item) → AreWellNamed above f → All (AreDeclarable []) (declared_in f)
 rows_declarable above Nil h = All-nil (AreDeclarable [])
 rows_declarable above (Cons item c r) h =
     All-cons (AreDeclarable []) (declared_at item) (declared_in c ++ declared_in r) (item_declares (scope_in above item) item h.0)
     (All-append (AreDeclarable []) (declared_in c) (declared_in r) (rows_declarable (scope_in above item) c h.1) (rows_declarable above r h.2))
 
-row_declarable : (rows : List (List Declaration)) → All (AreDeclarable []) rows → (id : ℕ) → AreDeclarable [] (row rows id)
+row_declarable : (rows : List (List NamespaceDecl)) → All (AreDeclarable []) rows → (id : ℕ) → AreDeclarable [] (row rows id)
 row_declarable rows h id =
     ⊎_elim (λ inside. All-get_or (AreDeclarable []) rows id [] inside h) (λ past. rw (get_or_past rows id [] past) tt) (cases_lt id (length rows))
 
 -- ---- each element
 
 -- an element lists its scope, and other nodes list nothing
-lists : (scope : List Declaration) (item : Item) → says_element (node_in scope item) ≡ true → listed_of (node_in scope item) ≡ scope
+lists : (scope : List NamespaceDecl) (item : Item) → is_element_node (node_in scope item) ≡ true → listed_of (node_in scope item) ≡ scope
 lists scope (Element start end tag) e = refl
 lists scope (Text start end value borrowed) e = cc e
 lists scope (Comment start end text) e = cc e
 lists scope (PI start end target value) e = cc e
 
 -- if an element stands at this id, it lists what the rows say upwards from it
-abbrev Follows : List (List Declaration) → Place → ℕ → Type 0
-Follows rows p id = says_element p.item ≡ true → Agree (listed_of p.item) (map (row rows) (id ∷ p.above))
+abbrev Follows : List (List NamespaceDecl) → Place → ℕ → Type 0
+Follows rows p id = is_element_node p.item ≡ true → Agree (listed_of p.item) (map (row rows) (id ∷ p.above))
 
-all_follow : (T : List Place) (rows : List (List Declaration)) (above : List Declaration) (up left : List ℕ) (b : ℕ) (f : Forest Item)
+all_follow : (T : List Place) (rows : List (List NamespaceDecl)) (above : List NamespaceDecl) (up left : List ℕ) (b : ℕ) (f : Forest Item)
     → Sits T up left b (resolved above f) → Rows rows b f → Agree above (map (row rows) up) → (id : ℕ) → b ≤ id → id < b + size f → Follows rows (at T id) id
 all_follow T rows above up left b Nil s d a id l m = absurd (omega arith)
 all_follow T rows above up left b (Cons item c r) s d a id l m =
@@ -112,7 +112,7 @@ follows n tops id =
 
 -- ---- the first row that declares, as a relation
 
-module _ (rows : List (List Declaration)) (p : Option (List ℕ)) where
+module _ (rows : List (List NamespaceDecl)) (p : Option (List ℕ)) where
   -- the row of this id does not declare it
   abbrev Silent : ℕ → Type 0
   Silent id = is_declared p (row rows id) ≡ false
@@ -124,7 +124,7 @@ module _ (rows : List (List Declaration)) (p : Option (List ℕ)) where
     pub farther : List ℕ
     pub way : ids ≡ nearer ++ declarer ∷ farther
     pub none_nearer : All Silent nearer
-    pub declares : Contains (row rows declarer) (record { prefix = p; uri = u })
+    pub is_namespace_decl : Contains (row rows declarer) (record { prefix = p; uri = u })
 
   first_found : (u : List ℕ) (ids : List ℕ) → nearest p (map (row rows) ids) ≡ Some u → First u ids
   first_found u [] e = cc e
@@ -137,7 +137,7 @@ module _ (rows : List (List Declaration)) (p : Option (List ℕ)) where
         farther = h.farther;
         way = ap (λ ids. i ∷ ids) h.way;
         none_nearer = All-cons Silent i h.nearer n h.none_nearer;
-        declares = h.declares;
+        is_namespace_decl = h.is_namespace_decl;
       }
 
       by_test : (nearest p (map (row rows) ids) ≡ Some u → First u ids) → (x : Bool) → is_declared p (row rows i) ≡ x → First u (i ∷ ids)
@@ -147,7 +147,7 @@ module _ (rows : List (List Declaration)) (p : Option (List ℕ)) where
         farther = ids;
         way = refl;
         none_nearer = All-nil Silent;
-        declares = says_declared p u (row rows i) (rw s at e);
+        is_namespace_decl = says_declared p u (row rows i) (rw s at e);
       }
       by_test rest false s = later s (rest (rw s at e))
 
@@ -181,8 +181,8 @@ found_in n tops w id p u e x =
     let all : All (AreDeclarable []) rows = All-cons (AreDeclarable []) [] (declared_in tops) tt (rows_declarable [] tops w) in
     let agree = follows n tops id e p x in (
       (λ found. let h = first_found rows p u (upwards tree id) (sym agree ∙ found) in
-          record { nearer = h.nearer; declarer = h.declarer; farther = h.farther; way = h.way; none_nearer = h.none_nearer; declares = h.declares }),
-      (λ h. agree ∙ (ap (λ (ids : List ℕ). nearest p (map (row rows) ids)) h.way ∙ first_is rows p all u h.nearer h.declarer h.farther h.none_nearer h.declares)),
+          record { nearer = h.nearer; declarer = h.declarer; farther = h.farther; way = h.way; none_nearer = h.none_nearer; is_namespace_decl = h.is_namespace_decl }),
+      (λ h. agree ∙ (ap (λ (ids : List ℕ). nearest p (map (row rows) ids)) h.way ∙ first_is rows p all u h.nearer h.declarer h.farther h.none_nearer h.is_namespace_decl)),
     )
 
 -- and it lists none where none is declared
@@ -195,13 +195,13 @@ none_in n tops id p e x =
     ((λ none. none_found rows p (upwards tree id) (sym agree ∙ none)), (λ h. agree ∙ none_is rows p (upwards tree id) h))
 
 -- with the names resolved a node lists `xml` no more than its scope has it
-node_no_xml : (scope : List Declaration) (item : Item) → HasNoXml scope → HasNoXml (listed_of (node_in scope item))
+node_no_xml : (scope : List NamespaceDecl) (item : Item) → HasNoXml scope → HasNoXml (listed_of (node_in scope item))
 node_no_xml scope (Element start end tag) h = h
 node_no_xml scope (Text start end value borrowed) h = refl
 node_no_xml scope (Comment start end text) h = refl
 node_no_xml scope (PI start end target value) h = refl
 
-all_no_xml : (above : List Declaration) (f : Forest Item) → HasNoXml above → Each (λ node. HasNoXml (listed_of node)) (resolved above f)
+all_no_xml : (above : List NamespaceDecl) (f : Forest Item) → HasNoXml above → EachNode (λ node. HasNoXml (listed_of node)) (resolved above f)
 all_no_xml above Nil h = tt
 all_no_xml above (Cons item c r) h =
     let inner = scope_no_xml above item h in
@@ -213,7 +213,7 @@ xml_in n tops id =
     undeclared xml (listed_of (place tree id).item) (at_each (λ node. HasNoXml (listed_of node)) tree (refl, all_no_xml [] tops refl, tt) refl id)
 
 -- a node that is no element lists nothing
-listed_by_none : (node : Node) (p : Option (List ℕ)) → (says_element node ≡ true → ⊥) → uri_of (listed_of node) p ≡ None
+listed_by_none : (node : Node) (p : Option (List ℕ)) → (is_element_node node ≡ true → ⊥) → uri_of (listed_of node) p ≡ None
 listed_by_none (tree.Root end) p h = refl
 listed_by_none (tree.Element start end namespace local listed attributes) p h = absurd (h refl)
 listed_by_none (tree.Text start end value borrowed) p h = refl

@@ -1,14 +1,14 @@
 -- The ranges of a document's nodes are nested and in order.
 use Rattle.std.proofs.Common.{◌≡◌, ℕ, ◌+◌, ◌<◌, ◌≤◌, Bool, true, false, List, [], ◌∷◌, length, refl, sym, subst, arith}
 use Rattle.rox_grammar.specs.Forest.{Forest, Nil, Cons, join}
-use Rattle.rox_grammar.specs.Written.{Declaration, Item, Element, Text, Comment, PI, glue, merge}
+use Rattle.rox_grammar.specs.Written.{NamespaceDecl, Item, Element, Text, Comment, PI, glue, merge}
 use Rattle.rox_grammar.specs.Tree.{Node, scope_in, resolved}
-use Rattle.rox_grammar.specs.Content.{Sign, piece, Parts, last_part, then_entity, IsMisc, comment, instruction, IsElement, empty, nest, Content, ends, run, cdata, misc, node}
+use Rattle.rox_grammar.specs.Content.{DataByte, piece, Parts, last_part, then_entity, IsMisc, comment, instruction, IsElement, empty, nest, Content, ends, run, cdata, misc, node}
 use Rattle.rox_grammar.specs.Document.{Misc, no_misc, space, an_item, ParseOf, IsTreeOf}
 use Rattle.rox_theory.proofs.Without.{parse_without}
 use Rattle.rox_grammar.specs.Entities.{no_entities}
 use Rattle.rox_reading.proofs.Forests.{join-nil}
-use Rattle.rox_laws.specs.Located.{RangesNested}
+use Rattle.rox_laws.specs.RangeLaws.{RangesNested}
 use Rattle.rox_laws.proofs.Forward.{misc_forward, cdata_forward, end_forward, tag_forward}
 
 -- items between two places, as `RangesNested` has it of nodes, and nothing is below a text
@@ -64,7 +64,7 @@ merge_nested from to (Cons (Comment a e t) c r) h = (h.0, h.1, h.2, merge_nested
 merge_nested from to (Cons (PI a e t o) c r) h = (h.0, h.1, h.2, merge_nested e to r h.3)
 
 -- a run is one text, or none
-piece_nested : (start stop : ℕ) (plain : Bool) (ss : List Sign) → start < stop → Nested start stop (piece start stop plain ss)
+piece_nested : (start stop : ℕ) (plain : Bool) (ss : List DataByte) → start < stop → Nested start stop (piece start stop plain ss)
 piece_nested start stop plain [] some = omega arith
 piece_nested start stop plain (s ∷ ss) some = (omega arith, some, refl, omega arith)
 
@@ -134,7 +134,7 @@ parse_some src tops q =
         omega (arith, tag_forward src i k b d false t tag, inside, end_forward src m t.name p j end)
 
 -- names resolved move nothing
-resolved_nested : (above : List Declaration) (from to : ℕ) (f : Forest Item) → Nested from to f → RangesNested from to (resolved above f)
+resolved_nested : (above : List NamespaceDecl) (from to : ℕ) (f : Forest Item) → Nested from to f → RangesNested from to (resolved above f)
 resolved_nested above from to Nil h = h
 resolved_nested above from to (Cons (Text a e v b) c r) h =
     (h.0, h.1, below (omega (arith, h.1)) h.2, resolved_nested above e to r h.3)

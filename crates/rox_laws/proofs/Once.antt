@@ -4,15 +4,15 @@ use Rattle.std.specs.List.{list_any}
 use Rattle.std.proofs.lemmas.List.{append-nil, map-append}
 use Rattle.std.proofs.lemmas.List.Folds.{list_any-append}
 use Rattle.rox_grammar.specs.declared.fault.Word.TheVariants.{Xml}
-use Rattle.rox_grammar.specs.Words.{word_text}
+use Rattle.rox_grammar.specs.FixedTexts.{word_text}
 use Rattle.rox_grammar.specs.Forest.{Forest, Nil, Cons}
 use Rattle.rox_grammar.specs.Written as written
-use Rattle.rox_grammar.specs.Written.{Declaration, Item}
+use Rattle.rox_grammar.specs.Written.{NamespaceDecl, Item}
 use Rattle.rox_grammar.specs.Tree.{Node, Attribute, same_prefix, is_declared, listed, attribute_in, resolved}
 use Rattle.rox_grammar.specs.WellNamed.{AreDeclarable, AreDistinct, AreWellNamed}
 use Rattle.rox_grammar.specs.Doctype.{Asked}
 use Rattle.rox_grammar.specs.Document.{IsTreeOf}
-use Rattle.rox_laws.specs.Lawful.{PrefixesOnce, same_expanded, NamesOnce, NamesDistinct}
+use Rattle.rox_laws.specs.TreeLaws.{PrefixesOnce, same_attribute_name, NamesOnce, NamesDistinct}
 
 -- neither of two tests
 neither : (x y : Bool) → (x || y) ≡ false → (x ≡ false) × (y ≡ false)
@@ -20,14 +20,14 @@ neither false y h = (refl, h)
 neither true y h = let e : ⊥ = cc h in absurd e
 
 -- a prefix that is not declared here and in one more
-split : (p : Option (List ℕ)) (b : List Declaration) (d : Declaration) → is_declared p (b ++ d ∷ []) ≡ false → (is_declared p b ≡ false) × (is_declared p (d ∷ []) ≡ false)
-split p b d h = neither _ _ (sym (list_any-append (λ (d : Declaration). same_prefix d.prefix p) b (d ∷ [])) ∙ h)
+split : (p : Option (List ℕ)) (b : List NamespaceDecl) (d : NamespaceDecl) → is_declared p (b ++ d ∷ []) ≡ false → (is_declared p b ≡ false) × (is_declared p (d ∷ []) ≡ false)
+split p b d h = neither _ _ (sym (list_any-append (λ (d : NamespaceDecl). same_prefix d.prefix p) b (d ∷ [])) ∙ h)
 
-both : (p : Option (List ℕ)) (b : List Declaration) (d : Declaration) → is_declared p b ≡ false → is_declared p (d ∷ []) ≡ false → is_declared p (b ++ d ∷ []) ≡ false
-both p b d x y = list_any-append (λ (d : Declaration). same_prefix d.prefix p) b (d ∷ []) ∙ (ap (λ (z : Bool). z || is_declared p (d ∷ [])) x ∙ y)
+both : (p : Option (List ℕ)) (b : List NamespaceDecl) (d : NamespaceDecl) → is_declared p b ≡ false → is_declared p (d ∷ []) ≡ false → is_declared p (b ++ d ∷ []) ≡ false
+both p b d x y = list_any-append (λ (d : NamespaceDecl). same_prefix d.prefix p) b (d ∷ []) ∙ (ap (λ (z : Bool). z || is_declared p (d ∷ [])) x ∙ y)
 
 -- nor among some of these
-pub some_none : (p : Option (List ℕ)) (q : Declaration → Bool) (ds : List Declaration) → is_declared p ds ≡ false → is_declared p (filter q ds) ≡ false
+pub some_none : (p : Option (List ℕ)) (q : NamespaceDecl → Bool) (ds : List NamespaceDecl) → is_declared p ds ≡ false → is_declared p (filter q ds) ≡ false
 some_none p q [] h = h
 some_none p q (d ∷ ds) h =
     let n = neither (same_prefix d.prefix p) (is_declared p ds) h in
@@ -38,9 +38,9 @@ some_none p q (d ∷ ds) h =
     by_test false e m k = rw e k
 
 -- some of them, behind others that have no more of those prefixes, each still come once
-some_once : (own : List Declaration) (q : Declaration → Bool) (b front ds : List Declaration)
+some_once : (own : List NamespaceDecl) (q : NamespaceDecl → Bool) (b front ds : List NamespaceDecl)
     → ((p : Option (List ℕ)) → is_declared p own ≡ false → is_declared p b ≡ false → is_declared p front ≡ false)
-    → ((d : Declaration) → q d ≡ true → is_declared d.prefix own ≡ false) → PrefixesOnce b ds → PrefixesOnce front (filter q ds)
+    → ((d : NamespaceDecl) → q d ≡ true → is_declared d.prefix own ≡ false) → PrefixesOnce b ds → PrefixesOnce front (filter q ds)
 some_once own q b front [] w k h = tt
 some_once own q b front (d ∷ ds) w k (n, h) =
     by_test (q d) refl
@@ -52,13 +52,13 @@ some_once own q b front (d ∷ ds) w k (n, h) =
     by_test false e more less = rw e less
 
 -- one row behind another
-once_append : (b xs ys : List Declaration) → PrefixesOnce b xs → PrefixesOnce (b ++ xs) ys → PrefixesOnce b (xs ++ ys)
-once_append b [] ys h k = subst (λ (b : List Declaration). PrefixesOnce b ys) (append-nil b) k
+once_append : (b xs ys : List NamespaceDecl) → PrefixesOnce b xs → PrefixesOnce (b ++ xs) ys → PrefixesOnce b (xs ++ ys)
+once_append b [] ys h k = subst (λ (b : List NamespaceDecl). PrefixesOnce b ys) (append-nil b) k
 once_append b (x ∷ xs) ys (n, h) k =
-    (n, once_append (b ++ x ∷ []) xs ys h (subst (λ (b : List Declaration). PrefixesOnce b ys) (sym (append_assoc b (x ∷ []) xs)) k))
+    (n, once_append (b ++ x ∷ []) xs ys h (subst (λ (b : List NamespaceDecl). PrefixesOnce b ys) (sym (append_assoc b (x ∷ []) xs)) k))
 
 -- what a tag declares has each prefix once
-declares_once : (b ds : List Declaration) → AreDeclarable b ds → PrefixesOnce b ds
+declares_once : (b ds : List NamespaceDecl) → AreDeclarable b ds → PrefixesOnce b ds
 declares_once b [] h = tt
 declares_once b (d ∷ ds) h = (h.1, declares_once (b ++ d ∷ []) ds h.2)
 
@@ -67,10 +67,10 @@ not_true true h = sym h
 not_true false h = refl
 
 -- and so has what its element lists
-listed_once : (above own : List Declaration) → PrefixesOnce [] above → AreDeclarable [] own → PrefixesOnce [] (listed above own)
+listed_once : (above own : List NamespaceDecl) → PrefixesOnce [] above → AreDeclarable [] own → PrefixesOnce [] (listed above own)
 listed_once above own h k =
-    let kept : Declaration → Bool = λ (d : Declaration). not (same_prefix d.prefix (Some (word_text Xml))) in
-    let other : Declaration → Bool = λ (d : Declaration). not (is_declared d.prefix own) in
+    let kept : NamespaceDecl → Bool = λ (d : NamespaceDecl). not (same_prefix d.prefix (Some (word_text Xml))) in
+    let other : NamespaceDecl → Bool = λ (d : NamespaceDecl). not (is_declared d.prefix own) in
     let front : PrefixesOnce [] (filter kept own) = some_once [] kept [] [] own (λ p o m. m) (λ d e. refl) (declares_once [] own k) in
     let back : PrefixesOnce (filter kept own) (filter other above) =
     some_once own other [] (filter kept own) above (λ p o m. some_none p kept own o) (λ d e. not_true (is_declared d.prefix own) e) h in
@@ -82,16 +82,16 @@ any_map p f [] = refl
 any_map p f (x ∷ xs) = ap (λ (z : Bool). p (f x) || z) (any_map p f xs)
 
 -- the attributes of a tag have each expanded name once
-names_once : (scope : List Declaration) (before as' : List written.Attribute) → AreDistinct scope before as'
+names_once : (scope : List NamespaceDecl) (before as' : List written.Attribute) → AreDistinct scope before as'
     → NamesOnce (map (attribute_in scope) before) (map (attribute_in scope) as')
 names_once scope before [] h = tt
 names_once scope before (a ∷ as') h = (
-  any_map (λ (e : Attribute). same_expanded e (attribute_in scope a)) (attribute_in scope) before ∙ h.1,
+  any_map (λ (e : Attribute). same_attribute_name e (attribute_in scope a)) (attribute_in scope) before ∙ h.1,
   subst (λ (b : List Attribute). NamesOnce b (map (attribute_in scope) as')) (map-append (attribute_in scope) before (a ∷ [])) (names_once scope (before ++ a ∷ []) as' h.2),
 )
 
 -- below an element that lists these
-resolved_distinct : (above : List Declaration) (f : Forest Item) → PrefixesOnce [] above → AreWellNamed above f → NamesDistinct (resolved above f)
+resolved_distinct : (above : List NamespaceDecl) (f : Forest Item) → PrefixesOnce [] above → AreWellNamed above f → NamesDistinct (resolved above f)
 resolved_distinct above Nil once h = tt
 resolved_distinct above (Cons (written.Element a e t) c r) once h =
     let scope = listed above t.declarations in

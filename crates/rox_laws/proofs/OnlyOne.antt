@@ -8,16 +8,16 @@ use Rattle.std.proofs.lemmas.List.Recursion.{is_count_by}
 use Rattle.std.proofs.lemmas.Slice.Eq.{bytes_eq-Decides}
 use Rattle.rox_grammar.specs.Forest.{Forest, Nil, Cons}
 use Rattle.rox_grammar.specs.Tree.{Node, Attribute, same_prefix}
-use Rattle.roxmltree.specs.Says.{node_at, listed_of, attributes_of}
-use Rattle.roxmltree.specs.Names.{same_name, named, IsNamedAt}
-use Rattle.rox_laws.specs.Lawful.{PrefixesOnce, same_expanded, NamesOnce, NamesDistinct}
+use Rattle.roxmltree.specs.NodeParts.{node_at, listed_of, attributes_of}
+use Rattle.roxmltree.specs.ExpandedNames.{same_expanded_name, named, IsNamedAt}
+use Rattle.rox_laws.specs.TreeLaws.{PrefixesOnce, same_attribute_name, NamesOnce, NamesDistinct}
 use Rattle.roxmltree.proofs.Prefixes.{option_eq_same}
 use Rattle.rox_tables.proofs.Pairs.{same_prefix-true, same_prefix-refl}
-use Rattle.roxmltree.specs.Each.{Each}
+use Rattle.roxmltree.specs.EachNode.{EachNode}
 use Rattle.roxmltree.proofs.Everywhere.{at_each}
 
 -- two attributes of one name have one expanded name
-both_named : (name : Option (List ℕ) × List ℕ) (a b : Attribute) → same_name (a.namespace, a.local) name ≡ true → same_name (b.namespace, b.local) name ≡ true → same_expanded a b ≡ true
+both_named : (name : Option (List ℕ) × List ℕ) (a b : Attribute) → same_expanded_name (a.namespace, a.local) name ≡ true → same_expanded_name (b.namespace, b.local) name ≡ true → same_attribute_name a b ≡ true
 both_named name a b h k =
     let x = and_parts (bytes_eq a.local name.1) (option_eq bytes_eq a.namespace name.0) h in
     let y = and_parts (bytes_eq b.local name.1) (option_eq bytes_eq b.namespace name.0) k in
@@ -30,7 +30,7 @@ both_named name a b h k =
 
 -- whether an attribute has this name
 abbrev has : Option (List ℕ) × List ℕ → Attribute → Bool
-has name a = same_name (a.namespace, a.local) name
+has name a = same_expanded_name (a.namespace, a.local) name
 
 -- a test that is true of none, where it is true of no more than another
 none_weaker : {A : Type 0} (s t : A → Bool) (xs : List A) → ((x : A) → t x ≡ true → s x ≡ true) → list_any s xs ≡ false → list_any t xs ≡ false
@@ -42,7 +42,7 @@ none_weaker s t (x ∷ xs) k h =
 -- none before it has the name of one of these
 none_before : (name : Option (List ℕ) × List ℕ) (before as' : List Attribute) (i : ℕ) → NamesOnce before as' → IsNamedAt name as' i → list_any (has name) before ≡ false
 none_before name before [] i h n = absurd n
-none_before name before (a ∷ as') zero h n = none_weaker (λ e. same_expanded e a) (has name) before (λ e m. both_named name e a m n) h.0
+none_before name before (a ∷ as') zero h n = none_weaker (λ e. same_attribute_name e a) (has name) before (λ e m. both_named name e a m n) h.0
 none_before name before (a ∷ as') (suc i) h n =
     let k = none_before name (before ++ a ∷ []) as' i h.1 n in
     (or_parts (list_any (has name) before) (list_any (has name) (a ∷ [])) (sym (list_any-append (has name) before (a ∷ [])) ∙ k)).0
@@ -68,7 +68,7 @@ one_place name before (a ∷ as') (suc i) (suc j) h m n = ap suc (one_place name
 abbrev Distinct : Node → Type 0
 Distinct node = PrefixesOnce [] (listed_of node) × NamesOnce [] (attributes_of node)
 
-all_distinct : (f : Forest Node) → NamesDistinct f → Each Distinct f
+all_distinct : (f : Forest Node) → NamesDistinct f → EachNode Distinct f
 all_distinct Nil h = tt
 all_distinct (Cons node c r) h = (h.0, all_distinct c h.1, all_distinct r h.2)
 
@@ -156,7 +156,7 @@ one_at_most tree h id name = rw (counted_at tree h id name) (by_test (is_some (n
 
 -- what is counted when none is left
 pub counted_all : (name : Option (List ℕ) × List ℕ) (as' : List Attribute) (count : ℕ) (left : List Attribute) → left ≡ []
-    → count + how_many name left ≡ how_many name as' → count ≡ count_by (λ a. same_name (a.namespace, a.local) name) as'
+    → count + how_many name left ≡ how_many name as' → count ≡ count_by (λ a. same_expanded_name (a.namespace, a.local) name) as'
 counted_all name as' count left none sum =
     let sum' : count + 0 ≡ how_many name as' = rw none at sum in
     let same : count ≡ count + 0 = omega arith in
@@ -164,5 +164,5 @@ counted_all name as' count left none sum =
 
 -- which is one or none
 pub counted_one : (tree : Forest Node) → NamesDistinct tree → (id : ℕ) (name : Option (List ℕ) × List ℕ)
-    → count_by (λ a. same_name (a.namespace, a.local) name) (attributes_of (node_at tree id)) ≡ cond (is_some (named name (attributes_of (node_at tree id)))) 1 0
+    → count_by (λ a. same_expanded_name (a.namespace, a.local) name) (attributes_of (node_at tree id)) ≡ cond (is_some (named name (attributes_of (node_at tree id)))) 1 0
 counted_one tree h id name = sym (is_count_by (how_many name) (has name) refl (λ _ _. refl) (attributes_of (node_at tree id))) ∙ counted_at tree h id name

@@ -5,11 +5,11 @@ use Rattle.rox_grammar.specs.Tree.{Node, Root, Element, Text, Comment, PI}
 use Rattle.rox_grammar.specs.Document.{IsTreeOf}
 use Rattle.rox_grammar.specs.Doctype.{Asked}
 use Rattle.rox_grammar.specs.Exchange.{self_contained}
-use Rattle.roxmltree.specs.Doc.{Doc}
+use Rattle.roxmltree.specs.DocumentView.{DocumentView}
 use Rattle.roxmltree.specs.Places.{preorder, place, ids, children}
-use Rattle.roxmltree.specs.Says.{says_element, node_at}
+use Rattle.roxmltree.specs.NodeParts.{is_element_node, node_at}
 use Rattle.roxmltree.specs.Elements.{first_element, root_id}
-use Rattle.roxmltree.specs.Alone.{stands_alone}
+use Rattle.roxmltree.specs.SelfContained.{stands_alone}
 use Rattle.roxmltree.proofs.Preorder.{Sits}
 use Rattle.roxmltree.proofs.Tops.{HasElement, IsDocument, whole_sits, is_document}
 
@@ -18,7 +18,7 @@ abbrev FirstStands : Forest Node → ℕ → Forest Node → Type 0
 FirstStands tree b f = (k : ℕ) × (first_element tree (ids b f) ≡ b + k) × (k < size f) × (self_contained f k ≡ true)
 
 -- it is not this node
-later : (tree : Forest Node) (b : ℕ) (x : Node) (c r : Forest Node) → says_element (node_at tree b) ≡ false → FirstStands tree (b + (1 + size c)) r → FirstStands tree b (Cons x c r)
+later : (tree : Forest Node) (b : ℕ) (x : Node) (c r : Forest Node) → is_element_node (node_at tree b) ≡ false → FirstStands tree (b + (1 + size c)) r → FirstStands tree b (Cons x c r)
 later tree b x c r none (k, is, inside, stands) =
     let behind = le-ltb (size c + k) (size c) (omega arith) in
     let same : size c + k - size c ≡ k = omega arith in
@@ -29,17 +29,17 @@ first_stands : (tree : Forest Node) (up left : List ℕ) (b : ℕ) (f : Forest N
 unfolding place
 first_stands tree up left b Nil s h = absurd h
 first_stands tree up left b (Cons (Element start end namespace local listed attributes) c r) s h =
-    let is : says_element (node_at tree b) ≡ true = ap (λ p. says_element p.item) s.0 in
+    let is : is_element_node (node_at tree b) ≡ true = ap (λ p. is_element_node p.item) s.0 in
     let same : b ≡ b + 0 = omega arith in
     (0, rw is same, omega arith, refl)
 first_stands tree up left b (Cons (Root end) c r) s h =
-    later tree b (Root end) c r (ap (λ p. says_element p.item) s.0) (first_stands tree up (b ∷ left) (b + (1 + size c)) r s.3 h)
+    later tree b (Root end) c r (ap (λ p. is_element_node p.item) s.0) (first_stands tree up (b ∷ left) (b + (1 + size c)) r s.3 h)
 first_stands tree up left b (Cons (Text start end value borrowed) c r) s h =
-    later tree b (Text start end value borrowed) c r (ap (λ p. says_element p.item) s.0) (first_stands tree up (b ∷ left) (b + (1 + size c)) r s.3 h)
+    later tree b (Text start end value borrowed) c r (ap (λ p. is_element_node p.item) s.0) (first_stands tree up (b ∷ left) (b + (1 + size c)) r s.3 h)
 first_stands tree up left b (Cons (Comment start end text) c r) s h =
-    later tree b (Comment start end text) c r (ap (λ p. says_element p.item) s.0) (first_stands tree up (b ∷ left) (b + (1 + size c)) r s.3 h)
+    later tree b (Comment start end text) c r (ap (λ p. is_element_node p.item) s.0) (first_stands tree up (b ∷ left) (b + (1 + size c)) r s.3 h)
 first_stands tree up left b (Cons (PI start end target value) c r) s h =
-    later tree b (PI start end target value) c r (ap (λ p. says_element p.item) s.0) (first_stands tree up (b ∷ left) (b + (1 + size c)) r s.3 h)
+    later tree b (PI start end target value) c r (ap (λ p. is_element_node p.item) s.0) (first_stands tree up (b ∷ left) (b + (1 + size c)) r s.3 h)
 
 -- above it is the root node alone, which lists nothing
 pub root_contained : (tree : Forest Node) (n : ℕ) → IsDocument n tree → self_contained tree (root_id tree) ≡ true
@@ -54,5 +54,5 @@ root_contained tree n w =
     let inside : self_contained (Cons (Root n) w.tops Nil) (suc first.0) ≡ true = rw within first.3 in
     ap (self_contained tree) id ∙ subst (λ (f : Forest Node). self_contained f (suc first.0) ≡ true) (sym w.rooted) inside
 
-pub root_stands : (d : Doc) → (asked : List Asked) × IsTreeOf d.text d.dtd asked 4294967295 d.tree → d.dtd ≡ false → stands_alone d (root_id d.tree) ≡ true
+pub root_stands : (d : DocumentView) → (asked : List Asked) × IsTreeOf d.text d.dtd asked 4294967295 d.tree → d.dtd ≡ false → stands_alone d (root_id d.tree) ≡ true
 root_stands d parsed none = rw none (root_contained d.tree (length d.text) (is_document d.text 4294967295 d.tree parsed.1))

@@ -9,20 +9,20 @@ use Rattle.rox_grammar.specs.declared.fault.Word.TheVariants as word
 use Rattle.rox_grammar.specs.declared.fault.Fault.{Fault}
 use Rattle.rox_grammar.specs.Chars.{is_space, is_name_start, is_name_char}
 use Rattle.rox_grammar.specs.Runs.{StandsAt}
-use Rattle.rox_grammar.specs.Words.{word_text}
-use Rattle.rox_grammar.specs.Marks.{before_mark, mark_from}
-use Rattle.rox_grammar.specs.Written.{Name, Attribute, Declaration, declares, attributes_of}
+use Rattle.rox_grammar.specs.FixedTexts.{word_text}
+use Rattle.rox_grammar.specs.Search.{before_mark, mark_from}
+use Rattle.rox_grammar.specs.Written.{Name, Attribute, NamespaceDecl, is_namespace_decl, plain_attributes_of}
 use Rattle.rox_grammar.specs.Names.{byte, spaces_end, IsName, IsQName, unprefixed, prefixed, colon_first}
 use Rattle.rox_grammar.specs.Constructs.{at, first, IsLiteral, IsPair, IsGap, MayBePair, MayEndPair}
 use Rattle.rox_grammar.specs.Constructs as constructs
 use Rattle.rox_grammar.specs.References.{IsReference, IsCharacter, decimal, hexadecimal, named}
-use Rattle.rox_grammar.specs.Content.{Opener, Attributes}
+use Rattle.rox_grammar.specs.Content.{Inclusion, Attributes}
 use Rattle.rox_grammar.specs.Content as content
 use Rattle.rox_grammar.specs.Entities.{Entity}
 use Rattle.rox_grammar.specs.State.{Open, root, inside, State}
-use Rattle.rox_grammar.specs.Due.{Thing, a_name, a_qname, a_byte, a_word, a_space, a_quote, a_gap, chars_to, tag_rest, subset_or_end, doctype_end, a_definition, Lacks, DueInComment, DueInPI, DueInCData, DueInEnd, DueInPair, PairBegins, DueInDeclaration}
+use Rattle.rox_grammar.specs.Due.{DueItem, a_name, a_qname, a_byte, a_word, a_space, a_quote, a_gap, chars_to, tag_rest, subset_or_end, doctype_end, a_definition, IsMissing, DueInComment, DueInPI, DueInCData, DueInEnd, DueInPair, PairBegins, DueInXmlDecl}
 use Rattle.rox_grammar.specs.Due as due
-use Rattle.rox_grammar.specs.Places.{TagBegins, of_root, in_content}
+use Rattle.rox_grammar.specs.ContentPoints.{TagBegins, of_root, in_content}
 use Rattle.rox_grammar.specs.Faults.{InMisc, InReferences, InRun, InValue, IllDeclared, IllNamed, cut_off, InTag, InEnd, Stands, FaultFrom}
 use Rattle.rox_grammar.specs.Faults as rows
 use Rattle.rox_theory.proofs.Basics.{within}
@@ -72,7 +72,7 @@ reference_inside src i n j is =
 -- ---- what is due
 
 -- what may be lacking at any place has to lie in the source
-abbrev Fits : List ℕ → Thing → ℕ → Type 0
+abbrev Fits : List ℕ → DueItem → ℕ → Type 0
 Fits src a_name p = p ≤ length src
 Fits src a_qname p = p ≤ length src
 Fits src (a_word w) p = p ≤ length src
@@ -86,24 +86,24 @@ Fits src subset_or_end p = Unit {0}
 Fits src doctype_end p = Unit {0}
 Fits src a_definition p = Unit {0}
 
-lacks_placed : (src : List ℕ) (p : ℕ) (t : Thing) (f : Fault) → Fits src t p → Lacks src p t f → IsPlaced src f
-lacks_placed src p t f fits (due.Lacks.no_name none) = fits
-lacks_placed src p t f fits (due.Lacks.no_qname none) = fits
-lacks_placed src p t f fits (due.Lacks.other_byte b there other) = omega arith
-lacks_placed src p t f fits (due.Lacks.other_word w none) = fits
-lacks_placed src p t f fits (due.Lacks.no_space there none) = omega arith
-lacks_placed src p t f fits (due.Lacks.no_quote there no_apos no_quot) = omega arith
-lacks_placed src p t f fits (due.Lacks.no_gap there none no_end) = omega arith
-lacks_placed src p t f fits (due.Lacks.no_char e q c ends before is bad) = let there = char_within c src q is in omega arith
-lacks_placed src p t f fits (due.Lacks.no_subset there no_open no_close) = omega arith
-lacks_placed src p t f fits (due.Lacks.no_end there none) = omega arith
-lacks_placed src p t f fits (due.Lacks.no_definition there a b c d) = omega arith
-lacks_placed src p t f fits (due.Lacks.no_external_id (inl is) no_system no_public) = let there = within src p (λ z. omega arith) in omega arith
-lacks_placed src p t f fits (due.Lacks.no_external_id (inr is) no_system no_public) = let there = within src p (λ z. omega arith) in omega arith
-lacks_placed src p t f fits (due.Lacks.ends_before _ by_byte end) = tt
+lacks_placed : (src : List ℕ) (p : ℕ) (t : DueItem) (f : Fault) → Fits src t p → IsMissing src p t f → IsPlaced src f
+lacks_placed src p t f fits (due.IsMissing.no_name none) = fits
+lacks_placed src p t f fits (due.IsMissing.no_qname none) = fits
+lacks_placed src p t f fits (due.IsMissing.other_byte b there other) = omega arith
+lacks_placed src p t f fits (due.IsMissing.other_word w none) = fits
+lacks_placed src p t f fits (due.IsMissing.no_space there none) = omega arith
+lacks_placed src p t f fits (due.IsMissing.no_quote there no_apos no_quot) = omega arith
+lacks_placed src p t f fits (due.IsMissing.no_gap there none no_end) = omega arith
+lacks_placed src p t f fits (due.IsMissing.no_char e q c ends before is bad) = let there = char_within c src q is in omega arith
+lacks_placed src p t f fits (due.IsMissing.no_subset there no_open no_close) = omega arith
+lacks_placed src p t f fits (due.IsMissing.no_end there none) = omega arith
+lacks_placed src p t f fits (due.IsMissing.no_definition there a b c d) = omega arith
+lacks_placed src p t f fits (due.IsMissing.no_external_id (inl is) no_system no_public) = let there = within src p (λ z. omega arith) in omega arith
+lacks_placed src p t f fits (due.IsMissing.no_external_id (inr is) no_system no_public) = let there = within src p (λ z. omega arith) in omega arith
+lacks_placed src p t f fits (due.IsMissing.ends_before _ by_byte end) = tt
 
 module _ (src : List ℕ) (utf8 : IsUtf8 src) where
-  comment_fits : (i p : ℕ) (t : Thing) → DueInComment src i p t → Fits src t p
+  comment_fits : (i p : ℕ) (t : DueItem) → DueInComment src i p t → Fits src t p
   comment_fits i p t (due.DueInComment.its_text opens) = tt
   comment_fits i p t (due.DueInComment.its_end opens chars) = first_le word.CommentEnd src (i + 4) (stands_fits (word_text word.CommentStart) src i (omega arith) opens)
 
@@ -116,20 +116,20 @@ module _ (src : List ℕ) (utf8 : IsUtf8 src) where
       let ends = subst (IsCharBoundary src) (sym is.longest) (run_cut is_name_char src (i + 2) utf8 starts) in
       (run_cut is_space src n utf8 ends).0
 
-  instruction_fits : (i p : ℕ) (t : Thing) → DueInPI src i p t → Fits src t p
+  instruction_fits : (i p : ℕ) (t : DueItem) → DueInPI src i p t → Fits src t p
   instruction_fits i p t (due.DueInPI.its_target opens) = stands_fits (word_text word.PIStart) src i (omega arith) opens
   instruction_fits i p t (due.DueInPI.its_value n opens is) = tt
   instruction_fits i p t (due.DueInPI.its_end n opens is chars) = first_le word.PIEnd src (spaces_end src n) (spaces_inside i n opens is)
 
-  section_fits : (i p : ℕ) (t : Thing) → DueInCData src i p t → Fits src t p
+  section_fits : (i p : ℕ) (t : DueItem) → DueInCData src i p t → Fits src t p
   section_fits i p t (due.DueInCData.its_text opens) = tt
   section_fits i p t (due.DueInCData.its_end opens chars) = first_le word.CDataEnd src (i + 9) (stands_fits (word_text word.CDataStart) src i (omega arith) opens)
 
-  end_fits : (i p : ℕ) (t : Thing) → DueInEnd src i p t → Fits src t p
+  end_fits : (i p : ℕ) (t : DueItem) → DueInEnd src i p t → Fits src t p
   end_fits i p t (due.DueInEnd.its_name opens) = stands_fits (word_text word.EndTagStart) src i (omega arith) opens
   end_fits i p t (due.DueInEnd.its_end name n opens is) = tt
 
-  pair_fits : (i p : ℕ) (t : Thing) → i ≤ length src → DueInPair src i p t → Fits src t p
+  pair_fits : (i p : ℕ) (t : DueItem) → i ≤ length src → DueInPair src i p t → Fits src t p
   pair_fits i p t le due.DueInPair.its_name = le
   pair_fits i p t le (due.DueInPair.equals name n is) = tt
   pair_fits i p t le (due.DueInPair.opening name n v is eq) = tt
@@ -156,10 +156,10 @@ module _ (src : List ℕ) (utf8 : IsUtf8 src) where
   last_cut w i k cut (constructs.MayEndPair.no_last _ none) = cut
 
   -- behind `<?xml` and white space
-  version_cut : (i : ℕ) → at word.DeclarationStart src i ≡ true → IsCharBoundary src (spaces_end src (i + 5))
+  version_cut : (i : ℕ) → at word.XmlDeclStart src i ≡ true → IsCharBoundary src (spaces_end src (i + 5))
   version_cut i opens =
       let next : i + 4 + 1 ≡ i + 5 = omega arith in
-      let letter : byte src (i + 4) ≡ 108 = stands_reads (word_text word.DeclarationStart) src i 4 opens (omega arith) in
+      let letter : byte src (i + 4) ≡ 108 = stands_reads (word_text word.XmlDeclStart) src i 4 opens (omega arith) in
       run_cut is_space src (i + 5) utf8 (subst (IsCharBoundary src) next (cut_behind src (i + 4) 108 utf8 letter (omega arith) (omega arith)))
 
   begins_inside : (i : ℕ) (gap : Bool) (j : ℕ) → PairBegins src i gap j → j ≤ length src
@@ -167,15 +167,15 @@ module _ (src : List ℕ) (utf8 : IsUtf8 src) where
   begins_inside i gap j (due.PairBegins.encoding _ first_is first_pair is) = let fits = stands_fits (word_text word.Encoding) src j (omega arith) is in omega arith
   begins_inside i gap j (due.PairBegins.standalone v _ first_is first_pair more is) = let fits = stands_fits (word_text word.Standalone) src j (omega arith) is in omega arith
 
-  pub declaration_fits : (i p : ℕ) (t : Thing) → at word.DeclarationStart src i ≡ true → DueInDeclaration src i p t → Fits src t p
-  declaration_fits i p t opens due.DueInDeclaration.its_version = (version_cut i opens).0
-  declaration_fits i p t opens (due.DueInDeclaration.in_pair gap j _ _ begins is) = pair_fits j p t (begins_inside i gap j begins) is
-  declaration_fits i p t opens (due.DueInDeclaration.behind_pair j _ begins pair) = tt
-  declaration_fits i p t opens (due.DueInDeclaration.its_end v e s version first_pair second third) =
+  pub declaration_fits : (i p : ℕ) (t : DueItem) → at word.XmlDeclStart src i ≡ true → DueInXmlDecl src i p t → Fits src t p
+  declaration_fits i p t opens due.DueInXmlDecl.its_version = (version_cut i opens).0
+  declaration_fits i p t opens (due.DueInXmlDecl.in_pair gap j _ _ begins is) = pair_fits j p t (begins_inside i gap j begins) is
+  declaration_fits i p t opens (due.DueInXmlDecl.behind_pair j _ begins pair) = tt
+  declaration_fits i p t opens (due.DueInXmlDecl.its_end v e s version first_pair second third) =
       let cut = last_cut word.Standalone e s (may_cut word.Encoding v e (may_cut word.Version (spaces_end src (i + 5)) v (version_cut i opens) first_pair) second) third in
       (run_cut is_space src s utf8 cut).0
 
-  pub declaration_placed : (i p : ℕ) (t : Thing) (f : Fault) → at word.DeclarationStart src i ≡ true → DueInDeclaration src i p t → Lacks src p t f → IsPlaced src f
+  pub declaration_placed : (i p : ℕ) (t : DueItem) (f : Fault) → at word.XmlDeclStart src i ≡ true → DueInXmlDecl src i p t → IsMissing src p t f → IsPlaced src f
   declaration_placed i p t f opens is lacks = lacks_placed src p t f (declaration_fits i p t opens is) lacks
 
   -- ---- the rows of content
@@ -193,20 +193,20 @@ module _ (src : List ℕ) (utf8 : IsUtf8 src) where
       let there = within src p (λ z. omega arith) in
       omega arith
 
-  run_placed : (es : List Entity) (k : ℕ) (O : Opener) (i b : ℕ) (f : Fault) → i < length src → InRun es k O src i b f → IsPlaced src f
+  run_placed : (es : List Entity) (k : ℕ) (O : Inclusion) (i b : ℕ) (f : Fault) → i < length src → InRun es k O src i b f → IsPlaced src f
   run_placed es k O i b f there (rows.InRun.no_char _ lacks) = lacks_placed src i _ f tt lacks
   run_placed es k O i b f there (rows.InRun.end_mark e ends chars has) = let le = from_bound (λ c. c == 60) src i (omega arith) in rw ends le
   run_placed es k O i b f there (rows.InRun.in_reference e p _ ends chars none from before ill) = references_placed es p f ill
   run_placed es k O i b f there (rows.InRun.too_many stop p j c front t run parts before refers spent) = reference_inside src p refers.n j refers.is_reference
 
-  pub value_placed : (es : List Entity) (k : ℕ) (O : Opener) (i stop b : ℕ) (f : Fault) → InValue es k O src i stop b f → IsPlaced src f
+  pub value_placed : (es : List Entity) (k : ℕ) (O : Inclusion) (i stop b : ℕ) (f : Fault) → InValue es k O src i stop b f → IsPlaced src f
   value_placed es k O i stop b f (rows.InValue.in_reference p _ from before ill) = references_placed es p f ill
   value_placed es k O i stop b f (rows.InValue.too_many p j c t to before refers spent) = reference_inside src p refers.n j refers.is_reference
   value_placed es k O i stop b f (rows.InValue.less p inner from before is) = let there = within src p (λ z. omega arith) in omega arith
   value_placed es k O i stop b f (rows.InValue.less_by_reference p j inner from before is) = let there = character_within src p 60 j is in omega arith
   value_placed es k O i stop b f (rows.InValue.no_char q c inner from before is bad) = let there = char_within c src q is in omega arith
 
-  declared_placed : (before : List Declaration) (a : Attribute) (f : Fault) → a.start ≤ length src → IllDeclared src before a f → IsPlaced src f
+  declared_placed : (before : List NamespaceDecl) (a : Attribute) (f : Fault) → a.start ≤ length src → IllDeclared src before a f → IsPlaced src f
   declared_placed before a f le (rows.IllDeclared.other_uri is_xmlns is_xml not_xml not_xmlns) = le
   declared_placed before a f le (rows.IllDeclared.uri_of_xml not_xml is) = le
   declared_placed before a f le (rows.IllDeclared.uri_of_xmlns is) = le
@@ -217,16 +217,16 @@ module _ (src : List ℕ) (utf8 : IsUtf8 src) where
   StartsIn [] = Unit {0}
   StartsIn (a ∷ as') = (a.start ≤ length src) × StartsIn as'
 
-  written_start : (main : Bool) (O : Opener) (i j b c : ℕ) (as' : List Attribute) → Attributes main O src i j b c as' → StartsIn as'
+  written_start : (main : Bool) (O : Inclusion) (i j b c : ℕ) (as' : List Attribute) → Attributes main O src i j b c as' → StartsIn as'
   written_start main O i j b c as' (content.Attributes.no_more _ _) = tt
   written_start main O i j b c as' (content.Attributes.one_more _ m _ _ d _ a more space is rest) =
       let there = qname_within src (spaces_end src i) a.name a.name_end is.is_name in
       (omega (arith, is.starts), written_start main O m j d c more rest)
 
-  attributes_start : (as' : List Attribute) → StartsIn as' → StartsIn (attributes_of as')
+  attributes_start : (as' : List Attribute) → StartsIn as' → StartsIn (plain_attributes_of as')
   attributes_start [] starts = tt
   attributes_start (a ∷ as') starts =
-      elim (cases_Bool (declares a.name)) as (λ q. StartsIn (attributes_of (a ∷ as'))) [
+      elim (cases_Bool (is_namespace_decl a.name)) as (λ q. StartsIn (plain_attributes_of (a ∷ as'))) [
         | inl is ↦ rw is (attributes_start as' starts.1)
         | inr other ↦ rw other (starts.0, attributes_start as' starts.1)
       ]
@@ -235,7 +235,7 @@ module _ (src : List ℕ) (utf8 : IsUtf8 src) where
   one_starts [] a after starts = starts.0
   one_starts (x ∷ before) a after starts = one_starts before a after starts.1
 
-  named_placed : (i : ℕ) (scope : List Declaration) (n : Name) (as' : List Attribute) (f : Fault) → i + 1 ≤ length src → StartsIn as' → IllNamed src i scope n as' f → IsPlaced src f
+  named_placed : (i : ℕ) (scope : List NamespaceDecl) (n : Name) (as' : List Attribute) (f : Fault) → i + 1 ≤ length src → StartsIn as' → IllNamed src i scope n as' f → IsPlaced src f
   named_placed i scope n as' f le starts (rows.IllNamed.unknown_attribute before after a name are distinct unknown holds) = one_starts before a after (subst StartsIn are starts)
   named_placed i scope n as' f le starts (rows.IllNamed.twice before after a name are distinct known again holds) = one_starts before a after (subst StartsIn are starts)
   named_placed i scope n as' f le starts (rows.IllNamed.unknown_element name distinct unknown holds) = le
@@ -244,7 +244,7 @@ module _ (src : List ℕ) (utf8 : IsUtf8 src) where
   cut_placed root = tt
   cut_placed (inside start tag before up) = tt
 
-  tag_placed : (main : Bool) (O : Opener) (s : State) (b : ℕ) (f : Fault) → s.at < length src → InTag main O src s b f → IsPlaced src f
+  tag_placed : (main : Bool) (O : Inclusion) (s : State) (b : ℕ) (f : Fault) → s.at < length src → InTag main O src s b f → IsPlaced src f
   tag_placed main O s b f le (rows.InTag.no_name _ lacks) = lacks_placed src (s.at + 1) a_qname f (omega arith) lacks
   tag_placed main O s b f le (rows.InTag.xmlns_prefix name n is xmlns) = omega arith
   tag_placed main O s b f le (rows.InTag.cut p c as' to past in_main) = cut_placed s.stack
@@ -253,13 +253,13 @@ module _ (src : List ℕ) (utf8 : IsUtf8 src) where
   tag_placed main O s b f le (rows.InTag.no_space p c as' _ to before no_slash no_end lacks) = lacks_placed src p a_space f tt lacks
   tag_placed main O s b f le (rows.InTag.not_closed p c as' _ to slash lacks) = lacks_placed src (spaces_end src p + 1) (a_byte 62) f tt lacks
   tag_placed main O s b f le (rows.InTag.in_pair p c q as' t _ to space before no_slash no_end is lacks) = lacks_placed src q t f (pair_fits (spaces_end src p) q t (omega arith) is) lacks
-  tag_placed main O s b f le (rows.InTag.ill_declared p c d j as' a _ to space is declares ill) =
+  tag_placed main O s b f le (rows.InTag.ill_declared p c d j as' a _ to space is is_namespace_decl ill) =
       let there = qname_within src (spaces_end src p) a.name a.name_end is.is_name in
       declared_placed _ a f (omega (arith, is.starts)) ill
-  tag_placed main O s b f le (rows.InTag.too_many_pairs p c d j as' a to space is declares may first over) = tt
+  tag_placed main O s b f le (rows.InTag.too_many_pairs p c d j as' a to space is is_namespace_decl may first over) = tt
   tag_placed main O s b f le (rows.InTag.too_many_attributes p c j empty as' to ends over) = tt
   tag_placed main O s b f le (rows.InTag.ill_named p c j empty as' _ to ends few ill) =
-      named_placed s.at _ to.name (attributes_of as') f (omega arith) (attributes_start as' (written_start main O to.name_end p b c as' to.attributes)) ill
+      named_placed s.at _ to.name (plain_attributes_of as') f (omega arith) (attributes_start as' (written_start main O to.name_end p b c as' to.attributes)) ill
 
   end_placed : (base : ℕ) (s : State) (f : Fault) → InEnd base src s f → IsPlaced src f
   end_placed base s f (rows.InEnd.lacks p t _ is lacks) = lacks_placed src p t f (end_fits s.at p t is) lacks
@@ -270,7 +270,7 @@ module _ (src : List ℕ) (utf8 : IsUtf8 src) where
   begins_less i inner (of_root is) = within src i (λ z. omega arith)
   begins_less i inner (in_content is more no_bang no_ask no_slash) = within src i (λ z. omega arith)
 
-  pub stands_placed : (limit : ℕ) (es : List Entity) (k base : ℕ) (O : Opener) (s : State) (b : ℕ) (f : Fault) → Stands limit es k base O src s b f → IsPlaced src f
+  pub stands_placed : (limit : ℕ) (es : List Entity) (k base : ℕ) (O : Inclusion) (s : State) (b : ℕ) (f : Fault) → Stands limit es k base O src s b f → IsPlaced src f
   stands_placed limit es k base O s b f (rows.Stands.in_run _ inner before no_less ill) = run_placed es k O s.at b f before ill
   stands_placed limit es k base O s b f (rows.Stands.in_section p t _ inner is lacks) = lacks_placed src p t f (section_fits s.at p t is) lacks
   stands_placed limit es k base O s b f (rows.Stands.in_misc _ inner ill) = misc_placed s.at f ill

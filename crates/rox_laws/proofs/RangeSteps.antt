@@ -4,8 +4,8 @@ use Rattle.std.proofs.lemmas.Bool.{cases_lt, cases_eq}
 use Rattle.rox_grammar.specs.Forest.{Forest, Nil, Cons, size}
 use Rattle.rox_grammar.specs.Tree.{Node}
 use Rattle.roxmltree.specs.Places.{ids, Place, places, preorder, place, first, parent, next_sibling}
-use Rattle.roxmltree.specs.Says.{node_at, start_of, end_of}
-use Rattle.rox_laws.specs.Located.{RangesNested}
+use Rattle.roxmltree.specs.NodeParts.{node_at, start_of, end_of}
+use Rattle.rox_laws.specs.RangeLaws.{RangesNested}
 use Rattle.roxmltree.proofs.Preorder.{at, Sits, sits, length-places}
 
 -- the range of a node of the list
@@ -21,11 +21,11 @@ between_le from to Nil h = h
 between_le from to (Cons x c r) h = omega (arith, h.0, h.1, between_le (end_of x) to r h.3)
 
 -- the parent's range holds these places
-abbrev Holds : List Place → List ℕ → ℕ → ℕ → Type 0
-Holds T up from to = (q : ℕ) → first up ≡ Some q → (start_at T q ≤ from) × (to ≤ end_at T q)
+abbrev HoldsTree : List Place → List ℕ → ℕ → ℕ → Type 0
+HoldsTree T up from to = (q : ℕ) → first up ≡ Some q → (start_at T q ≤ from) × (to ≤ end_at T q)
 
-in_parent : (T : List Place) (up left : List ℕ) (b : ℕ) (f : Forest Node) (from to : ℕ) → Sits T up left b f → RangesNested from to f → Holds T up from to
-    → (i : ℕ) → b ≤ i → i < b + size f → Holds T (at T i).above (start_at T i) (end_at T i)
+in_parent : (T : List Place) (up left : List ℕ) (b : ℕ) (f : Forest Node) (from to : ℕ) → Sits T up left b f → RangesNested from to f → HoldsTree T up from to
+    → (i : ℕ) → b ≤ i → i < b + size f → HoldsTree T (at T i).above (start_at T i) (end_at T i)
 in_parent T up left b Nil from to s h around i l m = absurd (omega arith)
 in_parent T up left b (Cons x c r) from to s h around i l m =
     ⊎_elim
@@ -36,7 +36,7 @@ in_parent T up left b (Cons x c r) from to s h around i l m =
     (cases_lt i (b + (1 + size c))))
     (cases_eq i b)
   where
-    own : Holds T (b ∷ up) (start_of x) (end_of x)
+    own : HoldsTree T (b ∷ up) (start_of x) (end_of x)
     own q e = let same : b ≡ q = cc in rw (← same, s.0) (omega arith, omega arith)
 
 -- a row that begins with this node starts at the place or behind it

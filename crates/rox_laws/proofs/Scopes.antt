@@ -3,24 +3,24 @@ use Rattle.std.proofs.Common.{◌≡◌, ◌≢◌, ℕ, zero, suc, ◌||◌, Bo
 use Rattle.std.specs.List.{Contains}
 use Rattle.std.proofs.lemmas.Bool.{cases_Bool, or_parts, or_from, false_from_ne_true}
 use Rattle.std.proofs.lemmas.List.Folds.{list_any-append}
-use Rattle.rox_grammar.specs.Written.{Declaration, Item, Element, Text, Comment, PI}
+use Rattle.rox_grammar.specs.Written.{NamespaceDecl, Item, Element, Text, Comment, PI}
 use Rattle.rox_grammar.specs.Tree.{same_prefix, is_declared, listed, uri_of, scope_in}
 use Rattle.rox_grammar.specs.WellNamed.{AreDeclarable, ItemWellNamed}
-use Rattle.rox_laws.specs.Nearest.{declared_at, xml}
+use Rattle.rox_laws.specs.NearestDeclaration.{declared_at, xml}
 use Rattle.rox_tables.proofs.Pairs.{same_prefix-true, same_prefix-refl}
 use Rattle.rox_laws.proofs.Once.{some_none}
 
 -- ---- one row of declarations
 
 -- it says nothing of a prefix that it does not declare
-pub undeclared : (p : Option (List ℕ)) (ds : List Declaration) → is_declared p ds ≡ false → uri_of ds p ≡ None
+pub undeclared : (p : Option (List ℕ)) (ds : List NamespaceDecl) → is_declared p ds ≡ false → uri_of ds p ≡ None
 undeclared p [] h = refl
 undeclared p (d ∷ ds) h =
     let n = or_parts (same_prefix d.prefix p) (is_declared p ds) h in
     rw n.0 (undeclared p ds n.1)
 
 -- and something of one that it declares
-pub declared : (p : Option (List ℕ)) (ds : List Declaration) → is_declared p ds ≡ true → uri_of ds p ≡ None → ⊥
+pub declared : (p : Option (List ℕ)) (ds : List NamespaceDecl) → is_declared p ds ≡ true → uri_of ds p ≡ None → ⊥
 declared p [] h e = cc h
 declared p (d ∷ ds) h e = by_test (declared p ds) (same_prefix d.prefix p) refl
   where
@@ -28,16 +28,16 @@ declared p (d ∷ ds) h e = by_test (declared p ds) (same_prefix d.prefix p) ref
     by_test rest true s = let k : Some d.uri ≡ None = rw s at e in cc k
     by_test rest false s = rest (rw s at h) (rw s at e)
 
-pub declared_if_some : (p : Option (List ℕ)) (u : List ℕ) (ds : List Declaration) → uri_of ds p ≡ Some u → is_declared p ds ≡ true
+pub declared_if_some : (p : Option (List ℕ)) (u : List ℕ) (ds : List NamespaceDecl) → uri_of ds p ≡ Some u → is_declared p ds ≡ true
 declared_if_some p u ds e =
     ⊎_elim (λ (yes : is_declared p ds ≡ true). yes) (λ no. let k : None ≡ Some u = sym (undeclared p ds no) ∙ e in cc k) (cases_Bool (is_declared p ds))
 
 -- what it says is declared
-pub says_declared : (p : Option (List ℕ)) (u : List ℕ) (ds : List Declaration) → uri_of ds p ≡ Some u → Contains ds (record { prefix = p; uri = u })
+pub says_declared : (p : Option (List ℕ)) (u : List ℕ) (ds : List NamespaceDecl) → uri_of ds p ≡ Some u → Contains ds (record { prefix = p; uri = u })
 says_declared p u [] e = cc e
 says_declared p u (d ∷ ds) e = by_test (says_declared p u ds) (same_prefix d.prefix p) refl
   where
-    found : Declaration
+    found : NamespaceDecl
     found = record { prefix = p; uri = u }
 
     later : Contains ds found → Contains (d ∷ ds) found
@@ -48,32 +48,32 @@ says_declared p u (d ∷ ds) e = by_test (says_declared p u ds) (same_prefix d.p
         let k : Some d.uri ≡ Some u = rw s at e in
         let uri : d.uri ≡ u = cc k in
         let prefix : d.prefix ≡ p = same_prefix-true d.prefix p s in
-        let first : d ≡ found = ap (λ (q : Option (List ℕ)). let x : Declaration = record { prefix = q; uri = d.uri } in x) prefix ∙ ap (λ (v : List ℕ). let x : Declaration = record { prefix = p; uri = v } in x) uri in
+        let first : d ≡ found = ap (λ (q : Option (List ℕ)). let x : NamespaceDecl = record { prefix = q; uri = d.uri } in x) prefix ∙ ap (λ (v : List ℕ). let x : NamespaceDecl = record { prefix = p; uri = v } in x) uri in
         (0, omega arith, first)
     by_test rest false s = later (rest (rw s at e))
 
 -- where each prefix is declared once, none before it is that of one of these
-none_before : (p : Option (List ℕ)) (u : List ℕ) (before ds : List Declaration) → AreDeclarable before ds → Contains ds (record { prefix = p; uri = u }) → is_declared p before ≡ false
+none_before : (p : Option (List ℕ)) (u : List ℕ) (before ds : List NamespaceDecl) → AreDeclarable before ds → Contains ds (record { prefix = p; uri = u }) → is_declared p before ≡ false
 none_before p u before [] h (k, l, e) = absurd (omega arith)
-none_before p u before (d ∷ ds) h (zero, l, e) = let same : d.prefix ≡ p = ap (λ (d : Declaration). d.prefix) e in rw same at h.1
+none_before p u before (d ∷ ds) h (zero, l, e) = let same : d.prefix ≡ p = ap (λ (d : NamespaceDecl). d.prefix) e in rw same at h.1
 none_before p u before (d ∷ ds) h (suc k, l, e) =
     let n = none_before p u (before ++ d ∷ []) ds h.2 (k, omega arith, e) in
-    (or_parts (is_declared p before) (is_declared p (d ∷ [])) (sym (list_any-append (λ (d : Declaration). same_prefix d.prefix p) before (d ∷ [])) ∙ n)).0
+    (or_parts (is_declared p before) (is_declared p (d ∷ [])) (sym (list_any-append (λ (d : NamespaceDecl). same_prefix d.prefix p) before (d ∷ [])) ∙ n)).0
 
 -- so it says what is declared
-pub declared_says : (p : Option (List ℕ)) (u : List ℕ) (before ds : List Declaration) → AreDeclarable before ds → Contains ds (record { prefix = p; uri = u }) → uri_of ds p ≡ Some u
+pub declared_says : (p : Option (List ℕ)) (u : List ℕ) (before ds : List NamespaceDecl) → AreDeclarable before ds → Contains ds (record { prefix = p; uri = u }) → uri_of ds p ≡ Some u
 declared_says p u before [] h (k, l, e) = absurd (omega arith)
 declared_says p u before (d ∷ ds) h (zero, l, e) =
     let first : d ≡ record { prefix = p; uri = u } = e in
     rw first (rw (same_prefix-refl p) refl)
 declared_says p u before (d ∷ ds) h (suc k, l, e) =
     let n = none_before p u (before ++ d ∷ []) ds h.2 (k, omega arith, e) in
-    let m = or_parts (is_declared p before) (is_declared p (d ∷ [])) (sym (list_any-append (λ (d : Declaration). same_prefix d.prefix p) before (d ∷ [])) ∙ n) in
+    let m = or_parts (is_declared p before) (is_declared p (d ∷ [])) (sym (list_any-append (λ (d : NamespaceDecl). same_prefix d.prefix p) before (d ∷ [])) ∙ n) in
     let other : same_prefix d.prefix p ≡ false = (or_parts (same_prefix d.prefix p) false m.1).0 in
     rw other (declared_says p u (before ++ d ∷ []) ds h.2 (k, omega arith, e))
 
 -- each item declares what may be declared
-pub item_declares : (scope : List Declaration) (item : Item) → ItemWellNamed scope item → AreDeclarable [] (declared_at item)
+pub item_declares : (scope : List NamespaceDecl) (item : Item) → ItemWellNamed scope item → AreDeclarable [] (declared_at item)
 item_declares scope (Element start end tag) h = h.declarations
 item_declares scope (Text start end value borrowed) h = tt
 item_declares scope (Comment start end text) h = tt
@@ -82,7 +82,7 @@ item_declares scope (PI start end target value) h = tt
 -- ---- two rows, and some of a row
 
 -- of two rows the first that declares it
-first_row : (p : Option (List ℕ)) (xs ys : List Declaration) → uri_of (xs ++ ys) p ≡ cond (is_declared p xs) (uri_of xs p) (uri_of ys p)
+first_row : (p : Option (List ℕ)) (xs ys : List NamespaceDecl) → uri_of (xs ++ ys) p ≡ cond (is_declared p xs) (uri_of xs p) (uri_of ys p)
 first_row p [] ys = refl
 first_row p (d ∷ ds) ys = by_test (first_row p ds ys) (same_prefix d.prefix p) refl
   where
@@ -92,11 +92,11 @@ first_row p (d ∷ ds) ys = by_test (first_row p ds ys) (same_prefix d.prefix p)
     by_test rest false s = rw s rest
 
 -- the test is true of all of this prefix
-abbrev Keeps : (Declaration → Bool) → Option (List ℕ) → Type 0
-Keeps test p = (d : Declaration) → same_prefix d.prefix p ≡ true → test d ≡ true
+abbrev Keeps : (NamespaceDecl → Bool) → Option (List ℕ) → Type 0
+Keeps test p = (d : NamespaceDecl) → same_prefix d.prefix p ≡ true → test d ≡ true
 
 -- such a choice of a row declares it where the row does
-some_declare : (p : Option (List ℕ)) (test : Declaration → Bool) (ds : List Declaration) → Keeps test p → is_declared p (filter test ds) ≡ is_declared p ds
+some_declare : (p : Option (List ℕ)) (test : NamespaceDecl → Bool) (ds : List NamespaceDecl) → Keeps test p → is_declared p (filter test ds) ≡ is_declared p ds
 some_declare p test [] k = refl
 some_declare p test (d ∷ ds) k = by_test (some_declare p test ds k) (test d) (same_prefix d.prefix p) refl refl
   where
@@ -106,7 +106,7 @@ some_declare p test (d ∷ ds) k = by_test (some_declare p test ds k) (test d) (
     by_test rest false false e s = rw (e, s) rest
 
 -- as the same URI
-some_say : (p : Option (List ℕ)) (test : Declaration → Bool) (ds : List Declaration) → Keeps test p → uri_of (filter test ds) p ≡ uri_of ds p
+some_say : (p : Option (List ℕ)) (test : NamespaceDecl → Bool) (ds : List NamespaceDecl) → Keeps test p → uri_of (filter test ds) p ≡ uri_of ds p
 some_say p test [] k = refl
 some_say p test (d ∷ ds) k = by_test (some_say p test ds k) (test d) (same_prefix d.prefix p) refl refl
   where
@@ -118,20 +118,20 @@ some_say p test (d ∷ ds) k = by_test (some_say p test ds k) (test d) (same_pre
 -- ---- rows upwards
 
 -- the URI of the first row that declares the prefix
-abbrev pub nearest : Option (List ℕ) → List (List Declaration) → Option (List ℕ)
+abbrev pub nearest : Option (List ℕ) → List (List NamespaceDecl) → Option (List ℕ)
 nearest p [] = None
 nearest p (own ∷ above) = cond (is_declared p own) (uri_of own p) (nearest p above)
 
 -- what is listed is what the rows say, of each prefix but `xml`
-abbrev pub Agree : List Declaration → List (List Declaration) → Type 0
+abbrev pub Agree : List NamespaceDecl → List (List NamespaceDecl) → Type 0
 Agree scope rows = (p : Option (List ℕ)) → p ≢ xml → uri_of scope p ≡ nearest p rows
 
 -- those that are not of `xml`
-abbrev listable : Declaration → Bool
+abbrev listable : NamespaceDecl → Bool
 listable d = not (same_prefix d.prefix xml)
 
 -- those that are not declared again
-abbrev left_by : List Declaration → Declaration → Bool
+abbrev left_by : List NamespaceDecl → NamespaceDecl → Bool
 left_by own d = not (is_declared d.prefix own)
 
 keeps_listable : (p : Option (List ℕ)) → p ≢ xml → Keeps listable p
@@ -139,11 +139,11 @@ keeps_listable p n d s =
     let e : same_prefix d.prefix xml ≡ false = false_from_ne_true (same_prefix d.prefix xml) (λ h. n (sym (same_prefix-true d.prefix p s) ∙ same_prefix-true d.prefix xml h)) in
     ap not e
 
-keeps_left : (p : Option (List ℕ)) (own : List Declaration) → is_declared p own ≡ false → Keeps (left_by own) p
+keeps_left : (p : Option (List ℕ)) (own : List NamespaceDecl) → is_declared p own ≡ false → Keeps (left_by own) p
 keeps_left p own n d s = let e : is_declared d.prefix own ≡ false = ap (λ (q : Option (List ℕ)). is_declared q own) (same_prefix-true d.prefix p s) ∙ n in ap not e
 
 -- its own declarations come first
-own_first : (above own : List Declaration) (p : Option (List ℕ)) → p ≢ xml → uri_of (listed above own) p ≡ cond (is_declared p own) (uri_of own p) (uri_of above p)
+own_first : (above own : List NamespaceDecl) (p : Option (List ℕ)) → p ≢ xml → uri_of (listed above own) p ≡ cond (is_declared p own) (uri_of own p) (uri_of above p)
 own_first above own p n =
     first_row p (filter listable own) (filter (left_by own) above) ∙ rw (some_declare p listable own k, some_say p listable own k) (by_test (is_declared p own) refl)
   where
@@ -155,7 +155,7 @@ own_first above own p n =
     by_test false e = rw e (some_say p (left_by own) above (keeps_left p own e))
 
 -- so one more row agrees
-pub agree_more : (above : List Declaration) (rows : List (List Declaration)) (item : Item) → Agree above rows → Agree (scope_in above item) (declared_at item ∷ rows)
+pub agree_more : (above : List NamespaceDecl) (rows : List (List NamespaceDecl)) (item : Item) → Agree above rows → Agree (scope_in above item) (declared_at item ∷ rows)
 agree_more above rows (Element start end tag) h =
     λ p n. own_first above tag.declarations p n ∙ ap (λ (z : Option (List ℕ)). cond (is_declared p tag.declarations) (uri_of tag.declarations p) z) (h p n)
 agree_more above rows (Text start end value borrowed) h = h
@@ -165,11 +165,11 @@ agree_more above rows (PI start end target value) h = h
 -- ---- `xml`
 
 -- it is not among these
-abbrev pub HasNoXml : List Declaration → Type 0
+abbrev pub HasNoXml : List NamespaceDecl → Type 0
 HasNoXml scope = is_declared xml scope ≡ false
 
 -- the listable are others
-listable_no_xml : (ds : List Declaration) → HasNoXml (filter listable ds)
+listable_no_xml : (ds : List NamespaceDecl) → HasNoXml (filter listable ds)
 listable_no_xml [] = refl
 listable_no_xml (d ∷ ds) = by_test (listable_no_xml ds) (same_prefix d.prefix xml) refl
   where
@@ -177,12 +177,12 @@ listable_no_xml (d ∷ ds) = by_test (listable_no_xml ds) (same_prefix d.prefix 
     by_test rest true e = rw e rest
     by_test rest false e = rw e (rw e rest)
 
-listed_no_xml : (above own : List Declaration) → HasNoXml above → HasNoXml (listed above own)
+listed_no_xml : (above own : List NamespaceDecl) → HasNoXml above → HasNoXml (listed above own)
 listed_no_xml above own h =
-    list_any-append (λ (d : Declaration). same_prefix d.prefix xml) (filter listable own) (filter (left_by own) above)
+    list_any-append (λ (d : NamespaceDecl). same_prefix d.prefix xml) (filter listable own) (filter (left_by own) above)
     ∙ or_from (is_declared xml (filter listable own)) (is_declared xml (filter (left_by own) above)) (listable_no_xml own) (some_none xml (left_by own) above h)
 
-pub scope_no_xml : (above : List Declaration) (item : Item) → HasNoXml above → HasNoXml (scope_in above item)
+pub scope_no_xml : (above : List NamespaceDecl) (item : Item) → HasNoXml above → HasNoXml (scope_in above item)
 scope_no_xml above (Element start end tag) h = listed_no_xml above tag.declarations h
 scope_no_xml above (Text start end value borrowed) h = h
 scope_no_xml above (Comment start end text) h = h

@@ -3,13 +3,13 @@ use Rattle.std.proofs.Common.{◌≡◌, ◌≢◌, ℕ, ◌+◌, ◌-◌, ◌<�
 use Rattle.std.specs.Char.{encode_utf8}
 use Rattle.std.proofs.lemmas.Bool.{false_from_ne_true, cases_Bool}
 use Rattle.rox_grammar.specs.declared.fault.Word.TheVariants as word
-use Rattle.rox_grammar.specs.Words.{word_text}
+use Rattle.rox_grammar.specs.FixedTexts.{word_text}
 use Rattle.rox_grammar.specs.Forest.{Forest, Nil, Cons, join}
-use Rattle.rox_grammar.specs.Written.{Name, Declaration, Tag, Item, Element, Text, Comment, PI, glue, merge}
+use Rattle.rox_grammar.specs.Written.{Name, NamespaceDecl, Tag, Item, Element, Text, Comment, PI, glue, merge}
 use Rattle.rox_grammar.specs.Tree.{Node, node_in}
 use Rattle.rox_grammar.specs.Names.{byte, slice}
 use Rattle.rox_grammar.specs.Constructs.{at, IsCData, IsEnd}
-use Rattle.rox_grammar.specs.Content.{Sign, literal, kept, is_literal, signs_of, literals, line_ends, piece, Part, part_ends, as_written, from_reference, Parts, last_part, then_entity, IsTag, IsMisc, comment, instruction, IsElement, empty, nest, Content, ends, run, cdata, misc, node}
+use Rattle.rox_grammar.specs.Content.{DataByte, literal, kept, is_literal, data_bytes_of, literals, line_ends, piece, Part, part_ends, as_written, from_reference, Parts, last_part, then_entity, IsTag, IsMisc, comment, instruction, IsElement, empty, nest, Content, ends, run, cdata, misc, node}
 use Rattle.rox_grammar.specs.Document.{Misc, no_misc, space, an_item, ParseOf, IsTreeOf}
 use Rattle.rox_theory.proofs.Without.{parse_without}
 use Rattle.rox_grammar.specs.Entities.{no_entities}
@@ -17,9 +17,9 @@ use Rattle.rox_theory.proofs.Pieces.{some_bytes, no_bytes, empty_section}
 use Rattle.rox_theory.proofs.DeclarationLemmas.{stands_reads}
 use Rattle.rox_theory.proofs.PartLemmas.{encode_some}
 use Rattle.rox_theory.proofs.Constructions.{comment_bytes, instruction_bytes, end_bytes, cdata_bytes, name_byte}
-use Rattle.roxmltree.specs.Each.{Each}
-use Rattle.rox_laws.specs.Sections.{EmptySections, last, more, EmptyIsSections, EmptyTextsAreSections}
-use Rattle.rox_laws.proofs.Each.{each_join, each_resolved}
+use Rattle.roxmltree.specs.EachNode.{EachNode}
+use Rattle.rox_laws.specs.EmptySections.{EmptySections, last, more, EmptyIsSections, EmptyTextsAreSections}
+use Rattle.rox_laws.proofs.EachNodeLemmas.{each_join, each_resolved}
 
 -- ---- merging
 
@@ -43,9 +43,9 @@ Sound src (PI a e t o) = Unit {0}
 abbrev Covers : List ℕ → ℕ → ℕ → Forest Item → Type 0
 Covers src from to Nil = from ≡ to
 Covers src from to (Cons (Text a e v b) c r) = (a ≡ from) × (v ≡ [] → IsEmpty src a e) × (c ≡ Nil) × Covers src e to r
-Covers src from to (Cons (Element a e t) c r) = (a ≡ from) × IsMarkup src a × Each (Sound src) c × Covers src e to r
-Covers src from to (Cons (Comment a e t) c r) = (a ≡ from) × IsMarkup src a × Each (Sound src) c × Covers src e to r
-Covers src from to (Cons (PI a e t o) c r) = (a ≡ from) × IsMarkup src a × Each (Sound src) c × Covers src e to r
+Covers src from to (Cons (Element a e t) c r) = (a ≡ from) × IsMarkup src a × EachNode (Sound src) c × Covers src e to r
+Covers src from to (Cons (Comment a e t) c r) = (a ≡ from) × IsMarkup src a × EachNode (Sound src) c × Covers src e to r
+Covers src from to (Cons (PI a e t o) c r) = (a ≡ from) × IsMarkup src a × EachNode (Sound src) c × Covers src e to r
 
 -- one row behind another
 covers_join : (src : List ℕ) (from mid to : ℕ) (f g : Forest Item) → Covers src from mid f → Covers src mid to g → Covers src from to (join f g)
@@ -81,14 +81,14 @@ one_more_section src a e x v w section touches rest none =
     more a s.0 (subst (λ (i : ℕ). EmptySections src i) (touches ∙ s.1) (rest both.1))
 
 -- a text in front
-glue_sound : (src : List ℕ) (a e : ℕ) (v : List ℕ) (b : Bool) (c f : Forest Item) → (v ≡ [] → IsEmpty src a e) → c ≡ Nil → Begins src e f → Each (Sound src) f
-    → Each (Sound src) (glue a e v b c f) × Begins src a (glue a e v b c f)
+glue_sound : (src : List ℕ) (a e : ℕ) (v : List ℕ) (b : Bool) (c f : Forest Item) → (v ≡ [] → IsEmpty src a e) → c ≡ Nil → Begins src e f → EachNode (Sound src) f
+    → EachNode (Sound src) (glue a e v b c f) × Begins src a (glue a e v b c f)
 glue_sound src a e v b c f section none begins h = glued f begins h
   where
-    nothing : Each (Sound src) c
-    nothing = subst (λ (c : Forest Item). Each (Sound src) c) (sym none) tt
+    nothing : EachNode (Sound src) c
+    nothing = subst (λ (c : Forest Item). EachNode (Sound src) c) (sym none) tt
 
-    glued : (f : Forest Item) → Begins src e f → Each (Sound src) f → Each (Sound src) (glue a e v b c f) × Begins src a (glue a e v b c f)
+    glued : (f : Forest Item) → Begins src e f → EachNode (Sound src) f → EachNode (Sound src) (glue a e v b c f) × Begins src a (glue a e v b c f)
     glued Nil markup h = ((one_section src a e v section markup, nothing, tt), refl)
     glued (Cons (Text x y w p) d r) touches h =
         ((one_more_section src a e x v w section touches h.0, each_join (Sound src) c d nothing h.1, h.2), refl)
@@ -96,11 +96,11 @@ glue_sound src a e v b c f section none begins h = glued f begins h
     glued (Cons (Comment x y t) d r) markup h = ((one_section src a e v section markup, nothing, h), refl)
     glued (Cons (PI x y t o) d r) markup h = ((one_section src a e v section markup, nothing, h), refl)
 
-merge_sound : (src : List ℕ) (from to : ℕ) (f : Forest Item) → IsMarkup src to → Covers src from to f → Each (Sound src) (merge f) × Begins src from (merge f)
+merge_sound : (src : List ℕ) (from to : ℕ) (f : Forest Item) → IsMarkup src to → Covers src from to f → EachNode (Sound src) (merge f) × Begins src from (merge f)
 merge_sound src from to Nil markup h = (tt, subst (λ (i : ℕ). IsMarkup src i) (sym h) markup)
 merge_sound src from to (Cons (Text a e v b) c r) markup h =
     let rest = merge_sound src e to r markup h.3 in
-    subst (λ (i : ℕ). Each (Sound src) (glue a e v b c (merge r)) × Begins src i (glue a e v b c (merge r))) h.0
+    subst (λ (i : ℕ). EachNode (Sound src) (glue a e v b c (merge r)) × Begins src i (glue a e v b c (merge r))) h.0
     (glue_sound src a e v b c (merge r) h.1 h.2 rest.1 rest.0)
 merge_sound src from to (Cons (Element a e t) c r) markup h =
     ((tt, h.2, (merge_sound src e to r markup h.3).0), subst (λ (i : ℕ). IsMarkup src i) h.0 h.1)
@@ -112,17 +112,17 @@ merge_sound src from to (Cons (PI a e t o) c r) markup h =
 -- ---- pieces
 
 -- bytes have signs
-some_signs : (src : List ℕ) (i stop : ℕ) (ss : List Sign) → i < stop → Part true src stop i ss → ss ≡ [] → ⊥
+some_signs : (src : List ℕ) (i stop : ℕ) (ss : List DataByte) → i < stop → Part true src stop i ss → ss ≡ [] → ⊥
 some_signs src i stop ss below part_ends none = absurd (omega (arith, below))
 some_signs src i stop ss below (as_written _ rest lt no_amp p) none = cc none
 some_signs src i stop ss below (from_reference _ n c rest r inside p) none = kept_some (encode_utf8 c) (encode_some c) none
   where
-    kept_some : (bs : List ℕ) → 0 < length bs → signs_of true bs ++ rest ≡ [] → ⊥
+    kept_some : (bs : List ℕ) → 0 < length bs → data_bytes_of true bs ++ rest ≡ [] → ⊥
     kept_some [] some none = omega arith
     kept_some (b ∷ bs) some none = cc none
 
 -- a run is a text that is not empty
-piece_covers : (src : List ℕ) (i stop : ℕ) (plain : Bool) (ss : List Sign) → (ss ≡ [] → ⊥) → Covers src i stop (piece i stop plain ss)
+piece_covers : (src : List ℕ) (i stop : ℕ) (plain : Bool) (ss : List DataByte) → (ss ≡ [] → ⊥) → Covers src i stop (piece i stop plain ss)
 piece_covers src i stop plain [] some = absurd (some refl)
 piece_covers src i stop plain (s ∷ ss) some = (refl, λ none. absurd (some_bytes s ss none), refl, refl)
 
@@ -185,7 +185,7 @@ mutual
   )
 
 -- the items of a row that begin with markup
-element_sound : (src : List ℕ) (i j b c : ℕ) (one : Forest Item) → IsElement true no_entities src i j b c one → Each (Sound src) one
+element_sound : (src : List ℕ) (i j b c : ℕ) (one : Forest Item) → IsElement true no_entities src i j b c one → EachNode (Sound src) one
 element_sound src i j b c one (empty _ _ _ _ t tag) = (tt, tt, tt)
 element_sound src i j b c one (nest _ k m p _ _ d _ t kids tag inner end) =
     (tt, (merge_sound src k m kids (end_markup src m t.name p j end) (content_covers src k m d c kids inner)).0, tt)
@@ -194,27 +194,27 @@ misc_sound : (src : List ℕ) (i j : ℕ) (item : Item) → IsMisc src i j item 
 misc_sound src i j item (comment _ e _ is) = tt
 misc_sound src i j item (instruction _ n e _ is) = tt
 
-top_sound : (src : List ℕ) (i j : ℕ) (items : Forest Item) → Misc src i j items → Each (Sound src) items
+top_sound : (src : List ℕ) (i j : ℕ) (items : Forest Item) → Misc src i j items → EachNode (Sound src) items
 top_sound src i j items (no_misc _) = tt
 top_sound src i j items (space _ _ _ is rest) = top_sound src (i + 1) j items rest
 top_sound src i j items (an_item _ k _ item others is rest) = (misc_sound src i k item is, tt, top_sound src k j others rest)
 
-parse_sound : (src : List ℕ) (tops : Forest Item) → ParseOf src false [] tops → Each (Sound src) tops
+parse_sound : (src : List ℕ) (tops : Forest Item) → ParseOf src false [] tops → EachNode (Sound src) tops
 parse_sound src tops q =
     let p = (parse_without src [] tops q).1 in
     let front = top_sound src p.declared_to p.start p.before p.misc_before in
     let one = element_sound src p.start p.end 255 p.left p.one p.element in
     let back = top_sound src p.end (length src) p.after p.misc_after in
-    subst (λ (f : Forest Item). Each (Sound src) f) (sym p.is_tree)
+    subst (λ (f : Forest Item). EachNode (Sound src) f) (sym p.is_tree)
     (each_join (Sound src) p.before (join p.one p.after) front (each_join (Sound src) p.one p.after one back))
 
 -- in a document
 pub empty_texts : (src : List ℕ) (limit : ℕ) (f : Forest Node) → IsTreeOf src false [] limit f → EmptyTextsAreSections src f
 empty_texts src limit f h =
-    subst (λ (f : Forest Node). Each (EmptyIsSections src) f) (sym h.shown)
+    subst (λ (f : Forest Node). EachNode (EmptyIsSections src) f) (sym h.shown)
     (tt, each_resolved (Sound src) (EmptyIsSections src) has [] h.written (parse_sound src h.written h.parse), tt)
   where
-    has : (scope : List Declaration) (item : Item) → Sound src item → EmptyIsSections src (node_in scope item)
+    has : (scope : List NamespaceDecl) (item : Item) → Sound src item → EmptyIsSections src (node_in scope item)
     has scope (Text a e v b) own = own
     has scope (Element a e t) own = tt
     has scope (Comment a e t) own = tt

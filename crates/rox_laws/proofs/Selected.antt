@@ -5,12 +5,12 @@ use Rattle.std.proofs.lemmas.Bool.{not-true, or_parts, eqb-false}
 use Rattle.std.proofs.lemmas.List.Elements.{All-nil, All-cons}
 use Rattle.rox_grammar.specs.Chars.{is_space, is_part_char}
 use Rattle.rox_grammar.specs.Forest.{Forest, join}
-use Rattle.rox_grammar.specs.Written.{Name, Attribute, Declaration, Tag, Item, Element, Text, Comment, PI, declares}
+use Rattle.rox_grammar.specs.Written.{Name, Attribute, NamespaceDecl, Tag, Item, Element, Text, Comment, PI, is_namespace_decl}
 use Rattle.rox_grammar.specs.Tree as tree
 use Rattle.rox_grammar.specs.Tree.{Node, attribute_in, node_in, resolved}
 use Rattle.rox_grammar.specs.Names.{byte, slice, spaces_end, IsQName, unprefixed, prefixed, colon_first}
 use Rattle.rox_grammar.specs.Constructs.{IsLiteral}
-use Rattle.rox_grammar.specs.Content.{is_plain_value, Value, value_ends, line_end, white, other, a_character, an_entity, IsAttribute, Attributes, no_more, one_more, IsTag, Sign, piece, Parts, last_part, then_entity, IsMisc, comment, instruction, IsElement, empty, nest, Content, ends, run, cdata, misc, node}
+use Rattle.rox_grammar.specs.Content.{is_verbatim_value, Value, value_ends, line_end, white, other, a_character, an_entity, IsAttribute, Attributes, no_more, one_more, IsTag, DataByte, piece, Parts, last_part, then_entity, IsMisc, comment, instruction, IsElement, empty, nest, Content, ends, run, cdata, misc, node}
 use Rattle.rox_grammar.specs.Document.{Misc, no_misc, space, an_item, ParseOf, IsTreeOf}
 use Rattle.rox_theory.proofs.Without.{parse_without}
 use Rattle.rox_grammar.specs.Entities.{no_entities}
@@ -19,12 +19,12 @@ use Rattle.rox_theory.proofs.NameLemmas.{slice_nil, qname_le}
 use Rattle.rox_theory.proofs.LiteralLemmas.{from_before, literal_plain, literal_closes, literal_le}
 use Rattle.rox_theory.proofs.StretchLemmas.{slice_cons, slice_none}
 use Rattle.rox_theory.proofs.ReferenceLemmas.{character_opens}
-use Rattle.roxmltree.specs.Says as says
-use Rattle.roxmltree.specs.Each.{Each}
-use Rattle.rox_laws.specs.Located.{AreInOrder, AttributesInOrder, IsWritten, AttributesWritten, SpellsName, Selects, RangesSelect}
+use Rattle.roxmltree.specs.NodeParts as says
+use Rattle.roxmltree.specs.EachNode.{EachNode}
+use Rattle.rox_laws.specs.RangeLaws.{AreInOrder, AttributesInOrder, IsWritten, AttributesWritten, SpellsName, SelectsAttribute, RangesSelect}
 use Rattle.rox_laws.proofs.Forward.{attribute_forward, attributes_forward, ends_forward, end_forward}
 use Rattle.rox_laws.proofs.Nested.{content_forward}
-use Rattle.rox_laws.proofs.Each.{each_join, each_merge, each_resolved}
+use Rattle.rox_laws.proofs.EachNodeLemmas.{each_join, each_merge, each_resolved}
 
 -- ---- one attribute
 
@@ -100,7 +100,7 @@ own_places src i j b c w is = record {
 }
 
 -- what its ranges select
-selects : (src : List ℕ) (scope : List Declaration) (w : Attribute) → IsAttribute true no_entities src w.start w.end 255 255 w → Selects src (attribute_in scope w)
+selects : (src : List ℕ) (scope : List NamespaceDecl) (w : Attribute) → IsAttribute true no_entities src w.start w.end 255 255 w → SelectsAttribute src (attribute_in scope w)
 selects src scope w is =
     let name_le = qname_le src w.start w.name w.name_end is.is_name in
     let equals_le = run_end_le is_space src w.name_end in
@@ -129,7 +129,7 @@ selects src scope w is =
       literal_plain src is.v is.e w.end is.literal k from below,
     )
 
-    ordinary : (k : ℕ) → is_plain_value (slice src (is.v + 1) is.e) ≡ true → is.e ≤ length src → is.v + 1 ≤ k → k < is.e → IsOrdinary (byte src k)
+    ordinary : (k : ℕ) → is_verbatim_value (slice src (is.v + 1) is.e) ≡ true → is.e ≤ length src → is.v + 1 ≤ k → k < is.e → IsOrdinary (byte src k)
     ordinary k plain long from below = is_ordinary (byte src k) (slice_none (λ b. b == 38 || (b == 9 || (b == 10 || b == 13))) src (is.v + 1) is.e k long (not-true _ plain) from below)
 
 -- ---- the attributes of a tag
@@ -168,7 +168,7 @@ all_stand src i j to b c ws before (one_more _ k _ _ d _ w rest some first more)
 tag_stands : (src : List ℕ) (i j b c : ℕ) (is_empty : Bool) (t : Tag) → IsTag true no_entities src i j b c is_empty t → Stand src i j t.attributes
 tag_stands src i j b c is_empty t is =
     let all = all_stand src t.name_end is.last j b c is.written (ends_forward src is.last j is_empty is.ends) is.attributes in
-    let kept = some_stand src t.name_end j (λ a. not (declares a.name)) is.written all in
+    let kept = some_stand src t.name_end j (λ a. not (is_namespace_decl a.name)) is.written all in
     let from_start = further src i t.name_end j j _ (omega (arith, qname_le src (i + 1) t.name t.name_end is.is_name)) (omega arith) kept in
     subst (λ (ws : List Attribute). Stand src i j ws) (sym is.has) from_start
 
@@ -181,10 +181,10 @@ Has src (Text a e v b) = Unit {0}
 Has src (Comment a e t) = Unit {0}
 Has src (PI a e t o) = Unit {0}
 
-parts_have : (src : List ℕ) (start stop i b c : ℕ) (items : Forest Item) → Parts true no_entities src start stop i b c items → Each (Has src) items
+parts_have : (src : List ℕ) (start stop i b c : ℕ) (items : Forest Item) → Parts true no_entities src start stop i b c items → EachNode (Has src) items
 parts_have src start stop i b c items (last_part _ _ ss part) = a_piece _ ss
   where
-    a_piece : (plain : Bool) (ss : List Sign) → Each (Has src) (piece start stop plain ss)
+    a_piece : (plain : Bool) (ss : List DataByte) → EachNode (Has src) (piece start stop plain ss)
     a_piece plain [] = tt
     a_piece plain (s ∷ ss) = (tt, tt, tt)
 parts_have src start stop i b c items (then_entity _ p n j _ d _ ss inner more part reference unknown opens rest) = absurd opens
@@ -194,7 +194,7 @@ misc_has src i j item (comment _ e _ is) = tt
 misc_has src i j item (instruction _ n e _ is) = tt
 
 mutual
-  content_has : (src : List ℕ) (i j b c : ℕ) (items : Forest Item) → Content true no_entities src i j b c items → Each (Has src) items
+  content_has : (src : List ℕ) (i j b c : ℕ) (items : Forest Item) → Content true no_entities src i j b c items → EachNode (Has src) items
   content_has src i j b c items (ends _ _) = tt
   content_has src i j b c items (run _ k _ _ d _ front more is parts inner) =
       each_join (Has src) front more (parts_have src i k i b d front parts) (content_has src k j d c more inner)
@@ -203,31 +203,31 @@ mutual
   content_has src i j b c items (node _ k _ _ d _ one more is inner) =
       each_join (Has src) one more (element_has src i k b d one is) (content_has src k j d c more inner)
 
-  element_has : (src : List ℕ) (i j b c : ℕ) (one : Forest Item) → IsElement true no_entities src i j b c one → Each (Has src) one
+  element_has : (src : List ℕ) (i j b c : ℕ) (one : Forest Item) → IsElement true no_entities src i j b c one → EachNode (Has src) one
   element_has src i j b c one (empty _ _ _ _ t tag) = (tag_stands src i j b c true t tag, tt, tt)
   element_has src i j b c one (nest _ k m p _ _ d _ t kids tag inner end) =
       let le = content_forward src k m d c kids inner in
       let own = further src i i k j t.attributes (omega arith) (omega (arith, le, end_forward src m t.name p j end)) (tag_stands src i k b d false t tag) in
       (own, each_merge (Has src) (λ a e v b. tt) kids (content_has src k m d c kids inner), tt)
 
-top_has : (src : List ℕ) (i j : ℕ) (items : Forest Item) → Misc src i j items → Each (Has src) items
+top_has : (src : List ℕ) (i j : ℕ) (items : Forest Item) → Misc src i j items → EachNode (Has src) items
 top_has src i j items (no_misc _) = tt
 top_has src i j items (space _ _ _ is rest) = top_has src (i + 1) j items rest
 top_has src i j items (an_item _ k _ item others is rest) = (misc_has src i k item is, tt, top_has src k j others rest)
 
-parse_has : (src : List ℕ) (tops : Forest Item) → ParseOf src false [] tops → Each (Has src) tops
+parse_has : (src : List ℕ) (tops : Forest Item) → ParseOf src false [] tops → EachNode (Has src) tops
 parse_has src tops q =
     let p = (parse_without src [] tops q).1 in
     let front = top_has src p.declared_to p.start p.before p.misc_before in
     let one = element_has src p.start p.end 255 p.left p.one p.element in
     let back = top_has src p.end (length src) p.after p.misc_after in
-    subst (λ (f : Forest Item). Each (Has src) f) (sym p.is_tree)
+    subst (λ (f : Forest Item). EachNode (Has src) f) (sym p.is_tree)
     (each_join (Has src) p.before (join p.one p.after) front (each_join (Has src) p.one p.after one back))
 
 -- ---- with the names resolved
 
 -- what holds of each attribute that stands in the text, in its scope
-all_resolved : (src : List ℕ) (scope : List Declaration) (P : tree.Attribute → Type 0)
+all_resolved : (src : List ℕ) (scope : List NamespaceDecl) (P : tree.Attribute → Type 0)
     → ((w : Attribute) → IsAttribute true no_entities src w.start w.end 255 255 w → P (attribute_in scope w))
     → (from to : ℕ) (ws : List Attribute) → Stand src from to ws → All P (map (attribute_in scope) ws)
 all_resolved src scope P holds from to [] h = All-nil P
@@ -235,14 +235,14 @@ all_resolved src scope P holds from to (w ∷ ws) h = All-cons P _ _ (holds w h.
 
 -- of what a document's nodes have, what follows of each node of its own
 each_node : (src : List ℕ) (limit : ℕ) (f : Forest Node) (Q : Node → Type 0) → IsTreeOf src false [] limit f → Q (tree.Root (length src))
-    → ((scope : List Declaration) (item : Item) → Has src item → Q (node_in scope item)) → Each Q f
+    → ((scope : List NamespaceDecl) (item : Item) → Has src item → Q (node_in scope item)) → EachNode Q f
 each_node src limit f Q h root has =
-    subst (λ (f : Forest Node). Each Q f) (sym h.shown) (root, each_resolved (Has src) Q has [] h.written (parse_has src h.written h.parse), tt)
+    subst (λ (f : Forest Node). EachNode Q f) (sym h.shown) (root, each_resolved (Has src) Q has [] h.written (parse_has src h.written h.parse), tt)
 
 pub attributes_written : (src : List ℕ) (limit : ℕ) (f : Forest Node) → IsTreeOf src false [] limit f → AttributesWritten src f
 attributes_written src limit f h = each_node src limit f _ h (All-nil _) has
   where
-    has : (scope : List Declaration) (item : Item) → Has src item → All (IsWritten src (says.listed_of (node_in scope item))) (says.attributes_of (node_in scope item))
+    has : (scope : List NamespaceDecl) (item : Item) → Has src item → All (IsWritten src (says.listed_of (node_in scope item))) (says.attributes_of (node_in scope item))
     has scope (Element a e t) own = all_resolved src scope (IsWritten src scope) (λ w is. (w, is, refl)) a e t.attributes own
     has scope (Text a e v b) own = All-nil _
     has scope (Comment a e t) own = All-nil _
@@ -251,8 +251,8 @@ attributes_written src limit f h = each_node src limit f _ h (All-nil _) has
 pub ranges_select : (src : List ℕ) (limit : ℕ) (f : Forest Node) → IsTreeOf src false [] limit f → RangesSelect src f
 ranges_select src limit f h = each_node src limit f _ h (All-nil _) has
   where
-    has : (scope : List Declaration) (item : Item) → Has src item → All (Selects src) (says.attributes_of (node_in scope item))
-    has scope (Element a e t) own = all_resolved src scope (Selects src) (selects src scope) a e t.attributes own
+    has : (scope : List NamespaceDecl) (item : Item) → Has src item → All (SelectsAttribute src) (says.attributes_of (node_in scope item))
+    has scope (Element a e t) own = all_resolved src scope (SelectsAttribute src) (selects src scope) a e t.attributes own
     has scope (Text a e v b) own = All-nil _
     has scope (Comment a e t) own = All-nil _
     has scope (PI a e t o) own = All-nil _
@@ -260,11 +260,11 @@ ranges_select src limit f h = each_node src limit f _ h (All-nil _) has
 pub attributes_in_order : (src : List ℕ) (limit : ℕ) (f : Forest Node) → IsTreeOf src false [] limit f → AttributesInOrder f
 attributes_in_order src limit f h = each_node src limit f _ h tt has
   where
-    in_order : (scope : List Declaration) (from to : ℕ) (ws : List Attribute) → Stand src from to ws → AreInOrder from to (map (attribute_in scope) ws)
+    in_order : (scope : List NamespaceDecl) (from to : ℕ) (ws : List Attribute) → Stand src from to ws → AreInOrder from to (map (attribute_in scope) ws)
     in_order scope from to [] h = tt
     in_order scope from to (w ∷ ws) h = (h.0, attribute_forward src w.start w.end 255 255 w h.2, h.1, in_order scope w.end to ws h.3)
 
-    has : (scope : List Declaration) (item : Item) → Has src item
+    has : (scope : List NamespaceDecl) (item : Item) → Has src item
         → AreInOrder (says.start_of (node_in scope item)) (says.end_of (node_in scope item)) (says.attributes_of (node_in scope item))
     has scope (Element a e t) own = in_order scope a e t.attributes own
     has scope (Text a e v b) own = tt

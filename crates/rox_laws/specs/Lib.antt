@@ -1,8 +1,8 @@
-pub mod Bounded
-pub mod Lawful
-pub mod Located
-pub mod Nearest
-pub mod Sections
+pub mod TreeSize
+pub mod TreeLaws
+pub mod RangeLaws
+pub mod NearestDeclaration
+pub mod EmptySections
 pub mod Sources
 -- what the clauses cite of the crates below
 pub use Rattle.rox_grammar.specs.Written

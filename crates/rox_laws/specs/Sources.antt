@@ -1,6 +1,6 @@
 -- The sources that faults stand in: the text, a replacement text that the text declares by a literal, and what was answered.
 use Rattle.std.specs.Prelude.{◌≡◌, ◌⊎◌, ℕ, List, Some, Contains, take, drop}
-use Rattle.rox_grammar.specs.Start.{after_bom, MayDeclare}
+use Rattle.rox_grammar.specs.TextStart.{after_bom, MayHaveXmlDecl}
 use Rattle.rox_grammar.specs.Doctype.{Request, Asked, IsQuoted}
 
 -- XML 4.2 [73]: the text up to the closing quote of a literal in it. So its places are those of the text.
@@ -16,4 +16,4 @@ pub record IsAnswerIn (asked : List Asked) (source : List ℕ) : Type 0 where
   pub request : Request
   pub answer : List ℕ
   pub given : Contains asked (record { request = request; answer = Some answer })
-  pub part : (source ≡ answer) ⊎ ((d : ℕ) × MayDeclare answer (after_bom answer) d × (source ≡ drop d answer))
+  pub part : (source ≡ answer) ⊎ ((d : ℕ) × MayHaveXmlDecl answer (after_bom answer) d × (source ≡ drop d answer))

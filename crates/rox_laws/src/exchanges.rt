@@ -2,8 +2,8 @@
 
 ghost use Rattle.std.specs.Prelude.{◌≡◌, true, false};
 ghost use Rattle.rox_grammar.specs.Exchange.{AreSeparate, StaysContained, GoesBack, Commutes};
-ghost use Rattle.roxmltree.specs.Alone.{stands_alone};
-ghost use Rattle.roxmltree.specs.Spot.{id_of, document_of, tree_of};
+ghost use Rattle.roxmltree.specs.SelfContained.{stands_alone};
+ghost use Rattle.roxmltree.specs.NodeRef.{id_of, document_of, tree_of};
 ghost use Rattle.roxmltree.specs.Elements.{root_id};
 
 use crate::laws::whole;

@@ -10,11 +10,11 @@ ghost use Rattle.rox_grammar.specs.Tree.{document_tree};
 ghost use Rattle.rox_grammar.specs.Doctype.{Asked};
 ghost use Rattle.rox_grammar.specs.Document.{ParseOf, IsTreeOf};
 ghost use Rattle.roxmltree.specs.Places.{parent, children, first_child, last_child, next_sibling, prev_sibling};
-ghost use Rattle.roxmltree.specs.Spot.{id_of, document_of, tree_of, item_of, spot};
-ghost use Rattle.roxmltree.specs.Says.{attributes_of};
-ghost use Rattle.roxmltree.specs.Names.{expanded, same_name, named, IsNamedAt};
-ghost use Rattle.roxmltree.specs.Listed.{attribute_of};
-ghost use Rattle.rox_laws.specs.Nearest.{upwards, NoneDeclares, IsNearest, IsElementAt, xml};
+ghost use Rattle.roxmltree.specs.NodeRef.{id_of, document_of, tree_of, item_of, node_ref};
+ghost use Rattle.roxmltree.specs.NodeParts.{attributes_of};
+ghost use Rattle.roxmltree.specs.ExpandedNames.{expanded, same_expanded_name, named, IsNamedAt};
+ghost use Rattle.roxmltree.specs.ElementLists.{attribute_of};
+ghost use Rattle.rox_laws.specs.NearestDeclaration.{upwards, NoneDeclares, IsNearest, IsElementAt, xml};
 
 pub use roxmltree::laws::{
     descendants_are_below, descendants_are_in_order, document_is_whole, ids_are_places,
@@ -35,7 +35,7 @@ pub fn siblings_undo_each_other(document: &Document<'_>)
 /// The same of the calls themselves: where a node has a next sibling, that one's sibling before it is the node again.
 #[tactic(auto, using(roxmltree::proofs::Siblings::next_prev))]
 pub fn next_then_prev<'a, 'input>(node: Node<'a, 'input>) -> Option<Node<'a, 'input>>
-    ensures { option_map spot result ≡ option_map (λ _. spot node.entry) (next_sibling (tree_of node.entry) (id_of node.entry)) }
+    ensures { option_map node_ref result ≡ option_map (λ _. node_ref node.entry) (next_sibling (tree_of node.entry) (id_of node.entry)) }
 {
     match node.next_sibling() {
         Some(next) => next.prev_sibling(),
@@ -98,7 +98,7 @@ pub fn the_only_attribute<'a, 'input>(
 
 /// Whether an attribute has this name.
 fn has_name(attribute: &Attribute<'_, '_>, name: &ExpandedName<'_, '_>) -> bool
-    ensures { result ≡ same_name ((attribute_of attribute.now).namespace, (attribute_of attribute.now).local) (expanded name.now) }
+    ensures { result ≡ same_expanded_name ((attribute_of attribute.now).namespace, (attribute_of attribute.now).local) (expanded name.now) }
 {
     attribute.name() == name.name() && attribute.namespace() == name.namespace()
 }
@@ -106,7 +106,7 @@ fn has_name(attribute: &Attribute<'_, '_>, name: &ExpandedName<'_, '_>) -> bool
 /// The same of the calls themselves: how many of all attributes have the name, which is one where `has_attribute` says that
 /// there is one, and else none.
 pub fn one_attribute_or_none(node: Node<'_, '_>, name: ExpandedName<'_, '_>) -> usize
-    ensures count { result ≡ count_by (λ a. same_name (a.namespace, a.local) (expanded name.entry)) (attributes_of (item_of node.entry)) }
+    ensures count { result ≡ count_by (λ a. same_expanded_name (a.namespace, a.local) (expanded name.entry)) (attributes_of (item_of node.entry)) }
     ensures one_or_none { result ≡ (if is_some (named (expanded name.entry) (attributes_of (item_of node.entry))) then 1 else 0) }
 {
     whole(node);

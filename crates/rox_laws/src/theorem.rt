@@ -6,30 +6,30 @@ ghost use Rattle.rox_grammar.specs.Forest.{Forest, size};
 ghost use Rattle.rox_grammar.specs.Written.{Item};
 ghost use Rattle.rox_grammar.specs.Tree as grammar;
 ghost use Rattle.rox_grammar.specs.Tree.{document_tree};
-ghost use Rattle.rox_grammar.specs.Entities.{opens_main, most_open};
+ghost use Rattle.rox_grammar.specs.Entities.{included_in_main, most_deep};
 ghost use Rattle.rox_grammar.specs.Doctype.{Request, Asked};
 ghost use Rattle.rox_grammar.specs.Document.{ParseOf, IsTreeOf, Permits};
 ghost use Rattle.rox_grammar.specs.Expansion.{Counts, longest};
-ghost use Rattle.rox_laws.specs.Bounded.{IsBounded};
+ghost use Rattle.rox_laws.specs.TreeSize.{IsTreeBounded};
 ghost use Rattle.rox_grammar.specs.Faults.{FaultOf};
-ghost use Rattle.rox_grammar.specs.Refused.{RefusalOf};
+ghost use Rattle.rox_grammar.specs.FaultsWithDoctype.{RefusalOf};
 ghost use Rattle.rox_grammar.specs.Spans.{NamesText};
 ghost use Rattle.rox_grammar.specs.Exchange.{HasTree};
 ghost use Rattle.rox_theory.specs.Answers.{SameAnswers, AreShort};
 ghost use Rattle.rox_theory.specs.Pieces.{pieces_of, OnlySectionsAreEmpty};
 ghost use Rattle.rox_resolver.specs.Requests.{Allows, AreAllowed};
-ghost use Rattle.roxmltree.specs.Each.{Each};
-ghost use Rattle.rox_error.specs.Telling.{IsErrorOf};
+ghost use Rattle.roxmltree.specs.EachNode.{EachNode};
+ghost use Rattle.rox_error.specs.FaultErrors.{IsErrorOf};
 ghost use Rattle.rox_error.specs.declared.error.Error.{Error};
 ghost use Rattle.rox_error.specs.declared.error.Error.TheVariants as error;
-ghost use Rattle.rox_laws.specs.Lawful.{TextsApart, NamesDistinct, AllChars};
-ghost use Rattle.rox_laws.specs.Located.{RangesNested, AttributesInOrder, AttributesWritten, RangesSelect};
-ghost use Rattle.rox_laws.specs.Sections.{EmptyTextsAreSections, BeginsWithSection};
+ghost use Rattle.rox_laws.specs.TreeLaws.{TextsApart, NamesDistinct, AllChars};
+ghost use Rattle.rox_laws.specs.RangeLaws.{RangesNested, AttributesInOrder, AttributesWritten, RangesSelect};
+ghost use Rattle.rox_laws.specs.EmptySections.{EmptyTextsAreSections, BeginsWithSection};
 ghost use Rattle.rox_laws.specs.Sources.{IsLiteralIn, IsAnswerIn};
 ghost use Rattle.roxmltree.specs.Places.{parent, next_sibling};
-ghost use Rattle.roxmltree.specs.Says.{node_at, start_of, end_of, attributes_of};
-ghost use Rattle.roxmltree.specs.Names.{IsNamedAt};
-ghost use Rattle.rox_laws.specs.Nearest.{upwards, NoneDeclares, IsNearest, IsElementAt, xml, listed_uri};
+ghost use Rattle.roxmltree.specs.NodeParts.{node_at, start_of, end_of, attributes_of};
+ghost use Rattle.roxmltree.specs.ExpandedNames.{IsNamedAt};
+ghost use Rattle.rox_laws.specs.NearestDeclaration.{upwards, NoneDeclares, IsNearest, IsElementAt, xml, listed_uri};
 
 use rox_resolver::resolver::EntityResolver;
 use roxmltree::Document;
@@ -141,7 +141,7 @@ pub fn characters_are_chars(document: &Document<'_>)
 /// (`document_is_a_parse`: the tree of the document is that of such a parse.)
 pub fn empty_texts_are_sections(document: &Document<'_>)
     ensures pieces { (asked : List Asked) (tops : Forest Item) (p : ParseOf document.now.text document.now.dtd asked tops) → OnlySectionsAreEmpty document.now.text p.entities tops (pieces_of document.now.text document.now.dtd asked tops p) }
-    ensures range { (asked : List Asked) (tops : Forest Item) (p : ParseOf document.now.text document.now.dtd asked tops) → Each (BeginsWithSection document.now.text p.entities) (document_tree (length document.now.text) tops) }
+    ensures range { (asked : List Asked) (tops : Forest Item) (p : ParseOf document.now.text document.now.dtd asked tops) → EachNode (BeginsWithSection document.now.text p.entities) (document_tree (length document.now.text) tops) }
     ensures plain { document.now.dtd ≡ false → EmptyTextsAreSections document.now.text document.now.tree }
 {
     document_is_whole(document);
@@ -174,8 +174,8 @@ pub fn attributes_are_written(document: &Document<'_>)
 /// together than that. By `answers`: no replacement text is longer than the text or the longest answer, so who bounds the answers
 /// bounds the tree. (`document_is_a_parse`: the tree of the document is that of such a parse.)
 pub fn trees_are_bounded(document: &Document<'_>)
-    ensures replacements { (asked : List Asked) (tops : Forest Item) (p : ParseOf document.now.text document.now.dtd asked tops) → IsBounded document.now.text (longest p.entities) (document_tree (length document.now.text) tops) }
-    ensures answers { (asked : List Asked) (tops : Forest Item) (most : ℕ) → ParseOf document.now.text document.now.dtd asked tops → AreShort most asked → IsBounded document.now.text (max (length document.now.text) most) (document_tree (length document.now.text) tops) }
+    ensures replacements { (asked : List Asked) (tops : Forest Item) (p : ParseOf document.now.text document.now.dtd asked tops) → IsTreeBounded document.now.text (longest p.entities) (document_tree (length document.now.text) tops) }
+    ensures answers { (asked : List Asked) (tops : Forest Item) (most : ℕ) → ParseOf document.now.text document.now.dtd asked tops → AreShort most asked → IsTreeBounded document.now.text (max (length document.now.text) most) (document_tree (length document.now.text) tops) }
 {
     let _ = document;
 }
@@ -183,7 +183,7 @@ pub fn trees_are_bounded(document: &Document<'_>)
 /// The same of what `Document::parse_with_options` promises: where a resolver may answer no text of more than so many bytes, the
 /// tree of every text that is parsed with answers that it allows is bounded by these bytes and those of the text.
 pub fn answers_bound_trees<'input, R: EntityResolver<'input>>(text: &str, resolver: &Option<R>)
-    ensures { (most limit : ℕ) (dtd : Bool) (asked : List Asked) (tree : Forest grammar.Node) → ((request : Request) (answer : List ℕ) → Allows R.allows resolver.now request (Ok (Some answer)) → length answer ≤ most) → AreAllowed (Allows R.allows resolver.now) asked → IsTreeOf text.now dtd asked limit tree → IsBounded text.now (max (length text.now) most) tree }
+    ensures { (most limit : ℕ) (dtd : Bool) (asked : List Asked) (tree : Forest grammar.Node) → ((request : Request) (answer : List ℕ) → Allows R.allows resolver.now request (Ok (Some answer)) → length answer ≤ most) → AreAllowed (Allows R.allows resolver.now) asked → IsTreeOf text.now dtd asked limit tree → IsTreeBounded text.now (max (length text.now) most) tree }
 {
     let _ = text;
     let _ = resolver;
@@ -193,10 +193,10 @@ pub fn answers_bound_trees<'input, R: EntityResolver<'input>>(text: &str, resolv
 /// the value of an attribute or declaration. They are those of the entities that the text declares. There is a count of them, and
 /// every count of what the reference opens is as small.
 pub fn openings_are_few(document: &Document<'_>)
-    ensures in_content { (asked : List Asked) (tops : Forest Item) (p : ParseOf document.now.text document.now.dtd asked tops) (name : List ℕ) (b c : ℕ) (items : Forest Item) → (opens_main p.entities).content name b items c → (n : ℕ) × (Counts p.entities most_open).content name 0 items n × (n ≤ 256) }
-    ensures in_value { (asked : List Asked) (tops : Forest Item) (p : ParseOf document.now.text document.now.dtd asked tops) (name : List ℕ) (b c : ℕ) (v : List ℕ) → (opens_main p.entities).value name b v c → (n : ℕ) × (Counts p.entities most_open).value name 0 v n × (n ≤ 256) }
-    ensures most_in_content { (asked : List Asked) (tops : Forest Item) (p : ParseOf document.now.text document.now.dtd asked tops) (name : List ℕ) (b c n : ℕ) (items : Forest Item) → (opens_main p.entities).content name b items c → (Counts p.entities most_open).content name 0 items n → n ≤ 256 }
-    ensures most_in_value { (asked : List Asked) (tops : Forest Item) (p : ParseOf document.now.text document.now.dtd asked tops) (name : List ℕ) (b c n : ℕ) (v : List ℕ) → (opens_main p.entities).value name b v c → (Counts p.entities most_open).value name 0 v n → n ≤ 256 }
+    ensures in_content { (asked : List Asked) (tops : Forest Item) (p : ParseOf document.now.text document.now.dtd asked tops) (name : List ℕ) (b c : ℕ) (items : Forest Item) → (included_in_main p.entities).content name b items c → (n : ℕ) × (Counts p.entities most_deep).content name 0 items n × (n ≤ 256) }
+    ensures in_value { (asked : List Asked) (tops : Forest Item) (p : ParseOf document.now.text document.now.dtd asked tops) (name : List ℕ) (b c : ℕ) (v : List ℕ) → (included_in_main p.entities).value name b v c → (n : ℕ) × (Counts p.entities most_deep).value name 0 v n × (n ≤ 256) }
+    ensures most_in_content { (asked : List Asked) (tops : Forest Item) (p : ParseOf document.now.text document.now.dtd asked tops) (name : List ℕ) (b c n : ℕ) (items : Forest Item) → (included_in_main p.entities).content name b items c → (Counts p.entities most_deep).content name 0 items n → n ≤ 256 }
+    ensures most_in_value { (asked : List Asked) (tops : Forest Item) (p : ParseOf document.now.text document.now.dtd asked tops) (name : List ℕ) (b c n : ℕ) (v : List ℕ) → (included_in_main p.entities).value name b v c → (Counts p.entities most_deep).value name 0 v n → n ≤ 256 }
 {
     document_is_whole(document);
 }

@@ -7,7 +7,7 @@ use Rattle.std.proofs.lemmas.List.Elements.{Contains-append_right}
 use Rattle.rox_grammar.specs.Forest.{Forest, Nil, Cons, size}
 use Rattle.rox_grammar.specs.Tree.{Node}
 use Rattle.roxmltree.specs.Places.{Place, places, nowhere, preorder, place, first, parent}
-use Rattle.rox_path.specs.Marks.{Laws}
+use Rattle.rox_path.specs.NodeMarks.{Laws}
 
 length-places : (up left : List ℕ) (b : ℕ) (f : Forest Node) → length (places up left b f) ≡ size f
 length-places up left b Nil = refl

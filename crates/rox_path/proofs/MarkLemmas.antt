@@ -8,32 +8,32 @@ use Rattle.std.proofs.lemmas.List.{get_or_past, take_more, map-append}
 use Rattle.std.proofs.lemmas.Slice.Eq.{bytes_eq-Decides}
 use Rattle.rox_grammar.specs.Forest.{Forest, size}
 use Rattle.rox_grammar.specs.Tree.{Node}
-use Rattle.roxmltree.specs.Doc.{Doc}
-use Rattle.roxmltree.specs.Names.{same_name}
+use Rattle.roxmltree.specs.DocumentView.{DocumentView}
+use Rattle.roxmltree.specs.ExpandedNames.{same_expanded_name}
 use Rattle.roxmltree.specs.Places.{place, parent, first}
-use Rattle.roxmltree.specs.Says.{node_at, says_element, namespace_of, local_of}
-use Rattle.roxmltree.specs.Spot.{spots}
+use Rattle.roxmltree.specs.NodeParts.{node_at, is_element_node, namespace_of, local_of}
+use Rattle.roxmltree.specs.NodeRef.{node_refs}
 use Rattle.rox_path.specs.Steps.{Expanded, PathStep, child, descendant, step_of}
 use Rattle.rox_path.specs.declared.steps.Step.{Step}
 use Rattle.rox_path.specs.Match.{IsElementOf, Match, at_start, by_child, by_descendant, Ascends, Selects}
-use Rattle.rox_path.specs.Marks.{marks_by, is_first, is_marked, has_mark, is_one_marked, is_named, is_below, is_child, is_descendant, Laws}
+use Rattle.rox_path.specs.NodeMarks.{marks_by, is_first, is_marked, is_marked_node, is_one_marked, is_named, is_below, is_child, is_descendant, Laws}
 use Rattle.rox_path.proofs.Around.{above_around, stays_inside, parent_above, behind, in_front, in_cons, count_some}
 
 -- ---- marks as a list
 
-mark_at : (f : Doc × ℕ → Bool) (doc : Doc) (top n k : ℕ) → k < n → get_or (marks_by f doc top n) k false ≡ f (doc, top + k)
+mark_at : (f : DocumentView × ℕ → Bool) (doc : DocumentView) (top n k : ℕ) → k < n → get_or (marks_by f doc top n) k false ≡ f (doc, top + k)
 mark_at f doc top zero k l = absurd (omega arith)
 mark_at f doc top (suc n) zero l = let e : top + 0 ≡ top = omega arith in rw e refl
 mark_at f doc top (suc n) (suc k) l =
     let e : (top + 1) + k ≡ top + suc k = omega arith in
     rw (← e) (mark_at f doc (top + 1) n k (omega arith))
 
-pub length-marks : (f : Doc × ℕ → Bool) (doc : Doc) (top n : ℕ) → length (marks_by f doc top n) ≡ n
+pub length-marks : (f : DocumentView × ℕ → Bool) (doc : DocumentView) (top n : ℕ) → length (marks_by f doc top n) ≡ n
 length-marks f doc top zero = refl
 length-marks f doc top (suc n) = ap suc (length-marks f doc (top + 1) n)
 
 -- one more mark
-pub marks_more : (f : Doc × ℕ → Bool) (doc : Doc) (top n : ℕ) → marks_by f doc top (n + 1) ≡ marks_by f doc top n ++ f (doc, top + n) ∷ []
+pub marks_more : (f : DocumentView × ℕ → Bool) (doc : DocumentView) (top n : ℕ) → marks_by f doc top (n + 1) ≡ marks_by f doc top n ++ f (doc, top + n) ∷ []
 marks_more f doc top zero = let e : top + 0 ≡ top = omega arith in rw e refl
 marks_more f doc top (suc n) =
     let e : suc n + 1 ≡ suc (n + 1) = omega arith in
@@ -42,7 +42,7 @@ marks_more f doc top (suc n) =
     rw e (ap (λ (m : List Bool). f (doc, top) ∷ m) rest)
 
 -- inside, the mark of a node is what the test says
-pub marked_inside : (f : Doc × ℕ → Bool) (doc : Doc) (top n id : ℕ) → top ≤ id → id < top + n → is_marked top (marks_by f doc top n) id ≡ f (doc, id)
+pub marked_inside : (f : DocumentView × ℕ → Bool) (doc : DocumentView) (top n id : ℕ) → top ≤ id → id < top + n → is_marked top (marks_by f doc top n) id ≡ f (doc, id)
 marked_inside f doc top n id low high =
     let e : top + (id - top) ≡ id = omega arith in
     let yes : nat_le top id ≡ true = le-leb top id low in
@@ -57,7 +57,7 @@ test_true : (b c : Bool) → (cond b c false) ≡ true → (b ≡ true) × (c �
 test_true true c e = (refl, e)
 test_true false c e = absurd (false≢true e)
 
-inside_if_marked : (f : Doc × ℕ → Bool) (doc : Doc) (top n id : ℕ) → is_marked top (marks_by f doc top n) id ≡ true → IsInside top n id
+inside_if_marked : (f : DocumentView × ℕ → Bool) (doc : DocumentView) (top n id : ℕ) → is_marked top (marks_by f doc top n) id ≡ true → IsInside top n id
 inside_if_marked f doc top n id e =
     let parts = test_true (nat_le top id) (get_or (marks_by f doc top n) (id - top) false) e in
     let low : top ≤ id = leb-true top id parts.0 in
@@ -66,7 +66,7 @@ inside_if_marked f doc top n id e =
       | inr past ↦ absurd (false≢true (sym (get_or_past (marks_by f doc top n) (id - top) false (omega (arith, length-marks f doc top n))) ∙ parts.1))
     ]
 
-marked : (f : Doc × ℕ → Bool) (doc : Doc) (top n id : ℕ) → is_marked top (marks_by f doc top n) id ≡ true → f (doc, id) ≡ true
+marked : (f : DocumentView × ℕ → Bool) (doc : DocumentView) (top n id : ℕ) → is_marked top (marks_by f doc top n) id ≡ true → f (doc, id) ≡ true
 marked f doc top n id e =
     let i = inside_if_marked f doc top n id e in
     sym (marked_inside f doc top n id i.low i.high) ∙ e
@@ -82,18 +82,18 @@ equal_option : (a : Option (List ℕ)) → option_eq bytes_eq a a ≡ true
 equal_option None = refl
 equal_option (Some x) = (bytes_eq-Decides x x).1 refl
 
-named : (doc : Doc) (id : ℕ) (name : Expanded) → is_named name (doc, id) ≡ true → IsElementOf doc.tree id name
+named : (doc : DocumentView) (id : ℕ) (name : Expanded) → is_named name (doc, id) ≡ true → IsElementOf doc.tree id name
 named doc id name e =
     let node = node_at doc.tree id in
-    let parts = and_parts (says_element node) (same_name (namespace_of node, local_of node) name) e in
+    let parts = and_parts (is_element_node node) (same_expanded_name (namespace_of node, local_of node) name) e in
     let both = and_parts (bytes_eq (local_of node) name.1) (option_eq bytes_eq (namespace_of node) name.0) parts.1 in
     record { is_element = parts.0; namespace = same_option _ _ both.1; local = (bytes_eq-Decides (local_of node) name.1).0 both.0 }
 
-has_name : (doc : Doc) (id : ℕ) (name : Expanded) → IsElementOf doc.tree id name → is_named name (doc, id) ≡ true
+has_name : (doc : DocumentView) (id : ℕ) (name : Expanded) → IsElementOf doc.tree id name → is_named name (doc, id) ≡ true
 has_name doc id name is =
     let node = node_at doc.tree id in
     let e = is.namespace in
-    and_from (says_element node) (same_name (namespace_of node, local_of node) name) is.is_element
+    and_from (is_element_node node) (same_expanded_name (namespace_of node, local_of node) name) is.is_element
     (and_from (bytes_eq (local_of node) name.1) (option_eq bytes_eq (namespace_of node) name.0) ((bytes_eq-Decides (local_of node) name.1).1 is.local) (rw e (equal_option name.0)))
 
 -- ---- one of a list is marked
@@ -174,7 +174,7 @@ pub record Shows (tree : Forest Node) (start : ℕ) (steps : List PathStep) (mar
   pub high : (id : ℕ) → Match tree start steps id → id < start + (place tree start).count
 
 -- a start that is a node has a subtree that is not empty
-pub shows_start : (doc : Doc) (start : ℕ) → 0 < (place doc.tree start).count → Shows doc.tree start [] (marks_by (is_first start) doc start (place doc.tree start).count)
+pub shows_start : (doc : DocumentView) (start : ℕ) → 0 < (place doc.tree start).count → Shows doc.tree start [] (marks_by (is_first start) doc start (place doc.tree start).count)
 shows_start doc start some =
     let n = (place doc.tree start).count in
     record {
@@ -188,7 +188,7 @@ one_marked : (top : ℕ) (marks : List Bool) (o : Option ℕ) → is_one_marked 
 one_marked top marks None e = absurd (false≢true e)
 one_marked top marks (Some p) e = (p, refl, e)
 
-pub shows_child : (doc : Doc) (start : ℕ) (steps : List PathStep) (name : Expanded) (marks : List Bool) → Laws doc.tree → start < size doc.tree → Shows doc.tree start steps marks
+pub shows_child : (doc : DocumentView) (start : ℕ) (steps : List PathStep) (name : Expanded) (marks : List Bool) → Laws doc.tree → start < size doc.tree → Shows doc.tree start steps marks
     → Shows doc.tree start (steps ++ child name ∷ []) (marks_by (is_child start marks name) doc start (place doc.tree start).count)
 shows_child doc start steps name marks laws l shows =
     let n = (place doc.tree start).count in
@@ -211,7 +211,7 @@ shows_child doc start steps name marks laws l shows =
       high = λ id m. (inside id m).1;
     }
 
-pub shows_descendant : (doc : Doc) (start : ℕ) (steps : List PathStep) (name : Expanded) (marks : List Bool) → Laws doc.tree → start < size doc.tree → Shows doc.tree start steps marks
+pub shows_descendant : (doc : DocumentView) (start : ℕ) (steps : List PathStep) (name : Expanded) (marks : List Bool) → Laws doc.tree → start < size doc.tree → Shows doc.tree start steps marks
     → Shows doc.tree start (steps ++ descendant name ∷ []) (marks_by (is_descendant start marks name) doc start (place doc.tree start).count)
 shows_descendant doc start steps name marks laws l shows =
     let n = (place doc.tree start).count in
@@ -255,7 +255,7 @@ none_above p [] e = refl
 none_above p (x ∷ xs) e = cc
 
 -- below a node's parent, what is marked so far says whether a node above that is marked
-pub below_by_parent : (doc : Doc) (top id p : ℕ) (marks below : List Bool) → Laws doc.tree → id < size doc.tree → parent doc.tree id ≡ Some p → id ≡ top + length below
+pub below_by_parent : (doc : DocumentView) (top id p : ℕ) (marks below : List Bool) → Laws doc.tree → id < size doc.tree → parent doc.tree id ≡ Some p → id ≡ top + length below
     → below ≡ marks_by (is_below top marks) doc top (length below) → (is_marked top marks p || is_marked top below p) ≡ is_below top marks (doc, id)
 below_by_parent doc top id p marks below laws l e is by =
     let up = laws.parents id p l e in
@@ -266,15 +266,15 @@ below_by_parent doc top id p marks below laws l e is by =
     ] in
     rw (up, same) refl
 
-pub none_without_parent : (doc : Doc) (top id : ℕ) (marks : List Bool) → parent doc.tree id ≡ None → is_below top marks (doc, id) ≡ false
+pub none_without_parent : (doc : DocumentView) (top id : ℕ) (marks : List Bool) → parent doc.tree id ≡ None → is_below top marks (doc, id) ≡ false
 none_without_parent doc top id marks e = none_above (is_marked top marks) (place doc.tree id).above e
 
 -- ---- the nodes that are marked
-filter_one : (b : Bool) (doc : Doc) (i : ℕ) (xs : List (Doc × ℕ)) (ids : List ℕ) → xs ≡ spots doc ids → cond b ((doc, i) ∷ xs) xs ≡ spots doc (cond b (i ∷ ids) ids)
-filter_one true doc i xs ids e = ap (λ (s : List (Doc × ℕ)). (doc, i) ∷ s) e
+filter_one : (b : Bool) (doc : DocumentView) (i : ℕ) (xs : List (DocumentView × ℕ)) (ids : List ℕ) → xs ≡ node_refs doc ids → cond b ((doc, i) ∷ xs) xs ≡ node_refs doc (cond b (i ∷ ids) ids)
+filter_one true doc i xs ids e = ap (λ (s : List (DocumentView × ℕ)). (doc, i) ∷ s) e
 filter_one false doc i xs ids e = e
 
-pub filter_spots : (top : ℕ) (marks : List Bool) (doc : Doc) (ids : List ℕ) → filter (has_mark top marks) (spots doc ids) ≡ spots doc (filter (is_marked top marks) ids)
+pub filter_spots : (top : ℕ) (marks : List Bool) (doc : DocumentView) (ids : List ℕ) → filter (is_marked_node top marks) (node_refs doc ids) ≡ node_refs doc (filter (is_marked top marks) ids)
 filter_spots top marks doc [] = refl
 filter_spots top marks doc (i ∷ ids) = filter_one (is_marked top marks i) doc i _ _ (filter_spots top marks doc ids)
 
@@ -322,7 +322,7 @@ ascends p a (suc n) =
     let rest = range_with_len (a + 1) n in
     ascend_one (p a) a (filter p rest) (λ j h. omega (arith, range_low (a + 1) n j (kept p rest j h).0)) (ascends p (a + 1) n)
 
-pub selected : (doc : Doc) (start : ℕ) (steps : List PathStep) (marks : List Bool) → Shows doc.tree start steps marks
+pub selected : (doc : DocumentView) (start : ℕ) (steps : List PathStep) (marks : List Bool) → Shows doc.tree start steps marks
     → Selects doc.tree start steps (filter (is_marked start marks) (range_with_len start (place doc.tree start).count))
 selected doc start steps marks shows =
     let n = (place doc.tree start).count in
@@ -336,12 +336,12 @@ selected doc start steps marks shows =
     }
 
 -- ---- the nodes that are left
-next_from : (doc : Doc) (a m : ℕ) (s : Doc × ℕ) (rest : List (Doc × ℕ)) → s ∷ rest ≡ spots doc (range_with_len a m) → (s ≡ (doc, a)) × (rest ≡ spots doc (range_with_len (a + 1) (m - 1)))
+next_from : (doc : DocumentView) (a m : ℕ) (s : DocumentView × ℕ) (rest : List (DocumentView × ℕ)) → s ∷ rest ≡ node_refs doc (range_with_len a m) → (s ≡ (doc, a)) × (rest ≡ node_refs doc (range_with_len (a + 1) (m - 1)))
 next_from doc a zero s rest e = cc
 next_from doc a (suc m) s rest e = let z : suc m - 1 ≡ m = omega arith in (cc, rw z cc)
 
-pub next_place : (doc : Doc) (top n count : ℕ) (s : Doc × ℕ) (rest : List (Doc × ℕ)) → s ∷ rest ≡ spots doc (range_with_len (top + n) (count - n))
-    → (s ≡ (doc, top + n)) × (rest ≡ spots doc (range_with_len (top + (n + 1)) (count - (n + 1))))
+pub next_place : (doc : DocumentView) (top n count : ℕ) (s : DocumentView × ℕ) (rest : List (DocumentView × ℕ)) → s ∷ rest ≡ node_refs doc (range_with_len (top + n) (count - n))
+    → (s ≡ (doc, top + n)) × (rest ≡ node_refs doc (range_with_len (top + (n + 1)) (count - (n + 1))))
 next_place doc top n count s rest e =
     let r = next_from doc (top + n) (count - n) s rest e in
     let a : (top + n) + 1 ≡ top + (n + 1) = omega arith in
@@ -350,31 +350,31 @@ next_place doc top n count s rest e =
 
 -- ---- what the functions answer
 
-pub start_shows : (doc : Doc) (start : ℕ) (marks : List Bool) → Laws doc.tree → start < size doc.tree → marks ≡ map (is_first start) (spots doc (place doc.tree start).descendants) → Shows doc.tree start [] marks
+pub start_shows : (doc : DocumentView) (start : ℕ) (marks : List Bool) → Laws doc.tree → start < size doc.tree → marks ≡ map (is_first start) (node_refs doc (place doc.tree start).descendants) → Shows doc.tree start [] marks
 start_shows doc start marks laws l e =
     let order = laws.in_order start l in
-    let by = e ∙ ap (λ (ids : List ℕ). map (is_first start) (spots doc ids)) order in
+    let by = e ∙ ap (λ (ids : List ℕ). map (is_first start) (node_refs doc ids)) order in
     subst (λ (m : List Bool). Shows doc.tree start [] m) (sym by) (shows_start doc start (count_some doc.tree start l))
 
-pub child_shows : (doc : Doc) (start : ℕ) (steps : List PathStep) (name : Expanded) (marks next : List Bool) → Laws doc.tree → start < size doc.tree → Shows doc.tree start steps marks
-    → next ≡ map (is_child start marks name) (spots doc (place doc.tree start).descendants) → Shows doc.tree start (steps ++ child name ∷ []) next
+pub child_shows : (doc : DocumentView) (start : ℕ) (steps : List PathStep) (name : Expanded) (marks next : List Bool) → Laws doc.tree → start < size doc.tree → Shows doc.tree start steps marks
+    → next ≡ map (is_child start marks name) (node_refs doc (place doc.tree start).descendants) → Shows doc.tree start (steps ++ child name ∷ []) next
 child_shows doc start steps name marks next laws l shows e =
     let order = laws.in_order start l in
-    let by = e ∙ ap (λ (ids : List ℕ). map (is_child start marks name) (spots doc ids)) order in
+    let by = e ∙ ap (λ (ids : List ℕ). map (is_child start marks name) (node_refs doc ids)) order in
     subst (λ (m : List Bool). Shows doc.tree start (steps ++ child name ∷ []) m) (sym by) (shows_child doc start steps name marks laws l shows)
 
-pub descendant_shows : (doc : Doc) (start : ℕ) (steps : List PathStep) (name : Expanded) (marks next : List Bool) → Laws doc.tree → start < size doc.tree → Shows doc.tree start steps marks
-    → next ≡ map (is_descendant start marks name) (spots doc (place doc.tree start).descendants) → Shows doc.tree start (steps ++ descendant name ∷ []) next
+pub descendant_shows : (doc : DocumentView) (start : ℕ) (steps : List PathStep) (name : Expanded) (marks next : List Bool) → Laws doc.tree → start < size doc.tree → Shows doc.tree start steps marks
+    → next ≡ map (is_descendant start marks name) (node_refs doc (place doc.tree start).descendants) → Shows doc.tree start (steps ++ descendant name ∷ []) next
 descendant_shows doc start steps name marks next laws l shows e =
     let order = laws.in_order start l in
-    let by = e ∙ ap (λ (ids : List ℕ). map (is_descendant start marks name) (spots doc ids)) order in
+    let by = e ∙ ap (λ (ids : List ℕ). map (is_descendant start marks name) (node_refs doc ids)) order in
     subst (λ (m : List Bool). Shows doc.tree start (steps ++ descendant name ∷ []) m) (sym by) (shows_descendant doc start steps name marks laws l shows)
 
-pub nodes_selected : (doc : Doc) (start : ℕ) (steps : List PathStep) (marks : List Bool) (nodes : List (Doc × ℕ)) → Laws doc.tree → start < size doc.tree → Shows doc.tree start steps marks
-    → nodes ≡ filter (has_mark start marks) (spots doc (place doc.tree start).descendants) → (ids : List ℕ) × (nodes ≡ spots doc ids) × Selects doc.tree start steps ids
+pub nodes_selected : (doc : DocumentView) (start : ℕ) (steps : List PathStep) (marks : List Bool) (nodes : List (DocumentView × ℕ)) → Laws doc.tree → start < size doc.tree → Shows doc.tree start steps marks
+    → nodes ≡ filter (is_marked_node start marks) (node_refs doc (place doc.tree start).descendants) → (ids : List ℕ) × (nodes ≡ node_refs doc ids) × Selects doc.tree start steps ids
 nodes_selected doc start steps marks nodes laws l shows e =
     let order = laws.in_order start l in
-    let by = e ∙ ap (λ (ids : List ℕ). filter (has_mark start marks) (spots doc ids)) order in
+    let by = e ∙ ap (λ (ids : List ℕ). filter (is_marked_node start marks) (node_refs doc ids)) order in
     let ids = filter (is_marked start marks) (range_with_len start (place doc.tree start).count) in
     (ids, by ∙ filter_spots start marks doc (range_with_len start (place doc.tree start).count), selected doc start steps marks shows)
 
@@ -398,23 +398,23 @@ both_tests r a v b h e f = let t : a ≡ true = sym e ∙ h in rw t f
 pub no_test : (r a v b : Bool) → r ≡ false → r ≡ a → v ≡ false → v ≡ (a && b)
 no_test r a v b h e f = let t : a ≡ false = sym e ∙ h in rw t f
 
-pub mark_pushed : (f : Doc × ℕ → Bool) (marks next : List Bool) (all : List Bool) (left rest : List (Doc × ℕ)) (s : Doc × ℕ) (v : Bool) → marks ++ map f left ≡ all → left ≡ s ∷ rest → v ≡ f s → next ≡ marks ++ v ∷ []
+pub mark_pushed : (f : DocumentView × ℕ → Bool) (marks next : List Bool) (all : List Bool) (left rest : List (DocumentView × ℕ)) (s : DocumentView × ℕ) (v : Bool) → marks ++ map f left ≡ all → left ≡ s ∷ rest → v ≡ f s → next ≡ marks ++ v ∷ []
     → next ++ map f rest ≡ all
 mark_pushed f marks next all left rest s v so_far is e by =
-    ap (λ (m : List Bool). m ++ map f rest) by ∙ append_assoc marks (v ∷ []) (map f rest) ∙ ap (λ (t : Bool). marks ++ t ∷ map f rest) e ∙ sym (ap (λ (l : List (Doc × ℕ)). marks ++ map f l) is) ∙ so_far
+    ap (λ (m : List Bool). m ++ map f rest) by ∙ append_assoc marks (v ∷ []) (map f rest) ∙ ap (λ (t : Bool). marks ++ t ∷ map f rest) e ∙ sym (ap (λ (l : List (DocumentView × ℕ)). marks ++ map f l) is) ∙ so_far
 
 length_more : (xs ys : List Bool) (v : Bool) → ys ≡ xs ++ v ∷ [] → length ys ≡ length xs + 1
 length_more xs ys v e = omega (arith, ap length e, length-append xs (v ∷ []))
 
-pub below_pushed : (f : Doc × ℕ → Bool) (doc : Doc) (top : ℕ) (below next : List Bool) (s : Doc × ℕ) (v : Bool) → below ≡ marks_by f doc top (length below) → s ≡ (doc, top + length below) → v ≡ f s → next ≡ below ++ v ∷ []
+pub below_pushed : (f : DocumentView × ℕ → Bool) (doc : DocumentView) (top : ℕ) (below next : List Bool) (s : DocumentView × ℕ) (v : Bool) → below ≡ marks_by f doc top (length below) → s ≡ (doc, top + length below) → v ≡ f s → next ≡ below ++ v ∷ []
     → next ≡ marks_by f doc top (length next)
 below_pushed f doc top below next s v so_far is e by =
     let value : v ≡ f (doc, top + length below) = e ∙ ap f is in
     let n = length_more below next v by in
     by ∙ ap (λ (m : List Bool). m ++ v ∷ []) so_far ∙ ap (λ (t : Bool). marks_by f doc top (length below) ++ t ∷ []) value ∙ sym (marks_more f doc top (length below)) ∙ ap (marks_by f doc top) (sym n)
 
-pub left_pushed : (doc : Doc) (top count : ℕ) (below next : List Bool) (v : Bool) (rest : List (Doc × ℕ)) → rest ≡ spots doc (range_with_len (top + (length below + 1)) (count - (length below + 1))) → next ≡ below ++ v ∷ []
-    → rest ≡ spots doc (range_with_len (top + length next) (count - length next))
+pub left_pushed : (doc : DocumentView) (top count : ℕ) (below next : List Bool) (v : Bool) (rest : List (DocumentView × ℕ)) → rest ≡ node_refs doc (range_with_len (top + (length below + 1)) (count - (length below + 1))) → next ≡ below ++ v ∷ []
+    → rest ≡ node_refs doc (range_with_len (top + length next) (count - length next))
 left_pushed doc top count below next v rest is by =
     let n = length_more below next v by in
-    subst (λ (k : ℕ). rest ≡ spots doc (range_with_len (top + k) (count - k))) (sym n) is
+    subst (λ (k : ℕ). rest ≡ node_refs doc (range_with_len (top + k) (count - k))) (sym n) is

@@ -5,11 +5,11 @@ use Rattle.std.proofs.lemmas.List.{get_or_past, map-append}
 use Rattle.std.proofs.lemmas.List.Sums.{position_or_len_is}
 use Rattle.std.specs.List.{position_or_len}
 use Rattle.memchr.specs.Find.{IsFirstByte}
-use Rattle.rox_grammar.specs.Marks.{byte_from}
+use Rattle.rox_grammar.specs.Search.{byte_from}
 use Rattle.rox_grammar.specs.Names.{byte, slice}
 use Rattle.rox_path.specs.Steps.{Expanded, PathStep, step_of}
 use Rattle.rox_path.specs.declared.steps.Step.{Step}
-use Rattle.rox_path.specs.Told.{ToldAt}
+use Rattle.rox_path.specs.PathMessages.{ToldAt}
 use Rattle.rox_path.specs.declared.parse.PathError.{PathError}
 use Rattle.rox_path.specs.declared.parse.PathError.TheVariants.{BadPath, OutOfMemory}
 use Rattle.rox_path.specs.Paths.{local_end, uri_end, IsStepName, local_alone, with_uri, IsStep, one_slash, two_slashes, IsPath, last_step, then_steps, StepsTo, no_step, one_more, NameDue, behind_one, behind_two, IsBadName, no_local, no_brace, no_local_behind, IsBadStep, no_slash, no_name, IsBadAt, bad_step}

@@ -1,5 +1,5 @@
 pub mod Steps
 pub mod Match
 pub mod Paths
-pub mod Told
-pub mod Marks
+pub mod PathMessages
+pub mod NodeMarks

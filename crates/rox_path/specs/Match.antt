@@ -3,12 +3,12 @@ use Rattle.std.specs.Prelude.{◌≡◌, ◌↔◌, ℕ, ◌<◌, List, [], ◌�
 use Rattle.rox_grammar.specs.Forest.{Forest}
 use Rattle.rox_grammar.specs.Tree.{Node}
 use Rattle.roxmltree.specs.Places.{place, parent}
-use Rattle.roxmltree.specs.Says.{node_at, says_element, local_of, namespace_of}
+use Rattle.roxmltree.specs.NodeParts.{node_at, is_element_node, local_of, namespace_of}
 use Rattle.rox_path.specs.Steps.{Expanded, PathStep, child, descendant}
 
 -- the node of this id is an element of this name: no namespace and the empty URI differ
 pub record IsElementOf (tree : Forest Node) (id : ℕ) (name : Expanded) : Type 0 where
-  pub is_element : IsTrue (says_element (node_at tree id))
+  pub is_element : IsTrue (is_element_node (node_at tree id))
   pub namespace : namespace_of (node_at tree id) ≡ name.0
   pub local : local_of (node_at tree id) ≡ name.1
 

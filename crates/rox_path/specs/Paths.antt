@@ -1,6 +1,6 @@
 -- Paths as they are written: places in the bytes of a text, from 0.
 use Rattle.std.specs.Prelude.{◌≡◌, ◌≢◌, ◌⊎◌, ℕ, ◌+◌, ◌<◌, ◌==◌, ◌||◌, List, [], ◌∷◌, Some, None, length}
-use Rattle.rox_grammar.specs.Marks.{byte_from}
+use Rattle.rox_grammar.specs.Search.{byte_from}
 use Rattle.rox_grammar.specs.Names.{byte, slice}
 use Rattle.rox_path.specs.Steps.{Expanded, PathStep, child, descendant}
 

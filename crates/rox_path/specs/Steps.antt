@@ -1,6 +1,6 @@
 -- The steps of a path.
 use Rattle.std.specs.Prelude.{ℕ, List, Option}
-use Rattle.roxmltree.specs.Names.{expanded}
+use Rattle.roxmltree.specs.ExpandedNames.{expanded}
 use Rattle.rox_path.specs.declared.steps.Step.{Step}
 use Rattle.rox_path.specs.declared.steps.Step.TheVariants as step
 

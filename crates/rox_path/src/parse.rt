@@ -3,10 +3,10 @@
 ghost use Rattle.std.specs.Prelude.{◌≡◌, ◌≢◌, ℕ, ◌+◌, ◌<◌, ◌≤◌, true, false, List, map, IfOk, IfErr, Err, Some, length};
 ghost use Rattle.std.specs.Str.{IsCharBoundary};
 ghost use Rattle.rox_grammar.specs.Names.{byte, slice};
-ghost use Rattle.roxmltree.specs.Names.{expanded};
+ghost use Rattle.roxmltree.specs.ExpandedNames.{expanded};
 ghost use Rattle.rox_path.specs.Steps.{PathStep, step_of};
 ghost use Rattle.rox_path.specs.Paths.{local_end, uri_end, IsStepName, IsStep, IsPath, IsBadName, IsBadStep, IsBadAt};
-ghost use Rattle.rox_path.specs.Told.{ToldAt};
+ghost use Rattle.rox_path.specs.PathMessages.{ToldAt};
 ghost use Rattle.rox_path.specs.declared.parse.PathError.TheVariants.{OutOfMemory};
 
 use crate::steps::Step;
@@ -25,7 +25,7 @@ pub enum PathError {
 }
 
 impl fmt::Display for PathError {
-    ghost use Rattle.rox_path.specs.Told.{message};
+    ghost use Rattle.rox_path.specs.PathMessages.{message};
 
     ghost output = { λ e. Some (message e) };
 
@@ -129,7 +129,7 @@ fn local_at(text: &str, at: usize) -> Result<(&str, usize), PathError>
 }
 
 /// Where a local name ends that begins at this place: at the next `/`, `{` or `}`, or at the end.
-#[tactic(auto, unfolding(rox_grammar::specs::Marks::byte_from))]
+#[tactic(auto, unfolding(rox_grammar::specs::Search::byte_from))]
 fn local_end(text: &str, at: usize) -> usize
     requires { at ≤ length text.now }
     ensures value { result ≡ local_end text.now at }
@@ -141,7 +141,7 @@ fn local_end(text: &str, at: usize) -> usize
 }
 
 /// Where a URI ends that begins at this place: at the next `}`, or at the end.
-#[tactic(auto, unfolding(rox_grammar::specs::Marks::byte_from))]
+#[tactic(auto, unfolding(rox_grammar::specs::Search::byte_from))]
 fn uri_end(text: &str, at: usize) -> usize
     requires { at ≤ length text.now }
     ensures value { result ≡ uri_end text.now at }

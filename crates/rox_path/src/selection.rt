@@ -1,11 +1,11 @@
 //! The nodes that steps lead to.
 
 ghost use Rattle.std.specs.Prelude.{◌≡◌, ℕ, ◌+◌, List, map, filter, length, IfOk};
-ghost use Rattle.roxmltree.specs.Names.{expanded};
-ghost use Rattle.roxmltree.specs.Spot.{id_of, document_of, tree_of, spot, spots};
+ghost use Rattle.roxmltree.specs.ExpandedNames.{expanded};
+ghost use Rattle.roxmltree.specs.NodeRef.{id_of, document_of, tree_of, node_ref, node_refs};
 ghost use Rattle.rox_path.specs.Steps.{step_of};
 ghost use Rattle.rox_path.specs.Match.{Selects};
-ghost use Rattle.rox_path.specs.Marks.{subtree_of, is_first, is_marked, has_mark, is_child, is_below, is_descendant, marks_by, Laws};
+ghost use Rattle.rox_path.specs.NodeMarks.{subtree_of, is_first, is_marked, is_marked_node, is_child, is_below, is_descendant, marks_by, Laws};
 
 use crate::steps::Step;
 use roxmltree::laws::{
@@ -23,7 +23,7 @@ pub fn select<'a, 'input>(
     steps: &[Step<'_>],
 ) -> Result<Vec<Node<'a, 'input>>, AllocError>
     ensures { IfOk result (λ nodes. (ids : List ℕ)
-        × (map spot nodes.items ≡ spots (document_of start.entry) ids)
+        × (map node_ref nodes.items ≡ node_refs (document_of start.entry) ids)
         × Selects (tree_of start.entry) (id_of start.entry) (map step_of steps.now) ids) }
 {
     laws(start);
@@ -94,7 +94,7 @@ fn is_below(start: Node<'_, '_>, marks: &[bool], below: &[bool], node: Node<'_, 
     requires document { document_of node ≡ document_of start }
     requires place { id_of node ≡ id_of start + length below.now }
     requires so_far { below.now ≡ marks_by (is_below (id_of start) marks.now) (document_of start) (id_of start) (length below.now) }
-    ensures { result ≡ is_below (id_of start.entry) marks.now (spot node.entry) }
+    ensures { result ≡ is_below (id_of start.entry) marks.now (node_ref node.entry) }
 {
     laws(node);
     match node.parent() {
@@ -109,7 +109,7 @@ fn marked_nodes<'a, 'input>(
     start: Node<'a, 'input>,
     marks: &[bool],
 ) -> Result<Vec<Node<'a, 'input>>, AllocError>
-    ensures { IfOk result (λ nodes. map spot nodes.items ≡ filter (has_mark (id_of start.entry) marks.now) (subtree_of start.entry)) }
+    ensures { IfOk result (λ nodes. map node_ref nodes.items ≡ filter (is_marked_node (id_of start.entry) marks.now) (subtree_of start.entry)) }
 {
     let mut nodes = Vec::new(alloc);
     for node in start.descendants() {

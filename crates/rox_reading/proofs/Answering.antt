@@ -7,14 +7,14 @@ use Rattle.rox_grammar.specs.declared.fault.Fault.{Fault}
 use Rattle.rox_grammar.specs.declared.fault.Fault.TheVariants as fault
 use Rattle.rox_grammar.specs.declared.fault.Due.TheVariants as due
 use Rattle.rox_grammar.specs.declared.fault.Word.TheVariants as word
-use Rattle.rox_grammar.specs.Marks.{byte_from}
+use Rattle.rox_grammar.specs.Search.{byte_from}
 use Rattle.rox_grammar.specs.Names.{spaces_end}
 use Rattle.rox_grammar.specs.Constructs.{at}
 use Rattle.rox_grammar.specs.Doctype.{Asked}
 use Rattle.rox_reading.specs.Refusals.{Refusal, here}
 use Rattle.rox_reading.specs.State.{State}
 use Rattle.rox_reading.specs.Machine.{comment_step, instruction_step, at_place}
-use Rattle.rox_reading.specs.Doctype.{Reply, Asks, Dtd, replies_of, AreTextReplies, with_state, entity_step, passed_over, subset_end, subset}
+use Rattle.rox_reading.specs.Doctype.{Reply, Asks, Dtd, replies_of, AreTextReplies, with_state, entity_step, skipped_declaration, subset_end, subset}
 use Rattle.rox_reading.specs.Answering.{left_with, having_asked, Answered, with_refusal, Stops, Continues}
 
 -- ---- what is asked in two parts
@@ -116,13 +116,13 @@ module _ (run : List Reply → Asks Dtd) (asked : List Asked) (limit i n m : ℕ
 
           -- a declaration that is passed over up to its `>`
           pub turn_passed : is_skipped ≡ true → byte_from (λ c. c == 62) src s.at < length src → Continues run asked limit i m src (with_state d (at_place (byte_from (λ c. c == 62) src s.at + 1) d.state))
-          unfolding subset passed_over
+          unfolding subset skipped_declaration
           turn_passed is closes =
               let k = lt-leb _ _ inside in let l = lt-ltb _ _ closes in
               goes_plainly (with_state d (at_place (byte_from (λ c. c == 62) src s.at + 1) d.state)) (λ more. rw (one, k, no_entity, no_comment, no_instruction, is, l) refl)
 
           pub passed_stops : is_skipped ≡ true → length src ≤ byte_from (λ c. c == 62) src s.at → Stops run asked (here (fault.UnknownToken i))
-          unfolding subset passed_over
+          unfolding subset skipped_declaration
           passed_stops is unclosed =
               let k = lt-leb _ _ inside in let l = le-ltb _ _ unclosed in
               stops_plainly (here (fault.UnknownToken i)) (λ more. rw (one, k, no_entity, no_comment, no_instruction, is, l) refl)

@@ -3,33 +3,33 @@ use Rattle.std.proofs.Common.{◌≡◌, refl, ap, subst, ℕ, zero, suc, ◌+�
 use Rattle.std.specs.Prelude.{bytes_eq}
 use Rattle.rox_grammar.specs.declared.fault.Fault.{Fault}
 use Rattle.rox_grammar.specs.declared.fault.Word.TheVariants as word
-use Rattle.rox_grammar.specs.Words.{word_text}
-use Rattle.rox_grammar.specs.Written.{Declaration}
+use Rattle.rox_grammar.specs.FixedTexts.{word_text}
+use Rattle.rox_grammar.specs.Written.{NamespaceDecl}
 use Rattle.rox_grammar.specs.Tree.{listed}
 use Rattle.rox_grammar.specs.Names.{byte, slice}
 use Rattle.rox_grammar.specs.Constructs.{at}
-use Rattle.rox_grammar.specs.Content.{is_plain, is_plain_value}
+use Rattle.rox_grammar.specs.Content.{is_verbatim, is_verbatim_value}
 use Rattle.rox_grammar.specs.Document.{distinct_pairs}
-use Rattle.rox_grammar.specs.Entities.{Replacement, Entity, most_open}
+use Rattle.rox_grammar.specs.Entities.{Replacement, Entity, most_deep}
 use Rattle.rox_grammar.specs.State.{is_root, scope_of, attributes_so_far, pairs_so_far}
 use Rattle.rox_reading.specs.Lexical.{◌>>=◌, qname_at}
-use Rattle.rox_reading.specs.Refusals.{Refusal, here, there, refused, SpeaksOfText, lifted, elsewhere}
+use Rattle.rox_reading.specs.Refusals.{Refusal, here, there, refused, IsTextRefusal, lifted, elsewhere}
 use Rattle.rox_reading.specs.State.{State, depth_of}
-use Rattle.rox_reading.specs.Markup.{Turn, more, opened, closed, turn_at}
-use Rattle.rox_reading.specs.Values.{Bit, bytes_of, opens, Next, at_end, opening, run_part, part_text, raw_run_at, value_bit_at, ValueOpener, after_value_bit, value_text, value_at}
-use Rattle.rox_reading.specs.Tags.{Held, Values, TagRest, after_turn, attributes_at, taken, attribute_with, tag_tested, tag_at}
-use Rattle.rox_reading.specs.Machine.{How, with_piece, after_part, run_parts, run_step, cut_off, tag_step, step, drive, text_ends, drive_text, budget, value_opener, values_of, opener, main_text}
-use Rattle.rox_reading.specs.Whole.{misc, body}
+use Rattle.rox_reading.specs.Markup.{TagItem, more, opened, closed, tag_item_at}
+use Rattle.rox_reading.specs.Values.{Bit, bytes_of, opens, Next, at_end, opening, data_part, part_text, raw_character_data_at, value_bit_at, ValueInclusion, after_value_bit, value_text, value_at}
+use Rattle.rox_reading.specs.Tags.{TagSoFar, Values, TagRest, after_tag_item, attributes_at, taken, attribute_with, tag_tested, tag_at}
+use Rattle.rox_reading.specs.Machine.{Context, with_piece, after_part, data_parts, character_data_step, cut_off, tag_step, step, drive, text_ends, drive_text, budget, value_opener, values_of, opener, main_text}
+use Rattle.rox_reading.specs.WholeText.{misc, body}
 
 -- it is no refusal of the resolver
 pub record Alone (A : Type 0) (r : Result A Refusal) : Type 0 where
-  pub is : (e : Refusal) → r ≡ Err e → SpeaksOfText e
+  pub is : (e : Refusal) → r ≡ Err e → IsTextRefusal e
 
 pub good : {A : Type 0} (x : A) → Alone A (Ok x)
 good x = record { is = λ e h. cc h }
 
 bad : {A : Type 0} (f : Fault) → Alone A (Err (here f))
-bad f = record { is = λ e h. (let same : here f ≡ e = cc in subst SpeaksOfText same tt) }
+bad f = record { is = λ e h. (let same : here f ≡ e = cc in subst IsTextRefusal same tt) }
 
 pub alone_lifted : {A : Type 0} (r : Result A Fault) → Alone A (lifted r)
 alone_lifted (Ok x) = good x
@@ -51,13 +51,13 @@ alone_cond false x y h k = k
 -- of another source
 alone_elsewhere : {A : Type 0} (source : List ℕ) (r : Result A Refusal) → Alone A r → Alone A (elsewhere source r)
 alone_elsewhere source (Ok x) h = good x
-alone_elsewhere source (Err (here f)) h = record { is = λ e same. (let is : there source f ≡ e = cc in subst SpeaksOfText is tt) }
-alone_elsewhere source (Err (there s f)) h = record { is = λ e same. (let is : there s f ≡ e = cc in subst SpeaksOfText is tt) }
+alone_elsewhere source (Err (here f)) h = record { is = λ e same. (let is : there source f ≡ e = cc in subst IsTextRefusal is tt) }
+alone_elsewhere source (Err (there s f)) h = record { is = λ e same. (let is : there s f ≡ e = cc in subst IsTextRefusal is tt) }
 alone_elsewhere source (Err (refused request at message)) h = absurd (h.is (refused request at message) refl)
 
 -- ---- values
 
-module _ (main : Bool) (es : List Entity) (open' : ValueOpener) (opens_alone : (t : Replacement) (j l : ℕ) → Alone (List ℕ × ℕ) (open' t j l)) where
+module _ (main : Bool) (es : List Entity) (open' : ValueInclusion) (opens_alone : (t : Replacement) (j l : ℕ) → Alone (List ℕ × ℕ) (open' t j l)) where
   value_alone : (n : ℕ) (src : List ℕ) (stop i left : ℕ) → Alone (List ℕ × ℕ) (value_text main es open' n src stop i left)
   unfolding value_text
   value_alone zero src stop i left = good _
@@ -70,7 +70,7 @@ module _ (main : Bool) (es : List Entity) (open' : ValueOpener) (opens_alone : (
 
   value_at_alone : (src : List ℕ) (i stop left : ℕ) → Alone _ (value_at main es open' src i stop left)
   unfolding value_at
-  value_at_alone src i stop left = alone_cond (is_plain_value (slice src i stop)) _ _ (good _) (alone_bind _ _ (value_alone (stop - i) src stop i left) (λ x. good _))
+  value_at_alone src i stop left = alone_cond (is_verbatim_value (slice src i stop)) _ _ (good _) (alone_bind _ _ (value_alone (stop - i) src stop i left) (λ x. good _))
 
 value_opener_alone : (es : List Entity) (d : ℕ) (main : Bool) (t : Replacement) (j l : ℕ) → Alone (List ℕ × ℕ) (value_opener es d main t j l)
 unfolding value_opener
@@ -81,20 +81,20 @@ value_opener_alone es (suc d) main t j l =
 -- ---- tags
 
 module _ (how : Values) (opens_alone : (t : Replacement) (j l : ℕ) → Alone (List ℕ × ℕ) (how.opener t j l)) where
-  attributes_alone : (n : ℕ) (cut : Fault) (known : List Declaration) (src : List ℕ) (i left : ℕ) (h : Held) → Alone (TagRest × ℕ) (attributes_at n how cut known src i left h)
+  attributes_alone : (n : ℕ) (cut : Fault) (known : List NamespaceDecl) (src : List ℕ) (i left : ℕ) (h : TagSoFar) → Alone (TagRest × ℕ) (attributes_at n how cut known src i left h)
   unfolding attributes_at
   attributes_alone zero cut known src i left h = bad cut
   attributes_alone (suc n) cut known src i left h =
-      alone_cond (nat_le (length src) i) _ _ (bad cut) (alone_after (turn_at src i) _ (λ x. turn x.0 x.1 (λ j l held. attributes_alone n cut known src j l held)))
+      alone_cond (nat_le (length src) i) _ _ (bad cut) (alone_after (tag_item_at src i) _ (λ x. turn x.0 x.1 (λ j l held. attributes_alone n cut known src j l held)))
     where
-      turn : (t : Turn) (j : ℕ) → ((j l : ℕ) (held : Held) → Alone (TagRest × ℕ) (attributes_at n how cut known src j l held))
-          → Alone (TagRest × ℕ) (after_turn (λ j l held. attributes_at n how cut known src j l held) how known src left h t j)
+      turn : (t : TagItem) (j : ℕ) → ((j l : ℕ) (held : TagSoFar) → Alone (TagRest × ℕ) (attributes_at n how cut known src j l held))
+          → Alone (TagRest × ℕ) (after_tag_item (λ j l held. attributes_at n how cut known src j l held) how known src left h t j)
       turn (more raw) j next =
           alone_bind _ _ (value_at_alone how.main how.entities how.opener opens_alone src raw.value_start raw.value_end left) (λ v. alone_after (taken known (attribute_with raw v.0) h) _ (λ held. next j v.1 held))
       turn opened j next = good _
       turn closed j next = good _
 
-  tag_alone : (cut : Fault) (above : List Declaration) (count : ℕ) (known : List Declaration) (src : List ℕ) (i left : ℕ) → Alone _ (tag_at how cut above count known src i left)
+  tag_alone : (cut : Fault) (above : List NamespaceDecl) (count : ℕ) (known : List NamespaceDecl) (src : List ℕ) (i left : ℕ) → Alone _ (tag_at how cut above count known src i left)
   unfolding tag_at
   tag_alone cut above count known src i left =
       alone_after (qname_at src (i + 1)) _ (λ name. alone_cond (bytes_eq name.0.prefix (word_text word.Xmlns)) _ _ (bad _)
@@ -103,21 +103,21 @@ module _ (how : Values) (opens_alone : (t : Replacement) (j l : ℕ) → Alone (
 
 -- ---- content
 
-module _ (how : How) (values_alone : (t : Replacement) (j l : ℕ) → Alone (List ℕ × ℕ) (how.values.opener t j l)) (opens_alone : (t : Replacement) (j : ℕ) (s : State) → Alone State (how.opener t j s)) where
-  parts_alone : (n : ℕ) (src : List ℕ) (start stop : ℕ) (s : State) → Alone State (run_parts how n src start stop s)
-  unfolding run_parts
+module _ (how : Context) (values_alone : (t : Replacement) (j l : ℕ) → Alone (List ℕ × ℕ) (how.values.opener t j l)) (opens_alone : (t : Replacement) (j : ℕ) (s : State) → Alone State (how.opener t j s)) where
+  parts_alone : (n : ℕ) (src : List ℕ) (start stop : ℕ) (s : State) → Alone State (data_parts how n src start stop s)
+  unfolding data_parts
   parts_alone zero src start stop s = good _
   parts_alone (suc n) src start stop s =
-      alone_after (run_part how.values.main how.values.entities (stop - s.at) src stop s.at) _ (λ x.
+      alone_after (data_part how.values.main how.values.entities (stop - s.at) src stop s.at) _ (λ x.
       alone_after (with_piece how.limit s start stop (part_text how.values.main x.0)) _ (λ t. part x.1 t (λ u. parts_alone n src start stop u)))
     where
-      part : (x : Next) (t : State) → ((u : State) → Alone State (run_parts how n src start stop u)) → Alone State (after_part how (λ u. run_parts how n src start stop u) stop t x)
+      part : (x : Next) (t : State) → ((u : State) → Alone State (data_parts how n src start stop u)) → Alone State (after_part how (λ u. data_parts how n src start stop u) stop t x)
       part at_end t next = good _
       part (opening r j) t next = alone_bind _ _ (opens_alone r j t) next
 
-  run_alone : (src : List ℕ) (s : State) → Alone State (run_step how src s)
-  unfolding run_step
-  run_alone src s = alone_after (raw_run_at src s.at) _ (λ x. alone_cond (is_plain x.0) _ _ (alone_lifted _) (parts_alone (length src) src s.at x.1 s))
+  run_alone : (src : List ℕ) (s : State) → Alone State (character_data_step how src s)
+  unfolding character_data_step
+  run_alone src s = alone_after (raw_character_data_at src s.at) _ (λ x. alone_cond (is_verbatim x.0) _ _ (alone_lifted _) (parts_alone (length src) src s.at x.1 s))
 
   tag_step_alone : (src : List ℕ) (s : State) → Alone State (tag_step how src s)
   unfolding tag_step
@@ -159,8 +159,8 @@ opener_alone limit es (suc d) main t j s =
 pub body_alone : (limit : ℕ) (es : List Entity) (src : List ℕ) (s : State) → Alone (State × Bool) (body limit es src s)
 unfolding body
 body_alone limit es src s =
-    let values : (t : Replacement) (j l : ℕ) → Alone (List ℕ × ℕ) ((main_text limit es).values.opener t j l) = λ t j l. value_opener_alone es most_open true t j l in
-    let texts : (t : Replacement) (j : ℕ) (s : State) → Alone State ((main_text limit es).opener t j s) = λ t j s. opener_alone limit es most_open true t j s in
+    let values : (t : Replacement) (j l : ℕ) → Alone (List ℕ × ℕ) ((main_text limit es).values.opener t j l) = λ t j l. value_opener_alone es most_deep true t j l in
+    let texts : (t : Replacement) (j : ℕ) (s : State) → Alone State ((main_text limit es).opener t j s) = λ t j s. opener_alone limit es most_deep true t j s in
     alone_cond (byte src s.at == 60) _ _
     (alone_bind _ _ (tag_step_alone (main_text limit es) values texts src s) (λ t. alone_bind _ _ (drive_alone (main_text limit es) values texts (length src) src t) (λ u.
     alone_after (misc limit (length src) src u) _ (λ v. good _)))) (good _)

@@ -1,7 +1,7 @@
 -- Forests, merged from left to right.
 use Rattle.std.proofs.Common.{◌≡◌, ℕ, ◌+◌, ◌≤◌, Bool, true, false, List, ◌++◌, refl, sym, ap, ◌∙◌, arith, append_assoc, Option}
 use Rattle.rox_grammar.specs.Forest.{Forest, Nil, Cons, join, size}
-use Rattle.rox_grammar.specs.Written.{Tag, Item, Element, Text, Comment, PI, Declaration, glue, merge, leaf}
+use Rattle.rox_grammar.specs.Written.{Tag, Item, Element, Text, Comment, PI, NamespaceDecl, glue, merge, leaf}
 use Rattle.rox_grammar.specs.Tree.{scope_in, node_in, resolved}
 use Rattle.rox_grammar.specs.WellNamed.{AreWellNamed}
 use Rattle.rox_grammar.specs.Document.{own_pairs, pairs, attribute_count}
@@ -19,11 +19,11 @@ pub size-join : {I : Type 0} (f g : Forest I) → size (join f g) ≡ size f + s
 size-join Nil g = omega arith
 size-join (Cons i c r) g = omega (arith, size-join r g)
 
-pub size-resolved : (above : List Declaration) (f : Forest Item) → size (resolved above f) ≡ size f
+pub size-resolved : (above : List NamespaceDecl) (f : Forest Item) → size (resolved above f) ≡ size f
 size-resolved above Nil = refl
 size-resolved above (Cons i c r) = omega (arith, size-resolved (scope_in above i) c, size-resolved above r)
 
-pub resolved-join : (above : List Declaration) (f g : Forest Item) → resolved above (join f g) ≡ join (resolved above f) (resolved above g)
+pub resolved-join : (above : List NamespaceDecl) (f g : Forest Item) → resolved above (join f g) ≡ join (resolved above f) (resolved above g)
 resolved-join above Nil g = refl
 resolved-join above (Cons i c r) g = ap (Cons (node_in (scope_in above i) i) (resolved (scope_in above i) c)) (resolved-join above r g)
 
@@ -162,40 +162,40 @@ attribute_count-merge (Cons (Comment x y t) c r) = omega (arith, attribute_count
 attribute_count-merge (Cons (PI x y t o) c r) = omega (arith, attribute_count-merge r)
 
 -- well-named forests
-pub named-join : (above : List Declaration) (f g : Forest Item) → AreWellNamed above f → AreWellNamed above g → AreWellNamed above (join f g)
+pub named-join : (above : List NamespaceDecl) (f g : Forest Item) → AreWellNamed above f → AreWellNamed above g → AreWellNamed above (join f g)
 named-join above Nil g h k = k
 named-join above (Cons i c r) g (a, b, h) k = (a, b, named-join above r g h k)
 
-pub named-left : (above : List Declaration) (f g : Forest Item) → AreWellNamed above (join f g) → AreWellNamed above f
+pub named-left : (above : List NamespaceDecl) (f g : Forest Item) → AreWellNamed above (join f g) → AreWellNamed above f
 named-left above Nil g h = tt
 named-left above (Cons i c r) g (a, b, h) = (a, b, named-left above r g h)
 
-pub named-right : (above : List Declaration) (f g : Forest Item) → AreWellNamed above (join f g) → AreWellNamed above g
+pub named-right : (above : List NamespaceDecl) (f g : Forest Item) → AreWellNamed above (join f g) → AreWellNamed above g
 named-right above Nil g h = h
 named-right above (Cons i c r) g (a, b, h) = named-right above r g h
 
-named-glue : (above : List Declaration) (x y : ℕ) (w : List ℕ) (p : Bool) (b f : Forest Item) → AreWellNamed above b → AreWellNamed above f → AreWellNamed above (glue x y w p b f)
+named-glue : (above : List NamespaceDecl) (x y : ℕ) (w : List ℕ) (p : Bool) (b f : Forest Item) → AreWellNamed above b → AreWellNamed above f → AreWellNamed above (glue x y w p b f)
 named-glue above x y w p b Nil h k = (tt, h, k)
 named-glue above x y w p b (Cons (Text x' y' w' p') d r) h (u, k, l) = (tt, named-join above b d h k, l)
 named-glue above x y w p b (Cons (Element x' y' t) d r) h k = (tt, h, k)
 named-glue above x y w p b (Cons (Comment x' y' t) d r) h k = (tt, h, k)
 named-glue above x y w p b (Cons (PI x' y' t o) d r) h k = (tt, h, k)
 
-pub named-merge : (above : List Declaration) (f : Forest Item) → AreWellNamed above f → AreWellNamed above (merge f)
+pub named-merge : (above : List NamespaceDecl) (f : Forest Item) → AreWellNamed above f → AreWellNamed above (merge f)
 named-merge above Nil h = h
 named-merge above (Cons (Text x y w p) c r) (u, h, k) = named-glue above x y w p c (merge r) h (named-merge above r k)
 named-merge above (Cons (Element x y t) c r) (u, h, k) = (u, h, named-merge above r k)
 named-merge above (Cons (Comment x y t) c r) (u, h, k) = (u, h, named-merge above r k)
 named-merge above (Cons (PI x y t o) c r) (u, h, k) = (u, h, named-merge above r k)
 
-glue-named : (above : List Declaration) (x y : ℕ) (w : List ℕ) (p : Bool) (b f : Forest Item) → AreWellNamed above (glue x y w p b f) → AreWellNamed above b × AreWellNamed above f
+glue-named : (above : List NamespaceDecl) (x y : ℕ) (w : List ℕ) (p : Bool) (b f : Forest Item) → AreWellNamed above (glue x y w p b f) → AreWellNamed above b × AreWellNamed above f
 glue-named above x y w p b Nil (u, h, k) = (h, k)
 glue-named above x y w p b (Cons (Text x' y' w' p') d r) (u, h, k) = (named-left above b d h, (tt, named-right above b d h, k))
 glue-named above x y w p b (Cons (Element x' y' t) d r) (u, h, k) = (h, k)
 glue-named above x y w p b (Cons (Comment x' y' t) d r) (u, h, k) = (h, k)
 glue-named above x y w p b (Cons (PI x' y' t o) d r) (u, h, k) = (h, k)
 
-pub merge-named : (above : List Declaration) (f : Forest Item) → AreWellNamed above (merge f) → AreWellNamed above f
+pub merge-named : (above : List NamespaceDecl) (f : Forest Item) → AreWellNamed above (merge f) → AreWellNamed above f
 merge-named above Nil h = h
 merge-named above (Cons (Text x y w p) c r) h = let k = glue-named above x y w p c (merge r) h in (tt, k.0, merge-named above r k.1)
 merge-named above (Cons (Element x y t) c r) (u, h, k) = (u, h, merge-named above r k)

@@ -12,7 +12,7 @@ use Rattle.rox_grammar.specs.Forest.{Forest, Nil}
 use Rattle.rox_grammar.specs.Written.{Item}
 use Rattle.rox_grammar.specs.Names.{spaces_end}
 use Rattle.rox_grammar.specs.Constructs.{at}
-use Rattle.rox_grammar.specs.Start.{after_bom}
+use Rattle.rox_grammar.specs.TextStart.{after_bom}
 use Rattle.rox_grammar.specs.Entities.{Replacement}
 use Rattle.rox_grammar.specs.Doctype.{Request, Asked, entry}
 use Rattle.rox_grammar.specs.State.{root}
@@ -21,7 +21,7 @@ use Rattle.rox_reading.specs.State.{State}
 use Rattle.rox_reading.specs.Lexical.{byte_at}
 use Rattle.rox_reading.specs.Machine.{at_place}
 use Rattle.rox_reading.specs.Doctype.{Reply, Asks, Dtd, replies_of, with_state, EntityHead, entity_head_at, inner, outer, definition_at, answer_text, entity_step, subset, doctype_head_at, doctype_step}
-use Rattle.rox_reading.specs.Whole.{misc, body, finished, prolog, doctype, reading}
+use Rattle.rox_reading.specs.WholeText.{misc, body, finished, prolog, doctype, reading}
 use Rattle.rox_reading.specs.Answering.{left_with, Answered, Yields, with_refusal, Stops}
 
 -- ---- a declaration of an entity

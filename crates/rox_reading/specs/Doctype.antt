@@ -3,14 +3,14 @@ use Rattle.std.specs.Prelude.{ℕ, zero, suc, ◌+◌, ◌==◌, ◌||◌, Bool,
 use Rattle.rox_grammar.specs.declared.fault.Fault.TheVariants as fault
 use Rattle.rox_grammar.specs.declared.fault.Due.TheVariants as due
 use Rattle.rox_grammar.specs.declared.fault.Word.TheVariants as word
-use Rattle.rox_grammar.specs.Marks.{byte_from}
+use Rattle.rox_grammar.specs.Search.{byte_from}
 use Rattle.rox_grammar.specs.Names.{spaces_end}
 use Rattle.rox_grammar.specs.Constructs.{at}
-use Rattle.rox_grammar.specs.Start.{after_bom}
+use Rattle.rox_grammar.specs.TextStart.{after_bom}
 use Rattle.rox_grammar.specs.Entities.{Replacement, Entity}
 use Rattle.rox_grammar.specs.Doctype.{Request, Asked, entry}
 use Rattle.rox_reading.specs.Lexical.{Read, ◌>>=◌, byte_at, space_at, quote_at, name_at}
-use Rattle.rox_reading.specs.Markup.{declaration_at}
+use Rattle.rox_reading.specs.Markup.{xml_decl_at}
 use Rattle.rox_reading.specs.Refusals.{Refusal, here, refused, lifted, elsewhere}
 use Rattle.rox_reading.specs.State.{State}
 use Rattle.rox_reading.specs.Machine.{comment_step, instruction_step, at_place}
@@ -111,7 +111,7 @@ entity_head_at src i =
 unfoldable pub answer_text : Option (List ℕ) → Result (Option Replacement) Refusal
 answer_text None = Ok None
 answer_text (Some t) =
-    elsewhere t (lifted (if at word.DeclarationStart t (after_bom t) then declaration_at t (after_bom t) else Ok (tt, after_bom t))) >>= λ x.
+    elsewhere t (lifted (if at word.XmlDeclStart t (after_bom t) then xml_decl_at t (after_bom t) else Ok (tt, after_bom t))) >>= λ x.
     Ok (Some (record { source = drop x.1 t; start = 0 }))
 
 -- ---- what asks
@@ -149,8 +149,8 @@ entity_step src d =
     asks_nothing (Ok (record { state = at_place end.1 d.state; entities = d.entities ++ entry head.0.name text.0; replies = text.1 }))
 
 -- a declaration that is passed over, of the document type declaration that begins at i
-unfoldable pub passed_over : ℕ → List ℕ → Dtd → Asks Dtd
-passed_over i src d =
+unfoldable pub skipped_declaration : ℕ → List ℕ → Dtd → Asks Dtd
+skipped_declaration i src d =
     let e = byte_from (λ c. c == 62) src d.state.at in
     if nat_lt e (length src) then ([], Ok (record { state = at_place (e + 1) d.state; entities = d.entities; replies = d.replies }))
     else ([], Err (here (fault.UnknownToken i)))
@@ -177,7 +177,7 @@ subset limit i (suc n) src d =
     else if at word.CommentStart src s.at then (asks_nothing (lifted (comment_step limit src s)) >>> λ t. subset limit i n src (with_state d t))
     else if at word.PIStart src s.at then (asks_nothing (lifted (instruction_step limit src s)) >>> λ t. subset limit i n src (with_state d t))
     else if at word.ElementStart src s.at || (at word.AttlistStart src s.at || at word.NotationStart src s.at) then
-    (passed_over i src (with_state d s) >>> λ e. subset limit i n src e)
+    (skipped_declaration i src (with_state d s) >>> λ e. subset limit i n src e)
     else if slice_index src s.at == 93 then subset_end src (with_state d s)
     else ([], Err (here (fault.UnknownToken s.at))))
 

@@ -6,5 +6,5 @@ pub mod State
 pub mod Tags
 pub mod Machine
 pub mod Doctype
-pub mod Whole
+pub mod WholeText
 pub mod Answering

@@ -9,20 +9,20 @@ use Rattle.rox_grammar.specs.declared.fault.Word.TheVariants as word
 use Rattle.rox_grammar.specs.Forest.{Forest, Nil, Cons, join}
 use Rattle.rox_grammar.specs.Written.{Name, Tag, Item, Element, Text, Comment, PI, merge, leaf, local_span}
 use Rattle.rox_grammar.specs.Constructs.{at}
-use Rattle.rox_grammar.specs.Content.{is_plain, literals, line_ends}
+use Rattle.rox_grammar.specs.Content.{is_verbatim, literals, line_ends}
 use Rattle.rox_grammar.specs.Document.{distinct_pairs}
-use Rattle.rox_grammar.specs.Entities.{Replacement, Entity, most_open}
+use Rattle.rox_grammar.specs.Entities.{Replacement, Entity, most_deep}
 use Rattle.rox_reading.specs.Lexical.{◌>>=◌}
 use Rattle.rox_reading.specs.Refusals.{Refusal, here, lifted, elsewhere}
 use Rattle.rox_reading.specs.Markup.{comment_at, instruction_at, cdata_at, end_tag_at}
-use Rattle.rox_reading.specs.Values.{Next, at_end, opening, run_part, part_text, raw_run_at, ValueOpener, value_text}
+use Rattle.rox_reading.specs.Values.{Next, at_end, opening, data_part, part_text, raw_character_data_at, ValueInclusion, value_text}
 use Rattle.rox_reading.specs.Tags.{Values, tag_at}
 use Rattle.rox_grammar.specs.State.{Open, root, inside, is_root, scope_of, nodes_so_far, attributes_so_far, pairs_so_far}
 use Rattle.rox_reading.specs.State.{State, depth_of}
 
 -- how a text is read: the limit, how values are, whether it is the main text, how many elements are open around it, and how a
 -- replacement text is read, behind whose reference this place is
-pub record How : Type 0 where
+pub record Context : Type 0 where
   pub limit : ℕ
   pub values : Values
   pub base : ℕ
@@ -56,22 +56,22 @@ abbrev pub at_place : ℕ → State → State
 at_place j s = record { at = j; done = s.done; stack = s.stack; left = s.left }
 
 -- after a part, with what reads the parts from the state behind a reference
-abbrev pub after_part : How → (State → Result State Refusal) → ℕ → State → Next → Result State Refusal
+abbrev pub after_part : Context → (State → Result State Refusal) → ℕ → State → Next → Result State Refusal
 after_part how more stop s at_end = Ok (at_place stop s)
 after_part how more stop s (opening t j) = how.opener t j s >>= more
 
 -- the parts of the run from start up to stop, from the state's place on; the number bounds them
-unfoldable pub run_parts : How → ℕ → List ℕ → (start stop : ℕ) → State → Result State Refusal
-run_parts how zero src start stop s = Ok (at_place stop s)
-run_parts how (suc n) src start stop s =
-    lifted (run_part how.values.main how.values.entities (stop - s.at) src stop s.at) >>= λ x.
-    lifted (with_piece how.limit s start stop (part_text how.values.main x.0)) >>= λ t. after_part how (λ u. run_parts how n src start stop u) stop t x.1
+unfoldable pub data_parts : Context → ℕ → List ℕ → (start stop : ℕ) → State → Result State Refusal
+data_parts how zero src start stop s = Ok (at_place stop s)
+data_parts how (suc n) src start stop s =
+    lifted (data_part how.values.main how.values.entities (stop - s.at) src stop s.at) >>= λ x.
+    lifted (with_piece how.limit s start stop (part_text how.values.main x.0)) >>= λ t. after_part how (λ u. data_parts how n src start stop u) stop t x.1
 
 -- a run: a slice of the source where it has no `&` and no CR
-unfoldable pub run_step : How → List ℕ → State → Result State Refusal
-run_step how src s =
-    lifted (raw_run_at src s.at) >>= λ x.
-    if is_plain x.0 then lifted (with_item how.limit s x.1 (Text s.at x.1 x.0 true)) else run_parts how (length src) src s.at x.1 s
+unfoldable pub character_data_step : Context → List ℕ → State → Result State Refusal
+character_data_step how src s =
+    lifted (raw_character_data_at src s.at) >>= λ x.
+    if is_verbatim x.0 then lifted (with_item how.limit s x.1 (Text s.at x.1 x.0 true)) else data_parts how (length src) src s.at x.1 s
 
 -- a tag that is cut off by the end of the text right behind its name or an attribute
 abbrev pub cut_off : (main : Bool) → Open → Fault
@@ -83,7 +83,7 @@ abbrev pub opened_by : ℕ → State → Tag → Bool → ℕ → ℕ → Result
 opened_by limit s t true left j = with_item limit (record { at = s.at; done = s.done; stack = s.stack; left = left }) j (Element s.at j t)
 opened_by limit s t false left j = counted limit (record { at = j; done = Nil; stack = inside s.at t s.done s.stack; left = left })
 
-unfoldable pub tag_step : How → List ℕ → State → Result State Refusal
+unfoldable pub tag_step : Context → List ℕ → State → Result State Refusal
 tag_step how src s =
     tag_at how.values (cut_off how.values.main s.stack) (scope_of s.stack) (attributes_so_far s.stack s.done) (distinct_pairs (pairs_so_far s.stack s.done)) src s.at s.left
     >>= λ x. lifted (opened_by how.limit s x.0.tag x.0.empty x.0.left x.1)
@@ -92,26 +92,26 @@ tag_step how src s =
 abbrev pub name_span : Name → ℕ → ℕ → Span
 name_span name i n = if bytes_eq name.prefix [] then local_span name n else record { start = i; end = n }
 
-abbrev pub same_name : Name → Name → Bool
-same_name m n = bytes_eq m.prefix n.prefix && bytes_eq m.local n.local
+abbrev pub same_qname : Name → Name → Bool
+same_qname m n = bytes_eq m.prefix n.prefix && bytes_eq m.local n.local
 
 -- an end tag of this name, which ends at n, from i to j
 unfoldable pub closed_by : ℕ → Name → ℕ → ℕ → Forest Item → Open → ℕ → Result State Fault
 closed_by i name n j done root left = Err (fault.UnexpectedEntityCloseTag i)
 closed_by i name n j done (inside start tag before up) left =
-    if same_name tag.name name then Ok (record { at = j; done = join before (Cons (Element start j tag) (merge done) Nil); stack = up; left = left })
+    if same_qname tag.name name then Ok (record { at = j; done = join before (Cons (Element start j tag) (merge done) Nil); stack = up; left = left })
     else Err (fault.UnexpectedCloseTag (name_span tag.name (start + 1) tag.name_end) (name_span name (i + 2) n) i)
 
 -- it closes no element that was open before the text
-unfoldable pub end_step : How → List ℕ → State → Result State Fault
+unfoldable pub end_step : Context → List ℕ → State → Result State Fault
 end_step how src s =
     end_tag_at src s.at >>= λ x.
     if nat_le (depth_of s.stack) how.base then Err (fault.UnexpectedEntityCloseTag s.at) else closed_by s.at x.0.name x.0.name_end x.1 s.done s.stack s.left
 
 -- one construct of content
-unfoldable pub step : How → List ℕ → State → Result State Refusal
+unfoldable pub step : Context → List ℕ → State → Result State Refusal
 step how src s =
-    if not (slice_index src s.at == 60) then run_step how src s
+    if not (slice_index src s.at == 60) then character_data_step how src s
     else if nat_le (length src) (s.at + 1) then Err (here (fault.UnknownToken s.at))
     else if slice_index src (s.at + 1) == 33 then
     (if at word.CommentStart src s.at then lifted (comment_step how.limit src s)
@@ -122,7 +122,7 @@ step how src s =
     else tag_step how src s
 
 -- content of the main text up to the end tag of the root element; the number bounds the steps
-unfoldable pub drive : How → ℕ → List ℕ → State → Result State Refusal
+unfoldable pub drive : Context → ℕ → List ℕ → State → Result State Refusal
 drive how zero src s = if is_root s.stack then Ok s else Err (here fault.UnclosedRootNode)
 drive how (suc n) src s =
     if is_root s.stack then Ok s
@@ -130,11 +130,11 @@ drive how (suc n) src s =
     else Err (here fault.UnclosedRootNode)
 
 -- a replacement text ends where no element is open that it opened
-abbrev pub text_ends : How → State → Result State Refusal
+abbrev pub text_ends : Context → State → Result State Refusal
 text_ends how s = if depth_of s.stack == how.base then Ok s else Err (here fault.UnexpectedEndOfStream)
 
 -- content of a replacement text up to its end; the number bounds the steps
-unfoldable pub drive_text : How → ℕ → List ℕ → State → Result State Refusal
+unfoldable pub drive_text : Context → ℕ → List ℕ → State → Result State Refusal
 drive_text how zero src s = text_ends how s
 drive_text how (suc n) src s = if nat_lt s.at (length src) then (step how src s >>= λ t. drive_text how n src t) else text_ends how s
 
@@ -152,7 +152,7 @@ left_behind true before inner = before
 left_behind false before inner = inner
 
 -- a replacement text as a part of a value, where so many may still be open within one another
-unfoldable pub value_opener : List Entity → (deep : ℕ) → (main : Bool) → ValueOpener
+unfoldable pub value_opener : List Entity → (deep : ℕ) → (main : Bool) → ValueInclusion
 value_opener es zero main t after left = Err (here (fault.EntityReferenceLoop after))
 value_opener es (suc d) main t after left =
     lifted (budget main after left) >>= λ r.
@@ -172,5 +172,5 @@ opener limit es (suc d) main t after s =
     Ok (record { at = after; done = u.done; stack = u.stack; left = left_behind main s.left u.left })
 
 -- the main text
-abbrev pub main_text : ℕ → List Entity → How
-main_text limit es = record { limit = limit; values = values_of es most_open true; base = 0; opener = opener limit es most_open true }
+abbrev pub main_text : ℕ → List Entity → Context
+main_text limit es = record { limit = limit; values = values_of es most_deep true; base = 0; opener = opener limit es most_deep true }

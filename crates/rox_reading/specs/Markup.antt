@@ -5,8 +5,8 @@ use Rattle.rox_grammar.specs.declared.fault.Fault.TheVariants.{InvalidChar2, Inv
 use Rattle.rox_grammar.specs.declared.fault.Word.{Word}
 use Rattle.rox_grammar.specs.declared.fault.Word.TheVariants as word
 use Rattle.rox_grammar.specs.Chars.{is_space}
-use Rattle.rox_grammar.specs.Words.{word_text}
-use Rattle.rox_grammar.specs.Marks.{stands, byte_from}
+use Rattle.rox_grammar.specs.FixedTexts.{word_text}
+use Rattle.rox_grammar.specs.Search.{stands, byte_from}
 use Rattle.rox_grammar.specs.Written.{Name}
 use Rattle.rox_grammar.specs.Tree.{none_if_empty}
 use Rattle.rox_grammar.specs.Names.{spaces_end}
@@ -26,7 +26,7 @@ pub record Instruction : Type 0 where
 -- from `<?`
 unfoldable pub instruction_at : List ℕ → ℕ → Read Instruction
 instruction_at src i =
-    if stands (word_text word.DeclarationStart) src i then Err (UnexpectedDeclaration i)
+    if stands (word_text word.XmlDeclStart) src i then Err (UnexpectedDeclaration i)
     else name_at src (i + 2) >>= λ target. text_to word.PIEnd src (spaces_end src target.1) >>= λ value. Ok (record { target = target.0; value = none_if_empty value.0 }, value.1)
 
 -- from `<![CDATA[`
@@ -67,8 +67,8 @@ pair_if w src i =
     if stands (word_text w) src i then (pair_at src i >>= λ x. gap_at src x.1) else Ok (tt, i)
 
 -- from `<?xml`
-unfoldable pub declaration_at : List ℕ → ℕ → Read (Unit {0})
-declaration_at src i =
+unfoldable pub xml_decl_at : List ℕ → ℕ → Read (Unit {0})
+xml_decl_at src i =
     if stands (word_text word.Version) src (spaces_end src (i + 5)) then
     (pair_if word.Version src (spaces_end src (i + 5)) >>= λ version. pair_if word.Encoding src version.1 >>= λ encoding.
     (if stands (word_text word.Standalone) src encoding.1 then pair_at src encoding.1 else Ok (tt, encoding.1)) >>= λ standalone.
@@ -100,14 +100,14 @@ attribute_at src i = do
   Ok (record { start = i; name = name.0; name_end = name.1; value_start = quote.1; value_end = value.1 }, done.1)
 
 -- what a start tag holds next
-pub data Turn : Type 0 where
-  more : RawAttribute → Turn
-  opened : Turn
-  closed : Turn
+pub data TagItem : Type 0 where
+  more : RawAttribute → TagItem
+  opened : TagItem
+  closed : TagItem
 
 -- white space, then an attribute or the end of the tag
-unfoldable pub turn_at : List ℕ → ℕ → Read Turn
-turn_at src i =
+unfoldable pub tag_item_at : List ℕ → ℕ → Read TagItem
+tag_item_at src i =
     let j = spaces_end src i in
     if nat_le (length src) j then Err UnexpectedEndOfStream
     else if slice_index src j == 47 then (byte_at 62 src (j + 1) >>= λ x. Ok (closed, x.1))

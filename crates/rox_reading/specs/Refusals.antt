@@ -12,10 +12,10 @@ pub data Refusal : Type 0 where
   refused : Request → ℕ → (message : List ℕ) → Refusal
 
 -- it says what is wrong with the text, and is not the resolver's own
-abbrev pub SpeaksOfText : Refusal → Type 0
-SpeaksOfText (here f) = Unit {0}
-SpeaksOfText (there source f) = Unit {0}
-SpeaksOfText (refused request at message) = ⊥
+abbrev pub IsTextRefusal : Refusal → Type 0
+IsTextRefusal (here f) = Unit {0}
+IsTextRefusal (there source f) = Unit {0}
+IsTextRefusal (refused request at message) = ⊥
 
 -- of what opens no entity
 abbrev pub lifted : {A : Type 0} → Result A Fault → Result A Refusal

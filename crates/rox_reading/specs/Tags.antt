@@ -4,20 +4,20 @@ use Rattle.std.specs.List.{list_any}
 use Rattle.rox_grammar.specs.declared.fault.Fault.{Fault}
 use Rattle.rox_grammar.specs.declared.fault.Fault.TheVariants as fault
 use Rattle.rox_grammar.specs.declared.fault.Word.TheVariants as word
-use Rattle.rox_grammar.specs.Words.{word_text}
-use Rattle.rox_grammar.specs.Written.{Name, Attribute, Declaration, Tag, declares, declaration_of, local_span, prefix_span}
+use Rattle.rox_grammar.specs.FixedTexts.{word_text}
+use Rattle.rox_grammar.specs.Written.{Name, Attribute, NamespaceDecl, Tag, is_namespace_decl, namespace_decl_of, local_span, prefix_span}
 use Rattle.rox_grammar.specs.Tree.{xml_uri, xmlns_uri, is_declared, listed}
 use Rattle.rox_grammar.specs.WellNamed.{is_known, same_expanded, may_name}
 use Rattle.rox_grammar.specs.Document.{listable_of, with_new, most_pairs, most_attributes}
 use Rattle.rox_reading.specs.Lexical.{◌>>=◌, qname_at}
-use Rattle.rox_reading.specs.Markup.{RawAttribute, Turn, more, opened, closed, turn_at}
+use Rattle.rox_reading.specs.Markup.{RawAttribute, TagItem, more, opened, closed, tag_item_at}
 use Rattle.rox_grammar.specs.Entities.{Entity}
 use Rattle.rox_reading.specs.Refusals.{Refusal, here, lifted}
-use Rattle.rox_reading.specs.Values.{RunText, ValueOpener, value_at}
+use Rattle.rox_reading.specs.Values.{ReadText, ValueInclusion, value_at}
 
 -- what a tag holds so far
-pub record Held : Type 0 where
-  pub own : List Declaration
+pub record TagSoFar : Type 0 where
+  pub own : List NamespaceDecl
   pub attributes : List Attribute
 
 -- a declaration with the prefix `xmlns`: its URI
@@ -39,21 +39,21 @@ abbrev pub uri_tested : Attribute → Result (Unit {0}) Fault
 uri_tested a = if bytes_eq a.name.prefix (word_text word.Xmlns) then prefix_tested a else default_tested a
 
 -- a declaration, where these pairs are known before the tag
-unfoldable pub declared : List Declaration → Attribute → Held → Result Held Fault
+unfoldable pub declared : List NamespaceDecl → Attribute → TagSoFar → Result TagSoFar Fault
 declared known a h =
     uri_tested a >>= λ _.
-    if is_declared (declaration_of a).prefix h.own then Err (fault.DuplicatedNamespace (local_span a.name a.name_end) a.start)
-    else if nat_lt most_pairs (length (with_new known (listable_of (h.own ++ declaration_of a ∷ [])))) then Err fault.NamespacesLimitReached
-    else Ok (record { own = h.own ++ declaration_of a ∷ []; attributes = h.attributes })
+    if is_declared (namespace_decl_of a).prefix h.own then Err (fault.DuplicatedNamespace (local_span a.name a.name_end) a.start)
+    else if nat_lt most_pairs (length (with_new known (listable_of (h.own ++ namespace_decl_of a ∷ [])))) then Err fault.NamespacesLimitReached
+    else Ok (record { own = h.own ++ namespace_decl_of a ∷ []; attributes = h.attributes })
 
 -- one attribute as written
-abbrev pub taken : List Declaration → Attribute → Held → Result Held Fault
+abbrev pub taken : List NamespaceDecl → Attribute → TagSoFar → Result TagSoFar Fault
 taken known a h =
-    if declares a.name then declared known a h
+    if is_namespace_decl a.name then declared known a h
     else Ok (record { own = h.own; attributes = h.attributes ++ a ∷ [] })
 
 -- an attribute with its value
-abbrev pub attribute_with : RawAttribute → RunText → Attribute
+abbrev pub attribute_with : RawAttribute → ReadText → Attribute
 attribute_with raw v =
     record { start = raw.start; name_end = raw.name_end; value_start = raw.value_start; end = raw.value_end + 1; name = raw.name; value = v.value; borrowed = v.plain }
 
@@ -61,32 +61,32 @@ attribute_with raw v =
 pub record Values : Type 0 where
   pub main : Bool
   pub entities : List Entity
-  pub opener : ValueOpener
+  pub opener : ValueInclusion
 
 -- what a tag holds, whether it is empty, and how many replacement texts may be opened after it
 pub record TagRest : Type 0 where
-  pub held : Held
+  pub held : TagSoFar
   pub empty : Bool
   pub left : ℕ
 
 -- after a turn that ends at j, with what reads the attributes from there
-abbrev pub after_turn : (ℕ → ℕ → Held → Result (TagRest × ℕ) Refusal) → Values → List Declaration → List ℕ → ℕ → Held → Turn → ℕ → Result (TagRest × ℕ) Refusal
-after_turn next how known src left h (more raw) j =
+abbrev pub after_tag_item : (ℕ → ℕ → TagSoFar → Result (TagRest × ℕ) Refusal) → Values → List NamespaceDecl → List ℕ → ℕ → TagSoFar → TagItem → ℕ → Result (TagRest × ℕ) Refusal
+after_tag_item next how known src left h (more raw) j =
     value_at how.main how.entities how.opener src raw.value_start raw.value_end left >>= λ v.
     lifted (taken known (attribute_with raw v.0) h) >>= λ held. next j v.1 held
-after_turn next how known src left h opened j = Ok (record { held = h; empty = false; left = left }, j)
-after_turn next how known src left h closed j = Ok (record { held = h; empty = true; left = left }, j)
+after_tag_item next how known src left h opened j = Ok (record { held = h; empty = false; left = left }, j)
+after_tag_item next how known src left h closed j = Ok (record { held = h; empty = true; left = left }, j)
 
 -- attributes and declarations, and whether the tag is empty. The number bounds them; a tag that is cut off right behind
 -- its name or an attribute is refused by this fault.
-unfoldable pub attributes_at : ℕ → Values → Fault → List Declaration → List ℕ → ℕ → ℕ → Held → Result (TagRest × ℕ) Refusal
+unfoldable pub attributes_at : ℕ → Values → Fault → List NamespaceDecl → List ℕ → ℕ → ℕ → TagSoFar → Result (TagRest × ℕ) Refusal
 attributes_at zero how cut known src i left h = Err (here cut)
 attributes_at (suc n) how cut known src i left h =
     if nat_le (length src) i then Err (here cut)
-    else lifted (turn_at src i) >>= λ x. after_turn (λ j l held. attributes_at n how cut known src j l held) how known src left h x.0 x.1
+    else lifted (tag_item_at src i) >>= λ x. after_tag_item (λ j l held. attributes_at n how cut known src j l held) how known src left h x.0 x.1
 
 -- each prefix is known, and no expanded name comes twice; the first list holds those that are tested
-unfoldable pub names_tested : List Declaration → List Attribute → List Attribute → Result (Unit {0}) Fault
+unfoldable pub names_tested : List NamespaceDecl → List Attribute → List Attribute → Result (Unit {0}) Fault
 names_tested scope before [] = Ok tt
 names_tested scope before (a ∷ as') =
     if not (is_known scope a.name) then Err (fault.UnknownNamespace (prefix_span a.name a.start) a.start)
@@ -94,14 +94,14 @@ names_tested scope before (a ∷ as') =
     else names_tested scope (before ++ a ∷ []) as'
 
 -- the names of a tag, whose own stands at this place, with so many attributes before it, in this scope
-abbrev pub tested_at : List Declaration → (count at : ℕ) → Name → List Attribute → Result (Unit {0}) Fault
+abbrev pub tested_at : List NamespaceDecl → (count at : ℕ) → Name → List Attribute → Result (Unit {0}) Fault
 tested_at scope count at name as' =
     if nat_lt most_attributes (count + length as') then Err fault.AttributesLimitReached
     else names_tested scope [] as' >>= λ _.
     if may_name scope name then Ok tt else Err (fault.UnknownNamespace (prefix_span name at) at)
 
 -- the same of a tag that begins at i, of an element that lists this scope
-unfoldable pub tag_tested : List Declaration → ℕ → ℕ → Name → List Attribute → Result (Unit {0}) Fault
+unfoldable pub tag_tested : List NamespaceDecl → ℕ → ℕ → Name → List Attribute → Result (Unit {0}) Fault
 tag_tested scope count i name as' = tested_at scope count (i + 1) name as'
 
 pub record TagRead : Type 0 where
@@ -110,7 +110,7 @@ pub record TagRead : Type 0 where
   pub left : ℕ
 
 -- a start tag, from its `<`; above is what the parent lists
-unfoldable pub tag_at : Values → Fault → List Declaration → ℕ → List Declaration → List ℕ → ℕ → ℕ → Result (TagRead × ℕ) Refusal
+unfoldable pub tag_at : Values → Fault → List NamespaceDecl → ℕ → List NamespaceDecl → List ℕ → ℕ → ℕ → Result (TagRead × ℕ) Refusal
 tag_at how cut above count known src i left =
     lifted (qname_at src (i + 1)) >>= λ name.
     if bytes_eq name.0.prefix (word_text word.Xmlns) then Err (here (fault.InvalidElementNamePrefix (i + 1)))

@@ -5,13 +5,13 @@ use Rattle.rox_grammar.specs.declared.fault.Fault.{Fault}
 use Rattle.rox_grammar.specs.declared.fault.Span.{Span}
 use Rattle.rox_grammar.specs.declared.fault.Fault.TheVariants.{MalformedEntityReference, UnknownEntityReference, InvalidCharacterData, InvalidAttributeValue}
 use Rattle.rox_grammar.specs.declared.fault.Word.TheVariants as word
-use Rattle.rox_grammar.specs.Words.{word_text}
+use Rattle.rox_grammar.specs.FixedTexts.{word_text}
 use Rattle.rox_grammar.specs.Chars.{is_name_start, is_name_char, is_char}
 use Rattle.rox_grammar.specs.Runs.{run_end, begins}
-use Rattle.rox_grammar.specs.Marks.{byte_from}
+use Rattle.rox_grammar.specs.Search.{byte_from}
 use Rattle.rox_grammar.specs.Constructs.{has_mark}
 use Rattle.rox_grammar.specs.References.{is_digit, is_hex_digit, number, bytes_end, character, predefined}
-use Rattle.rox_grammar.specs.Content.{is_plain_value, literals, line_ends, value_bytes}
+use Rattle.rox_grammar.specs.Content.{is_verbatim_value, literals, line_ends, value_bytes}
 use Rattle.rox_grammar.specs.Entities.{Replacement, Entity, text_of}
 use Rattle.rox_reading.specs.Refusals.{Refusal, lifted}
 use Rattle.rox_reading.specs.Lexical.{Read, ◌>>=◌, chars_up_to}
@@ -57,21 +57,21 @@ pub data Bit : Type 0 where
   bytes_of : List ℕ → Bit
   opens : Replacement → Bit
 
-abbrev pub found : Option Replacement → ℕ → Span → Result Bit Fault
-found None i span = Err (UnknownEntityReference span i)
-found (Some t) i span = Ok (opens t)
+abbrev pub entity_bit : Option Replacement → ℕ → Span → Result Bit Fault
+entity_bit None i span = Err (UnknownEntityReference span i)
+entity_bit (Some t) i span = Ok (opens t)
 
 -- what a reference at i stands for
-abbrev pub expanded : List Entity → List ℕ → ℕ → Reference → Result Bit Fault
-expanded es src i (character_of c) = Ok (bytes_of (encode_utf8 c))
-expanded es src i (entity_at span) = found (text_of es (slice_range src span.start span.end)) i span
+abbrev pub reference_bit : List Entity → List ℕ → ℕ → Reference → Result Bit Fault
+reference_bit es src i (character_of c) = Ok (bytes_of (encode_utf8 c))
+reference_bit es src i (entity_at span) = entity_bit (text_of es (slice_range src span.start span.end)) i span
 
 unfoldable pub expansion_at : List Entity → List ℕ → ℕ → Read Bit
-expansion_at es src i = reference_at src i >>= λ r. expanded es src i r.0 >>= λ bit. Ok (bit, r.1)
+expansion_at es src i = reference_at src i >>= λ r. reference_bit es src i r.0 >>= λ bit. Ok (bit, r.1)
 
 -- In a run: a reference, a line end, or all bytes up to the next `&` or CR. Within a replacement text line ends are left to the whole part.
-unfoldable pub run_bit_at : (main : Bool) → List Entity → List ℕ → ℕ → ℕ → Read Bit
-run_bit_at main es src stop i =
+unfoldable pub data_bit_at : (main : Bool) → List Entity → List ℕ → ℕ → ℕ → Read Bit
+data_bit_at main es src stop i =
     if slice_index src i == 38 then expansion_at es src i
     else if main then
     (if slice_index src i == 13 then Ok (bytes_of (10 ∷ []), if slice_index (take stop src) (i + 1) == 10 then i + 2 else i + 1)
@@ -88,10 +88,10 @@ after_bit more (bytes_of bs) j = more j >>= λ rest. Ok (bs ++ rest.0, rest.1)
 after_bit more (opens t) j = Ok ([], opening t j)
 
 -- the part of a run from i on; the number bounds its bits
-unfoldable pub run_part : (main : Bool) → List Entity → ℕ → List ℕ → ℕ → ℕ → Result (List ℕ × Next) Fault
-run_part main es zero src stop i = Ok ([], at_end)
-run_part main es (suc n) src stop i =
-    if nat_lt i stop then (run_bit_at main es src stop i >>= λ x. after_bit (λ j. run_part main es n src stop j) x.0 x.1) else Ok ([], at_end)
+unfoldable pub data_part : (main : Bool) → List Entity → ℕ → List ℕ → ℕ → ℕ → Result (List ℕ × Next) Fault
+data_part main es zero src stop i = Ok ([], at_end)
+data_part main es (suc n) src stop i =
+    if nat_lt i stop then (data_bit_at main es src stop i >>= λ x. after_bit (λ j. data_part main es n src stop j) x.0 x.1) else Ok ([], at_end)
 
 -- its text
 abbrev pub part_text : (main : Bool) → List ℕ → List ℕ
@@ -99,13 +99,13 @@ part_text true bs = bs
 part_text false bs = line_ends (literals bs)
 
 -- a run, up to the next `<` or the end, tested for Chars and `]]>`
-unfoldable pub raw_run_at : List ℕ → ℕ → Read (List ℕ)
-raw_run_at src i =
+unfoldable pub raw_character_data_at : List ℕ → ℕ → Read (List ℕ)
+raw_character_data_at src i =
     let end = byte_from (λ c. c == 60) src i in
     chars_up_to end src i >>= λ raw.
     if has_mark (word_text word.CDataEnd) raw.0 then Err (InvalidCharacterData end) else Ok (raw.0, end)
 
-pub record RunText : Type 0 where
+pub record ReadText : Type 0 where
   pub value : List ℕ
   -- it is a slice of the source
   pub plain : Bool
@@ -121,7 +121,7 @@ tested_bit false i (character_of c) read = if c == 60 then Err (InvalidAttribute
 tested_bit false i (entity_at span) read = read
 
 unfoldable pub value_reference_at : (main : Bool) → List Entity → List ℕ → ℕ → Read Bit
-value_reference_at main es src i = reference_at src i >>= λ r. tested_bit main i r.0 (expanded es src i r.0) >>= λ bit. Ok (bit, r.1)
+value_reference_at main es src i = reference_at src i >>= λ r. tested_bit main i r.0 (reference_bit es src i r.0) >>= λ bit. Ok (bit, r.1)
 
 -- All bytes up to the next special one. Within a replacement text a `<`, or a character that is no Char, is a fault: the first of them.
 abbrev pub stretch_at : (main : Bool) → List ℕ → ℕ → ℕ → Read Bit
@@ -140,22 +140,22 @@ value_bit_at main es src stop i =
     else stretch_at main src stop i
 
 -- how a replacement text is read as a part of a value: the text, the place behind its reference, and how many may still be opened
-abbrev pub ValueOpener : Type 0
-ValueOpener = Replacement → ℕ → ℕ → Result (List ℕ × ℕ) Refusal
+abbrev pub ValueInclusion : Type 0
+ValueInclusion = Replacement → ℕ → ℕ → Result (List ℕ × ℕ) Refusal
 
-abbrev pub after_value_bit : ValueOpener → (ℕ → ℕ → Result (List ℕ × ℕ) Refusal) → ℕ → Bit → ℕ → Result (List ℕ × ℕ) Refusal
+abbrev pub after_value_bit : ValueInclusion → (ℕ → ℕ → Result (List ℕ × ℕ) Refusal) → ℕ → Bit → ℕ → Result (List ℕ × ℕ) Refusal
 after_value_bit opener more left (bytes_of bs) j = more j left >>= λ rest. Ok (bs ++ rest.0, rest.1)
 after_value_bit opener more left (opens t) j = opener t j left >>= λ x. more j x.1 >>= λ rest. Ok (x.0 ++ rest.0, rest.1)
 
 -- what the value's bytes from i up to stop stand for, and how many may be opened after it; the number bounds the bits
-unfoldable pub value_text : (main : Bool) → List Entity → ValueOpener → ℕ → List ℕ → ℕ → ℕ → ℕ → Result (List ℕ × ℕ) Refusal
+unfoldable pub value_text : (main : Bool) → List Entity → ValueInclusion → ℕ → List ℕ → ℕ → ℕ → ℕ → Result (List ℕ × ℕ) Refusal
 value_text main es opener zero src stop i left = Ok ([], left)
 value_text main es opener (suc n) src stop i left =
     if nat_lt i stop then (lifted (value_bit_at main es src stop i) >>= λ x. after_value_bit opener (λ j l. value_text main es opener n src stop j l) left x.0 x.1)
     else Ok ([], left)
 
 -- the value of an attribute that stands from i up to stop
-unfoldable pub value_at : (main : Bool) → List Entity → ValueOpener → List ℕ → ℕ → ℕ → ℕ → Result (RunText × ℕ) Refusal
+unfoldable pub value_at : (main : Bool) → List Entity → ValueInclusion → List ℕ → ℕ → ℕ → ℕ → Result (ReadText × ℕ) Refusal
 value_at main es opener src i stop left =
-    if is_plain_value (slice_range src i stop) then Ok (record { value = slice_range src i stop; plain = true }, left)
+    if is_verbatim_value (slice_range src i stop) then Ok (record { value = slice_range src i stop; plain = true }, left)
     else (value_text main es opener (stop - i) src stop i left >>= λ x. Ok (record { value = x.0; plain = false }, x.1))

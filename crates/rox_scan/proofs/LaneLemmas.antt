@@ -6,7 +6,7 @@ use Rattle.std.proofs.lemmas.Nat.{and_le_r}
 use Rattle.std.proofs.lemmas.Simd.{Each1-all, Each1-weaker, Each1-zip2, Each2-splat, below_from_Fits, length-zip2, swz_l, SwzOk, SwzOk-from_below, length-swz_l, get_or-swz_l_below, zip2_splat, zip2_of_maps, map-map, mask_l-mod, length-chunk, leading_from_mask_l, trailing_mask_l, run_in_chunk_fails, run_in_chunk_stops}
 use Rattle.std.proofs.lemmas.List.{get_or-map, ext_get_or, length-map}
 use Rattle.std.proofs.lemmas.Bool.{cases_lt, not-false, not-true}
-use Rattle.rox_scan.specs.Near.{AllPass}
+use Rattle.rox_scan.specs.ByteSets.{AllPass}
 use Rattle.rox_scan.proofs.TableLemmas.{agree_below, agree_at}
 use lib.Count.{count_trailing_zeros}
 use lib.Bits.{bit_and, bit_or}

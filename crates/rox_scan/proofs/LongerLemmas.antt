@@ -8,14 +8,14 @@ use Rattle.std.proofs.lemmas.Slice.Eq.{starts_is}
 use Rattle.std.proofs.lemmas.List.{drop_more, get_or_past, get_or-take, drop-drop, take-append-drop, drop-append-le}
 use Rattle.std.proofs.lemmas.List.Folds.{list_any-append}
 use Rattle.rox_grammar.specs.Constructs.{AreChars, has_mark, double_dash}
-use Rattle.rox_grammar.specs.Marks.{byte_from, mark_from, stands}
+use Rattle.rox_grammar.specs.Search.{byte_from, mark_from, stands}
 use Rattle.rox_grammar.specs.declared.fault.Word.TheVariants as word
-use Rattle.rox_grammar.specs.Words.{word_text}
+use Rattle.rox_grammar.specs.FixedTexts.{word_text}
 use Rattle.rox_reading.specs.Lexical.{chars_up_to, text_to, string_at}
 use Rattle.rox_reading.specs.Markup.{raw_value_at, comment_at}
 use Rattle.rox_reading.specs.Values.{is_special}
-use Rattle.rox_scan.specs.Near.{is_plain, AllPass, is_value_byte, is_text_byte, is_comment_byte}
-use Rattle.rox_scan.specs.Longer.{Looked, ends_value, ends_run, changes_run, ends_comment, changes_comment}
+use Rattle.rox_scan.specs.ByteSets.{is_char_byte, AllPass, is_value_byte, is_text_byte, is_comment_byte}
+use Rattle.rox_scan.specs.Lookahead.{IsLookahead, ends_value, ends_run, changes_run, ends_comment, changes_comment}
 use Rattle.rox_scan.proofs.NearLemmas.{near_chars, near_found, none_among, value_is_plain, value_cut, text_is_plain, text_cut, comment_is_plain, comment_cut}
 use Rattle.rox_scan.proofs.MarkLemmas.{before_mark_is, not_from_first, fails, stands_split, stands_from_split}
 use Rattle.rox_scan.proofs.CharLemmas.{chars_joined}
@@ -67,8 +67,8 @@ apart_from mark src k some apart = not_from_first mark src k some apart
 
 -- bytes that the first look passes
 pub near_looked : (p changes ends : ℕ → Bool) (src : List ℕ) (i e : ℕ) → IsUtf8 src → IsCharBoundary src i → i ≤ e → IsCharBoundary src e → AllPass p src i e
-    → ((b : ℕ) → p b ≡ true → is_plain b ≡ true) → ((b : ℕ) → p b ≡ true → changes b ≡ false) → ((k : ℕ) → p (get_or src k 0) ≡ true → ends k ≡ false)
-    → Looked ends changes src i e true
+    → ((b : ℕ) → p b ≡ true → is_char_byte b ≡ true) → ((b : ℕ) → p b ≡ true → changes b ≡ false) → ((k : ℕ) → p (get_or src k 0) ≡ true → ends k ≡ false)
+    → IsLookahead ends changes src i e true
 near_looked p changes ends src i e utf8 start le cut all plain same free = record {
   onward = le;
   cut = cut;
@@ -80,7 +80,7 @@ near_looked p changes ends src i e utf8 start le cut all plain same free = recor
 -- a character
 pub char_looked : (changes ends : ℕ → Bool) (src : List ℕ) (i j : ℕ) → i < j → IsCharBoundary src j → AreChars src i j → ((k : ℕ) → i < k → k < j → 128 ≤ get_or src k 0)
     → ((b : ℕ) → 128 ≤ b → changes b ≡ false) → ((k : ℕ) → 128 ≤ get_or src k 0 → ends k ≡ false) → ends i ≡ false
-    → Looked ends changes src i j (not (changes (get_or src i 0)))
+    → IsLookahead ends changes src i j (not (changes (get_or src i 0)))
 char_looked changes ends src i j some cut chars wide same free here =
     let none : list_any changes (slice_range src (i + 1) j) ≡ false =
     none_among (λ b. leb 128 b) changes src (i + 1) j (j - (i + 1)) (omega arith) cut.0 (λ k low high. le-leb 128 _ (wide k (omega arith) high)) (λ b h. same b (leb-true 128 b h)) in
@@ -94,8 +94,8 @@ char_looked changes ends src i j some cut chars wide same free here =
     }
 
 -- one stretch behind another
-pub looked_on : (changes ends : ℕ → Bool) (src : List ℕ) (i j k : ℕ) (a b : Bool) → IsUtf8 src → IsCharBoundary src i → Looked ends changes src i j a → Looked ends changes src j k b
-    → Looked ends changes src i k (a && b)
+pub looked_on : (changes ends : ℕ → Bool) (src : List ℕ) (i j k : ℕ) (a b : Bool) → IsUtf8 src → IsCharBoundary src i → IsLookahead ends changes src i j a → IsLookahead ends changes src j k b
+    → IsLookahead ends changes src i k (a && b)
 looked_on changes ends src i j k a b utf8 start f g =
     let parts = range_parts src i j k f.onward g.onward g.cut.0 in
     record {
@@ -124,15 +124,15 @@ wide_open quote b q wide = grind (arith, nat_tests)
 
 -- the bytes of a value from i on that the first look passes
 pub value_near : (src : List ℕ) (quote i e : ℕ) → IsUtf8 src → (quote == 39 || quote == 34) ≡ true → IsCharBoundary src i → i ≤ e → e ≤ length src → AllPass is_value_byte src i e → (e < length src → is_value_byte (get_or src e 0) ≡ false)
-    → Looked (ends_value quote src) is_special src i e true
+    → IsLookahead (ends_value quote src) is_special src i e true
 value_near src quote i e utf8 q start le within all stops =
     near_looked is_value_byte is_special (ends_value quote src) src i e utf8 start le (value_cut src e within stops) all value_is_plain value_same (λ k h. value_open quote _ q h)
 
 -- and a character behind them, and the bytes behind that
-pub value_on : (src : List ℕ) (quote i j n e : ℕ) (plain : Bool) → IsUtf8 src → (quote == 39 || quote == 34) ≡ true → IsCharBoundary src i → Looked (ends_value quote src) is_special src i j plain
+pub value_on : (src : List ℕ) (quote i j n e : ℕ) (plain : Bool) → IsUtf8 src → (quote == 39 || quote == 34) ≡ true → IsCharBoundary src i → IsLookahead (ends_value quote src) is_special src i j plain
     → j < n → IsCharBoundary src n → AreChars src j n → ((k : ℕ) → j < k → k < n → 128 ≤ get_or src k 0) → ends_value quote src j ≡ false
     → n ≤ e → e ≤ length src → AllPass is_value_byte src n e → (e < length src → is_value_byte (get_or src e 0) ≡ false)
-    → Looked (ends_value quote src) is_special src i e (plain && not (is_special (get_or src j 0)))
+    → IsLookahead (ends_value quote src) is_special src i e (plain && not (is_special (get_or src j 0)))
 value_on src quote i j n e plain utf8 q start f some cut chars wide here le within all stops =
     let ends = ends_value quote src in
     let one = char_looked is_special ends src j n some cut chars wide wide_same (λ k h. wide_open quote _ q h) here in
@@ -147,7 +147,7 @@ either_first : (q : ℕ) → (q == q || q == 60) ≡ true
 either_first q = grind (arith, nat_tests)
 
 -- what a value is read as whose quote stands behind it
-pub looked_value : (src : List ℕ) (quote i e : ℕ) (plain : Bool) → (quote == 39 || quote == 34) ≡ true → Looked (ends_value quote src) is_special src i e plain → (get_or src e 0 == quote) ≡ true
+pub looked_value : (src : List ℕ) (quote i e : ℕ) (plain : Bool) → (quote == 39 || quote == 34) ≡ true → IsLookahead (ends_value quote src) is_special src i e plain → (get_or src e 0 == quote) ≡ true
     → raw_value_at quote src i ≡ Ok (slice_range src i e, e)
 unfolding raw_value_at chars_up_to
 looked_value src quote i e plain q f here =
@@ -178,17 +178,17 @@ no_run_end : (src : List ℕ) (k : ℕ) → (get_or src k 0 == 60) ≡ false →
 no_run_end src k other apart = rw (other, apart_from (word_text word.CDataEnd) src k (omega arith) apart) refl
 
 pub run_near : (src : List ℕ) (i e : ℕ) → IsUtf8 src → IsCharBoundary src i → i ≤ e → e ≤ length src → AllPass is_text_byte src i e → (e < length src → is_text_byte (get_or src e 0) ≡ false)
-    → Looked (ends_run src) changes_run src i e true
+    → IsLookahead (ends_run src) changes_run src i e true
 run_near src i e utf8 start le within all stops =
     near_looked is_text_byte changes_run (ends_run src) src i e utf8 start le (text_cut src e within stops) all text_is_plain run_same (λ k h. no_run_end src k (text_no_tag _ h) (text_no_bracket _ h))
 
 wide_no_run_end : (src : List ℕ) (k : ℕ) → 128 ≤ get_or src k 0 → ends_run src k ≡ false
 wide_no_run_end src k wide = no_run_end src k (ne_eqb (get_or src k 0) 60 (λ h. absurd (omega arith))) (λ h. absurd (omega arith))
 
-pub run_on : (src : List ℕ) (i j n e : ℕ) (plain : Bool) → IsUtf8 src → IsCharBoundary src i → Looked (ends_run src) changes_run src i j plain
+pub run_on : (src : List ℕ) (i j n e : ℕ) (plain : Bool) → IsUtf8 src → IsCharBoundary src i → IsLookahead (ends_run src) changes_run src i j plain
     → j < n → IsCharBoundary src n → AreChars src j n → ((k : ℕ) → j < k → k < n → 128 ≤ get_or src k 0) → ends_run src j ≡ false
     → n ≤ e → e ≤ length src → AllPass is_text_byte src n e → (e < length src → is_text_byte (get_or src e 0) ≡ false)
-    → Looked (ends_run src) changes_run src i e (plain && not (changes_run (get_or src j 0)))
+    → IsLookahead (ends_run src) changes_run src i e (plain && not (changes_run (get_or src j 0)))
 run_on src i j n e plain utf8 start f some cut chars wide here le within all stops =
     let ends = ends_run src in
     let one = char_looked changes_run ends src j n some cut chars wide wide_run (wide_no_run_end src) here in
@@ -207,7 +207,7 @@ mark_within mark src i e some within le none =
     rw all (le-ltb (length (slice_range src i e)) (length (slice_range src i e)) (omega arith))
 
 -- what a run is read as whose end stands there
-pub looked_run : (src : List ℕ) (i e : ℕ) (plain : Bool) → Looked (ends_run src) changes_run src i e plain → (e < length src → get_or src e 0 ≡ 60)
+pub looked_run : (src : List ℕ) (i e : ℕ) (plain : Bool) → IsLookahead (ends_run src) changes_run src i e plain → (e < length src → get_or src e 0 ≡ 60)
     → (byte_from (λ c. c == 60) src i ≡ e) × (chars_up_to e src i ≡ Ok (slice_range src i e, e)) × (has_mark (word_text word.CDataEnd) (slice_range src i e) ≡ false)
 unfolding chars_up_to
 looked_run src i e plain f here =
@@ -222,14 +222,14 @@ unfolding is_comment_byte
 comment_no_dash b h is = grind (arith, nat_tests)
 
 pub comment_near : (src : List ℕ) (i e : ℕ) → IsUtf8 src → IsCharBoundary src i → i ≤ e → e ≤ length src → AllPass is_comment_byte src i e → (e < length src → is_comment_byte (get_or src e 0) ≡ false)
-    → Looked (ends_comment src) changes_comment src i e true
+    → IsLookahead (ends_comment src) changes_comment src i e true
 comment_near src i e utf8 start le within all stops =
     near_looked is_comment_byte changes_comment (ends_comment src) src i e utf8 start le (comment_cut src e within stops) all comment_is_plain (λ b h. refl) (λ k h. apart_from double_dash src k (omega arith) (comment_no_dash _ h))
 
-pub comment_on : (src : List ℕ) (i j n e : ℕ) → IsUtf8 src → IsCharBoundary src i → Looked (ends_comment src) changes_comment src i j true
+pub comment_on : (src : List ℕ) (i j n e : ℕ) → IsUtf8 src → IsCharBoundary src i → IsLookahead (ends_comment src) changes_comment src i j true
     → j < n → IsCharBoundary src n → AreChars src j n → ((k : ℕ) → j < k → k < n → 128 ≤ get_or src k 0) → ends_comment src j ≡ false
     → n ≤ e → e ≤ length src → AllPass is_comment_byte src n e → (e < length src → is_comment_byte (get_or src e 0) ≡ false)
-    → Looked (ends_comment src) changes_comment src i e true
+    → IsLookahead (ends_comment src) changes_comment src i e true
 comment_on src i j n e utf8 start f some cut chars wide here le within all stops =
     let ends = ends_comment src in
     let one = char_looked changes_comment ends src j n some cut chars wide (λ b h. refl) (λ k h. apart_from double_dash src k (omega arith) (λ is. absurd (omega arith))) here in
@@ -241,7 +241,7 @@ front_dashes : (src : List ℕ) (k : ℕ) → stands (word_text word.CommentEnd)
 front_dashes src k h = stands_from_split double_dash src _ k (stands_split (word_text word.CommentEnd) src k h)
 
 -- the first `-->`
-first_mark : (src : List ℕ) (s e : ℕ) → Looked (ends_comment src) changes_comment src s e true → stands (word_text word.CommentEnd) src e ≡ true → mark_from (word_text word.CommentEnd) src s ≡ e
+first_mark : (src : List ℕ) (s e : ℕ) → IsLookahead (ends_comment src) changes_comment src s e true → stands (word_text word.CommentEnd) src e ≡ true → mark_from (word_text word.CommentEnd) src s ≡ e
 unfolding mark_from stands
 first_mark src s e f here =
     let at : s + (e - s) ≡ e = omega (arith, f.onward) in
@@ -265,7 +265,7 @@ two_dashes src k e next first closes =
     stands_from_split double_dash src (45 ∷ 62 ∷ drop 3 (drop (k + 1) src)) k (drop_more src k 0 within ∙ ap (λ (b : ℕ). b ∷ drop (k + 1) src) first ∙ ap (λ (l : List ℕ). 45 ∷ l) rest)
 
 -- no dash is the last of a text that two dashes stand behind, none of which begin in it
-no_last : (src : List ℕ) (i e : ℕ) → Looked (ends_comment src) changes_comment src i e true → stands (word_text word.CommentEnd) src e ≡ true → (get_or (slice_range src i e) (length (slice_range src i e) - 1) 0 == 45) ≡ false
+no_last : (src : List ℕ) (i e : ℕ) → IsLookahead (ends_comment src) changes_comment src i e true → stands (word_text word.CommentEnd) src e ≡ true → (get_or (slice_range src i e) (length (slice_range src i e) - 1) 0 == 45) ≡ false
 no_last src i e f closes =
     let text = slice_range src i e in
     let long = range_length src i e f.onward f.cut.0 in
@@ -275,7 +275,7 @@ no_last src i e f closes =
     ]
 
 -- what a comment is read as whose end stands behind it
-pub looked_comment : (src : List ℕ) (i s e : ℕ) → s ≡ i + 4 → Looked (ends_comment src) changes_comment src s e true → stands (word_text word.CommentEnd) src e ≡ true → comment_at src i ≡ Ok (slice_range src s e, e + 3)
+pub looked_comment : (src : List ℕ) (i s e : ℕ) → s ≡ i + 4 → IsLookahead (ends_comment src) changes_comment src s e true → stands (word_text word.CommentEnd) src e ≡ true → comment_at src i ≡ Ok (slice_range src s e, e + 3)
 unfolding comment_at text_to chars_up_to string_at
 looked_comment src i s e start f here =
     let end = first_mark src s e f here in

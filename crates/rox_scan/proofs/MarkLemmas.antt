@@ -11,7 +11,7 @@ use Rattle.std.proofs.lemmas.List.Prefix.{at_reads, front_fits}
 use Rattle.std.proofs.lemmas.Slice.Eq.{starts_is}
 use Rattle.memchr.specs.Find.{IsFirstByte, FindsNeedle, OccursAt}
 use Rattle.memchr.proofs.lemmas.MatchLemmas.{OccursAt-split}
-use Rattle.rox_grammar.specs.Marks.{stands, before_mark}
+use Rattle.rox_grammar.specs.Search.{stands, before_mark}
 use Rattle.rox_grammar.specs.Constructs.{has_mark}
 
 bool_cases : (b : Bool) → (b ≡ true) ⊎ (b ≡ false)

@@ -8,24 +8,24 @@ use Rattle.std.proofs.lemmas.List.{length-take, get_or-take, drop_more, drop_all
 use Rattle.std.proofs.lemmas.List.Sums.{position_or_len_is}
 use Rattle.std.proofs.lemmas.Str.{IsUtf8-take, IsCharBoundary-after_ascii}
 use Rattle.rox_grammar.specs.Chars.{is_char, is_part_char}
-use Rattle.rox_grammar.specs.Content.{is_plain_value}
+use Rattle.rox_grammar.specs.Content.{is_verbatim_value}
 use Rattle.rox_grammar.specs.Runs.{run_end}
-use Rattle.rox_grammar.specs.Marks.{byte_from}
+use Rattle.rox_grammar.specs.Search.{byte_from}
 use Rattle.rox_reading.specs.Lexical.{chars_up_to}
 use Rattle.rox_reading.specs.Markup.{raw_value_at}
-use Rattle.rox_scan.specs.Near.{is_plain, AllPass, is_value_byte, is_text_byte, is_comment_byte, is_part_byte}
+use Rattle.rox_scan.specs.ByteSets.{is_char_byte, AllPass, is_value_byte, is_text_byte, is_comment_byte, is_part_byte}
 use Rattle.rox_scan.proofs.RunLemmas.{run_on_ascii, run_stops_ascii, run_at_end}
 use Rattle.rox_scan.proofs.PlainLemmas.{plain_run}
 
-pub value_is_plain : (b : ℕ) → is_value_byte b ≡ true → is_plain b ≡ true
+pub value_is_plain : (b : ℕ) → is_value_byte b ≡ true → is_char_byte b ≡ true
 unfolding is_value_byte
 value_is_plain b h = grind (arith, nat_tests)
 
-pub text_is_plain : (b : ℕ) → is_text_byte b ≡ true → is_plain b ≡ true
+pub text_is_plain : (b : ℕ) → is_text_byte b ≡ true → is_char_byte b ≡ true
 unfolding is_text_byte
 text_is_plain b h = grind (arith, nat_tests)
 
-pub comment_is_plain : (b : ℕ) → is_comment_byte b ≡ true → is_plain b ≡ true
+pub comment_is_plain : (b : ℕ) → is_comment_byte b ≡ true → is_char_byte b ≡ true
 unfolding is_comment_byte
 comment_is_plain b h = grind (arith, nat_tests)
 
@@ -93,7 +93,7 @@ part_stops src i e utf8 le within all stops ascii =
     sym here ∙ part_goes_on src i e utf8 le within all
 
 -- all of a stretch of such bytes
-all_plain : (p : ℕ → Bool) (src : List ℕ) (i e n : ℕ) → i + n ≡ e → e ≤ length src → AllPass p src i e → ((b : ℕ) → p b ≡ true → is_plain b ≡ true) → list_all is_plain (drop i (take e src)) ≡ true
+all_plain : (p : ℕ → Bool) (src : List ℕ) (i e n : ℕ) → i + n ≡ e → e ≤ length src → AllPass p src i e → ((b : ℕ) → p b ≡ true → is_char_byte b ≡ true) → list_all is_char_byte (drop i (take e src)) ≡ true
 all_plain p src i e zero same within all are = let long = length-take e src in rw (drop_all i (take e src) (omega (arith, long))) refl
 all_plain p src i e (suc n) same within all are =
     let long = length-take e src in
@@ -106,7 +106,7 @@ cut_before src i e le within cut =
     (omega (arith, long), λ more wide. let read = get_or-take e src i 0 (omega (arith, long)) in rw read (cut.1 (omega (arith, long)) (rw read at wide)))
 
 -- plain bytes are of Chars
-pub near_chars : (p : ℕ → Bool) (src : List ℕ) (i e : ℕ) → IsUtf8 src → IsCharBoundary src i → i ≤ e → IsCharBoundary src e → AllPass p src i e → ((b : ℕ) → p b ≡ true → is_plain b ≡ true) → run_end is_char (take e src) i ≡ e
+pub near_chars : (p : ℕ → Bool) (src : List ℕ) (i e : ℕ) → IsUtf8 src → IsCharBoundary src i → i ≤ e → IsCharBoundary src e → AllPass p src i e → ((b : ℕ) → p b ≡ true → is_char_byte b ≡ true) → run_end is_char (take e src) i ≡ e
 near_chars p src i e utf8 start le cut all are =
     let long = length-take e src in
     let whole = plain_run (take e src) i (IsUtf8-take src e utf8 cut) (cut_before src i e le cut.0 start) (all_plain p src i e (e - i) (omega arith) cut.0 all are) in
@@ -172,7 +172,7 @@ short_value src i e quote utf8 start q le cut all here =
     rw (near_value src i e quote q le within at all, lt-leb (length src) e within, near_chars is_value_byte src i e utf8 start le cut all value_is_plain, le-ltb e e (omega arith)) refl
 
 -- and has nothing to change
-pub near_plain : (src : List ℕ) (i e : ℕ) → i ≤ e → e ≤ length src → AllPass is_value_byte src i e → is_plain_value (slice_range src i e) ≡ true
+pub near_plain : (src : List ℕ) (i e : ℕ) → i ≤ e → e ≤ length src → AllPass is_value_byte src i e → is_verbatim_value (slice_range src i e) ≡ true
 near_plain src i e le within all =
     ap not (none_among is_value_byte (λ b. b == 38 || (b == 9 || (b == 10 || b == 13))) src i e (e - i) (omega arith) within all value_plain)
 

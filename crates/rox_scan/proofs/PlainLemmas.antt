@@ -10,21 +10,21 @@ use Rattle.std.proofs.lemmas.List.Folds.{list_all-append}
 use Rattle.std.proofs.lemmas.Str.{encode_ascii, length-encode, encodes-chars, IsUtf8-drop}
 use Rattle.rox_grammar.specs.Chars.{is_char}
 use Rattle.rox_grammar.specs.Runs.{passing, run_end}
-use Rattle.rox_scan.specs.Near.{is_plain}
+use Rattle.rox_scan.specs.ByteSets.{is_char_byte}
 
-plain_ascii : (c : ℕ) → c < 128 → (is_plain c && true) ≡ true → is_char c ≡ true
+plain_ascii : (c : ℕ) → c < 128 → (is_char_byte c && true) ≡ true → is_char c ≡ true
 plain_ascii c ascii h = grind (arith, nat_tests)
 
-first_apart : list_all is_plain (encode_utf8 65534) ≡ false
+first_apart : list_all is_char_byte (encode_utf8 65534) ≡ false
 unfolding encode_utf8
 first_apart = refl
 
-last_apart : list_all is_plain (encode_utf8 65535) ≡ false
+last_apart : list_all is_char_byte (encode_utf8 65535) ≡ false
 unfolding encode_utf8
 last_apart = refl
 
 -- a character whose bytes are plain is a Char
-plain_char : (c : ℕ) → list_all is_plain (encode_utf8 c) ≡ true → is_char c ≡ true
+plain_char : (c : ℕ) → list_all is_char_byte (encode_utf8 c) ≡ true → is_char c ≡ true
 plain_char c h =
     elim (cases_lt c 128) [
       | inl ascii ↦ plain_ascii c ascii (rw (encode_ascii c ascii) at h)
@@ -34,13 +34,13 @@ plain_char c h =
       ]
     ]
 
-plain_passing : (cs : List ℕ) → list_all is_plain (encodes cs) ≡ true → passing is_char cs ≡ length (encodes cs)
+plain_passing : (cs : List ℕ) → list_all is_char_byte (encodes cs) ≡ true → passing is_char cs ≡ length (encodes cs)
 plain_passing [] h = refl
 plain_passing (c ∷ cs) h =
-    let (here, more) = and_parts _ _ (rw (list_all-append is_plain (encode_utf8 c) (encodes cs)) at h) in
+    let (here, more) = and_parts _ _ (rw (list_all-append is_char_byte (encode_utf8 c) (encodes cs)) at h) in
     rw (plain_char c here, plain_passing cs more, length-append (encode_utf8 c) (encodes cs), length-encode c) refl
 
-pub plain_run : (src : List ℕ) (i : ℕ) → IsUtf8 src → IsCharBoundary src i → list_all is_plain (drop i src) ≡ true → run_end is_char src i ≡ length src
+pub plain_run : (src : List ℕ) (i : ℕ) → IsUtf8 src → IsCharBoundary src i → list_all is_char_byte (drop i src) ≡ true → run_end is_char src i ≡ length src
 unfolding run_end
 plain_run src i utf8 cut h =
     let back = encodes-chars (drop i src) (IsUtf8-drop src i utf8 cut) in

@@ -1,6 +1,6 @@
-pub mod Gives
-pub mod Parts
-pub mod Near
-pub mod Halves
-pub mod Doctypes
-pub mod Longer
+pub mod ScanResults
+pub mod Views
+pub mod ByteSets
+pub mod Nibbles
+pub mod DoctypeViews
+pub mod Lookahead

@@ -1,7 +1,7 @@
 //! Classes of characters (XML 1.0 sections 2.2 and 2.3, Namespaces in XML section 3).
 ghost use Rattle.std.specs.Prelude.{◌≡◌, ◌<◌};
 ghost use Rattle.rox_grammar.specs.Chars as spec;
-ghost use Rattle.rox_scan.specs.Near as near;
+ghost use Rattle.rox_scan.specs.ByteSets as near;
 
 /// A character that may stand in XML (XML 1.0 [2] Char).
 #[inline]
@@ -93,7 +93,7 @@ pub fn is_part_byte(b: u8) -> bool
 /// A byte that begins no character but a Char, or goes on with one.
 #[inline(always)]
 pub fn is_plain_byte(b: u8) -> bool
-    ensures { result ≡ near.is_plain b }
+    ensures { result ≡ near.is_char_byte b }
 {
     ((b >= 32) & (b != 239)) | (b == 9) | (b == 10) | (b == 13)
 }

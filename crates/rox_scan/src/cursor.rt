@@ -5,7 +5,7 @@ ghost use Rattle.std.specs.Str.{IsCharBoundary, IsUtf8};
 ghost use Rattle.std.proofs.Props.{props};
 
 use crate::chars::is_space;
-use crate::near::part_end;
+use crate::byte_set::part_end;
 use crate::runs::{
     NameChar, NameStart, after_byte, begins, char_at, chars_end, is_at, run_end, space_end,
 };
@@ -22,10 +22,10 @@ pub struct Cursor<'input> {
 }
 
 impl<'input> Cursor<'input> {
-    ghost use Rattle.rox_grammar.specs.Failing.{name_view};
-    ghost use Rattle.rox_scan.specs.Gives.{Reads};
-    ghost use Rattle.rox_grammar.specs.Marks.{stands};
-    ghost use Rattle.rox_grammar.specs.Words.{word_text};
+    ghost use Rattle.rox_grammar.specs.Failures.{name_view};
+    ghost use Rattle.rox_scan.specs.ScanResults.{Reads};
+    ghost use Rattle.rox_grammar.specs.Search.{stands};
+    ghost use Rattle.rox_grammar.specs.FixedTexts.{word_text};
     ghost use Rattle.rox_grammar.specs.Names.{spaces_end};
     ghost use Rattle.rox_reading.specs.Lexical as spec;
 
@@ -171,7 +171,7 @@ impl<'input> Cursor<'input> {
 
     /// Whether the fixed text stands here.
     #[inline]
-    #[tactic(auto, unfolding(rox_grammar::specs::Marks::stands))]
+    #[tactic(auto, unfolding(rox_grammar::specs::Search::stands))]
     pub fn starts(&self, word: Word) -> bool
         ensures { result ≡ stands (word_text word) self.now.text.now self.now.pos }
     {

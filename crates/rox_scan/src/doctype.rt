@@ -2,16 +2,16 @@
 
 ghost use Rattle.std.specs.Prelude.{◌≡◌, ◌==◌, ◌≤◌, ◌+◌, IfOk, Some, IsUtf8, slice_index, slice_range, true};
 ghost use Rattle.std.specs.List.{starts_with};
-ghost use Rattle.rox_grammar.specs.Start.{after_bom, bom};
-ghost use Rattle.rox_grammar.specs.Marks.{stands};
-ghost use Rattle.rox_grammar.specs.Words.{word_text};
+ghost use Rattle.rox_grammar.specs.TextStart.{after_bom, bom};
+ghost use Rattle.rox_grammar.specs.Search.{stands};
+ghost use Rattle.rox_grammar.specs.FixedTexts.{word_text};
 ghost use Rattle.rox_grammar.specs.declared.fault.Word.TheVariants as word;
 ghost use Rattle.rox_reading.specs.Doctype as spec;
-ghost use Rattle.rox_scan.specs.Gives.{Reads};
-ghost use Rattle.rox_scan.specs.Doctypes.{IsWithin, IsReplacement, declaration_if, definition_view, head_view, inner_at, is_passed_over, outer_at, passed_over_at, request_view, subset_end_at};
+ghost use Rattle.rox_scan.specs.ScanResults.{Reads};
+ghost use Rattle.rox_scan.specs.DoctypeViews.{AreBoundaries, IsReplacement, xml_decl_if, definition_view, head_view, inner_at, is_skipped_declaration, outer_at, skipped_declaration_at, request_view, subset_end_at};
 
 use crate::cursor::Cursor;
-use crate::marks::byte_from;
+use crate::search::byte_from;
 use crate::runs::{after_byte, is_at};
 use rox_grammar::fault::{Due, Fault, Word};
 
@@ -48,7 +48,7 @@ impl<'input> Cursor<'input> {
         ensures source { self.new.text ≡ self.old.text }
         ensures onward { self.old.pos ≤ self.new.pos }
         ensures start { IfOk result (λ x. x.0 ≡ self.old.pos + 1) }
-        ensures within { IfOk result (λ x. IsWithin self.old.text.now x.0 x.1) }
+        ensures within { IfOk result (λ x. AreBoundaries self.old.text.now x.0 x.1) }
     {
         let quote = self.quote()?;
         let start = self.pos;
@@ -260,8 +260,8 @@ impl<'input> Cursor<'input> {
     }
 
     /// Whether a declaration stands here that is passed over (XML 1.0 [45] elementdecl, [52] AttlistDecl, [82] NotationDecl).
-    pub fn is_passed_over(&self) -> bool
-        ensures { result ≡ is_passed_over self.now.text.now self.now.pos }
+    pub fn is_skipped_declaration(&self) -> bool
+        ensures { result ≡ is_skipped_declaration self.now.text.now self.now.pos }
     {
         self.starts(Word::ElementStart)
             || self.starts(Word::AttlistStart)
@@ -270,8 +270,8 @@ impl<'input> Cursor<'input> {
 
     /// Moves past a declaration, to its first `>`, even one within quotes. Where none follows it is a fault at `start`, where
     /// the document type declaration begins.
-    pub fn pass_over(&mut self, start: usize) -> Result<(), Fault>
-        ensures value { Reads (λ x. x) self.new result (passed_over_at start self.old.text.now self.old.pos) }
+    pub fn skip_declaration(&mut self, start: usize) -> Result<(), Fault>
+        ensures value { Reads (λ x. x) self.new result (skipped_declaration_at start self.old.text.now self.old.pos) }
         ensures source { self.new.text ≡ self.old.text }
         ensures onward { self.old.pos ≤ self.new.pos }
     {
@@ -304,12 +304,12 @@ impl<'input> Cursor<'input> {
     }
 
     /// The declaration that a text begins with, if it does (XML 1.0 [23] XMLDecl, [77] TextDecl).
-    pub fn declaration_if(&mut self) -> Result<(), Fault>
-        ensures value { Reads (λ x. x) self.new result (declaration_if self.old.text.now self.old.pos) }
+    pub fn xml_decl_if(&mut self) -> Result<(), Fault>
+        ensures value { Reads (λ x. x) self.new result (xml_decl_if self.old.text.now self.old.pos) }
         ensures source { self.new.text ≡ self.old.text }
         ensures onward { self.old.pos ≤ self.new.pos }
     {
-        if self.starts(Word::DeclarationStart) {
+        if self.starts(Word::XmlDeclStart) {
             return self.declaration();
         }
         Ok(())
@@ -343,6 +343,6 @@ pub fn replacement_in<'input>(answer: &'input str) -> Result<Cursor<'input>, Fau
     ensures text { IsUtf8 answer.entry.now }
 {
     let mut cursor = start_of(answer);
-    cursor.declaration_if()?;
+    cursor.xml_decl_if()?;
     Ok(Cursor::new(&answer[cursor.pos..]))
 }

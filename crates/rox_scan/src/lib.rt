@@ -5,9 +5,9 @@
 pub mod chars;
 pub mod cursor;
 pub mod doctype;
-pub mod halves;
-pub mod longer;
-pub mod marks;
+pub mod nibbles;
+pub mod lookahead;
+pub mod search;
 pub mod markup;
-pub mod near;
+pub mod byte_set;
 pub mod runs;

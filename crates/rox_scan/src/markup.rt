@@ -1,21 +1,21 @@
 //! Comments, processing instructions, CDATA sections, end tags, the parts of a start tag, and the XML declaration.
 
 ghost use Rattle.std.specs.Prelude.{◌≡◌, ◌==◌, ◌||◌, ◌<◌, ◌≤◌, ◌+◌, IfOk, length, slice_index, slice_range, true};
-ghost use Rattle.rox_grammar.specs.Marks.{stands};
-ghost use Rattle.rox_grammar.specs.Words.{word_text};
+ghost use Rattle.rox_grammar.specs.Search.{stands};
+ghost use Rattle.rox_grammar.specs.FixedTexts.{word_text};
 ghost use Rattle.rox_grammar.specs.Tree.{none_if_empty};
-ghost use Rattle.rox_grammar.specs.Content.{is_plain_value};
+ghost use Rattle.rox_grammar.specs.Content.{is_verbatim_value};
 ghost use Rattle.rox_grammar.specs.declared.fault.Word.TheVariants as word;
 ghost use Rattle.rox_reading.specs.Lexical as lexical;
 ghost use Rattle.rox_reading.specs.Markup as spec;
-ghost use Rattle.rox_scan.specs.Gives.{Reads};
-ghost use Rattle.rox_scan.specs.Parts.{HasValue, TurnHasValue, attribute_view, end_tag_view, instruction_view, text_view, turn_view};
+ghost use Rattle.rox_scan.specs.ScanResults.{Reads};
+ghost use Rattle.rox_scan.specs.Views.{HasValue, TagItemHasValue, attribute_view, end_tag_view, instruction_view, text_view, tag_item_view};
 
 use crate::chars::is_space;
 use crate::cursor::Cursor;
-use crate::longer::{comment_end, is_plain_value, value_look};
-use crate::marks::{Finders, either_from, has_mark, mark_from};
-use crate::near::{ValueByte, near_end};
+use crate::lookahead::{comment_end, is_verbatim_value, scan_value};
+use crate::search::{Finders, either_from, has_mark, mark_from};
+use crate::byte_set::{ValueByte, skip_set};
 use crate::runs::is_at;
 use memchr::memmem::Finder;
 use rox_grammar::fault::{Due, Fault, Word};
@@ -58,7 +58,7 @@ struct RawValue<'input> {
 
 /// What a start tag holds next: an attribute, or its end `>` or `/>`.
 #[derive(Clone, Copy)]
-pub enum Turn<'input> {
+pub enum TagItem<'input> {
     More(RawAttribute<'input>),
     Open,
     Empty,
@@ -106,7 +106,7 @@ impl<'input> Cursor<'input> {
         let end = comment_end(text, from);
         let mut behind = Cursor::at(text, end);
         if !behind.starts(Word::CommentEnd) {
-            return self.far_comment(start, finders);
+            return self.slow_comment(start, finders);
         }
         behind.skip(Word::CommentEnd);
         self.pos = behind.pos;
@@ -117,7 +117,7 @@ impl<'input> Cursor<'input> {
     #[cold]
     #[inline(never)]
     #[tactic(auto, unfolding(rox_reading::specs::Markup::comment_at))]
-    fn far_comment(&mut self, start: usize, finders: &Finders<'_>) -> Result<&'input str, Fault>
+    fn slow_comment(&mut self, start: usize, finders: &Finders<'_>) -> Result<&'input str, Fault>
         requires { self.old.pos ≡ start + 4 }
         ensures value { Reads (λ x. x.now) self.new result (spec.comment_at self.old.text.now start) }
         ensures source { self.new.text ≡ self.old.text }
@@ -140,7 +140,7 @@ impl<'input> Cursor<'input> {
         ensures source { self.new.text ≡ self.old.text }
         ensures onward { self.old.pos ≤ self.new.pos }
     {
-        if self.starts(Word::DeclarationStart) {
+        if self.starts(Word::XmlDeclStart) {
             return Err(Fault::UnexpectedDeclaration(self.pos));
         }
         self.skip(Word::PIStart);
@@ -193,10 +193,10 @@ impl<'input> Cursor<'input> {
         ensures source { self.new.text ≡ self.old.text }
         ensures onward { self.old.pos ≤ self.new.pos }
         ensures text { IfOk result (λ x. x.text.now ≡ slice_range self.old.text.now self.old.pos self.new.pos) }
-        ensures plain { IfOk result (λ x. x.plain ≡ is_plain_value x.text.now) }
+        ensures plain { IfOk result (λ x. x.plain ≡ is_verbatim_value x.text.now) }
     {
         let start = self.pos;
-        let near = near_end::<ValueByte>(self.text, start);
+        let near = skip_set::<ValueByte>(self.text, start);
         if is_at(self.text, near, quote) {
             self.pos = near;
             return Ok(RawValue {
@@ -204,7 +204,7 @@ impl<'input> Cursor<'input> {
                 plain: true,
             });
         }
-        let plain = self.longer_value(quote)?;
+        let plain = self.value_by_characters(quote)?;
         Ok(RawValue {
             text: &self.text[start..self.pos],
             plain,
@@ -214,38 +214,38 @@ impl<'input> Cursor<'input> {
     /// The same, by a longer look. It moves to the end of the value, and answers whether that has no reference and no white
     /// space but spaces.
     #[inline(never)]
-    fn longer_value(&mut self, quote: u8) -> Result<bool, Fault>
+    fn value_by_characters(&mut self, quote: u8) -> Result<bool, Fault>
         requires ascii { quote < 128 }
         requires quote { (quote == 39 || quote == 34) ≡ true }
         ensures value { Reads (λ _. slice_range self.old.text.now self.old.pos self.new.pos) self.new result (spec.raw_value_at quote self.old.text.now self.old.pos) }
         ensures source { self.new.text ≡ self.old.text }
         ensures onward { self.old.pos ≤ self.new.pos }
-        ensures plain { IfOk result (λ plain. plain ≡ is_plain_value (slice_range self.old.text.now self.old.pos self.new.pos)) }
+        ensures plain { IfOk result (λ plain. plain ≡ is_verbatim_value (slice_range self.old.text.now self.old.pos self.new.pos)) }
     {
-        let look = value_look(self.text, self.pos, quote);
+        let look = scan_value(self.text, self.pos, quote);
         if is_at(self.text, look.end, quote) {
             self.pos = look.end;
             return Ok(look.plain);
         }
-        self.far_value(quote)
+        self.slow_value(quote)
     }
 
     /// The same of a value with a reference, of one that is not in order, and of one that no quote of its own ends.
     #[inline(never)]
     #[tactic(auto, unfolding(rox_reading::specs::Markup::raw_value_at))]
-    fn far_value(&mut self, quote: u8) -> Result<bool, Fault>
+    fn slow_value(&mut self, quote: u8) -> Result<bool, Fault>
         requires ascii { quote < 128 }
         ensures value { Reads (λ _. slice_range self.old.text.now self.old.pos self.new.pos) self.new result (spec.raw_value_at quote self.old.text.now self.old.pos) }
         ensures source { self.new.text ≡ self.old.text }
         ensures onward { self.old.pos ≤ self.new.pos }
-        ensures plain { IfOk result (λ plain. plain ≡ is_plain_value (slice_range self.old.text.now self.old.pos self.new.pos)) }
+        ensures plain { IfOk result (λ plain. plain ≡ is_verbatim_value (slice_range self.old.text.now self.old.pos self.new.pos)) }
     {
         let end = either_from(self.text, self.pos, quote, b'<');
         if end >= self.text.len() {
             return Err(Fault::UnexpectedEndOfStream);
         }
         let text = self.chars_up_to(end)?;
-        Ok(is_plain_value(text.as_bytes()))
+        Ok(is_verbatim_value(text.as_bytes()))
     }
 
     /// An attribute as it is written: a name, `=`, and a value in quotes (XML 1.0 [41] Attribute). A `<` in the value is a
@@ -283,12 +283,12 @@ impl<'input> Cursor<'input> {
     /// White space, then an attribute or the end of the start tag (XML 1.0 [40] STag, [44] EmptyElemTag). An attribute
     /// without white space before it is a fault.
     #[inline]
-    #[tactic(auto, unfolding(rox_reading::specs::Markup::turn_at))]
-    pub fn turn(&mut self) -> Result<Turn<'input>, Fault>
-        ensures value { Reads turn_view self.new result (spec.turn_at self.old.text.now self.old.pos) }
+    #[tactic(auto, unfolding(rox_reading::specs::Markup::tag_item_at))]
+    pub fn turn(&mut self) -> Result<TagItem<'input>, Fault>
+        ensures value { Reads tag_item_view self.new result (spec.tag_item_at self.old.text.now self.old.pos) }
         ensures source { self.new.text ≡ self.old.text }
         ensures onward { self.old.pos ≤ self.new.pos }
-        ensures text { IfOk result (λ t. TurnHasValue self.old.text.now t) }
+        ensures text { IfOk result (λ t. TagItemHasValue self.old.text.now t) }
     {
         let start = self.pos;
         self.spaces();
@@ -299,16 +299,16 @@ impl<'input> Cursor<'input> {
         if here == b'/' {
             self.advance();
             self.byte(b'>')?;
-            return Ok(Turn::Empty);
+            return Ok(TagItem::Empty);
         }
         if here == b'>' {
             self.advance();
-            return Ok(Turn::Open);
+            return Ok(TagItem::Open);
         }
         if self.pos == start {
             return Err(Fault::InvalidChar2(Due::Space, here, start));
         }
-        Ok(Turn::More(self.attribute()?))
+        Ok(TagItem::More(self.attribute()?))
     }
 
     /// A name, `=`, and a value in quotes, of the XML declaration.
@@ -365,8 +365,8 @@ impl<'input> Cursor<'input> {
 
     /// Moves past `<?xml`, up to the space behind it.
     #[inline]
-    fn skip_xml(&mut self)
-        requires { stands (word_text word.DeclarationStart) self.old.text.now self.old.pos ≡ true }
+    fn skip_xml_decl_start(&mut self)
+        requires { stands (word_text word.XmlDeclStart) self.old.text.now self.old.pos ≡ true }
         ensures place { self.new.pos ≡ self.old.pos + 5 }
         ensures source { self.new.text ≡ self.old.text }
     {
@@ -374,14 +374,14 @@ impl<'input> Cursor<'input> {
     }
 
     /// The XML declaration, from `<?xml` and a space to its end `?>` (XML 1.0 [23] XMLDecl). Its values are read and not kept.
-    #[tactic(auto, unfolding(rox_reading::specs::Markup::declaration_at))]
+    #[tactic(auto, unfolding(rox_reading::specs::Markup::xml_decl_at))]
     pub fn declaration(&mut self) -> Result<(), Fault>
-        requires { stands (word_text word.DeclarationStart) self.old.text.now self.old.pos ≡ true }
-        ensures value { Reads (λ x. x) self.new result (spec.declaration_at self.old.text.now self.old.pos) }
+        requires { stands (word_text word.XmlDeclStart) self.old.text.now self.old.pos ≡ true }
+        ensures value { Reads (λ x. x) self.new result (spec.xml_decl_at self.old.text.now self.old.pos) }
         ensures source { self.new.text ≡ self.old.text }
         ensures onward { self.old.pos ≤ self.new.pos }
     {
-        self.skip_xml();
+        self.skip_xml_decl_start();
         self.spaces();
         if !self.starts(Word::Version) {
             return Err(Fault::InvalidString(Word::Version, self.pos));

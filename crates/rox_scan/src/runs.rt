@@ -5,7 +5,7 @@ ghost use Rattle.std.specs.List.{list_all};
 ghost use Rattle.std.specs.Str.{IsCharBoundary, chars};
 ghost use Rattle.rox_grammar.specs.Chars as spec;
 ghost use Rattle.rox_grammar.specs.Runs.{run_end, begins, StandsAt};
-ghost use Rattle.rox_scan.specs.Near as near;
+ghost use Rattle.rox_scan.specs.ByteSets as near;
 
 use crate::chars;
 
@@ -191,8 +191,8 @@ pub fn after_byte(text: &str, at: usize, byte: u8) -> usize
 
 /// Whether each byte is one of a Char, whichever character it is of. It may be false where all are Chars.
 #[inline(always)]
-pub fn is_plain(bytes: &[u8]) -> bool
-    ensures { result ≡ list_all near.is_plain bytes.now }
+pub fn is_char_byte(bytes: &[u8]) -> bool
+    ensures { result ≡ list_all near.is_char_byte bytes.now }
 {
     let mut plain = true;
     for byte in bytes {
@@ -209,7 +209,7 @@ pub fn chars_end(text: &str, at: usize) -> usize
     ensures onward { at ≤ result }
     ensures cut { IsCharBoundary text.now result }
 {
-    if is_plain(text[at..].as_bytes()) {
+    if is_char_byte(text[at..].as_bytes()) {
         return text.len();
     }
     run_end::<XmlChar>(text, at)

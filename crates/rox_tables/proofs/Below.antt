@@ -6,20 +6,20 @@ use Rattle.std.proofs.Math.ListN.{drop_of_length-le}
 use Rattle.std.proofs.lemmas.List.{append-nil, map-append, length-map, take_all, reverse-reverse}
 use Rattle.std.proofs.Math.Seq.{drop-append_seam}
 use Rattle.rox_grammar.specs.declared.fault.Word.TheVariants.{Xml}
-use Rattle.rox_grammar.specs.Words.{word_text}
-use Rattle.rox_grammar.specs.Written.{Declaration}
+use Rattle.rox_grammar.specs.FixedTexts.{word_text}
+use Rattle.rox_grammar.specs.Written.{NamespaceDecl}
 use Rattle.rox_grammar.specs.Tree.{is_declared}
 use Rattle.rox_tables.specs.declared.tables.Namespace.{Namespace}
 use Rattle.rox_tables.specs.declared.tables.Scope.{Scope}
 use Rattle.rox_tables.specs.declared.tables.Scope.TheVariants as scope
 use Rattle.rox_tables.specs.declared.tables.Stretch.{Stretch}
 use Rattle.rox_tables.specs.declared.tables.ElementTables.{ElementTables}
-use Rattle.rox_tables.specs.declared.present.Present.{Present}
-use Rattle.rox_tables.specs.Lines.{declaration, entry, lists_of, scope_at, AreRows, AreScopes}
+use Rattle.rox_tables.specs.declared.bindings.PrefixBindings.{PrefixBindings}
+use Rattle.rox_tables.specs.Rows.{declaration, entry, lists_of, scope_at, AreRows, AreScopes}
 use Rattle.rox_tables.specs.Scopes.{entries, places_in, ArePlaces, Once, others, unlisted, is_few_at}
 use Rattle.rox_tables.specs.Ropes.{IsRope, IsListed}
-use Rattle.rox_tables.specs.Present.{Keeps, IsBound, IsEntered, found}
-use Rattle.rox_tables.specs.TagScopes.{HasScope, KeepsPlaces, IsPresent, lists_in}
+use Rattle.rox_tables.specs.Bindings.{AreBindingsOf, IsBound, IsEntered, bound_place}
+use Rattle.rox_tables.specs.TagScopes.{HasScope, HasBindings, HasBindingsOf, lists_in}
 use Rattle.rox_tables.proofs.Pairs.{place_at, entry-get, declared_none}
 use Rattle.rox_reading.proofs.Stretches.{slice-more, slice-rest}
 use Rattle.rox_tables.proofs.Presenting.{keeps_grown}
@@ -27,12 +27,12 @@ use Rattle.rox_tables.proofs.Hiding.{others_more, others_none, others_xml, absen
 use Rattle.rox_tables.proofs.Sharing.{same_listed, listed_then}
 use Rattle.rox_tables.proofs.Ropes.{scope_places, row_places, length-lists, places_in-grown, places_in-listed, lists-grown, lists-listed, scopes_more}
 
-pub listed_is : (names : List Declaration) (listed after : List ℕ) (old new : List Scope) (a : ℕ) (ds es : List Declaration) → IsListed names listed old after new a ds → ds ≡ es → IsListed names listed old after new a es
+pub listed_is : (names : List NamespaceDecl) (listed after : List ℕ) (old new : List Scope) (a : ℕ) (ds es : List NamespaceDecl) → IsListed names listed old after new a ds → ds ≡ es → IsListed names listed old after new a es
 listed_is names listed after old new a ds es x is = subst (IsListed names listed old after new a) is x
 
 -- ---- what the element declares is hidden
 
-pub hides_none : (names : List Declaration) (listed : List ℕ) (scopes : List Scope) (i own : ℕ) → AreScopes (length listed) scopes → i < length scopes
+pub hides_none : (names : List NamespaceDecl) (listed : List ℕ) (scopes : List Scope) (i own : ℕ) → AreScopes (length listed) scopes → i < length scopes
     → IsListed names listed scopes listed scopes i (others (entries names (slice_range listed own own)) false (entries names (places_in listed scopes i)))
 hides_none names listed scopes i own h lt =
     let none : own - own ≡ 0 = omega arith in
@@ -40,7 +40,7 @@ hides_none names listed scopes i own h lt =
     let ds = entries names (places_in listed scopes i) in
     same_listed names listed scopes i (others (entries names (slice_range listed own own)) false ds) h lt (sym (ap (λ xs. others (entries names xs) false ds) nothing ∙ others_none ds))
 
-pub hides_more : (rows : List Namespace) (listed : List ℕ) (old mid new : List Scope) (own turn place left next : ℕ) (item : Namespace) (p : Option (List ℕ)) (ds : List Declaration)
+pub hides_more : (rows : List Namespace) (listed : List ℕ) (old mid new : List Scope) (own turn place left next : ℕ) (item : Namespace) (p : Option (List ℕ)) (ds : List NamespaceDecl)
     → own ≤ turn → turn < length listed → ArePlaces (length rows) listed → place ≡ get_or listed turn 0 → p ≡ (declaration (get_or rows place item)).prefix
     → IsListed (map declaration rows) listed old listed mid left (others (entries (map declaration rows) (slice_range listed own turn)) false ds)
     → IsListed (map declaration rows) listed mid listed new next (unlisted p (entries (map declaration rows) (places_in listed mid left)))
@@ -50,7 +50,7 @@ hides_more rows listed old mid new own turn place left next item p ds le lt ok s
     let seen = slice_range listed own turn in
     let last = get_or listed turn 0 in
     let here : place < length rows = subst (λ i. i < length rows) (sym same) (place_at (length rows) listed turn 0 ok lt) in
-    let prefix : p ≡ (entry names last).prefix = is ∙ ap (λ (d : Declaration). d.prefix) (sym (entry-get rows place item here)) ∙ ap (λ i. (entry names i).prefix) same in
+    let prefix : p ≡ (entry names last).prefix = is ∙ ap (λ (d : NamespaceDecl). d.prefix) (sym (entry-get rows place item here)) ∙ ap (λ i. (entry names i).prefix) same in
     let more : entries names (slice_range listed own (turn + 1)) ≡ entries names seen ++ entry names last ∷ [] =
     ap (entries names) (slice-more listed own turn 0 le lt) ∙ map-append (entry names) seen (last ∷ []) in
     listed_is names listed listed old new next (unlisted p (entries names (places_in listed mid left))) (others (entries names (slice_range listed own (turn + 1))) false ds)
@@ -61,7 +61,7 @@ pub hides_all : (listed : List ℕ) (own turn : ℕ) → length listed ≤ turn 
 hides_all listed own turn le = take_all (turn - own) (drop own listed) (rw length-drop (omega arith))
 
 -- all of it, and `xml` too if the flag says so
-pub hides_xml : (names : List Declaration) (listed : List ℕ) (old mid new : List Scope) (own turn left next : ℕ) (xml : Bool) (ds : List Declaration) → length listed ≤ turn → xml ≡ true
+pub hides_xml : (names : List NamespaceDecl) (listed : List ℕ) (old mid new : List Scope) (own turn left next : ℕ) (xml : Bool) (ds : List NamespaceDecl) → length listed ≤ turn → xml ≡ true
     → IsListed names listed old listed mid left (others (entries names (slice_range listed own turn)) false ds)
     → IsListed names listed mid listed new next (unlisted (Some (word_text Xml)) (entries names (places_in listed mid left)))
     → IsListed names listed old listed new next (others (entries names (drop own listed)) xml ds)
@@ -72,24 +72,24 @@ hides_xml names listed old mid new own turn left next xml ds le on x y =
     (listed_then names listed old mid new left next (others (entries names seen) false ds) (unlisted (Some (word_text Xml)) (entries names (places_in listed mid left))) x y)
     (ap (unlisted (Some (word_text Xml))) x.lists ∙ others_xml (entries names seen) ds ∙ ap (λ xs. others (entries names xs) true ds) (hides_all listed own turn le) ∙ ap (λ b. others mine b ds) (sym on))
 
-pub hides_own : (names : List Declaration) (listed : List ℕ) (old mid : List Scope) (own turn left : ℕ) (xml : Bool) (ds : List Declaration) → length listed ≤ turn → xml ≡ false
+pub hides_own : (names : List NamespaceDecl) (listed : List ℕ) (old mid : List Scope) (own turn left : ℕ) (xml : Bool) (ds : List NamespaceDecl) → length listed ≤ turn → xml ≡ false
     → IsListed names listed old listed mid left (others (entries names (slice_range listed own turn)) false ds) → IsListed names listed old listed mid left (others (entries names (drop own listed)) xml ds)
 hides_own names listed old mid own turn left xml ds le off x =
     listed_is names listed listed old mid left (others (entries names (slice_range listed own turn)) false ds) (others (entries names (drop own listed)) xml ds) x
     (ap (λ xs. others (entries names xs) false ds) (hides_all listed own turn le) ∙ ap (λ b. others (entries names (drop own listed)) b ds) (sym off))
 
 -- a prefix without a place is not among what is left
-pub absent_bound : (names : List Declaration) (f : Option (List ℕ) → Option ℕ) (own ds left : List Declaration) (xml : Bool) (p : Option (List ℕ)) → IsBound names f ds → left ≡ others own xml ds → f p ≡ None
+pub absent_bound : (names : List NamespaceDecl) (f : Option (List ℕ) → Option ℕ) (own ds left : List NamespaceDecl) (xml : Bool) (p : Option (List ℕ)) → IsBound names f ds → left ≡ others own xml ds → f p ≡ None
     → is_declared p left ≡ false
 absent_bound names f own ds left xml p h e none =
     ap (is_declared p) e ∙ absent_others own xml p ds (declared_none ds p (sym (h.uris p) ∙ ap (option_map (λ i. (entry names i).uri)) none))
 
 -- ---- rows of both
 
-pub joined_within : (names : List Declaration) (listed after : List ℕ) (mid next : List Scope) (rest first : ℕ) (ds : List Declaration) → IsListed names listed mid after next first ds → rest < length mid → rest < length next
+pub joined_within : (names : List NamespaceDecl) (listed after : List ℕ) (mid next : List Scope) (rest first : ℕ) (ds : List NamespaceDecl) → IsListed names listed mid after next first ds → rest < length mid → rest < length next
 joined_within names listed after mid next rest first ds y h = let n = ap length y.rows_grown ∙ length-append mid y.more_rows in omega arith
 
-pub joined_listed : (names : List Declaration) (listed after : List ℕ) (old mid next new : List Scope) (rest first i : ℕ) (os ds : List Declaration) → IsListed names listed old listed mid rest os → IsListed names listed mid after next first ds
+pub joined_listed : (names : List NamespaceDecl) (listed after : List ℕ) (old mid next new : List Scope) (rest first i : ℕ) (os ds : List NamespaceDecl) → IsListed names listed old listed mid rest os → IsListed names listed mid after next first ds
     → IsRope next new i (λ l. places_in l next first ++ places_in l next rest) → IsListed names listed old after new i (ds ++ os)
 joined_listed names listed after old mid next new rest first i os ds x y z =
     let kept : entries names (places_in after next rest) ≡ os =
@@ -109,15 +109,15 @@ joined_listed names listed after old mid next new rest first i os ds x y z =
 
 -- ---- the tables
 
-pub lists_then : (names : List Declaration) (listed after : List ℕ) (scopes rows : List Scope) (i : ℕ) (ds : List Declaration) → AreScopes (length listed) scopes → IsListed names listed scopes after rows i ds
-    → (more : List (List Declaration)) × (lists_of names after rows ≡ lists_of names listed scopes ++ more)
+pub lists_then : (names : List NamespaceDecl) (listed after : List ℕ) (scopes rows : List Scope) (i : ℕ) (ds : List NamespaceDecl) → AreScopes (length listed) scopes → IsListed names listed scopes after rows i ds
+    → (more : List (List NamespaceDecl)) × (lists_of names after rows ≡ lists_of names listed scopes ++ more)
 lists_then names listed after scopes rows i ds h x =
     let g = lists-grown names after scopes x.more_rows in
     (g.0, ap (lists_of names after) x.rows_grown ∙ g.1 ∙ ap (λ xs. xs ++ g.0) (ap (λ ls. lists_of names ls scopes) x.grown ∙ lists-listed names listed x.more scopes h))
 
 -- the places of prefixes stay
-pub kept_then : (names : List Declaration) (listed after : List ℕ) (scopes rows : List Scope) (i : ℕ) (ds : List Declaration) (x : Present) → AreScopes (length listed) scopes → IsListed names listed scopes after rows i ds
-    → Keeps names (lists_of names listed scopes) x → Keeps names (lists_of names after rows) x
+pub kept_then : (names : List NamespaceDecl) (listed after : List ℕ) (scopes rows : List Scope) (i : ℕ) (ds : List NamespaceDecl) (x : PrefixBindings) → AreScopes (length listed) scopes → IsListed names listed scopes after rows i ds
+    → AreBindingsOf names (lists_of names listed scopes) x → AreBindingsOf names (lists_of names after rows) x
 kept_then names listed after scopes rows i ds x h y kept =
     let l = lists_then names listed after scopes rows i ds h y in
     keeps_grown names names (lists_of names listed scopes) (lists_of names after rows) x [] l.0 (sym (append-nil names)) l.1 kept
@@ -126,30 +126,30 @@ pub few_here : (scopes : List Scope) (i : ℕ) (s : Stretch) (t : Scope) → i <
 few_here [] i s t lt h = absurd (omega arith)
 few_here (scope.Few x ∷ ss) zero s t lt h = refl
 few_here (scope.Back x ∷ ss) zero s t lt h = cc h
-few_here (scope.Both b ∷ ss) zero s t lt h = cc h
+few_here (scope.Concat b ∷ ss) zero s t lt h = cc h
 few_here (x ∷ ss) (suc i) s t lt h = few_here ss i s t (omega arith) h
 
 -- what a row of few lists
-pub few_lists : (names : List Declaration) (ls : List ℕ) (scopes : List Scope) (i : ℕ) (s : Stretch) → AreRows scopes → i < length scopes → scope.Few s ≡ get_or scopes i (scope.Few s)
+pub few_lists : (names : List NamespaceDecl) (ls : List ℕ) (scopes : List Scope) (i : ℕ) (s : Stretch) → AreRows scopes → i < length scopes → scope.Few s ≡ get_or scopes i (scope.Few s)
     → entries names (slice_range ls s.from s.until) ≡ scope_at (lists_of names ls scopes) i
 few_lists names ls scopes i s rows lt e = sym (scope_places names ls scopes i ∙ ap (entries names) (row_places ls scopes i (scope.Few s) rows lt e))
 
 -- it has become the innermost
-pub stood_in : (names seen : List Namespace) (ls seen_ls : List ℕ) (scopes seen_scopes : List Scope) (x y : Present) (i : ℕ) → seen ≡ names → seen_ls ≡ ls → seen_scopes ≡ scopes
-    → (Keeps (map declaration seen) (lists_of (map declaration seen) seen_ls seen_scopes) x
-    → Keeps (map declaration seen) (lists_of (map declaration seen) seen_ls seen_scopes) y × IsBound (map declaration seen) (found y) (scope_at (lists_of (map declaration seen) seen_ls seen_scopes) i))
-    → Keeps (map declaration names) (lists_of (map declaration names) ls scopes) x
-    → Keeps (map declaration names) (lists_of (map declaration names) ls scopes) y × IsBound (map declaration names) (found y) (scope_at (lists_of (map declaration names) ls scopes) i)
+pub stood_in : (names seen : List Namespace) (ls seen_ls : List ℕ) (scopes seen_scopes : List Scope) (x y : PrefixBindings) (i : ℕ) → seen ≡ names → seen_ls ≡ ls → seen_scopes ≡ scopes
+    → (AreBindingsOf (map declaration seen) (lists_of (map declaration seen) seen_ls seen_scopes) x
+    → AreBindingsOf (map declaration seen) (lists_of (map declaration seen) seen_ls seen_scopes) y × IsBound (map declaration seen) (bound_place y) (scope_at (lists_of (map declaration seen) seen_ls seen_scopes) i))
+    → AreBindingsOf (map declaration names) (lists_of (map declaration names) ls scopes) x
+    → AreBindingsOf (map declaration names) (lists_of (map declaration names) ls scopes) y × IsBound (map declaration names) (bound_place y) (scope_at (lists_of (map declaration names) ls scopes) i)
 stood_in names seen ls seen_ls scopes seen_scopes x y i n l s f = rw (sym n, sym l, sym s) f
 
-pub entered_in : (names seen : List Namespace) (ls seen_ls : List ℕ) (x y : Present) (from until i : ℕ) (xml : Bool) → seen ≡ names → seen_ls ≡ ls
-    → ((lists : List (List Declaration)) (above : List Declaration) → Keeps (map declaration seen) lists x → IsBound (map declaration seen) (found x) above
-    → IsEntered (entries (map declaration seen) (reverse (slice_range seen_ls from until))) xml above lists i → Keeps (map declaration seen) lists y × IsBound (map declaration seen) (found y) (scope_at lists i))
-    → (lists : List (List Declaration)) (above : List Declaration) → Keeps (map declaration names) lists x → IsBound (map declaration names) (found x) above
-    → IsEntered (entries (map declaration names) (reverse (slice_range ls from until))) xml above lists i → Keeps (map declaration names) lists y × IsBound (map declaration names) (found y) (scope_at lists i)
+pub entered_in : (names seen : List Namespace) (ls seen_ls : List ℕ) (x y : PrefixBindings) (from until i : ℕ) (xml : Bool) → seen ≡ names → seen_ls ≡ ls
+    → ((lists : List (List NamespaceDecl)) (above : List NamespaceDecl) → AreBindingsOf (map declaration seen) lists x → IsBound (map declaration seen) (bound_place x) above
+    → IsEntered (entries (map declaration seen) (reverse (slice_range seen_ls from until))) xml above lists i → AreBindingsOf (map declaration seen) lists y × IsBound (map declaration seen) (bound_place y) (scope_at lists i))
+    → (lists : List (List NamespaceDecl)) (above : List NamespaceDecl) → AreBindingsOf (map declaration names) lists x → IsBound (map declaration names) (bound_place x) above
+    → IsEntered (entries (map declaration names) (reverse (slice_range ls from until))) xml above lists i → AreBindingsOf (map declaration names) lists y × IsBound (map declaration names) (bound_place y) (scope_at lists i)
 entered_in names seen ls seen_ls x y from until i xml n l f = rw (sym n, sym l) f
 
-pub entered : (names : List Declaration) (listed after : List ℕ) (scopes rows : List Scope) (i own from until : ℕ) (xml : Bool) (above : List Declaration) → after ≡ listed ++ reverse (drop own listed) → from ≡ length listed → until ≡ length after
+pub entered : (names : List NamespaceDecl) (listed after : List ℕ) (scopes rows : List Scope) (i own from until : ℕ) (xml : Bool) (above : List NamespaceDecl) → after ≡ listed ++ reverse (drop own listed) → from ≡ length listed → until ≡ length after
     → IsListed names listed scopes after rows i (entries names (drop own listed) ++ others (entries names (drop own listed)) xml above)
     → IsEntered (entries names (reverse (slice_range after from until))) xml above (lists_of names after rows) i
 entered names listed after scopes rows i own from until xml above grown begins ends x =
@@ -167,7 +167,7 @@ entered names listed after scopes rows i own from until xml above grown begins e
 
 -- what the scope lists that has this place
 pub has_scope : (o n : ElementTables) (above own i : ℕ) (xml : Bool) → n.namespaces ≡ o.namespaces → ArePlaces (length o.namespaces.items.items) o.listed.items → AreScopes own o.scopes.items → own ≤ length o.listed.items
-    → Once (scope_at (lists_in o) above) → Once (entries (map declaration o.namespaces.items.items) (drop own o.listed.items)) → KeepsPlaces n → IsPresent n i
+    → Once (scope_at (lists_in o) above) → Once (entries (map declaration o.namespaces.items.items) (drop own o.listed.items)) → HasBindings n → HasBindingsOf n i
     → IsListed (map declaration o.namespaces.items.items) o.listed.items o.scopes.items n.listed.items n.scopes.items i
     (entries (map declaration o.namespaces.items.items) (drop own o.listed.items) ++ others (entries (map declaration o.namespaces.items.items) (drop own o.listed.items)) xml (scope_at (lists_in o) above))
     → HasScope o n above own xml i
@@ -193,7 +193,7 @@ has_scope o n above own i xml same ok scopes le once own_once kept present x =
     }
 
 -- nothing is declared
-pub nothing_listed : (names : List Declaration) (listed : List ℕ) (scopes : List Scope) (above own : ℕ) (xml : Bool) → AreScopes own scopes → own ≤ length listed → above < length scopes → length listed ≤ own → xml ≡ false
+pub nothing_listed : (names : List NamespaceDecl) (listed : List ℕ) (scopes : List Scope) (above own : ℕ) (xml : Bool) → AreScopes own scopes → own ≤ length listed → above < length scopes → length listed ≤ own → xml ≡ false
     → IsListed names listed scopes listed scopes above (entries names (drop own listed) ++ others (entries names (drop own listed)) xml (scope_at (lists_of names listed scopes) above))
 nothing_listed names listed scopes above own xml h le lt none off =
     let ds = scope_at (lists_of names listed scopes) above in

@@ -6,11 +6,11 @@ use Rattle.std.proofs.lemmas.List.{length-map, drop-map}
 use Rattle.std.proofs.lemmas.Slice.Zip.{firsts-zip}
 use Rattle.rox_tables.specs.declared.tables.AttributeData.{AttributeData}
 use Rattle.rox_tables.specs.declared.attributes.AttributeTable.{AttributeTable}
-use Rattle.rox_tables.specs.Lines.{AttributeRow, rows_of}
+use Rattle.rox_tables.specs.Rows.{AttributeRow, attribute_rows}
 use Rattle.rox_reading.proofs.Stretches.{slice-rest}
 
-pub length_rows : (t : AttributeTable) → length (rows_of t) ≡ length t.items.items
-length_rows t = sym (length-map (rows_of t) (λ r. r.0)) ∙ ap length (firsts-zip t.items.items t.places.items t.even)
+pub length_rows : (t : AttributeTable) → length (attribute_rows t) ≡ length t.items.items
+length_rows t = sym (length-map (attribute_rows t) (λ r. r.0)) ∙ ap length (firsts-zip t.items.items t.places.items t.even)
 
 -- one more in each
 pub zip_push : {X Y : Type 0} (xs : List X) (ys : List Y) (x : X) (y : Y) → length ys ≡ length xs → zip (xs ++ x ∷ []) (ys ++ y ∷ []) ≡ zip xs ys ++ (x, y) ∷ []
@@ -21,13 +21,13 @@ zip_push (a ∷ xs) (b ∷ ys) x y e = ap (λ r. (a, b) ∷ r) (zip_push xs ys x
 
 -- what the rows behind the first are, as a slice of their column
 pub data_behind : (t : AttributeTable) (seen : List AttributeData) (old : List AttributeRow) (from : ℕ) → seen ≡ t.items.items → from ≡ length old
-    → map (λ r. r.0) (drop (length old) (rows_of t)) ≡ slice_range seen from (length seen)
+    → map (λ r. r.0) (drop (length old) (attribute_rows t)) ≡ slice_range seen from (length seen)
 data_behind t seen old from same at =
-    sym (drop-map (λ (r : AttributeRow). r.0) (length old) (rows_of t)) ∙ ap (drop (length old)) (firsts-zip t.items.items t.places.items t.even)
+    sym (drop-map (λ (r : AttributeRow). r.0) (length old) (attribute_rows t)) ∙ ap (drop (length old)) (firsts-zip t.items.items t.places.items t.even)
     ∙ sym (ap (λ xs. slice_range xs from (length xs)) same ∙ slice-rest t.items.items from ∙ ap (λ i. drop i t.items.items) at)
 
 -- rows that were there before more came are within the column
-pub old_within : (t : AttributeTable) (seen : List AttributeData) (old more : List AttributeRow) (from : ℕ) → seen ≡ t.items.items → rows_of t ≡ old ++ more → from ≡ length old → from ≤ length seen
+pub old_within : (t : AttributeTable) (seen : List AttributeData) (old more : List AttributeRow) (from : ℕ) → seen ≡ t.items.items → attribute_rows t ≡ old ++ more → from ≡ length old → from ≤ length seen
 old_within t seen old more from same grown at =
     let n = length_rows t in
     let l = ap length grown ∙ length-append old more in
@@ -41,7 +41,7 @@ all_data P (r ∷ rows) h = (h.0, all_data P rows h.1)
 
 -- and of the column behind the first rows
 pub all_behind : (P : AttributeData → Type 0) (t : AttributeTable) (seen : List AttributeData) (old more : List AttributeRow) (from : ℕ)
-    → seen ≡ t.items.items → rows_of t ≡ old ++ more → from ≡ length old → AllByRecursion (λ (r : AttributeRow). P r.0) more → AllByRecursion P (slice_range seen from (length seen))
+    → seen ≡ t.items.items → attribute_rows t ≡ old ++ more → from ≡ length old → AllByRecursion (λ (r : AttributeRow). P r.0) more → AllByRecursion P (slice_range seen from (length seen))
 all_behind P t seen old more from same grown at h =
-    let behind : drop (length old) (rows_of t) ≡ more = ap (drop (length old)) grown ∙ drop-append_seam old more in
+    let behind : drop (length old) (attribute_rows t) ≡ more = ap (drop (length old)) grown ∙ drop-append_seam old more in
     subst (AllByRecursion P) (ap (map (λ (r : AttributeRow). r.0)) (sym behind) ∙ data_behind t seen old from same at) (all_data P more h)

@@ -6,25 +6,25 @@ use Rattle.std.proofs.lemmas.List.Elements.{filter-append}
 use Rattle.std.proofs.lemmas.List.Folds.{list_any-append}
 use Rattle.rox_grammar.specs.declared.fault.Fault.{Fault}
 use Rattle.rox_grammar.specs.declared.fault.Fault.TheVariants as fault
-use Rattle.rox_grammar.specs.Written.{Attribute, Declaration, declaration_of, local_span}
+use Rattle.rox_grammar.specs.Written.{Attribute, NamespaceDecl, namespace_decl_of, local_span}
 use Rattle.rox_grammar.specs.Tree.{is_declared, listed}
 use Rattle.rox_grammar.specs.WellNamed.{is_xml}
 use Rattle.rox_grammar.specs.Document.{with_new, most_pairs}
 use Rattle.rox_grammar.specs.Document.{listable_of}
-use Rattle.rox_reading.specs.Tags.{Held, uri_tested, declared}
-use Rattle.rox_grammar.specs.Failing.{Fails}
+use Rattle.rox_reading.specs.Tags.{TagSoFar, uri_tested, declared}
+use Rattle.rox_grammar.specs.Failures.{Fails}
 use Rattle.rox_grammar.specs.declared.failure.Failure.{Failure}
 use Rattle.rox_grammar.specs.declared.failure.Failure.TheVariants as failure
 use Rattle.rox_tables.specs.declared.tables.Namespace.{Namespace}
-use Rattle.rox_tables.specs.Lines.{declaration, entry, lists_of, AreScopes}
-use Rattle.rox_tables.specs.Prefixes.{Remembers}
+use Rattle.rox_tables.specs.Rows.{declaration, entry, lists_of, AreScopes}
+use Rattle.rox_tables.specs.PrefixSet.{IsPrefixSet}
 use Rattle.rox_tables.specs.Scopes.{entries, others, ArePlaces, Once}
-use Rattle.rox_tables.specs.Declares.{declares_xml, Declares, Declared}
+use Rattle.rox_tables.specs.TagDeclarations.{declares_xml, Declares, Declared}
 use Rattle.rox_tables.specs.declared.tables.Scope.{Scope}
 use Rattle.rox_tables.specs.declared.tables.ElementTables.{ElementTables}
-use Rattle.rox_tables.specs.TagScopes.{KeepsPlaces, lists_in}
-use Rattle.rox_tables.specs.Present.{Keeps}
-use Rattle.rox_tables.specs.declared.present.Present.{Present}
+use Rattle.rox_tables.specs.TagScopes.{HasBindings, lists_in}
+use Rattle.rox_tables.specs.Bindings.{AreBindingsOf}
+use Rattle.rox_tables.specs.declared.bindings.PrefixBindings.{PrefixBindings}
 use Rattle.rox_tables.proofs.Presenting.{keeps_grown}
 use Rattle.rox_tables.proofs.Remembering.{Key, remembers_same}
 use Rattle.rox_tables.proofs.Listing.{with_new-append, with_new-more, with_new-front, declares_nothing, listed-none, listed-others}
@@ -34,38 +34,38 @@ use Rattle.rox_tables.proofs.Stable.{all_append, all_drop, all_weaker, map_same,
 use Rattle.rox_tables.proofs.Ropes.{lists-append, scopes_more}
 
 -- the URI is refused
-pub uri_refused : (known : List Declaration) (a : Attribute) (h : Held) (f : Fault) → uri_tested a ≡ Err f → declared known a h ≡ Err f
+pub uri_refused : (known : List NamespaceDecl) (a : Attribute) (h : TagSoFar) (f : Fault) → uri_tested a ≡ Err f → declared known a h ≡ Err f
 unfolding declared
 uri_refused known a h f e = rw e refl
 
 -- the prefix is declared already
-pub declared_again : (known : List Declaration) (a : Attribute) (h : Held) → uri_tested a ≡ Ok tt → is_declared (declaration_of a).prefix h.own ≡ true
+pub declared_again : (known : List NamespaceDecl) (a : Attribute) (h : TagSoFar) → uri_tested a ≡ Ok tt → is_declared (namespace_decl_of a).prefix h.own ≡ true
     → declared known a h ≡ Err (fault.DuplicatedNamespace (local_span a.name a.name_end) a.start)
 unfolding declared
 declared_again known a h e again = rw (e, again) refl
 
 -- there are too many pairs
-pub declared_many : (known : List Declaration) (a : Attribute) (h : Held) → uri_tested a ≡ Ok tt → is_declared (declaration_of a).prefix h.own ≡ false
-    → most_pairs < length (with_new known (listable_of (h.own ++ declaration_of a ∷ []))) → declared known a h ≡ Err fault.NamespacesLimitReached
+pub declared_many : (known : List NamespaceDecl) (a : Attribute) (h : TagSoFar) → uri_tested a ≡ Ok tt → is_declared (namespace_decl_of a).prefix h.own ≡ false
+    → most_pairs < length (with_new known (listable_of (h.own ++ namespace_decl_of a ∷ []))) → declared known a h ≡ Err fault.NamespacesLimitReached
 unfolding declared
 declared_many known a h e new many = let k = lt-ltb _ _ many in rw (e, new, k) refl
 
-pub declared_new : (known : List Declaration) (a : Attribute) (h : Held) → uri_tested a ≡ Ok tt → is_declared (declaration_of a).prefix h.own ≡ false
-    → length (with_new known (listable_of (h.own ++ declaration_of a ∷ []))) ≤ most_pairs
-    → declared known a h ≡ Ok (record { own = h.own ++ declaration_of a ∷ []; attributes = h.attributes })
+pub declared_new : (known : List NamespaceDecl) (a : Attribute) (h : TagSoFar) → uri_tested a ≡ Ok tt → is_declared (namespace_decl_of a).prefix h.own ≡ false
+    → length (with_new known (listable_of (h.own ++ namespace_decl_of a ∷ []))) ≤ most_pairs
+    → declared known a h ≡ Ok (record { own = h.own ++ namespace_decl_of a ∷ []; attributes = h.attributes })
 unfolding declared
 declared_new known a h e new few = let k = le-ltb _ _ few in rw (e, new, k) refl
 
-listable-push : (own : List Declaration) (d : Declaration) → listable_of (own ++ d ∷ []) ≡ listable_of own ++ listable_of (d ∷ [])
+listable-push : (own : List NamespaceDecl) (d : NamespaceDecl) → listable_of (own ++ d ∷ []) ≡ listable_of own ++ listable_of (d ∷ [])
 listable-push own d = filter-append (λ d. not (is_xml d.prefix)) own (d ∷ [])
 
-listable-xml : (d : Declaration) → is_xml d.prefix ≡ true → listable_of (d ∷ []) ≡ []
+listable-xml : (d : NamespaceDecl) → is_xml d.prefix ≡ true → listable_of (d ∷ []) ≡ []
 listable-xml d h = rw h refl
 
-listable-other : (d : Declaration) → is_xml d.prefix ≡ false → listable_of (d ∷ []) ≡ d ∷ []
+listable-other : (d : NamespaceDecl) → is_xml d.prefix ≡ false → listable_of (d ∷ []) ≡ d ∷ []
 listable-other d h = rw h refl
 
-xml-push : (own : List Declaration) (d : Declaration) (b : Bool) → is_xml d.prefix ≡ b → declares_xml (own ++ d ∷ []) ≡ (declares_xml own || b)
+xml-push : (own : List NamespaceDecl) (d : NamespaceDecl) (b : Bool) → is_xml d.prefix ≡ b → declares_xml (own ++ d ∷ []) ≡ (declares_xml own || b)
 xml-push own d b h = list_any-append (λ d. is_xml d.prefix) own (d ∷ []) ∙ ap (λ x. declares_xml own || x) (ap (λ b. b || false) h ∙ or_no b)
   where
     or_no : (b : Bool) → (b || false) ≡ b
@@ -81,11 +81,11 @@ or_same true = refl
 or_same false = refl
 
 -- the declaration of `xml`
-pub declares_prefix_xml : (known : List Declaration) (before : List ℕ) (names : List Declaration) (listed : List ℕ) (xml : Bool) (a : Attribute) (h : Held) → Declares known before names listed xml h.own
-    → uri_tested a ≡ Ok tt → is_declared (declaration_of a).prefix h.own ≡ false → is_xml (declaration_of a).prefix ≡ true
+pub declares_prefix_xml : (known : List NamespaceDecl) (before : List ℕ) (names : List NamespaceDecl) (listed : List ℕ) (xml : Bool) (a : Attribute) (h : TagSoFar) → Declares known before names listed xml h.own
+    → uri_tested a ≡ Ok tt → is_declared (namespace_decl_of a).prefix h.own ≡ false → is_xml (namespace_decl_of a).prefix ≡ true
     → Declared known before names listed (Ok true) h (declared known a h)
 declares_prefix_xml known before names listed xml a h d uri new is =
-    let one = declaration_of a in
+    let one = namespace_decl_of a in
     let same : listable_of (h.own ++ one ∷ []) ≡ listable_of h.own = listable-push h.own one ∙ ap (λ xs. listable_of h.own ++ xs) (listable-xml one is) ∙ append-nil (listable_of h.own) in
     let pairs : with_new known (listable_of (h.own ++ one ∷ [])) ≡ names = ap (with_new known) same ∙ sym d.names_are in (
       h.own ++ one ∷ [],
@@ -102,12 +102,12 @@ declares_prefix_xml known before names listed xml a h d uri new is =
     )
 
 -- another one, whose place is pushed onto the listed places
-pub declares_other : (known : List Declaration) (before : List ℕ) (names next : List Declaration) (listed after : List ℕ) (xml : Bool) (a : Attribute) (h : Held) (place : ℕ)
-    → Declares known before names listed xml h.own → uri_tested a ≡ Ok tt → is_declared (declaration_of a).prefix h.own ≡ false → is_xml (declaration_of a).prefix ≡ false
-    → next ≡ with_new names (declaration_of a ∷ []) → length next ≤ most_pairs → place < length next → entry next place ≡ declaration_of a → after ≡ listed ++ place ∷ []
+pub declares_other : (known : List NamespaceDecl) (before : List ℕ) (names next : List NamespaceDecl) (listed after : List ℕ) (xml : Bool) (a : Attribute) (h : TagSoFar) (place : ℕ)
+    → Declares known before names listed xml h.own → uri_tested a ≡ Ok tt → is_declared (namespace_decl_of a).prefix h.own ≡ false → is_xml (namespace_decl_of a).prefix ≡ false
+    → next ≡ with_new names (namespace_decl_of a ∷ []) → length next ≤ most_pairs → place < length next → entry next place ≡ namespace_decl_of a → after ≡ listed ++ place ∷ []
     → Declared known before next after (Ok xml) h (declared known a h)
 declares_other known before names next listed after xml a h place d uri new is grown few here at push =
-    let one = declaration_of a in
+    let one = namespace_decl_of a in
     let more : listable_of (h.own ++ one ∷ []) ≡ listable_of h.own ++ one ∷ [] = listable-push h.own one ∙ ap (λ xs. listable_of h.own ++ xs) (listable-other one is) in
     let pairs : with_new known (listable_of (h.own ++ one ∷ [])) ≡ next =
     ap (with_new known) more ∙ with_new-append known (listable_of h.own) (one ∷ []) ∙ ap (λ ns. with_new ns (one ∷ [])) (sym d.names_are) ∙ sym grown in
@@ -129,7 +129,7 @@ declares_other known before names next listed after xml a h place d uri new is g
       },
     )
   where
-    entries-push : (names : List Declaration) (places : List ℕ) (p : ℕ) → entries names (places ++ p ∷ []) ≡ entries names places ++ entry names p ∷ []
+    entries-push : (names : List NamespaceDecl) (places : List ℕ) (p : ℕ) → entries names (places ++ p ∷ []) ≡ entries names places ++ entry names p ∷ []
     entries-push names [] p = refl
     entries-push names (x ∷ xs) p = ap (λ ys. entry names x ∷ ys) (entries-push names xs p)
 
@@ -142,7 +142,7 @@ own_places before listed mine own o l = ap (drop own) l ∙ ap (λ n. drop n (be
     dropped (x ∷ xs) ys = dropped xs ys
 
 -- those listed from where the tag began are what it declares
-pub own_listed : (known : List Declaration) (before : List ℕ) (names seen_names : List Declaration) (listed seen : List ℕ) (xml : Bool) (ds : List Declaration) (own : ℕ)
+pub own_listed : (known : List NamespaceDecl) (before : List ℕ) (names seen_names : List NamespaceDecl) (listed seen : List ℕ) (xml : Bool) (ds : List NamespaceDecl) (own : ℕ)
     → own ≡ length before → seen_names ≡ names → seen ≡ listed → Declares known before names listed xml ds
     → entries seen_names (slice_range seen own (length seen)) ≡ listable_of ds
 own_listed known before names seen_names listed seen xml ds own o n s d =
@@ -154,18 +154,18 @@ fails_by failure.Memory r read is go = tt
 fails_by (failure.Fault f) r read is go = go f is
 
 -- one pair too many
-pub many_pairs : (known : List Declaration) (before : List ℕ) (names : List Declaration) (listed : List ℕ) (xml : Bool) (a : Attribute) (h : Held)
-    → Declares known before names listed xml h.own → is_xml (declaration_of a).prefix ≡ false → most_pairs < length (with_new names (declaration_of a ∷ []))
-    → most_pairs < length (with_new known (listable_of (h.own ++ declaration_of a ∷ [])))
+pub many_pairs : (known : List NamespaceDecl) (before : List ℕ) (names : List NamespaceDecl) (listed : List ℕ) (xml : Bool) (a : Attribute) (h : TagSoFar)
+    → Declares known before names listed xml h.own → is_xml (namespace_decl_of a).prefix ≡ false → most_pairs < length (with_new names (namespace_decl_of a ∷ []))
+    → most_pairs < length (with_new known (listable_of (h.own ++ namespace_decl_of a ∷ [])))
 many_pairs known before names listed xml a h d is many =
-    let one = declaration_of a in
+    let one = namespace_decl_of a in
     let more : listable_of (h.own ++ one ∷ []) ≡ listable_of h.own ++ one ∷ [] = listable-push h.own one ∙ ap (λ xs. listable_of h.own ++ xs) (listable-other one is) in
     let pairs : with_new known (listable_of (h.own ++ one ∷ [])) ≡ with_new names (one ∷ []) =
     ap (with_new known) more ∙ with_new-append known (listable_of h.own) (one ∷ []) ∙ ap (λ ns. with_new ns (one ∷ [])) (sym d.names_are) in
     rw pairs many
 
 -- the tag declares nothing
-pub nothing_declared : (known : List Declaration) (before : List ℕ) (names : List Declaration) (listed : List ℕ) (xml : Bool) (ds : List Declaration) (own : ℕ) → own ≡ length before
+pub nothing_declared : (known : List NamespaceDecl) (before : List ℕ) (names : List NamespaceDecl) (listed : List ℕ) (xml : Bool) (ds : List NamespaceDecl) (own : ℕ) → own ≡ length before
     → length listed ≤ own → xml ≡ false → Declares known before names listed xml ds → ds ≡ []
 nothing_declared known before names listed xml ds own o short off d =
     let n : length listed ≡ length before + length d.mine = ap length d.listed_are ∙ length-append before d.mine in
@@ -176,11 +176,11 @@ nothing_declared known before names listed xml ds own o short off d =
     empty [] h = refl
     empty (x ∷ xs) h = absurd (omega arith)
 
-pub lists_above : (above ds : List Declaration) → ds ≡ [] → above ≡ listed above ds
+pub lists_above : (above ds : List NamespaceDecl) → ds ≡ [] → above ≡ listed above ds
 lists_above above ds e = sym (ap (listed above) e ∙ listed-none above)
 
 -- what the scope that it makes lists
-pub scope_declared : (known : List Declaration) (before : List ℕ) (names : List Declaration) (old : List ℕ) (xml : Bool) (ds above lists : List Declaration) (own : ℕ) → own ≡ length before → Declares known before names old xml ds
+pub scope_declared : (known : List NamespaceDecl) (before : List ℕ) (names : List NamespaceDecl) (old : List ℕ) (xml : Bool) (ds above lists : List NamespaceDecl) (own : ℕ) → own ≡ length before → Declares known before names old xml ds
     → lists ≡ entries names (drop own old) ++ others (entries names (drop own old)) xml above → lists ≡ listed above ds
 scope_declared known before names old xml ds above lists own o d is =
     let mine : drop own old ≡ d.mine = own_places before old d.mine own o d.listed_are in
@@ -188,7 +188,7 @@ scope_declared known before names old xml ds above lists own o d is =
     ∙ sym (listed-others above ds)
 
 -- the listed places with one more, where the table has a pair more or is as before
-pub places_after : (old rows : List Namespace) (listed after : List ℕ) (d : Declaration) (place : ℕ) → map declaration rows ≡ with_new (map declaration old) (d ∷ []) → place < length rows
+pub places_after : (old rows : List Namespace) (listed after : List ℕ) (d : NamespaceDecl) (place : ℕ) → map declaration rows ≡ with_new (map declaration old) (d ∷ []) → place < length rows
     → after ≡ listed ++ place ∷ [] → ArePlaces (length old) listed → ArePlaces (length rows) after
 places_after old rows listed after d place grown here push ok =
     let long = length-map rows declaration in
@@ -197,8 +197,8 @@ places_after old rows listed after d place grown here push ok =
     rw push (all_append (λ i. i < length rows) listed (place ∷ []) (all_weaker (λ i. i < length old) (λ i. i < length rows) listed (λ i h. omega arith) ok) (here, tt))
 
 -- the set of prefixes, where the table has a pair more
-pub remembers_after : (old rows : List Namespace) (listed : List ℕ) (d : Declaration) (own : ℕ) (keys : List Key) → map declaration rows ≡ with_new (map declaration old) (d ∷ [])
-    → ArePlaces (length old) listed → Remembers (map declaration old) (drop own listed) keys → Remembers (map declaration rows) (drop own listed) keys
+pub remembers_after : (old rows : List Namespace) (listed : List ℕ) (d : NamespaceDecl) (own : ℕ) (keys : List Key) → map declaration rows ≡ with_new (map declaration old) (d ∷ [])
+    → ArePlaces (length old) listed → IsPrefixSet (map declaration old) (drop own listed) keys → IsPrefixSet (map declaration rows) (drop own listed) keys
 remembers_after old rows listed d own keys grown ok h =
     let names = map declaration old in
     let front = with_new-front names (d ∷ []) in
@@ -209,7 +209,7 @@ remembers_after old rows listed d own keys grown ok h =
     remembers_same names (map declaration rows) (drop own listed) keys stays h
 
 -- each prefix is listed once, where one more is listed
-pub once_after : (old rows : List Namespace) (listed after : List ℕ) (d : Declaration) (place own : ℕ) → map declaration rows ≡ with_new (map declaration old) (d ∷ [])
+pub once_after : (old rows : List Namespace) (listed after : List ℕ) (d : NamespaceDecl) (place own : ℕ) → map declaration rows ≡ with_new (map declaration old) (d ∷ [])
     → after ≡ listed ++ place ∷ [] → own ≤ length listed → ArePlaces (length old) listed → entry (map declaration rows) place ≡ d
     → is_declared d.prefix (entries (map declaration old) (drop own listed)) ≡ false → Once (entries (map declaration old) (drop own listed)) → Once (entries (map declaration rows) (drop own after))
 once_after old rows listed after d place own grown push own_in ok is absent once =
@@ -226,7 +226,7 @@ once_after old rows listed after d place own grown push own_in ok is absent once
     subst Once (sym whole) (once_more (entries names (drop own listed)) d once absent)
 
 -- nothing is listed yet
-pub once_none : (names : List Declaration) (listed : List ℕ) (own : ℕ) → own ≡ length listed → Once (entries names (drop own listed))
+pub once_none : (names : List NamespaceDecl) (listed : List ℕ) (own : ℕ) → own ≡ length listed → Once (entries names (drop own listed))
 once_none names listed own e = subst (λ n. Once (entries names (drop n listed))) (sym e) (all listed)
   where
     all : (xs : List ℕ) → Once (entries names (drop (length xs) xs))
@@ -234,14 +234,14 @@ once_none names listed own e = subst (λ n. Once (entries names (drop n listed))
     all (x ∷ xs) = all xs
 
 -- the places of prefixes, where the table has a pair more
-pub kept_after : (old rows : List Namespace) (lists : List (List Declaration)) (d : Declaration) (x : Present) → map declaration rows ≡ with_new (map declaration old) (d ∷ [])
-    → Keeps (map declaration old) lists x → Keeps (map declaration rows) lists x
+pub kept_after : (old rows : List Namespace) (lists : List (List NamespaceDecl)) (d : NamespaceDecl) (x : PrefixBindings) → map declaration rows ≡ with_new (map declaration old) (d ∷ [])
+    → AreBindingsOf (map declaration old) lists x → AreBindingsOf (map declaration rows) lists x
 kept_after old rows lists d x grown h =
     let front = with_new-front (map declaration old) (d ∷ []) in
     keeps_grown (map declaration old) (map declaration rows) lists lists x front.0 [] (grown ∙ front.1) (sym (append-nil lists)) h
 
 -- what scopes list, where the table has a pair more and one more is listed
-pub lists_after : (old rows : List Namespace) (listed after : List ℕ) (d : Declaration) (place own : ℕ) (scopes : List Scope) → map declaration rows ≡ with_new (map declaration old) (d ∷ [])
+pub lists_after : (old rows : List Namespace) (listed after : List ℕ) (d : NamespaceDecl) (place own : ℕ) (scopes : List Scope) → map declaration rows ≡ with_new (map declaration old) (d ∷ [])
     → after ≡ listed ++ place ∷ [] → own ≤ length listed → ArePlaces (length old) listed → AreScopes own scopes
     → lists_of (map declaration rows) after scopes ≡ lists_of (map declaration old) listed scopes
 lists_after old rows listed after d place own scopes grown push here ok h =
@@ -250,9 +250,9 @@ lists_after old rows listed after d place own scopes grown push here ok h =
     ∙ lists-append (map declaration old) front.0 listed (place ∷ []) scopes (rw (length-map old declaration) ok) (scopes_more own (length listed) scopes here h)
 
 -- the places of prefixes, where a scope is more
-pub kept_listed : (a b : ElementTables) → b.namespaces ≡ a.namespaces → b.present ≡ a.present → (more : List (List Declaration)) × (lists_in b ≡ lists_in a ++ more) → KeepsPlaces a → KeepsPlaces b
+pub kept_listed : (a b : ElementTables) → b.namespaces ≡ a.namespaces → b.present ≡ a.present → (more : List (List NamespaceDecl)) × (lists_in b ≡ lists_in a ++ more) → HasBindings a → HasBindings b
 kept_listed a b n p (more, l) h =
     let names = map declaration a.namespaces.items.items in
     let next = map declaration b.namespaces.items.items in
     let same : next ≡ names ++ [] = ap (λ v. map declaration v.items.items) n ∙ sym (append-nil names) in
-    keeps_grown names next (lists_in a) (lists_in b) b.present [] more same l (subst (Keeps names (lists_in a)) (sym p) h)
+    keeps_grown names next (lists_in a) (lists_in b) b.present [] more same l (subst (AreBindingsOf names (lists_in a)) (sym p) h)

@@ -2,16 +2,16 @@
 use Rattle.std.proofs.Common.{◌≡◌, ℕ, zero, suc, ◌<◌, true, false, List, [], ◌∷◌, length, map, get_or, Bor, Option, Some, None, refl, sym, ap, subst, ◌∙◌, arith}
 use Rattle.std.specs.Option.{IfSome, IfNone}
 use Rattle.std.proofs.lemmas.List.{length-map}
-use Rattle.rox_grammar.specs.Written.{Declaration}
+use Rattle.rox_grammar.specs.Written.{NamespaceDecl}
 use Rattle.rox_tables.specs.declared.tables.Namespace.{Namespace}
 use Rattle.rox_tables.specs.declared.tables.ElementTables.{ElementTables}
 use Rattle.rox_tables.specs.declared.tables.Scope.{Scope}
 use Rattle.rox_tables.specs.declared.tables.Scope.TheVariants as scope
 use Rattle.rox_tables.specs.declared.tables.Stretch.{Stretch}
-use Rattle.rox_tables.specs.Lines.{declaration, scope_at, OptionWithin}
+use Rattle.rox_tables.specs.Rows.{declaration, scope_at, OptionWithin}
 use Rattle.rox_tables.specs.Scopes.{entries, places_in, is_few_at, ArePlaces}
-use Rattle.rox_tables.specs.Present.{found, IsBound, Finds, LooksWithin, places_view}
-use Rattle.rox_tables.specs.TagScopes.{IsPresent, lists_in}
+use Rattle.rox_tables.specs.Bindings.{bound_place, IsBound, FindsBinding, LooksWithin, places_view}
+use Rattle.rox_tables.specs.TagScopes.{HasBindingsOf, lists_in}
 use Rattle.rox_tables.proofs.Ropes.{no_row, scope_places, all_places}
 use Rattle.rox_tables.proofs.Presenting.{finds_bound, finds_few}
 
@@ -20,7 +20,7 @@ pub few_not : (scopes : List Scope) (i : ℕ) → i < length scopes → ((s : St
 few_not [] i lt h = absurd (omega arith)
 few_not (scope.Few s ∷ ss) zero lt h = absurd (h s refl)
 few_not (scope.Back s ∷ ss) zero lt h = refl
-few_not (scope.Both b ∷ ss) zero lt h = refl
+few_not (scope.Concat b ∷ ss) zero lt h = refl
 few_not (x ∷ ss) (suc i) lt h = few_not ss i (omega arith) h
 
 -- and one that is
@@ -28,31 +28,31 @@ pub few_is : (scopes : List Scope) (i : ℕ) (s : Stretch) → i < length scopes
 few_is [] i s lt h = absurd (omega arith)
 few_is (scope.Few x ∷ ss) zero s lt h = refl
 few_is (scope.Back x ∷ ss) zero s lt h = cc h
-few_is (scope.Both b ∷ ss) zero s lt h = cc h
+few_is (scope.Concat b ∷ ss) zero s lt h = cc h
 few_is (x ∷ ss) (suc i) s lt h = few_is ss i s (omega arith) h
 
 -- nothing is to be known of few
-pub present_few : (t : ElementTables) (scope : ℕ) → is_few_at t.scopes.items scope ≡ true → IsPresent t scope
-unfolding IsPresent
+pub present_few : (t : ElementTables) (scope : ℕ) → is_few_at t.scopes.items scope ≡ true → HasBindingsOf t scope
+unfolding HasBindingsOf
 present_few t scope few = λ many. cc (few, many)
 
-pub present_by : (t : ElementTables) (scope : ℕ) → IsBound (map declaration t.namespaces.items.items) (found t.present) (scope_at (lists_in t) scope) → IsPresent t scope
-unfolding IsPresent
+pub present_by : (t : ElementTables) (scope : ℕ) → IsBound (map declaration t.namespaces.items.items) (bound_place t.present) (scope_at (lists_in t) scope) → HasBindingsOf t scope
+unfolding HasBindingsOf
 present_by t scope h = λ many. h
 
 -- what is looked up is in the table
 pub looks_in : (t : ElementTables) (few : Option (Bor (List ℕ))) (scope : ℕ) → ArePlaces (length t.namespaces.items.items) t.listed.items
-    → IfSome few (λ p. p.now ≡ places_in t.listed.items t.scopes.items scope) → IfNone few (is_few_at t.scopes.items scope ≡ false) → IsPresent t scope
+    → IfSome few (λ p. p.now ≡ places_in t.listed.items t.scopes.items scope) → IfNone few (is_few_at t.scopes.items scope ≡ false) → HasBindingsOf t scope
     → LooksWithin (length t.namespaces.items.items) (places_view few) t.present
-unfolding IsPresent
-looks_in t None scope all few many h = λ p. subst (λ n. OptionWithin n (found t.present p)) (length-map t.namespaces.items.items declaration) ((h many).within p)
+unfolding HasBindingsOf
+looks_in t None scope all few many h = λ p. subst (λ n. OptionWithin n (bound_place t.present p)) (length-map t.namespaces.items.items declaration) ((h many).within p)
 looks_in t (Some ps) scope all few many h = subst (ArePlaces (length t.namespaces.items.items)) (sym few) (all_places (length t.namespaces.items.items) t.listed.items t.scopes.items scope all)
 
 -- and is what the scope lists
 pub finds_in : (t : ElementTables) (few : Option (Bor (List ℕ))) (scope : ℕ)
-    → IfSome few (λ p. p.now ≡ places_in t.listed.items t.scopes.items scope) → IfNone few (is_few_at t.scopes.items scope ≡ false) → IsPresent t scope
-    → Finds (map declaration t.namespaces.items.items) (places_view few) t.present (scope_at (lists_in t) scope)
-unfolding IsPresent
+    → IfSome few (λ p. p.now ≡ places_in t.listed.items t.scopes.items scope) → IfNone few (is_few_at t.scopes.items scope ≡ false) → HasBindingsOf t scope
+    → FindsBinding (map declaration t.namespaces.items.items) (places_view few) t.present (scope_at (lists_in t) scope)
+unfolding HasBindingsOf
 finds_in t None scope few many h = finds_bound (map declaration t.namespaces.items.items) t.present (scope_at (lists_in t) scope) (h many)
 finds_in t (Some ps) scope few many h =
     let names = map declaration t.namespaces.items.items in
@@ -61,21 +61,21 @@ finds_in t (Some ps) scope few many h =
 -- ---- as the slices of the tables say it
 
 pub looks_for : (t : ElementTables) (scopes : List Scope) (listed : List ℕ) (few : Option (Bor (List ℕ))) (scope : ℕ) → scopes ≡ t.scopes.items → listed ≡ t.listed.items
-    → ArePlaces (length t.namespaces.items.items) t.listed.items → IfSome few (λ p. p.now ≡ places_in listed scopes scope) → IfNone few (is_few_at scopes scope ≡ false) → IsPresent t scope
+    → ArePlaces (length t.namespaces.items.items) t.listed.items → IfSome few (λ p. p.now ≡ places_in listed scopes scope) → IfNone few (is_few_at scopes scope ≡ false) → HasBindingsOf t scope
     → LooksWithin (length t.namespaces.items.items) (places_view few) t.present
 looks_for t scopes listed few scope s l all =
-    subst (λ xs. IfSome few (λ p. p.now ≡ places_in listed xs scope) → IfNone few (is_few_at xs scope ≡ false) → IsPresent t scope → LooksWithin (length t.namespaces.items.items) (places_view few) t.present) (sym s)
-    (subst (λ xs. IfSome few (λ p. p.now ≡ places_in xs t.scopes.items scope) → IfNone few (is_few_at t.scopes.items scope ≡ false) → IsPresent t scope → LooksWithin (length t.namespaces.items.items) (places_view few) t.present) (sym l)
+    subst (λ xs. IfSome few (λ p. p.now ≡ places_in listed xs scope) → IfNone few (is_few_at xs scope ≡ false) → HasBindingsOf t scope → LooksWithin (length t.namespaces.items.items) (places_view few) t.present) (sym s)
+    (subst (λ xs. IfSome few (λ p. p.now ≡ places_in xs t.scopes.items scope) → IfNone few (is_few_at t.scopes.items scope ≡ false) → HasBindingsOf t scope → LooksWithin (length t.namespaces.items.items) (places_view few) t.present) (sym l)
     (looks_in t few scope all))
 
 pub found_for : (t : ElementTables) (scopes : List Scope) (listed : List ℕ) (few : Option (Bor (List ℕ))) (scope : ℕ) → scopes ≡ t.scopes.items → listed ≡ t.listed.items
-    → IfSome few (λ p. p.now ≡ places_in listed scopes scope) → IfNone few (is_few_at scopes scope ≡ false) → IsPresent t scope
-    → Finds (map declaration t.namespaces.items.items) (places_view few) t.present (scope_at (lists_in t) scope)
+    → IfSome few (λ p. p.now ≡ places_in listed scopes scope) → IfNone few (is_few_at scopes scope ≡ false) → HasBindingsOf t scope
+    → FindsBinding (map declaration t.namespaces.items.items) (places_view few) t.present (scope_at (lists_in t) scope)
 found_for t scopes listed few scope s l =
-    subst (λ xs. IfSome few (λ p. p.now ≡ places_in listed xs scope) → IfNone few (is_few_at xs scope ≡ false) → IsPresent t scope → Finds (map declaration t.namespaces.items.items) (places_view few) t.present (scope_at (lists_in t) scope)) (sym s)
-    (subst (λ xs. IfSome few (λ p. p.now ≡ places_in xs t.scopes.items scope) → IfNone few (is_few_at t.scopes.items scope ≡ false) → IsPresent t scope → Finds (map declaration t.namespaces.items.items) (places_view few) t.present (scope_at (lists_in t) scope)) (sym l)
+    subst (λ xs. IfSome few (λ p. p.now ≡ places_in listed xs scope) → IfNone few (is_few_at xs scope ≡ false) → HasBindingsOf t scope → FindsBinding (map declaration t.namespaces.items.items) (places_view few) t.present (scope_at (lists_in t) scope)) (sym s)
+    (subst (λ xs. IfSome few (λ p. p.now ≡ places_in xs t.scopes.items scope) → IfNone few (is_few_at t.scopes.items scope ≡ false) → HasBindingsOf t scope → FindsBinding (map declaration t.namespaces.items.items) (places_view few) t.present (scope_at (lists_in t) scope)) (sym l)
     (finds_in t few scope))
 
-pub seen_by : (t : ElementTables) (names : List Namespace) (few : Option (List ℕ)) (ds : List Declaration) → names ≡ t.namespaces.items.items
-    → Finds (map declaration t.namespaces.items.items) few t.present ds → Finds (map declaration names) few t.present ds
-seen_by t names few ds n h = subst (λ ns. Finds (map declaration ns) few t.present ds) (sym n) h
+pub seen_by : (t : ElementTables) (names : List Namespace) (few : Option (List ℕ)) (ds : List NamespaceDecl) → names ≡ t.namespaces.items.items
+    → FindsBinding (map declaration t.namespaces.items.items) few t.present ds → FindsBinding (map declaration names) few t.present ds
+seen_by t names few ds n h = subst (λ ns. FindsBinding (map declaration ns) few t.present ds) (sym n) h

@@ -1,12 +1,12 @@
 -- Lists that have each prefix once, and what is left of them where one is hidden.
 use Rattle.std.proofs.Common.{◌≡◌, ℕ, zero, suc, ◌+◌, ◌<◌, ◌&&◌, ◌||◌, not, filter, Bool, true, false, List, [], ◌∷◌, ◌++◌, Option, Some, if◌then◌else◌, length, get_or, refl, sym, ap, ◌∙◌, arith}
 use Rattle.std.proofs.lemmas.List.Folds.{list_any-append}
-use Rattle.rox_grammar.specs.Written.{Declaration}
+use Rattle.rox_grammar.specs.Written.{NamespaceDecl}
 use Rattle.rox_grammar.specs.Tree.{same_prefix, is_declared}
 use Rattle.rox_grammar.specs.WellNamed.{is_xml}
-use Rattle.rox_grammar.specs.Words.{word_text}
+use Rattle.rox_grammar.specs.FixedTexts.{word_text}
 use Rattle.rox_grammar.specs.declared.fault.Word.TheVariants.{Xml}
-use Rattle.rox_tables.specs.Lines.{entry}
+use Rattle.rox_tables.specs.Rows.{entry}
 use Rattle.rox_tables.specs.Scopes.{entries, others, Once, unlisted}
 use Rattle.rox_tables.proofs.Leaves.{cut}
 use Rattle.rox_tables.proofs.Listing.{same_prefix-sym}
@@ -17,12 +17,12 @@ or_parts true b h = cc h
 or_parts false b h = (refl, h)
 
 -- nothing is left out where the prefix is not declared
-pub unlisted_none : (p : Option (List ℕ)) (ds : List Declaration) → is_declared p ds ≡ false → unlisted p ds ≡ ds
+pub unlisted_none : (p : Option (List ℕ)) (ds : List NamespaceDecl) → is_declared p ds ≡ false → unlisted p ds ≡ ds
 unlisted_none p [] h = refl
 unlisted_none p (d ∷ ds) h = let o = or_parts (same_prefix d.prefix p) (is_declared p ds) h in rw o.0 (ap (λ xs. d ∷ xs) (unlisted_none p ds o.1))
 
 -- a prefix that is not declared is not among those that are left
-pub filtered_none : (f : Declaration → Bool) (p : Option (List ℕ)) (ds : List Declaration) → is_declared p ds ≡ false → is_declared p (filter f ds) ≡ false
+pub filtered_none : (f : NamespaceDecl → Bool) (p : Option (List ℕ)) (ds : List NamespaceDecl) → is_declared p ds ≡ false → is_declared p (filter f ds) ≡ false
 filtered_none f p [] h = refl
 filtered_none f p (d ∷ ds) h =
     let o = or_parts (same_prefix d.prefix p) (is_declared p ds) h in
@@ -32,7 +32,7 @@ filtered_none f p (d ∷ ds) h =
     one true r = rw (or_parts (same_prefix d.prefix p) (is_declared p ds) h).0 r
     one false r = r
 
-pub once_filtered : (f : Declaration → Bool) (ds : List Declaration) → Once ds → Once (filter f ds)
+pub once_filtered : (f : NamespaceDecl → Bool) (ds : List NamespaceDecl) → Once ds → Once (filter f ds)
 once_filtered f [] h = tt
 once_filtered f (d ∷ ds) (n, h) = one (f d) (filtered_none f d.prefix ds n) (once_filtered f ds h)
   where
@@ -41,7 +41,7 @@ once_filtered f (d ∷ ds) (n, h) = one (f d) (filtered_none f d.prefix ds n) (o
     one false m r = r
 
 -- the one with this prefix is left out alone
-pub unlisted_one : (names : List Declaration) (places : List ℕ) (i : ℕ) (p : Option (List ℕ)) → Once (entries names places) → i < length places → same_prefix (entry names (get_or places i 0)).prefix p ≡ true
+pub unlisted_one : (names : List NamespaceDecl) (places : List ℕ) (i : ℕ) (p : Option (List ℕ)) → Once (entries names places) → i < length places → same_prefix (entry names (get_or places i 0)).prefix p ≡ true
     → entries names (cut i places) ≡ unlisted p (entries names places)
 unlisted_one names [] i p h lt s = absurd (omega arith)
 unlisted_one names (x ∷ xs) zero p (n, h) lt s =
@@ -60,7 +60,7 @@ unlisted_one names (x ∷ xs) (suc i) p (n, h) lt s =
     apart (y ∷ ys) (suc i) n lt s = apart ys i (or_parts _ _ n).1 (omega arith) s
 
 -- one more that is not declared yet
-pub once_more : (ds : List Declaration) (d : Declaration) → Once ds → is_declared d.prefix ds ≡ false → Once (ds ++ d ∷ [])
+pub once_more : (ds : List NamespaceDecl) (d : NamespaceDecl) → Once ds → is_declared d.prefix ds ≡ false → Once (ds ++ d ∷ [])
 once_more [] d h n = (refl, tt)
 once_more (e ∷ ds) d (m, h) n =
     let o = or_parts (same_prefix e.prefix d.prefix) (is_declared d.prefix ds) n in
@@ -75,7 +75,7 @@ or_swap false true c = refl
 or_swap false false true = refl
 or_swap false false false = refl
 
-filter_both : (f g h : Declaration → Bool) (ds : List Declaration) → ((d : Declaration) → h d ≡ (f d && g d)) → filter f (filter g ds) ≡ filter h ds
+filter_both : (f g h : NamespaceDecl → Bool) (ds : List NamespaceDecl) → ((d : NamespaceDecl) → h d ≡ (f d && g d)) → filter f (filter g ds) ≡ filter h ds
 filter_both f g h [] e = refl
 filter_both f g h (d ∷ ds) e = one (g d) (f d) refl refl (filter_both f g h ds e)
   where
@@ -96,32 +96,32 @@ not_both false true = refl
 not_both false false = refl
 
 -- one more is hidden
-pub others_more : (own : List Declaration) (d : Declaration) (ds : List Declaration) → unlisted d.prefix (others own false ds) ≡ others (own ++ d ∷ []) false ds
+pub others_more : (own : List NamespaceDecl) (d : NamespaceDecl) (ds : List NamespaceDecl) → unlisted d.prefix (others own false ds) ≡ others (own ++ d ∷ []) false ds
 others_more own d ds =
     filter_both (λ e. not (same_prefix e.prefix d.prefix)) (λ e. not (is_declared e.prefix own || (false && is_xml e.prefix))) (λ e. not (is_declared e.prefix (own ++ d ∷ []) || (false && is_xml e.prefix))) ds
     (λ e. ap not (or_none (is_declared e.prefix (own ++ d ∷ [])) ∙ list_any-append (λ x. same_prefix x.prefix e.prefix) own (d ∷ [])
     ∙ ap (λ b. is_declared e.prefix own || b) (or_none (same_prefix d.prefix e.prefix) ∙ same_prefix-sym d.prefix e.prefix))
     ∙ not_both (is_declared e.prefix own) (same_prefix e.prefix d.prefix) ∙ ap (λ b. not (same_prefix e.prefix d.prefix) && not b) (sym (or_none (is_declared e.prefix own))))
 
-pub others_none : (ds : List Declaration) → others [] false ds ≡ ds
+pub others_none : (ds : List NamespaceDecl) → others [] false ds ≡ ds
 others_none [] = refl
 others_none (d ∷ ds) = ap (λ xs. d ∷ xs) (others_none ds)
 
 -- what is left has each prefix once, and not one that was not declared
-pub once_others : (own : List Declaration) (xml : Bool) (ds : List Declaration) → Once ds → Once (others own xml ds)
+pub once_others : (own : List NamespaceDecl) (xml : Bool) (ds : List NamespaceDecl) → Once ds → Once (others own xml ds)
 once_others own xml ds h = once_filtered (λ d. not (is_declared d.prefix own || (xml && is_xml d.prefix))) ds h
 
-pub absent_others : (own : List Declaration) (xml : Bool) (p : Option (List ℕ)) (ds : List Declaration) → is_declared p ds ≡ false → is_declared p (others own xml ds) ≡ false
+pub absent_others : (own : List NamespaceDecl) (xml : Bool) (p : Option (List ℕ)) (ds : List NamespaceDecl) → is_declared p ds ≡ false → is_declared p (others own xml ds) ≡ false
 absent_others own xml p ds h = filtered_none (λ d. not (is_declared d.prefix own || (xml && is_xml d.prefix))) p ds h
 
 -- `xml` is hidden too
-pub others_xml : (own ds : List Declaration) → unlisted (Some (word_text Xml)) (others own false ds) ≡ others own true ds
+pub others_xml : (own ds : List NamespaceDecl) → unlisted (Some (word_text Xml)) (others own false ds) ≡ others own true ds
 others_xml own ds =
     filter_both (λ e. not (is_xml e.prefix)) (λ e. not (is_declared e.prefix own || (false && is_xml e.prefix))) (λ e. not (is_declared e.prefix own || (true && is_xml e.prefix))) ds
     (λ e. not_both (is_declared e.prefix own) (is_xml e.prefix) ∙ ap (λ b. not (is_xml e.prefix) && not b) (sym (or_none (is_declared e.prefix own))))
 
 -- what is declared is not among the others
-others_own : (own : List Declaration) (xml : Bool) (p : Option (List ℕ)) (ds : List Declaration) → is_declared p own ≡ true → is_declared p (others own xml ds) ≡ false
+others_own : (own : List NamespaceDecl) (xml : Bool) (p : Option (List ℕ)) (ds : List NamespaceDecl) → is_declared p own ≡ true → is_declared p (others own xml ds) ≡ false
 others_own own xml p [] h = refl
 others_own own xml p (d ∷ ds) h = one (is_declared d.prefix own || (xml && is_xml d.prefix)) refl (others_own own xml p ds h)
   where
@@ -135,7 +135,7 @@ others_own own xml p (d ∷ ds) h = one (is_declared d.prefix own || (xml && is_
         let other : same_prefix d.prefix p ≡ false = apart (same_prefix d.prefix p) refl (or_parts (is_declared d.prefix own) (xml && is_xml d.prefix) e).0 in
         rw other r
 
-once_append : (xs ys : List Declaration) → Once xs → Once ys → ((p : Option (List ℕ)) → is_declared p xs ≡ true → is_declared p ys ≡ false) → Once (xs ++ ys)
+once_append : (xs ys : List NamespaceDecl) → Once xs → Once ys → ((p : Option (List ℕ)) → is_declared p xs ≡ true → is_declared p ys ≡ false) → Once (xs ++ ys)
 once_append [] ys h k apart = k
 once_append (x ∷ xs) ys (n, h) k apart =
     let here : is_declared x.prefix ys ≡ false = apart x.prefix (rw (same_prefix-refl x.prefix) refl) in (
@@ -148,5 +148,5 @@ once_append (x ∷ xs) ys (n, h) k apart =
     either false b e = e
 
 -- what an element lists that declares each prefix once
-pub once_both : (own : List Declaration) (xml : Bool) (ds : List Declaration) → Once own → Once ds → Once (own ++ others own xml ds)
+pub once_both : (own : List NamespaceDecl) (xml : Bool) (ds : List NamespaceDecl) → Once own → Once ds → Once (own ++ others own xml ds)
 once_both own xml ds h k = once_append own (others own xml ds) h (once_others own xml ds k) (λ p s. others_own own xml p ds s)

@@ -12,13 +12,13 @@ use Rattle.std.specs.Cmp.{both_tied}
 use Rattle.std.specs.Cmp.Lexicographic.{slice_cmp, texts_ties}
 use Rattle.std.proofs.lemmas.List.{length-map, length-drop, map-append, take-map, drop_all, drop-append-le}
 use Rattle.std.proofs.lemmas.Bool.{cases_lt}
-use Rattle.rox_grammar.specs.Written.{Declaration}
+use Rattle.rox_grammar.specs.Written.{NamespaceDecl}
 use Rattle.rox_grammar.specs.Tree.{same_prefix}
 use Rattle.rox_grammar.specs.Document.{same_pair, has_pair}
-use Rattle.rox_tables.specs.declared.names.Key.{Key}
+use Rattle.rox_tables.specs.declared.namespace_table.Key.{Key}
 use Rattle.rox_tables.specs.declared.tables.Namespace.{Namespace}
-use Rattle.rox_tables.specs.Lines.{declaration, entry}
-use Rattle.rox_tables.specs.Index.{pair_cmp, key_cmp, few_pairs, place_of, place_behind, place_among}
+use Rattle.rox_tables.specs.Rows.{declaration, entry}
+use Rattle.rox_tables.specs.PairIndex.{pair_cmp, key_cmp, few_pairs, place_of, place_behind, place_among}
 use Rattle.rox_tables.proofs.Pairs.{same_pair-true}
 
 -- ---- the order
@@ -29,7 +29,7 @@ prefix_ties None (Some q) = refl
 prefix_ties (Some p) None = refl
 prefix_ties (Some p) (Some q) = texts_ties p q
 
-pair_ties : (d e : Declaration) → same_pair d e ≡ is_eq (pair_cmp d e)
+pair_ties : (d e : NamespaceDecl) → same_pair d e ≡ is_eq (pair_cmp d e)
 pair_ties d e = both_tied _ _ _ (slice_cmp nat_cmp d.uri e.uri) (prefix_ties d.prefix e.prefix) (texts_ties d.uri e.uri)
 
 -- ---- the places of a table
@@ -42,7 +42,7 @@ neither : (a b : Bool) → (a || b) ≡ false → (a ≡ false) × (b ≡ false)
 neither false b h = (refl, h)
 neither true b h = cc h
 
-placed : (names : List Declaration) (d : Declaration) → IfSome (place_of names d) (λ i. (i < length names) × (entry names i ≡ d) × (has_pair names d ≡ true))
+placed : (names : List NamespaceDecl) (d : NamespaceDecl) → IfSome (place_of names d) (λ i. (i < length names) × (entry names i ≡ d) × (has_pair names d ≡ true))
 placed [] d = tt
 placed (n ∷ names) d = by (same_pair n d) refl (place_of names d) (placed names d)
   where
@@ -52,7 +52,7 @@ placed (n ∷ names) d = by (same_pair n d) refl (place_of names d) (placed name
     by false e None h = tt
     by false e (Some i) (lt, is, has) = (omega arith, is, or_right (same_pair n d) _ has)
 
-unplaced : (names : List Declaration) (d : Declaration) → IfNone (place_of names d) (has_pair names d ≡ false)
+unplaced : (names : List NamespaceDecl) (d : NamespaceDecl) → IfNone (place_of names d) (has_pair names d ≡ false)
 unplaced [] d = refl
 unplaced (n ∷ names) d = by (same_pair n d) refl (place_of names d) (unplaced names d)
   where
@@ -61,7 +61,7 @@ unplaced (n ∷ names) d = by (same_pair n d) refl (place_of names d) (unplaced 
     by false e None h = rw (e, h) refl
     by false e (Some i) h = tt
 
-pub placed_row : (rows : List Namespace) (d : Declaration) (i : ℕ) → Some i ≡ place_of (map declaration rows) d
+pub placed_row : (rows : List Namespace) (d : NamespaceDecl) (i : ℕ) → Some i ≡ place_of (map declaration rows) d
     → (i < length rows) × (entry (map declaration rows) i ≡ d) × (has_pair (map declaration rows) d ≡ true)
 placed_row rows d i e =
     let names = map declaration rows in
@@ -70,10 +70,10 @@ placed_row rows d i e =
     let lt = p.0 in
     (omega arith, p.1, p.2)
 
-pub unplaced_row : (rows : List Namespace) (d : Declaration) → None ≡ place_of (map declaration rows) d → has_pair (map declaration rows) d ≡ false
+pub unplaced_row : (rows : List Namespace) (d : NamespaceDecl) → None ≡ place_of (map declaration rows) d → has_pair (map declaration rows) d ≡ false
 unplaced_row rows d e = subst (λ (o : Option ℕ). IfNone o (has_pair (map declaration rows) d ≡ false)) (sym e) (unplaced (map declaration rows) d)
 
-absent_place : (names : List Declaration) (d : Declaration) → has_pair names d ≡ false → place_of names d ≡ None
+absent_place : (names : List NamespaceDecl) (d : NamespaceDecl) → has_pair names d ≡ false → place_of names d ≡ None
 absent_place [] d h = refl
 absent_place (n ∷ names) d h = let (one, rest) = neither (same_pair n d) (has_pair names d) h in rw (one, absent_place names d rest) refl
 
@@ -84,7 +84,7 @@ inner_none None h = refl
 inner_none (Some i) h = cc h
 
 -- the first that is the same
-pub place_here : (names : List Declaration) (k : ℕ) (d : Declaration) → k < length names → place_of (take k names) d ≡ None → same_pair (entry names k) d ≡ true → place_of names d ≡ Some k
+pub place_here : (names : List NamespaceDecl) (k : ℕ) (d : NamespaceDecl) → k < length names → place_of (take k names) d ≡ None → same_pair (entry names k) d ≡ true → place_of names d ≡ Some k
 place_here [] k d lt none same = absurd (omega arith)
 place_here (n ∷ names) zero d lt none same = rw same refl
 place_here (n ∷ names) (suc k) d lt none same = by (same_pair n d) refl (λ inner. place_here names k d (omega arith) inner same)
@@ -94,7 +94,7 @@ place_here (n ∷ names) (suc k) d lt none same = by (same_pair n d) refl (λ in
     by false e more = rw (e, more (inner_none (place_of (take k names) d) (rw e at none))) refl
 
 -- one more that is another
-pub place_on : (names : List Declaration) (k : ℕ) (d : Declaration) → k < length names → place_of (take k names) d ≡ None → same_pair (entry names k) d ≡ false → place_of (take (suc k) names) d ≡ None
+pub place_on : (names : List NamespaceDecl) (k : ℕ) (d : NamespaceDecl) → k < length names → place_of (take k names) d ≡ None → same_pair (entry names k) d ≡ false → place_of (take (suc k) names) d ≡ None
 place_on [] k d lt none other = absurd (omega arith)
 place_on (n ∷ names) zero d lt none other = rw other refl
 place_on (n ∷ names) (suc k) d lt none other = by (same_pair n d) refl (λ inner. place_on names k d (omega arith) inner other)
@@ -103,7 +103,7 @@ place_on (n ∷ names) (suc k) d lt none other = by (same_pair n d) refl (λ inn
     by true e more = cc (rw e at none)
     by false e more = rw (e, more (inner_none (place_of (take k names) d) (rw e at none))) refl
 
-pub place_front : (k : ℕ) (names : List Declaration) (d : Declaration) (i : ℕ) → place_of (take k names) d ≡ Some i → place_of names d ≡ Some i
+pub place_front : (k : ℕ) (names : List NamespaceDecl) (d : NamespaceDecl) (i : ℕ) → place_of (take k names) d ≡ Some i → place_of names d ≡ Some i
 place_front zero names d i h = cc h
 place_front (suc k) [] d i h = h
 place_front (suc k) (n ∷ names) d i h = by (same_pair n d) refl (place_of (take k names) d) refl (λ j is. place_front k names d j is)
@@ -113,7 +113,7 @@ place_front (suc k) (n ∷ names) d i h = by (same_pair n d) refl (place_of (tak
     by false e None is more = cc (rw (e, is) at h)
     by false e (Some j) is more = rw (e, more j is) (rw (e, is) at h)
 
-pub place_back : (k : ℕ) (names : List Declaration) (d : Declaration) → place_of (take k names) d ≡ None → place_of names d ≡ option_map (λ i. k + i) (place_of (drop k names) d)
+pub place_back : (k : ℕ) (names : List NamespaceDecl) (d : NamespaceDecl) → place_of (take k names) d ≡ None → place_of names d ≡ option_map (λ i. k + i) (place_of (drop k names) d)
 place_back zero names d h = same_option (place_of names d)
   where
     same_option : (o : Option ℕ) → o ≡ option_map (λ i. zero + i) o
@@ -139,24 +139,24 @@ prefix_eq None (Some q) = refl
 prefix_eq (Some p) None = refl
 prefix_eq (Some p) (Some q) = refl
 
-pub pair_eq : (d e : Declaration) → (option_eq bytes_eq d.prefix e.prefix && bytes_eq d.uri e.uri) ≡ same_pair d e
+pub pair_eq : (d e : NamespaceDecl) → (option_eq bytes_eq d.prefix e.prefix && bytes_eq d.uri e.uri) ≡ same_pair d e
 pair_eq d e = ap (λ b. b && bytes_eq d.uri e.uri) (prefix_eq d.prefix e.prefix)
 
 -- where nothing stands behind the first few
-pub none_behind : (names : List Declaration) (d : Declaration) → length names ≤ few_pairs → place_behind names d ≡ None
+pub none_behind : (names : List NamespaceDecl) (d : NamespaceDecl) → length names ≤ few_pairs → place_behind names d ≡ None
 none_behind names d few = ap (λ ds. option_map (λ i. few_pairs + i) (place_of ds d)) (drop_all few_pairs names few)
 
 -- where few are looked for one after another, and the others behind them
 
-pub row_in : (rows : List Namespace) (d : Declaration) (i k : ℕ) → Some i ≡ place_of (map declaration (take k rows)) d
+pub row_in : (rows : List Namespace) (d : NamespaceDecl) (i k : ℕ) → Some i ≡ place_of (map declaration (take k rows)) d
     → (i < length rows) × (entry (map declaration rows) i ≡ d) × (has_pair (map declaration rows) d ≡ true)
 row_in rows d i k e = placed_row rows d i (sym (place_front k (map declaration rows) d i (ap (λ ds. place_of ds d) (take-map declaration k rows) ∙ sym e)))
 
-not_in : (rows : List Namespace) (d : Declaration) (k : ℕ) → k ≤ few_pairs → (k < few_pairs → length rows ≤ k) → None ≡ place_of (map declaration (take k rows)) d
+not_in : (rows : List Namespace) (d : NamespaceDecl) (k : ℕ) → k ≤ few_pairs → (k < few_pairs → length rows ≤ k) → None ≡ place_of (map declaration (take k rows)) d
     → place_of (map declaration rows) d ≡ place_behind (map declaration rows) d
 not_in rows d k few all none = by (cases_lt k few_pairs)
   where
-    names : List Declaration
+    names : List NamespaceDecl
     names = map declaration rows
 
     front : place_of (take k names) d ≡ None
@@ -169,20 +169,20 @@ not_in rows d k few all none = by (cases_lt k few_pairs)
         place_back k names d front ∙ ap (λ ds. option_map (λ i. k + i) (place_of ds d)) (drop_all k names (omega arith)) ∙ sym (none_behind names d (omega arith))
     by (inr ge) = let same : k ≡ few_pairs = omega arith in subst (λ n. place_of names d ≡ option_map (λ i. n + i) (place_of (drop n names) d)) same (place_back k names d front)
 
-pub row_behind : (rows : List Namespace) (d : Declaration) (k : ℕ) (o : Option ℕ) → k ≤ few_pairs → (k < few_pairs → length rows ≤ k) → None ≡ place_of (map declaration (take k rows)) d
+pub row_behind : (rows : List Namespace) (d : NamespaceDecl) (k : ℕ) (o : Option ℕ) → k ≤ few_pairs → (k < few_pairs → length rows ≤ k) → None ≡ place_of (map declaration (take k rows)) d
     → o ≡ place_behind (map declaration rows) d
     → IfSome o (λ i. (i < length rows) × (entry (map declaration rows) i ≡ d) × (has_pair (map declaration rows) d ≡ true))
 row_behind rows d k None few all none is = tt
 row_behind rows d k (Some i) few all none is = placed_row rows d i (is ∙ sym (not_in rows d k few all none))
 
-pub row_nowhere : (rows : List Namespace) (d : Declaration) (k : ℕ) (o : Option ℕ) → k ≤ few_pairs → (k < few_pairs → length rows ≤ k) → None ≡ place_of (map declaration (take k rows)) d
+pub row_nowhere : (rows : List Namespace) (d : NamespaceDecl) (k : ℕ) (o : Option ℕ) → k ≤ few_pairs → (k < few_pairs → length rows ≤ k) → None ≡ place_of (map declaration (take k rows)) d
     → o ≡ place_behind (map declaration rows) d → IfNone o (has_pair (map declaration rows) d ≡ false)
 row_nowhere rows d k None few all none is = unplaced_row rows d (is ∙ sym (not_in rows d k few all none))
 row_nowhere rows d k (Some i) few all none is = tt
 
 -- ---- a new pair
 
-place_push : (names : List Declaration) (e d : Declaration) → has_pair names e ≡ false → place_of (names ++ e ∷ []) d ≡ cond (same_pair e d) (Some (length names)) (place_of names d)
+place_push : (names : List NamespaceDecl) (e d : NamespaceDecl) → has_pair names e ≡ false → place_of (names ++ e ∷ []) d ≡ cond (same_pair e d) (Some (length names)) (place_of names d)
 place_push [] e d h = refl
 place_push (n ∷ names) e d h = by (same_pair n d) refl (same_pair e d) refl (place_push names e d)
   where
@@ -191,7 +191,7 @@ place_push (n ∷ names) e d h = by (same_pair n d) refl (same_pair e d) refl (p
 
     by : (a : Bool) → same_pair n d ≡ a → (b : Bool) → same_pair e d ≡ b → (has_pair names e ≡ false → place_of (names ++ e ∷ []) d ≡ cond (same_pair e d) (Some (length names)) (place_of names d))
         → cond a (Some 0) (option_map suc (place_of (names ++ e ∷ []) d)) ≡ cond b (Some (suc (length names))) (cond a (Some 0) (option_map suc (place_of names d)))
-    by true x true y more = let again : same_pair n e ≡ true = subst (λ (v : Declaration). same_pair n v ≡ true) (sym (same_pair-true e d y)) x in cc (parts.0, again)
+    by true x true y more = let again : same_pair n e ≡ true = subst (λ (v : NamespaceDecl). same_pair n v ≡ true) (sym (same_pair-true e d y)) x in cc (parts.0, again)
     by true x false y more = refl
     by false x true y more = ap (option_map suc) (rw y at (more parts.1))
     by false x false y more = ap (option_map suc) (rw y at (more parts.1))
@@ -204,15 +204,15 @@ lookup_same f g (e ∷ es) h = rw (h e.0, lookup_same f g es h) refl
 pub looked : (k : Key) (es : List (Key × ℕ)) → lookup (is_at (key_cmp k)) es ≡ place_among es (declaration k.namespace)
 looked k es = lookup_same (is_at (key_cmp k)) (λ x. same_pair (declaration k.namespace) (declaration x.namespace)) es (λ x. sym (pair_ties (declaration k.namespace) (declaration x.namespace)))
 
-among_inserted : (k : Key) (v : ℕ) (d : Declaration) (es : List (Key × ℕ)) → place_among es (declaration k.namespace) ≡ None
+among_inserted : (k : Key) (v : ℕ) (d : NamespaceDecl) (es : List (Key × ℕ)) → place_among es (declaration k.namespace) ≡ None
     → place_among (insert_entry key_cmp es k v) d ≡ cond (same_pair d (declaration k.namespace)) (Some v) (place_among es d)
 among_inserted k v d [] h = refl
 among_inserted k v d (e ∷ es) h = at_first (same_pair (declaration k.namespace) (declaration e.0.namespace)) refl (key_cmp k e.0) refl (among_inserted k v d es)
   where
-    mine : Declaration
+    mine : NamespaceDecl
     mine = declaration k.namespace
 
-    its : Declaration
+    its : NamespaceDecl
     its = declaration e.0.namespace
 
     rest_none : same_pair mine its ≡ false → place_among es mine ≡ None
@@ -220,7 +220,7 @@ among_inserted k v d (e ∷ es) h = at_first (same_pair (declaration k.namespace
 
     apart : same_pair mine its ≡ false → (a : Bool) → same_pair d its ≡ a → (b : Bool) → same_pair d mine ≡ b
         → cond a (Some e.1) (cond b (Some v) (place_among es d)) ≡ cond b (Some v) (cond a (Some e.1) (place_among es d))
-    apart x true p true q = let again : same_pair mine its ≡ true = subst (λ (w : Declaration). same_pair w its ≡ true) (same_pair-true d mine q) p in cc (x, again)
+    apart x true p true q = let again : same_pair mine its ≡ true = subst (λ (w : NamespaceDecl). same_pair w its ≡ true) (same_pair-true d mine q) p in cc (x, again)
     apart x true p false q = refl
     apart x false p b q = refl
 
@@ -238,15 +238,15 @@ was_ok (Ok x) e h = h
 was_ok (Err y) e h = cc e
 
 -- none of those behind is a pair that is new
-absent_behind : (k : ℕ) (names : List Declaration) (d : Declaration) → has_pair names d ≡ false → has_pair (drop k names) d ≡ false
+absent_behind : (k : ℕ) (names : List NamespaceDecl) (d : NamespaceDecl) → has_pair names d ≡ false → has_pair (drop k names) d ≡ false
 absent_behind zero names d h = h
 absent_behind (suc k) [] d h = refl
 absent_behind (suc k) (n ∷ names) d h = absent_behind k names d (neither (same_pair n d) (has_pair names d) h).1
 
 -- the map of a table with one more behind the first few
-pub found_more : (rows : List Namespace) (row : Namespace) (es : List (Key × ℕ)) (k : Key) → few_pairs ≤ length rows → ((d : Declaration) → place_among es d ≡ place_behind (map declaration rows) d)
+pub found_more : (rows : List Namespace) (row : Namespace) (es : List (Key × ℕ)) (k : Key) → few_pairs ≤ length rows → ((d : NamespaceDecl) → place_among es d ≡ place_behind (map declaration rows) d)
     → has_pair (map declaration rows) (declaration k.namespace) ≡ false → declaration row ≡ declaration k.namespace
-    → (d : Declaration) → place_among (insert_entry key_cmp es k (length rows)) d ≡ place_behind (map declaration (rows ++ row ∷ [])) d
+    → (d : NamespaceDecl) → place_among (insert_entry key_cmp es k (length rows)) d ≡ place_behind (map declaration (rows ++ row ∷ [])) d
 found_more rows row es k many h absent same d =
     let names = map declaration rows in
     let mine = declaration k.namespace in
@@ -266,17 +266,17 @@ found_more rows row es k many h absent same d =
     inside true i o = refl
     inside false i o = refl
 
-    same_pair-sym : (x y : Declaration) → same_pair x y ≡ same_pair y x
+    same_pair-sym : (x y : NamespaceDecl) → same_pair x y ≡ same_pair y x
     same_pair-sym x y = by (same_pair x y) refl (same_pair y x) refl
       where
         by : (a : Bool) → same_pair x y ≡ a → (b : Bool) → same_pair y x ≡ b → a ≡ b
         by true p true q = refl
         by false p false q = refl
-        by true p false q = let e = same_pair-true x y p in let again : same_pair y x ≡ true = subst (λ (w : Declaration). same_pair w x ≡ true) e (subst (λ (w : Declaration). same_pair x w ≡ true) (sym e) p) in cc (q, again)
-        by false p true q = let e = same_pair-true y x q in let again : same_pair x y ≡ true = subst (λ (w : Declaration). same_pair w y ≡ true) e (subst (λ (w : Declaration). same_pair y w ≡ true) (sym e) q) in cc (p, again)
+        by true p false q = let e = same_pair-true x y p in let again : same_pair y x ≡ true = subst (λ (w : NamespaceDecl). same_pair w x ≡ true) e (subst (λ (w : NamespaceDecl). same_pair x w ≡ true) (sym e) p) in cc (q, again)
+        by false p true q = let e = same_pair-true y x q in let again : same_pair x y ≡ true = subst (λ (w : NamespaceDecl). same_pair w y ≡ true) e (subst (λ (w : NamespaceDecl). same_pair y w ≡ true) (sym e) q) in cc (p, again)
 
 -- the row that was put at the end, where memory did not run out
-pub row_last : {E : Type 0} (r : Result ℕ E) (rows new : List Namespace) (d : Declaration) → OnOk r (map declaration new ≡ map declaration rows ++ d ∷ []) → IfOk r (λ i. i ≡ length rows)
+pub row_last : {E : Type 0} (r : Result ℕ E) (rows new : List Namespace) (d : NamespaceDecl) → OnOk r (map declaration new ≡ map declaration rows ++ d ∷ []) → IfOk r (λ i. i ≡ length rows)
     → IfOk r (λ i. (i < length new) × (entry (map declaration new) i ≡ d))
 row_last (Err e) rows new d more last = tt
 row_last (Ok i) rows new d more last =
@@ -285,6 +285,6 @@ row_last (Ok i) rows new d more last =
     let n = ap length more ∙ length-append (map declaration rows) (d ∷ []) in
     (omega arith, rw (more, last, ← l) (entry-last (map declaration rows) d))
   where
-    entry-last : (names : List Declaration) (d : Declaration) → entry (names ++ d ∷ []) (length names) ≡ d
+    entry-last : (names : List NamespaceDecl) (d : NamespaceDecl) → entry (names ++ d ∷ []) (length names) ≡ d
     entry-last [] d = refl
     entry-last (n ∷ names) d = entry-last names d

@@ -3,12 +3,12 @@ use Rattle.std.proofs.Common.{◌≡◌, ℕ, zero, suc, ◌+◌, ◌-◌, ◌<�
 use Rattle.std.specs.List.{slice_range}
 use Rattle.std.proofs.lemmas.List.{map-append, append-nil}
 use Rattle.std.proofs.lemmas.List.Elements.{filter-append}
-use Rattle.rox_grammar.specs.Written.{Declaration}
+use Rattle.rox_grammar.specs.Written.{NamespaceDecl}
 use Rattle.rox_grammar.specs.Tree.{is_declared}
 use Rattle.rox_grammar.specs.WellNamed.{is_xml}
 use Rattle.rox_reading.proofs.Stretches.{slice-more, slice-rest}
 use Rattle.rox_tables.specs.declared.tables.Namespace.{Namespace}
-use Rattle.rox_tables.specs.Lines.{declaration, entry}
+use Rattle.rox_tables.specs.Rows.{declaration, entry}
 use Rattle.rox_tables.specs.Scopes.{entries, ArePlaces, others}
 use Rattle.rox_tables.proofs.Stable.{slice-append, all_append}
 use Rattle.rox_tables.proofs.Pairs.{place_at, entry-get}
@@ -101,5 +101,5 @@ looked rows old own xml from turn end place now seen item r h ok within lt same 
     ∙ slice-append old h.more own (length old) within (omega arith) ∙ slice-rest old own in (
       p,
       test ∙ ap (λ xs. is_declared (declaration (get_or rows place item)).prefix (entries names xs) || (xml && is_xml (declaration (get_or rows place item)).prefix)) mine
-          ∙ ap (λ (d : Declaration). is_declared d.prefix (entries names (drop own old)) || (xml && is_xml d.prefix)) (sym e),
+          ∙ ap (λ (d : NamespaceDecl). is_declared d.prefix (entries names (drop own old)) || (xml && is_xml d.prefix)) (sym e),
     )

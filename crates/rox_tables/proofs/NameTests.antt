@@ -4,15 +4,15 @@ use Rattle.std.proofs.lemmas.Bool.Decides.{nat_tests}
 use Rattle.std.specs.List.{list_any}
 use Rattle.rox_grammar.specs.declared.fault.Fault.TheVariants as fault
 use Rattle.rox_grammar.specs.declared.fault.Word.TheVariants.{Xml}
-use Rattle.rox_grammar.specs.Words.{word_text}
-use Rattle.rox_grammar.specs.Written.{Attribute, Declaration, Name, local_span, prefix_span}
+use Rattle.rox_grammar.specs.FixedTexts.{word_text}
+use Rattle.rox_grammar.specs.Written.{Attribute, NamespaceDecl, Name, local_span, prefix_span}
 use Rattle.rox_grammar.specs.Tree as tree
 use Rattle.rox_grammar.specs.Tree.{same_prefix, is_declared, uri_of, none_if_empty, attribute_namespace, attribute_in, element_namespace}
 use Rattle.rox_grammar.specs.WellNamed.{is_known, same_expanded, may_name}
 use Rattle.rox_reading.specs.Tags.{names_tested}
 use Rattle.rox_tables.specs.declared.tables.AttributeNamespace.{AttributeNamespace}
-use Rattle.rox_tables.specs.Lines.{attribute, entry, namespace_of, AttributeRow}
-use Rattle.rox_tables.specs.Resolved.{has_expanded}
+use Rattle.rox_tables.specs.Rows.{attribute, entry, attribute_uri, AttributeRow}
+use Rattle.rox_tables.specs.ResolvedNames.{has_expanded}
 use Rattle.rox_tables.proofs.Pairs.{declared_some, declared_none}
 
 -- a text of no bytes is the empty one
@@ -29,7 +29,7 @@ some_if [] h = cc h
 some_if (b ∷ bs) h = refl
 
 -- a prefix with a URI is known
-pub known_some : (scope : List Declaration) (n : Name) (u : List ℕ) → uri_of scope (Some n.prefix) ≡ Some u → is_known scope n ≡ true
+pub known_some : (scope : List NamespaceDecl) (n : Name) (u : List ℕ) → uri_of scope (Some n.prefix) ≡ Some u → is_known scope n ≡ true
 known_some scope n u h =
     let d = declared_some scope (Some n.prefix) u h in
     rw d (or_last (bytes_eq n.prefix []) (bytes_eq n.prefix (word_text Xml)))
@@ -40,24 +40,24 @@ known_some scope n u h =
     or_last false false = refl
 
 -- and one without is not, unless it is empty or `xml`
-pub known_none : (scope : List Declaration) (n : Name) → bytes_eq n.prefix [] ≡ false → bytes_eq n.prefix (word_text Xml) ≡ false
+pub known_none : (scope : List NamespaceDecl) (n : Name) → bytes_eq n.prefix [] ≡ false → bytes_eq n.prefix (word_text Xml) ≡ false
     → uri_of scope (Some n.prefix) ≡ None → is_known scope n ≡ false
 known_none scope n e x h = let d = declared_none scope (Some n.prefix) h in rw (e, x, d) refl
 
 -- an element whose prefix has a URI may have its name, and is in that namespace
-pub element_some : (names scope : List Declaration) (n : Name) (place : ℕ) → bytes_eq n.prefix [] ≡ false → uri_of scope (Some n.prefix) ≡ Some (entry names place).uri
+pub element_some : (names scope : List NamespaceDecl) (n : Name) (place : ℕ) → bytes_eq n.prefix [] ≡ false → uri_of scope (Some n.prefix) ≡ Some (entry names place).uri
     → (Some (entry names place).uri ≡ element_namespace scope n) × (may_name scope n ≡ true)
 element_some names scope n place e h =
     let d = declared_some scope (Some n.prefix) (entry names place).uri h in
     (sym h ∙ ap (uri_of scope) (sym (some_if n.prefix e)), rw (e, d) refl)
 
 -- and one whose prefix has none may not
-pub element_none : (scope : List Declaration) (n : Name) → bytes_eq n.prefix [] ≡ false → uri_of scope (Some n.prefix) ≡ None → may_name scope n ≡ false
+pub element_none : (scope : List NamespaceDecl) (n : Name) → bytes_eq n.prefix [] ≡ false → uri_of scope (Some n.prefix) ≡ None → may_name scope n ≡ false
 element_none scope n e h = let d = declared_none scope (Some n.prefix) h in rw (e, d) refl
 
 -- rows of attributes have an expanded name exactly where the names have that they were made of
-pub repeated_is : (names scope : List Declaration) (s : AttributeNamespace) (n : Name) (done : List AttributeRow) (before : List Attribute)
-    → namespace_of names s ≡ attribute_namespace scope n → map (attribute names) done ≡ map (attribute_in scope) before
+pub repeated_is : (names scope : List NamespaceDecl) (s : AttributeNamespace) (n : Name) (done : List AttributeRow) (before : List Attribute)
+    → attribute_uri names s ≡ attribute_namespace scope n → map (attribute names) done ≡ map (attribute_in scope) before
     → list_any (has_expanded names s n.local) (map (λ r. r.0) done) ≡ list_any (λ e. same_expanded scope e.name n) before
 repeated_is names scope s n [] [] is h = refl
 repeated_is names scope s n [] (b ∷ bs) is h = cc h
@@ -65,27 +65,27 @@ repeated_is names scope s n (d ∷ ds) [] is h = cc h
 repeated_is names scope s n (d ∷ ds) (b ∷ bs) is h =
     let first : attribute names d ≡ attribute_in scope b = cc h in
     let rest : map (attribute names) ds ≡ map (attribute_in scope) bs = cc h in
-    let space : namespace_of names d.0.namespace ≡ attribute_namespace scope b.name = ap (λ (r : tree.Attribute). r.namespace) first in
+    let space : attribute_uri names d.0.namespace ≡ attribute_namespace scope b.name = ap (λ (r : tree.Attribute). r.namespace) first in
     let local : d.0.local.now ≡ b.name.local = ap (λ (r : tree.Attribute). r.local) first in
     rw (space, local, is, repeated_is names scope s n ds bs is rest) refl
 
 -- ---- what a test of one name says of all
 
 -- the prefix is not known
-pub tested_unknown : (scope : List Declaration) (before : List Attribute) (a : Attribute) (rest : List Attribute) → is_known scope a.name ≡ false
+pub tested_unknown : (scope : List NamespaceDecl) (before : List Attribute) (a : Attribute) (rest : List Attribute) → is_known scope a.name ≡ false
     → names_tested scope before (a ∷ rest) ≡ Err (fault.UnknownNamespace (prefix_span a.name a.start) a.start)
 unfolding names_tested
 tested_unknown scope before a rest h = rw h refl
 
 -- one before it has the same expanded name
-pub tested_again : (scope : List Declaration) (before : List Attribute) (a : Attribute) (rest : List Attribute) → is_known scope a.name ≡ true
+pub tested_again : (scope : List NamespaceDecl) (before : List Attribute) (a : Attribute) (rest : List Attribute) → is_known scope a.name ≡ true
     → list_any (λ e. same_expanded scope e.name a.name) before ≡ true
     → names_tested scope before (a ∷ rest) ≡ Err (fault.DuplicatedAttribute (local_span a.name a.name_end) a.start)
 unfolding names_tested
 tested_again scope before a rest h k = rw (h, k) refl
 
 -- the name stands, and the rest is tested behind it
-pub tested_on : (scope : List Declaration) (before : List Attribute) (a : Attribute) (rest : List Attribute) → is_known scope a.name ≡ true
+pub tested_on : (scope : List NamespaceDecl) (before : List Attribute) (a : Attribute) (rest : List Attribute) → is_known scope a.name ≡ true
     → list_any (λ e. same_expanded scope e.name a.name) before ≡ false
     → names_tested scope before (a ∷ rest) ≡ names_tested scope (before ++ a ∷ []) rest
 unfolding names_tested

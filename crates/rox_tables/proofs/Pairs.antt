@@ -3,11 +3,11 @@ use Rattle.std.proofs.Common.{◌≡◌, ℕ, zero, suc, ◌+◌, ◌<◌, ◌||
 use Rattle.std.proofs.lemmas.Bool.{and_parts}
 use Rattle.std.proofs.lemmas.Slice.Eq.{bytes_eq-Decides}
 use Rattle.std.proofs.lemmas.List.{take_more, map-append, take-append-drop}
-use Rattle.rox_grammar.specs.Written.{Declaration}
+use Rattle.rox_grammar.specs.Written.{NamespaceDecl}
 use Rattle.rox_grammar.specs.Tree.{same_prefix, is_declared, uri_of}
 use Rattle.rox_grammar.specs.Document.{same_pair}
 use Rattle.rox_tables.specs.declared.tables.Namespace.{Namespace}
-use Rattle.rox_tables.specs.Lines.{declaration, entry}
+use Rattle.rox_tables.specs.Rows.{declaration, entry}
 use Rattle.rox_tables.specs.Scopes.{entries, ArePlaces}
 
 chosen : {X P : Type 0} (b : Bool) (x y z : X) → cond b x y ≡ z → (b ≡ true → x ≡ z → P) → (b ≡ false → y ≡ z → P) → P
@@ -24,12 +24,12 @@ pub same_prefix-refl : (p : Option (List ℕ)) → same_prefix p p ≡ true
 same_prefix-refl None = refl
 same_prefix-refl (Some p) = (bytes_eq-Decides p p).1 refl
 
-pub same_pair-true : (d e : Declaration) → same_pair d e ≡ true → d ≡ e
+pub same_pair-true : (d e : NamespaceDecl) → same_pair d e ≡ true → d ≡ e
 same_pair-true d e h =
     let both = and_parts _ _ h in
     let p = same_prefix-true d.prefix e.prefix both.0 in
     let u = (bytes_eq-Decides d.uri e.uri).0 both.1 in
-    ap (λ (p : Option (List ℕ)). let x : Declaration = record { prefix = p; uri = d.uri } in x) p ∙ ap (λ (u : List ℕ). let x : Declaration = record { prefix = e.prefix; uri = u } in x) u
+    ap (λ (p : Option (List ℕ)). let x : NamespaceDecl = record { prefix = p; uri = d.uri } in x) p ∙ ap (λ (u : List ℕ). let x : NamespaceDecl = record { prefix = e.prefix; uri = u } in x) u
 
 -- the entry of a row of the table
 pub entry-get : (rows : List Namespace) (i : ℕ) (d : Namespace) → i < length rows → entry (map declaration rows) i ≡ declaration (get_or rows i d)
@@ -44,12 +44,12 @@ place_at n [] k d h lt = absurd (omega arith)
 place_at n (p ∷ ps) zero d (a, h) lt = a
 place_at n (p ∷ ps) (suc k) d (a, h) lt = place_at n ps k d h (omega arith)
 
-pub uri_of-append : (xs ys : List Declaration) (p : Option (List ℕ)) → uri_of xs p ≡ None → uri_of (xs ++ ys) p ≡ uri_of ys p
+pub uri_of-append : (xs ys : List NamespaceDecl) (p : Option (List ℕ)) → uri_of xs p ≡ None → uri_of (xs ++ ys) p ≡ uri_of ys p
 uri_of-append [] ys p h = refl
 uri_of-append (x ∷ xs) ys p h = chosen (same_prefix x.prefix p) _ _ _ h (λ t h. cc h) (λ f h. rw f (uri_of-append xs ys p h))
 
 -- the first of those from i on, where those before have another prefix
-pub uri_here : (names : List Declaration) (places : List ℕ) (i d : ℕ) (p : Option (List ℕ)) → i < length places → uri_of (entries names (take i places)) p ≡ None
+pub uri_here : (names : List NamespaceDecl) (places : List ℕ) (i d : ℕ) (p : Option (List ℕ)) → i < length places → uri_of (entries names (take i places)) p ≡ None
     → same_prefix (entry names (get_or places i d)).prefix p ≡ true → uri_of (entries names places) p ≡ Some (entry names (get_or places i d)).uri
 uri_here names places i d p lt none same =
     let parts : places ≡ take i places ++ get_or places i d ∷ drop (i + 1) places =
@@ -59,7 +59,7 @@ uri_here names places i d p lt none same =
     ap (λ xs. uri_of xs p) m ∙ uri_of-append (entries names (take i places)) (entry names (get_or places i d) ∷ entries names (drop (i + 1) places)) p none
     ∙ rw same refl
 
-pub uri_none_more : (names : List Declaration) (places : List ℕ) (i d : ℕ) (p : Option (List ℕ)) → i < length places → uri_of (entries names (take i places)) p ≡ None
+pub uri_none_more : (names : List NamespaceDecl) (places : List ℕ) (i d : ℕ) (p : Option (List ℕ)) → i < length places → uri_of (entries names (take i places)) p ≡ None
     → same_prefix (entry names (get_or places i d)).prefix p ≡ false → uri_of (entries names (take (i + 1) places)) p ≡ None
 uri_none_more names places i d p lt none other =
     let m : entries names (take (i + 1) places) ≡ entries names (take i places) ++ entry names (get_or places i d) ∷ [] =
@@ -67,7 +67,7 @@ uri_none_more names places i d p lt none other =
     ap (λ xs. uri_of xs p) m ∙ uri_of-append (entries names (take i places)) (entry names (get_or places i d) ∷ []) p none ∙ rw other refl
 
 -- a prefix is declared exactly where it has a URI
-pub declared-uri : (ds : List Declaration) (p : Option (List ℕ)) → is_declared p ds ≡ is_some (uri_of ds p)
+pub declared-uri : (ds : List NamespaceDecl) (p : Option (List ℕ)) → is_declared p ds ≡ is_some (uri_of ds p)
 declared-uri [] p = refl
 declared-uri (d ∷ ds) p = by_cases (same_prefix d.prefix p) (declared-uri ds p)
   where
@@ -75,10 +75,10 @@ declared-uri (d ∷ ds) p = by_cases (same_prefix d.prefix p) (declared-uri ds p
     by_cases true h = refl
     by_cases false h = h
 
-pub declared_some : (ds : List Declaration) (p : Option (List ℕ)) (u : List ℕ) → uri_of ds p ≡ Some u → is_declared p ds ≡ true
+pub declared_some : (ds : List NamespaceDecl) (p : Option (List ℕ)) (u : List ℕ) → uri_of ds p ≡ Some u → is_declared p ds ≡ true
 declared_some ds p u h = declared-uri ds p ∙ ap is_some h
 
-pub declared_none : (ds : List Declaration) (p : Option (List ℕ)) → uri_of ds p ≡ None → is_declared p ds ≡ false
+pub declared_none : (ds : List NamespaceDecl) (p : Option (List ℕ)) → uri_of ds p ≡ None → is_declared p ds ≡ false
 declared_none ds p h = declared-uri ds p ∙ ap is_some h
 
 -- the entry of a row that was put at the end

@@ -5,21 +5,21 @@ use Rattle.std.specs.Option.{option_map, option_to_list, IfSome, IfNone}
 use Rattle.std.proofs.lemmas.List.{drop-append-le, append-nil, length-map, take_all, take_more, reverse-append}
 use Rattle.std.proofs.lemmas.Bool.{eq-eqb, ne_eqb}
 use Rattle.std.proofs.Math.ListN.{drop_of_length-le}
-use Rattle.rox_grammar.specs.Written.{Declaration}
+use Rattle.rox_grammar.specs.Written.{NamespaceDecl}
 use Rattle.rox_grammar.specs.Tree.{same_prefix, is_declared, uri_of}
 use Rattle.rox_tables.specs.declared.tables.Namespace.{Namespace}
-use Rattle.rox_tables.specs.Lines.{declaration, entry, scope_at, OptionWithin}
+use Rattle.rox_tables.specs.Rows.{declaration, entry, scope_at, OptionWithin}
 use Rattle.rox_tables.specs.Scopes.{prefix_view, entries, ArePlaces, others}
 use Rattle.std.specs.BTreeMap.{BTreeMap, get_by}
 use Rattle.std.specs.Cmp.Lexicographic.{slice_cmp}
 use Rattle.std.specs.Ordering.{nat_cmp}
-use Rattle.rox_tables.specs.Present.{flat, found_at, found, place_in, namespace_at, restored, IsBound, Stacked, Keeps, Finds, is_innermost}
-use Rattle.rox_tables.specs.declared.present.Place.{Place}
-use Rattle.rox_tables.specs.declared.present.Replaced.{Replaced}
-use Rattle.rox_tables.specs.declared.present.Layer.{Layer}
-use Rattle.rox_tables.specs.declared.present.Present.{Present}
+use Rattle.rox_tables.specs.Bindings.{option_joined, found_at, bound_place, place_in, namespace_at, restored, IsBound, Stacked, AreBindingsOf, FindsBinding, is_innermost}
+use Rattle.rox_tables.specs.declared.bindings.Binding.{Binding}
+use Rattle.rox_tables.specs.declared.bindings.ShadowedBinding.{ShadowedBinding}
+use Rattle.rox_tables.specs.declared.bindings.ScopeFrame.{ScopeFrame}
+use Rattle.rox_tables.specs.declared.bindings.PrefixBindings.{PrefixBindings}
 use Rattle.rox_grammar.specs.declared.fault.Word.TheVariants.{Xml}
-use Rattle.rox_grammar.specs.Words.{word_text}
+use Rattle.rox_grammar.specs.FixedTexts.{word_text}
 use Rattle.rox_grammar.specs.WellNamed.{is_xml}
 use Rattle.rox_tables.proofs.Listing.{same_prefix-sym}
 use Rattle.rox_tables.proofs.Stable.{entry-append, scope_at-append}
@@ -29,15 +29,15 @@ use Rattle.rox_tables.proofs.Pairs.{same_prefix-true, declared_none, place_at, e
 abbrev pub Places : Type 0
 Places = Option (List ℕ) → Option ℕ
 
-restored-append : (rs : List Replaced) (r : Replaced) (f : Places) (p : Option (List ℕ)) → restored (rs ++ r ∷ []) f p ≡ restored rs (restored (r ∷ []) f) p
+restored-append : (rs : List ShadowedBinding) (r : ShadowedBinding) (f : Places) (p : Option (List ℕ)) → restored (rs ++ r ∷ []) f p ≡ restored rs (restored (r ∷ []) f) p
 restored-append [] r f p = refl
 restored-append (x ∷ rs) r f p = ap (λ (v : Option ℕ). cond (same_prefix (prefix_view x.prefix) p) (namespace_at x.before) v) (restored-append rs r f p)
 
-restored-same : (rs : List Replaced) (f g : Places) (p : Option (List ℕ)) → f p ≡ g p → restored rs f p ≡ restored rs g p
+restored-same : (rs : List ShadowedBinding) (f g : Places) (p : Option (List ℕ)) → f p ≡ g p → restored rs f p ≡ restored rs g p
 restored-same [] f g p h = h
 restored-same (x ∷ rs) f g p h = ap (λ (v : Option ℕ). cond (same_prefix (prefix_view x.prefix) p) (namespace_at x.before) v) (restored-same rs f g p h)
 
-bound-same : (names : List Declaration) (f g : Places) (ds : List Declaration) → ((p : Option (List ℕ)) → f p ≡ g p) → IsBound names f ds → IsBound names g ds
+bound-same : (names : List NamespaceDecl) (f g : Places) (ds : List NamespaceDecl) → ((p : Option (List ℕ)) → f p ≡ g p) → IsBound names f ds → IsBound names g ds
 bound-same names f g ds same h = record {
   within = λ p. subst (OptionWithin (length names)) (same p) (h.within p);
   uris = λ p. ap (option_map (λ i. (entry names i).uri)) (sym (same p)) ∙ h.uris p;
@@ -45,7 +45,7 @@ bound-same names f g ds same h = record {
 
 -- ---- one more is replaced
 
-replaced_one : (r : Replaced) (f g : Places) (place : Option ℕ) (p : Option (List ℕ)) → namespace_at r.before ≡ f (prefix_view r.prefix)
+replaced_one : (r : ShadowedBinding) (f g : Places) (place : Option ℕ) (p : Option (List ℕ)) → namespace_at r.before ≡ f (prefix_view r.prefix)
     → g p ≡ cond (same_prefix (prefix_view r.prefix) p) place (f p) → restored (r ∷ []) g p ≡ f p
 replaced_one r f g place p before is = by_cases (same_prefix (prefix_view r.prefix) p) refl
   where
@@ -53,7 +53,7 @@ replaced_one r f g place p before is = by_cases (same_prefix (prefix_view r.pref
     by_cases true e = rw e (before ∙ ap f (same_prefix-true (prefix_view r.prefix) p e))
     by_cases false e = rw e (rw e at is)
 
-pub stacked_put : (names : List Declaration) (lists : List (List Declaration)) (es : List Replaced) (r : Replaced) (f g : Places) (place : Option ℕ) (least : ℕ) (ls : List Layer)
+pub stacked_put : (names : List NamespaceDecl) (lists : List (List NamespaceDecl)) (es : List ShadowedBinding) (r : ShadowedBinding) (f g : Places) (place : Option ℕ) (least : ℕ) (ls : List ScopeFrame)
     → namespace_at r.before ≡ f (prefix_view r.prefix) → ((p : Option (List ℕ)) → g p ≡ cond (same_prefix (prefix_view r.prefix) p) place (f p))
     → Stacked names lists es f least ls → Stacked names lists (es ++ r ∷ []) g least ls
 stacked_put names lists es r f g place least [] before is h = tt
@@ -66,7 +66,7 @@ stacked_put names lists es r f g place least (l ∷ ls) before is (low, high, wi
 
 -- ---- the last one is taken back
 
-pub stacked_back : (names : List Declaration) (lists : List (List Declaration)) (es : List Replaced) (r : Replaced) (f g : Places) (least : ℕ) (ls : List Layer)
+pub stacked_back : (names : List NamespaceDecl) (lists : List (List NamespaceDecl)) (es : List ShadowedBinding) (r : ShadowedBinding) (f g : Places) (least : ℕ) (ls : List ScopeFrame)
     → ((p : Option (List ℕ)) → g p ≡ cond (same_prefix (prefix_view r.prefix) p) (namespace_at r.before) (f p)) → AllByRecursion (λ l. l.count ≤ length es) ls
     → Stacked names lists (es ++ r ∷ []) f least ls → Stacked names lists es g least ls
 stacked_back names lists es r f g least [] is few h = tt
@@ -78,35 +78,35 @@ stacked_back names lists es r f g least (l ∷ ls) is (here, few) (low, high, wi
 
 -- ---- the innermost scope
 
-least_below : (names : List Declaration) (lists : List (List Declaration)) (es : List Replaced) (f : Places) (least : ℕ) (ls : List Layer) (l : Layer) → Stacked names lists es f least (ls ++ l ∷ []) → least ≤ l.count
+least_below : (names : List NamespaceDecl) (lists : List (List NamespaceDecl)) (es : List ShadowedBinding) (f : Places) (least : ℕ) (ls : List ScopeFrame) (l : ScopeFrame) → Stacked names lists es f least (ls ++ l ∷ []) → least ≤ l.count
 least_below names lists es f least [] l h = h.0
 least_below names lists es f least (x ∷ ls) l h = let a = h.0 in let b = least_below names lists es f x.count ls l h.4 in omega arith
 
 -- it has the most before it
-pub counts_below : (names : List Declaration) (lists : List (List Declaration)) (es : List Replaced) (f : Places) (least n : ℕ) (ls : List Layer) (l : Layer) → l.count ≤ n → Stacked names lists es f least (ls ++ l ∷ [])
+pub counts_below : (names : List NamespaceDecl) (lists : List (List NamespaceDecl)) (es : List ShadowedBinding) (f : Places) (least n : ℕ) (ls : List ScopeFrame) (l : ScopeFrame) → l.count ≤ n → Stacked names lists es f least (ls ++ l ∷ [])
     → AllByRecursion (λ x. x.count ≤ n) (ls ++ l ∷ [])
 counts_below names lists es f least n [] l le h = (le, tt)
 counts_below names lists es f least n (x ∷ ls) l le h =
     let b = least_below names lists es f x.count ls l h.4 in
     (omega arith, counts_below names lists es f x.count n ls l le h.4)
 
-pub stacked_pop : (names : List Declaration) (lists : List (List Declaration)) (es : List Replaced) (f : Places) (least : ℕ) (ls : List Layer) (l : Layer) → Stacked names lists es f least (ls ++ l ∷ []) → Stacked names lists es f least ls
+pub stacked_pop : (names : List NamespaceDecl) (lists : List (List NamespaceDecl)) (es : List ShadowedBinding) (f : Places) (least : ℕ) (ls : List ScopeFrame) (l : ScopeFrame) → Stacked names lists es f least (ls ++ l ∷ []) → Stacked names lists es f least ls
 stacked_pop names lists es f least [] l h = tt
 stacked_pop names lists es f least (x ∷ ls) l (low, high, within, bound, rest) = (low, high, within, bound, stacked_pop names lists es f x.count ls l rest)
 
-pub stacked_popped : (names : List Declaration) (lists : List (List Declaration)) (es : List Replaced) (f : Places) (ls : List Layer) (o : Option Layer) → Stacked names lists es f 0 (ls ++ option_to_list o) → Stacked names lists es f 0 ls
+pub stacked_popped : (names : List NamespaceDecl) (lists : List (List NamespaceDecl)) (es : List ShadowedBinding) (f : Places) (ls : List ScopeFrame) (o : Option ScopeFrame) → Stacked names lists es f 0 (ls ++ option_to_list o) → Stacked names lists es f 0 ls
 stacked_popped names lists es f ls None h = subst (Stacked names lists es f 0) (append-nil ls) h
 stacked_popped names lists es f ls (Some l) h = stacked_pop names lists es f 0 ls l h
 
 -- its places are these, where nothing was replaced behind it
-pub stacked_last : (names : List Declaration) (lists : List (List Declaration)) (es : List Replaced) (f : Places) (least : ℕ) (ls : List Layer) (l : Layer) → l.count ≡ length es → Stacked names lists es f least (ls ++ l ∷ [])
+pub stacked_last : (names : List NamespaceDecl) (lists : List (List NamespaceDecl)) (es : List ShadowedBinding) (f : Places) (least : ℕ) (ls : List ScopeFrame) (l : ScopeFrame) → l.count ≡ length es → Stacked names lists es f least (ls ++ l ∷ [])
     → IsBound names f (scope_at lists l.scope)
 stacked_last names lists es f least [] l e h =
     let none : drop l.count es ≡ [] = drop_of_length-le es (omega arith) in
     bound-same names (restored (drop l.count es) f) f _ (λ p. ap (λ xs. restored xs f p) none) h.3
 stacked_last names lists es f least (x ∷ ls) l e h = stacked_last names lists es f x.count ls l e h.4
 
-pub stacked_push : (names : List Declaration) (lists : List (List Declaration)) (es : List Replaced) (f : Places) (least : ℕ) (ls : List Layer) (l : Layer) → l.count ≡ length es → least ≤ length es
+pub stacked_push : (names : List NamespaceDecl) (lists : List (List NamespaceDecl)) (es : List ShadowedBinding) (f : Places) (least : ℕ) (ls : List ScopeFrame) (l : ScopeFrame) → l.count ≡ length es → least ≤ length es
     → l.scope < length lists → IsBound names f (scope_at lists l.scope)
     → Stacked names lists es f least ls → Stacked names lists es f least (ls ++ l ∷ [])
 stacked_push names lists es f least [] l e low within bound h =
@@ -117,63 +117,63 @@ stacked_push names lists es f least (x ∷ ls) l e low within bound (a, b, w, x-
 
 -- ---- a prefix that is given a place
 
-chosen : (b : Bool) (place : Option Place) (o : Option (Option Place)) → flat (cond b (Some place) o) ≡ cond b place (flat o)
+chosen : (b : Bool) (place : Option Binding) (o : Option (Option Binding)) → option_joined (cond b (Some place) o) ≡ cond b place (option_joined o)
 chosen true place o = refl
 chosen false place o = refl
 
-pub found_set : (default place : Option Place) (old new : BTreeMap (Bor (List ℕ)) (Option Place)) (prefix : List ℕ) (p : Option (List ℕ))
+pub found_set : (default place : Option Binding) (old new : BTreeMap (Bor (List ℕ)) (Option Binding)) (prefix : List ℕ) (p : Option (List ℕ))
     → ((q : List ℕ) → get_by (λ k. slice_cmp nat_cmp q k.now) new ≡ cond (bytes_eq prefix q) (Some place) (get_by (λ k. slice_cmp nat_cmp q k.now) old))
     → found_at default new p ≡ cond (same_prefix (Some prefix) p) place (found_at default old p)
 found_set default place old new prefix None h = refl
-found_set default place old new prefix (Some q) h = ap flat (h q) ∙ chosen (bytes_eq prefix q) place (get_by (λ k. slice_cmp nat_cmp q k.now) old)
+found_set default place old new prefix (Some q) h = ap option_joined (h q) ∙ chosen (bytes_eq prefix q) place (get_by (λ k. slice_cmp nat_cmp q k.now) old)
 
-pub namespace_chosen : (b : Bool) (place o : Option Place) → namespace_at (cond b place o) ≡ cond b (namespace_at place) (namespace_at o)
+pub namespace_chosen : (b : Bool) (place o : Option Binding) → namespace_at (cond b place o) ≡ cond b (namespace_at place) (namespace_at o)
 namespace_chosen true place o = refl
 namespace_chosen false place o = refl
 
 -- so the namespaces of others stay
-pub found_put : (old new : Present) (prefix : Option (List ℕ)) (place : Option Place) → ((p : Option (List ℕ)) → place_in new p ≡ cond (same_prefix prefix p) place (place_in old p))
-    → (p : Option (List ℕ)) → found new p ≡ cond (same_prefix prefix p) (namespace_at place) (found old p)
+pub found_put : (old new : PrefixBindings) (prefix : Option (List ℕ)) (place : Option Binding) → ((p : Option (List ℕ)) → place_in new p ≡ cond (same_prefix prefix p) place (place_in old p))
+    → (p : Option (List ℕ)) → bound_place new p ≡ cond (same_prefix prefix p) (namespace_at place) (bound_place old p)
 found_put old new prefix place h p = ap namespace_at (h p) ∙ namespace_chosen (same_prefix prefix p) place (place_in old p)
 
 -- the last of some
-pub last_split : (xs : List Layer) (x : Layer) → 0 < length xs → x ≡ get_or xs (length xs - 1) x → xs ≡ take (length xs - 1) xs ++ x ∷ []
+pub last_split : (xs : List ScopeFrame) (x : ScopeFrame) → 0 < length xs → x ≡ get_or xs (length xs - 1) x → xs ≡ take (length xs - 1) xs ++ x ∷ []
 last_split xs x some is =
     let n = length xs - 1 in
     sym (take_all (n + 1) xs (omega arith)) ∙ take_more xs n x (omega arith) ∙ ap (λ y. take n xs ++ y ∷ []) (sym is)
 
 -- which of some is the last
-last_or : Layer → List Layer → Layer
+last_or : ScopeFrame → List ScopeFrame → ScopeFrame
 last_or d [] = d
 last_or d (x ∷ xs) = last_or x xs
 
-last_or-append : (d : Layer) (xs : List Layer) (x : Layer) → last_or d (xs ++ x ∷ []) ≡ x
+last_or-append : (d : ScopeFrame) (xs : List ScopeFrame) (x : ScopeFrame) → last_or d (xs ++ x ∷ []) ≡ x
 unfolding last_or
 last_or-append d [] x = refl
 last_or-append d (y ∷ ys) x = last_or-append y ys x
 
-pub last_same : (xs ys : List Layer) (x y : Layer) → xs ++ x ∷ [] ≡ ys ++ y ∷ [] → x ≡ y
+pub last_same : (xs ys : List ScopeFrame) (x y : ScopeFrame) → xs ++ x ∷ [] ≡ ys ++ y ∷ [] → x ≡ y
 last_same xs ys x y same = sym (last_or-append x xs x) ∙ ap (last_or x) same ∙ last_or-append x ys y
 
-innermost_last : (ls : List Layer) (l : Layer) (count scope : ℕ) → is_innermost (ls ++ l ∷ []) count scope ≡ (l.count == count && l.scope == scope)
+innermost_last : (ls : List ScopeFrame) (l : ScopeFrame) (count scope : ℕ) → is_innermost (ls ++ l ∷ []) count scope ≡ (l.count == count && l.scope == scope)
 innermost_last [] l count scope = refl
 innermost_last (x ∷ []) l count scope = refl
 innermost_last (x ∷ y ∷ ls) l count scope = innermost_last (y ∷ ls) l count scope
 
-pub innermost_at : (ls : List Layer) (l : Layer) (count scope : ℕ) → l.count ≡ count → is_innermost (ls ++ l ∷ []) count scope ≡ (l.scope == scope)
+pub innermost_at : (ls : List ScopeFrame) (l : ScopeFrame) (count scope : ℕ) → l.count ≡ count → is_innermost (ls ++ l ∷ []) count scope ≡ (l.scope == scope)
 innermost_at ls l count scope same = innermost_last ls l count scope ∙ ap (λ (b : Bool). b && (l.scope == scope)) (eq-eqb l.count count same)
 
-pub innermost_not : (ls : List Layer) (l : Layer) (count scope : ℕ) → l.count ≢ count → is_innermost (ls ++ l ∷ []) count scope ≡ false
+pub innermost_not : (ls : List ScopeFrame) (l : ScopeFrame) (count scope : ℕ) → l.count ≢ count → is_innermost (ls ++ l ∷ []) count scope ≡ false
 innermost_not ls l count scope other = innermost_last ls l count scope ∙ ap (λ (b : Bool). b && (l.scope == scope)) (ne_eqb l.count count other)
 
-pub keeps_by : (names : List Declaration) (lists : List (List Declaration)) (x : Present) (es : List Replaced) (ls : List Layer) → x.replaced.items ≡ es → x.layers.items ≡ ls
-    → Stacked names lists es (found x) 0 ls → Keeps names lists x
+pub keeps_by : (names : List NamespaceDecl) (lists : List (List NamespaceDecl)) (x : PrefixBindings) (es : List ShadowedBinding) (ls : List ScopeFrame) → x.replaced.items ≡ es → x.layers.items ≡ ls
+    → Stacked names lists es (bound_place x) 0 ls → AreBindingsOf names lists x
 keeps_by names lists x es ls e l h =
-    record { stacked = subst (λ xs. Stacked names lists xs (found x) 0 x.layers.items) (sym e) (subst (λ ys. Stacked names lists es (found x) 0 ys) (sym l) h) }
+    record { stacked = subst (λ xs. Stacked names lists xs (bound_place x) 0 x.layers.items) (sym e) (subst (λ ys. Stacked names lists es (bound_place x) 0 ys) (sym l) h) }
 
 -- ---- what is found of a list
 
-pub bound_uris : (names : List Declaration) (f : Places) (ds es : List Declaration) → ((p : Option (List ℕ)) → uri_of ds p ≡ uri_of es p) → IsBound names f ds → IsBound names f es
+pub bound_uris : (names : List NamespaceDecl) (f : Places) (ds es : List NamespaceDecl) → ((p : Option (List ℕ)) → uri_of ds p ≡ uri_of es p) → IsBound names f ds → IsBound names f es
 bound_uris names f ds es same h = record { within = h.within; uris = λ p. h.uris p ∙ same p }
 
 -- the first of two that is there
@@ -181,7 +181,7 @@ abbrev first : Option (List ℕ) → Option (List ℕ) → Option (List ℕ)
 first None o = o
 first (Some u) o = Some u
 
-uri_first : (xs ys : List Declaration) (p : Option (List ℕ)) → uri_of (xs ++ ys) p ≡ first (uri_of xs p) (uri_of ys p)
+uri_first : (xs ys : List NamespaceDecl) (p : Option (List ℕ)) → uri_of (xs ++ ys) p ≡ first (uri_of xs p) (uri_of ys p)
 uri_first [] ys p = refl
 uri_first (x ∷ xs) ys p = by_cases (same_prefix x.prefix p) (uri_first xs ys p)
   where
@@ -190,7 +190,7 @@ uri_first (x ∷ xs) ys p = by_cases (same_prefix x.prefix p) (uri_first xs ys p
     by_cases false h = h
 
 -- those without the prefixes that a test holds of
-uri_filter : (test : Option (List ℕ) → Bool) (ds : List Declaration) (p : Option (List ℕ)) → uri_of (filter (λ d. not (test d.prefix)) ds) p ≡ cond (test p) None (uri_of ds p)
+uri_filter : (test : Option (List ℕ) → Bool) (ds : List NamespaceDecl) (p : Option (List ℕ)) → uri_of (filter (λ d. not (test d.prefix)) ds) p ≡ cond (test p) None (uri_of ds p)
 uri_filter test [] p = none (test p)
   where
     none : (b : Bool) → (let o : Option (List ℕ) = None in o ≡ cond b None o)
@@ -209,7 +209,7 @@ uri_filter test (d ∷ ds) p = by_cases (test d.prefix) (same_prefix d.prefix p)
     by_cases true false t s h = rw (t, s) h
     by_cases false false t s h = rw (t, s) h
 
-pub bound_hidden : (names ds : List Declaration) (f g : Places) → ((p : Option (List ℕ)) → g p ≡ cond (same_prefix (Some (word_text Xml)) p) None (f p)) → IsBound names f ds
+pub bound_hidden : (names ds : List NamespaceDecl) (f g : Places) → ((p : Option (List ℕ)) → g p ≡ cond (same_prefix (Some (word_text Xml)) p) None (f p)) → IsBound names f ds
     → IsBound names g (filter (λ d. not (true && is_xml d.prefix)) ds)
 bound_hidden names ds f g is h = record {
   within = λ p. subst (OptionWithin (length names)) (sym (is p)) (hidden (same_prefix (Some (word_text Xml)) p) (f p) (h.within p));
@@ -226,11 +226,11 @@ bound_hidden names ds f g is h = record {
     mapped true o = refl
     mapped false o = refl
 
-pub bound_unhidden : (names ds : List Declaration) (f : Places) → IsBound names f ds → IsBound names f (filter (λ d. not (false && is_xml d.prefix)) ds)
+pub bound_unhidden : (names ds : List NamespaceDecl) (f : Places) → IsBound names f ds → IsBound names f (filter (λ d. not (false && is_xml d.prefix)) ds)
 bound_unhidden names ds f h = bound_uris names f ds _ (λ p. sym (uri_filter (λ q. false && is_xml q) ds p)) h
 
 -- what is hidden either way
-pub bound_others : (names own ds : List Declaration) (xml : Bool) (f : Places) → IsBound names f (own ++ filter (λ d. not (xml && is_xml d.prefix)) ds) → IsBound names f (own ++ others own xml ds)
+pub bound_others : (names own ds : List NamespaceDecl) (xml : Bool) (f : Places) → IsBound names f (own ++ filter (λ d. not (xml && is_xml d.prefix)) ds) → IsBound names f (own ++ others own xml ds)
 bound_others names own ds xml f h = bound_uris names f _ _ same h
   where
     rest : (p : Option (List ℕ)) (o : Option (List ℕ)) → uri_of own p ≡ o → first o (uri_of (filter (λ d. not (xml && is_xml d.prefix)) ds) p) ≡ first o (uri_of (others own xml ds) p)
@@ -243,7 +243,7 @@ bound_others names own ds xml f h = bound_uris names f _ _ same h
     same p = uri_first own _ p ∙ rest p (uri_of own p) refl ∙ sym (uri_first own _ p)
 
 -- one more in front
-pub bound_more : (names ds : List Declaration) (f g : Places) (place : ℕ) → place < length names → ((p : Option (List ℕ)) → g p ≡ cond (same_prefix (entry names place).prefix p) (Some place) (f p))
+pub bound_more : (names ds : List NamespaceDecl) (f g : Places) (place : ℕ) → place < length names → ((p : Option (List ℕ)) → g p ≡ cond (same_prefix (entry names place).prefix p) (Some place) (f p))
     → IsBound names f ds → IsBound names g (entry names place ∷ ds)
 bound_more names ds f g place here is h = record {
   within = λ p. subst (OptionWithin (length names)) (sym (is p)) (inside (same_prefix (entry names place).prefix p) (f p) (h.within p));
@@ -264,7 +264,7 @@ pub drop_one : (xs : List ℕ) (i d : ℕ) → i < length xs → drop i xs ≡ g
 drop_one xs i d lt = rw (add-one, drop-cons xs i d) refl
 
 -- what is listed at this position in front
-pub bound_here : (rows : List Namespace) (listed : List ℕ) (i : ℕ) (item : Namespace) (ds : List Declaration) (f g : Places) → ArePlaces (length rows) listed → i < length listed
+pub bound_here : (rows : List Namespace) (listed : List ℕ) (i : ℕ) (item : Namespace) (ds : List NamespaceDecl) (f g : Places) → ArePlaces (length rows) listed → i < length listed
     → ((p : Option (List ℕ)) → g p ≡ cond (same_prefix (declaration (get_or rows (get_or listed i 0) item)).prefix p) (Some (get_or listed i 0)) (f p))
     → IsBound (map declaration rows) f ds → IsBound (map declaration rows) g (entry (map declaration rows) (get_or listed i 0) ∷ ds)
 bound_here rows listed i item ds f g ok inside is h =
@@ -273,15 +273,15 @@ bound_here rows listed i item ds f g ok inside is h =
     let here : place < length rows = place_at (length rows) listed i 0 ok inside in
     let here2 : place < length names = rw (length-map rows declaration) here in
     let e : declaration (get_or rows place item) ≡ entry names place = sym (entry-get rows place item here) in
-    bound_more names _ f g place here2 (λ p. is p ∙ ap (λ (d : Declaration). cond (same_prefix d.prefix p) (Some place) (f p)) e) h
+    bound_more names _ f g place here2 (λ p. is p ∙ ap (λ (d : NamespaceDecl). cond (same_prefix d.prefix p) (Some place) (f p)) e) h
 
 -- from the back of these places on: none, one more, all
-pub bound_none : (names : List Declaration) (places : List ℕ) (f : Places) → IsBound names f [] → IsBound names f (entries names (drop (length places - 0) places))
+pub bound_none : (names : List NamespaceDecl) (places : List ℕ) (f : Places) → IsBound names f [] → IsBound names f (entries names (drop (length places - 0) places))
 bound_none names places f h =
     let none : drop (length places - 0) places ≡ [] = drop_of_length-le places (omega arith) in
     subst (λ xs. IsBound names f (entries names xs)) (sym none) h
 
-pub bound_from : (names : List Declaration) (places : List ℕ) (turn : ℕ) (g : Places) (place : ℕ) → turn < length places → place ≡ get_or places (length places - 1 - turn) 0
+pub bound_from : (names : List NamespaceDecl) (places : List ℕ) (turn : ℕ) (g : Places) (place : ℕ) → turn < length places → place ≡ get_or places (length places - 1 - turn) 0
     → IsBound names g (entry names place ∷ entries names (drop (length places - turn) places)) → IsBound names g (entries names (drop (length places - (turn + 1)) places))
 bound_from names places turn g place lt at h =
     let i = length places - 1 - turn in
@@ -293,7 +293,7 @@ bound_from names places turn g place lt at h =
     ∙ ap (λ k. entry names place ∷ entries names (drop k places)) (sym then) in
     subst (IsBound names g) (sym all) h
 
-pub bound_all : (names : List Declaration) (places : List ℕ) (turn : ℕ) (f : Places) → length places ≤ turn → IsBound names f (entries names (drop (length places - turn) places)) → IsBound names f (entries names places)
+pub bound_all : (names : List NamespaceDecl) (places : List ℕ) (turn : ℕ) (f : Places) → length places ≤ turn → IsBound names f (entries names (drop (length places - turn) places)) → IsBound names f (entries names places)
 bound_all names places turn f le h =
     let none : length places - turn ≡ 0 = omega arith in
     subst (λ n. IsBound names f (entries names (drop n places))) none h
@@ -307,7 +307,7 @@ reverse_more xs i j le lt = ap reverse (slice-more xs i j 0 le lt) ∙ reverse-a
 
 -- ---- tables that grow
 
-bound_grown : (names more : List Declaration) (f : Places) (ds : List Declaration) → IsBound names f ds → IsBound (names ++ more) f ds
+bound_grown : (names more : List NamespaceDecl) (f : Places) (ds : List NamespaceDecl) → IsBound names f ds → IsBound (names ++ more) f ds
 bound_grown names more f ds h = record {
   within = λ p. inside (f p) (h.within p);
   uris = λ p. same (f p) (h.within p) ∙ h.uris p;
@@ -319,9 +319,9 @@ bound_grown names more f ds h = record {
 
     same : (o : Option ℕ) → OptionWithin (length names) o → option_map (λ i. (entry (names ++ more) i).uri) o ≡ option_map (λ i. (entry names i).uri) o
     same None w = refl
-    same (Some i) w = ap (λ (d : Declaration). Some d.uri) (entry-append names more i w)
+    same (Some i) w = ap (λ (d : NamespaceDecl). Some d.uri) (entry-append names more i w)
 
-stacked_grown : (names more : List Declaration) (lists more-lists : List (List Declaration)) (es : List Replaced) (f : Places) (least : ℕ) (ls : List Layer)
+stacked_grown : (names more : List NamespaceDecl) (lists more-lists : List (List NamespaceDecl)) (es : List ShadowedBinding) (f : Places) (least : ℕ) (ls : List ScopeFrame)
     → Stacked names lists es f least ls → Stacked (names ++ more) (lists ++ more-lists) es f least ls
 stacked_grown names more lists more-lists es f least [] h = tt
 stacked_grown names more lists more-lists es f least (l ∷ ls) (low, high, within, bound, rest) =
@@ -335,11 +335,11 @@ stacked_grown names more lists more-lists es f least (l ∷ ls) (low, high, with
     )
 
 -- the same scopes, in tables that have grown
-pub keeps_grown : (names next : List Declaration) (lists after : List (List Declaration)) (x : Present) (more : List Declaration) (more-lists : List (List Declaration)) → next ≡ names ++ more
-    → after ≡ lists ++ more-lists → Keeps names lists x → Keeps next after x
+pub keeps_grown : (names next : List NamespaceDecl) (lists after : List (List NamespaceDecl)) (x : PrefixBindings) (more : List NamespaceDecl) (more-lists : List (List NamespaceDecl)) → next ≡ names ++ more
+    → after ≡ lists ++ more-lists → AreBindingsOf names lists x → AreBindingsOf next after x
 keeps_grown names next lists after x more more-lists n l h = record {
-  stacked = subst (λ ns. Stacked ns after x.replaced.items (found x) 0 x.layers.items) (sym n)
-      (subst (λ xs. Stacked (names ++ more) xs x.replaced.items (found x) 0 x.layers.items) (sym l) (stacked_grown names more lists more-lists x.replaced.items (found x) 0 x.layers.items h.stacked));
+  stacked = subst (λ ns. Stacked ns after x.replaced.items (bound_place x) 0 x.layers.items) (sym n)
+      (subst (λ xs. Stacked (names ++ more) xs x.replaced.items (bound_place x) 0 x.layers.items) (sym l) (stacked_grown names more lists more-lists x.replaced.items (bound_place x) 0 x.layers.items h.stacked));
 }
 
 -- ---- what is looked up
@@ -353,9 +353,9 @@ looked_few rows places p None there absent = (tt, sym absent)
 looked_few rows places p (Some i) there absent = (there.0, sym there.1)
 
 -- by the places of prefixes
-pub finds_bound : (names : List Declaration) (x : Present) (ds : List Declaration) → IsBound names (found x) ds → Finds names None x ds
+pub finds_bound : (names : List NamespaceDecl) (x : PrefixBindings) (ds : List NamespaceDecl) → IsBound names (bound_place x) ds → FindsBinding names None x ds
 finds_bound names x ds h = record { uris = h.uris }
 
 -- among the places that are listed
-pub finds_few : (names : List Declaration) (places : List ℕ) (x : Present) (ds : List Declaration) → ds ≡ entries names places → Finds names (Some places) x ds
+pub finds_few : (names : List NamespaceDecl) (places : List ℕ) (x : PrefixBindings) (ds : List NamespaceDecl) → ds ≡ entries names places → FindsBinding names (Some places) x ds
 finds_few names places x ds is = record { uris = λ p. ap (λ xs. uri_of xs p) (sym is) }

@@ -10,12 +10,12 @@ use Rattle.std.specs.BTreeMap.{is_at}
 use Rattle.std.specs.BTreeSet.{insert_key}
 use Rattle.std.proofs.lemmas.List.{map-append, take_more}
 use Rattle.std.proofs.lemmas.List.Folds.{list_any-append}
-use Rattle.rox_grammar.specs.Written.{Declaration}
+use Rattle.rox_grammar.specs.Written.{NamespaceDecl}
 use Rattle.rox_grammar.specs.Tree.{same_prefix, is_declared}
 use Rattle.rox_tables.specs.declared.tables.Namespace.{Namespace}
-use Rattle.rox_tables.specs.Lines.{declaration, entry}
+use Rattle.rox_tables.specs.Rows.{declaration, entry}
 use Rattle.rox_tables.specs.Scopes.{prefix_view, entries, ArePlaces}
-use Rattle.rox_tables.specs.Prefixes.{has_prefix, Remembers}
+use Rattle.rox_tables.specs.PrefixSet.{has_prefix, IsPrefixSet}
 use Rattle.rox_tables.proofs.Listing.{same_prefix-sym}
 use Rattle.rox_tables.proofs.Pairs.{same_prefix-true, entry-get, place_at}
 
@@ -67,25 +67,25 @@ has_inserted [] k p = or_swap (same_prefix (prefix_view k) p) false
 has_inserted (x ∷ xs) k p = with_key xs x k p (key_cmp k x) refl (has_inserted xs k p)
 
 -- few are not kept
-pub remembers_few : (names : List Declaration) (places : List ℕ) (keys : List Key) → length places < 17 → Remembers names places keys
-unfolding Remembers
+pub remembers_few : (names : List NamespaceDecl) (places : List ℕ) (keys : List Key) → length places < 17 → IsPrefixSet names places keys
+unfolding IsPrefixSet
 remembers_few names places keys short = λ many. absurd (omega arith)
 
-pub remembers_many : (names : List Declaration) (places : List ℕ) (keys : List Key) → ((p : Option (List ℕ)) → has_prefix p keys ≡ is_declared p (entries names places)) → Remembers names places keys
-unfolding Remembers
+pub remembers_many : (names : List NamespaceDecl) (places : List ℕ) (keys : List Key) → ((p : Option (List ℕ)) → has_prefix p keys ≡ is_declared p (entries names places)) → IsPrefixSet names places keys
+unfolding IsPrefixSet
 remembers_many names places keys h = λ many. h
 
-pub remembered : (names : List Declaration) (places : List ℕ) (keys : List Key) (p : Option (List ℕ)) → Remembers names places keys → 16 < length places → has_prefix p keys ≡ is_declared p (entries names places)
-unfolding Remembers
+pub remembered : (names : List NamespaceDecl) (places : List ℕ) (keys : List Key) (p : Option (List ℕ)) → IsPrefixSet names places keys → 16 < length places → has_prefix p keys ≡ is_declared p (entries names places)
+unfolding IsPrefixSet
 remembered names places keys p h many = h many p
 
 -- the same places in a table that has grown
-pub remembers_same : (names more : List Declaration) (places : List ℕ) (keys : List Key) → entries more places ≡ entries names places → Remembers names places keys → Remembers more places keys
-unfolding Remembers
+pub remembers_same : (names more : List NamespaceDecl) (places : List ℕ) (keys : List Key) → entries more places ≡ entries names places → IsPrefixSet names places keys → IsPrefixSet more places keys
+unfolding IsPrefixSet
 remembers_same names more places keys e h = λ many p. h many p ∙ ap (is_declared p) (sym e)
 
 -- one more place
-pub declared_push : (names : List Declaration) (places : List ℕ) (place : ℕ) (p : Option (List ℕ))
+pub declared_push : (names : List NamespaceDecl) (places : List ℕ) (place : ℕ) (p : Option (List ℕ))
     → is_declared p (entries names (places ++ place ∷ [])) ≡ (is_declared p (entries names places) || same_prefix (entry names place).prefix p)
 declared_push names places place p =
     ap (is_declared p) (map-append (entry names) places (place ∷ [])) ∙ list_any-append (λ d. same_prefix d.prefix p) (entries names places) (entry names place ∷ [])
@@ -107,25 +107,25 @@ declared_next rows places i item p old now next ok lt before more =
     let e : entry names place ≡ declaration (get_or rows place item) = entry-get rows place item (place_at (length rows) places i 0 ok lt) in
     let all : is_declared p (entries names (take (i + 1) places)) ≡ (is_declared p (entries names (take i places)) || one) =
     ap (λ xs. is_declared p (entries names xs)) (take_more places i 0 lt) ∙ declared_push names (take i places) place p
-    ∙ ap (λ (d : Declaration). is_declared p (entries names (take i places)) || same_prefix d.prefix p) e in
+    ∙ ap (λ (d : NamespaceDecl). is_declared p (entries names (take i places)) || same_prefix d.prefix p) e in
     more ∙ ap (λ b. b || one) before ∙ sym (or_assoc old _ one) ∙ ap (λ b. old || b) (sym all)
 
 -- a set of all of them
-pub remembers_all : (names : List Declaration) (places : List ℕ) (empty keys : List Key) → empty ≡ []
-    → ((p : Option (List ℕ)) → has_prefix p keys ≡ (has_prefix p empty || is_declared p (entries names places))) → Remembers names places keys
-unfolding Remembers
+pub remembers_all : (names : List NamespaceDecl) (places : List ℕ) (empty keys : List Key) → empty ≡ []
+    → ((p : Option (List ℕ)) → has_prefix p keys ≡ (has_prefix p empty || is_declared p (entries names places))) → IsPrefixSet names places keys
+unfolding IsPrefixSet
 remembers_all names places empty keys e h = λ many p. h p ∙ ap (λ ks. has_prefix p ks || is_declared p (entries names places)) e
 
 -- a set with one more of many
-pub remembers_more : (names : List Declaration) (before own : List ℕ) (place : ℕ) (prefix : Option (List ℕ)) (old keys : List Key)
-    → own ≡ before ++ place ∷ [] → (entry names place).prefix ≡ prefix → 17 < length own → Remembers names before old
-    → ((p : Option (List ℕ)) → has_prefix p keys ≡ (has_prefix p old || same_prefix prefix p)) → Remembers names own keys
-unfolding Remembers
+pub remembers_more : (names : List NamespaceDecl) (before own : List ℕ) (place : ℕ) (prefix : Option (List ℕ)) (old keys : List Key)
+    → own ≡ before ++ place ∷ [] → (entry names place).prefix ≡ prefix → 17 < length own → IsPrefixSet names before old
+    → ((p : Option (List ℕ)) → has_prefix p keys ≡ (has_prefix p old || same_prefix prefix p)) → IsPrefixSet names own keys
+unfolding IsPrefixSet
 remembers_more names before own place prefix old keys is at long h more = λ many p.
     let n : length own ≡ length before + 1 = ap length is ∙ length-append before (place ∷ []) in
     more p ∙ ap (λ b. b || same_prefix prefix p) (h (omega arith) p) ∙ ap (λ q. is_declared p (entries names before) || same_prefix q p) (sym at)
     ∙ sym (declared_push names before place p) ∙ ap (λ xs. is_declared p (entries names xs)) (sym is)
 
 -- nothing is declared yet
-pub remembers_none : (names : List Declaration) (listed : List ℕ) (own : ℕ) (keys : List Key) → own ≡ length listed → Remembers names (drop own listed) keys
+pub remembers_none : (names : List NamespaceDecl) (listed : List ℕ) (own : ℕ) (keys : List Key) → own ≡ length listed → IsPrefixSet names (drop own listed) keys
 remembers_none names listed own keys e = remembers_few names (drop own listed) keys (rw length-drop (omega arith))

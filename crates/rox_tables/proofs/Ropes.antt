@@ -5,13 +5,13 @@ use Rattle.std.proofs.lemmas.Grind.{reverse_onto}
 use Rattle.std.proofs.Math.Nat.{eq-or-lt_of_le}
 use Rattle.std.proofs.Math.Seq.{get_or-append_seam}
 use Rattle.std.proofs.lemmas.List.{append-nil, length-map, length-reverse, map-append, take-append-drop, take-append-le, get_or_append_left}
-use Rattle.rox_grammar.specs.Written.{Declaration}
+use Rattle.rox_grammar.specs.Written.{NamespaceDecl}
 use Rattle.rox_reading.proofs.Stretches.{range_length}
 use Rattle.rox_grammar.specs.declared.failure.Failure.{Failure}
-use Rattle.rox_tables.specs.declared.tables.Both.{Both}
+use Rattle.rox_tables.specs.declared.tables.Concat.{Concat}
 use Rattle.rox_tables.specs.declared.tables.Scope.{Scope}
 use Rattle.rox_tables.specs.declared.tables.Scope.TheVariants as scope
-use Rattle.rox_tables.specs.Lines.{entry, listed_at, made, places_on, places_of, lists_of, scope_at, count_of, count_at, IsRow, AreRows, EndsWithin, AreScopes}
+use Rattle.rox_tables.specs.Rows.{entry, listed_at, made, places_on, places_of, lists_of, scope_at, count_of, count_at, IsRow, AreRows, EndsWithin, AreScopes}
 use Rattle.rox_tables.specs.Scopes.{entries, places_in, ArePlaces}
 use Rattle.rox_tables.specs.Ropes.{IsRope}
 use Rattle.rox_tables.specs.declared.tables.Stretch.{Stretch}
@@ -51,10 +51,10 @@ pub length-places : (listed : List ℕ) (scopes : List Scope) → length (places
 length-places listed scopes = let f = places_front listed [] scopes in ap length f.1 ∙ f.2
 
 -- how many there are
-pub length-lists : (names : List Declaration) (ls : List ℕ) (scopes : List Scope) → length (lists_of names ls scopes) ≡ length scopes
+pub length-lists : (names : List NamespaceDecl) (ls : List ℕ) (scopes : List Scope) → length (lists_of names ls scopes) ≡ length scopes
 length-lists names ls scopes = length-map (places_of ls scopes) (map (entry names)) ∙ length-places ls scopes
 
-pub lists-grown : (names : List Declaration) (ls : List ℕ) (scopes more : List Scope) → (rest : List (List Declaration)) × (lists_of names ls (scopes ++ more) ≡ lists_of names ls scopes ++ rest)
+pub lists-grown : (names : List NamespaceDecl) (ls : List ℕ) (scopes more : List Scope) → (rest : List (List NamespaceDecl)) × (lists_of names ls (scopes ++ more) ≡ lists_of names ls scopes ++ rest)
 lists-grown names ls scopes more =
     let g = places-grown ls scopes more in
     (map (map (entry names)) g.0, ap (map (map (entry names))) g.1 ∙ map-append (map (entry names)) (places_of ls scopes) g.0)
@@ -66,7 +66,7 @@ places_in-grown ls scopes more i h =
     ap (λ xs. listed_at xs i) g.1 ∙ listed_at-append (places_of ls scopes) g.0 i (omega arith)
 
 -- what a scope lists stands at its places
-pub scope_places : (names : List Declaration) (ls : List ℕ) (scopes : List Scope) (i : ℕ) → scope_at (lists_of names ls scopes) i ≡ entries names (places_in ls scopes i)
+pub scope_places : (names : List NamespaceDecl) (ls : List ℕ) (scopes : List Scope) (i : ℕ) → scope_at (lists_of names ls scopes) i ≡ entries names (places_in ls scopes i)
 scope_places names ls scopes i = each (places_of ls scopes) i
   where
     each : (ps : List (List ℕ)) (i : ℕ) → scope_at (map (map (entry names)) ps) i ≡ entries names (listed_at ps i)
@@ -91,7 +91,7 @@ row_made ls done (x ∷ ss) (suc i) k s n h e =
 made-grown : (ls : List ℕ) (done more : List (List ℕ)) (scopes : List Scope) (i : ℕ) (s : Scope) → i ≤ length done → IsRow scopes i s → made ls (done ++ more) s ≡ made ls done s
 made-grown ls done more scopes i (scope.Few s) n h = refl
 made-grown ls done more scopes i (scope.Back s) n h = refl
-made-grown ls done more scopes i (scope.Both b) n (f, r, c) =
+made-grown ls done more scopes i (scope.Concat b) n (f, r, c) =
     ap (λ xs. xs ++ listed_at (done ++ more) b.rest) (listed_at-append done more b.first (omega arith))
     ∙ ap (λ xs. listed_at done b.first ++ xs) (listed_at-append done more b.rest (omega arith))
 
@@ -157,8 +157,8 @@ count_one ls scopes i (scope.Back s) h lt e before =
     let r = row_is ls scopes i (scope.Back s) (scope.Back s) h.rows lt e refl in
     let w : s.until ≤ length ls = row_ends (length ls) scopes i (scope.Back s) (scope.Back s) h lt e refl in
     r.count ∙ sym (ap length r.lists ∙ length-reverse (slice_range ls s.from s.until) ∙ range_length ls s.from s.until r.row w)
-count_one ls scopes i (scope.Both b) h lt e before =
-    let r = row_is ls scopes i (scope.Both b) (scope.Both b) h.rows lt e refl in
+count_one ls scopes i (scope.Concat b) h lt e before =
+    let r = row_is ls scopes i (scope.Concat b) (scope.Concat b) h.rows lt e refl in
     let l = length-append (places_in ls scopes b.first) (places_in ls scopes b.rest) in
     r.count ∙ r.row.2 ∙ ap (λ n. n + count_at scopes b.rest) (before b.first r.row.0) ∙ ap (λ n. length (places_in ls scopes b.first) + n) (before b.rest r.row.1) ∙ sym l ∙ ap length (sym r.lists)
 
@@ -180,7 +180,7 @@ count_at-append (s ∷ ss) more (suc i) h = count_at-append ss more i (omega ari
 row-grown : (scopes more : List Scope) (i : ℕ) (s : Scope) → i ≤ length scopes → IsRow scopes i s → IsRow (scopes ++ more) i s
 row-grown scopes more i (scope.Few s) n h = h
 row-grown scopes more i (scope.Back s) n h = h
-row-grown scopes more i (scope.Both b) n (f, r, c) = (
+row-grown scopes more i (scope.Concat b) n (f, r, c) = (
   f,
   r,
   c ∙ sym (ap (λ n. n + count_at (scopes ++ more) b.rest) (count_at-append scopes more b.first (omega arith)) ∙ ap (λ n. count_at scopes b.first + n) (count_at-append scopes more b.rest (omega arith))),
@@ -208,7 +208,7 @@ scopes_push n scopes after s push h r e = record { rows = rows_push scopes after
 ends_more : (n m : ℕ) (s : Scope) → n ≤ m → EndsWithin n s → EndsWithin m s
 ends_more n m (scope.Few s) le h = omega arith
 ends_more n m (scope.Back s) le h = omega arith
-ends_more n m (scope.Both b) le h = tt
+ends_more n m (scope.Concat b) le h = tt
 
 -- as more places are listed
 pub scopes_more : (n m : ℕ) (scopes : List Scope) → n ≤ m → AreScopes n scopes → AreScopes m scopes
@@ -231,7 +231,7 @@ slice-stays (x ∷ xs) ys (suc i) (suc j) h = let e : suc j - suc i ≡ j - i = 
 made-listed : (ls more : List ℕ) (done : List (List ℕ)) (s : Scope) → EndsWithin (length ls) s → made (ls ++ more) done s ≡ made ls done s
 made-listed ls more done (scope.Few s) h = slice-stays ls more s.from s.until h
 made-listed ls more done (scope.Back s) h = ap (reverse {A = ℕ}) (slice-stays ls more s.from s.until h)
-made-listed ls more done (scope.Both b) h = refl
+made-listed ls more done (scope.Concat b) h = refl
 
 places-listed : (ls more : List ℕ) (done : List (List ℕ)) (ss : List Scope) → AllByRecursion (EndsWithin (length ls)) ss → places_on (ls ++ more) done ss ≡ places_on ls done ss
 places-listed ls more done [] h = refl
@@ -241,7 +241,7 @@ places-listed ls more done (s ∷ ss) (p, h) = ap (λ x. places_on (ls ++ more) 
 pub places_in-listed : (ls more : List ℕ) (scopes : List Scope) (i : ℕ) → AreScopes (length ls) scopes → places_in (ls ++ more) scopes i ≡ places_in ls scopes i
 places_in-listed ls more scopes i h = ap (λ xs. listed_at xs i) (places-listed ls more [] scopes h.within)
 
-pub lists-listed : (names : List Declaration) (ls more : List ℕ) (scopes : List Scope) → AreScopes (length ls) scopes → lists_of names (ls ++ more) scopes ≡ lists_of names ls scopes
+pub lists-listed : (names : List NamespaceDecl) (ls more : List ℕ) (scopes : List Scope) → AreScopes (length ls) scopes → lists_of names (ls ++ more) scopes ≡ lists_of names ls scopes
 lists-listed names ls more scopes h = ap (map (map (entry names))) (places-listed ls more [] scopes h.within)
 
 pub all_reverse : (n : ℕ) (xs : List ℕ) → ArePlaces n xs → ArePlaces n (reverse xs)
@@ -256,7 +256,7 @@ all_at n (p ∷ ps) (suc i) (a, h) = all_at n ps i h
 made_places : (n : ℕ) (ls : List ℕ) (done : List (List ℕ)) (s : Scope) → ArePlaces n ls → AllByRecursion (ArePlaces n) done → ArePlaces n (made ls done s)
 made_places n ls done (scope.Few s) h k = all_slice (λ i. i < n) ls s.from s.until h
 made_places n ls done (scope.Back s) h k = all_reverse n (slice_range ls s.from s.until) (all_slice (λ i. i < n) ls s.from s.until h)
-made_places n ls done (scope.Both b) h k = all_append (λ i. i < n) (listed_at done b.first) (listed_at done b.rest) (all_at n done b.first k) (all_at n done b.rest k)
+made_places n ls done (scope.Concat b) h k = all_append (λ i. i < n) (listed_at done b.first) (listed_at done b.rest) (all_at n done b.first k) (all_at n done b.rest k)
 
 places_on_places : (n : ℕ) (ls : List ℕ) (done : List (List ℕ)) (ss : List Scope) → ArePlaces n ls → AllByRecursion (ArePlaces n) done → AllByRecursion (ArePlaces n) (places_on ls done ss)
 places_on_places n ls done [] h k = k
@@ -267,12 +267,12 @@ pub all_places : (n : ℕ) (ls : List ℕ) (scopes : List Scope) (i : ℕ) → A
 all_places n ls scopes i h = all_at n (places_of ls scopes) i (places_on_places n ls [] scopes h tt)
 
 -- what scopes list stays as the table of namespaces grows
-lists-names : (names more : List Declaration) (ls : List ℕ) (scopes : List Scope) → ArePlaces (length names) ls → lists_of (names ++ more) ls scopes ≡ lists_of names ls scopes
+lists-names : (names more : List NamespaceDecl) (ls : List ℕ) (scopes : List Scope) → ArePlaces (length names) ls → lists_of (names ++ more) ls scopes ≡ lists_of names ls scopes
 lists-names names more ls scopes h =
     map_same (map (entry (names ++ more))) (map (entry names)) (ArePlaces (length names)) (places_of ls scopes)
     (λ xs a. map_same (entry (names ++ more)) (entry names) (λ i. i < length names) xs (entry-append names more) a) (places_on_places (length names) ls [] scopes h tt)
 
-pub lists-append : (names more : List Declaration) (ls moreL : List ℕ) (scopes : List Scope) → ArePlaces (length names) ls → AreScopes (length ls) scopes
+pub lists-append : (names more : List NamespaceDecl) (ls moreL : List ℕ) (scopes : List Scope) → ArePlaces (length names) ls → AreScopes (length ls) scopes
     → lists_of (names ++ more) (ls ++ moreL) scopes ≡ lists_of names ls scopes
 lists-append names more ls moreL scopes all h = lists-listed (names ++ more) ls moreL scopes h ∙ lists-names names more ls scopes all
 
@@ -288,17 +288,17 @@ pub rope_same : (scopes : List Scope) (i : ℕ) (list : List ℕ → List ℕ) �
 rope_same scopes i list rows within lists = record { more = []; grown = sym (append-nil scopes); rows = rows; ends = λ n h. h; within = within; lists = lists }
 
 -- a row of two
-pub rope_pushed : (old new : List Scope) (b : Both) (i : ℕ) → new ≡ old ++ scope.Both b ∷ [] → i ≡ length old → b.first < length old → b.rest < length old → b.count ≡ count_at old b.first + count_at old b.rest
+pub rope_pushed : (old new : List Scope) (b : Concat) (i : ℕ) → new ≡ old ++ scope.Concat b ∷ [] → i ≡ length old → b.first < length old → b.rest < length old → b.count ≡ count_at old b.first + count_at old b.rest
     → AreRows old → IsRope old new i (λ listed. places_in listed old b.first ++ places_in listed old b.rest)
 rope_pushed old new b i push last first rest count rows =
-    let n = ap length push ∙ length-append old (scope.Both b ∷ []) in
+    let n = ap length push ∙ length-append old (scope.Concat b ∷ []) in
     record {
-      more = scope.Both b ∷ [];
+      more = scope.Concat b ∷ [];
       grown = push;
-      rows = rows_push old new (scope.Both b) push rows (first, rest, count);
-      ends = λ n h. ends_push n old new (scope.Both b) push h tt;
+      rows = rows_push old new (scope.Concat b) push rows (first, rest, count);
+      ends = λ n h. ends_push n old new (scope.Concat b) push h tt;
       within = omega arith;
-      lists = λ listed h. pushed_places listed old new (scope.Both b) i push last;
+      lists = λ listed h. pushed_places listed old new (scope.Concat b) i push last;
     }
 
 -- a leaf
@@ -410,10 +410,10 @@ back_at ls scopes i s k h lt is less =
     let m : k < s.until - s.from = omega arith in
     (omega arith, w, sym (ap (λ xs. get_or xs k 0) r.lists ∙ back_get ls s.from s.until k 0 r.row w m))
 
-pub both_at : (ls : List ℕ) (scopes : List Scope) (i : ℕ) (b : Both) → AreScopes (length ls) scopes → i < length scopes → get_or scopes i no_row ≡ scope.Both b
+pub both_at : (ls : List ℕ) (scopes : List Scope) (i : ℕ) (b : Concat) → AreScopes (length ls) scopes → i < length scopes → get_or scopes i no_row ≡ scope.Concat b
     → (b.first < i) × (b.rest < i) × (count_at scopes b.first ≡ length (places_in ls scopes b.first)) × (places_in ls scopes i ≡ places_in ls scopes b.first ++ places_in ls scopes b.rest)
 both_at ls scopes i b h lt is =
-    let r = row_found ls scopes i (scope.Both b) h.rows lt is in
+    let r = row_found ls scopes i (scope.Concat b) h.rows lt is in
     let f : b.first < i = r.row.0 in
     (f, r.row.1, count_places ls scopes b.first h (omega arith), r.lists)
 

@@ -12,15 +12,15 @@ use Rattle.std.specs.BTreeSet.{insert_key}
 use Rattle.rox_grammar.specs.Tree.{same_prefix}
 use Rattle.rox_tables.specs.Scopes.{prefix_view}
 use Rattle.rox_tables.proofs.Listing.{same_prefix-sym}
-use Rattle.rox_tables.specs.Seen.{Key, is_key, has_key, Sees}
+use Rattle.rox_tables.specs.ExpandedNames.{Key, is_key, has_key, HasExpandedNames}
 use Rattle.std.proofs.Common.{◌++◌, map, drop, length, subst, arith}
 use Rattle.std.proofs.Math.ListN.{drop_of_length-le}
 use Rattle.std.proofs.Math.Seq.{drop-append_seam}
 use Rattle.std.proofs.lemmas.List.{append_assoc, map-append}
 use Rattle.std.proofs.lemmas.List.Folds.{list_any-append}
-use Rattle.rox_grammar.specs.Written.{Declaration}
-use Rattle.rox_tables.specs.Lines.{namespace_of, AttributeRow}
-use Rattle.rox_tables.specs.Resolved.{has_expanded}
+use Rattle.rox_grammar.specs.Written.{NamespaceDecl}
+use Rattle.rox_tables.specs.Rows.{attribute_uri, AttributeRow}
+use Rattle.rox_tables.specs.ResolvedNames.{has_expanded}
 use Rattle.rox_tables.specs.declared.tables.AttributeNamespace.{AttributeNamespace}
 use Rattle.rox_tables.specs.declared.tables.AttributeData.{AttributeData}
 
@@ -83,26 +83,26 @@ any_inserted cmp P [] k h = or_swap (P k) false
 any_inserted cmp P (x ∷ xs) k h = one_more cmp P xs x k (cmp k x) refl (no_first _ _ h) (any_inserted cmp P xs k (or_no _ _ h))
 
 -- no attribute, no key
-pub sees_none : (names : List Declaration) (keys : List Key) → keys ≡ [] → Sees names keys []
-unfolding Sees
+pub sees_none : (names : List NamespaceDecl) (keys : List Key) → keys ≡ [] → HasExpandedNames names keys []
+unfolding HasExpandedNames
 sees_none names keys e = λ local uri. ap (has_key local uri) e
 
 -- what a set answers of a name
-pub sees_is : (names : List Declaration) (keys : List Key) (done : List AttributeData) (s : AttributeNamespace) (local : List ℕ) (uri : Option (List ℕ)) → Sees names keys done → uri ≡ namespace_of names s
+pub sees_is : (names : List NamespaceDecl) (keys : List Key) (done : List AttributeData) (s : AttributeNamespace) (local : List ℕ) (uri : Option (List ℕ)) → HasExpandedNames names keys done → uri ≡ attribute_uri names s
     → has_key local uri keys ≡ list_any (has_expanded names s local) done
-unfolding Sees
-sees_is names keys done s local uri h is = h local uri ∙ ap (λ (u : Option (List ℕ)). list_any (λ a. same_prefix (namespace_of names a.namespace) u && bytes_eq a.local.now local) done) is
+unfolding HasExpandedNames
+sees_is names keys done s local uri h is = h local uri ∙ ap (λ (u : Option (List ℕ)). list_any (λ a. same_prefix (attribute_uri names a.namespace) u && bytes_eq a.local.now local) done) is
 
 -- one more
-pub sees_more : (names : List Declaration) (keys more : List Key) (done : List AttributeData) (a : AttributeData) (k : Key) → Sees names keys done
+pub sees_more : (names : List NamespaceDecl) (keys more : List Key) (done : List AttributeData) (a : AttributeData) (k : Key) → HasExpandedNames names keys done
     → ((l : List ℕ) (u : Option (List ℕ)) → has_key l u more ≡ (has_key l u keys || is_key l u k))
-    → prefix_view k.1 ≡ namespace_of names a.namespace → k.0.now ≡ a.local.now
-    → Sees names more (done ++ a ∷ [])
-unfolding Sees
+    → prefix_view k.1 ≡ attribute_uri names a.namespace → k.0.now ≡ a.local.now
+    → HasExpandedNames names more (done ++ a ∷ [])
+unfolding HasExpandedNames
 sees_more names keys more done a k h grown uri local = λ l u.
-    let test : AttributeData → Bool = λ b. same_prefix (namespace_of names b.namespace) u && bytes_eq b.local.now l in
+    let test : AttributeData → Bool = λ b. same_prefix (attribute_uri names b.namespace) u && bytes_eq b.local.now l in
     grown l u ∙ ap (λ b. b || is_key l u k) (h l u)
-    ∙ ap (λ b. list_any test done || b) (ap (λ v. same_prefix v u && bytes_eq k.0.now l) uri ∙ ap (λ v. same_prefix (namespace_of names a.namespace) u && bytes_eq v l) local ∙ sym (or_swap (test a) false ∙ refl))
+    ∙ ap (λ b. list_any test done || b) (ap (λ v. same_prefix v u && bytes_eq k.0.now l) uri ∙ ap (λ v. same_prefix (attribute_uri names a.namespace) u && bytes_eq v l) local ∙ sym (or_swap (test a) false ∙ refl))
     ∙ sym (list_any-append test done (a ∷ []))
 
 -- ---- the rows behind those of other tags
@@ -110,18 +110,18 @@ sees_more names keys more done a k h grown uri local = λ l u.
 abbrev pub data_of : (old table : List AttributeRow) → List AttributeData
 data_of old table = map (λ (r : AttributeRow). r.0) (drop (length old) table)
 
-pub sees_start : (names : List Declaration) (keys : List Key) (old : List AttributeRow) → keys ≡ [] → Sees names keys (data_of old old)
+pub sees_start : (names : List NamespaceDecl) (keys : List Key) (old : List AttributeRow) → keys ≡ [] → HasExpandedNames names keys (data_of old old)
 sees_start names keys old e =
-    subst (Sees names keys) (ap (map (λ (r : AttributeRow). r.0)) (sym (drop_of_length-le old (omega arith)))) (sees_none names keys e)
+    subst (HasExpandedNames names keys) (ap (map (λ (r : AttributeRow). r.0)) (sym (drop_of_length-le old (omega arith)))) (sees_none names keys e)
 
-pub sees_next : (names : List Declaration) (keys more : List Key) (old done : List AttributeRow) (table new : List AttributeRow) (row : AttributeRow)
-    → table ≡ old ++ done → new ≡ table ++ row ∷ [] → Sees names keys (data_of old table)
-    → (Sees names keys (data_of old table) → Sees names more (data_of old table ++ row.0 ∷ []))
-    → Sees names more (data_of old new)
+pub sees_next : (names : List NamespaceDecl) (keys more : List Key) (old done : List AttributeRow) (table new : List AttributeRow) (row : AttributeRow)
+    → table ≡ old ++ done → new ≡ table ++ row ∷ [] → HasExpandedNames names keys (data_of old table)
+    → (HasExpandedNames names keys (data_of old table) → HasExpandedNames names more (data_of old table ++ row.0 ∷ []))
+    → HasExpandedNames names more (data_of old new)
 sees_next names keys more old done table new row is grown h step =
     let first : drop (length old) table ≡ done = ap (drop (length old)) is ∙ drop-append_seam old done in
     let all : drop (length old) new ≡ done ++ row ∷ [] =
     ap (drop (length old)) (grown ∙ ap (λ xs. xs ++ row ∷ []) is ∙ append_assoc old done (row ∷ [])) ∙ drop-append_seam old (done ++ row ∷ []) in
-    subst (Sees names more)
+    subst (HasExpandedNames names more)
     (ap (λ xs. map (λ (r : AttributeRow). r.0) xs ++ row.0 ∷ []) first ∙ sym (map-append (λ (r : AttributeRow). r.0) done (row ∷ [])) ∙ ap (map (λ (r : AttributeRow). r.0)) (sym all))
     (step h)

@@ -3,11 +3,11 @@ use Rattle.std.proofs.Common.{◌≡◌, ℕ, ◌+◌, ◌-◌, ◌<◌, ◌≤�
 use Rattle.std.specs.List.{slice_range}
 use Rattle.std.proofs.Math.Seq.{drop-append_seam}
 use Rattle.std.proofs.lemmas.List.{append-nil, map-append, drop-append-le, take_all, take_more, get_or-reverse, length-reverse, reverse-reverse}
-use Rattle.rox_grammar.specs.Written.{Declaration}
+use Rattle.rox_grammar.specs.Written.{NamespaceDecl}
 use Rattle.rox_tables.specs.declared.tables.Scope.{Scope}
 use Rattle.rox_tables.specs.declared.tables.Scope.TheVariants as scope
 use Rattle.rox_tables.specs.declared.tables.Stretch.{Stretch}
-use Rattle.rox_tables.specs.Lines.{entry, AreScopes}
+use Rattle.rox_tables.specs.Rows.{entry, AreScopes}
 use Rattle.rox_tables.specs.Scopes.{entries, places_in, ArePlaces}
 use Rattle.rox_tables.specs.Ropes.{IsRope, IsListed}
 use Rattle.rox_tables.proofs.Stable.{all_append, all_drop}
@@ -52,7 +52,7 @@ turn_ends old from turn end now h le =
     h.now_is ∙ ap (λ xs. old ++ xs) (take_all turn (reverse (drop from old)) (omega arith))
 
 -- a row that reads it from its back
-pub turned_listed : (names : List Declaration) (old new : List ℕ) (scopes after : List Scope) (s : Stretch) (i from : ℕ) → new ≡ old ++ reverse (drop from old) → s.from ≡ length old → s.until ≡ length new
+pub turned_listed : (names : List NamespaceDecl) (old new : List ℕ) (scopes after : List Scope) (s : Stretch) (i from : ℕ) → new ≡ old ++ reverse (drop from old) → s.from ≡ length old → s.until ≡ length new
     → AreScopes (length old) scopes → after ≡ scopes ++ scope.Back s ∷ [] → i ≡ length scopes → IsListed names old scopes new after i (entries names (drop from old))
 turned_listed names old new scopes after s i from grown begins ends h push last =
     let more = reverse (drop from old) in
@@ -74,7 +74,7 @@ turned_listed names old new scopes after s i from grown begins ends h push last 
     }
 
 -- a row of few
-pub few_listed : (names : List Declaration) (old : List ℕ) (scopes after : List Scope) (s : Stretch) (i : ℕ) → s.from ≤ length old → s.until ≡ length old
+pub few_listed : (names : List NamespaceDecl) (old : List ℕ) (scopes after : List Scope) (s : Stretch) (i : ℕ) → s.from ≤ length old → s.until ≡ length old
     → AreScopes (length old) scopes → after ≡ scopes ++ scope.Few s ∷ [] → i ≡ length scopes → IsListed names old scopes old after i (entries names (drop s.from old))
 few_listed names old scopes after s i le ends h push last =
     let l = ap length push ∙ length-append scopes (scope.Few s ∷ []) in
@@ -102,7 +102,7 @@ pub within_behind : {A : Type 0} (old mid more : List A) (i : ℕ) → mid ≡ o
 within_behind old mid more i grown h = let n = ap length grown ∙ length-append old more in omega arith
 
 -- behind what was inherited
-pub inherits_listed : (names : List Declaration) (old mid new more : List ℕ) (scopes after : List Scope) (i own : ℕ) (ds : List Declaration) → own ≤ length old → mid ≡ old ++ more → (ArePlaces (length names) old → ArePlaces (length names) mid)
+pub inherits_listed : (names : List NamespaceDecl) (old mid new more : List ℕ) (scopes after : List Scope) (i own : ℕ) (ds : List NamespaceDecl) → own ≤ length old → mid ≡ old ++ more → (ArePlaces (length names) old → ArePlaces (length names) mid)
     → entries names more ≡ ds → IsListed names mid scopes new after i (entries names (drop own mid)) → IsListed names old scopes new after i (entries names (drop own old) ++ ds)
 inherits_listed names old mid new more scopes after i own ds le grown places is x = record {
   more = more ++ x.more;
@@ -118,7 +118,7 @@ inherits_listed names old mid new more scopes after i own ds le grown places is 
 
 -- ---- what is hidden
 
-pub same_listed : (names : List Declaration) (listed : List ℕ) (scopes : List Scope) (i : ℕ) (ds : List Declaration) → AreScopes (length listed) scopes → i < length scopes → entries names (places_in listed scopes i) ≡ ds
+pub same_listed : (names : List NamespaceDecl) (listed : List ℕ) (scopes : List Scope) (i : ℕ) (ds : List NamespaceDecl) → AreScopes (length listed) scopes → i < length scopes → entries names (places_in listed scopes i) ≡ ds
     → IsListed names listed scopes listed scopes i ds
 same_listed names listed scopes i ds h lt is = record {
   more = [];
@@ -131,7 +131,7 @@ same_listed names listed scopes i ds h lt is = record {
   lists = is;
 }
 
-pub rope_listed : (names : List Declaration) (listed : List ℕ) (scopes after : List Scope) (i : ℕ) (f : List ℕ → List ℕ) (ds : List Declaration) → AreScopes (length listed) scopes → IsRope scopes after i f
+pub rope_listed : (names : List NamespaceDecl) (listed : List ℕ) (scopes after : List Scope) (i : ℕ) (f : List ℕ → List ℕ) (ds : List NamespaceDecl) → AreScopes (length listed) scopes → IsRope scopes after i f
     → entries names (f listed) ≡ ds → IsListed names listed scopes listed after i ds
 rope_listed names listed scopes after i f ds h x is = record {
   more = [];
@@ -145,7 +145,7 @@ rope_listed names listed scopes after i f ds h x is = record {
 }
 
 -- rows behind rows, of the same listed places
-pub listed_then : (names : List Declaration) (listed : List ℕ) (old mid new : List Scope) (a b : ℕ) (ds es : List Declaration) → IsListed names listed old listed mid a ds → IsListed names listed mid listed new b es
+pub listed_then : (names : List NamespaceDecl) (listed : List ℕ) (old mid new : List Scope) (a b : ℕ) (ds es : List NamespaceDecl) → IsListed names listed old listed mid a ds → IsListed names listed mid listed new b es
     → IsListed names listed old listed new b es
 listed_then names listed old mid new a b ds es x y = record {
   more = [];

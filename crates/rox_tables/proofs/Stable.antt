@@ -3,7 +3,7 @@ use Rattle.std.proofs.Common.{◌≡◌, ℕ, zero, suc, ◌-◌, ◌<◌, ◌�
 use Rattle.std.specs.List.{AllByRecursion, slice_range}
 use Rattle.std.specs.Option.{option_map}
 use Rattle.std.proofs.lemmas.List.{take-append-le, drop-append-le}
-use Rattle.rox_grammar.specs.Written.{Declaration}
+use Rattle.rox_grammar.specs.Written.{NamespaceDecl}
 use Rattle.rox_grammar.specs.Tree as tree
 use Rattle.rox_tables.specs.Storage.{storage_bytes, is_borrowed}
 use Rattle.rox_tables.specs.declared.tables.AttributeNamespace.{AttributeNamespace}
@@ -11,7 +11,7 @@ use Rattle.rox_tables.specs.declared.tables.AttributeNamespace.TheVariants as sp
 use Rattle.rox_tables.specs.declared.tables.NodeKind.{NodeKind}
 use Rattle.rox_tables.specs.declared.tables.NodeKind.TheVariants as kind
 use Rattle.rox_tables.specs.declared.tables.NodeData.{NodeData}
-use Rattle.rox_tables.specs.Lines.{Line, line, node, attribute, entry, scope_at, namespace_of, NamespaceWithin, OptionWithin, KindWithin, AttributeRow}
+use Rattle.rox_tables.specs.Rows.{RowView, row_view, node, attribute, entry, scope_at, attribute_uri, NamespaceWithin, OptionWithin, KindWithin, AttributeRow}
 
 -- ---- lists
 
@@ -52,36 +52,36 @@ slice-append xs ys i j ordered within =
 
 -- ---- entries
 
-pub entry-append : (names more : List Declaration) (i : ℕ) → i < length names → entry (names ++ more) i ≡ entry names i
+pub entry-append : (names more : List NamespaceDecl) (i : ℕ) → i < length names → entry (names ++ more) i ≡ entry names i
 entry-append [] more i h = absurd (omega arith)
 entry-append (d ∷ ds) more zero h = refl
 entry-append (d ∷ ds) more (suc i) h = entry-append ds more i (omega arith)
 
-pub namespace_of-append : (names more : List Declaration) (a : AttributeNamespace) → NamespaceWithin (length names) a → namespace_of (names ++ more) a ≡ namespace_of names a
-namespace_of-append names more space.None h = refl
-namespace_of-append names more space.Xml h = refl
-namespace_of-append names more (space.Listed i) h = ap (λ (d : Declaration). Some d.uri) (entry-append names more i h)
+pub attribute_uri-append : (names more : List NamespaceDecl) (a : AttributeNamespace) → NamespaceWithin (length names) a → attribute_uri (names ++ more) a ≡ attribute_uri names a
+attribute_uri-append names more space.None h = refl
+attribute_uri-append names more space.Xml h = refl
+attribute_uri-append names more (space.Listed i) h = ap (λ (d : NamespaceDecl). Some d.uri) (entry-append names more i h)
 
-pub attribute-append : (names more : List Declaration) (a : AttributeRow) → NamespaceWithin (length names) a.0.namespace → attribute (names ++ more) a ≡ attribute names a
+pub attribute-append : (names more : List NamespaceDecl) (a : AttributeRow) → NamespaceWithin (length names) a.0.namespace → attribute (names ++ more) a ≡ attribute names a
 attribute-append names more a h = ap (λ (o : Option (List ℕ)).
     let r : tree.Attribute = record { start = a.1.start; name_end = a.1.name_end; value_start = a.1.value_start; end = a.1.end; namespace = o; local = a.0.local.now; value = storage_bytes a.0.value; borrowed = is_borrowed a.0.value } in r)
-    (namespace_of-append names more a.0.namespace h)
+    (attribute_uri-append names more a.0.namespace h)
 
-uri-append : (names more : List Declaration) (o : Option ℕ) → OptionWithin (length names) o
+uri-append : (names more : List NamespaceDecl) (o : Option ℕ) → OptionWithin (length names) o
     → option_map (λ i. (entry (names ++ more) i).uri) o ≡ option_map (λ i. (entry names i).uri) o
 uri-append names more None h = refl
-uri-append names more (Some i) h = ap (λ (d : Declaration). Some d.uri) (entry-append names more i h)
+uri-append names more (Some i) h = ap (λ (d : NamespaceDecl). Some d.uri) (entry-append names more i h)
 
 -- ---- scopes
 
-pub scope_at-append : (lists more : List (List Declaration)) (i : ℕ) → i < length lists → scope_at (lists ++ more) i ≡ scope_at lists i
+pub scope_at-append : (lists more : List (List NamespaceDecl)) (i : ℕ) → i < length lists → scope_at (lists ++ more) i ≡ scope_at lists i
 scope_at-append [] more i h = absurd (omega arith)
 scope_at-append (l ∷ ls) more zero h = refl
 scope_at-append (l ∷ ls) more (suc i) h = scope_at-append ls more i (omega arith)
 
 -- ---- rows
 
-pub node-append : (as' moreA : List AttributeRow) (names moreN : List Declaration) (ls moreL : List (List Declaration)) (start end : ℕ) (k : NodeKind)
+pub node-append : (as' moreA : List AttributeRow) (names moreN : List NamespaceDecl) (ls moreL : List (List NamespaceDecl)) (start end : ℕ) (k : NodeKind)
     → AllByRecursion (λ a. NamespaceWithin (length names) a.0.namespace) as' → KindWithin (length as') (length names) (length ls) k
     → node (as' ++ moreA) (names ++ moreN) (ls ++ moreL) start end k ≡ node as' names ls start end k
 node-append as' moreA names moreN ls moreL start end kind.Root ha h = refl
@@ -93,19 +93,19 @@ node-append as' moreA names moreN ls moreL start end (kind.Element e) ha (a, b, 
     (all_slice (λ a. NamespaceWithin (length names) a.0.namespace) as' e.attributes_from e.attributes_until ha) in
     let o = uri-append names moreN e.namespace n in
     ap (λ (u : Option (List ℕ)). tree.Element start end u e.local.now (scope_at (ls ++ moreL) e.scope) (map (attribute (names ++ moreN)) (slice_range (as' ++ moreA) e.attributes_from e.attributes_until))) o
-    ∙ ap (λ (l : List Declaration). tree.Element start end (option_map (λ i. (entry names i).uri) e.namespace) e.local.now l (map (attribute (names ++ moreN)) (slice_range (as' ++ moreA) e.attributes_from e.attributes_until))) listed_is
+    ∙ ap (λ (l : List NamespaceDecl). tree.Element start end (option_map (λ i. (entry names i).uri) e.namespace) e.local.now l (map (attribute (names ++ moreN)) (slice_range (as' ++ moreA) e.attributes_from e.attributes_until))) listed_is
     ∙ ap (λ (l : List tree.Attribute). tree.Element start end (option_map (λ i. (entry names i).uri) e.namespace) e.local.now (scope_at ls e.scope) l) attributes_are
 node-append as' moreA names moreN ls moreL start end (kind.Text v) ha h = refl
 node-append as' moreA names moreN ls moreL start end (kind.Comment t) ha h = refl
 node-append as' moreA names moreN ls moreL start end (kind.PI p) ha h = refl
 
 -- the rows show the same over tables that have grown
-pub lines-append : (as' moreA : List AttributeRow) (names moreN : List Declaration) (ls moreL : List (List Declaration)) (rows : List NodeData)
+pub lines-append : (as' moreA : List AttributeRow) (names moreN : List NamespaceDecl) (ls moreL : List (List NamespaceDecl)) (rows : List NodeData)
     → AllByRecursion (λ a. NamespaceWithin (length names) a.0.namespace) as' → AllByRecursion (λ r. KindWithin (length as') (length names) (length ls) r.kind) rows
-    → map (line (as' ++ moreA) (names ++ moreN) (ls ++ moreL)) rows ≡ map (line as' names ls) rows
+    → map (row_view (as' ++ moreA) (names ++ moreN) (ls ++ moreL)) rows ≡ map (row_view as' names ls) rows
 lines-append as' moreA names moreN ls moreL rows ha h =
-    map_same (line (as' ++ moreA) (names ++ moreN) (ls ++ moreL)) (line as' names ls) (λ r. KindWithin (length as') (length names) (length ls) r.kind) rows
-    (λ r k. ap (λ n. let x : Line = record { parent = r.parent; next = r.next; depth = r.depth; node = n } in x) (node-append as' moreA names moreN ls moreL r.start r.end r.kind ha k)) h
+    map_same (row_view (as' ++ moreA) (names ++ moreN) (ls ++ moreL)) (row_view as' names ls) (λ r. KindWithin (length as') (length names) (length ls) r.kind) rows
+    (λ r k. ap (λ n. let x : RowView = record { parent = r.parent; next = r.next; depth = r.depth; node = n } in x) (node-append as' moreA names moreN ls moreL r.start r.end r.kind ha k)) h
 
 -- ---- what a row names stays in the tables
 

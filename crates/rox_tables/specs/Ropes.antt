@@ -1,8 +1,8 @@
 -- What rows of scopes list that were made from others.
 use Rattle.std.specs.Prelude.{◌≡◌, ℕ, ◌<◌, List, ◌++◌, length}
 use Rattle.std.specs.List.{AllByRecursion}
-use Rattle.rox_grammar.specs.Written.{Declaration}
-use Rattle.rox_tables.specs.Lines.{AreRows, AreScopes, EndsWithin}
+use Rattle.rox_grammar.specs.Written.{NamespaceDecl}
+use Rattle.rox_tables.specs.Rows.{AreRows, AreScopes, EndsWithin}
 use Rattle.rox_tables.specs.Scopes.{entries, places_in, ArePlaces}
 use Rattle.rox_tables.specs.declared.tables.Scope.{Scope}
 
@@ -16,7 +16,7 @@ pub record IsRope (old new : List Scope) (scope : ℕ) (list : List ℕ → List
   pub lists : (listed : List ℕ) → AreScopes (length listed) old → places_in listed new scope ≡ list listed
 
 -- More places may be listed, and more rows be there: the row at this place lists these.
-pub record IsListed (names : List Declaration) (listed : List ℕ) (scopes : List Scope) (after : List ℕ) (rows : List Scope) (scope : ℕ) (ds : List Declaration) : Type 0 where
+pub record IsListed (names : List NamespaceDecl) (listed : List ℕ) (scopes : List Scope) (after : List ℕ) (rows : List Scope) (scope : ℕ) (ds : List NamespaceDecl) : Type 0 where
   pub more : List ℕ
   pub grown : after ≡ listed ++ more
   pub places : ArePlaces (length names) listed → ArePlaces (length names) after

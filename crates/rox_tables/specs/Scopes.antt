@@ -3,10 +3,10 @@ use Rattle.std.specs.Prelude.{◌≡◌, ℕ, ◌<◌, ◌&&◌, ◌||◌, not, 
 use Rattle.std.specs.Option.{option_map}
 use Rattle.std.specs.Borrow.{Bor}
 use Rattle.std.specs.List.{AllByRecursion}
-use Rattle.rox_grammar.specs.Written.{Declaration}
+use Rattle.rox_grammar.specs.Written.{NamespaceDecl}
 use Rattle.rox_grammar.specs.Tree.{same_prefix, is_declared}
 use Rattle.rox_grammar.specs.WellNamed.{is_xml}
-use Rattle.rox_tables.specs.Lines.{entry, listed_at, places_of}
+use Rattle.rox_tables.specs.Rows.{entry, listed_at, places_of}
 use Rattle.rox_tables.specs.declared.tables.Scope.{Scope}
 use Rattle.rox_tables.specs.declared.tables.Scope.TheVariants as scope
 
@@ -14,11 +14,11 @@ use Rattle.rox_tables.specs.declared.tables.Scope.TheVariants as scope
 abbrev pub prefix_view : Option (Bor (List ℕ)) → Option (List ℕ)
 prefix_view o = option_map (λ p. p.now) o
 
-abbrev pub pair : Option (List ℕ) → List ℕ → Declaration
+abbrev pub pair : Option (List ℕ) → List ℕ → NamespaceDecl
 pair prefix uri = record { prefix = prefix; uri = uri }
 
 -- the declarations at these places of a table
-abbrev pub entries : List Declaration → List ℕ → List Declaration
+abbrev pub entries : List NamespaceDecl → List ℕ → List NamespaceDecl
 entries names places = map (entry names) places
 
 -- the places that the scope at this place lists
@@ -29,7 +29,7 @@ places_in listed scopes i = listed_at (places_of listed scopes) i
 abbrev pub is_few : Scope → Bool
 is_few (scope.Few s) = true
 is_few (scope.Back s) = false
-is_few (scope.Both b) = false
+is_few (scope.Concat b) = false
 
 abbrev pub is_few_at : List Scope → ℕ → Bool
 is_few_at [] i = false
@@ -41,14 +41,14 @@ abbrev pub ArePlaces : ℕ → List ℕ → Type 0
 ArePlaces n places = AllByRecursion (λ i. i < n) places
 
 -- those of the parent that are not declared here, where the flag says that `xml` is
-abbrev pub others : List Declaration → Bool → List Declaration → List Declaration
+abbrev pub others : List NamespaceDecl → Bool → List NamespaceDecl → List NamespaceDecl
 others own xml above = filter (λ d. not (is_declared d.prefix own || (xml && is_xml d.prefix))) above
 
 -- each prefix is declared once
-abbrev pub Once : List Declaration → Type 0
+abbrev pub Once : List NamespaceDecl → Type 0
 Once [] = Unit {0}
 Once (d ∷ ds) = (is_declared d.prefix ds ≡ false) × Once ds
 
 -- those of another prefix
-abbrev pub unlisted : Option (List ℕ) → List Declaration → List Declaration
+abbrev pub unlisted : Option (List ℕ) → List NamespaceDecl → List NamespaceDecl
 unlisted p ds = filter (λ d. not (same_prefix d.prefix p)) ds

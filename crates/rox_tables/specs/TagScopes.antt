@@ -1,27 +1,27 @@
 -- The scope of an element, in the tables.
 use Rattle.std.specs.Prelude.{◌≡◌, ℕ, ◌<◌, Bool, false, List, ◌++◌, length, map, drop}
-use Rattle.rox_grammar.specs.Written.{Declaration}
-use Rattle.rox_tables.specs.Lines.{declaration, lists_of, scope_at, AreScopes}
-use Rattle.rox_tables.specs.Present.{Keeps, IsBound, found}
+use Rattle.rox_grammar.specs.Written.{NamespaceDecl}
+use Rattle.rox_tables.specs.Rows.{declaration, lists_of, scope_at, AreScopes}
+use Rattle.rox_tables.specs.Bindings.{AreBindingsOf, IsBound, bound_place}
 use Rattle.rox_tables.specs.Scopes.{entries, ArePlaces, Once, others, is_few_at}
 use Rattle.rox_tables.specs.declared.tables.ElementTables.{ElementTables}
 
 -- what each scope lists
-abbrev pub lists_in : ElementTables → List (List Declaration)
+abbrev pub lists_in : ElementTables → List (List NamespaceDecl)
 lists_in t = lists_of (map declaration t.namespaces.items.items) t.listed.items t.scopes.items
 
 -- the places of prefixes are those of scopes in these tables
-abbrev pub KeepsPlaces : ElementTables → Type 0
-KeepsPlaces t = Keeps (map declaration t.namespaces.items.items) (lists_in t) t.present
+abbrev pub HasBindings : ElementTables → Type 0
+HasBindings t = AreBindingsOf (map declaration t.namespaces.items.items) (lists_in t) t.present
 
 -- the places of prefixes are those of what this scope lists, unless it lists few
-unfoldable pub IsPresent : ElementTables → ℕ → Type 0
-IsPresent t scope = is_few_at t.scopes.items scope ≡ false → IsBound (map declaration t.namespaces.items.items) (found t.present) (scope_at (lists_in t) scope)
+unfoldable pub HasBindingsOf : ElementTables → ℕ → Type 0
+HasBindingsOf t scope = is_few_at t.scopes.items scope ≡ false → IsBound (map declaration t.namespaces.items.items) (bound_place t.present) (scope_at (lists_in t) scope)
 
 -- The scope at this place is that of an element below one of the scope `above`, whose own declarations are those listed from `own`
 -- on, and `xml` if the flag says so.
 pub record HasScope (old new : ElementTables) (above own : ℕ) (xml : Bool) (scope : ℕ) : Type 0 where
-  pub more : List (List Declaration)
+  pub more : List (List NamespaceDecl)
   pub lists_more : lists_in new ≡ lists_in old ++ more
   pub places : ArePlaces (length new.namespaces.items.items) new.listed.items
   pub scopes : AreScopes (length new.listed.items) new.scopes.items
@@ -30,5 +30,5 @@ pub record HasScope (old new : ElementTables) (above own : ℕ) (xml : Bool) (sc
       ≡ entries (map declaration old.namespaces.items.items) (drop own old.listed.items)
       ++ others (entries (map declaration old.namespaces.items.items) (drop own old.listed.items)) xml (scope_at (lists_in old) above)
   pub once : Once (scope_at (lists_in new) scope)
-  pub kept : KeepsPlaces new
-  pub present : IsPresent new scope
+  pub kept : HasBindings new
+  pub present : HasBindingsOf new scope

@@ -33,11 +33,11 @@ fn first_attributes(bytes: usize) -> usize
 }
 
 impl<'input> AttributeTable<'input> {
-    ghost use Rattle.rox_tables.specs.Lines.{rows_of};
+    ghost use Rattle.rox_tables.specs.Rows.{attribute_rows};
 
     /// The table of a text of so many bytes, without attributes.
     pub fn of_text(alloc: Global, bytes: usize) -> AttributeTable<'input>
-        ensures { rows_of result ≡ [] }
+        ensures { attribute_rows result ≡ [] }
     {
         let room = first_attributes(bytes);
         AttributeTable {
@@ -50,7 +50,7 @@ impl<'input> AttributeTable<'input> {
     /// How many attributes there are.
     #[inline]
     pub fn len(&self) -> usize
-        ensures { result ≡ length (rows_of self.now) }
+        ensures { result ≡ length (attribute_rows self.now) }
     {
         self.items.len()
     }
@@ -106,7 +106,7 @@ impl<'input> AttributeTable<'input> {
     /// Puts an attribute at the end. The only error is want of memory, and then the table is as before.
     #[inline(always)]
     pub fn push(&mut self, row: (AttributeData<'input>, AttributePlaces)) -> Result<(), Failure>
-        ensures rows { rows_of self.new ≡ (if is_ok result then rows_of self.old ++ row.entry ∷ [] else rows_of self.old) }
+        ensures rows { attribute_rows self.new ≡ (if is_ok result then attribute_rows self.old ++ row.entry ∷ [] else attribute_rows self.old) }
         ensures err { IfErr result (λ e. e ≡ Failure.Memory) }
     {
         let (item, places) = row;
@@ -118,7 +118,7 @@ impl<'input> AttributeTable<'input> {
 
     /// Gives back room that it does not need.
     pub fn trim(&mut self)
-        ensures { rows_of self.new ≡ rows_of self.old }
+        ensures { attribute_rows self.new ≡ attribute_rows self.old }
     {
         trim(&mut self.items);
         trim(&mut self.places);

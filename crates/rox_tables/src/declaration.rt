@@ -2,26 +2,26 @@
 
 ghost use Rattle.std.specs.Prelude.{◌≡◌, ◌<◌, ◌≤◌, ◌+◌, ◌-◌, ◌^◌, List, ℕ, false, length, map, drop, Ok, Err, OnOk};
 ghost use Rattle.rox_grammar.specs.declared.fault.Span.{Span as SpecSpan};
-ghost use Rattle.rox_grammar.specs.Written.{Attribute, Declaration, Name, declares, local_span, prefix_span};
+ghost use Rattle.rox_grammar.specs.Written.{Attribute, NamespaceDecl, Name, is_namespace_decl, local_span, prefix_span};
 ghost use Rattle.rox_grammar.specs.Document.{listable_of, most_pairs};
 ghost use Rattle.rox_reading.specs.Tags as spec;
-ghost use Rattle.rox_grammar.specs.Failing.{name_view};
-ghost use Rattle.rox_tables.specs.Lines.{declaration, lists_of, AreScopes};
+ghost use Rattle.rox_grammar.specs.Failures.{name_view};
+ghost use Rattle.rox_tables.specs.Rows.{declaration, lists_of, AreScopes};
 ghost use Rattle.rox_tables.specs.Scopes.{ArePlaces, Once, entries, prefix_view};
-ghost use Rattle.rox_tables.specs.Prefixes.{Remembers};
-ghost use Rattle.rox_tables.specs.Present.{Keeps};
-ghost use Rattle.rox_tables.specs.declared.present.Present.{Present};
+ghost use Rattle.rox_tables.specs.PrefixSet.{IsPrefixSet};
+ghost use Rattle.rox_tables.specs.Bindings.{AreBindingsOf};
+ghost use Rattle.rox_tables.specs.declared.bindings.PrefixBindings.{PrefixBindings};
 ghost use Rattle.rox_tables.specs.declared.tables.Scope.{Scope};
-ghost use Rattle.rox_tables.specs.Declares.{taken_view, declares_xml, Declares, Declared};
+ghost use Rattle.rox_tables.specs.TagDeclarations.{unresolved_view, declares_xml, Declares, Declared};
 ghost use Rattle.rox_grammar.specs.Tree.{is_declared};
-ghost use Rattle.rox_reading.specs.Tags.{Held};
+ghost use Rattle.rox_reading.specs.Tags.{TagSoFar};
 
-use crate::alike::same_text;
-use crate::names::NamespaceTable;
-use crate::prefixes::remember;
+use crate::compare::same_text;
+use crate::namespace_table::NamespaceTable;
+use crate::prefix_set::add_prefix;
 use crate::scope::{XML_URI, XMLNS_URI, is_own, is_xml};
 use crate::tables::Namespace;
-use crate::taken::Taken;
+use crate::unresolved_attribute::UnresolvedAttribute;
 use rox_grammar::failure::Failure;
 use rox_grammar::fault::{Fault, Span};
 use rox_grammar::name::QName;
@@ -52,8 +52,8 @@ pub fn prefix_span(prefix: &str, start: usize) -> Span
 
 /// Whether the name declares a prefix or the default.
 #[inline]
-pub fn declares(name: QName<'_>) -> bool
-    ensures { result ≡ declares (name_view name.entry) }
+pub fn is_namespace_decl(name: QName<'_>) -> bool
+    ensures { result ≡ is_namespace_decl (name_view name.entry) }
 {
     same_text(name.prefix, "xmlns") || same_text(name.local, "xmlns")
 }
@@ -93,14 +93,14 @@ fn test_default_uri(uri: &str, at: usize) -> Result<(), Fault>
     Ok(())
 }
 
-impl<'input> Taken<'input> {
-    ghost use Rattle.rox_tables.specs.Declares.{taken_view};
-    ghost use Rattle.rox_grammar.specs.Written.{declaration_of};
+impl<'input> UnresolvedAttribute<'input> {
+    ghost use Rattle.rox_tables.specs.TagDeclarations.{unresolved_view};
+    ghost use Rattle.rox_grammar.specs.Written.{namespace_decl_of};
     ghost use Rattle.rox_tables.specs.Scopes.{prefix_view};
 
     /// What may not be declared.
     fn test_uri(&self) -> Result<(), Fault>
-        ensures { result ≡ spec.uri_tested (taken_view self.now) }
+        ensures { result ≡ spec.uri_tested (unresolved_view self.now) }
     {
         let uri = self.value.as_str();
         if same_text(self.name.prefix, "xmlns") {
@@ -112,7 +112,7 @@ impl<'input> Taken<'input> {
     /// The prefix that it declares, or none for the default.
     #[inline]
     fn declared_prefix(&self) -> Option<&'input str>
-        ensures { prefix_view result ≡ (declaration_of (taken_view self.now)).prefix }
+        ensures { prefix_view result ≡ (namespace_decl_of (unresolved_view self.now)).prefix }
     {
         if same_text(self.name.prefix, "xmlns") {
             Some(self.name.local)
@@ -133,8 +133,8 @@ fn is_again<'a>(
     prefix: Option<&'a str>,
 ) -> bool
     requires places { ArePlaces (length names.now) own.now }
-    requires many { Remembers (map declaration names.now) own.now many.now.keys }
-    ensures value { (ds : List Declaration) → xml ≡ declares_xml ds → entries (map declaration names.now) own.now ≡ listable_of ds
+    requires many { IsPrefixSet (map declaration names.now) own.now many.now.keys }
+    ensures value { (ds : List NamespaceDecl) → xml ≡ declares_xml ds → entries (map declaration names.now) own.now ≡ listable_of ds
         → result ≡ is_declared (prefix_view prefix.entry) ds }
     ensures absent { result ≡ false → is_declared (prefix_view prefix.entry) (entries (map declaration names.now) own.now) ≡ false }
 {
@@ -143,30 +143,30 @@ fn is_again<'a>(
 
 /// A declaration, which is listed unless it is that of `xml`; `own` is where the listed places of the tag begin, whose prefixes
 /// the set has where they are many. Answers whether the tag declares `xml` now.
-pub fn take_declaration<'input>(
+pub fn declare_namespace<'input>(
     names: &mut NamespaceTable<'input>,
     listed: &mut Vec<u16>,
     many: &mut BTreeSet<Option<&'input str>>,
     own: usize,
     xml: bool,
-    taken: Taken<'input>,
+    taken: UnresolvedAttribute<'input>,
 ) -> Result<bool, Failure>
     requires places { ArePlaces (length names.old.items.items) listed.old.items }
     requires own { own ≤ length listed.old.items }
     requires few { length names.old.items.items ≤ most_pairs }
-    requires many { Remembers (map declaration names.old.items.items) (drop own listed.old.items) many.old.keys }
+    requires many { IsPrefixSet (map declaration names.old.items.items) (drop own listed.old.items) many.old.keys }
     requires once { Once (entries (map declaration names.old.items.items) (drop own listed.old.items)) }
     ensures places { OnOk result (ArePlaces (length names.new.items.items) listed.new.items) }
     ensures own { OnOk result (own ≤ length listed.new.items) }
     ensures few { OnOk result (length names.new.items.items ≤ most_pairs) }
     ensures lists { OnOk result ((scopes : List Scope) → AreScopes own scopes
         → lists_of (map declaration names.new.items.items) listed.new.items scopes ≡ lists_of (map declaration names.old.items.items) listed.old.items scopes) }
-    ensures grown { OnOk result ((lists : List (List Declaration)) (x : Present) → Keeps (map declaration names.old.items.items) lists x → Keeps (map declaration names.new.items.items) lists x) }
-    ensures many { OnOk result (Remembers (map declaration names.new.items.items) (drop own listed.new.items) many.new.keys) }
+    ensures grown { OnOk result ((lists : List (List NamespaceDecl)) (x : PrefixBindings) → AreBindingsOf (map declaration names.old.items.items) lists x → AreBindingsOf (map declaration names.new.items.items) lists x) }
+    ensures many { OnOk result (IsPrefixSet (map declaration names.new.items.items) (drop own listed.new.items) many.new.keys) }
     ensures once { OnOk result (Once (entries (map declaration names.new.items.items) (drop own listed.new.items))) }
-    ensures value { (known : List Declaration) (before : List ℕ) (h : Held) → own ≡ length before
+    ensures value { (known : List NamespaceDecl) (before : List ℕ) (h : TagSoFar) → own ≡ length before
         → Declares known before (map declaration names.old.items.items) listed.old.items xml h.own
-        → Declared known before (map declaration names.new.items.items) listed.new.items result h (spec.declared known (taken_view taken.entry) h) }
+        → Declared known before (map declaration names.new.items.items) listed.new.items result h (spec.declared known (unresolved_view taken.entry) h) }
 {
     taken.test_uri()?;
     let prefix = taken.declared_prefix();
@@ -181,6 +181,6 @@ pub fn take_declaration<'input>(
     }
     let place = names.place(prefix, taken.value)?;
     listed.push(place)?;
-    remember(many, names.as_slice(), &listed[own..], prefix)?;
+    add_prefix(many, names.as_slice(), &listed[own..], prefix)?;
     Ok(xml)
 }

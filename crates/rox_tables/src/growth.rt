@@ -1,7 +1,7 @@
 //! Growth of tables.
 
 ghost use Rattle.std.specs.Prelude.{◌≡◌, ◌<◌, ◌≤◌, ◌+◌, ◌/◌, ◌^◌, ◌++◌, ◌∷◌, [], if◌then◌else◌, is_ok, min, vec_len, vec_capacity, OnOk, IfErr};
-ghost use Rattle.rox_tables.specs.Room as room;
+ghost use Rattle.rox_tables.specs.Growth as room;
 
 use rox_grammar::failure::Failure;
 use std::alloc::Global;

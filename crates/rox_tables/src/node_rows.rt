@@ -1,7 +1,7 @@
 //! Growth of the rows of nodes.
 
 ghost use Rattle.std.specs.Prelude.{◌≡◌, ◌<◌, ◌+◌, ◌++◌, ◌∷◌, [], if◌then◌else◌, is_ok, vec_len, vec_capacity, OnOk, IfErr};
-ghost use Rattle.rox_tables.specs.Room as room;
+ghost use Rattle.rox_tables.specs.Growth as room;
 
 use crate::growth;
 use crate::tables::NodeData;

@@ -5,28 +5,28 @@ ghost use Rattle.std.specs.Prelude.{◌≡◌, ◌<◌, ◌^◌, ◌++◌, ◌�
 ghost use Rattle.std.specs.List.{AllByRecursion, list_any};
 ghost use Rattle.std.specs.Option.{option_map};
 ghost use Rattle.rox_grammar.specs.declared.fault.Fault.TheVariants as fault;
-ghost use Rattle.rox_grammar.specs.Written.{Attribute, Declaration, prefix_span};
+ghost use Rattle.rox_grammar.specs.Written.{Attribute, NamespaceDecl, prefix_span};
 ghost use Rattle.rox_grammar.specs.Tree as tree;
 ghost use Rattle.rox_grammar.specs.Tree.{attribute_in};
 ghost use Rattle.rox_grammar.specs.WellNamed.{is_known, may_name};
 ghost use Rattle.rox_reading.specs.Tags.{names_tested};
-ghost use Rattle.rox_grammar.specs.Failing.{Fails, name_view};
-ghost use Rattle.rox_tables.specs.Lines.{AttributeRow, declaration, entry, attribute, rows_of, namespace_of, NamespaceWithin, OptionWithin};
+ghost use Rattle.rox_grammar.specs.Failures.{Fails, name_view};
+ghost use Rattle.rox_tables.specs.Rows.{AttributeRow, declaration, entry, attribute, attribute_rows, attribute_uri, NamespaceWithin, OptionWithin};
 ghost use Rattle.rox_tables.specs.Scopes.{prefix_view};
-ghost use Rattle.rox_tables.specs.Present.{Finds, LooksWithin, places_view};
-ghost use Rattle.rox_tables.specs.Declares.{taken_view};
-ghost use Rattle.rox_tables.specs.Resolved.{row_of, has_expanded, Tested};
-ghost use Rattle.rox_tables.specs.Seen.{Sees, TestedOr};
+ghost use Rattle.rox_tables.specs.Bindings.{FindsBinding, LooksWithin, places_view};
+ghost use Rattle.rox_tables.specs.TagDeclarations.{unresolved_view};
+ghost use Rattle.rox_tables.specs.ResolvedNames.{row_of_unresolved, has_expanded, Tested};
+ghost use Rattle.rox_tables.specs.ExpandedNames.{HasExpandedNames, TestedOr};
 
-use crate::alike::same_text;
+use crate::compare::same_text;
 use crate::attributes::AttributeTable;
 use crate::declaration::{local_span, prefix_span};
-use crate::present::Present;
+use crate::bindings::PrefixBindings;
 use crate::scope::{XML_URI, find, find_default, same_prefix};
-use crate::seen::repeats;
+use crate::expanded_names::is_repeated_name;
 use crate::storage::StringStorage;
 use crate::tables::{AttributeData, AttributeNamespace, AttributePlaces, Namespace};
-use crate::taken::Taken;
+use crate::unresolved_attribute::UnresolvedAttribute;
 use rox_grammar::failure::Failure;
 use rox_grammar::fault::Fault;
 use rox_grammar::name::QName;
@@ -42,15 +42,15 @@ const FEW: usize = 16;
 fn attribute_namespace(
     names: &[Namespace<'_>],
     few: Option<&[u16]>,
-    present: &Present<'_>,
+    present: &PrefixBindings<'_>,
     name: QName<'_>,
 ) -> Option<AttributeNamespace>
     requires within { LooksWithin (length names.now) (places_view few) present.now }
     ensures within { IfSome result (λ s. NamespaceWithin (length names.now) s) }
-    ensures there { (ds : List Declaration) → Finds (map declaration names.now) (places_view few.entry) present.now ds
-        → IfSome result (λ s. namespace_of (map declaration names.now) s ≡ tree.attribute_namespace ds (name_view name.entry)) }
-    ensures known { (ds : List Declaration) → Finds (map declaration names.now) (places_view few.entry) present.now ds → IfSome result (λ _. is_known ds (name_view name.entry) ≡ true) }
-    ensures unknown { (ds : List Declaration) → Finds (map declaration names.now) (places_view few.entry) present.now ds → IfNone result (is_known ds (name_view name.entry) ≡ false) }
+    ensures there { (ds : List NamespaceDecl) → FindsBinding (map declaration names.now) (places_view few.entry) present.now ds
+        → IfSome result (λ s. attribute_uri (map declaration names.now) s ≡ tree.attribute_namespace ds (name_view name.entry)) }
+    ensures known { (ds : List NamespaceDecl) → FindsBinding (map declaration names.now) (places_view few.entry) present.now ds → IfSome result (λ _. is_known ds (name_view name.entry) ≡ true) }
+    ensures unknown { (ds : List NamespaceDecl) → FindsBinding (map declaration names.now) (places_view few.entry) present.now ds → IfNone result (is_known ds (name_view name.entry) ≡ false) }
 {
     if name.prefix.is_empty() {
         return Some(AttributeNamespace::None);
@@ -68,7 +68,7 @@ fn attribute_namespace(
 #[inline]
 fn namespace_uri<'a>(names: &'a [Namespace<'_>], namespace: AttributeNamespace) -> Option<&'a str>
     requires { NamespaceWithin (length names.now) namespace }
-    ensures { prefix_view result ≡ namespace_of (map declaration names.now) namespace }
+    ensures { prefix_view result ≡ attribute_uri (map declaration names.now) namespace }
 {
     match namespace {
         AttributeNamespace::None => None,
@@ -120,17 +120,17 @@ fn is_repeated(
 fn tested_namespace(
     names: &[Namespace<'_>],
     few: Option<&[u16]>,
-    present: &Present<'_>,
+    present: &PrefixBindings<'_>,
     done: &[AttributeData<'_>],
-    taken: &Taken<'_>,
+    taken: &UnresolvedAttribute<'_>,
 ) -> Result<AttributeNamespace, Fault>
     requires within { LooksWithin (length names.now) (places_view few) present.now }
     requires done { AllByRecursion (λ a. NamespaceWithin (length names.now) a.namespace) done.now }
     ensures within { IfOk result (λ s. NamespaceWithin (length names.now) s) }
-    ensures there { (ds : List Declaration) → Finds (map declaration names.now) (places_view few.entry) present.now ds
-        → IfOk result (λ s. namespace_of (map declaration names.now) s ≡ tree.attribute_namespace ds (name_view taken.now.name)) }
-    ensures tested { (ds : List Declaration) (rows : List AttributeRow) (before rest : List Attribute) → Finds (map declaration names.now) (places_view few.entry) present.now ds
-        → map (λ r. r.0) rows ≡ done.now → map (attribute (map declaration names.now)) rows ≡ map (attribute_in ds) before → Tested ds before (taken_view taken.now) rest result }
+    ensures there { (ds : List NamespaceDecl) → FindsBinding (map declaration names.now) (places_view few.entry) present.now ds
+        → IfOk result (λ s. attribute_uri (map declaration names.now) s ≡ tree.attribute_namespace ds (name_view taken.now.name)) }
+    ensures tested { (ds : List NamespaceDecl) (rows : List AttributeRow) (before rest : List Attribute) → FindsBinding (map declaration names.now) (places_view few.entry) present.now ds
+        → map (λ r. r.0) rows ≡ done.now → map (attribute (map declaration names.now)) rows ≡ map (attribute_in ds) before → Tested ds before (unresolved_view taken.now) rest result }
 {
     let name = taken.name;
     let Some(namespace) = attribute_namespace(names, few, present, name) else {
@@ -146,19 +146,19 @@ fn tested_namespace(
 fn seen_namespace<'a>(
     names: &'a [Namespace<'_>],
     few: Option<&[u16]>,
-    present: &Present<'_>,
+    present: &PrefixBindings<'_>,
     seen: &mut BTreeSet<(&'a str, Option<&'a str>)>,
-    taken: &Taken<'a>,
+    taken: &UnresolvedAttribute<'a>,
 ) -> Result<AttributeNamespace, Failure>
     requires within { LooksWithin (length names.now) (places_view few) present.now }
     ensures within { IfOk result (λ s. NamespaceWithin (length names.now) s) }
-    ensures there { (ds : List Declaration) → Finds (map declaration names.now) (places_view few.entry) present.now ds
-        → IfOk result (λ s. namespace_of (map declaration names.now) s ≡ tree.attribute_namespace ds (name_view taken.now.name)) }
-    ensures tested { (ds : List Declaration) (rows : List AttributeRow) (before rest : List Attribute) → Finds (map declaration names.now) (places_view few.entry) present.now ds
-        → Sees (map declaration names.now) seen.old.keys (map (λ r. r.0) rows) → map (attribute (map declaration names.now)) rows ≡ map (attribute_in ds) before
-        → TestedOr ds before (taken_view taken.now) rest result }
-    ensures more { IfOk result (λ s. (done : List AttributeData) (a : AttributeData) → Sees (map declaration names.now) seen.old.keys done → a.namespace ≡ s → a.local ≡ taken.now.name.local
-        → Sees (map declaration names.now) seen.new.keys (done ++ a ∷ [])) }
+    ensures there { (ds : List NamespaceDecl) → FindsBinding (map declaration names.now) (places_view few.entry) present.now ds
+        → IfOk result (λ s. attribute_uri (map declaration names.now) s ≡ tree.attribute_namespace ds (name_view taken.now.name)) }
+    ensures tested { (ds : List NamespaceDecl) (rows : List AttributeRow) (before rest : List Attribute) → FindsBinding (map declaration names.now) (places_view few.entry) present.now ds
+        → HasExpandedNames (map declaration names.now) seen.old.keys (map (λ r. r.0) rows) → map (attribute (map declaration names.now)) rows ≡ map (attribute_in ds) before
+        → TestedOr ds before (unresolved_view taken.now) rest result }
+    ensures more { IfOk result (λ s. (done : List AttributeData) (a : AttributeData) → HasExpandedNames (map declaration names.now) seen.old.keys done → a.namespace ≡ s → a.local ≡ taken.now.name.local
+        → HasExpandedNames (map declaration names.now) seen.new.keys (done ++ a ∷ [])) }
 {
     let name = taken.name;
     let Some(namespace) = attribute_namespace(names, few, present, name) else {
@@ -167,7 +167,7 @@ fn seen_namespace<'a>(
             taken.start,
         )));
     };
-    if repeats(seen, name.local, namespace_uri(names, namespace))? {
+    if is_repeated_name(seen, name.local, namespace_uri(names, namespace))? {
         return Err(Failure::Fault(Fault::DuplicatedAttribute(
             local_span(name.local, taken.name_end),
             taken.start,
@@ -179,10 +179,10 @@ fn seen_namespace<'a>(
 /// The row of an attribute with this namespace. Its value moves into the row.
 #[inline]
 fn move_row<'input>(
-    taken: &mut Taken<'input>,
+    taken: &mut UnresolvedAttribute<'input>,
     namespace: AttributeNamespace,
 ) -> (AttributeData<'input>, AttributePlaces)
-    ensures { result ≡ row_of taken.old namespace }
+    ensures { result ≡ row_of_unresolved taken.old namespace }
 {
     let value = std::mem::replace(&mut taken.value, StringStorage::Borrowed(""));
     let data = AttributeData {
@@ -206,18 +206,18 @@ fn resolve_many<'input>(
     alloc: Global,
     names: &[Namespace<'input>],
     few: Option<&[u16]>,
-    present: &Present<'_>,
-    taken: &mut Vec<Taken<'input>>,
+    present: &PrefixBindings<'_>,
+    taken: &mut Vec<UnresolvedAttribute<'input>>,
     attributes: &mut AttributeTable<'input>,
 ) -> Result<(), Failure>
     requires within { LooksWithin (length names.now) (places_view few) present.now }
-    ensures ok { (ds : List Declaration) → Finds (map declaration names.now) (places_view few.entry) present.now ds
-        → OnOk result ((names_tested ds [] (map taken_view taken.old.items) ≡ Ok tt)
-        × ((more : List AttributeRow) × (rows_of attributes.new ≡ rows_of attributes.old ++ more)
-        × (map (attribute (map declaration names.now)) more ≡ map (attribute_in ds) (map taken_view taken.old.items))
+    ensures ok { (ds : List NamespaceDecl) → FindsBinding (map declaration names.now) (places_view few.entry) present.now ds
+        → OnOk result ((names_tested ds [] (map unresolved_view taken.old.items) ≡ Ok tt)
+        × ((more : List AttributeRow) × (attribute_rows attributes.new ≡ attribute_rows attributes.old ++ more)
+        × (map (attribute (map declaration names.now)) more ≡ map (attribute_in ds) (map unresolved_view taken.old.items))
         × AllByRecursion (λ a. NamespaceWithin (length names.now) a.0.namespace) more)) }
-    ensures err { (ds : List Declaration) → Finds (map declaration names.now) (places_view few.entry) present.now ds
-        → IfErr result (λ e. Fails e (names_tested ds [] (map taken_view taken.old.items))) }
+    ensures err { (ds : List NamespaceDecl) → FindsBinding (map declaration names.now) (places_view few.entry) present.now ds
+        → IfErr result (λ e. Fails e (names_tested ds [] (map unresolved_view taken.old.items))) }
 {
     let mut seen = BTreeSet::new(alloc);
     for turn in 0..taken.len() {
@@ -235,18 +235,18 @@ pub fn resolve<'input>(
     alloc: Global,
     names: &[Namespace<'input>],
     few: Option<&[u16]>,
-    present: &Present<'_>,
-    taken: &mut Vec<Taken<'input>>,
+    present: &PrefixBindings<'_>,
+    taken: &mut Vec<UnresolvedAttribute<'input>>,
     attributes: &mut AttributeTable<'input>,
 ) -> Result<(), Failure>
     requires within { LooksWithin (length names.now) (places_view few) present.now }
-    ensures ok { (ds : List Declaration) → Finds (map declaration names.now) (places_view few.entry) present.now ds
-        → OnOk result ((names_tested ds [] (map taken_view taken.old.items) ≡ Ok tt)
-        × ((more : List AttributeRow) × (rows_of attributes.new ≡ rows_of attributes.old ++ more)
-        × (map (attribute (map declaration names.now)) more ≡ map (attribute_in ds) (map taken_view taken.old.items))
+    ensures ok { (ds : List NamespaceDecl) → FindsBinding (map declaration names.now) (places_view few.entry) present.now ds
+        → OnOk result ((names_tested ds [] (map unresolved_view taken.old.items) ≡ Ok tt)
+        × ((more : List AttributeRow) × (attribute_rows attributes.new ≡ attribute_rows attributes.old ++ more)
+        × (map (attribute (map declaration names.now)) more ≡ map (attribute_in ds) (map unresolved_view taken.old.items))
         × AllByRecursion (λ a. NamespaceWithin (length names.now) a.0.namespace) more)) }
-    ensures err { (ds : List Declaration) → Finds (map declaration names.now) (places_view few.entry) present.now ds
-        → IfErr result (λ e. Fails e (names_tested ds [] (map taken_view taken.old.items))) }
+    ensures err { (ds : List NamespaceDecl) → FindsBinding (map declaration names.now) (places_view few.entry) present.now ds
+        → IfErr result (λ e. Fails e (names_tested ds [] (map unresolved_view taken.old.items))) }
 {
     if taken.len() > FEW {
         return resolve_many(alloc, names, few, present, taken, attributes);
@@ -272,16 +272,16 @@ pub fn resolve<'input>(
 pub fn element_namespace(
     names: &[Namespace<'_>],
     few: Option<&[u16]>,
-    present: &Present<'_>,
+    present: &PrefixBindings<'_>,
     name: QName<'_>,
     at: usize,
 ) -> Result<Option<u16>, Fault>
     requires within { LooksWithin (length names.now) (places_view few) present.now }
     requires small { at < 2 ^ 63 }
     ensures within { IfOk result (λ o. OptionWithin (length names.now) o) }
-    ensures ok { (ds : List Declaration) → Finds (map declaration names.now) (places_view few.entry) present.now ds
+    ensures ok { (ds : List NamespaceDecl) → FindsBinding (map declaration names.now) (places_view few.entry) present.now ds
         → IfOk result (λ o. (option_map (λ i. (entry (map declaration names.now) i).uri) o ≡ tree.element_namespace ds (name_view name.entry)) × (may_name ds (name_view name.entry) ≡ true)) }
-    ensures err { (ds : List Declaration) → Finds (map declaration names.now) (places_view few.entry) present.now ds
+    ensures err { (ds : List NamespaceDecl) → FindsBinding (map declaration names.now) (places_view few.entry) present.now ds
         → IfErr result (λ f. (f ≡ fault.UnknownNamespace (prefix_span (name_view name.entry) at) at) × (may_name ds (name_view name.entry) ≡ false)) }
 {
     if name.prefix.is_empty() {

@@ -4,13 +4,13 @@
 ghost use Rattle.std.specs.Prelude.{◌≡◌, ◌<◌, ◌≤◌, ◌+◌, ◌-◌, ◌++◌, ◌∷◌, [], true, false, ℕ, List, length, map, take, drop, reverse, slice_index, slice_range, OnOk, IfOk, IfErr, IfSome, IfNone};
 ghost use Rattle.rox_grammar.specs.Tree.{same_prefix, is_declared};
 ghost use Rattle.std.specs.List.{AllByRecursion};
-ghost use Rattle.rox_tables.specs.Lines.{declaration, entry, count_at, AreRows, AreScopes, EndsWithin};
+ghost use Rattle.rox_tables.specs.Rows.{declaration, entry, count_at, AreRows, AreScopes, EndsWithin};
 ghost use Rattle.rox_tables.specs.Scopes.{prefix_view, entries, places_in, ArePlaces};
 ghost use Rattle.rox_tables.specs.Ropes.{IsRope};
 
 use crate::growth::push;
 use crate::scope::same_prefix;
-use crate::tables::{Both, Namespace, Scope, Stretch};
+use crate::tables::{Concat, Namespace, Scope, Stretch};
 use rox_grammar::failure::Failure;
 
 /// How many scopes the table holds at most: each has a number that a `u32` holds.
@@ -33,7 +33,7 @@ pub fn count(scopes: &[Scope], scope: u32) -> usize
     match scopes[scope as usize] {
         Scope::Few(stretch) => (stretch.until - stretch.from) as usize,
         Scope::Back(stretch) => (stretch.until - stretch.from) as usize,
-        Scope::Both(both) => both.count as usize,
+        Scope::Concat(both) => both.count as usize,
     }
 }
 
@@ -42,7 +42,7 @@ pub fn height(scopes: &[Scope], scope: u32) -> u8
     requires within { scope < length scopes.now }
 {
     match scopes[scope as usize] {
-        Scope::Both(both) => both.height,
+        Scope::Concat(both) => both.height,
         _ => 0,
     }
 }
@@ -55,7 +55,7 @@ fn low(scopes: &[Scope], scope: u32) -> usize
     match scopes[scope as usize] {
         Scope::Few(stretch) => stretch.from as usize,
         Scope::Back(stretch) => stretch.from as usize,
-        Scope::Both(both) => low(scopes, both.rest),
+        Scope::Concat(both) => low(scopes, both.rest),
     }
 }
 
@@ -70,7 +70,7 @@ pub fn position_at(scopes: &[Scope], listed: &[u16], scope: u32, index: usize) -
     match scopes[scope as usize] {
         Scope::Few(stretch) => stretch.from as usize + index,
         Scope::Back(stretch) => stretch.until as usize - 1 - index,
-        Scope::Both(parts) => {
+        Scope::Concat(parts) => {
             let before = count(scopes, parts.first);
             if index < before {
                 return position_at(scopes, listed, parts.first, index);
@@ -134,7 +134,7 @@ fn pair(scopes: &mut Vec<Scope>, first: u32, rest: u32) -> Result<u32, Failure>
     if behind > MOST_OF_SCOPE || before > MOST_OF_SCOPE - behind {
         return Err(Failure::Memory);
     }
-    let row = Both {
+    let row = Concat {
         first,
         rest,
         count: (before + behind) as u16,
@@ -142,7 +142,7 @@ fn pair(scopes: &mut Vec<Scope>, first: u32, rest: u32) -> Result<u32, Failure>
             .max(height(scopes, rest))
             .saturating_add(1),
     };
-    let place = add(scopes, Scope::Both(row))?;
+    let place = add(scopes, Scope::Concat(row))?;
     Ok(place)
 }
 
@@ -154,11 +154,11 @@ fn lower_first(scopes: &mut Vec<Scope>, first: u32, rest: u32) -> Result<u32, Fa
     ensures value { IfOk result (λ s. IsRope scopes.old.items scopes.new.items s (λ listed. places_in listed scopes.old.items first ++ places_in listed scopes.old.items rest)) }
     ensures err { IfErr result (λ e. e ≡ Failure.Memory) }
 {
-    let Scope::Both(high) = scopes[first as usize] else {
+    let Scope::Concat(high) = scopes[first as usize] else {
         return pair(scopes, first, rest);
     };
     if height(scopes, high.rest) > height(scopes, high.first) {
-        if let Scope::Both(middle) = scopes[high.rest as usize] {
+        if let Scope::Concat(middle) = scopes[high.rest as usize] {
             let left = pair(scopes, high.first, middle.first)?;
             let right = pair(scopes, middle.rest, rest)?;
             return pair(scopes, left, right);
@@ -176,11 +176,11 @@ fn lower_rest(scopes: &mut Vec<Scope>, first: u32, rest: u32) -> Result<u32, Fai
     ensures value { IfOk result (λ s. IsRope scopes.old.items scopes.new.items s (λ listed. places_in listed scopes.old.items first ++ places_in listed scopes.old.items rest)) }
     ensures err { IfErr result (λ e. e ≡ Failure.Memory) }
 {
-    let Scope::Both(high) = scopes[rest as usize] else {
+    let Scope::Concat(high) = scopes[rest as usize] else {
         return pair(scopes, first, rest);
     };
     if height(scopes, high.first) > height(scopes, high.rest) {
-        if let Scope::Both(middle) = scopes[high.first as usize] {
+        if let Scope::Concat(middle) = scopes[high.first as usize] {
             let left = pair(scopes, first, middle.first)?;
             let right = pair(scopes, middle.rest, high.rest)?;
             return pair(scopes, left, right);
@@ -226,13 +226,13 @@ pub fn both(scopes: &mut Vec<Scope>, first: u32, rest: u32) -> Result<u32, Failu
     let before = height(scopes, first);
     let behind = height(scopes, rest);
     if before > behind.saturating_add(1) {
-        if let Scope::Both(high) = scopes[first as usize] {
+        if let Scope::Concat(high) = scopes[first as usize] {
             let inner = both(scopes, high.rest, rest)?;
             return balanced(scopes, high.first, inner);
         }
     }
     if behind > before.saturating_add(1) {
-        if let Scope::Both(high) = scopes[rest as usize] {
+        if let Scope::Concat(high) = scopes[rest as usize] {
             let inner = both(scopes, first, high.first)?;
             return balanced(scopes, inner, high.rest);
         }
@@ -297,7 +297,7 @@ pub fn without(scopes: &mut Vec<Scope>, scope: u32, index: usize) -> Result<u32,
     match scopes[scope as usize] {
         Scope::Few(stretch) => without_few(scopes, stretch, index),
         Scope::Back(stretch) => without_back(scopes, stretch, index),
-        Scope::Both(parts) => {
+        Scope::Concat(parts) => {
             let before = count(scopes, parts.first);
             if index < before {
                 let first = without(scopes, parts.first, index)?;
@@ -330,7 +330,7 @@ pub fn find(scopes: &[Scope], scope: u32, position: usize) -> Option<usize>
             }
             Some(until - 1 - position)
         }
-        Scope::Both(parts) => {
+        Scope::Concat(parts) => {
             if position >= low(scopes, parts.first) {
                 return find(scopes, parts.first, position);
             }

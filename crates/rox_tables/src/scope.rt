@@ -5,14 +5,14 @@ ghost use Rattle.std.specs.Prelude.{◌≡◌, ◌<◌, ◌≤◌, ◌++◌, ℕ
 ghost use Rattle.std.specs.Option.{option_map};
 ghost use Rattle.rox_grammar.specs.Tree.{same_prefix, is_declared, uri_of};
 ghost use Rattle.rox_grammar.specs.WellNamed.{is_xml};
-ghost use Rattle.rox_tables.specs.Lines.{declaration, entry, OptionWithin, AreScopes};
+ghost use Rattle.rox_tables.specs.Rows.{declaration, entry, OptionWithin, AreScopes};
 ghost use Rattle.rox_tables.specs.Scopes.{prefix_view, entries, places_in, is_few_at, ArePlaces, others};
-ghost use Rattle.rox_tables.specs.Prefixes.{Remembers};
-ghost use Rattle.rox_tables.specs.Present.{LooksWithin, looked_up, places_view};
+ghost use Rattle.rox_tables.specs.PrefixSet.{IsPrefixSet};
+ghost use Rattle.rox_tables.specs.Bindings.{LooksWithin, looked_up, places_view};
 
-use crate::alike::same_text;
-use crate::prefixes::{FEW, has_prefix};
-use crate::present::Present;
+use crate::compare::same_text;
+use crate::prefix_set::{FEW, has_prefix};
+use crate::bindings::PrefixBindings;
 use crate::tables::{Namespace, Scope};
 use rox_grammar::failure::Failure;
 use std::collections::BTreeSet;
@@ -85,7 +85,7 @@ pub fn few_places<'a>(scopes: &[Scope], listed: &'a [u16], scope: u32) -> Option
 pub fn find(
     names: &[Namespace<'_>],
     few: Option<&[u16]>,
-    present: &Present<'_>,
+    present: &PrefixBindings<'_>,
     prefix: Option<&str>,
 ) -> Option<u16>
     requires { LooksWithin (length names.now) (places_view few) present.now }
@@ -106,7 +106,7 @@ pub fn find(
 pub fn find_default(
     names: &[Namespace<'_>],
     few: Option<&[u16]>,
-    present: &Present<'_>,
+    present: &PrefixBindings<'_>,
 ) -> Option<u16>
     requires { LooksWithin (length names.now) (places_view few) present.now }
     ensures within { OptionWithin (length names.now) result }
@@ -153,7 +153,7 @@ fn is_among<'a>(
     prefix: Option<&'a str>,
 ) -> bool
     requires places { ArePlaces (length names.now) own.now }
-    requires many { Remembers (map declaration names.now) own.now many.now.keys }
+    requires many { IsPrefixSet (map declaration names.now) own.now many.now.keys }
     ensures { result ≡ is_declared (prefix_view prefix.entry) (entries (map declaration names.now) own.now) }
 {
     if own.len() > FEW {
@@ -173,7 +173,7 @@ pub fn is_own<'a>(
     prefix: Option<&'a str>,
 ) -> bool
     requires places { ArePlaces (length names.now) own.now }
-    requires many { Remembers (map declaration names.now) own.now many.now.keys }
+    requires many { IsPrefixSet (map declaration names.now) own.now many.now.keys }
     ensures { result ≡ (is_declared (prefix_view prefix.entry) (entries (map declaration names.now) own.now) || (xml && is_xml (prefix_view prefix.entry))) }
 {
     is_among(names, own, many, prefix) || (xml && is_xml(prefix))
@@ -191,7 +191,7 @@ pub fn inherit<'a>(
 ) -> Result<(), Failure>
     requires places { ArePlaces (length names.now) listed.old.items }
     requires own { own ≤ length listed.old.items }
-    requires many { Remembers (map declaration names.now) (drop own listed.old.items) many.now.keys }
+    requires many { IsPrefixSet (map declaration names.now) (drop own listed.old.items) many.now.keys }
     requires parent { (from ≤ until) × (until ≤ own) }
     ensures ok { OnOk result ((more : List ℕ) × (listed.new.items ≡ listed.old.items ++ more) × ArePlaces (length names.now) more
         × (entries (map declaration names.now) more

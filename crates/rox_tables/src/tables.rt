@@ -1,8 +1,8 @@
 //! The tables of a document: a row for each node in document order, and beside them attributes and namespaces.
 
 use crate::attributes::AttributeTable;
-use crate::names::NamespaceTable;
-use crate::present::Present;
+use crate::namespace_table::NamespaceTable;
+use crate::bindings::PrefixBindings;
 use crate::storage::StringStorage;
 
 /// A processing instruction: its target, and its value where it has one (XML 1.0 section 2.6).
@@ -98,7 +98,7 @@ pub struct ElementTables<'input> {
     pub listed: Vec<u16>,
     pub scopes: Vec<Scope>,
     /// The places of prefixes, in scopes that list many.
-    pub present: Present<'input>,
+    pub present: PrefixBindings<'input>,
 }
 
 /// A stretch of the listed places.
@@ -110,7 +110,7 @@ pub struct Stretch {
 
 /// What two scopes list, each a row before: the one behind the other.
 #[derive(Clone, Copy)]
-pub struct Both {
+pub struct Concat {
     pub first: u32,
     pub rest: u32,
     /// How many these are in all.
@@ -127,5 +127,5 @@ pub enum Scope {
     Few(Stretch),
     /// A stretch from its back.
     Back(Stretch),
-    Both(Both),
+    Concat(Concat),
 }

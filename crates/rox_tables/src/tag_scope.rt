@@ -2,17 +2,17 @@
 //! section 6).
 
 ghost use Rattle.std.specs.Prelude.{◌≡◌, ◌<◌, ◌≤◌, ◌++◌, Bool, false, ℕ, List, None, length, map, drop, reverse, slice_range, slice_index_or, IfOk, IfErr, OnOk};
-ghost use Rattle.rox_grammar.specs.Written.{Declaration};
+ghost use Rattle.rox_grammar.specs.Written.{NamespaceDecl};
 ghost use Rattle.rox_grammar.specs.Tree.{is_declared};
-ghost use Rattle.rox_tables.specs.Lines.{declaration, scope_at, AreScopes};
+ghost use Rattle.rox_tables.specs.Rows.{declaration, scope_at, AreScopes};
 ghost use Rattle.rox_tables.specs.Scopes.{prefix_view, entries, places_in, ArePlaces, Once, others, unlisted};
-ghost use Rattle.rox_tables.specs.Prefixes.{Remembers};
-ghost use Rattle.rox_tables.specs.Present.{IsBound, found};
+ghost use Rattle.rox_tables.specs.PrefixSet.{IsPrefixSet};
+ghost use Rattle.rox_tables.specs.Bindings.{IsBound, bound_place};
 ghost use Rattle.rox_tables.specs.Ropes.{IsListed};
-ghost use Rattle.rox_tables.specs.TagScopes.{HasScope, KeepsPlaces, lists_in};
+ghost use Rattle.rox_tables.specs.TagScopes.{HasScope, HasBindings, lists_in};
 
-use crate::prefixes::FEW;
-use crate::present::Present;
+use crate::prefix_set::FEW;
+use crate::bindings::PrefixBindings;
 use crate::rope::{add, both, index_of, stretch, without};
 use crate::scope::inherit;
 use crate::tables::{ElementTables, Namespace, Scope, Stretch};
@@ -23,7 +23,7 @@ use std::collections::BTreeSet;
 fn add_back(listed: &mut Vec<u16>, scopes: &mut Vec<Scope>, from: usize) -> Result<u32, Failure>
     requires from { from ≤ length listed.old.items }
     requires scopes { AreScopes (length listed.old.items) scopes.old.items }
-    ensures value { IfOk result (λ s. (names : List Declaration) → IsListed names listed.old.items scopes.old.items listed.new.items scopes.new.items s (entries names (drop from listed.old.items))) }
+    ensures value { IfOk result (λ s. (names : List NamespaceDecl) → IsListed names listed.old.items scopes.old.items listed.new.items scopes.new.items s (entries names (drop from listed.old.items))) }
     ensures own { OnOk result (listed.new.items ≡ listed.old.items ++ reverse (drop from listed.old.items)) }
     ensures err { IfErr result (λ e. e ≡ Failure.Memory) }
 {
@@ -41,7 +41,7 @@ fn add_back(listed: &mut Vec<u16>, scopes: &mut Vec<Scope>, from: usize) -> Resu
 fn add_stretch(listed: &mut Vec<u16>, scopes: &mut Vec<Scope>, from: usize) -> Result<u32, Failure>
     requires from { from ≤ length listed.old.items }
     requires scopes { AreScopes (length listed.old.items) scopes.old.items }
-    ensures value { IfOk result (λ s. (names : List Declaration) → IsListed names listed.old.items scopes.old.items listed.new.items scopes.new.items s (entries names (drop from listed.old.items))) }
+    ensures value { IfOk result (λ s. (names : List NamespaceDecl) → IsListed names listed.old.items scopes.old.items listed.new.items scopes.new.items s (entries names (drop from listed.old.items))) }
     ensures err { IfErr result (λ e. e ≡ Failure.Memory) }
 {
     let until = listed.len();
@@ -67,7 +67,7 @@ pub fn listed_below_few<'input>(
     requires places { ArePlaces (length names.now) listed.old.items }
     requires scopes { AreScopes (length listed.old.items) scopes.old.items }
     requires own { own ≤ length listed.old.items }
-    requires many { Remembers (map declaration names.now) (drop own listed.old.items) many.now.keys }
+    requires many { IsPrefixSet (map declaration names.now) (drop own listed.old.items) many.now.keys }
     requires above { (above.from ≤ above.until) × (above.until ≤ own) }
     ensures value { IfOk result (λ s. IsListed (map declaration names.now) listed.old.items scopes.old.items listed.new.items scopes.new.items s
         (entries (map declaration names.now) (drop own listed.old.items)
@@ -86,7 +86,7 @@ fn hide<'input>(
     names: &[Namespace<'input>],
     listed: &[u16],
     scopes: &mut Vec<Scope>,
-    present: &Present<'input>,
+    present: &PrefixBindings<'input>,
     scope: u32,
     prefix: Option<&str>,
 ) -> Result<u32, Failure>
@@ -94,7 +94,7 @@ fn hide<'input>(
     requires scopes { AreScopes (length listed.now) scopes.old.items }
     requires within { scope < length scopes.old.items }
     requires once { Once (entries (map declaration names.now) (places_in listed.now scopes.old.items scope)) }
-    requires absent { found present.now (prefix_view prefix) ≡ None
+    requires absent { bound_place present.now (prefix_view prefix) ≡ None
         → is_declared (prefix_view prefix) (entries (map declaration names.now) (places_in listed.now scopes.old.items scope)) ≡ false }
     ensures value { IfOk result (λ s. IsListed (map declaration names.now) listed.now scopes.old.items listed.now scopes.new.items s
         (unlisted (prefix_view prefix.entry) (entries (map declaration names.now) (places_in listed.now scopes.old.items scope)))) }
@@ -116,7 +116,7 @@ fn hide_own<'input>(
     names: &[Namespace<'input>],
     listed: &[u16],
     scopes: &mut Vec<Scope>,
-    present: &Present<'input>,
+    present: &PrefixBindings<'input>,
     scope: u32,
     own: usize,
     xml: bool,
@@ -126,7 +126,7 @@ fn hide_own<'input>(
     requires within { scope < length scopes.old.items }
     requires own { own ≤ length listed.now }
     requires once { Once (entries (map declaration names.now) (places_in listed.now scopes.old.items scope)) }
-    requires bound { IsBound (map declaration names.now) (found present.now) (entries (map declaration names.now) (places_in listed.now scopes.old.items scope)) }
+    requires bound { IsBound (map declaration names.now) (bound_place present.now) (entries (map declaration names.now) (places_in listed.now scopes.old.items scope)) }
     ensures value { IfOk result (λ s. IsListed (map declaration names.now) listed.now scopes.old.items listed.now scopes.new.items s
         (others (entries (map declaration names.now) (drop own listed.now)) xml (entries (map declaration names.now) (places_in listed.now scopes.old.items scope)))) }
     ensures err { IfErr result (λ e. e ≡ Failure.Memory) }
@@ -149,7 +149,7 @@ pub fn listed_below_many<'input>(
     names: &[Namespace<'input>],
     listed: &mut Vec<u16>,
     scopes: &mut Vec<Scope>,
-    present: &Present<'input>,
+    present: &PrefixBindings<'input>,
     above: u32,
     own: usize,
     xml: bool,
@@ -159,7 +159,7 @@ pub fn listed_below_many<'input>(
     requires above { above < length scopes.old.items }
     requires own { own ≤ length listed.old.items }
     requires once { Once (entries (map declaration names.now) (places_in listed.old.items scopes.old.items above)) }
-    requires bound { IsBound (map declaration names.now) (found present.now) (entries (map declaration names.now) (places_in listed.old.items scopes.old.items above)) }
+    requires bound { IsBound (map declaration names.now) (bound_place present.now) (entries (map declaration names.now) (places_in listed.old.items scopes.old.items above)) }
     ensures value { IfOk result (λ s. IsListed (map declaration names.now) listed.old.items scopes.old.items listed.new.items scopes.new.items s
         (entries (map declaration names.now) (drop own listed.old.items)
         ++ others (entries (map declaration names.now) (drop own listed.old.items)) xml (entries (map declaration names.now) (places_in listed.old.items scopes.old.items above)))) }
@@ -183,13 +183,13 @@ fn scope_below_few<'input>(
 ) -> Result<u32, Failure>
     requires places { ArePlaces (length elements.old.namespaces.items.items) elements.old.listed.items }
     requires own { own ≤ length elements.old.listed.items }
-    requires many { Remembers (map declaration elements.old.namespaces.items.items) (drop own elements.old.listed.items) many.now.keys }
+    requires many { IsPrefixSet (map declaration elements.old.namespaces.items.items) (drop own elements.old.listed.items) many.now.keys }
     requires scopes { AreScopes own elements.old.scopes.items }
     requires above { above < length elements.old.scopes.items }
     requires few { Scope.Few stretch ≡ slice_index_or elements.old.scopes.items above (Scope.Few stretch) }
     requires once { Once (scope_at (lists_in elements.old) above) }
     requires own_once { Once (entries (map declaration elements.old.namespaces.items.items) (drop own elements.old.listed.items)) }
-    requires kept { KeepsPlaces elements.old }
+    requires kept { HasBindings elements.old }
     ensures names { elements.new.namespaces ≡ elements.old.namespaces }
     ensures attributes { elements.new.attributes ≡ elements.old.attributes }
     ensures value { IfOk result (λ s. HasScope elements.old elements.new above own xml s) }
@@ -207,7 +207,7 @@ fn scope_below_few<'input>(
     if let Scope::Few(_) = elements.scopes[scope as usize] {
         return Ok(scope);
     }
-    elements.present.stand_in(
+    elements.present.make_innermost(
         elements.namespaces.as_slice(),
         &elements.listed,
         &elements.scopes,
@@ -229,13 +229,13 @@ fn scope_below_many<'input>(
     requires above { above < length elements.old.scopes.items }
     requires once { Once (scope_at (lists_in elements.old) above) }
     requires own_once { Once (entries (map declaration elements.old.namespaces.items.items) (drop own elements.old.listed.items)) }
-    requires kept { KeepsPlaces elements.old }
+    requires kept { HasBindings elements.old }
     ensures names { elements.new.namespaces ≡ elements.old.namespaces }
     ensures attributes { elements.new.attributes ≡ elements.old.attributes }
     ensures value { IfOk result (λ s. HasScope elements.old elements.new above own xml s) }
     ensures err { IfErr result (λ e. e ≡ Failure.Memory) }
 {
-    elements.present.stand_in(
+    elements.present.make_innermost(
         elements.namespaces.as_slice(),
         &elements.listed,
         &elements.scopes,
@@ -277,12 +277,12 @@ fn scope_below<'input>(
 ) -> Result<u32, Failure>
     requires places { ArePlaces (length elements.old.namespaces.items.items) elements.old.listed.items }
     requires own { own ≤ length elements.old.listed.items }
-    requires many { Remembers (map declaration elements.old.namespaces.items.items) (drop own elements.old.listed.items) many.now.keys }
+    requires many { IsPrefixSet (map declaration elements.old.namespaces.items.items) (drop own elements.old.listed.items) many.now.keys }
     requires scopes { AreScopes own elements.old.scopes.items }
     requires above { above < length elements.old.scopes.items }
     requires once { Once (scope_at (lists_in elements.old) above) }
     requires own_once { Once (entries (map declaration elements.old.namespaces.items.items) (drop own elements.old.listed.items)) }
-    requires kept { KeepsPlaces elements.old }
+    requires kept { HasBindings elements.old }
     ensures names { elements.new.namespaces ≡ elements.old.namespaces }
     ensures attributes { elements.new.attributes ≡ elements.old.attributes }
     ensures value { IfOk result (λ s. HasScope elements.old elements.new above own xml s) }
@@ -307,12 +307,12 @@ pub fn scope_of_tag<'input>(
 ) -> Result<u32, Failure>
     requires places { ArePlaces (length elements.old.namespaces.items.items) elements.old.listed.items }
     requires own { own ≤ length elements.old.listed.items }
-    requires many { Remembers (map declaration elements.old.namespaces.items.items) (drop own elements.old.listed.items) many.now.keys }
+    requires many { IsPrefixSet (map declaration elements.old.namespaces.items.items) (drop own elements.old.listed.items) many.now.keys }
     requires scopes { AreScopes own elements.old.scopes.items }
     requires above { above < length elements.old.scopes.items }
     requires once { Once (scope_at (lists_in elements.old) above) }
     requires own_once { Once (entries (map declaration elements.old.namespaces.items.items) (drop own elements.old.listed.items)) }
-    requires kept { KeepsPlaces elements.old }
+    requires kept { HasBindings elements.old }
     ensures names { elements.new.namespaces ≡ elements.old.namespaces }
     ensures attributes { elements.new.attributes ≡ elements.old.attributes }
     ensures value { IfOk result (λ s. HasScope elements.old elements.new above own xml s) }

@@ -7,16 +7,16 @@ use Rattle.rox_grammar.specs.declared.fault.Word.TheVariants as word
 use Rattle.rox_grammar.specs.Forest.{Forest, Nil}
 use Rattle.rox_grammar.specs.Written.{Item}
 use Rattle.rox_grammar.specs.Constructs.{at}
-use Rattle.rox_grammar.specs.Start.{after_bom, MayDeclare}
+use Rattle.rox_grammar.specs.TextStart.{after_bom, MayHaveXmlDecl}
 use Rattle.rox_grammar.specs.Doctype.{Request, Asked}
 use Rattle.rox_grammar.specs.Document.{Misc, AsksNext, HasAsked, nothing, one_more}
 use Rattle.rox_grammar.specs.State.{root}
-use Rattle.rox_reading.specs.Refusals.{Refusal, here, there, refused, SpeaksOfText, lifted}
+use Rattle.rox_reading.specs.Refusals.{Refusal, here, there, refused, IsTextRefusal, lifted}
 use Rattle.rox_reading.specs.State.{State}
 use Rattle.rox_reading.specs.Doctype.{Reply, Asks, asks_nothing, ◌>>>◌, Dtd, AreTextReplies, doctype_step}
-use Rattle.rox_reading.specs.Whole.{misc, body, finished, prolog, reading}
-use Rattle.rox_reading.specs.Whole as whole
-use Rattle.rox_theory.specs.Fine.{IsFine, state}
+use Rattle.rox_reading.specs.WholeText.{misc, body, finished, prolog, reading}
+use Rattle.rox_reading.specs.WholeText as whole
+use Rattle.rox_theory.specs.ValidState.{IsValidState, state}
 use Rattle.rox_theory.proofs.Around.{bom_cut, misc_sound, prolog_sound, prolog_cut}
 use Rattle.rox_theory.proofs.EntityLemmas.{either}
 use Rattle.rox_theory.proofs.Subsets.{Later, HasLater, not_yet, one_later}
@@ -34,7 +34,7 @@ abbrev pub AskedOutcome : {A : Type 0} → List ℕ → Bool → Asks A → Type
 AskedOutcome src allow (asked, Ok x) = HasAsked src allow asked
 AskedOutcome src allow (asked, Err e) = HasAsked src allow asked × RefusedNext src allow asked e
 
-fault_next : (src : List ℕ) (allow : Bool) (asked : List Asked) (e : Refusal) → SpeaksOfText e → RefusedNext src allow asked e
+fault_next : (src : List ℕ) (allow : Bool) (asked : List Asked) (e : Refusal) → IsTextRefusal e → RefusedNext src allow asked e
 fault_next src allow asked (here f) is = tt
 fault_next src allow asked (there source f) is = tt
 fault_next src allow asked (refused request p message) is = absurd is
@@ -61,13 +61,13 @@ quiet_both (Err e) f alone quiet = (refl, record { is = λ e' same. alone.is e' 
 
 module _ (src : List ℕ) (utf8 : IsUtf8 src) (allow : Bool) where
   -- ---- behind what comes before the document type declaration
-  module _ (i begun : ℕ) (before : Forest Item) (declares : MayDeclare src (after_bom src) i) (ahead : Misc src i begun before) where
+  module _ (i begun : ℕ) (before : Forest Item) (is_namespace_decl : MayHaveXmlDecl src (after_bom src) i) (ahead : Misc src i begun before) where
     later_next : (o : Opened src begun) (asked : List Asked) (request : Request) (p : ℕ) → Later src (o.s + 1) asked request p → AsksNext src asked request p
     later_next o asked request p l =
         let a = l.asks in
         record {
           declared_to = i;
-          declaration = declares;
+          declaration = is_namespace_decl;
           begun = begun;
           before = before;
           misc_before = ahead;
@@ -105,7 +105,7 @@ module _ (src : List ℕ) (utf8 : IsUtf8 src) (allow : Bool) where
     step_asked most d there_is may (asked, Ok e) h = within_asked may asked (rw there_is at h.0)
     step_asked most d there_is may (asked, Err e) h = (within_asked may asked (rw there_is at h.0), within_refused may asked e (subst (λ (k : ℕ). RefusedWithin src k asked e) there_is h.1))
 
-    doctype_asked : (limit most : ℕ) (replies : List Reply) → limit ≤ most → AreTextReplies replies → IsFine most (state begun before root 255)
+    doctype_asked : (limit most : ℕ) (replies : List Reply) → limit ≤ most → AreTextReplies replies → IsValidState most (state begun before root 255)
         → AskedOutcome src allow (whole.doctype limit allow src (record { state = state begun before root 255; entities = []; replies = replies }))
     unfolding whole.doctype
     doctype_asked limit most replies limits texts fine =
@@ -129,10 +129,10 @@ module _ (src : List ℕ) (utf8 : IsUtf8 src) (allow : Bool) where
       (λ s first.
       let may = prolog_sound src utf8 (after_bom src) i read in
       let cut = prolog_cut src utf8 (after_bom src) i (bom_cut src utf8) may in
-      let start : IsFine most (state i Nil root 255) = record { nodes = omega arith; attributes = omega arith; pairs = omega arith; named = tt } in
+      let start : IsValidState most (state i Nil root 255) = record { nodes = omega arith; attributes = omega arith; pairs = omega arith; named = tt } in
       let ahead = misc_sound src utf8 (length src) limit most 255 i Nil s (omega arith) cut start first in
       let s_is : s ≡ state s.at ahead.0 root 255 = ahead.2 in
-      let dtd = doctype_asked i s.at ahead.0 may ahead.1 limit most replies (omega arith) texts (subst (IsFine most) s_is ahead.3) in
+      let dtd = doctype_asked i s.at ahead.0 may ahead.1 limit most replies (omega arith) texts (subst (IsValidState most) s_is ahead.3) in
       let dtd' : AskedOutcome src allow (whole.doctype limit allow src (record { state = s; entities = []; replies = replies })) =
       subst (λ (s : State). AskedOutcome src allow (whole.doctype limit allow src (record { state = s; entities = []; replies = replies }))) (sym s_is) dtd in
       rw (read, first) (quiet_then src allow (whole.doctype limit allow src (record { state = s; entities = []; replies = replies })) _ dtd'

@@ -2,9 +2,9 @@
 use Rattle.std.proofs.Common.{◌≡◌, ℕ, zero, suc, ◌+◌, Bool, true, false, List, [], ◌∷◌, length, refl, sym, subst}
 use Rattle.rox_grammar.specs.Forest.{Forest, Nil, Cons, join}
 use Rattle.rox_grammar.specs.Written.{Item, Element, Text, Comment, PI, glue, merge}
-use Rattle.rox_grammar.specs.Content.{Opener, Sign, piece, Parts, last_part, then_entity, IsMisc, comment, instruction, IsElement, empty, nest, Content, ends, run, cdata, misc, node}
-use Rattle.rox_grammar.specs.Entities.{Entity, Opens, opens_main, most_open}
-use Rattle.rox_grammar.specs.Doctype.{Asked, Subset, no_more as no_item, space as subset_space, an_item as subset_item, passed_over, an_entity, IsDoctype, no_subset, with_subset}
+use Rattle.rox_grammar.specs.Content.{Inclusion, DataByte, piece, Parts, last_part, then_entity, IsMisc, comment, instruction, IsElement, empty, nest, Content, ends, run, cdata, misc, node}
+use Rattle.rox_grammar.specs.Entities.{Entity, Includes, included_in_main, most_deep}
+use Rattle.rox_grammar.specs.Doctype.{Asked, Subset, no_more as no_item, space as subset_space, an_item as subset_item, skipped_declaration, an_entity, IsDoctype, no_subset, with_subset}
 use Rattle.rox_grammar.specs.Document.{Misc, no_misc, space, an_item, MayHaveDoctype, doctype, no_doctype, ParseOf}
 use Rattle.rox_reading.proofs.Forests.{join-nil, join_assoc}
 use Rattle.rox_theory.specs.Apart.{Apart, AnyElement}
@@ -45,7 +45,7 @@ merge_apart (Cons (Element a e t) c r) (n, h) = (refl, n, merge_apart r h)
 merge_apart (Cons (Comment a e t) c r) (n, h) = (refl, n, merge_apart r h)
 merge_apart (Cons (PI a e t o) c r) (n, h) = (refl, n, merge_apart r h)
 
-piece_below : (start stop : ℕ) (plain : Bool) (ss : List Sign) → Below (piece start stop plain ss)
+piece_below : (start stop : ℕ) (plain : Bool) (ss : List DataByte) → Below (piece start stop plain ss)
 piece_below start stop plain [] = tt
 piece_below start stop plain (s ∷ ss) = (refl, tt)
 
@@ -55,10 +55,10 @@ misc_below src i j item more (comment _ e _ is) h = (tt, h)
 misc_below src i j item more (instruction _ n e _ is) h = (tt, h)
 
 -- what a reference opens has apart what is below its items
-pub record OpensApart (O : Opener) : Type 0 where
+pub record OpensApart (O : Inclusion) : Type 0 where
   pub content : (name : List ℕ) (b : ℕ) (items : Forest Item) (c : ℕ) → O.content name b items c → Below items
 
-module _ (main : Bool) (O : Opener) (opens : OpensApart O) (src : List ℕ) where
+module _ (main : Bool) (O : Inclusion) (opens : OpensApart O) (src : List ℕ) where
   -- a run is texts, and what references open
   parts_below : (start stop i b c : ℕ) (items : Forest Item) → Parts main O src start stop i b c items → Below items
   parts_below start stop i b c items (last_part _ _ ss part) = piece_below start stop _ ss
@@ -94,11 +94,11 @@ module _ (main : Bool) (O : Opener) (opens : OpensApart O) (src : List ℕ) wher
 
 -- ---- what references open, by the number of texts that may still be open
 
-opens_apart : (es : List Entity) (d : ℕ) (main : Bool) → OpensApart (Opens es d main)
+opens_apart : (es : List Entity) (d : ℕ) (main : Bool) → OpensApart (Includes es d main)
 opens_apart es zero main = record { content = λ name b items c h. absurd h }
 opens_apart es (suc d) main =
     let inner = opens_apart es d false in
-    record { content = λ name b items c (t, r, l, found, spends, is). content_below false (Opens es d false) inner t.source t.start (length t.source) r l items is }
+    record { content = λ name b items c (t, r, l, found, spends, is). content_below false (Includes es d false) inner t.source t.start (length t.source) r l items is }
 
 -- ---- the top nodes
 
@@ -117,7 +117,7 @@ top_subset : (src : List ℕ) (i j : ℕ) (items : Forest Item) (asked : List As
 top_subset src i j items asked es back (no_item _) h = h
 top_subset src i j items asked es back (subset_space _ _ _ _ _ here rest) h = top_subset src (i + 1) j items asked es back rest h
 top_subset src i j items asked es back (subset_item _ k _ item more _ _ is rest) h = top_item src i k item (join more back) is (top_subset src k j more asked es back rest h)
-top_subset src i j items asked es back (passed_over _ k _ _ _ _ is rest) h = top_subset src k j items asked es back rest h
+top_subset src i j items asked es back (skipped_declaration _ k _ _ _ _ is rest) h = top_subset src k j items asked es back rest h
 top_subset src i j items asked es back (an_entity _ k _ _ front more one others is rest) h = top_subset src k j items more others back rest h
 
 top_itself : (src : List ℕ) (i j : ℕ) (items : Forest Item) (asked : List Asked) (es : List Entity) (back : Forest Item) → IsDoctype src i j items asked es → Apart back → Apart (join items back)
@@ -133,7 +133,7 @@ top_doctype src i j dtd items asked es back (doctype _ k _ front more _ _ is res
 pub parse_apart : (src : List ℕ) (dtd : Bool) (asked : List Asked) (tree : Forest Item) → ParseOf src dtd asked tree → Apart tree
 parse_apart src dtd asked tree p =
     let after : Apart (join p.after Nil) = top_misc src p.end (length src) p.after Nil p.misc_after tt in
-    let one = top_element true (opens_main p.entities) (opens_apart p.entities most_open true) src p.start p.end 255 p.left p.one p.after p.element (subst (λ (f : Forest Item). Apart f) (join-nil p.after) after) in
+    let one = top_element true (included_in_main p.entities) (opens_apart p.entities most_deep true) src p.start p.end 255 p.left p.one p.after p.element (subst (λ (f : Forest Item). Apart f) (join-nil p.after) after) in
     let nodes = top_doctype src p.begun p.start dtd p.nodes asked p.entities (join p.one p.after) p.doctype one in
     let all = top_misc src p.declared_to p.begun p.before (join p.nodes (join p.one p.after)) p.misc_before nodes in
     subst (λ (f : Forest Item). Apart f) (sym p.is_tree) all
@@ -149,6 +149,6 @@ any_behind (Cons (PI start end target value) c r) back h = any_behind r back h
 -- a parse has an element at its top
 pub parse_has : (src : List ℕ) (dtd : Bool) (asked : List Asked) (tree : Forest Item) → ParseOf src dtd asked tree → AnyElement tree
 parse_has src dtd asked tree p =
-    let one = top_is true (opens_main p.entities) (opens_apart p.entities most_open true) src p.start p.end 255 p.left p.one p.after p.element in
+    let one = top_is true (included_in_main p.entities) (opens_apart p.entities most_deep true) src p.start p.end 255 p.left p.one p.after p.element in
     subst (λ (f : Forest Item). AnyElement f) (sym p.is_tree)
     (any_behind p.before (join p.nodes (join p.one p.after)) (any_behind p.nodes (join p.one p.after) one))

@@ -9,26 +9,26 @@ use Rattle.std.proofs.lemmas.Bool.Decides.{Decides-eqb}
 use Rattle.std.proofs.lemmas.Slice.Eq.{starts_is}
 use Rattle.rox_grammar.specs.declared.fault.Word.TheVariants as word
 use Rattle.rox_grammar.specs.Chars.{is_space}
-use Rattle.rox_grammar.specs.Words.{word_text}
+use Rattle.rox_grammar.specs.FixedTexts.{word_text}
 use Rattle.rox_grammar.specs.Forest.{Forest, Nil, join, size}
-use Rattle.rox_grammar.specs.Written.{Declaration, Item, Comment, PI, merge, leaf}
+use Rattle.rox_grammar.specs.Written.{NamespaceDecl, Item, Comment, PI, merge, leaf}
 use Rattle.rox_grammar.specs.Names.{byte, spaces_end}
-use Rattle.rox_grammar.specs.Constructs.{at, IsDeclaration}
-use Rattle.rox_grammar.specs.Content.{Opener, IsMisc, comment, instruction, IsElement, empty, nest, TagEnds, opened, closed}
-use Rattle.rox_grammar.specs.Start.{bom, after_bom, MayDeclare, declared, not_declared}
+use Rattle.rox_grammar.specs.Constructs.{at, IsXmlDecl}
+use Rattle.rox_grammar.specs.Content.{Inclusion, IsMisc, comment, instruction, IsElement, empty, nest, TagEnds, opened, closed}
+use Rattle.rox_grammar.specs.TextStart.{bom, after_bom, MayHaveXmlDecl, declared, not_declared}
 use Rattle.rox_grammar.specs.Entities.{Entity}
 use Rattle.rox_grammar.specs.Doctype.{Asked, IsDoctype, no_subset, with_subset}
 use Rattle.rox_grammar.specs.Document.{Permits, MayHaveDoctype, doctype, no_doctype, Misc, no_misc, space, an_item, own_attributes, own_pairs}
 use Rattle.rox_grammar.specs.WellNamed.{ItemWellNamed}
-use Rattle.rox_reading.specs.Markup.{comment_at, Instruction, instruction_at, declaration_at}
+use Rattle.rox_reading.specs.Markup.{comment_at, Instruction, instruction_at, xml_decl_at}
 use Rattle.rox_grammar.specs.State.{root}
 use Rattle.rox_reading.specs.State.{State}
 use Rattle.rox_reading.specs.Machine.{with_item, comment_step, instruction_step}
 use Rattle.rox_reading.specs.Doctype.{Reply, replies_of, AreTextReplies, Asks, Dtd}
-use Rattle.rox_reading.specs.Whole.{misc, prolog}
-use Rattle.rox_reading.specs.Whole as whole
+use Rattle.rox_reading.specs.WholeText.{misc, prolog}
+use Rattle.rox_reading.specs.WholeText as whole
 use Rattle.rox_reading.proofs.Forests.{join-nil, join_assoc, merge-more}
-use Rattle.rox_theory.specs.Fine.{state}
+use Rattle.rox_theory.specs.ValidState.{state}
 use Rattle.rox_theory.specs.Openers.{AreTexts}
 use Rattle.rox_theory.proofs.Basics.{within as byte_within, ok_same, bind_ok, chosen}
 use Rattle.rox_theory.proofs.Constructions.{name_byte, comment_bytes, instruction_bytes, doctype_bytes, IsNameByte}
@@ -36,7 +36,7 @@ use Rattle.rox_theory.proofs.NameLemmas.{run_stops, run_past}
 use Rattle.rox_theory.proofs.DeclarationLemmas.{stands_reads, declaration_sound, declaration_complete}
 use Rattle.rox_theory.proofs.Places.{over_spaces, spaces_on, space_within}
 use Rattle.rox_theory.proofs.CharTexts.{run_cut}
-use Rattle.rox_theory.proofs.Standing.{IsFine}
+use Rattle.rox_theory.proofs.Standing.{IsValidState}
 use Rattle.rox_theory.proofs.Leaves.{with_leaf, fine_there, fits_counted, item_read}
 use Rattle.rox_theory.proofs.MarkupLemmas.{comment_sound, comment_complete, instruction_sound, instruction_complete}
 
@@ -67,12 +67,12 @@ tag_ends src i j is_empty (opened _ close) = ends_by src j (spaces_end src i) 62
 tag_ends src i j is_empty (closed _ slash close) = ends_by src j (spaces_end src i + 1) 62 (omega arith) close (omega arith) (omega arith)
 
 -- elements do
-pub element_ends : (main : Bool) (O : Opener) (src : List ℕ) (i j b c : ℕ) (one : Forest Item) → IsElement main O src i j b c one → Ends src j
+pub element_ends : (main : Bool) (O : Inclusion) (src : List ℕ) (i j b c : ℕ) (one : Forest Item) → IsElement main O src i j b c one → Ends src j
 element_ends main O src i j b c one (empty _ _ _ _ t tag) = tag_ends src tag.last j true tag.ends
 element_ends main O src i j b c one (nest _ k m p _ _ d _ t kids tag inner end) = ends_by src j (spaces_end src p) 62 end.next end.closes (omega arith) (omega arith)
 
 -- the declaration does
-pub declaration_ends : (src : List ℕ) (i j : ℕ) → IsDeclaration src i j → Ends src j
+pub declaration_ends : (src : List ℕ) (i j : ℕ) → IsXmlDecl src i j → Ends src j
 declaration_ends src i j is =
     ends_by src j (spaces_end src is.s + 1) 62 (omega (arith, is.next)) (stands_reads (word_text word.PIEnd) src (spaces_end src is.s) 1 is.closes (omega arith)) (omega arith) (omega arith)
 
@@ -98,7 +98,7 @@ pub no_spaces : (src : List ℕ) (i : ℕ) → byte src i ≡ 60 → spaces_end 
 no_spaces src i here = run_stops is_space src i (byte_within src i (λ z. omega arith)) (omega arith) (rw here refl)
 
 -- an element is neither white space nor one of them, nor a document type declaration
-pub element_stops : (main : Bool) (O : Opener) (src : List ℕ) (i j b c : ℕ) (one : Forest Item) → IsElement main O src i j b c one → (byte src i ≡ 60) × (at word.DoctypeStart src i ≡ false) × Stops src i
+pub element_stops : (main : Bool) (O : Inclusion) (src : List ℕ) (i j b c : ℕ) (one : Forest Item) → IsElement main O src i j b c one → (byte src i ≡ 60) × (at word.DoctypeStart src i ≡ false) × Stops src i
 element_stops main O src i j b c one is = from_tag (begins one is)
   where
     -- its first two bytes
@@ -144,11 +144,11 @@ module _ (src : List ℕ) (utf8 : IsUtf8 src) where
 
   -- what is read of them from a place on
   abbrev pub MiscRead : ℕ → ℕ → ℕ → Forest Item → State → Type 0
-  MiscRead most b i done u = (items : Forest Item) × Misc src i u.at items × (u ≡ state u.at (join done items) root b) × IsFine most u × IsCharBoundary src u.at
+  MiscRead most b i done u = (items : Forest Item) × Misc src i u.at items × (u ≡ state u.at (join done items) root b) × IsValidState most u × IsCharBoundary src u.at
 
   -- an item that neither declares anything nor has attributes
   abbrev plain : Item → Type 0
-  plain item = (own_attributes item ≡ 0) × (own_pairs item ≡ []) × ((scope : List Declaration) → ItemWellNamed scope item)
+  plain item = (own_attributes item ≡ 0) × (own_pairs item ≡ []) × ((scope : List NamespaceDecl) → ItemWellNamed scope item)
 
   -- comments and instructions are plain
   pub misc_plain : (i j : ℕ) (item : Item) → IsMisc src i j item → plain item
@@ -166,7 +166,7 @@ module _ (src : List ℕ) (utf8 : IsUtf8 src) where
       (items, (over_spaces src (λ (k : ℕ). Misc src k u.at items) i utf8 cut (λ k is rest. space k u.at items is rest)).1 more, e, fine, stops)
 
   -- what is read of them stands there
-  pub misc_sound : (n limit most b i : ℕ) (done : Forest Item) (u : State) → limit ≤ most → IsCharBoundary src i → IsFine most (state i done root b) → misc limit n src (state i done root b) ≡ Ok u
+  pub misc_sound : (n limit most b i : ℕ) (done : Forest Item) (u : State) → limit ≤ most → IsCharBoundary src i → IsValidState most (state i done root b) → misc limit n src (state i done root b) ≡ Ok u
       → MiscRead most b i done u
   unfolding misc comment_step instruction_step
   misc_sound zero limit most b i done u more cut fine h =
@@ -180,7 +180,7 @@ module _ (src : List ℕ) (utf8 : IsUtf8 src) where
       let p = misc_plain k j item is in
       let both = item_read limit most (state k done root b) t j item more p.0 p.1 (p.2 _) fine' one in
       let here : misc limit n src (state j (join done (leaf item)) root b) ≡ Ok u = subst (λ (t : State). misc limit n src t ≡ Ok u) both.0 rest in
-      let next = misc_sound n limit most b j (join done (leaf item)) u more (ends_cut src j utf8 (misc_ends src k j item is)) (subst (IsFine most) both.0 both.1) here in
+      let next = misc_sound n limit most b j (join done (leaf item)) u more (ends_cut src j utf8 (misc_ends src k j item is)) (subst (IsValidState most) both.0 both.1) here in
       spaces_then most b i done u cut (item_then most b k j done item u is next)
       in
       chosen (at word.CommentStart src k) _ _ _ h
@@ -240,21 +240,21 @@ module _ (src : List ℕ) (utf8 : IsUtf8 src) where
   -- ---- the declaration
 
   -- what is read of it stands there
-  pub prolog_sound : (i j : ℕ) → prolog src i ≡ Ok j → MayDeclare src i j
+  pub prolog_sound : (i j : ℕ) → prolog src i ≡ Ok j → MayHaveXmlDecl src i j
   unfolding prolog
   prolog_sound i j h =
-      chosen (at word.DeclarationStart src i) _ _ _ h
-      (λ here h. bind_ok (declaration_at src i) _ _ h (λ x read h. let e : x.1 ≡ j = cc in subst (MayDeclare src i) e (declared i x.1 (declaration_sound src utf8 i x.1 x.0 here read))))
-      (λ none h. let e : i ≡ j = cc in subst (MayDeclare src i) e (not_declared i none))
+      chosen (at word.XmlDeclStart src i) _ _ _ h
+      (λ here h. bind_ok (xml_decl_at src i) _ _ h (λ x read h. let e : x.1 ≡ j = cc in subst (MayHaveXmlDecl src i) e (declared i x.1 (declaration_sound src utf8 i x.1 x.0 here read))))
+      (λ none h. let e : i ≡ j = cc in subst (MayHaveXmlDecl src i) e (not_declared i none))
 
   -- what stands there is read
-  pub prolog_complete : (i j : ℕ) → MayDeclare src i j → prolog src i ≡ Ok j
+  pub prolog_complete : (i j : ℕ) → MayHaveXmlDecl src i j → prolog src i ≡ Ok j
   unfolding prolog
   prolog_complete i j (declared _ _ is) = rw (is.opens, declaration_complete src utf8 i j is) refl
   prolog_complete i j (not_declared _ none) = rw none refl
 
   -- a character begins behind it
-  pub prolog_cut : (i j : ℕ) → IsCharBoundary src i → MayDeclare src i j → IsCharBoundary src j
+  pub prolog_cut : (i j : ℕ) → IsCharBoundary src i → MayHaveXmlDecl src i j → IsCharBoundary src j
   prolog_cut i j cut (declared _ _ is) = ends_cut src j utf8 (declaration_ends src i j is)
   prolog_cut i j cut (not_declared _ none) = cut
 
@@ -274,19 +274,19 @@ doctype_stops src i h =
 -- How a document type declaration, with what follows it, is read from the items before it on: as it stands there, where one
 -- may stand, and its entities are text. One that is cut off by the end of the text has no fault of its own.
 pub record DoctypesAgree (src : List ℕ) (allow : Bool) : Type 0 where
-  pub sound : (limit most i : ℕ) (before : Forest Item) (replies : List Reply) (asked : List Asked) (d : Dtd) → limit ≤ most → AreTextReplies replies → IsFine most (state i before root 255)
+  pub sound : (limit most i : ℕ) (before : Forest Item) (replies : List Reply) (asked : List Asked) (d : Dtd) → limit ≤ most → AreTextReplies replies → IsValidState most (state i before root 255)
       → whole.doctype limit allow src (record { state = state i before root 255; entities = []; replies = replies }) ≡ (asked, Ok d) → d.state.at < length src
-      → (dtd : Bool) × (nodes : Forest Item) × MayHaveDoctype src i d.state.at dtd nodes asked d.entities × Permits allow dtd × (d.state ≡ state d.state.at (join before nodes) root 255) × IsFine most d.state
+      → (dtd : Bool) × (nodes : Forest Item) × MayHaveDoctype src i d.state.at dtd nodes asked d.entities × Permits allow dtd × (d.state ≡ state d.state.at (join before nodes) root 255) × IsValidState most d.state
   pub complete : (limit i j : ℕ) (dtd : Bool) (before nodes : Forest Item) (asked : List Asked) (es : List Entity) (more : List Reply) → MayHaveDoctype src i j dtd nodes asked es → Stops src j
-      → at word.DoctypeStart src j ≡ false → Permits allow dtd → IsFine limit (state j (join before nodes) root 255)
+      → at word.DoctypeStart src j ≡ false → Permits allow dtd → IsValidState limit (state j (join before nodes) root 255)
       → whole.doctype limit allow src (record { state = state i before root 255; entities = []; replies = replies_of asked ++ more })
       ≡ (asked, Ok (record { state = state j (join before nodes) root 255; entities = es; replies = more }))
   pub texts : (i j : ℕ) (dtd : Bool) (nodes : Forest Item) (asked : List Asked) (es : List Entity) → MayHaveDoctype src i j dtd nodes asked es → Permits allow dtd → AreTexts es
 
 -- where none may stand, what is read has none
-none_sound : (src : List ℕ) (limit most i : ℕ) (before : Forest Item) (replies : List Reply) (asked : List Asked) (d : Dtd) → limit ≤ most → AreTextReplies replies → IsFine most (state i before root 255)
+none_sound : (src : List ℕ) (limit most i : ℕ) (before : Forest Item) (replies : List Reply) (asked : List Asked) (d : Dtd) → limit ≤ most → AreTextReplies replies → IsValidState most (state i before root 255)
     → whole.doctype limit false src (record { state = state i before root 255; entities = []; replies = replies }) ≡ (asked, Ok d) → d.state.at < length src
-    → (dtd : Bool) × (nodes : Forest Item) × MayHaveDoctype src i d.state.at dtd nodes asked d.entities × Permits false dtd × (d.state ≡ state d.state.at (join before nodes) root 255) × IsFine most d.state
+    → (dtd : Bool) × (nodes : Forest Item) × MayHaveDoctype src i d.state.at dtd nodes asked d.entities × Permits false dtd × (d.state ≡ state d.state.at (join before nodes) root 255) × IsValidState most d.state
 unfolding whole.doctype
 none_sound src limit most i before replies asked d more texts fine h inside =
     chosen (at word.DoctypeStart src i) _ _ _ h
@@ -295,13 +295,13 @@ none_sound src limit most i before replies asked d more texts fine h inside =
     let start : Dtd = record { state = state i before root 255; entities = []; replies = replies } in
     let a : [] ≡ asked = ap (λ (x : Asks Dtd). x.0) h in
     let e : start ≡ d = ok_same start d (ap (λ (x : Asks Dtd). x.1) h) in
-    let P : Dtd → Type 0 = λ d. (dtd : Bool) × (nodes : Forest Item) × MayHaveDoctype src i d.state.at dtd nodes asked d.entities × Permits false dtd × (d.state ≡ state d.state.at (join before nodes) root 255) × IsFine most d.state in
+    let P : Dtd → Type 0 = λ d. (dtd : Bool) × (nodes : Forest Item) × MayHaveDoctype src i d.state.at dtd nodes asked d.entities × Permits false dtd × (d.state ≡ state d.state.at (join before nodes) root 255) × IsValidState most d.state in
     subst P e
     (false, Nil, subst (λ (asked : List Asked). MayHaveDoctype src i i false Nil asked []) a (no_doctype i), λ h. h, rw join-nil refl, fine))
 
 -- and where it has none nothing is read
 none_complete : (src : List ℕ) (limit i j : ℕ) (dtd : Bool) (before nodes : Forest Item) (asked : List Asked) (es : List Entity) (more : List Reply) → MayHaveDoctype src i j dtd nodes asked es → Stops src j
-    → at word.DoctypeStart src j ≡ false → Permits false dtd → IsFine limit (state j (join before nodes) root 255)
+    → at word.DoctypeStart src j ≡ false → Permits false dtd → IsValidState limit (state j (join before nodes) root 255)
     → whole.doctype limit false src (record { state = state i before root 255; entities = []; replies = replies_of asked ++ more })
     ≡ (asked, Ok (record { state = state j (join before nodes) root 255; entities = es; replies = more }))
 unfolding whole.doctype

@@ -8,11 +8,11 @@ use Rattle.rox_grammar.specs.Runs.{begins}
 use Rattle.rox_grammar.specs.Written.{Name, Attribute}
 use Rattle.rox_grammar.specs.Names.{byte, spaces_end, IsQName, unprefixed, prefixed, colon_first}
 use Rattle.rox_grammar.specs.Constructs.{IsEq, IsLiteral}
-use Rattle.rox_grammar.specs.Content.{Opener, IsAttribute, TagEnds}
+use Rattle.rox_grammar.specs.Content.{Inclusion, IsAttribute, TagEnds}
 use Rattle.rox_grammar.specs.Content as content
 use Rattle.rox_reading.specs.Lexical.{byte_at, quote_at, qname_at}
-use Rattle.rox_reading.specs.Markup.{RawAttribute, raw_value_at, attribute_at, Turn, more, opened, closed, turn_at}
-use Rattle.rox_reading.specs.Values.{RunText, value_at}
+use Rattle.rox_reading.specs.Markup.{RawAttribute, raw_value_at, attribute_at, TagItem, more, opened, closed, tag_item_at}
+use Rattle.rox_reading.specs.Values.{ReadText, value_at}
 use Rattle.rox_reading.specs.Tags.{Values, attribute_with}
 use Rattle.rox_theory.proofs.Basics.{ok_same, bind_ok, chosen, within, run_end_le, byte_sound, byte_complete, chars_sound, chars_complete}
 use Rattle.rox_theory.proofs.NameLemmas.{qname_sound, qname_complete, qname_le, begins_here}
@@ -112,14 +112,14 @@ name_first src i name j (prefixed _ k _ n colon m last) = (not_start src i 47 (o
 name_first src i name j (colon_first _ _ colon m last) = (λ z. omega arith, λ z. omega arith)
 
 -- what a turn says
-abbrev pub TurnStands : List ℕ → ℕ → Turn → ℕ → Type 0
+abbrev pub TurnStands : List ℕ → ℕ → TagItem → ℕ → Type 0
 TurnStands src i (more raw) j = (i < spaces_end src i) × RawStands src (spaces_end src i) j raw
 TurnStands src i opened j = TagEnds src i false j
 TurnStands src i closed j = TagEnds src i true j
 
 -- what a turn reads stands there
-pub turn_sound : (src : List ℕ) → IsUtf8 src → (i : ℕ) (x : Turn × ℕ) → turn_at src i ≡ Ok x → TurnStands src i x.0 x.1
-unfolding turn_at
+pub turn_sound : (src : List ℕ) → IsUtf8 src → (i : ℕ) (x : TagItem × ℕ) → tag_item_at src i ≡ Ok x → TurnStands src i x.0 x.1
+unfolding tag_item_at
 turn_sound src utf8 i x h =
     let j = spaces_end src i in
     chosen (leb (length src) j) _ _ _ h (λ out e. cc)
@@ -127,20 +127,20 @@ turn_sound src utf8 i x h =
     (λ slash h. bind_ok (byte_at 62 src (j + 1)) _ _ h (λ b greater h.
     let c = byte_sound 62 src (j + 1) b greater in
     let next : b.1 ≡ j + 2 = omega (arith, c.1) in
-    let up_to : ℕ → Turn × ℕ = λ m. (closed, m) in
-    let e : ◌≡◌ {A = Turn × ℕ} (closed, j + 2) x = ap up_to (sym next) ∙ ok_same _ _ h in
-    subst (λ (y : Turn × ℕ). TurnStands src i y.0 y.1) e (content.closed i (eqb-true _ _ slash) c.0)))
+    let up_to : ℕ → TagItem × ℕ = λ m. (closed, m) in
+    let e : ◌≡◌ {A = TagItem × ℕ} (closed, j + 2) x = ap up_to (sym next) ∙ ok_same _ _ h in
+    subst (λ (y : TagItem × ℕ). TurnStands src i y.0 y.1) e (content.closed i (eqb-true _ _ slash) c.0)))
     (λ other h. chosen (eqb (byte src j) 62) _ _ _ h
-    (λ greater e. subst (λ (y : Turn × ℕ). TurnStands src i y.0 y.1) (ok_same _ _ e) (content.opened i (eqb-true _ _ greater)))
+    (λ greater e. subst (λ (y : TagItem × ℕ). TurnStands src i y.0 y.1) (ok_same _ _ e) (content.opened i (eqb-true _ _ greater)))
     (λ name h. chosen (eqb j i) _ _ _ h (λ none h. cc)
     (λ some h. bind_ok (attribute_at src j) _ _ h (λ a read h.
     let apart = eqb-false _ _ some in
     let le = run_end_le is_space src i in
-    subst (λ (y : Turn × ℕ). TurnStands src i y.0 y.1) (ok_same _ _ h) (omega arith, raw_sound src utf8 j a read))))))
+    subst (λ (y : TagItem × ℕ). TurnStands src i y.0 y.1) (ok_same _ _ h) (omega arith, raw_sound src utf8 j a read))))))
 
 -- the end of a tag is read
-pub end_complete : (src : List ℕ) (i : ℕ) (empty : Bool) (j : ℕ) → TagEnds src i empty j → turn_at src i ≡ Ok (cond empty closed opened, j)
-unfolding turn_at
+pub end_complete : (src : List ℕ) (i : ℕ) (empty : Bool) (j : ℕ) → TagEnds src i empty j → tag_item_at src i ≡ Ok (cond empty closed opened, j)
+unfolding tag_item_at
 end_complete src i empty j (content.opened _ greater) =
     let inside = lt-leb (length src) (spaces_end src i) (within src (spaces_end src i) (λ z. omega arith)) in
     rw (inside, greater) refl
@@ -151,8 +151,8 @@ end_complete src i empty j (content.closed _ slash greater) =
     rw (inside, slash, b, next) refl
 
 -- one more attribute is read
-pub more_complete : (src : List ℕ) (i j : ℕ) (raw : RawAttribute) → i < spaces_end src i → RawStands src (spaces_end src i) j raw → turn_at src i ≡ Ok (more raw, j)
-unfolding turn_at
+pub more_complete : (src : List ℕ) (i j : ℕ) (raw : RawAttribute) → i < spaces_end src i → RawStands src (spaces_end src i) j raw → tag_item_at src i ≡ Ok (more raw, j)
+unfolding tag_item_at
 more_complete src i j raw some r =
     let le = raw_le src (spaces_end src i) j raw r in
     let v = literal_le src r.v raw.value_end j r.literal in
@@ -182,9 +182,9 @@ literal_stop src v e j l = rw (literal_closes src v e j l) (quote_stop (byte src
 value_cut : (src : List ℕ) → IsUtf8 src → (v e j : ℕ) → IsLiteral src v e j → IsCharBoundary src (v + 1)
 value_cut src utf8 v e j l = let q = quote_ascii (byte src v) l.quote in cut_behind src v (byte src v) (v + 1) utf8 refl (omega arith) (omega arith) refl
 
-module _ (how : Values) (O : Opener) (agrees : AgreesValue how.entities O how.opener) (src : List ℕ) (utf8 : IsUtf8 src) where
+module _ (how : Values) (O : Inclusion) (agrees : AgreesValue how.entities O how.opener) (src : List ℕ) (utf8 : IsUtf8 src) where
   -- an attribute whose value is read stands there
-  pub attribute_sound : (i j b c : ℕ) (raw : RawAttribute) (x : RunText) → RawStands src i j raw → value_at how.main how.entities how.opener src raw.value_start raw.value_end b ≡ Ok (x, c)
+  pub attribute_sound : (i j b c : ℕ) (raw : RawAttribute) (x : ReadText) → RawStands src i j raw → value_at how.main how.entities how.opener src raw.value_start raw.value_end b ≡ Ok (x, c)
       → IsAttribute how.main O src i j b c (attribute_with raw x)
   attribute_sound i j b c raw x r h =
       let closes = r.literal.closes in
@@ -206,7 +206,7 @@ module _ (how : Values) (O : Opener) (agrees : AgreesValue how.entities O how.op
   -- the attribute is read from i up to j, and then its value
   abbrev pub AttributeReads : ℕ → ℕ → ℕ → ℕ → Attribute → Type 0
   AttributeReads i j b c a =
-      (raw : RawAttribute) × (x : RunText) × RawStands src i j raw × (value_at how.main how.entities how.opener src raw.value_start raw.value_end b ≡ Ok (x, c)) × (a ≡ attribute_with raw x)
+      (raw : RawAttribute) × (x : ReadText) × RawStands src i j raw × (value_at how.main how.entities how.opener src raw.value_start raw.value_end b ≡ Ok (x, c)) × (a ≡ attribute_with raw x)
 
   -- an attribute that stands there is read
   pub attribute_complete : (i j b c : ℕ) (a : Attribute) → IsAttribute how.main O src i j b c a → AttributeReads i j b c a

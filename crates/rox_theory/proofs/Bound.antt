@@ -8,11 +8,11 @@ use Rattle.std.specs.List.{list_any}
 use Rattle.rox_grammar.specs.Forest.{Forest, Nil, join}
 use Rattle.rox_grammar.specs.Written.{Item, Text, Attribute, Tag, leaf, merge}
 use Rattle.rox_grammar.specs.Names.{byte, slice, spaces_end}
-use Rattle.rox_grammar.specs.Content.{Opener, line_ends, literals, is_plain, piece, value_bytes, Parts, last_part, then_entity, Value, value_ends, line_end, white, other, a_character, an_entity, Attributes, no_more, one_more, IsTag, IsElement, empty, nest, Content, ends, run, cdata, misc, node}
-use Rattle.rox_grammar.specs.Entities.{Entity, opens_main, most_open}
+use Rattle.rox_grammar.specs.Content.{Inclusion, line_ends, literals, is_verbatim, piece, value_bytes, Parts, last_part, then_entity, Value, value_ends, line_end, white, other, a_character, an_entity, Attributes, no_more, one_more, IsTag, IsElement, empty, nest, Content, ends, run, cdata, misc, node}
+use Rattle.rox_grammar.specs.Entities.{Entity, included_in_main, most_deep}
 use Rattle.rox_grammar.specs.Chars.{is_name_char, is_space}
 use Rattle.rox_grammar.specs.Names.{IsName}
-use Rattle.rox_grammar.specs.Doctype.{Asked, IsQuoted, IsExternalID, system, public, MayHaveNotation, notation, no_notation, of_parameter, IsDefinition, internal, external, IsKind, of_parameter as parameter_kind, general, IsEntityDeclaration, IsPassedOver, Subset, no_more as no_item, space as subset_space, an_item as subset_item, passed_over, an_entity as an_entity_declared, MayHaveExternalID, external_id, no_external_id, BeginsDoctype, IsDoctype, no_subset, with_subset}
+use Rattle.rox_grammar.specs.Doctype.{Asked, IsQuoted, IsExternalID, system, public, MayHaveNotation, notation, no_notation, of_parameter, IsDefinition, internal, external, IsKind, of_parameter as parameter_kind, general, IsEntityDeclaration, IsPassedOver, Subset, no_more as no_item, space as subset_space, an_item as subset_item, skipped_declaration, an_entity as an_entity_declared, MayHaveExternalID, external_id, no_external_id, BeginsDoctype, IsDoctype, no_subset, with_subset}
 use Rattle.rox_grammar.specs.Document.{Misc, no_misc, space, an_item, MayHaveDoctype, doctype, no_doctype, ParseOf}
 use Rattle.rox_grammar.specs.Expansion.{most_bytes, longest, bytes_in, IsBounded}
 use Rattle.rox_theory.proofs.Onward.{run_onward, reference_onward, value_char, part_bytes, qname_onward, eq_onward, tag_end_onward, end_onward, section_onward, byte_onward}
@@ -66,7 +66,7 @@ times_more (suc a) (suc b) w h =
     let y = more_times b w in
     omega (arith, k, x, y)
 
-module _ (of : Forest Item → ℕ) (is_measure : Measure of) (O : Opener) (w : ℕ) (src : List ℕ) (left : ℕ → ℕ) (down : (i j : ℕ) → i ≤ j → left j ≤ left i)
+module _ (of : Forest Item → ℕ) (is_measure : Measure of) (O : Inclusion) (w : ℕ) (src : List ℕ) (left : ℕ → ℕ) (down : (i j : ℕ) → i ≤ j → left j ≤ left i)
     (at_amp : (p : ℕ) → byte src p ≡ 38 → left (p + 1) + w ≤ left p)
     (content_most : (name : List ℕ) (b : ℕ) (items : Forest Item) (c : ℕ) → O.content name b items c → of items ≤ w)
     (value_most : (name : List ℕ) (b : ℕ) (v : List ℕ) (c : ℕ) → O.value name b v c → length v ≤ w) where
@@ -77,7 +77,7 @@ module _ (of : Forest Item → ℕ) (is_measure : Measure of) (O : Opener) (w : 
   parts_yield : (start stop i b c : ℕ) (items : Forest Item) → Parts true O src start stop i b c items → Yields (of items) i stop
   parts_yield start stop i b c items (last_part _ _ ss part) =
       let p = part_bytes true src stop i ss part in
-      let q = piece_most of is_measure start stop (is_plain (slice src start stop)) ss in
+      let q = piece_most of is_measure start stop (is_verbatim (slice src start stop)) ss in
       let d = down i stop (omega (arith, p)) in
       (omega (arith, p), omega (arith, p, q, d))
   parts_yield start stop i b d items (then_entity _ p n j _ c _ ss front more part reference name opens rest) =
@@ -238,26 +238,26 @@ begins_onward src i s is =
 
 module _ (of : Forest Item → ℕ) (is_measure : Measure of) where
   -- what a reference of the main text opens
-  main_most : (es : List Entity) (name : List ℕ) (b : ℕ) (items : Forest Item) (c : ℕ) → (opens_main es).content name b items c → of items ≤ 256 * longest es
+  main_most : (es : List Entity) (name : List ℕ) (b : ℕ) (items : Forest Item) (c : ℕ) → (included_in_main es).content name b items c → of items ≤ 256 * longest es
   main_most es name b items c h =
       let x = few_opened es name b c items h in
-      let y = (counts_weigh of is_measure es most_open).content name 0 items x.0 x.1 in
+      let y = (counts_weigh of is_measure es most_deep).content name 0 items x.0 x.1 in
       let z = times_more x.0 256 (longest es) x.2 in
       omega (arith, y, z)
 
-  main_value_most : (es : List Entity) (name : List ℕ) (b : ℕ) (v : List ℕ) (c : ℕ) → (opens_main es).value name b v c → length v ≤ 256 * longest es
+  main_value_most : (es : List Entity) (name : List ℕ) (b : ℕ) (v : List ℕ) (c : ℕ) → (included_in_main es).value name b v c → length v ≤ 256 * longest es
   main_value_most es name b v c h =
       let x = few_opened_in_value es name b c v h in
-      let y = (counts_weigh of is_measure es most_open).value name 0 v x.0 x.1 in
+      let y = (counts_weigh of is_measure es most_deep).value name 0 v x.0 x.1 in
       let z = times_more x.0 256 (longest es) x.2 in
       omega (arith, y, z)
 
   -- an element of the main text
-  element_bounded : (es : List Entity) (src : List ℕ) (i j b c : ℕ) (one : Forest Item) → IsElement true (opens_main es) src i j b c one
+  element_bounded : (es : List Entity) (src : List ℕ) (i j b c : ℕ) (one : Forest Item) → IsElement true (included_in_main es) src i j b c one
       → of one + i ≤ j + amps src i * (256 * longest es)
   element_bounded es src i j b c one is =
       let w = 256 * longest es in
-      let h = element_yields of is_measure (opens_main es) w src (λ p. amps src p * w) (λ p q le. times_more (amps src q) (amps src p) w (amps_down src p q le))
+      let h = element_yields of is_measure (included_in_main es) w src (λ p. amps src p * w) (λ p q le. times_more (amps src q) (amps src p) w (amps_down src p q le))
       (λ p amp. let k = times_more (amps src (p + 1) + 1) (amps src p) w (amps_at src p amp) in let x = more_times (amps src (p + 1)) w in omega (arith, k, x))
       (main_most es) (main_value_most es) i j b c one is in
       omega (arith, h.1)
@@ -280,7 +280,7 @@ module _ (of : Forest Item → ℕ) (is_measure : Measure of) where
       let h = all_subset src j l more asked es rest in
       let f = is_measure.joined (leaf item) more in
       omega (arith, x, h, f)
-  all_subset src i l items asked es (passed_over _ j _ _ _ _ is rest) =
+  all_subset src i l items asked es (skipped_declaration _ j _ _ _ _ is rest) =
       let x = passed_onward src i j is in
       let h = all_subset src j l items asked es rest in
       omega (arith, x, h)

@@ -2,23 +2,23 @@
 use Rattle.std.proofs.Common.{◌≡◌, ℕ, zero, suc, ◌+◌, ◌≤◌, Bool, true, false, nat_lt, List, length, Ok, refl, subst, arith, lt-ltb, ltb-true}
 use Rattle.rox_grammar.specs.Forest.{Forest, Nil, join}
 use Rattle.rox_grammar.specs.Written.{Tag, Item}
-use Rattle.rox_grammar.specs.Content.{Opener, IsTag, IsElement, empty, nest, Content, ends, run, cdata, misc, node}
-use Rattle.rox_grammar.specs.Entities.{Entity, opens_main}
+use Rattle.rox_grammar.specs.Content.{Inclusion, IsTag, IsElement, empty, nest, Content, ends, run, cdata, misc, node}
+use Rattle.rox_grammar.specs.Entities.{Entity, included_in_main}
 use Rattle.rox_grammar.specs.State.{Open, root, inside, is_root}
 use Rattle.rox_reading.specs.State.{State}
 use Rattle.rox_reading.specs.Machine.{step, drive, main_text}
 use Rattle.rox_reading.proofs.Forests.{join-nil, join_assoc}
-use Rattle.rox_theory.specs.Fine.{IsFine, state}
+use Rattle.rox_theory.specs.ValidState.{IsValidState, state}
 use Rattle.rox_theory.proofs.Basics.{ok_same, bind_ok, chosen}
-use Rattle.rox_theory.proofs.Flat.{Takes, takes_run, takes_cdata, takes_misc, takes_empty, takes_start, takes_end}
+use Rattle.rox_theory.proofs.Flat.{StepsOver, takes_run, takes_cdata, takes_misc, takes_empty, takes_start, takes_end}
 use Rattle.rox_theory.proofs.Contents.{StepsAgree}
 use Rattle.rox_theory.proofs.Steps.{after}
 
-module _ (O : Opener) (src : List ℕ) where
+module _ (O : Inclusion) (src : List ℕ) where
   -- the constructs from a state on, up to the end of the root element
   pub data Drives : State → State → Type 0 where
     arrives : (s : State) → is_root s.stack ≡ true → Drives s s
-    goes : (s t u : State) → is_root s.stack ≡ false → Takes true O src 0 s t → Drives t u → Drives s u
+    goes : (s t u : State) → is_root s.stack ≡ false → StepsOver true O src 0 s t → Drives t u → Drives s u
 
   mutual
     -- content in front
@@ -56,17 +56,17 @@ module _ (O : Opener) (src : List ℕ) where
         (goes _ _ _ refl (takes_end m p j d i t kids before root (omega arith) end) (arrives (state j (join before one) root d) refl)),
   )
 
-module _ (limit : ℕ) (es : List Entity) (src : List ℕ) (steps : StepsAgree (main_text limit es) (opens_main es) src) where
+module _ (limit : ℕ) (es : List Entity) (src : List ℕ) (steps : StepsAgree (main_text limit es) (included_in_main es) src) where
   -- what is read is a chain
-  pub drive_sound : (n most : ℕ) (s u : State) → limit ≤ most → IsFine most s → drive (main_text limit es) n src s ≡ Ok u → Drives (opens_main es) src s u × IsFine most u
+  pub drive_sound : (n most : ℕ) (s u : State) → limit ≤ most → IsValidState most s → drive (main_text limit es) n src s ≡ Ok u → Drives (included_in_main es) src s u × IsValidState most u
   unfolding drive
   drive_sound zero most s u limits fine h =
       chosen (is_root s.stack) _ _ _ h
-      (λ at_root h. subst (λ (u : State). Drives (opens_main es) src s u × IsFine most u) (ok_same s u h) (arrives s at_root, fine))
+      (λ at_root h. subst (λ (u : State). Drives (included_in_main es) src s u × IsValidState most u) (ok_same s u h) (arrives s at_root, fine))
       (λ inner h. cc)
   drive_sound (suc n) most s u limits fine h =
       chosen (is_root s.stack) _ _ _ h
-      (λ at_root h. subst (λ (u : State). Drives (opens_main es) src s u × IsFine most u) (ok_same s u h) (arrives s at_root, fine))
+      (λ at_root h. subst (λ (u : State). Drives (included_in_main es) src s u × IsValidState most u) (ok_same s u h) (arrives s at_root, fine))
       (λ inner h. chosen (nat_lt s.at (length src)) _ _ _ h (λ within h. bind_ok (step (main_text limit es) src s) _ _ h (λ t read h.
       let one = steps.sound most s t limits (ltb-true _ _ within) fine read in
       let rest = drive_sound n most t u limits one.1 h in
@@ -74,12 +74,12 @@ module _ (limit : ℕ) (es : List Entity) (src : List ℕ) (steps : StepsAgree (
       (λ past h. cc))
 
   -- what the limits allow at the end they allow all along
-  pub drives_back : (s u : State) → Drives (opens_main es) src s u → IsFine limit u → IsFine limit s
+  pub drives_back : (s u : State) → Drives (included_in_main es) src s u → IsValidState limit u → IsValidState limit s
   drives_back s u (arrives _ at_root) fine = fine
   drives_back s u (goes _ t _ inner takes rest) fine = steps.back s t takes (drives_back t u rest fine)
 
   -- a chain is read
-  pub drive_complete : (n : ℕ) (s u : State) → Drives (opens_main es) src s u → IsFine limit u → length src ≤ s.at + n → drive (main_text limit es) n src s ≡ Ok u
+  pub drive_complete : (n : ℕ) (s u : State) → Drives (included_in_main es) src s u → IsValidState limit u → length src ≤ s.at + n → drive (main_text limit es) n src s ≡ Ok u
   unfolding drive
   drive_complete zero s u (arrives _ at_root) fine enough = rw at_root refl
   drive_complete (suc n) s u (arrives _ at_root) fine enough = rw at_root refl

@@ -7,18 +7,18 @@ use Rattle.std.proofs.lemmas.List.Elements.{All-nil, All-cons, All-map, All-filt
 use Rattle.std.proofs.lemmas.Str.{IsCharBoundary-end}
 use Rattle.rox_grammar.specs.declared.fault.Word.TheVariants as word
 use Rattle.rox_grammar.specs.declared.fault.Word.TheVariants.{Xmlns}
-use Rattle.rox_grammar.specs.Words.{word_text}
-use Rattle.rox_grammar.specs.Marks.{byte_from}
+use Rattle.rox_grammar.specs.FixedTexts.{word_text}
+use Rattle.rox_grammar.specs.Search.{byte_from}
 use Rattle.rox_grammar.specs.Chars.{is_space, is_name_char, is_part_char}
-use Rattle.rox_grammar.specs.CharText.{IsCharText, DeclarationChars}
+use Rattle.rox_grammar.specs.CharText.{IsCharText, NamespaceDeclChars}
 use Rattle.rox_grammar.specs.Forest.{Forest, Nil, Cons, join}
-use Rattle.rox_grammar.specs.Written.{Name, Attribute, Declaration, Tag, Item, Element, Text, Comment, PI, declares, declaration_of, declarations_of, attributes_of, glue, merge}
+use Rattle.rox_grammar.specs.Written.{Name, Attribute, NamespaceDecl, Tag, Item, Element, Text, Comment, PI, is_namespace_decl, namespace_decl_of, namespace_decls_of, plain_attributes_of, glue, merge}
 use Rattle.rox_grammar.specs.Tree.{none_if_empty}
 use Rattle.rox_grammar.specs.Names.{byte, slice, spaces_end, IsNCName, IsQName, unprefixed, prefixed, colon_first}
 use Rattle.rox_grammar.specs.Constructs.{IsComment, IsPI, IsCData}
-use Rattle.rox_grammar.specs.Content.{Opener, Sign, IsAttribute, Attributes, no_more, one_more, TagEnds, opened, closed, IsTag, IsMisc, comment, instruction, IsElement, empty, nest, Content, ends, run, cdata, misc, node, line_ends, literals}
-use Rattle.rox_grammar.specs.Entities.{Entity, Opens, opens_main, most_open}
-use Rattle.rox_grammar.specs.Doctype.{Asked, Subset, no_more as no_item, space as subset_space, an_item as subset_item, passed_over, an_entity as an_entity_declared, IsDoctype, no_subset, with_subset}
+use Rattle.rox_grammar.specs.Content.{Inclusion, DataByte, IsAttribute, Attributes, no_more, one_more, TagEnds, opened, closed, IsTag, IsMisc, comment, instruction, IsElement, empty, nest, Content, ends, run, cdata, misc, node, line_ends, literals}
+use Rattle.rox_grammar.specs.Entities.{Entity, Includes, included_in_main, most_deep}
+use Rattle.rox_grammar.specs.Doctype.{Asked, Subset, no_more as no_item, space as subset_space, an_item as subset_item, skipped_declaration, an_entity as an_entity_declared, IsDoctype, no_subset, with_subset}
 use Rattle.rox_grammar.specs.Document.{Misc, no_misc, space, an_item, MayHaveDoctype, doctype, no_doctype, ParseOf}
 use Rattle.rox_theory.specs.Openers.{AreTexts}
 use Rattle.rox_theory.specs.CharItems.{WrittenChars, TagChars, ItemChars, ItemsChars}
@@ -48,7 +48,7 @@ local_name src i name j utf8 cut (prefixed _ k _ n colon m last) = part_behind s
 local_name src i name j utf8 cut (colon_first _ _ colon m last) = part_behind src i j utf8 colon m
 
 -- a declaration is an attribute as written
-declared_text : (a : Attribute) → WrittenChars a → DeclarationChars (declaration_of a)
+declared_text : (a : Attribute) → WrittenChars a → NamespaceDeclChars (namespace_decl_of a)
 declared_text a h =
     record {
       prefix = cond_both (bytes_eq a.name.prefix (word_text Xmlns)) (Some a.name.local) None (λ (o : Option (List ℕ)). IfSome o IsCharText) (λ is. h.local) (λ none. tt);
@@ -93,9 +93,9 @@ comment_text src i e j utf8 is =
     let last = cut_at src e 45 (sym (ap (byte src) z) ∙ stands_reads (word_text word.CommentEnd) src e 0 is.closes (omega arith)) (omega arith) (omega arith) in
     chars_between src (i + 4) e utf8 first last is.chars
 
-sign_nil : (ss : List Sign) → ss ++ [] ≡ ss
+sign_nil : (ss : List DataByte) → ss ++ [] ≡ ss
 sign_nil [] = refl
-sign_nil (s ∷ ss) = ap (λ (r : List Sign). s ∷ r) (sign_nil ss)
+sign_nil (s ∷ ss) = ap (λ (r : List DataByte). s ∷ r) (sign_nil ss)
 
 -- that of a CDATA section
 section_text : (src : List ℕ) (i e j : ℕ) → IsUtf8 src → IsCData src i e j → IsCharText (line_ends (literals (slice src (i + 9) e)))
@@ -103,7 +103,7 @@ section_text src i e j utf8 is =
     let first = cut_behind src (i + 8) 91 (i + 9) utf8 (stands_reads (word_text word.CDataStart) src i 8 is.opens (omega arith)) (omega arith) (omega arith) (omega arith) in
     let z : e + 0 ≡ e = omega arith in
     let last = cut_at src e 93 (sym (ap (byte src) z) ∙ stands_reads (word_text word.CDataEnd) src e 0 is.closes (omega arith)) (omega arith) (omega arith) in
-    subst (λ (ss : List Sign). IsCharText (line_ends ss)) (sign_nil (literals (slice src (i + 9) e)))
+    subst (λ (ss : List DataByte). IsCharText (line_ends ss)) (sign_nil (literals (slice src (i + 9) e)))
     (text_front false (slice src (i + 9) e) [] (chars_between src (i + 9) e utf8 first last is.chars) no_signs)
 
 -- if it has a character
@@ -140,7 +140,7 @@ tag_cut src i j is_empty utf8 (closed _ slash close) = cut_behind src (spaces_en
 
 -- ---- tags, elements and content, over what is opened
 
-module _ (main : Bool) (O : Opener) (opens : OpensChars O) (src : List ℕ) (utf8 : IsUtf8 src) where
+module _ (main : Bool) (O : Inclusion) (opens : OpensChars O) (src : List ℕ) (utf8 : IsUtf8 src) where
   -- an attribute that stands behind a place where a character begins ends at another one
   attribute_text : (i j b c : ℕ) (a : Attribute) → IsCharBoundary src i → IsAttribute main O src i j b c a → WrittenChars a × IsCharBoundary src j
   attribute_text i j b c a cut h =
@@ -167,13 +167,13 @@ module _ (main : Bool) (O : Opener) (opens : OpensChars O) (src : List ℕ) (utf
       let cut = cut_behind src i 60 (i + 1) utf8 tag.begins (omega arith) (omega arith) refl in
       let name = local_name src (i + 1) t.name t.name_end utf8 cut tag.is_name in
       let all = attributes_text t.name_end tag.last b c tag.written name.1 tag.attributes in
-      let declaring = filter (λ (a : Attribute). declares a.name) tag.written in
-      let declared : All DeclarationChars (declarations_of tag.written) =
-      All-map DeclarationChars declaration_of declaring (All-weaker WrittenChars (λ (a : Attribute). DeclarationChars (declaration_of a)) declared_text declaring (All-filter (λ (a : Attribute). declares a.name) WrittenChars tag.written all)) in
-      let others : All WrittenChars (attributes_of tag.written) = All-filter (λ (a : Attribute). not (declares a.name)) WrittenChars tag.written all in
+      let declaring = filter (λ (a : Attribute). is_namespace_decl a.name) tag.written in
+      let declared : All NamespaceDeclChars (namespace_decls_of tag.written) =
+      All-map NamespaceDeclChars namespace_decl_of declaring (All-weaker WrittenChars (λ (a : Attribute). NamespaceDeclChars (namespace_decl_of a)) declared_text declaring (All-filter (λ (a : Attribute). is_namespace_decl a.name) WrittenChars tag.written all)) in
+      let others : All WrittenChars (plain_attributes_of tag.written) = All-filter (λ (a : Attribute). not (is_namespace_decl a.name)) WrittenChars tag.written all in
       record {
         local = name.0;
-        declarations = subst (λ (ds : List Declaration). All DeclarationChars ds) (sym tag.declares) declared;
+        declarations = subst (λ (ds : List NamespaceDecl). All NamespaceDeclChars ds) (sym tag.is_namespace_decl) declared;
         attributes = subst (λ (as' : List Attribute). All WrittenChars as') (sym tag.has) others;
       }
 
@@ -200,17 +200,17 @@ module _ (main : Bool) (O : Opener) (opens : OpensChars O) (src : List ℕ) (utf
 
 -- ---- what references open, by the number of texts that may still be open
 
-pub opens_chars : (es : List Entity) → AreTexts es → (d : ℕ) (main : Bool) → OpensChars (Opens es d main)
+pub opens_chars : (es : List Entity) → AreTexts es → (d : ℕ) (main : Bool) → OpensChars (Includes es d main)
 opens_chars es texts zero main = record { content = λ name b items c h. absurd h; value = λ name b v c h. absurd h }
 opens_chars es texts (suc d) main =
     let inner = opens_chars es texts d false in
     record {
       content = λ name b items c (t, r, l, found, spends, is).
           let text = texts name t found in
-          content_items false (Opens es d false) inner t.source text.0 t.start (length t.source) r l items text.1 is;
+          content_items false (Includes es d false) inner t.source text.0 t.start (length t.source) r l items text.1 is;
       value = λ name b v c (t, r, l, found, spends, chars, is).
           let text = texts name t found in
-          value_chars t.source text.0 t.start (length t.source) text.1 (IsCharBoundary-end t.source) chars false (Opens es d false) inner r l v is;
+          value_chars t.source text.0 t.start (length t.source) text.1 (IsCharBoundary-end t.source) chars false (Includes es d false) inner r l v is;
     }
 
 -- ---- what stands around the root element
@@ -224,7 +224,7 @@ subset_items : (src : List ℕ) (i j : ℕ) (items : Forest Item) (asked : List 
 subset_items src i j items asked es utf8 (no_item _) = tt
 subset_items src i j items asked es utf8 (subset_space _ _ _ _ _ here rest) = subset_items src (i + 1) j items asked es utf8 rest
 subset_items src i j items asked es utf8 (subset_item _ k _ item more _ _ is rest) = (misc_item src i k item utf8 is, tt, subset_items src k j more asked es utf8 rest)
-subset_items src i j items asked es utf8 (passed_over _ k _ _ _ _ is rest) = subset_items src k j items asked es utf8 rest
+subset_items src i j items asked es utf8 (skipped_declaration _ k _ _ _ _ is rest) = subset_items src k j items asked es utf8 rest
 subset_items src i j items asked es utf8 (an_entity_declared _ k _ _ front more one others is rest) = subset_items src k j items more others utf8 rest
 
 doctype_itself : (src : List ℕ) (i j : ℕ) (items : Forest Item) (asked : List Asked) (es : List Entity) → IsUtf8 src → IsDoctype src i j items asked es → ItemsChars items
@@ -240,7 +240,7 @@ doctype_items src i j dtd items asked es utf8 (doctype _ k _ front more _ _ is r
 pub parse_items : (src : List ℕ) (dtd : Bool) (asked : List Asked) (tree : Forest Item) → IsUtf8 src → ParseOf src dtd asked tree → ItemsChars tree
 parse_items src dtd asked tree utf8 p =
     let texts = texts_agree src utf8 p.begun p.start dtd p.nodes asked p.entities p.doctype in
-    let one = element_items true (opens_main p.entities) (opens_chars p.entities texts most_open true) src utf8 p.start p.end 255 p.left p.one p.element in
+    let one = element_items true (included_in_main p.entities) (opens_chars p.entities texts most_deep true) src utf8 p.start p.end 255 p.left p.one p.element in
     let nodes = doctype_items src p.begun p.start dtd p.nodes asked p.entities utf8 p.doctype in
     let after = misc_items src p.end (length src) p.after utf8 p.misc_after in
     let before = misc_items src p.declared_to p.begun p.before utf8 p.misc_before in

@@ -15,7 +15,7 @@ use Rattle.rox_grammar.specs.Written.{Item}
 use Rattle.rox_grammar.specs.Names.{byte, slice}
 use Rattle.rox_grammar.specs.Constructs.{AreChars}
 use Rattle.rox_grammar.specs.References.{number, character, predefined, IsNumber, IsCharacter, decimal, hexadecimal, named}
-use Rattle.rox_grammar.specs.Content.{Opener, Sign, literal, signs_of, literals, begins_with_line_feed, line_ends, piece, Part, part_ends, as_written, from_reference, Parts, last_part, then_entity, value_bytes, Value, value_ends, line_end, white, other, a_character, an_entity}
+use Rattle.rox_grammar.specs.Content.{Inclusion, DataByte, literal, data_bytes_of, literals, begins_with_line_feed, line_ends, piece, Part, part_ends, as_written, from_reference, Parts, last_part, then_entity, value_bytes, Value, value_ends, line_end, white, other, a_character, an_entity}
 use Rattle.rox_theory.specs.CharItems.{ItemsChars}
 use Rattle.rox_theory.proofs.Basics.{chosen}
 use Rattle.rox_theory.proofs.NameLemmas.{slice_nil}
@@ -80,15 +80,15 @@ referenced src i c j utf8 (named _ n _ _ r is) = (of_name (slice src (i + 1) n) 
 -- ---- signs
 
 -- what is read of them is a text of Chars
-abbrev pub SignChars : List Sign → Type 0
+abbrev pub SignChars : List DataByte → Type 0
 SignChars ss = IsCharText (line_ends ss)
 
 pub no_signs : SignChars []
 no_signs = no_text
 
-literals_append : (v w : List ℕ) (ss : List Sign) → literals (v ++ w) ++ ss ≡ literals v ++ (literals w ++ ss)
+literals_append : (v w : List ℕ) (ss : List DataByte) → literals (v ++ w) ++ ss ≡ literals v ++ (literals w ++ ss)
 literals_append [] w ss = refl
-literals_append (b ∷ v) w ss = ap (λ (r : List Sign). literal b ∷ r) (literals_append v w ss)
+literals_append (b ∷ v) w ss = ap (λ (r : List DataByte). literal b ∷ r) (literals_append v w ss)
 
 -- no byte of a character but CR is one
 no_return : (c k : ℕ) → c ≢ 13 → k < length (encode_utf8 c) → get_or (encode_utf8 c) k 0 ≢ 13
@@ -97,14 +97,14 @@ no_return c k no_cr below =
     λ cr. no_cr (same (omega arith) ∙ cr)
 
 -- bytes but CR stand for themselves
-bytes_stay : (bs : List ℕ) (ss : List Sign) → ((k : ℕ) → k < length bs → get_or bs k 0 ≢ 13) → line_ends (literals bs ++ ss) ≡ bs ++ line_ends ss
+bytes_stay : (bs : List ℕ) (ss : List DataByte) → ((k : ℕ) → k < length bs → get_or bs k 0 ≢ 13) → line_ends (literals bs ++ ss) ≡ bs ++ line_ends ss
 bytes_stay [] ss none = refl
 bytes_stay (b ∷ bs) ss none =
     let cr = ne_eqb b 13 (none 0 (omega arith)) in
     rw cr (ap (λ (r : List ℕ). b ∷ r) (bytes_stay bs ss (λ k below. none (suc k) (omega arith))))
 
 -- characters in front
-chars_front : (cs : List ℕ) (ss : List Sign) → scalars cs ≡ true → list_all is_char cs ≡ true → SignChars ss → SignChars (literals (encodes cs) ++ ss)
+chars_front : (cs : List ℕ) (ss : List DataByte) → scalars cs ≡ true → list_all is_char cs ≡ true → SignChars ss → SignChars (literals (encodes cs) ++ ss)
 chars_front [] ss s h rest = rest
 chars_front (c ∷ cs) ss s h rest =
     let s' = and_parts (scalar c) (scalars cs) s in
@@ -123,18 +123,18 @@ chars_front (c ∷ cs) ss s h rest =
     ])
 
 -- what was kept stays
-kept_stay : (bs : List ℕ) (ss : List Sign) → line_ends (signs_of true bs ++ ss) ≡ bs ++ line_ends ss
+kept_stay : (bs : List ℕ) (ss : List DataByte) → line_ends (data_bytes_of true bs ++ ss) ≡ bs ++ line_ends ss
 kept_stay [] ss = refl
 kept_stay (b ∷ bs) ss = ap (λ (r : List ℕ). b ∷ r) (kept_stay bs ss)
 
 -- a text in front, literal or kept
-pub text_front : (main : Bool) (v : List ℕ) (ss : List Sign) → IsCharText v → SignChars ss → SignChars (signs_of main v ++ ss)
+pub text_front : (main : Bool) (v : List ℕ) (ss : List DataByte) → IsCharText v → SignChars ss → SignChars (data_bytes_of main v ++ ss)
 text_front false v ss h rest =
     subst (λ (w : List ℕ). SignChars (literals w ++ ss)) (encodes-chars v h.utf8) (chars_front (chars v) ss (scalars-chars v h.utf8) h.all rest)
 text_front true v ss h rest = subst (λ (w : List ℕ). IsCharText w) (sym (kept_stay v ss)) (texts_joined v (line_ends ss) h rest)
 
 -- the text of a part
-pub piece_items : (i j : ℕ) (plain : Bool) (ss : List Sign) → SignChars ss → ItemsChars (piece i j plain ss)
+pub piece_items : (i j : ℕ) (plain : Bool) (ss : List DataByte) → SignChars ss → ItemsChars (piece i j plain ss)
 piece_items i j plain [] h = tt
 piece_items i j plain (s ∷ ss) h = (h, tt, tt)
 
@@ -146,7 +146,7 @@ items_joined Nil g h k = k
 items_joined (Cons item c r) g h k = (h.0, h.1, items_joined r g h.2 k)
 
 -- what a reference opens are texts of Chars
-pub record OpensChars (O : Opener) : Type 0 where
+pub record OpensChars (O : Inclusion) : Type 0 where
   pub content : (name : List ℕ) (b : ℕ) (items : Forest Item) (c : ℕ) → O.content name b items c → ItemsChars items
   pub value : (name : List ℕ) (b : ℕ) (v : List ℕ) (c : ℕ) → O.value name b v c → IsCharText v
 
@@ -164,10 +164,10 @@ module _ (src : List ℕ) (utf8 : IsUtf8 src) (start stop : ℕ) (first : IsChar
       ∙ ap (λ (r : List ℕ). slice src k i ++ r) (slice_cons src i (i + 1) (omega arith) (omega (arith, last.0)) ∙ ap (λ (r : List ℕ). byte src i ∷ r) (slice_nil src (i + 1)))
 
   -- the signs of a part, with what stands in front of it
-  part_signs : (main : Bool) (p i : ℕ) (ss : List Sign) → Part main src p i ss → IsCharBoundary src p → p ≤ stop → (k : ℕ) → start ≤ k → k ≤ i → IsCharBoundary src k → SignChars (literals (slice src k i) ++ ss)
+  part_signs : (main : Bool) (p i : ℕ) (ss : List DataByte) → Part main src p i ss → IsCharBoundary src p → p ≤ stop → (k : ℕ) → start ≤ k → k ≤ i → IsCharBoundary src k → SignChars (literals (slice src k i) ++ ss)
   part_signs main p i ss part_ends cut le k from on front = text_front false (slice src k p) [] (stretch k p from on le front cut) no_signs
   part_signs main p i ss (as_written _ more within no_amp rest) cut le k from on front =
-      subst (λ (r : List Sign). SignChars r)
+      subst (λ (r : List DataByte). SignChars r)
       (ap (λ (v : List ℕ). literals v ++ more) (grown k i on (omega arith)) ∙ literals_append (slice src k i) (byte src i ∷ []) more)
       (part_signs main p (i + 1) more rest cut le k from (omega arith) front)
   part_signs main p i ss (from_reference _ n c more is within rest) cut le k from on front =
@@ -176,16 +176,16 @@ module _ (src : List ℕ) (utf8 : IsUtf8 src) (start stop : ℕ) (first : IsChar
       let r = referenced src i c n utf8 is in
       let later = part_signs main p n more rest cut le n (omega (arith, opens.1)) (omega arith) r.1 in
       let behind : SignChars more = subst (λ (v : List ℕ). SignChars (literals v ++ more)) (slice_nil src n) later in
-      text_front false (slice src k i) (signs_of main (encode_utf8 c) ++ more) (stretch k i from on (omega (arith, opens.1)) front (cut_at src i 38 amp (omega arith) (omega arith)))
+      text_front false (slice src k i) (data_bytes_of main (encode_utf8 c) ++ more) (stretch k i from on (omega (arith, opens.1)) front (cut_at src i 38 amp (omega arith) (omega arith)))
       (text_front main (encode_utf8 c) more (char_text c r.0.0 r.0.1) behind)
 
   -- from where a character begins
-  part_chars : (main : Bool) (p i : ℕ) (ss : List Sign) → Part main src p i ss → IsCharBoundary src p → p ≤ stop → start ≤ i → IsCharBoundary src i → SignChars ss
+  part_chars : (main : Bool) (p i : ℕ) (ss : List DataByte) → Part main src p i ss → IsCharBoundary src p → p ≤ stop → start ≤ i → IsCharBoundary src i → SignChars ss
   part_chars main p i ss part cut le from front =
       subst (λ (v : List ℕ). SignChars (literals v ++ ss)) (slice_nil src i) (part_signs main p i ss part cut le i from (omega arith) front)
 
   -- a value, with what stands in front of it
-  value_front : (main : Bool) (O : Opener) → OpensChars O → (i b c : ℕ) (v : List ℕ) → Value main O src stop i b c v → (k : ℕ) → start ≤ k → k ≤ i → IsCharBoundary src k → IsCharText (slice src k i ++ v)
+  value_front : (main : Bool) (O : Inclusion) → OpensChars O → (i b c : ℕ) (v : List ℕ) → Value main O src stop i b c v → (k : ℕ) → start ≤ k → k ≤ i → IsCharBoundary src k → IsCharText (slice src k i ++ v)
   value_front main O oc i b c v (value_ends _) k from on front = subst (λ (w : List ℕ). IsCharText w) (sym (append-nil (slice src k stop))) (stretch k stop from on (omega arith) front last)
   value_front main O oc i b c v (line_end _ _ _ _ more cr lf rest) k from on front =
       let next = cut_behind src i 13 (i + 1) utf8 cr (omega arith) (omega arith) refl in
@@ -228,12 +228,12 @@ module _ (src : List ℕ) (utf8 : IsUtf8 src) (start stop : ℕ) (first : IsChar
       (texts_joined u w (oc.value _ b u c opened) (subst (λ (v : List ℕ). IsCharText (v ++ w)) (slice_nil src m) later))
 
   -- from where a character begins
-  pub value_chars : (main : Bool) (O : Opener) → OpensChars O → (b c : ℕ) (v : List ℕ) → Value main O src stop start b c v → IsCharText v
+  pub value_chars : (main : Bool) (O : Inclusion) → OpensChars O → (b c : ℕ) (v : List ℕ) → Value main O src stop start b c v → IsCharText v
   value_chars main O oc b c v is =
       subst (λ (w : List ℕ). IsCharText (w ++ v)) (slice_nil src start) (value_front main O oc start b c v is start (omega arith) (omega arith) first)
 
   -- parts end where the run does, or before
-  parts_within : (main : Bool) (O : Opener) (from i b c : ℕ) (items : Forest Item) → Parts main O src from stop i b c items → i ≤ stop
+  parts_within : (main : Bool) (O : Inclusion) (from i b c : ℕ) (items : Forest Item) → Parts main O src from stop i b c items → i ≤ stop
   parts_within main O from i b c items (last_part _ _ ss part) = let h = part_bytes main src stop i ss part in omega (arith, h)
   parts_within main O from i b d items (then_entity _ p n j _ c _ ss front more part reference name opened rest) =
       let h = part_bytes main src p i ss part in
@@ -242,7 +242,7 @@ module _ (src : List ℕ) (utf8 : IsUtf8 src) (start stop : ℕ) (first : IsChar
       omega (arith, h, k, l)
 
   -- the parts of a run
-  pub parts_items : (main : Bool) (O : Opener) → OpensChars O → (from i b c : ℕ) (items : Forest Item) → Parts main O src from stop i b c items → start ≤ i → IsCharBoundary src i → ItemsChars items
+  pub parts_items : (main : Bool) (O : Inclusion) → OpensChars O → (from i b c : ℕ) (items : Forest Item) → Parts main O src from stop i b c items → start ≤ i → IsCharBoundary src i → ItemsChars items
   parts_items main O oc from i b c items (last_part _ _ ss part) on cut = piece_items from stop _ ss (part_chars main stop i ss part last (omega arith) on cut)
   parts_items main O oc from i b d items (then_entity _ p n j _ c _ ss front more part reference name opened rest) on cut =
       let h = part_bytes main src p i ss part in

@@ -5,40 +5,40 @@ use Rattle.std.specs.Str.{IsUtf8}
 use Rattle.std.proofs.lemmas.Bool.{eqb-true, eq-eqb, ltb-false, le-ltb}
 use Rattle.rox_grammar.specs.Forest.{Forest, join}
 use Rattle.rox_grammar.specs.Written.{Item}
-use Rattle.rox_grammar.specs.Content.{Opener}
-use Rattle.rox_grammar.specs.Entities.{Replacement, Entity, text_of, Opens}
+use Rattle.rox_grammar.specs.Content.{Inclusion}
+use Rattle.rox_grammar.specs.Entities.{Replacement, Entity, text_of, Includes}
 use Rattle.rox_reading.specs.Refusals.{elsewhere}
 use Rattle.rox_grammar.specs.State.{Open}
 use Rattle.rox_reading.specs.State.{State, depth_of}
-use Rattle.rox_reading.specs.Machine.{How, step, text_ends, drive_text, budget, left_behind, values_of, opener}
+use Rattle.rox_reading.specs.Machine.{Context, step, text_ends, drive_text, budget, left_behind, values_of, opener}
 use Rattle.rox_theory.specs.Openers.{AreTexts, AgreesValue}
 use Rattle.rox_theory.proofs.Basics.{ok_same, bind_ok, bind_lifted, elsewhere_ok, chosen}
-use Rattle.rox_theory.proofs.Standing.{IsFine}
+use Rattle.rox_theory.proofs.Standing.{IsValidState}
 use Rattle.rox_theory.proofs.Leaves.{state, fine_there}
 use Rattle.rox_theory.proofs.RunLemmas.{AgreesContent}
-use Rattle.rox_theory.proofs.Flat.{Takes, Chain, arrives, goes, text_sound, text_complete}
+use Rattle.rox_theory.proofs.Flat.{StepsOver, Chain, arrives, goes, text_sound, text_complete}
 use Rattle.rox_theory.proofs.Openers.{budget_sound, budget_complete, values_agree}
 
 -- a step is one construct of the grammar
-pub record StepsAgree (how : How) (O : Opener) (src : List ℕ) : Type 0 where
-  pub sound : (most : ℕ) (s t : State) → how.limit ≤ most → s.at < length src → IsFine most s → step how src s ≡ Ok t → Takes how.values.main O src how.base s t × IsFine most t
-  pub complete : (s t : State) → Takes how.values.main O src how.base s t → IsFine how.limit t → step how src s ≡ Ok t
-  pub back : (s t : State) → Takes how.values.main O src how.base s t → IsFine how.limit t → IsFine how.limit s
+pub record StepsAgree (how : Context) (O : Inclusion) (src : List ℕ) : Type 0 where
+  pub sound : (most : ℕ) (s t : State) → how.limit ≤ most → s.at < length src → IsValidState most s → step how src s ≡ Ok t → StepsOver how.values.main O src how.base s t × IsValidState most t
+  pub complete : (s t : State) → StepsOver how.values.main O src how.base s t → IsValidState how.limit t → step how src s ≡ Ok t
+  pub back : (s t : State) → StepsOver how.values.main O src how.base s t → IsValidState how.limit t → IsValidState how.limit s
   -- it begins in the source, moves forward, and ends in the source
-  pub moves : (s t : State) → Takes how.values.main O src how.base s t → (s.at < length src) × (s.at < t.at) × (t.at ≤ length src)
+  pub moves : (s t : State) → StepsOver how.values.main O src how.base s t → (s.at < length src) × (s.at < t.at) × (t.at ≤ length src)
 
-module _ (how : How) (O : Opener) (src : List ℕ) (steps : StepsAgree how O src) where
+module _ (how : Context) (O : Inclusion) (src : List ℕ) (steps : StepsAgree how O src) where
   abbrev Chained : State → State → Type 0
   Chained s u = Chain how.values.main O src how.base s u
 
   -- a text ends
-  ends_sound : (most : ℕ) (s u : State) → s.at ≡ length src → IsFine most s → text_ends how s ≡ Ok u → Chained s u × IsFine most u
+  ends_sound : (most : ℕ) (s u : State) → s.at ≡ length src → IsValidState most s → text_ends how s ≡ Ok u → Chained s u × IsValidState most u
   ends_sound most s u at fine h = chosen (eqb (depth_of s.stack) how.base) _ _ _ h
-      (λ same h. subst (λ (v : State). Chained s v × IsFine most v) (ok_same _ _ h) (arrives s at (eqb-true _ _ same), fine))
+      (λ same h. subst (λ (v : State). Chained s v × IsValidState most v) (ok_same _ _ h) (arrives s at (eqb-true _ _ same), fine))
       (λ apart h. cc)
 
   -- what is read is a chain
-  pub drive_text_sound : (n most : ℕ) (s u : State) → how.limit ≤ most → s.at ≤ length src → length src ≤ s.at + n → IsFine most s → drive_text how n src s ≡ Ok u → Chained s u × IsFine most u
+  pub drive_text_sound : (n most : ℕ) (s u : State) → how.limit ≤ most → s.at ≤ length src → length src ≤ s.at + n → IsValidState most s → drive_text how n src s ≡ Ok u → Chained s u × IsValidState most u
   unfolding drive_text
   drive_text_sound zero most s u limits to enough fine h = ends_sound most s u (omega arith) fine h
   drive_text_sound (suc n) most s u limits to enough fine h = chosen (nat_lt s.at (length src)) _ _ _ h
@@ -50,12 +50,12 @@ module _ (how : How) (O : Opener) (src : List ℕ) (steps : StepsAgree how O src
       (λ past h. ends_sound most s u (omega (arith, ltb-false _ _ past)) fine h)
 
   -- what the limits allow at the end they allow all along
-  chain_back : (s u : State) → Chained s u → IsFine how.limit u → IsFine how.limit s
+  chain_back : (s u : State) → Chained s u → IsValidState how.limit u → IsValidState how.limit s
   chain_back s u (arrives _ at same) fine = fine
   chain_back s u (goes _ t _ takes rest) fine = steps.back s t takes (chain_back t u rest fine)
 
   -- a chain is read
-  pub drive_text_complete : (n : ℕ) (s u : State) → Chained s u → IsFine how.limit u → length src ≤ s.at + n → drive_text how n src s ≡ Ok u
+  pub drive_text_complete : (n : ℕ) (s u : State) → Chained s u → IsValidState how.limit u → length src ≤ s.at + n → drive_text how n src s ≡ Ok u
   unfolding drive_text
   drive_text_complete zero s u (arrives _ at same) fine enough = rw (eq-eqb _ _ same) refl
   drive_text_complete (suc n) s u (arrives _ at same) fine enough = let past = le-ltb s.at (length src) (omega arith) in rw (past, eq-eqb _ _ same) refl
@@ -68,19 +68,19 @@ module _ (how : How) (O : Opener) (src : List ℕ) (steps : StepsAgree how O src
       rw (below, one) (drive_text_complete n t u rest fine (omega (arith, m.1)))
 
 -- how a replacement text is read
-abbrev pub within : ℕ → List Entity → ℕ → ℕ → How
+abbrev pub within : ℕ → List Entity → ℕ → ℕ → Context
 within limit es d base = record { limit = limit; values = values_of es d false; base = base; opener = opener limit es d false }
 
-contents_none : (limit : ℕ) (es : List Entity) (main : Bool) → AgreesContent es limit (Opens es zero main) (opener limit es zero main)
+contents_none : (limit : ℕ) (es : List Entity) (main : Bool) → AgreesContent es limit (Includes es zero main) (opener limit es zero main)
 unfolding opener
 contents_none limit es main = record {
   sound = λ most name t after s u limits found fine h. cc h;
   complete = λ name after c items s h fine. absurd h;
 }
 
-module _ (limit : ℕ) (es : List Entity) (texts : AreTexts es) (d : ℕ) (steps : (base : ℕ) (src : List ℕ) → IsUtf8 src → StepsAgree (within limit es d base) (Opens es d false) src) (main : Bool) where
-  content_sound : (most : ℕ) (name : List ℕ) (t : Replacement) (after : ℕ) (s u : State) → limit ≤ most → text_of es name ≡ Some t → IsFine most s → opener limit es (suc d) main t after s ≡ Ok u
-      → (items : Forest Item) × (c : ℕ) × (Opens es (suc d) main).content name s.left items c × (u ≡ state after (join s.done items) s.stack c) × IsFine most u
+module _ (limit : ℕ) (es : List Entity) (texts : AreTexts es) (d : ℕ) (steps : (base : ℕ) (src : List ℕ) → IsUtf8 src → StepsAgree (within limit es d base) (Includes es d false) src) (main : Bool) where
+  content_sound : (most : ℕ) (name : List ℕ) (t : Replacement) (after : ℕ) (s u : State) → limit ≤ most → text_of es name ≡ Some t → IsValidState most s → opener limit es (suc d) main t after s ≡ Ok u
+      → (items : Forest Item) × (c : ℕ) × (Includes es (suc d) main).content name s.left items c × (u ≡ state after (join s.done items) s.stack c) × IsValidState most u
   unfolding opener
   content_sound most name t after s u limits found fine h =
       let text = texts name t found in
@@ -89,12 +89,12 @@ module _ (limit : ℕ) (es : List Entity) (texts : AreTexts es) (d : ℕ) (steps
       bind_lifted (budget main after s.left) _ _ h (λ r spent h.
       bind_ok (elsewhere src (drive_text how (length src) src (state t.start s.done s.stack r))) _ _ h (λ v read h.
       let read' = elsewhere_ok src (drive_text how (length src) src (state t.start s.done s.stack r)) v read in
-      let chain = drive_text_sound how (Opens es d false) src (steps (depth_of s.stack) src text.0) (length src) most (state t.start s.done s.stack r) v limits text.1.0 (omega arith) (fine_there most s (state t.start s.done s.stack r) refl refl fine) read' in
-      let whole = text_sound (Opens es d false) src t.start r s.done s.stack v chain.0 in
+      let chain = drive_text_sound how (Includes es d false) src (steps (depth_of s.stack) src text.0) (length src) most (state t.start s.done s.stack r) v limits text.1.0 (omega arith) (fine_there most s (state t.start s.done s.stack r) refl refl fine) read' in
+      let whole = text_sound (Includes es d false) src t.start r s.done s.stack v chain.0 in
       let done = ap (λ (s : State). s.done) whole.2 in
       let stack = ap (λ (s : State). s.stack) whole.2 in
       let u_is : state after v.done v.stack (left_behind main s.left v.left) ≡ u = ok_same _ _ h in
-      let fine' : IsFine most u = subst (IsFine most) u_is (fine_there most v (state after v.done v.stack (left_behind main s.left v.left)) refl refl chain.1) in (
+      let fine' : IsValidState most u = subst (IsValidState most) u_is (fine_there most v (state after v.done v.stack (left_behind main s.left v.left)) refl refl chain.1) in (
         whole.0,
         left_behind main s.left v.left,
         (t, r, v.left, found, budget_sound main after s.left r v.left spent, whole.1),
@@ -102,7 +102,7 @@ module _ (limit : ℕ) (es : List Entity) (texts : AreTexts es) (d : ℕ) (steps
         fine',
       )))
 
-  content_complete : (name : List ℕ) (after c : ℕ) (items : Forest Item) (s : State) → (Opens es (suc d) main).content name s.left items c → IsFine limit (state after (join s.done items) s.stack c)
+  content_complete : (name : List ℕ) (after c : ℕ) (items : Forest Item) (s : State) → (Includes es (suc d) main).content name s.left items c → IsValidState limit (state after (join s.done items) s.stack c)
       → (t : Replacement) × (text_of es name ≡ Some t) × (opener limit es (suc d) main t after s ≡ Ok (state after (join s.done items) s.stack c))
   unfolding opener
   content_complete name after c items s (t, r, l, found, spends, content) fine =
@@ -111,20 +111,20 @@ module _ (limit : ℕ) (es : List Entity) (texts : AreTexts es) (d : ℕ) (steps
       let how = within limit es d (depth_of s.stack) in
       let spent = budget_complete main after s.left r l c spends in
       let last = state (length src) (join s.done items) s.stack l in
-      let chain = text_complete (Opens es d false) src t.start r l s.done items s.stack content in
+      let chain = text_complete (Includes es d false) src t.start r l s.done items s.stack content in
       let fine' = fine_there limit (state after (join s.done items) s.stack c) last refl refl fine in
-      let read = drive_text_complete how (Opens es d false) src (steps (depth_of s.stack) src text.0) (length src) (state t.start s.done s.stack r) last chain fine' (omega arith) in
+      let read = drive_text_complete how (Includes es d false) src (steps (depth_of s.stack) src text.0) (length src) (state t.start s.done s.stack r) last chain fine' (omega arith) in
       let left = spent.1 in
       (t, found, rw (spent.0, read, left) refl)
 
-  contents_one_more : AgreesContent es limit (Opens es (suc d) main) (opener limit es (suc d) main)
+  contents_one_more : AgreesContent es limit (Includes es (suc d) main) (opener limit es (suc d) main)
   contents_one_more = record { sound = content_sound; complete = content_complete }
 
 -- a reference in content
 pub contents_agree : (limit : ℕ) (es : List Entity) → AreTexts es
-    → ((d base : ℕ) (src : List ℕ) → IsUtf8 src → AgreesContent es limit (Opens es d false) (opener limit es d false) → AgreesValue es (Opens es d false) (values_of es d false).opener
-    → StepsAgree (within limit es d base) (Opens es d false) src)
-    → (d : ℕ) (main : Bool) → AgreesContent es limit (Opens es d main) (opener limit es d main)
+    → ((d base : ℕ) (src : List ℕ) → IsUtf8 src → AgreesContent es limit (Includes es d false) (opener limit es d false) → AgreesValue es (Includes es d false) (values_of es d false).opener
+    → StepsAgree (within limit es d base) (Includes es d false) src)
+    → (d : ℕ) (main : Bool) → AgreesContent es limit (Includes es d main) (opener limit es d main)
 contents_agree limit es texts steps zero main = contents_none limit es main
 contents_agree limit es texts steps (suc d) main =
     contents_one_more limit es texts d (λ base src utf8. steps d base src utf8 (contents_agree limit es texts steps d false) (values_agree es texts d false)) main

@@ -6,10 +6,10 @@ use Rattle.rox_grammar.specs.declared.fault.Fault.TheVariants as fault
 use Rattle.rox_grammar.specs.Forest.{Forest}
 use Rattle.rox_grammar.specs.Written.{Item}
 use Rattle.rox_grammar.specs.Content.{Content}
-use Rattle.rox_grammar.specs.Entities.{Replacement, Entity, text_of, opens_main, most_open}
+use Rattle.rox_grammar.specs.Entities.{Replacement, Entity, text_of, included_in_main, most_deep}
 use Rattle.rox_grammar.specs.Expansion.{Counts}
 use Rattle.rox_reading.specs.Refusals.{here}
-use Rattle.rox_reading.specs.Values.{ValueOpener, value_text}
+use Rattle.rox_reading.specs.Values.{ValueInclusion, value_text}
 use Rattle.rox_theory.specs.Openers.{AreTexts, AgreesValue}
 use Rattle.rox_theory.proofs.ValueLemmas.{value_text_sound, value_text_chars, value_text_complete}
 use Rattle.rox_theory.proofs.FaultBasics.{ok_one}
@@ -21,7 +21,7 @@ use Rattle.rox_theory.proofs.Following.{few_opened, few_opened_in_value}
 -- ---- in a value
 
 -- a replacement text as a part of a value, with the number of those that were opened before it and after it
-unfoldable counter : List Entity → (deep : ℕ) → ValueOpener
+unfoldable counter : List Entity → (deep : ℕ) → ValueInclusion
 counter es zero t after b = Err (here (fault.EntityReferenceLoop after))
 counter es (suc d) t after b = value_text false es (counter es d) (length t.source) t.source (length t.source) t.start (b + 1)
 
@@ -75,14 +75,14 @@ content_counted_once es texts (suc d) name b c e items more (t, found, content) 
 
 -- ---- every count
 
-pub most_opened : (es : List Entity) (name : List ℕ) (b c n : ℕ) (items : Forest Item) → AreTexts es → (opens_main es).content name b items c → (Counts es most_open).content name 0 items n → n ≤ 256
+pub most_opened : (es : List Entity) (name : List ℕ) (b c n : ℕ) (items : Forest Item) → AreTexts es → (included_in_main es).content name b items c → (Counts es most_deep).content name 0 items n → n ≤ 256
 most_opened es name b c n items texts opened counted =
     let few = few_opened es name b c items opened in
-    let one = content_counted_once es texts most_open name 0 few.0 n items items few.1 counted in
+    let one = content_counted_once es texts most_deep name 0 few.0 n items items few.1 counted in
     omega (arith, few.2, one.1)
 
-pub most_opened_in_value : (es : List Entity) (name : List ℕ) (b c n : ℕ) (v : List ℕ) → AreTexts es → (opens_main es).value name b v c → (Counts es most_open).value name 0 v n → n ≤ 256
+pub most_opened_in_value : (es : List Entity) (name : List ℕ) (b c n : ℕ) (v : List ℕ) → AreTexts es → (included_in_main es).value name b v c → (Counts es most_deep).value name 0 v n → n ≤ 256
 most_opened_in_value es name b c n v texts opened counted =
     let few = few_opened_in_value es name b c v opened in
-    let one = value_counted_once es texts most_open name 0 few.0 n v v few.1 counted in
+    let one = value_counted_once es texts most_deep name 0 few.0 n v v few.1 counted in
     omega (arith, few.2, one.1)

@@ -3,16 +3,16 @@ use Rattle.std.proofs.Common.{◌≡◌, ℕ, Bool, true, false, List, refl, sym
 use Rattle.rox_grammar.specs.Forest.{Forest, Nil, Cons, join}
 use Rattle.rox_grammar.specs.Written.{Tag, Item, Element, merge, leaf}
 use Rattle.rox_grammar.specs.Constructs.{IsEnd}
-use Rattle.rox_grammar.specs.Content.{Opener, IsTag, IsElement, empty, nest, Content, ends, run, cdata, misc, node}
+use Rattle.rox_grammar.specs.Content.{Inclusion, IsTag, IsElement, empty, nest, Content, ends, run, cdata, misc, node}
 use Rattle.rox_grammar.specs.State.{Open, root, inside, is_root}
 use Rattle.rox_reading.specs.State.{State}
 use Rattle.rox_reading.proofs.Forests.{join-nil, join_assoc}
-use Rattle.rox_theory.specs.Fine.{state}
-use Rattle.rox_theory.proofs.Flat.{Takes, takes_run, takes_cdata, takes_misc, takes_empty, takes_start, takes_end}
+use Rattle.rox_theory.specs.ValidState.{state}
+use Rattle.rox_theory.proofs.Flat.{StepsOver, takes_run, takes_cdata, takes_misc, takes_empty, takes_start, takes_end}
 use Rattle.rox_theory.proofs.Steps.{after}
 use Rattle.rox_theory.proofs.Chains.{Drives, arrives, goes}
 
-module _ (O : Opener) (src : List ℕ) where
+module _ (O : Inclusion) (src : List ℕ) where
   -- how the text has to go on from a state for the root element to end in the last one
   abbrev Completes : ℕ → ℕ → Forest Item → Open → State → Type 0
   Completes i b done root u = u ≡ state i done root b
@@ -29,7 +29,7 @@ module _ (O : Opener) (src : List ℕ) where
       (join items more, m, p, e, r, front m r more is, end, rw join_assoc at rest)
 
   -- one construct in front
-  takes_completes : (s t u : State) → Takes true O src 0 s t → is_root s.stack ≡ false → Completes t.at t.left t.done t.stack u → Completes s.at s.left s.done s.stack u
+  takes_completes : (s t u : State) → StepsOver true O src 0 s t → is_root s.stack ≡ false → Completes t.at t.left t.done t.stack u → Completes s.at s.left s.done s.stack u
   takes_completes s t u (takes_run i j b c items done stack is parts) inner h =
       extends i j b c done items stack u inner (λ l d more content. run i j l b c d items more is parts content) h
   takes_completes s t u (takes_cdata i e j b done stack is) inner h =

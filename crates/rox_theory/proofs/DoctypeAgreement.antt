@@ -11,22 +11,22 @@ use Rattle.rox_grammar.specs.Forest.{Forest, Nil, join}
 use Rattle.rox_grammar.specs.Written.{Item}
 use Rattle.rox_grammar.specs.Names.{byte, slice, spaces_end}
 use Rattle.rox_grammar.specs.Constructs.{at}
-use Rattle.rox_grammar.specs.Start.{after_bom}
+use Rattle.rox_grammar.specs.TextStart.{after_bom}
 use Rattle.rox_grammar.specs.Entities.{Replacement, Entity}
-use Rattle.rox_grammar.specs.Doctype.{Asked, IsQuoted, Gives, nothing, the_rest, IsDefinition, internal, external, entry, IsEntityDeclaration, Subset, no_more, space, an_item, passed_over, an_entity, BeginsDoctype, IsDoctype, no_subset, with_subset}
+use Rattle.rox_grammar.specs.Doctype.{Asked, IsQuoted, GivesReplacement, nothing, the_rest, IsDefinition, internal, external, entry, IsEntityDeclaration, Subset, no_more, space, an_item, skipped_declaration, an_entity, BeginsDoctype, IsDoctype, no_subset, with_subset}
 use Rattle.rox_grammar.specs.Document.{MayHaveDoctype, doctype, no_doctype, Permits}
 use Rattle.rox_grammar.specs.State.{Open, root}
 use Rattle.rox_reading.specs.Refusals.{Refusal, here, there, refused, lifted}
 use Rattle.rox_reading.specs.State.{State}
 use Rattle.rox_reading.specs.Machine.{at_place}
 use Rattle.rox_reading.specs.Doctype.{Reply, Asks, Dtd, replies_of, AreTextReplies, with_state, doctype_head_at, doctype_step}
-use Rattle.rox_reading.specs.Whole.{misc}
-use Rattle.rox_reading.specs.Whole as whole
+use Rattle.rox_reading.specs.WholeText.{misc}
+use Rattle.rox_reading.specs.WholeText as whole
 use Rattle.rox_reading.specs.Answering.{Answered}
 use Rattle.rox_reading.proofs.Settling.{step_run, doctype_plain, doctype_subset, no_doctype_here, doctype_read}
 use Rattle.rox_reading.proofs.Forests.{join-nil, join_assoc}
 use Rattle.rox_theory.specs.Openers.{AreTexts}
-use Rattle.rox_theory.specs.Fine.{IsFine, state}
+use Rattle.rox_theory.specs.ValidState.{IsValidState, state}
 use Rattle.rox_theory.proofs.Basics.{ok_same, chosen, within, run_end_le}
 use Rattle.rox_theory.proofs.Asking.{asking_ok, asks_none, nothing_lifted_ok}
 use Rattle.rox_theory.proofs.Constructions.{comment_bytes, instruction_bytes}
@@ -73,14 +73,14 @@ module _ (src : List ℕ) (utf8 : IsUtf8 src) where
       let same : byte (take e src) i ≡ byte src i = get_or-take e src i 0 (omega (arith, le.0)) in
       (front, IsCharBoundary-after_ascii (take e src) i front (omega (arith, le.0)) (omega arith))
 
-  given_text : (name : List ℕ) (answer : Option (List ℕ)) (text : Option Replacement) → Gives answer text → EachIsText (entry name text)
+  given_text : (name : List ℕ) (answer : Option (List ℕ)) (text : Option Replacement) → GivesReplacement answer text → EachIsText (entry name text)
   given_text name answer text nothing = tt
   given_text name answer text (the_rest t d is may) =
       let rest = IsUtf8-drop t d is (prolog_cut t is (after_bom t) d (bom_cut t is) may) in
       ((rest, IsCharBoundary-start _ rest), tt)
 
   declared_text : (i j : ℕ) (asked : List Asked) (es : List Entity) → IsEntityDeclaration src i j asked es → EachIsText es
-  declared_text i j asked es b = let declares = b.declares in rw declares (by_definition b.text asked b.definition)
+  declared_text i j asked es b = let is_namespace_decl = b.is_namespace_decl in rw is_namespace_decl (by_definition b.text asked b.definition)
     where
       by_definition : (text : Option Replacement) (asked : List Asked) → IsDefinition src b.parameter b.d b.e asked text → EachIsText (entry (slice src b.n b.m) text)
       by_definition text asked (internal _ e _ q) = (quoted_text b.d e b.e q, tt)
@@ -90,7 +90,7 @@ module _ (src : List ℕ) (utf8 : IsUtf8 src) where
   subset_texts i k items asked es (no_more _) = tt
   subset_texts i k items asked es (space _ _ _ _ _ is rest) = subset_texts (i + 1) k items asked es rest
   subset_texts i k items asked es (an_item _ j _ item more _ _ is rest) = subset_texts j k more asked es rest
-  subset_texts i k items asked es (passed_over _ j _ _ _ _ is rest) = subset_texts j k items asked es rest
+  subset_texts i k items asked es (skipped_declaration _ j _ _ _ _ is rest) = subset_texts j k items asked es rest
   subset_texts i k items asked es (an_entity _ j _ _ first more one others is rest) = each_both one others (declared_text i j first one is) (subset_texts j k items more others rest)
 
   doctype_texts : (i j : ℕ) (items : Forest Item) (asked : List Asked) (es : List Entity) → IsDoctype src i j items asked es → EachIsText es
@@ -133,7 +133,7 @@ pub record StepRead (most : ℕ) (src : List ℕ) (d : Dtd) (asked : List Asked)
   pub found : (IsDoctype src d.state.at e.state.at items asked es × IsCharBoundary src e.state.at) ⊎ (length src ≤ e.state.at)
   pub state_is : e.state ≡ state e.state.at (join d.state.done items) d.state.stack d.state.left
   pub entities_are : e.entities ≡ d.entities ++ es
-  pub fine : IsFine most e.state
+  pub fine : IsValidState most e.state
 
 abbrev pub StepOutcome : ℕ → List ℕ → Dtd → Asks Dtd → Type 0
 StepOutcome most src d (asked, Ok e) = HasWithin src d.state.at asked × StepRead most src d asked e
@@ -164,7 +164,7 @@ module _ (src : List ℕ) (utf8 : IsUtf8 src) where
       let o : Opened src d.state.at = record { s = s; begins = rw here_is begins; bracket = bracket } in
       (inr (o, h.0), refused_opened src d.state.at o asked e h.1)
 
-  pub step_outcome : (limit most : ℕ) (d : Dtd) → limit ≤ most → at word.DoctypeStart src d.state.at ≡ true → IsFine most d.state → AreTextReplies d.replies → StepOutcome most src d (doctype_step limit src d)
+  pub step_outcome : (limit most : ℕ) (d : Dtd) → limit ≤ most → at word.DoctypeStart src d.state.at ≡ true → IsValidState most d.state → AreTextReplies d.replies → StepOutcome most src d (doctype_step limit src d)
   unfolding doctype_step
   step_outcome limit most d limits opens fine texts =
       let S : Asks Dtd → Type 0 = StepOutcome most src d in
@@ -198,7 +198,7 @@ module _ (src : List ℕ) (utf8 : IsUtf8 src) where
 -- ---- what stands there is read
 
 module _ (src : List ℕ) (utf8 : IsUtf8 src) where
-  step_complete : (limit i j : ℕ) (items done : Forest Item) (stack : Open) (left : ℕ) (asked : List Asked) (more es : List Entity) → IsDoctype src i j items asked more → IsFine limit (state j (join done items) stack left)
+  step_complete : (limit i j : ℕ) (items done : Forest Item) (stack : Open) (left : ℕ) (asked : List Asked) (more es : List Entity) → IsDoctype src i j items asked more → IsValidState limit (state j (join done items) stack left)
       → Answered (step_run limit src (here_at i done stack left es)) asked (here_at j (join done items) stack left (es ++ more))
   step_complete limit i j items done stack left asked more es (no_subset _ s begins closes) fine =
       rw (join-nil, append-nil) (doctype_plain limit src (here_at i done stack left es) tt s (doctype_head_complete src i s utf8 begins) (within src s (λ z. omega arith)) closes)
@@ -223,14 +223,14 @@ module _ (src : List ℕ) (utf8 : IsUtf8 src) where
     -- what is read of it from these items on
     abbrev DoctypeRead : ℕ → ℕ → Forest Item → List Asked → Dtd → Type 0
     DoctypeRead most i before asked d =
-        (dtd : Bool) × (nodes : Forest Item) × MayHaveDoctype src i d.state.at dtd nodes asked d.entities × Permits allow dtd × (d.state ≡ state d.state.at (join before nodes) root 255) × IsFine most d.state
+        (dtd : Bool) × (nodes : Forest Item) × MayHaveDoctype src i d.state.at dtd nodes asked d.entities × Permits allow dtd × (d.state ≡ state d.state.at (join before nodes) root 255) × IsValidState most d.state
 
     -- it, and what follows it
     behind_sound : (limit most i : ℕ) (before : Forest Item) (asked : List Asked) (e : Dtd) (s : State) (items : Forest Item) → limit ≤ most → allow ≡ true → IsDoctype src i e.state.at items asked e.entities
-        → IsCharBoundary src e.state.at → e.state ≡ state e.state.at (join before items) root 255 → IsFine most e.state → misc limit (length src) src e.state ≡ Ok s → DoctypeRead most i before asked (with_state e s)
+        → IsCharBoundary src e.state.at → e.state ≡ state e.state.at (join before items) root 255 → IsValidState most e.state → misc limit (length src) src e.state ≡ Ok s → DoctypeRead most i before asked (with_state e s)
     behind_sound limit most i before asked e s items limits may is cut state_is fine read =
         let read' : misc limit (length src) src (state e.state.at (join before items) root 255) ≡ Ok s = subst (λ (t : State). misc limit (length src) src t ≡ Ok s) state_is read in
-        let m = misc_sound src utf8 (length src) limit most 255 e.state.at (join before items) s limits cut (subst (IsFine most) state_is fine) read' in (
+        let m = misc_sound src utf8 (length src) limit most 255 e.state.at (join before items) s limits cut (subst (IsValidState most) state_is fine) read' in (
           true,
           join items m.0,
           doctype i e.state.at s.at items m.0 asked e.entities is m.1,
@@ -239,7 +239,7 @@ module _ (src : List ℕ) (utf8 : IsUtf8 src) where
           m.3,
         )
 
-    pub doctype_sound : (limit most i : ℕ) (before : Forest Item) (replies : List Reply) (asked : List Asked) (d : Dtd) → limit ≤ most → AreTextReplies replies → IsFine most (state i before root 255)
+    pub doctype_sound : (limit most i : ℕ) (before : Forest Item) (replies : List Reply) (asked : List Asked) (d : Dtd) → limit ≤ most → AreTextReplies replies → IsValidState most (state i before root 255)
         → whole.doctype limit allow src (record { state = state i before root 255; entities = []; replies = replies }) ≡ (asked, Ok d) → d.state.at < length src → DoctypeRead most i before asked d
     unfolding whole.doctype
     doctype_sound limit most i before replies asked d limits texts fine h inside =
@@ -265,11 +265,11 @@ module _ (src : List ℕ) (utf8 : IsUtf8 src) where
 
     -- and what stands there is read
     pub doctype_complete : (limit i j : ℕ) (dtd : Bool) (before nodes : Forest Item) (asked : List Asked) (es : List Entity) (more : List Reply) → MayHaveDoctype src i j dtd nodes asked es → Stops src j
-        → at word.DoctypeStart src j ≡ false → Permits allow dtd → IsFine limit (state j (join before nodes) root 255)
+        → at word.DoctypeStart src j ≡ false → Permits allow dtd → IsValidState limit (state j (join before nodes) root 255)
         → whole.doctype limit allow src (record { state = state i before root 255; entities = []; replies = replies_of asked ++ more })
         ≡ (asked, Ok (record { state = state j (join before nodes) root 255; entities = es; replies = more }))
     doctype_complete limit i j dtd before nodes asked es more (doctype _ k _ items others _ _ is rest) stops none permits fine =
-        let all : IsFine limit (state j (join (join before items) others) root 255) = subst (λ (f : Forest Item). IsFine limit (state j f root 255)) (sym (join_assoc before items others)) fine in
+        let all : IsValidState limit (state j (join (join before items) others) root 255) = subst (λ (f : Forest Item). IsValidState limit (state j f root 255)) (sym (join_assoc before items others)) fine in
         let step = step_complete limit i k items before root 255 asked es [] is (fine_before limit k j 255 255 (join before items) others root all) in
         let behind = misc_complete src utf8 (length src) limit 255 k j others (join before items) rest stops (omega (arith, all.nodes)) (omega arith) in
         let read = doctype_read limit allow src (here_at i before root 255 []) (doctype_opens src i k items asked es is) (permits refl) asked (here_at k (join before items) root 255 es) (state j (join (join before items) others) root 255) step behind in

@@ -8,12 +8,12 @@ use Rattle.rox_grammar.specs.declared.fault.Word.TheVariants as word
 use Rattle.rox_grammar.specs.Chars.{is_space, is_name_char}
 use Rattle.rox_grammar.specs.Names.{byte, slice, spaces_end}
 use Rattle.rox_grammar.specs.Constructs.{at}
-use Rattle.rox_grammar.specs.Start.{after_bom, MayDeclare, declared, not_declared}
+use Rattle.rox_grammar.specs.TextStart.{after_bom, MayHaveXmlDecl, declared, not_declared}
 use Rattle.rox_grammar.specs.Entities.{Replacement, Entity}
-use Rattle.rox_grammar.specs.Doctype.{Request, Asked, IsExternalID, MayHaveNotation, notation, no_notation, of_parameter, CutsNotation, Gives, nothing, the_rest, IsDefinition, internal, external, BeginsEntity, entry, IsEntityDeclaration}
+use Rattle.rox_grammar.specs.Doctype.{Request, Asked, IsExternalID, MayHaveNotation, notation, no_notation, of_parameter, CutsNotation, GivesReplacement, nothing, the_rest, IsDefinition, internal, external, BeginsEntity, entry, IsEntityDeclaration}
 use Rattle.rox_reading.specs.Lexical.{byte_at}
-use Rattle.rox_reading.specs.Markup.{declaration_at}
-use Rattle.rox_reading.specs.Refusals.{Refusal, here, there, refused, SpeaksOfText}
+use Rattle.rox_reading.specs.Markup.{xml_decl_at}
+use Rattle.rox_reading.specs.Refusals.{Refusal, here, there, refused, IsTextRefusal}
 use Rattle.rox_reading.specs.Machine.{at_place}
 use Rattle.rox_reading.specs.Doctype.{Reply, Asks, Dtd, IsTextReply, AreTextReplies, next_reply, other_replies, EntityHead, entity_head_at, Definition, inner, outer, definition_at, answer_text, entity_step}
 use Rattle.rox_reading.specs.Answering.{Answered}
@@ -32,37 +32,37 @@ either (Err e) good bad = bad e refl
 
 -- what is read of a text behind its declaration
 abbrev behind_declaration : List ℕ → Result (Unit {0} × ℕ) Fault
-behind_declaration t = cond (at word.DeclarationStart t (after_bom t)) (declaration_at t (after_bom t)) (Ok (tt, after_bom t))
+behind_declaration t = cond (at word.XmlDeclStart t (after_bom t)) (xml_decl_at t (after_bom t)) (Ok (tt, after_bom t))
 
 -- what is read of an answer that is text is what it gives
-pub answer_sound : (answer : Option (List ℕ)) (text : Option Replacement) → IsTextReply (Ok answer) → answer_text answer ≡ Ok text → Gives answer text
+pub answer_sound : (answer : Option (List ℕ)) (text : Option Replacement) → IsTextReply (Ok answer) → answer_text answer ≡ Ok text → GivesReplacement answer text
 unfolding answer_text
-answer_sound None text utf8 h = subst (Gives None) (ok_same _ _ h) nothing
+answer_sound None text utf8 h = subst (GivesReplacement None) (ok_same _ _ h) nothing
 answer_sound (Some t) text utf8 h =
     either (behind_declaration t)
     (λ x read.
     let e : ◌≡◌ {A = Option Replacement} (Some (record { source = drop x.1 t; start = 0 })) text = ok_same _ _ (rw read at h) in
-    let may : MayDeclare t (after_bom t) x.1 =
-    chosen (at word.DeclarationStart t (after_bom t)) _ _ _ read
+    let may : MayHaveXmlDecl t (after_bom t) x.1 =
+    chosen (at word.XmlDeclStart t (after_bom t)) _ _ _ read
     (λ is read. declared (after_bom t) x.1 (declaration_sound t utf8 (after_bom t) x.1 x.0 is read))
-    (λ none read. subst (MayDeclare t (after_bom t)) (ap (λ p. p.1) (ok_same _ _ read)) (not_declared (after_bom t) none)) in
-    subst (Gives (Some t)) e (the_rest t x.1 utf8 may))
+    (λ none read. subst (MayHaveXmlDecl t (after_bom t)) (ap (λ p. p.1) (ok_same _ _ read)) (not_declared (after_bom t) none)) in
+    subst (GivesReplacement (Some t)) e (the_rest t x.1 utf8 may))
     (λ f ill. cc (rw ill at h))
 
-pub answer_complete : (answer : Option (List ℕ)) (text : Option Replacement) → Gives answer text → answer_text answer ≡ Ok text
+pub answer_complete : (answer : Option (List ℕ)) (text : Option Replacement) → GivesReplacement answer text → answer_text answer ≡ Ok text
 unfolding answer_text
 answer_complete answer text nothing = refl
 answer_complete answer text (the_rest t d utf8 (declared _ _ is)) = let a = is.opens in let r = declaration_complete t utf8 (after_bom t) d is in rw (a, r) refl
 answer_complete answer text (the_rest t d utf8 (not_declared _ none)) = rw none refl
 
 -- its fault is one of the text
-pub answer_fault : (answer : Option (List ℕ)) (e : Refusal) → answer_text answer ≡ Err e → SpeaksOfText e
+pub answer_fault : (answer : Option (List ℕ)) (e : Refusal) → answer_text answer ≡ Err e → IsTextRefusal e
 unfolding answer_text
 answer_fault None e h = cc h
 answer_fault (Some t) e h =
     either (behind_declaration t)
     (λ x read. cc (rw read at h))
-    (λ f ill. let same : ◌≡◌ {A = Result (Option Replacement) Refusal} (Err (there t f)) (Err e) = rw ill at h in let e' : there t f ≡ e = cc in subst SpeaksOfText e' tt)
+    (λ f ill. let same : ◌≡◌ {A = Result (Option Replacement) Refusal} (Err (there t f)) (Err e) = rw ill at h in let e' : there t f ≡ e = cc in subst IsTextRefusal e' tt)
 
 -- ---- what is asked
 
@@ -97,7 +97,7 @@ EntityOutcome src d (asked, Err (there source f)) = OnceAsked src d.state.at ask
 EntityOutcome src d (asked, Err (refused request p message)) = (asked ≡ []) × AsksHere src d.state.at request p
 
 -- a fault of the text
-fault_outcome : (src : List ℕ) (d : Dtd) (asked : List Asked) (e : Refusal) → SpeaksOfText e → OnceAsked src d.state.at asked → EntityOutcome src d (asked, Err e)
+fault_outcome : (src : List ℕ) (d : Dtd) (asked : List Asked) (e : Refusal) → IsTextRefusal e → OnceAsked src d.state.at asked → EntityOutcome src d (asked, Err e)
 fault_outcome src d asked (here f) is h = h
 fault_outcome src d asked (there source f) is h = h
 fault_outcome src d asked (refused request p message) is h = absurd is
@@ -136,7 +136,7 @@ module _ (src : List ℕ) (utf8 : IsUtf8 src) where
               e = p;
               text = text;
               definition = definition;
-              declares = ap (λ (name : List ℕ). entry name text) begun.3;
+              is_namespace_decl = ap (λ (name : List ℕ). entry name text) begun.3;
               closes = closes;
               next = next;
             };
@@ -233,8 +233,8 @@ module _ (src : List ℕ) (utf8 : IsUtf8 src) where
   pub entity_complete : (d : Dtd) (j : ℕ) (asked : List Asked) (es : List Entity) → IsEntityDeclaration src d.state.at j asked es
       → Answered (entity_run src d) asked (record { state = at_place j d.state; entities = d.entities ++ es; replies = d.replies })
   entity_complete d j asked es b =
-      let declares = b.declares in let next = b.next in
-      rw (declares, next) (by_definition b.text asked b.definition)
+      let is_namespace_decl = b.is_namespace_decl in let next = b.next in
+      rw (is_namespace_decl, next) (by_definition b.text asked b.definition)
     where
       head : EntityHead × ℕ
       head = (record { parameter = b.parameter; name = slice src b.n b.m }, b.d)

@@ -6,28 +6,28 @@ use Rattle.std.proofs.lemmas.Str.{IsCharBoundary-before_ascii, IsCharBoundary-en
 use Rattle.std.proofs.lemmas.Bool.{true≢false, cases_Bool, lt-leb, le-leb, eq-eqb, eqb-true, ne_eqb}
 use Rattle.rox_grammar.specs.declared.fault.Fault.{Fault}
 use Rattle.rox_grammar.specs.declared.fault.Word.TheVariants as word
-use Rattle.rox_grammar.specs.Words.{word_text}
-use Rattle.rox_grammar.specs.Marks.{byte_from}
+use Rattle.rox_grammar.specs.FixedTexts.{word_text}
+use Rattle.rox_grammar.specs.Search.{byte_from}
 use Rattle.rox_grammar.specs.Forest.{Forest, Nil, join}
 use Rattle.rox_grammar.specs.Written.{Name, Attribute, Tag, Item, Element}
 use Rattle.rox_grammar.specs.Tree.{listed}
 use Rattle.rox_grammar.specs.Names.{byte, slice, spaces_end, IsQName}
 use Rattle.rox_grammar.specs.Constructs.{at, first, has_mark, AreChars, IsEq, IsLiteral, IsEnd}
-use Rattle.rox_grammar.specs.Content.{Opener, IsMisc, Value}
-use Rattle.rox_grammar.specs.Entities.{Replacement, Entity, text_of, most_open}
+use Rattle.rox_grammar.specs.Content.{Inclusion, IsMisc, Value}
+use Rattle.rox_grammar.specs.Entities.{Replacement, Entity, text_of, most_deep}
 use Rattle.rox_grammar.specs.State as grammar
 use Rattle.rox_grammar.specs.WellNamed.{IsWellNamed}
 use Rattle.rox_grammar.specs.State.{Open, root, inside, is_root, depth_of, scope_of}
-use Rattle.rox_grammar.specs.Due.{Thing, Lacks, no_qname, ends_before, DueInCData}
+use Rattle.rox_grammar.specs.Due.{DueItem, IsMissing, no_qname, ends_before, DueInCData}
 use Rattle.rox_grammar.specs.Due as due
-use Rattle.rox_grammar.specs.Places.{is_main, is_content, TagBegins, of_root, in_content, IsSpent, MayOpen, ValuePart, itself, opened, TagTo}
+use Rattle.rox_grammar.specs.ContentPoints.{is_main, is_content, TagBegins, of_root, in_content, IsSpent, MayOpen, ValuePart, itself, opened, TagTo}
 use Rattle.rox_grammar.specs.Faults.{InMisc, InRun, no_char, end_mark, in_reference, too_many, InValue, less, less_by_reference, InEnd, lacks, other_name, none_open, Stands, in_run, in_section, in_misc, in_tag, in_end, unknown, unclosed, unclosed_in_replacement, too_many_nodes, too_many_pieces}
 use Rattle.rox_grammar.specs.Faults as faults
 use Rattle.rox_reading.specs.State.{State}
 use Rattle.rox_reading.specs.Markup.{EndTag, end_tag_at}
 use Rattle.rox_reading.specs.Machine.{value_opener}
 use Rattle.rox_reading.proofs.Forests.{join_assoc}
-use Rattle.rox_theory.specs.Fine.{AreNamed, IsFine, state}
+use Rattle.rox_theory.specs.ValidState.{AreNamed, IsValidState, state}
 use Rattle.rox_theory.proofs.Basics.{within}
 use Rattle.rox_theory.proofs.CharTexts.{cut_behind}
 use Rattle.rox_theory.proofs.LiteralLemmas.{from_here, quote_ascii}
@@ -85,7 +85,7 @@ ends_inner : (k base : ℕ) (src : List ℕ) (e : State) → is_main k ≡ false
 ends_inner zero base src e main ends = cc main
 ends_inner (suc k) base src e main ends = ends.1
 
-module _ (opens : ℕ → Opener) (es : List Entity) (all : OpensAt opens es) (limit : ℕ) (W : Type 0) where
+module _ (opens : ℕ → Inclusion) (es : List Entity) (all : OpensAt opens es) (limit : ℕ) (W : Type 0) where
   abbrev There : (k base : ℕ) → List ℕ → State → Type 0
   There k base src s = Reached opens es all limit W k base src s
 
@@ -122,7 +122,7 @@ module _ (opens : ℕ → Opener) (es : List Entity) (all : OpensAt opens es) (l
         spent_apart k c x.1 x.4 spent
 
     -- in a CDATA section
-    section_apart : (q : ℕ) (t : Thing) (f : Fault) → DueInCData src s.at q t → Lacks src q t f → ⊥
+    section_apart : (q : ℕ) (t : DueItem) (f : Fault) → DueInCData src s.at q t → IsMissing src q t f → ⊥
     section_apart q t f (due.DueInCData.its_text opens') lack =
         let below : s.at < length src = let two = (cdata_bytes src s.at opens').0 in omega arith in
         let is = (there_by opens es all limit W k base src here r a_cdata below (cdata_kind src s.at opens')).2 in
@@ -169,7 +169,7 @@ module _ (opens : ℕ → Opener) (es : List Entity) (all : OpensAt opens es) (l
         absurd (omega arith)
 
     -- the start tag that stands there
-    tag_there : TagBegins src s.at (is_content k s.stack) → (t : State) × Tagged (is_main k) (opens k) src base here t × (W → IsFine limit t) × AreNamed t.stack t.done
+    tag_there : TagBegins src s.at (is_content k s.stack) → (t : State) × Tagged (is_main k) (opens k) src base here t × (W → IsValidState limit t) × AreNamed t.stack t.done
     tag_there begins =
         let less' = tag_less src s.at (is_content k s.stack) begins in
         let below : s.at < length src = within src s.at (λ z. omega arith) in
@@ -178,7 +178,7 @@ module _ (opens : ℕ → Opener) (es : List Entity) (all : OpensAt opens es) (l
         (there.to, there_by opens es all limit W k base src here r a_tag below kind, there.fine, there.named)
 
     -- what it adds
-    tag_adds : (j c : ℕ) (x : Tag) (empty : Bool) → IsFine limit (after here j x empty c) → Adds here (Element s.at j x)
+    tag_adds : (j c : ℕ) (x : Tag) (empty : Bool) → IsValidState limit (after here j x empty c) → Adds here (Element s.at j x)
     tag_adds j c x true fine =
         let adds = (fine_leaf limit (state_of s c) j (Element s.at j x) fine).1 in
         record { attributes = adds.attributes; pairs = adds.pairs; named = adds.named }
@@ -190,9 +190,9 @@ module _ (opens : ℕ → Opener) (es : List Entity) (all : OpensAt opens es) (l
     tag_named j c x false named = named.1
 
     -- holds no fault
-    read_tag_apart : (t : State) (f : Fault) → Tagged (is_main k) (opens k) src base here t → (W → IsFine limit t) → AreNamed t.stack t.done → faults.InTag (is_main k) (opens k) src s b f → IsOver W f
+    read_tag_apart : (t : State) (f : Fault) → Tagged (is_main k) (opens k) src base here t → (W → IsValidState limit t) → AreNamed t.stack t.done → faults.InTag (is_main k) (opens k) src s b f → IsOver W f
     read_tag_apart t f (j, c, x, empty, is, leads) fine named ill =
-        let adds : W → Adds here (Element s.at j x) = λ w. tag_adds j c x empty (subst (IsFine limit) leads (fine w)) in
+        let adds : W → Adds here (Element s.at j x) = λ w. tag_adds j c x empty (subst (IsValidState limit) leads (fine w)) in
         let well_named = tag_named j c x empty (subst (λ (u : State). AreNamed u.stack u.done) leads named) in
         tag_apart (how_at limit es r.d k base).values (opens k) (all.values r.d k r.deep) src r.utf8 s j b c empty x is well_named W (λ w. (adds w).attributes) (λ w. (adds w).pairs) f ill
 
@@ -233,7 +233,7 @@ module _ (opens : ℕ → Opener) (es : List Entity) (all : OpensAt opens es) (l
         let below = place_within k (opens k) src r.utf8 s t b c takes in
         let there = step_there opens es all limit W k base src here r below in
         nodes_over W (λ w.
-        (let fine = subst (IsFine limit) (one_step opens es all limit W k base src here r (state_of t c) (takes_there opens es all limit W k base b src s r t c takes) below) (there.fine w) in
+        (let fine = subst (IsValidState limit) (one_step opens es all limit W k base src here r (state_of t c) (takes_there opens es all limit W k base b src s r t c takes) below) (there.fine w) in
         let nodes = fine.nodes in
         omega arith))
     stands_apart f (too_many_pieces stop q j c front t inner is to named below refers few few' over) =
@@ -241,7 +241,7 @@ module _ (opens : ℕ → Opener) (es : List Entity) (all : OpensAt opens es) (l
         let run = there.0 in let found = there.1 in
         let split : join s.done run.items ≡ join (join s.done front) (join found.opened found.rest) = ap (join s.done) found.all ∙ sym (join_assoc s.done front (join found.opened found.rest)) in
         nodes_over W (λ w.
-        (let fine : IsFine limit (state stop (join (join s.done front) (join found.opened found.rest)) s.stack run.left) = subst (λ (f : Forest Item). IsFine limit (state stop f s.stack run.left)) split (run.fine w) in
+        (let fine : IsValidState limit (state stop (join (join s.done front) (join found.opened found.rest)) s.stack run.left) = subst (λ (f : Forest Item). IsValidState limit (state stop f s.stack run.left)) split (run.fine w) in
         let nodes = (fine_before limit q stop c run.left (join s.done front) (join found.opened found.rest) s.stack fine).nodes in
         omega arith))
 
@@ -250,7 +250,7 @@ module _ (opens : ℕ → Opener) (es : List Entity) (all : OpensAt opens es) (l
   -- a part of a value is read to its end
   record PartRead (l : ℕ) (part : List ℕ) (i stop d : ℕ) : Type 0 where
     depth : ℕ
-    deep : depth + l ≡ most_open
+    deep : depth + l ≡ most_deep
     utf8 : IsUtf8 part
     cut : IsCharBoundary part i
     end_cut : IsCharBoundary part stop
@@ -260,7 +260,7 @@ module _ (opens : ℕ → Opener) (es : List Entity) (all : OpensAt opens es) (l
     chars : AreChars part i stop
 
   -- what a reference opens it opens in one way
-  spends_once : (d l : ℕ) → d + l ≡ most_open → SpendsOnce (opens l)
+  spends_once : (d l : ℕ) → d + l ≡ most_deep → SpendsOnce (opens l)
   spends_once d l deep name b c e v w h h' =
       let agrees = all.values d l deep in
       let x = agrees.complete name 0 b c v h in
@@ -283,7 +283,7 @@ module _ (opens : ℕ → Opener) (es : List Entity) (all : OpensAt opens es) (l
       subst (λ (r : ℕ). Value false (opens (suc m)) t.source (length t.source) t.start r x.2 there.0) left_is
       (subst (λ (t : Replacement). Value false (opens (suc m)) t.source (length t.source) t.start x.1 x.2 there.0) text_is x.6) in
       record {
-        depth = most_open - suc m;
+        depth = most_deep - suc m;
         deep = let more = may_deep m c d may in omega arith;
         utf8 = text.0;
         cut = text.1;
@@ -312,9 +312,9 @@ module _ (opens : ℕ → Opener) (es : List Entity) (all : OpensAt opens es) (l
       let there = tag_there k base b src s r begins in
       part_apart l part i stop d f (part_read k src (v + 1) e c l part i stop d (literal_read there.0 there.1 there.2 there.3) is) ill
     where
-      literal_read : (t : State) → Tagged (is_main k) (opens k) src base (state_of s b) t → (W → IsFine limit t) → AreNamed t.stack t.done → PartRead k src (v + 1) e c
+      literal_read : (t : State) → Tagged (is_main k) (opens k) src base (state_of s b) t → (W → IsValidState limit t) → AreNamed t.stack t.done → PartRead k src (v + 1) e c
       literal_read t (j', c', x, empty, is', leads) fine named' =
-          let adds : W → Adds (state_of s b) (Element s.at j' x) = λ w. tag_adds k base b src s r j' c' x empty (subst (IsFine limit) leads (fine w)) in
+          let adds : W → Adds (state_of s b) (Element s.at j' x) = λ w. tag_adds k base b src s r j' c' x empty (subst (IsValidState limit) leads (fine w)) in
           let well_named = tag_named k base b src s r j' c' x empty (subst (λ (u : State). AreNamed u.stack u.done) leads named') in
           let value = value_there (how_at limit es r.d k base).values (opens k) (all.values r.d k r.deep) src r.utf8 s j' b c' empty x is' well_named W (λ w. (adds w).attributes) (λ w. (adds w).pairs) p c n v e j as' name to named eq literal in
           let low = quote_ascii (byte src v) literal.quote in

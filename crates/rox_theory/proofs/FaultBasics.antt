@@ -14,10 +14,10 @@ use Rattle.rox_grammar.specs.declared.fault.Word.{Word}
 use Rattle.rox_grammar.specs.declared.fault.Fault.TheVariants as fault
 use Rattle.rox_grammar.specs.Chars.{is_char, is_part_char, is_name_start}
 use Rattle.rox_grammar.specs.Runs.{run_end, begins, passing, StandsAt}
-use Rattle.rox_grammar.specs.Marks.{stands}
-use Rattle.rox_grammar.specs.Words.{word_text}
+use Rattle.rox_grammar.specs.Search.{stands}
+use Rattle.rox_grammar.specs.FixedTexts.{word_text}
 use Rattle.rox_grammar.specs.Names.{byte}
-use Rattle.rox_grammar.specs.Due.{a_byte, a_word, a_qname, chars_to, Lacks, no_char, other_byte, other_word, no_qname, ends_before}
+use Rattle.rox_grammar.specs.Due.{a_byte, a_word, a_qname, chars_to, IsMissing, no_char, other_byte, other_word, no_qname, ends_before}
 use Rattle.rox_reading.specs.Refusals.{Refusal, here, lifted}
 use Rattle.rox_reading.specs.Lexical.{◌>>=◌, byte_at, string_at, chars_up_to, qname_at}
 use Rattle.rox_theory.proofs.Basics.{chosen}
@@ -112,7 +112,7 @@ ill_char src i e q utf8 cut end le is before =
     (subst (λ (d : ℕ). StandsAt d src q) (sym first) standing, ap is_char first ∙ found.3)
 
 -- Chars up to a place: the fault is a character that is none
-pub chars_fails : (src : List ℕ) (i e : ℕ) (f : Fault) → IsUtf8 src → IsCharBoundary src i → IsCharBoundary src e → i ≤ e → chars_up_to e src i ≡ Err f → Lacks src i (chars_to e) f
+pub chars_fails : (src : List ℕ) (i e : ℕ) (f : Fault) → IsUtf8 src → IsCharBoundary src i → IsCharBoundary src e → i ≤ e → chars_up_to e src i ≡ Err f → IsMissing src i (chars_to e) f
 unfolding chars_up_to
 chars_fails src i e f utf8 cut end le h =
     let q = run_end is_char (take e src) i in
@@ -121,24 +121,24 @@ chars_fails src i e f utf8 cut end le h =
     let before = ltb-true _ _ ill in
     let found = ill_char src i e q utf8 cut end le refl before in
     let is : fault.NonXmlChar (slice_index (chars (drop q src)) 0) q ≡ f = cc in
-    subst (Lacks src i (chars_to e)) is (no_char e q (slice_index (chars (drop q src)) 0) refl before found.0 found.1))
+    subst (IsMissing src i (chars_to e)) is (no_char e q (slice_index (chars (drop q src)) 0) refl before found.0 found.1))
     (λ fine h. cc)
 
 -- a byte that is due
-pub byte_fails : (b : ℕ) (src : List ℕ) (i : ℕ) (f : Fault) → byte_at b src i ≡ Err f → Lacks src i (a_byte b) f
+pub byte_fails : (b : ℕ) (src : List ℕ) (i : ℕ) (f : Fault) → byte_at b src i ≡ Err f → IsMissing src i (a_byte b) f
 unfolding byte_at
 byte_fails b src i f h =
     chosen (leb (length src) i) _ _ _ h
-    (λ past h. let is : fault.UnexpectedEndOfStream ≡ f = cc in subst (Lacks src i (a_byte b)) is (ends_before (a_byte b) refl (leb-true _ _ past)))
+    (λ past h. let is : fault.UnexpectedEndOfStream ≡ f = cc in subst (IsMissing src i (a_byte b)) is (ends_before (a_byte b) refl (leb-true _ _ past)))
     (λ inside h. chosen (eqb (byte src i) b) _ _ _ h (λ same h. cc)
-    (λ apart h. let is : fault.InvalidChar b (byte src i) i ≡ f = cc in subst (Lacks src i (a_byte b)) is (other_byte b (leb-false _ _ inside) (eqb-false _ _ apart))))
+    (λ apart h. let is : fault.InvalidChar b (byte src i) i ≡ f = cc in subst (IsMissing src i (a_byte b)) is (other_byte b (leb-false _ _ inside) (eqb-false _ _ apart))))
 
 -- a fixed text that is due
-pub string_fails : (w : Word) (src : List ℕ) (i : ℕ) (f : Fault) → string_at w src i ≡ Err f → Lacks src i (a_word w) f
+pub string_fails : (w : Word) (src : List ℕ) (i : ℕ) (f : Fault) → string_at w src i ≡ Err f → IsMissing src i (a_word w) f
 unfolding string_at
 string_fails w src i f h =
     chosen (stands (word_text w) src i) _ _ _ h (λ same h. cc)
-    (λ apart h. let is : fault.InvalidString w i ≡ f = cc in subst (Lacks src i (a_word w)) is (other_word w apart))
+    (λ apart h. let is : fault.InvalidString w i ≡ f = cc in subst (IsMissing src i (a_word w)) is (other_word w apart))
 
 -- the fault of a name that is none
 qname_fault : (src : List ℕ) (i : ℕ) (f : Fault) → qname_at src i ≡ Err f → f ≡ fault.InvalidName i
@@ -151,9 +151,9 @@ qname_fault src i f h =
     (λ none h. chosen (begins is_name_start src i) _ _ _ h (λ fine h. cc) (λ fails h. cc))
 
 -- a qualified name that is due
-pub qname_fails : (src : List ℕ) (i : ℕ) (f : Fault) → qname_at src i ≡ Err f → Lacks src i a_qname f
+pub qname_fails : (src : List ℕ) (i : ℕ) (f : Fault) → qname_at src i ≡ Err f → IsMissing src i a_qname f
 qname_fails src i f h =
-    subst (Lacks src i a_qname) (sym (qname_fault src i f h)) (no_qname (λ name j is. let k = qname_complete src i name j is in no_fault (name, j) f (sym k ∙ h)))
+    subst (IsMissing src i a_qname) (sym (qname_fault src i f h)) (no_qname (λ name j is. let k = qname_complete src i name j is in no_fault (name, j) f (sym k ∙ h)))
 
 -- ---- Chars hold no other character
 

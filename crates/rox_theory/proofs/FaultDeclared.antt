@@ -8,12 +8,12 @@ use Rattle.rox_grammar.specs.declared.fault.Due.TheVariants as due
 use Rattle.rox_grammar.specs.declared.fault.Word.TheVariants as word
 use Rattle.rox_grammar.specs.Chars.{is_space, is_name_start}
 use Rattle.rox_grammar.specs.Runs.{begins}
-use Rattle.rox_grammar.specs.Marks.{byte_from}
-use Rattle.rox_grammar.specs.Words.{word_text}
+use Rattle.rox_grammar.specs.Search.{byte_from}
+use Rattle.rox_grammar.specs.FixedTexts.{word_text}
 use Rattle.rox_grammar.specs.Names.{byte, spaces_end}
 use Rattle.rox_grammar.specs.Constructs.{at}
 use Rattle.rox_grammar.specs.Doctype.{Request, IsExternalID, BeginsEntity}
-use Rattle.rox_grammar.specs.Due.{Thing, a_name, a_space, a_byte, a_quote, a_definition, subset_or_end, doctype_end, Lacks, no_name, no_space, no_subset, no_end, no_definition, no_external_id, ends_before, DueInLiteral, DueInExternalID, DueInEntity, DueInDoctype}
+use Rattle.rox_grammar.specs.Due.{DueItem, a_name, a_space, a_byte, a_quote, a_definition, subset_or_end, doctype_end, IsMissing, no_name, no_space, no_subset, no_end, no_definition, no_external_id, ends_before, DueInLiteral, DueInExternalID, DueInEntity, DueInDoctype}
 use Rattle.rox_grammar.specs.Due as dues
 use Rattle.rox_reading.specs.Lexical.{byte_at, space_at, quote_at, name_at}
 use Rattle.rox_reading.specs.Doctype.{quoted_at, system_at, public_at, external_id_at, name_or_end_at, notation_at, definition_at, kind_at, entity_head_at, external_id_if, doctype_head_at}
@@ -26,24 +26,24 @@ use Rattle.rox_theory.proofs.FaultBasics.{bind_err, no_fault, byte_fails}
 use Rattle.rox_theory.proofs.FaultTags.{quote_fails}
 
 -- white space that is due
-pub space_fails : (src : List ℕ) (i : ℕ) (f : Fault) → space_at src i ≡ Err f → Lacks src i a_space f
+pub space_fails : (src : List ℕ) (i : ℕ) (f : Fault) → space_at src i ≡ Err f → IsMissing src i a_space f
 unfolding space_at
 space_fails src i f h =
     chosen (leb (length src) i) _ _ _ h
-    (λ out h. let is : fault.UnexpectedEndOfStream ≡ f = cc in subst (Lacks src i a_space) is (ends_before a_space refl (leb-true _ _ out)))
+    (λ out h. let is : fault.UnexpectedEndOfStream ≡ f = cc in subst (IsMissing src i a_space) is (ends_before a_space refl (leb-true _ _ out)))
     (λ inside h. chosen (is_space (byte src i)) _ _ _ h (λ some h. no_fault _ f h)
-    (λ none h. let is : fault.InvalidChar2 due.Space (byte src i) i ≡ f = cc in subst (Lacks src i a_space) is (no_space (leb-false _ _ inside) none)))
+    (λ none h. let is : fault.InvalidChar2 due.Space (byte src i) i ≡ f = cc in subst (IsMissing src i a_space) is (no_space (leb-false _ _ inside) none)))
 
 -- a name that is due
-pub name_fails : (src : List ℕ) (i : ℕ) (f : Fault) → name_at src i ≡ Err f → Lacks src i a_name f
+pub name_fails : (src : List ℕ) (i : ℕ) (f : Fault) → name_at src i ≡ Err f → IsMissing src i a_name f
 unfolding name_at
 name_fails src i f h =
     chosen (begins is_name_start src i) _ _ _ h (λ fine h. cc)
-    (λ fails h. let is : fault.InvalidName i ≡ f = cc in subst (Lacks src i a_name) is (no_name (λ j name. let s = name.starts in cc (sym fails ∙ s))))
+    (λ fails h. let is : fault.InvalidName i ≡ f = cc in subst (IsMissing src i a_name) is (no_name (λ j name. let s = name.starts in cc (sym fails ∙ s))))
 
 -- something is due at a place, and does not stand there
-abbrev pub Misses : List ℕ → (ℕ → Thing → Type 0) → Fault → Type 0
-Misses src Due f = (q : ℕ) × (t : Thing) × Due q t × Lacks src q t f
+abbrev pub Misses : List ℕ → (ℕ → DueItem → Type 0) → Fault → Type 0
+Misses src Due f = (q : ℕ) × (t : DueItem) × Due q t × IsMissing src q t f
 
 -- a literal
 quoted_fails : (src : List ℕ) (i : ℕ) (f : Fault) → quoted_at src i ≡ Err f → Misses src (DueInLiteral src i) f
@@ -131,7 +131,7 @@ unfolding definition_at
 definition_fails src i n m d parameter f begins' h =
     chosen (leb (length src) d) _ _ _ h
     (λ out h. let is : fault.UnexpectedEndOfStream ≡ f = cc in
-    (d, a_definition, dues.DueInEntity.its_definition parameter n m d begins', subst (Lacks src d a_definition) is (ends_before a_definition refl (leb-true _ _ out))))
+    (d, a_definition, dues.DueInEntity.its_definition parameter n m d begins', subst (IsMissing src d a_definition) is (ends_before a_definition refl (leb-true _ _ out))))
     (λ inside h. chosen (byte src d == 34 || byte src d == 39) _ _ _ h
     (λ quote h. bind_err (quoted_at src d) _ f h
     (λ bad.
@@ -147,7 +147,7 @@ definition_fails src i n m d parameter f begins' h =
       | inl w ↦ (w.0, w.1, dues.DueInEntity.its_external_id parameter n m d w.0 w.1 begins' w.2, w.3)
       | inr w ↦ (
           let some' : (byte src d ≡ 83) ⊎ (byte src d ≡ 80) = elim (or_cases (byte src d == 83) (byte src d == 80) some) as (λ s. (byte src d ≡ 83) ⊎ (byte src d ≡ 80)) [ inl a ↦ inl (eqb-true _ _ a) | inr b ↦ inr (eqb-true _ _ b) ] in
-          (d, a_definition, dues.DueInEntity.its_definition parameter n m d begins', subst (Lacks src d a_definition) w.2 (no_external_id some' w.0 w.1)))
+          (d, a_definition, dues.DueInEntity.its_definition parameter n m d begins', subst (IsMissing src d a_definition) w.2 (no_external_id some' w.0 w.1)))
     ])
     (λ x external h. bind_err (notation_at parameter src x.1) _ f h (λ bad. notation_fails src i n m d x.1 x.0 parameter f begins' (external_sound src d x external) bad) (λ y ok h. no_fault _ f h)))
     (λ none h.
@@ -156,7 +156,7 @@ definition_fails src i n m d parameter f begins' h =
       d,
       a_definition,
       dues.DueInEntity.its_definition parameter n m d begins',
-      subst (Lacks src d a_definition) is (no_definition (leb-false _ _ inside) (eqb-false _ _ no_quote.0) (eqb-false _ _ no_quote.1) (eqb-false _ _ neither.0) (eqb-false _ _ neither.1)),
+      subst (IsMissing src d a_definition) is (no_definition (leb-false _ _ inside) (eqb-false _ _ no_quote.0) (eqb-false _ _ no_quote.1) (eqb-false _ _ neither.0) (eqb-false _ _ neither.1)),
     ))))
 
 -- ---- the head of the declaration

@@ -6,21 +6,21 @@ use Rattle.std.proofs.lemmas.Bool.{true≢false, false_from_ne_true}
 use Rattle.std.proofs.lemmas.List.{append-nil}
 use Rattle.rox_grammar.specs.declared.fault.Fault.{Fault}
 use Rattle.rox_grammar.specs.declared.fault.Word.TheVariants as word
-use Rattle.rox_grammar.specs.Words.{word_text}
+use Rattle.rox_grammar.specs.FixedTexts.{word_text}
 use Rattle.rox_grammar.specs.Chars.{is_space, is_name_start, is_name_char}
 use Rattle.rox_grammar.specs.Runs.{run_end}
-use Rattle.rox_grammar.specs.Marks.{byte_from}
+use Rattle.rox_grammar.specs.Search.{byte_from}
 use Rattle.rox_grammar.specs.Forest.{Forest, join, size}
 use Rattle.rox_grammar.specs.Written.{Item, merge, leaf}
 use Rattle.rox_grammar.specs.Names.{byte, spaces_end, IsName}
 use Rattle.rox_grammar.specs.Constructs.{at}
-use Rattle.rox_grammar.specs.Start.{after_bom, MayDeclare, declared, not_declared}
+use Rattle.rox_grammar.specs.TextStart.{after_bom, MayHaveXmlDecl, declared, not_declared}
 use Rattle.rox_grammar.specs.Entities.{Replacement, Entity}
-use Rattle.rox_grammar.specs.Doctype.{Request, Asked, IsQuoted, IsSpace, IsExternalID, system, public, MayHaveNotation, notation, no_notation, CutsNotation, Gives, nothing, the_rest, IsDefinition, internal, external, BeginsEntity, IsEntityDeclaration, Subset, MayHaveExternalID, external_id, no_external_id, BeginsDoctype, IsDoctype, no_subset, with_subset}
+use Rattle.rox_grammar.specs.Doctype.{Request, Asked, IsQuoted, IsSpace, IsExternalID, system, public, MayHaveNotation, notation, no_notation, CutsNotation, GivesReplacement, nothing, the_rest, IsDefinition, internal, external, BeginsEntity, IsEntityDeclaration, Subset, MayHaveExternalID, external_id, no_external_id, BeginsDoctype, IsDoctype, no_subset, with_subset}
 use Rattle.rox_grammar.specs.Doctype as dtd
-use Rattle.rox_grammar.specs.Due.{Thing, a_byte, a_space, a_quote, a_name, a_definition, subset_or_end, doctype_end, Lacks, no_quote, no_definition, no_end, ends_before, DueInDeclaration, DueInLiteral, its_quote, its_end, DueInExternalID, space_before, its_literal, space_between, second_literal, DueInEntity, DueInDoctype}
+use Rattle.rox_grammar.specs.Due.{DueItem, a_byte, a_space, a_quote, a_name, a_definition, subset_or_end, doctype_end, IsMissing, no_quote, no_definition, no_end, ends_before, DueInXmlDecl, DueInLiteral, its_quote, its_end, DueInExternalID, space_before, its_literal, space_between, second_literal, DueInEntity, DueInDoctype}
 use Rattle.rox_grammar.specs.Due as due
-use Rattle.rox_grammar.specs.Refused.{SubsetTo, IsPassed, NoItem, InDoctype, head_lacks, no_name, in_misc, too_many, not_passed, in_entity, entity_open, entity_cut, in_answer, end_lacks, unknown, no_root}
+use Rattle.rox_grammar.specs.FaultsWithDoctype.{SubsetTo, IsPassed, NoItem, InDoctype, head_lacks, no_name, in_misc, too_many, not_passed, in_entity, entity_open, entity_cut, in_answer, end_lacks, unknown, no_root}
 use Rattle.rox_reading.proofs.Forests.{join_assoc, merge-more}
 use Rattle.rox_theory.specs.Answers.{SameAnswers}
 use Rattle.rox_theory.proofs.Basics.{within}
@@ -36,19 +36,19 @@ use Rattle.rox_theory.proofs.SubsetFronts.{OpensItem, misc_opens, item_less, ent
 use Rattle.rox_theory.proofs.FaultLimits.{IsOver, nodes_over}
 
 -- a quote that is due and stands there
-quote_stands : (src : List ℕ) (i : ℕ) (f : Fault) → (byte src i ≡ 39) ⊎ (byte src i ≡ 34) → Lacks src i a_quote f → ⊥
+quote_stands : (src : List ℕ) (i : ℕ) (f : Fault) → (byte src i ≡ 39) ⊎ (byte src i ≡ 34) → IsMissing src i a_quote f → ⊥
 quote_stands src i f is (no_quote below no_single no_double) = elim is as (λ _. ⊥) [ inl s ↦ no_single s | inr d ↦ no_double d ]
 quote_stands src i f is (ends_before _ byte' past) = let some = (quote_ascii (byte src i) is) in let l = within src i (λ z. omega arith) in absurd (omega arith)
 
 -- the text of an answer that gives one has no fault in its declaration
-gives_apart : (answer : List ℕ) (given : Option (List ℕ)) (text : Option Replacement) (q : ℕ) (t : Thing) (f : Fault) → Some answer ≡ given → Gives given text → at word.DeclarationStart answer (after_bom answer) ≡ true
-    → DueInDeclaration answer (after_bom answer) q t → Lacks answer q t f → ⊥
+gives_apart : (answer : List ℕ) (given : Option (List ℕ)) (text : Option Replacement) (q : ℕ) (t : DueItem) (f : Fault) → Some answer ≡ given → GivesReplacement given text → at word.XmlDeclStart answer (after_bom answer) ≡ true
+    → DueInXmlDecl answer (after_bom answer) q t → IsMissing answer q t f → ⊥
 gives_apart answer given text q t f same nothing opens due' lack = cc same
 gives_apart answer given text q t f same (the_rest other d utf8 may) opens due' lack =
     let e : answer ≡ other = cc same in
-    declared_apart d may (subst (λ (a : List ℕ). at word.DeclarationStart a (after_bom a) ≡ true) e opens) (subst (λ (a : List ℕ). DueInDeclaration a (after_bom a) q t) e due') (subst (λ (a : List ℕ). Lacks a q t f) e lack)
+    declared_apart d may (subst (λ (a : List ℕ). at word.XmlDeclStart a (after_bom a) ≡ true) e opens) (subst (λ (a : List ℕ). DueInXmlDecl a (after_bom a) q t) e due') (subst (λ (a : List ℕ). IsMissing a q t f) e lack)
   where
-    declared_apart : (d : ℕ) → MayDeclare other (after_bom other) d → at word.DeclarationStart other (after_bom other) ≡ true → DueInDeclaration other (after_bom other) q t → Lacks other q t f → ⊥
+    declared_apart : (d : ℕ) → MayHaveXmlDecl other (after_bom other) d → at word.XmlDeclStart other (after_bom other) ≡ true → DueInXmlDecl other (after_bom other) q t → IsMissing other q t f → ⊥
     declared_apart d (declared _ _ is) opens due' lack = declaration_apart other utf8 (after_bom other) d q t f is due' lack
     declared_apart d (not_declared _ none) opens due' lack = true≢false (sym opens ∙ none)
 
@@ -56,10 +56,10 @@ module _ (src : List ℕ) (utf8 : IsUtf8 src) where
   -- ---- within a declaration of an entity
 
   -- white space that is due and stands there
-  spaced : (p j : ℕ) (f : Fault) → IsCharBoundary src p → IsSpace src p j → Lacks src p a_space f → ⊥
+  spaced : (p j : ℕ) (f : Fault) → IsCharBoundary src p → IsSpace src p j → IsMissing src p a_space f → ⊥
   spaced p j f cut is lack = space_stands src utf8 p f cut (let some = is.some in let all = is.all in omega arith) lack
 
-  literal_apart : (i e j p : ℕ) (t : Thing) (f : Fault) → IsQuoted src i e j → DueInLiteral src i p t → Lacks src p t f → ⊥
+  literal_apart : (i e j p : ℕ) (t : DueItem) (f : Fault) → IsQuoted src i e j → DueInLiteral src i p t → IsMissing src p t f → ⊥
   literal_apart i e j p t f is its_quote lack = quote_stands src i f is.quote lack
   literal_apart i e j p t f is (its_end quote) lack =
       let closes : byte src (byte_from (λ c. c == byte src i) src (i + 1)) ≡ byte src i = ap (byte src) (sym is.end) ∙ quoted_closes src i e j is in
@@ -72,7 +72,7 @@ module _ (src : List ℕ) (utf8 : IsUtf8 src) where
       let b : byte src (i + 0) ≡ 80 = stands_reads (word_text word.Public) src i 0 p (omega arith) in
       absurd (omega arith)
 
-  external_apart : (i j p : ℕ) (request : Request) (t : Thing) (f : Fault) → IsExternalID src i request j → DueInExternalID src i p t → Lacks src p t f → ⊥
+  external_apart : (i j p : ℕ) (request : Request) (t : DueItem) (f : Fault) → IsExternalID src i request j → DueInExternalID src i p t → IsMissing src p t f → ⊥
   external_apart i j p request t f (system _ s e _ is sp q) (space_before which) lack = spaced (i + 6) s f (six_cut word.System src i 77 utf8 is (omega arith) refl (omega arith) (omega arith)) sp lack
   external_apart i j p request t f (system _ s e _ is sp q) (its_literal s' _ _ which sp' due') lack =
       literal_apart s e j p t f q (subst (λ (s : ℕ). DueInLiteral src s p t) (space_once src (i + 6) s' s sp' sp) due') lack
@@ -84,7 +84,7 @@ module _ (src : List ℕ) (utf8 : IsUtf8 src) where
   external_apart i j p request t f (public _ s d k v e _ is sp q sp' q') (space_between s' d' _ other space' first) lack =
       let at_first = space_once src (i + 6) s' s space' sp in
       let same = (quoted_once src s d' p d k (subst (λ (s : ℕ). IsQuoted src s d' p) at_first first) q).1 in
-      spaced k v f (quoted_cut src s d k utf8 q) sp' (subst (λ (p : ℕ). Lacks src p a_space f) same lack)
+      spaced k v f (quoted_cut src s d k utf8 q) sp' (subst (λ (p : ℕ). IsMissing src p a_space f) same lack)
   external_apart i j p request t f (public _ s d k v e _ is sp q sp' q') (second_literal s' d' k' v' _ _ other space' first space'' due') lack =
       let at_first = space_once src (i + 6) s' s space' sp in
       let same = (quoted_once src s d' k' d k (subst (λ (s : ℕ). IsQuoted src s d' k') at_first first) q).1 in
@@ -92,7 +92,7 @@ module _ (src : List ℕ) (utf8 : IsUtf8 src) where
       literal_apart v e j p t f q' (subst (λ (v : ℕ). DueInLiteral src v p t) at_second due') lack
 
   -- where something is due in an external id, one begins
-  external_due : (i p : ℕ) (t : Thing) → DueInExternalID src i p t → (at word.System src i ≡ true) ⊎ (at word.Public src i ≡ true)
+  external_due : (i p : ℕ) (t : DueItem) → DueInExternalID src i p t → (at word.System src i ≡ true) ⊎ (at word.Public src i ≡ true)
   external_due i p t (space_before which) = which
   external_due i p t (its_literal _ _ _ which _ _) = which
   external_due i p t (space_between _ _ _ is _ _) = inr is
@@ -111,24 +111,24 @@ module _ (src : List ℕ) (utf8 : IsUtf8 src) where
   letter_no_quote i (inr p) (inr q) = absurd (omega arith)
 
   -- a definition that is due and stands there
-  definition_stands : (i j : ℕ) (parameter : Bool) (asked : List Asked) (text : Option Replacement) (f : Fault) → IsDefinition src parameter i j asked text → Lacks src i a_definition f → ⊥
+  definition_stands : (i j : ℕ) (parameter : Bool) (asked : List Asked) (text : Option Replacement) (f : Fault) → IsDefinition src parameter i j asked text → IsMissing src i a_definition f → ⊥
   definition_stands i j parameter asked text f (internal _ e _ q) (no_definition below no_double no_single no_s no_p) = elim (q.quote) as (λ _. ⊥) [ inl s ↦ no_single s | inr d ↦ no_double d ]
-  definition_stands i j parameter asked text f (internal _ e _ q) (due.Lacks.no_external_id which no_system no_public) = letter_no_quote i which q.quote
+  definition_stands i j parameter asked text f (internal _ e _ q) (due.IsMissing.no_external_id which no_system no_public) = letter_no_quote i which q.quote
   definition_stands i j parameter asked text f (internal _ e _ q) (ends_before _ byte' past) = let some = (quote_ascii (byte src i) q.quote) in let l = within src i (λ z. omega arith) in absurd (omega arith)
   definition_stands i j parameter asked text f (external _ n _ request answer _ is may gives) (no_definition below no_double no_single no_s no_p) =
       elim (external_byte src i request n is) as (λ _. ⊥) [ inl s ↦ no_s s | inr p ↦ no_p p ]
-  definition_stands i j parameter asked text f (external _ n _ request answer _ (system _ s e _ is sp q) may gives) (due.Lacks.no_external_id which no_system no_public) = true≢false (sym is ∙ no_system)
-  definition_stands i j parameter asked text f (external _ n _ request answer _ (public _ s d k v e _ is sp q sp' q') may gives) (due.Lacks.no_external_id which no_system no_public) = true≢false (sym is ∙ no_public)
+  definition_stands i j parameter asked text f (external _ n _ request answer _ (system _ s e _ is sp q) may gives) (due.IsMissing.no_external_id which no_system no_public) = true≢false (sym is ∙ no_system)
+  definition_stands i j parameter asked text f (external _ n _ request answer _ (public _ s d k v e _ is sp q sp' q') may gives) (due.IsMissing.no_external_id which no_system no_public) = true≢false (sym is ∙ no_public)
   definition_stands i j parameter asked text f (external _ n _ request answer _ is may gives) (ends_before _ byte' past) = let l = (external_cut src i request n utf8 is).2 in absurd (omega arith)
 
   -- what is due in its literal
-  in_literal : (i j p : ℕ) (parameter : Bool) (asked : List Asked) (text : Option Replacement) (t : Thing) (f : Fault) → IsDefinition src parameter i j asked text → (byte src i ≡ 39) ⊎ (byte src i ≡ 34)
-      → DueInLiteral src i p t → Lacks src p t f → ⊥
+  in_literal : (i j p : ℕ) (parameter : Bool) (asked : List Asked) (text : Option Replacement) (t : DueItem) (f : Fault) → IsDefinition src parameter i j asked text → (byte src i ≡ 39) ⊎ (byte src i ≡ 34)
+      → DueInLiteral src i p t → IsMissing src p t f → ⊥
   in_literal i j p parameter asked text t f (internal _ e _ q) quote due' lack = literal_apart i e j p t f q due' lack
   in_literal i j p parameter asked text t f (external _ n _ request answer _ is may gives) quote due' lack = letter_no_quote i (external_byte src i request n is) quote
 
   -- or in its external id
-  in_external : (i j p : ℕ) (parameter : Bool) (asked : List Asked) (text : Option Replacement) (t : Thing) (f : Fault) → IsDefinition src parameter i j asked text → DueInExternalID src i p t → Lacks src p t f → ⊥
+  in_external : (i j p : ℕ) (parameter : Bool) (asked : List Asked) (text : Option Replacement) (t : DueItem) (f : Fault) → IsDefinition src parameter i j asked text → DueInExternalID src i p t → IsMissing src p t f → ⊥
   in_external i j p parameter asked text t f (internal _ e _ q) due' lack = letter_no_quote i (word_byte i (external_due i p t due')) q.quote
   in_external i j p parameter asked text t f (external _ n _ request answer _ is may gives) due' lack = external_apart i n p request t f is due' lack
 
@@ -157,16 +157,16 @@ module _ (src : List ℕ) (utf8 : IsUtf8 src) where
         subst (λ (p : Bool). IsDefinition src p d b.e asked b.text) same.0 (subst (λ (d : ℕ). IsDefinition src b.parameter d b.e asked b.text) same.3 b.definition)
 
     -- white space behind `%`
-    kind_spaced : (k n : ℕ) (parameter : Bool) (f : Fault) → dtd.IsKind src k parameter n → byte src k ≡ 37 → Lacks src (k + 1) a_space f → ⊥
+    kind_spaced : (k n : ℕ) (parameter : Bool) (f : Fault) → dtd.IsKind src k parameter n → byte src k ≡ 37 → IsMissing src (k + 1) a_space f → ⊥
     kind_spaced k n parameter f (dtd.IsKind.of_parameter _ _ is sp) percent lack = spaced (k + 1) n f (cut_behind src k 37 (k + 1) utf8 is (omega arith) (omega arith) refl) sp lack
     kind_spaced k n parameter f (dtd.IsKind.general _ apart) percent lack = apart percent
 
-    pub entity_apart : (q : ℕ) (t : Thing) (f : Fault) → DueInEntity src i q t → Lacks src q t f → ⊥
+    pub entity_apart : (q : ℕ) (t : DueItem) (f : Fault) → DueInEntity src i q t → IsMissing src q t f → ⊥
     entity_apart q t f due.DueInEntity.space_before lack = spaced (i + 8) b.begins.k f cuts.at_word b.begins.space_before lack
     entity_apart q t f (due.DueInEntity.space_of_kind k sp percent) lack =
         let same = space_once src (i + 8) k b.begins.k sp b.begins.space_before in
-        kind_spaced b.begins.k b.n b.parameter f b.begins.is_kind (subst (λ (k : ℕ). byte src k ≡ 37) same percent) (subst (λ (k : ℕ). Lacks src (k + 1) a_space f) same lack)
-    entity_apart q t f (due.DueInEntity.its_name k _ parameter sp kind) lack = name_stands src b.n b.m f b.begins.name (subst (λ (q : ℕ). Lacks src q a_name f) (name_there k q parameter sp kind) lack)
+        kind_spaced b.begins.k b.n b.parameter f b.begins.is_kind (subst (λ (k : ℕ). byte src k ≡ 37) same percent) (subst (λ (k : ℕ). IsMissing src (k + 1) a_space f) same lack)
+    entity_apart q t f (due.DueInEntity.its_name k _ parameter sp kind) lack = name_stands src b.n b.m f b.begins.name (subst (λ (q : ℕ). IsMissing src q a_name f) (name_there k q parameter sp kind) lack)
       where
         name_there : (k n : ℕ) (parameter : Bool) → IsSpace src (i + 8) k → dtd.IsKind src k parameter n → n ≡ b.n
         name_there k n parameter sp kind =
@@ -176,7 +176,7 @@ module _ (src : List ℕ) (utf8 : IsUtf8 src) where
         let same = space_once src (i + 8) k b.begins.k sp b.begins.space_before in
         let at_name = (kind_once src utf8 b.begins.k n b.n parameter b.parameter (subst (λ (k : ℕ). dtd.IsKind src k parameter n) same kind) b.begins.is_kind).1 in
         let end : q ≡ b.m = name.longest ∙ ap (λ (n : ℕ). run_end is_name_char src n) at_name ∙ sym b.begins.name.longest in
-        spaced b.m b.d f cuts.behind_name b.begins.space_behind (subst (λ (q : ℕ). Lacks src q a_space f) end lack)
+        spaced b.m b.d f cuts.behind_name b.begins.space_behind (subst (λ (q : ℕ). IsMissing src q a_space f) end lack)
     entity_apart q t f (due.DueInEntity.its_definition parameter n m _ begins) lack = definition_stands q b.e parameter asked b.text f (defines n m q parameter begins) lack
     entity_apart q t f (due.DueInEntity.its_literal parameter n m d _ _ begins quote due') lack = in_literal d b.e q parameter asked b.text t f (defines n m d parameter begins) quote due' lack
     entity_apart q t f (due.DueInEntity.its_external_id parameter n m d _ _ begins due') lack = in_external d b.e q parameter asked b.text t f (defines n m d parameter begins) due' lack
@@ -195,10 +195,10 @@ module _ (src : List ℕ) (utf8 : IsUtf8 src) where
 
     -- the `>` behind its definition
     pub end_stands : (n m d e : ℕ) (parameter : Bool) (first : List Asked) (text : Option Replacement) (f : Fault) → BeginsEntity src i parameter n m d → IsDefinition src parameter d e first text
-        → Lacks src (spaces_end src e) (a_byte 62) f → ⊥
+        → IsMissing src (spaces_end src e) (a_byte 62) f → ⊥
     end_stands n m d e parameter first text f begins definition lack =
         let same = definition_end src utf8 parameter d e b.e first asked text b.text definition (defines n m d parameter begins) in
-        byte_stands src 62 (spaces_end src b.e) f (omega arith) b.closes (subst (λ (e : ℕ). Lacks src (spaces_end src e) (a_byte 62) f) same lack)
+        byte_stands src 62 (spaces_end src b.e) f (omega arith) b.closes (subst (λ (e : ℕ). IsMissing src (spaces_end src e) (a_byte 62) f) same lack)
 
     -- it is not cut off before the name of its notation
     pub not_cut : (n m d e j : ℕ) (parameter : Bool) (request : Request) → BeginsEntity src i parameter n m d → IsExternalID src d request e → CutsNotation src parameter e j → ⊥
@@ -210,9 +210,9 @@ module _ (src : List ℕ) (utf8 : IsUtf8 src) where
         absurd (omega arith)
 
     -- nor is the declaration of its answer at fault
-    pub answer_apart : (n m d e q : ℕ) (parameter : Bool) (request : Request) (answer : List ℕ) (later : List Asked) (t : Thing) (f : Fault) → BeginsEntity src i parameter n m d → IsExternalID src d request e
-        → SameAnswers (record { request = request; answer = Some answer } ∷ []) (asked ++ later) → at word.DeclarationStart answer (after_bom answer) ≡ true
-        → DueInDeclaration answer (after_bom answer) q t → Lacks answer q t f → ⊥
+    pub answer_apart : (n m d e q : ℕ) (parameter : Bool) (request : Request) (answer : List ℕ) (later : List Asked) (t : DueItem) (f : Fault) → BeginsEntity src i parameter n m d → IsExternalID src d request e
+        → SameAnswers (record { request = request; answer = Some answer } ∷ []) (asked ++ later) → at word.XmlDeclStart answer (after_bom answer) ≡ true
+        → DueInXmlDecl answer (after_bom answer) q t → IsMissing answer q t f → ⊥
     answer_apart n m d e q parameter request answer later t f begins is same opens due' lack = by_definition b.e b.text asked (defines n m d parameter begins) same
       where
         by_definition : (x : ℕ) (text : Option Replacement) (first : List Asked) → IsDefinition src parameter d x first text → SameAnswers (record { request = request; answer = Some answer } ∷ []) (first ++ later) → ⊥
@@ -221,7 +221,7 @@ module _ (src : List ℕ) (utf8 : IsUtf8 src) where
 
   -- ---- up to the subset
 
-  head_apart : (i s p : ℕ) (t : Thing) (f : Fault) → BeginsDoctype src i s → (byte src s ≡ 62) ⊎ (byte src s ≡ 91) → DueInDoctype src i p t → Lacks src p t f → ⊥
+  head_apart : (i s p : ℕ) (t : DueItem) (f : Fault) → BeginsDoctype src i s → (byte src s ≡ 62) ⊎ (byte src s ≡ 91) → DueInDoctype src i p t → IsMissing src p t f → ⊥
   head_apart i s p t f b ends due.DueInDoctype.space_before lack =
       let last : i + 8 + 1 ≡ i + 9 = omega arith in
       let cut = subst (IsCharBoundary src) last (word_cut word.DoctypeStart src i 8 69 utf8 b.opens (omega arith) refl (omega arith) (omega arith)) in
@@ -236,10 +236,10 @@ module _ (src : List ℕ) (utf8 : IsUtf8 src) where
       by_external : (x y : ℕ) → MayHaveExternalID src x y → DueInExternalID src x p t → ⊥
       by_external x y (external_id _ _ request is) due' = external_apart x y p request t f is due' lack
       by_external x y (no_external_id _ no_system no_public) due' = elim (external_due x p t due') as (λ _. ⊥) [ inl is ↦ true≢false (sym is ∙ no_system) | inr is ↦ true≢false (sym is ∙ no_public) ]
-  head_apart i s p t f b ends (due.DueInDoctype.its_end _ b') lack = lack_apart f (subst (λ (p : ℕ). Lacks src p subset_or_end f) (doctype_once src utf8 i p s b' b).2 lack)
+  head_apart i s p t f b ends (due.DueInDoctype.its_end _ b') lack = lack_apart f (subst (λ (p : ℕ). IsMissing src p subset_or_end f) (doctype_once src utf8 i p s b' b).2 lack)
     where
-      lack_apart : (f : Fault) → Lacks src s subset_or_end f → ⊥
-      lack_apart f (due.Lacks.no_subset below no_bracket no_close) = elim ends as (λ _. ⊥) [ inl c ↦ no_close c | inr o ↦ no_bracket o ]
+      lack_apart : (f : Fault) → IsMissing src s subset_or_end f → ⊥
+      lack_apart f (due.IsMissing.no_subset below no_bracket no_close) = elim ends as (λ _. ⊥) [ inl c ↦ no_close c | inr o ↦ no_bracket o ]
       lack_apart f (ends_before _ byte' past) = elim ends as (λ _. ⊥) [ inl c ↦ (let l = within src s (λ z. omega arith) in omega arith) | inr o ↦ (let l = within src s (λ z. omega arith) in omega arith) ]
 
   -- how one begins
@@ -328,7 +328,7 @@ module _ (src : List ℕ) (utf8 : IsUtf8 src) where
       let c = closed_there i j p items nodes asked given [] es is to (subst (λ (a : List Asked). SameAnswers a given) (sym (append-nil asked)) same) in
       let r = c.front in
       let at_end = ended p c.k r.rest r.more r.gs c.bracket r.left bracket in
-      absurd (lack_apart (spaces_end src (c.k + 1)) f (subst (λ (p : ℕ). Lacks src (spaces_end src (p + 1)) doctype_end f) at_end lack) c.closes)
+      absurd (lack_apart (spaces_end src (c.k + 1)) f (subst (λ (p : ℕ). IsMissing src (spaces_end src (p + 1)) doctype_end f) at_end lack) c.closes)
     where
       -- nothing that a subset holds begins with a bracket
       ended : (p k : ℕ) (rest : Forest Item) (more : List Asked) (gs : List Entity) → byte src k ≡ 93 → Subset src p k rest more gs → byte src p ≡ 93 → p ≡ k
@@ -337,7 +337,7 @@ module _ (src : List ℕ) (utf8 : IsUtf8 src) where
           nothing_there src utf8 k end p rest more gs left b (λ is. absurd (let l = item_less src p is in omega arith)) (λ is. absurd (let l = passed_less src p is in omega arith))
           (false_from_ne_true _ (λ is. absurd (let l = entity_less src p is in omega arith)))
 
-      lack_apart : (p : ℕ) (f : Fault) → Lacks src p doctype_end f → byte src p ≡ 62 → ⊥
+      lack_apart : (p : ℕ) (f : Fault) → IsMissing src p doctype_end f → byte src p ≡ 62 → ⊥
       lack_apart p f (no_end below no_close) closes = no_close closes
       lack_apart p f (ends_before _ byte' past) closes = let l = within src p (λ z. omega arith) in absurd (omega arith)
   in_doctype_apart W limit i j before nodes after asked given es source f is few same (unknown p items _ to fits none inside) =

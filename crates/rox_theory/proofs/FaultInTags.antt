@@ -10,23 +10,23 @@ use Rattle.std.proofs.lemmas.List.Elements.{filter-append}
 use Rattle.std.proofs.lemmas.Slice.Eq.{bytes_eq-Decides}
 use Rattle.rox_grammar.specs.declared.fault.Fault.{Fault}
 use Rattle.rox_grammar.specs.declared.fault.Word.TheVariants as word
-use Rattle.rox_grammar.specs.Words.{word_text}
+use Rattle.rox_grammar.specs.FixedTexts.{word_text}
 use Rattle.rox_grammar.specs.Chars.{is_space, is_name_start}
 use Rattle.rox_grammar.specs.Runs.{begins}
-use Rattle.rox_grammar.specs.Written.{Name, Attribute, Declaration, Tag, declares, declaration_of, declarations_of, attributes_of}
+use Rattle.rox_grammar.specs.Written.{Name, Attribute, NamespaceDecl, Tag, is_namespace_decl, namespace_decl_of, namespace_decls_of, plain_attributes_of}
 use Rattle.rox_grammar.specs.Tree.{xml_uri, xmlns_uri, is_declared, listed}
 use Rattle.rox_grammar.specs.Names.{byte, spaces_end, IsQName, unprefixed, prefixed, colon_first}
 use Rattle.rox_grammar.specs.Constructs.{IsEq, IsLiteral}
-use Rattle.rox_grammar.specs.Content.{Opener, Value, IsAttribute, Attributes, no_more, one_more, TagEnds, opened, closed, IsTag}
+use Rattle.rox_grammar.specs.Content.{Inclusion, Value, IsAttribute, Attributes, no_more, one_more, TagEnds, opened, closed, IsTag}
 use Rattle.rox_grammar.specs.WellNamed.{is_xml, may_declare, AreDeclarable, is_known, same_expanded, AreDistinct, IsWellNamed}
 use Rattle.rox_grammar.specs.Document.{listable_of, with_new, distinct_pairs, most_attributes, most_pairs}
 use Rattle.rox_grammar.specs.State.{State, scope_of, attributes_so_far, pairs_so_far}
-use Rattle.rox_grammar.specs.Due.{Thing, a_byte, a_space, Lacks, ends_before, DueInPair}
-use Rattle.rox_grammar.specs.Places.{TagTo}
+use Rattle.rox_grammar.specs.Due.{DueItem, a_byte, a_space, IsMissing, ends_before, DueInPair}
+use Rattle.rox_grammar.specs.ContentPoints.{TagTo}
 use Rattle.rox_grammar.specs.Faults.{IllDeclared, other_uri, uri_of_xml, uri_of_xmlns, again, IllNamed, unknown_attribute, twice, unknown_element, InTag, no_name, xmlns_prefix, cut, cut_in_replacement, no_rest, not_closed, in_pair, ill_declared, too_many_pairs, too_many_attributes, ill_named}
 use Rattle.rox_grammar.specs.Faults as faults
 use Rattle.rox_reading.specs.Markup as markup
-use Rattle.rox_reading.specs.Markup.{Turn, turn_at}
+use Rattle.rox_reading.specs.Markup.{TagItem, tag_item_at}
 use Rattle.rox_reading.specs.Tags.{Values}
 use Rattle.rox_theory.specs.Openers.{AgreesValue}
 use Rattle.rox_theory.proofs.Basics.{within, run_end_le}
@@ -46,14 +46,14 @@ use Rattle.rox_theory.proofs.FaultPairs.{one_qname, eq_one, pair_apart}
 -- ---- names
 
 -- of a row of declarations each may be declared, and none before it has its prefix
-declarable_at : (before xs ys : List Declaration) (d : Declaration) → AreDeclarable before (xs ++ d ∷ ys) → (may_declare d ≡ true) × (is_declared d.prefix (before ++ xs) ≡ false)
-declarable_at before [] ys d h = (h.0, subst (λ (ds : List Declaration). is_declared d.prefix ds ≡ false) (sym (append-nil before)) h.1)
+declarable_at : (before xs ys : List NamespaceDecl) (d : NamespaceDecl) → AreDeclarable before (xs ++ d ∷ ys) → (may_declare d ≡ true) × (is_declared d.prefix (before ++ xs) ≡ false)
+declarable_at before [] ys d h = (h.0, subst (λ (ds : List NamespaceDecl). is_declared d.prefix ds ≡ false) (sym (append-nil before)) h.1)
 declarable_at before (x ∷ xs) ys d h =
     let r = declarable_at (before ++ x ∷ []) xs ys d h.2 in
-    (r.0, subst (λ (ds : List Declaration). is_declared d.prefix ds ≡ false) (append_assoc before (x ∷ []) xs) r.1)
+    (r.0, subst (λ (ds : List NamespaceDecl). is_declared d.prefix ds ≡ false) (append_assoc before (x ∷ []) xs) r.1)
 
 -- of a row of attributes each is known, and none before it has its name
-distinct_at : (scope : List Declaration) (before xs ys : List Attribute) (a : Attribute) → AreDistinct scope before (xs ++ a ∷ ys)
+distinct_at : (scope : List NamespaceDecl) (before xs ys : List Attribute) (a : Attribute) → AreDistinct scope before (xs ++ a ∷ ys)
     → (is_known scope a.name ≡ true) × (list_any (λ e. same_expanded scope e.name a.name) (before ++ xs) ≡ false)
 distinct_at scope before [] ys a h = (h.0, subst (λ (as' : List Attribute). list_any (λ e. same_expanded scope e.name a.name) as' ≡ false) (sym (append-nil before)) h.1)
 distinct_at scope before (x ∷ xs) ys a h =
@@ -61,26 +61,26 @@ distinct_at scope before (x ∷ xs) ys a h =
     (r.0, subst (λ (as' : List Attribute). list_any (λ e. same_expanded scope e.name a.name) as' ≡ false) (append_assoc before (x ∷ []) xs) r.1)
 
 -- what two rows of attributes declare
-declared_both : (xs ys : List Attribute) → declarations_of (xs ++ ys) ≡ declarations_of xs ++ declarations_of ys
+declared_both : (xs ys : List Attribute) → namespace_decls_of (xs ++ ys) ≡ namespace_decls_of xs ++ namespace_decls_of ys
 declared_both xs ys =
-    ap (map declaration_of) (filter-append (λ a. declares a.name) xs ys) ∙ map-append declaration_of (filter (λ a. declares a.name) xs) (filter (λ a. declares a.name) ys)
+    ap (map namespace_decl_of) (filter-append (λ a. is_namespace_decl a.name) xs ys) ∙ map-append namespace_decl_of (filter (λ a. is_namespace_decl a.name) xs) (filter (λ a. is_namespace_decl a.name) ys)
 
 -- a declaration that may be: rows 1, 2, 3 and 5
-declared_apart : (src : List ℕ) (before : List Declaration) (a : Attribute) (f : Fault) → may_declare (declaration_of a) ≡ true → is_declared (declaration_of a).prefix before ≡ false → IllDeclared src before a f → ⊥
+declared_apart : (src : List ℕ) (before : List NamespaceDecl) (a : Attribute) (f : Fault) → may_declare (namespace_decl_of a) ≡ true → is_declared (namespace_decl_of a).prefix before ≡ false → IllDeclared src before a f → ⊥
 declared_apart src before a f may once (other_uri prefix local other reserved) =
-    let both = and_parts (not (bytes_eq a.value xmlns_uri)) (cond (is_xml (declaration_of a).prefix) (bytes_eq a.value xml_uri) (not (bytes_eq a.value xml_uri))) may in
+    let both = and_parts (not (bytes_eq a.value xmlns_uri)) (cond (is_xml (namespace_decl_of a).prefix) (bytes_eq a.value xml_uri) (not (bytes_eq a.value xml_uri))) may in
     let p : bytes_eq a.name.prefix (word_text word.Xmlns) ≡ true = (bytes_eq-Decides a.name.prefix (word_text word.Xmlns)).1 prefix in
     let l : bytes_eq a.name.local (word_text word.Xml) ≡ true = (bytes_eq-Decides a.name.local (word_text word.Xml)).1 local in
     let u : bytes_eq a.value xml_uri ≡ true = rw (p, l) at both.1 in
     other ((bytes_eq-Decides a.value xml_uri).0 u)
 declared_apart src before a f may once (uri_of_xml no_xml uri) =
-    let both = and_parts (not (bytes_eq a.value xmlns_uri)) (cond (is_xml (declaration_of a).prefix) (bytes_eq a.value xml_uri) (not (bytes_eq a.value xml_uri))) may in
+    let both = and_parts (not (bytes_eq a.value xmlns_uri)) (cond (is_xml (namespace_decl_of a).prefix) (bytes_eq a.value xml_uri) (not (bytes_eq a.value xml_uri))) may in
     let u : bytes_eq a.value xml_uri ≡ true = (bytes_eq-Decides a.value xml_uri).1 uri in
-    let w : cond (is_xml (declaration_of a).prefix) true (not true) ≡ true = subst (λ (b : Bool). cond (is_xml (declaration_of a).prefix) b (not b) ≡ true) u both.1 in
+    let w : cond (is_xml (namespace_decl_of a).prefix) true (not true) ≡ true = subst (λ (b : Bool). cond (is_xml (namespace_decl_of a).prefix) b (not b) ≡ true) u both.1 in
     let z : cond false true (not true) ≡ true = subst (λ (b : Bool). cond b true (not true) ≡ true) no_xml w in
     cc z
 declared_apart src before a f may once (uri_of_xmlns uri) =
-    let both = and_parts (not (bytes_eq a.value xmlns_uri)) (cond (is_xml (declaration_of a).prefix) (bytes_eq a.value xml_uri) (not (bytes_eq a.value xml_uri))) may in
+    let both = and_parts (not (bytes_eq a.value xmlns_uri)) (cond (is_xml (namespace_decl_of a).prefix) (bytes_eq a.value xml_uri) (not (bytes_eq a.value xml_uri))) may in
     let u : bytes_eq a.value xmlns_uri ≡ true = (bytes_eq-Decides a.value xmlns_uri).1 uri in
     let z : not true ≡ true = subst (λ (b : Bool). not b ≡ true) u both.0 in
     cc z
@@ -107,11 +107,11 @@ name_no_greater src i name n (colon_first _ _ colon nc no_colon) is = absurd (om
 -- ---- the front of a tag
 
 -- what follows in a tag, where so many texts may be opened: its end, or an attribute
-data Next (main : Bool) (O : Opener) (src : List ℕ) (p : ℕ) (empty : Bool) (j b : ℕ) : List Attribute → Type 0 where
+data Next (main : Bool) (O : Inclusion) (src : List ℕ) (p : ℕ) (empty : Bool) (j b : ℕ) : List Attribute → Type 0 where
   it_ends : TagEnds src p empty j → Next main O src p empty j b []
   it_goes : (q c : ℕ) (a : Attribute) (rest : List Attribute) → p < spaces_end src p → IsAttribute main O src (spaces_end src p) q b c a → Next main O src p empty j b (a ∷ rest)
 
-next_at : (main : Bool) (O : Opener) (src : List ℕ) (p last b c j : ℕ) (empty : Bool) (rest : List Attribute) → Attributes main O src p last b c rest → TagEnds src last empty j → Next main O src p empty j b rest
+next_at : (main : Bool) (O : Inclusion) (src : List ℕ) (p last b c j : ℕ) (empty : Bool) (rest : List Attribute) → Attributes main O src p last b c rest → TagEnds src last empty j → Next main O src p empty j b rest
 next_at main O src p last b c j empty rest (no_more _ _) ends = it_ends ends
 next_at main O src p last b c j empty rest (one_more _ q _ _ d _ a more spaces is others) ends = it_goes q d a more spaces is
 
@@ -120,10 +120,10 @@ end_byte : (src : List ℕ) (p j : ℕ) (empty : Bool) → TagEnds src p empty j
 end_byte src p j empty (opened _ close) = inl close
 end_byte src p j empty (closed _ slash close) = inr slash
 
-module _ (how : Values) (O : Opener) (agrees : AgreesValue how.entities O how.opener) (src : List ℕ) (utf8 : IsUtf8 src) where
+module _ (how : Values) (O : Inclusion) (agrees : AgreesValue how.entities O how.opener) (src : List ℕ) (utf8 : IsUtf8 src) where
   -- a turn of a tag that is an attribute
   turn : (i j b c : ℕ) (a : Attribute) → IsAttribute how.main O src (spaces_end src i) j b c a → (spaces : i < spaces_end src i)
-      → (r : Reads how O agrees src utf8 (spaces_end src i) j b c a) × (turn_at src i ≡ Ok (markup.more r.0, j))
+      → (r : Reads how O agrees src utf8 (spaces_end src i) j b c a) × (tag_item_at src i ≡ Ok (markup.more r.0, j))
   turn i j b c a is spaces = turn_is how O agrees src utf8 i j b c a is spaces
 
   -- two that stand there are one
@@ -131,9 +131,9 @@ module _ (how : Values) (O : Opener) (agrees : AgreesValue how.entities O how.op
   one_turn i j k b c d a e is is' spaces =
       let x = turn i j b c a is spaces in
       let y = turn i k b d e is' spaces in
-      let same = ok_one (markup.more x.0.0, j) (markup.more y.0.0, k) (turn_at src i) x.1 y.1 in
-      let one = one_attribute how O agrees src utf8 j k (spaces_end src i) b c d a e x.0 y.0 (same_more x.0.0 y.0.0 (ap (λ (p : Turn × ℕ). p.0) same)) in
-      (one.0, one.1, ap (λ (p : Turn × ℕ). p.1) same)
+      let same = ok_one (markup.more x.0.0, j) (markup.more y.0.0, k) (tag_item_at src i) x.1 y.1 in
+      let one = one_attribute how O agrees src utf8 j k (spaces_end src i) b c d a e x.0 y.0 (same_more x.0.0 y.0.0 (ap (λ (p : TagItem × ℕ). p.0) same)) in
+      (one.0, one.1, ap (λ (p : TagItem × ℕ). p.1) same)
 
   -- attributes that stand there are a front of all of them
   front : (i p last b c e j : ℕ) (empty : Bool) (as' bs : List Attribute) → Attributes how.main O src i p b c as' → Attributes how.main O src i last b e bs → TagEnds src last empty j
@@ -141,8 +141,8 @@ module _ (how : Values) (O : Opener) (agrees : AgreesValue how.entities O how.op
   front i p last b c e j empty as' bs (no_more _ _) all ends = (bs, refl, next_at how.main O src i last b e j empty bs all ends)
   front i p last b c e j empty as' bs (one_more _ k _ _ g _ a rest spaces is others) (no_more _ _) ends =
       let one = turn i k b g a is spaces in
-      let same = ok_one (markup.more one.0.0, k) (cond empty markup.closed markup.opened, j) (turn_at src i) one.1 (end_complete src i empty j ends) in
-      absurd (apart one.0.0 empty (ap (λ (p : Turn × ℕ). p.0) same))
+      let same = ok_one (markup.more one.0.0, k) (cond empty markup.closed markup.opened, j) (tag_item_at src i) one.1 (end_complete src i empty j ends) in
+      absurd (apart one.0.0 empty (ap (λ (p : TagItem × ℕ). p.0) same))
   front i p last b c e j empty as' bs (one_more _ k _ _ g _ a rest spaces is others) (one_more _ o _ _ h _ a' rest' spaces' is' others') ends =
       let one = one_turn i k o b g h a a' is is' spaces in
       let others'' : Attributes how.main O src k last g e rest' = subst (λ (o : ℕ). Attributes how.main O src o last g e rest') (sym one.2) (subst (λ (h : ℕ). Attributes how.main O src o last h e rest') (sym one.1) others') in
@@ -170,7 +170,7 @@ module _ (how : Values) (O : Opener) (agrees : AgreesValue how.entities O how.op
   name_follows p j b n empty rest name (it_goes q c a more spaces is') is = (q, c, a, more, refl, is')
 
   -- `/` without `>`
-  slash_apart : (p j b : ℕ) (empty : Bool) (rest : List Attribute) (f : Fault) → Next how.main O src p empty j b rest → byte src (spaces_end src p) ≡ 47 → Lacks src (spaces_end src p + 1) (a_byte 62) f → ⊥
+  slash_apart : (p j b : ℕ) (empty : Bool) (rest : List Attribute) (f : Fault) → Next how.main O src p empty j b rest → byte src (spaces_end src p) ≡ 47 → IsMissing src (spaces_end src p + 1) (a_byte 62) f → ⊥
   slash_apart p j b empty rest f (it_ends (opened _ close)) slash lack = absurd (omega arith)
   slash_apart p j b empty rest f (it_ends (closed _ slash' close)) slash lack = byte_stands src 62 (spaces_end src p + 1) f (omega arith) close lack
   slash_apart p j b empty rest f (it_goes q c a more spaces is) slash lack = (name_byte src (spaces_end src p) a.name a.name_end is.is_name).no_slash slash
@@ -190,11 +190,11 @@ module _ (how : Values) (O : Opener) (agrees : AgreesValue how.entities O how.op
         attributes_cut to.name_end p b c as' (qname_text src (s.at + 1) to.name to.name_end utf8 cut' to.is_name).3 to.attributes
 
     -- what it declares in front, and then
-    all_declared : (as' rest : List Attribute) → is.written ≡ as' ++ rest → tag.declarations ≡ declarations_of as' ++ declarations_of rest
-    all_declared as' rest same = is.declares ∙ ap declarations_of same ∙ declared_both as' rest
+    all_declared : (as' rest : List Attribute) → is.written ≡ as' ++ rest → tag.declarations ≡ namespace_decls_of as' ++ namespace_decls_of rest
+    all_declared as' rest same = is.is_namespace_decl ∙ ap namespace_decls_of same ∙ declared_both as' rest
 
     -- a name with no white space in front
-    space_apart : (p c : ℕ) (rest : List Attribute) (f : Fault) → IsCharBoundary src p → Next how.main O src p empty j c rest → byte src p ≢ 47 → byte src p ≢ 62 → Lacks src p a_space f → ⊥
+    space_apart : (p c : ℕ) (rest : List Attribute) (f : Fault) → IsCharBoundary src p → Next how.main O src p empty j c rest → byte src p ≢ 47 → byte src p ≢ 62 → IsMissing src p a_space f → ⊥
     space_apart p c rest f cut' (it_ends ends) no_slash no_close lack =
         let le = run_end_le is_space src p in
         let apart' : spaces_end src p ≢ p = λ same.
@@ -203,7 +203,7 @@ module _ (how : Values) (O : Opener) (agrees : AgreesValue how.entities O how.op
     space_apart p c rest f cut' (it_goes q d a more spaces is') no_slash no_close lack = space_stands src utf8 p f cut' spaces lack
 
     -- nor an attribute that lacks something
-    pair_in : (p q c : ℕ) (rest : List Attribute) (t : Thing) (f : Fault) → Next how.main O src p empty j c rest → byte src (spaces_end src p) ≢ 47 → byte src (spaces_end src p) ≢ 62 → DueInPair src (spaces_end src p) q t → Lacks src q t f → ⊥
+    pair_in : (p q c : ℕ) (rest : List Attribute) (t : DueItem) (f : Fault) → Next how.main O src p empty j c rest → byte src (spaces_end src p) ≢ 47 → byte src (spaces_end src p) ≢ 62 → DueInPair src (spaces_end src p) q t → IsMissing src q t f → ⊥
     pair_in p q c rest t f (it_ends ends) no_slash no_close due lack = elim (end_byte src p j empty ends) as (λ s. ⊥) [ inl close ↦ no_close close | inr slash ↦ no_slash slash ]
     pair_in p q c rest t f (it_goes k d a more spaces is') no_slash no_close due lack = pair_apart src utf8 (spaces_end src p) a.name_end is'.v is'.e k q a.name t f is'.is_name is'.eq is'.literal due lack
 
@@ -221,21 +221,21 @@ module _ (how : Values) (O : Opener) (agrees : AgreesValue how.entities O how.op
 
     -- a declaration that stands behind these is one of the tag
     declared_there : (p k c d : ℕ) (as' rest : List Attribute) (a : Attribute) → is.written ≡ as' ++ rest → Next how.main O src p empty j c rest → p < spaces_end src p → IsAttribute how.main O src (spaces_end src p) k c d a
-        → declares a.name ≡ true → (more : List Declaration) × (tag.declarations ≡ declarations_of as' ++ declaration_of a ∷ more)
+        → is_namespace_decl a.name ≡ true → (more : List NamespaceDecl) × (tag.declarations ≡ namespace_decls_of as' ++ namespace_decl_of a ∷ more)
     declared_there p k c d as' rest a same next spaces is' declares' =
         let x = name_follows p j c a.name_end empty rest a.name next is'.is_name in
         let is_a : a ≡ x.2 = (one_turn p k x.0 c d x.1 a x.2 is' x.5 spaces).0 in
         let whole : is.written ≡ as' ++ a ∷ x.3 = same ∙ ap (λ (xs : List Attribute). as' ++ xs) (x.4 ∙ ap (λ (a : Attribute). a ∷ x.3) (sym is_a)) in
-        let first : declarations_of (a ∷ x.3) ≡ declaration_of a ∷ declarations_of x.3 = rw declares' refl in
-        (declarations_of x.3, all_declared as' (a ∷ x.3) whole ∙ ap (λ (ds : List Declaration). declarations_of as' ++ ds) first)
+        let first : namespace_decls_of (a ∷ x.3) ≡ namespace_decl_of a ∷ namespace_decls_of x.3 = rw declares' refl in
+        (namespace_decls_of x.3, all_declared as' (a ∷ x.3) whole ∙ ap (λ (ds : List NamespaceDecl). namespace_decls_of as' ++ ds) first)
 
     -- nor one that may not be declared
     declared_in : (p k c d : ℕ) (as' rest : List Attribute) (a : Attribute) (f : Fault) → is.written ≡ as' ++ rest → Next how.main O src p empty j c rest → p < spaces_end src p → IsAttribute how.main O src (spaces_end src p) k c d a
-        → declares a.name ≡ true → IllDeclared src (declarations_of as') a f → ⊥
+        → is_namespace_decl a.name ≡ true → IllDeclared src (namespace_decls_of as') a f → ⊥
     declared_in p k c d as' rest a f same next spaces is' declares' ill =
         let there = declared_there p k c d as' rest a same next spaces is' declares' in
-        let may = declarable_at [] (declarations_of as') there.0 (declaration_of a) (subst (AreDeclarable []) there.1 well_named.declarations) in
-        declared_apart src (declarations_of as') a f may.0 may.1 ill
+        let may = declarable_at [] (namespace_decls_of as') there.0 (namespace_decl_of a) (subst (AreDeclarable []) there.1 well_named.declarations) in
+        declared_apart src (namespace_decls_of as') a f may.0 may.1 ill
 
     -- nor a name that is unknown, or stands twice
     named_in : (f : Fault) → IllNamed src s.at (listed (scope_of s.stack) tag.declarations) tag.name tag.attributes f → ⊥
@@ -249,10 +249,10 @@ module _ (how : Values) (O : Opener) (agrees : AgreesValue how.entities O how.op
 
     -- it is the tag that stands there
     same_tag : (p k c : ℕ) (x : Bool) (as' : List Attribute) (to : TagTo how.main O src s p b c as') → TagEnds src p x k
-        → ◌≡◌ {A = Tag} (record { name = to.name; name_end = to.name_end; declarations = declarations_of as'; attributes = attributes_of as' }) tag
+        → ◌≡◌ {A = Tag} (record { name = to.name; name_end = to.name_end; declarations = namespace_decls_of as'; attributes = plain_attributes_of as' }) tag
     same_tag p k c x as' to ends =
-        let t : Tag = record { name = to.name; name_end = to.name_end; declarations = declarations_of as'; attributes = attributes_of as' } in
-        let is' : IsTag how.main O src s.at k b c x t = record { begins = is.begins; is_name = to.is_name; written = as'; last = p; attributes = to.attributes; ends = ends; declares = refl; has = refl } in
+        let t : Tag = record { name = to.name; name_end = to.name_end; declarations = namespace_decls_of as'; attributes = plain_attributes_of as' } in
+        let is' : IsTag how.main O src s.at k b c x t = record { begins = is.begins; is_name = to.is_name; written = as'; last = p; attributes = to.attributes; ends = ends; is_namespace_decl = refl; has = refl } in
         (one_tag how O agrees src utf8 s.at k j b c e t tag x empty is' is).1
 
     -- so no fault of a start tag stands in it but those of the limits: rows 1 to 6, 9, 10, 13 to 15, 19 to 24, 31
@@ -275,13 +275,13 @@ module _ (how : Values) (O : Opener) (agrees : AgreesValue how.entities O how.op
         let x = tag_front p c as' to in
         let known = distinct_pairs (pairs_so_far s.stack s.done) in
         let there = declared_there p k c d as' x.0 a x.1 x.2 spaces is' declares' in
-        let split : tag.declarations ≡ declarations_of as' ++ declaration_of a ∷ [] ++ there.0 = there.1 ∙ sym (append_assoc (declarations_of as') (declaration_of a ∷ []) there.0) in
-        let more' = pairs_more known (declarations_of as' ++ declaration_of a ∷ []) there.0 in
+        let split : tag.declarations ≡ namespace_decls_of as' ++ namespace_decl_of a ∷ [] ++ there.0 = there.1 ∙ sym (append_assoc (namespace_decls_of as') (namespace_decl_of a ∷ []) there.0) in
+        let more' = pairs_more known (namespace_decls_of as' ++ namespace_decl_of a ∷ []) there.0 in
         pairs_over W (λ w.
-        (let all : length (with_new known (listable_of (declarations_of as' ++ declaration_of a ∷ [] ++ there.0))) ≤ most_pairs = subst (λ (ds : List Declaration). length (with_new known (listable_of ds)) ≤ most_pairs) split (few_pairs w) in
+        (let all : length (with_new known (listable_of (namespace_decls_of as' ++ namespace_decl_of a ∷ [] ++ there.0))) ≤ most_pairs = subst (λ (ds : List NamespaceDecl). length (with_new known (listable_of ds)) ≤ most_pairs) split (few_pairs w) in
         omega arith))
     tag_apart f (too_many_attributes p c k x as' to ends over) =
-        let same : length (attributes_of as') ≡ length tag.attributes = ap (λ (t : Tag). length t.attributes) (same_tag p k c x as' to ends) in
+        let same : length (plain_attributes_of as') ≡ length tag.attributes = ap (λ (t : Tag). length t.attributes) (same_tag p k c x as' to ends) in
         attributes_over W (λ w. (let all = few w in omega arith))
     tag_apart f (ill_named p c k x as' _ to ends few' ill) =
         absurd (named_in f (subst (λ (t : Tag). IllNamed src s.at (listed (scope_of s.stack) t.declarations) t.name t.attributes f) (same_tag p k c x as' to ends) ill))

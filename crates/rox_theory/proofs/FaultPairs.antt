@@ -8,9 +8,9 @@ use Rattle.rox_grammar.specs.declared.fault.Word.TheVariants as word
 use Rattle.rox_grammar.specs.Chars.{is_space}
 use Rattle.rox_grammar.specs.Written.{Name}
 use Rattle.rox_grammar.specs.Names.{byte, spaces_end, IsQName}
-use Rattle.rox_grammar.specs.Constructs.{at, AreChars, IsEq, IsLiteral, IsPair, IsGap, some_space, MayBePair, is_pair, no_pair, MayEndPair, is_last, no_last, IsDeclaration}
+use Rattle.rox_grammar.specs.Constructs.{at, AreChars, IsEq, IsLiteral, IsPair, IsGap, some_space, MayBePair, is_pair, no_pair, MayEndPair, is_last, no_last, IsXmlDecl}
 use Rattle.rox_grammar.specs.Constructs as constructs
-use Rattle.rox_grammar.specs.Due.{Thing, a_byte, a_quote, a_gap, a_word, chars_to, Lacks, no_quote, no_gap, ends_before, DueInPair, its_name, equals, opening, its_value, closing, value_end, PairBegins, version, encoding, standalone, DueInDeclaration, its_version, in_pair, behind_pair}
+use Rattle.rox_grammar.specs.Due.{DueItem, a_byte, a_quote, a_gap, a_word, chars_to, IsMissing, no_quote, no_gap, ends_before, DueInPair, its_name, equals, opening, its_value, closing, value_end, PairBegins, version, encoding, standalone, DueInXmlDecl, its_version, in_pair, behind_pair}
 use Rattle.rox_grammar.specs.Due as due
 use Rattle.rox_reading.specs.Lexical.{qname_at}
 use Rattle.rox_reading.specs.Markup.{pair_at, pair_if}
@@ -32,7 +32,7 @@ one_qname src i m n x y a b =
     (ap (λ (p : Name × ℕ). p.0) e, ap (λ (p : Name × ℕ). p.1) e)
 
 -- a quote that is due and stands there
-quote_stands : (src : List ℕ) (q : ℕ) (f : Fault) → (byte src q ≡ 39) ⊎ (byte src q ≡ 34) → Lacks src q a_quote f → ⊥
+quote_stands : (src : List ℕ) (q : ℕ) (f : Fault) → (byte src q ≡ 39) ⊎ (byte src q ≡ 34) → IsMissing src q a_quote f → ⊥
 quote_stands src q f (inl is) (no_quote inside no_one no_two) = no_one is
 quote_stands src q f (inr is) (no_quote inside no_one no_two) = no_two is
 quote_stands src q f (inl is) (ends_before _ byte' past) = let l = within src q (λ z. omega arith) in absurd (omega arith)
@@ -44,14 +44,14 @@ eq_one src m n v w same a b = a.next ∙ ap (λ (k : ℕ). spaces_end src (space
 
 module _ (src : List ℕ) (utf8 : IsUtf8 src) where
   -- in a name, Eq and a literal
-  pub pair_apart : (i n v e j q : ℕ) (name : Name) (t : Thing) (f : Fault) → IsQName src i name n → IsEq src n v → IsLiteral src v e j → DueInPair src i q t → Lacks src q t f → ⊥
+  pub pair_apart : (i n v e j q : ℕ) (name : Name) (t : DueItem) (f : Fault) → IsQName src i name n → IsEq src n v → IsLiteral src v e j → DueInPair src i q t → IsMissing src q t f → ⊥
   pair_apart i n v e j q name t f named eq literal its_name lack = qname_stands src i n name f named lack
   pair_apart i n v e j q name t f named eq literal (equals name' m is) lack =
       let same : m ≡ n = (one_qname src i m n name' name is named).1 in
-      byte_stands src 61 (spaces_end src n) f (omega arith) eq.equals (subst (λ (m : ℕ). Lacks src (spaces_end src m) (a_byte 61) f) same lack)
+      byte_stands src 61 (spaces_end src n) f (omega arith) eq.equals (subst (λ (m : ℕ). IsMissing src (spaces_end src m) (a_byte 61) f) same lack)
   pair_apart i n v e j q name t f named eq literal (opening name' m w is eq') lack =
       let same : w ≡ v = eq_one src m n w v (one_qname src i m n name' name is named).1 eq' eq in
-      quote_stands src v f literal.quote (subst (λ (w : ℕ). Lacks src w a_quote f) same lack)
+      quote_stands src v f literal.quote (subst (λ (w : ℕ). IsMissing src w a_quote f) same lack)
   pair_apart i n v e j q name t f named eq literal (its_value name' m w is eq' quote) lack =
       let same : w ≡ v = eq_one src m n w v (one_qname src i m n name' name is named).1 eq' eq in
       let ascii = quote_ascii (byte src v) literal.quote in
@@ -59,13 +59,13 @@ module _ (src : List ℕ) (utf8 : IsUtf8 src) where
       let to_end : value_end src v ≡ e = literal_complete src v e j literal in
       chars_stand src utf8 (v + 1) (value_end src v) f cut (value_cut src utf8 v (within src v (λ z. omega arith)) literal.quote)
       (subst (λ (e : ℕ). AreChars src (v + 1) e) (sym to_end) literal.chars)
-      (subst (λ (w : ℕ). Lacks src (w + 1) (chars_to (value_end src w)) f) same lack)
+      (subst (λ (w : ℕ). IsMissing src (w + 1) (chars_to (value_end src w)) f) same lack)
   pair_apart i n v e j q name t f named eq literal (closing name' m w is eq' quote chars) lack =
       let same : w ≡ v = eq_one src m n w v (one_qname src i m n name' name is named).1 eq' eq in
       let ascii = quote_ascii (byte src v) literal.quote in
       let to_end : value_end src v ≡ e = literal_complete src v e j literal in
       byte_stands src (byte src v) (value_end src v) f (omega arith) (ap (byte src) to_end ∙ literal_closes src v e j literal)
-      (subst (λ (w : ℕ). Lacks src (value_end src w) (a_byte (byte src w)) f) same lack)
+      (subst (λ (w : ℕ). IsMissing src (value_end src w) (a_byte (byte src w)) f) same lack)
 
   -- a pair ends in one place
   one_pair : (i j k : ℕ) → IsPair src i j → IsPair src i k → j ≡ k
@@ -83,7 +83,7 @@ module _ (src : List ℕ) (utf8 : IsUtf8 src) where
   one_last w i j k (no_last _ none) (no_last _ none') = refl
 
   -- a gap that is due and stands there
-  gap_stands : (i j : ℕ) (f : Fault) → IsCharBoundary src i → IsGap src i j → Lacks src i a_gap f → ⊥
+  gap_stands : (i j : ℕ) (f : Fault) → IsCharBoundary src i → IsGap src i j → IsMissing src i a_gap f → ⊥
   gap_stands i j f cut (some_space _ some) (no_gap inside no_space no_end) =
       true≢false (sym (begins_byte is_space (λ c h. space_ascii c h) src i utf8 cut (some_run is_space src i some)) ∙ no_space)
   gap_stands i j f cut (constructs.IsGap.no_space _ (inl end)) (no_gap inside no_space no_end) = absurd (omega arith)
@@ -101,7 +101,7 @@ module _ (src : List ℕ) (utf8 : IsUtf8 src) where
   last_is w i k here (no_last _ none) = absurd (true≢false (sym here ∙ none))
 
   -- the pair that stands where one begins
-  pair_there : (i j p : ℕ) (gap : Bool) → IsDeclaration src i j → PairBegins src i gap p → (k : ℕ) × IsPair src p k × (gap ≡ true → (l : ℕ) × IsGap src k l)
+  pair_there : (i j p : ℕ) (gap : Bool) → IsXmlDecl src i j → PairBegins src i gap p → (k : ℕ) × IsPair src p k × (gap ≡ true → (l : ℕ) × IsGap src k l)
   pair_there i j p gap is (version here) = let m = may_is word.Version (spaces_end src (i + 5)) is.v here is.first_pair in (m.0, m.1, λ g. (is.v, m.2))
   pair_there i j p gap is (encoding _ first may here) =
       let same : is.v ≡ p = one_may word.Version (spaces_end src (i + 5)) is.v p is.first_pair may in
@@ -112,7 +112,7 @@ module _ (src : List ℕ) (utf8 : IsUtf8 src) where
       (is.s, last_is word.Standalone p is.s here (subst (λ (e : ℕ). MayEndPair word.Standalone src e is.s) same' is.standalone), λ g. cc g)
 
   -- in the declaration: rows 21 to 25
-  pub declaration_apart : (i j q : ℕ) (t : Thing) (f : Fault) → IsDeclaration src i j → DueInDeclaration src i q t → Lacks src q t f → ⊥
+  pub declaration_apart : (i j q : ℕ) (t : DueItem) (f : Fault) → IsXmlDecl src i j → DueInXmlDecl src i q t → IsMissing src q t f → ⊥
   declaration_apart i j q t f is its_version lack = word_stands src word.Version (spaces_end src (i + 5)) f is.version lack
   declaration_apart i j q t f is (in_pair gap p _ _ begins due') lack =
       let there = pair_there i j p gap is begins in
@@ -123,8 +123,8 @@ module _ (src : List ℕ) (utf8 : IsUtf8 src) where
       let same : there.0 ≡ q = one_pair p there.0 q there.1 pair in
       let gap = there.2 refl in
       gap_stands q gap.0 f (pair_cut src p q utf8 pair) (subst (λ (k : ℕ). IsGap src k gap.0) same gap.1) lack
-  declaration_apart i j q t f is (due.DueInDeclaration.its_end v e s here may may' last) lack =
+  declaration_apart i j q t f is (due.DueInXmlDecl.its_end v e s here may may' last) lack =
       let first : is.v ≡ v = one_may word.Version (spaces_end src (i + 5)) is.v v is.first_pair may in
       let second : is.e ≡ e = one_may word.Encoding v is.e e (subst (λ (v : ℕ). MayBePair word.Encoding src v is.e) first is.encoding) may' in
       let third : is.s ≡ s = one_last word.Standalone e is.s s (subst (λ (e : ℕ). MayEndPair word.Standalone src e is.s) second is.standalone) last in
-      word_stands src word.PIEnd (spaces_end src is.s) f is.closes (subst (λ (s : ℕ). Lacks src (spaces_end src s) (a_word word.PIEnd) f) (sym third) lack)
+      word_stands src word.PIEnd (spaces_end src is.s) f is.closes (subst (λ (s : ℕ). IsMissing src (spaces_end src s) (a_word word.PIEnd) f) (sym third) lack)

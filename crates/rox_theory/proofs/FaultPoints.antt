@@ -6,23 +6,23 @@ use Rattle.std.proofs.lemmas.Bool.{leb-false}
 use Rattle.rox_grammar.specs.declared.fault.Fault.{Fault}
 use Rattle.rox_grammar.specs.declared.fault.Fault.TheVariants as fault
 use Rattle.rox_grammar.specs.Forest.{Forest, Nil, join}
-use Rattle.rox_grammar.specs.Written.{Declaration, Tag, Item, leaf}
+use Rattle.rox_grammar.specs.Written.{NamespaceDecl, Tag, Item, leaf}
 use Rattle.rox_grammar.specs.Tree.{listed}
-use Rattle.rox_grammar.specs.Content.{Opener}
-use Rattle.rox_grammar.specs.Entities.{Replacement, Entity, text_of, most_open}
+use Rattle.rox_grammar.specs.Content.{Inclusion}
+use Rattle.rox_grammar.specs.Entities.{Replacement, Entity, text_of, most_deep}
 use Rattle.rox_grammar.specs.Document.{listable, own_pairs, own_attributes, with_new, distinct_pairs, most_attributes, most_pairs}
 use Rattle.rox_grammar.specs.WellNamed.{AreWellNamed}
 use Rattle.rox_grammar.specs.State as grammar
 use Rattle.rox_grammar.specs.State.{Open, root, inside, scope_of, nodes_so_far, attributes_so_far, pairs_so_far, FitsLimits}
-use Rattle.rox_grammar.specs.Places.{is_main, MayOpen, IsSpent, RootBegins, Takes, Place}
+use Rattle.rox_grammar.specs.ContentPoints.{is_main, MayOpen, IsSpent, RootBegins, StepsOver, ContentPoint}
 use Rattle.rox_grammar.specs.Faults.{Stands, too_many_nodes, FaultFrom, at_place}
 use Rattle.rox_reading.specs.Refusals.{Refusal, here, there, refused, elsewhere}
 use Rattle.rox_reading.specs.Lexical.{◌>>=◌}
 use Rattle.rox_reading.specs.State.{State}
-use Rattle.rox_reading.specs.Machine.{How, counted, values_of, budget, opener}
+use Rattle.rox_reading.specs.Machine.{Context, counted, values_of, budget, opener}
 use Rattle.rox_reading.proofs.Forests.{named-right}
 use Rattle.rox_theory.proofs.Basics.{chosen}
-use Rattle.rox_theory.proofs.Standing.{AreNamed, IsFine, distinct-append, attributes-item, pairs-item}
+use Rattle.rox_theory.proofs.Standing.{AreNamed, IsValidState, distinct-append, attributes-item, pairs-item}
 use Rattle.rox_theory.proofs.Steps.{after}
 use Rattle.rox_theory.proofs.FaultBasics.{no_fault}
 
@@ -63,7 +63,7 @@ abbrev pub place_of : State → grammar.State
 place_of s = record { at = s.at; done = s.done; stack = s.stack }
 
 -- how a text is read where k replacement texts are open, and d more may be
-abbrev pub how_at : ℕ → List Entity → (d k base : ℕ) → How
+abbrev pub how_at : ℕ → List Entity → (d k base : ℕ) → Context
 how_at limit es d k base = record { limit = limit; values = values_of es d (is_main k); base = base; opener = opener limit es d (is_main k) }
 
 -- the names of what is read last
@@ -72,7 +72,7 @@ named_last root done items named = named-right [] done items named
 named_last (inside start tag before up) done items named = named-right (listed (scope_of up) tag.declarations) done items named.2
 
 -- a fine state is within the limits
-pub fine_fits : (limit most : ℕ) (s : State) → most ≤ max limit 1 → IsFine most s → FitsLimits limit s.stack s.done
+pub fine_fits : (limit most : ℕ) (s : State) → most ≤ max limit 1 → IsValidState most s → FitsLimits limit s.stack s.done
 fine_fits limit most s least fine = record { nodes = omega (arith, fine.nodes); attributes = fine.attributes; namespaces = fine.pairs }
 
 -- ---- one node too many
@@ -86,7 +86,7 @@ pub item_few : (s : State) (item : Item) → attributes_so_far s.stack s.done + 
     → AreFew s.stack (join s.done (leaf item))
 item_few s item attributes few =
     let e : pairs_so_far s.stack (join s.done (leaf item)) ≡ pairs_so_far s.stack s.done ++ own_pairs item =
-    pairs-item s.stack s.done item Nil ∙ ap (λ (ds : List Declaration). pairs_so_far s.stack s.done ++ ds) (append-nil (own_pairs item)) in
+    pairs-item s.stack s.done item Nil ∙ ap (λ (ds : List NamespaceDecl). pairs_so_far s.stack s.done ++ ds) (append-nil (own_pairs item)) in
     (omega (arith, attributes-item s.stack s.done item Nil), rw (e, distinct-append) few)
 
 -- with an open tag
@@ -107,33 +107,33 @@ spent_here (suc l) after zero f h = (inl refl, cc h)
 spent_here (suc l) after (suc r) f h = no_fault _ f h
 
 -- and where one may
-pub may_open : (l after left r : ℕ) → l < most_open → budget (is_main l) after left ≡ Ok r → MayOpen l left r
+pub may_open : (l after left r : ℕ) → l < most_deep → budget (is_main l) after left ≡ Ok r → MayOpen l left r
 may_open zero after left r fewer h = let e : 255 ≡ r = cc in sym e
 may_open (suc l) after zero r fewer h = cc h
 may_open (suc l) after (suc n) r fewer h = let e : n ≡ r = cc in (omega arith, fewer)
 
 -- the deepest
-pub deepest : (l left : ℕ) → zero + l ≡ most_open → IsSpent l left
+pub deepest : (l left : ℕ) → zero + l ≡ most_deep → IsSpent l left
 deepest zero left h = absurd (omega arith)
 deepest (suc l) left h = inr (omega arith)
 
 -- ---- places
 
-module _ (opens : ℕ → Opener) (es : List Entity) (limit : ℕ) (text : List ℕ) (declared : Bool) (Front : ℕ → Forest Item → Type 0) where
+module _ (opens : ℕ → Inclusion) (es : List Entity) (limit : ℕ) (text : List ℕ) (declared : Bool) (Front : ℕ → Forest Item → Type 0) where
   -- the faults from there on
   abbrev pub From : List ℕ → Fault → Type 0
   From src f = FaultFrom opens es limit text declared Front src f
 
   -- a place where the state is
   abbrev pub At : (k base : ℕ) → List ℕ → State → Type 0
-  At k base src s = Place opens es text (λ p items. Front p items × RootBegins declared text p) k base src s.left (place_of s)
+  At k base src s = ContentPoint opens es text (λ p items. Front p items × RootBegins declared text p) k base src s.left (place_of s)
 
   -- a fault at a place
   pub stand : (k base : ℕ) (src : List ℕ) (s : State) (f : Fault) → At k base src s → FitsLimits limit s.stack s.done → Stands limit es k base (opens k) src (place_of s) s.left f → From src f
   stand k base src s f place fits stands = at_place k base s.left src (place_of s) f place fits stands
 
   -- more nodes than the limit
-  pub over : (k base : ℕ) (src : List ℕ) (s t : State) (f : Fault) → At k base src s → FitsLimits limit s.stack s.done → Takes k (opens k) src (place_of s) s.left (place_of t) t.left → AreFew t.stack t.done → counted limit t ≡ Err f
+  pub over : (k base : ℕ) (src : List ℕ) (s t : State) (f : Fault) → At k base src s → FitsLimits limit s.stack s.done → StepsOver k (opens k) src (place_of s) s.left (place_of t) t.left → AreFew t.stack t.done → counted limit t ≡ Err f
       → From src f
   over k base src s t f place fits takes few h =
       chosen (nat_le (nodes_so_far t.stack t.done) limit) _ _ _ h (λ fewer h. no_fault t f h)

@@ -10,7 +10,7 @@ use Rattle.rox_grammar.specs.Forest.{Forest}
 use Rattle.rox_grammar.specs.Written.{Item}
 use Rattle.rox_grammar.specs.Names.{byte, slice}
 use Rattle.rox_grammar.specs.References.{is_digit, is_hex_digit, IsNumber, IsReference, IsCharacter, decimal, hexadecimal, named, predefined}
-use Rattle.rox_grammar.specs.Content.{Opener, Sign, Part, part_ends, as_written, from_reference, Parts, last_part, then_entity, Value, value_ends, line_end, white, other, a_character, an_entity}
+use Rattle.rox_grammar.specs.Content.{Inclusion, DataByte, Part, part_ends, as_written, from_reference, Parts, last_part, then_entity, Value, value_ends, line_end, white, other, a_character, an_entity}
 use Rattle.rox_grammar.specs.Entities.{Replacement, Entity, text_of}
 use Rattle.rox_grammar.specs.Faults.{InReferences, malformed, undeclared}
 use Rattle.rox_theory.proofs.Basics.{within}
@@ -106,13 +106,13 @@ begun_apart : (es : List Entity) (src : List ℕ) (Allowed : ℕ → Type 0) (q 
 begun_apart es src Allowed q f (to_character c n is allowed) ill = character_stands es src q c n f is ill
 begun_apart es src Allowed q f (to_entity n j t is none found) ill = entity_stands es src q n j t f is found ill
 
-module _ (es : List Entity) (main : Bool) (O : Opener) (src : List ℕ) (utf8 : IsUtf8 src) where
+module _ (es : List Entity) (main : Bool) (O : Inclusion) (src : List ℕ) (utf8 : IsUtf8 src) where
   -- in a run any character may be
   abbrev Any : ℕ → Type 0
   Any c = Unit {0}
 
   -- each `&` of a part begins a reference to a character
-  part_amp : (j i q : ℕ) (ss : List Sign) → Part main src j i ss → i ≤ q → q < j → byte src q ≡ 38 → Begins es src Any q
+  part_amp : (j i q : ℕ) (ss : List DataByte) → Part main src j i ss → i ≤ q → q < j → byte src q ≡ 38 → Begins es src Any q
   part_amp j i q ss part_ends from below amp = absurd (omega arith)
   part_amp j i q ss (as_written _ more less no_amp rest) from below amp =
       elim (cases_eq q i) as (λ s. Begins es src Any q) [

@@ -13,26 +13,26 @@ use Rattle.rox_grammar.specs.Written.{Item}
 use Rattle.rox_grammar.specs.Names.{byte, spaces_end}
 use Rattle.rox_grammar.specs.Constructs.{at}
 use Rattle.rox_grammar.specs.Content.{IsElement}
-use Rattle.rox_grammar.specs.Start.{after_bom}
-use Rattle.rox_grammar.specs.Entities.{Entity, no_entities, Opens, most_open, opens_main}
+use Rattle.rox_grammar.specs.TextStart.{after_bom}
+use Rattle.rox_grammar.specs.Entities.{Entity, no_entities, Includes, most_deep, included_in_main}
 use Rattle.rox_grammar.specs.Doctype.{Asked, IsDoctype}
 use Rattle.rox_grammar.specs.Document.{Misc, no_misc, MayHaveDoctype}
 use Rattle.rox_grammar.specs.Document as document
 use Rattle.rox_grammar.specs.State.{root, FitsLimits}
-use Rattle.rox_grammar.specs.Places.{is_main, Ahead, AheadDeclared}
+use Rattle.rox_grammar.specs.ContentPoints.{is_main, PrologTo, PrologWithDoctype}
 use Rattle.rox_grammar.specs.Faults.{InMisc, FaultFrom, in_misc_ahead, too_many_ahead, FaultOf}
 use Rattle.rox_grammar.specs.Faults as faults
-use Rattle.rox_grammar.specs.Refused.{opens_at, RefusalOf, in_declaration, without, not_allowed, in_doctype, behind, SubsetTo}
-use Rattle.rox_grammar.specs.Refused as rows
+use Rattle.rox_grammar.specs.FaultsWithDoctype.{opens_at, RefusalOf, in_declaration, without, not_allowed, in_doctype, behind, SubsetTo}
+use Rattle.rox_grammar.specs.FaultsWithDoctype as rows
 use Rattle.rox_reading.specs.Refusals.{Refusal, here, there, refused, lifted}
 use Rattle.rox_reading.specs.State.{State}
-use Rattle.rox_reading.specs.Markup.{declaration_at}
+use Rattle.rox_reading.specs.Markup.{xml_decl_at}
 use Rattle.rox_reading.specs.Machine.{value_opener, opener}
 use Rattle.rox_reading.specs.Doctype.{Reply, Asks, asks_nothing, ◌>>>◌, Dtd, with_state, AreTextReplies, doctype_step}
-use Rattle.rox_reading.specs.Whole.{misc, body, finished, prolog, reading}
-use Rattle.rox_reading.specs.Whole as whole
+use Rattle.rox_reading.specs.WholeText.{misc, body, finished, prolog, reading}
+use Rattle.rox_reading.specs.WholeText as whole
 use Rattle.rox_reading.proofs.Forests.{join-nil, join_assoc}
-use Rattle.rox_theory.specs.Fine.{IsFine, state}
+use Rattle.rox_theory.specs.ValidState.{IsValidState, state}
 use Rattle.rox_theory.specs.Openers.{AreTexts, AgreesValue, AgreesContent}
 use Rattle.rox_theory.proofs.Basics.{chosen, within, run_end_le}
 use Rattle.rox_theory.proofs.Constructions.{comment_bytes, instruction_bytes}
@@ -56,15 +56,15 @@ only_by P (Ok x) good bad = good x
 only_by P (Err f) good bad = bad f refl
 
 -- what a reference opens, by how many are open
-pub values_at : (es : List Entity) → AreTexts es → (d k : ℕ) → d + k ≡ most_open → AgreesValue es (opens_at es k) (value_opener es d (is_main k))
+pub values_at : (es : List Entity) → AreTexts es → (d k : ℕ) → d + k ≡ most_deep → AgreesValue es (opens_at es k) (value_opener es d (is_main k))
 values_at es texts d k deep =
-    let left : d ≡ most_open - k = omega arith in
-    subst (λ (n : ℕ). AgreesValue es (Opens es n (is_main k)) (value_opener es d (is_main k))) left (values_agree es texts d (is_main k))
+    let left : d ≡ most_deep - k = omega arith in
+    subst (λ (n : ℕ). AgreesValue es (Includes es n (is_main k)) (value_opener es d (is_main k))) left (values_agree es texts d (is_main k))
 
-pub contents_at : (limit : ℕ) (es : List Entity) → AreTexts es → (d k : ℕ) → d + k ≡ most_open → AgreesContent es limit (opens_at es k) (opener limit es d (is_main k))
+pub contents_at : (limit : ℕ) (es : List Entity) → AreTexts es → (d k : ℕ) → d + k ≡ most_deep → AgreesContent es limit (opens_at es k) (opener limit es d (is_main k))
 contents_at limit es texts d k deep =
-    let left : d ≡ most_open - k = omega arith in
-    subst (λ (n : ℕ). AgreesContent es limit (Opens es n (is_main k)) (opener limit es d (is_main k))) left (openers_agree limit es texts d (is_main k))
+    let left : d ≡ most_deep - k = omega arith in
+    subst (λ (n : ℕ). AgreesContent es limit (Includes es n (is_main k)) (opener limit es d (is_main k))) left (openers_agree limit es texts d (is_main k))
 
 -- more of what stands behind a document type declaration
 doctype_on : (src : List ℕ) (utf8 : IsUtf8 src) (asked : List Asked) (es : List Entity) (i p q : ℕ) (dtd : Bool) (nodes items : Forest Item) → dtd ≡ true → MayHaveDoctype src i p dtd nodes asked es → Misc src p q items
@@ -74,7 +74,7 @@ doctype_on src utf8 asked es i p q dtd nodes items is (document.MayHaveDoctype.d
     (document.MayHaveDoctype.doctype i j q front (join others items) asked es one (misc_append src utf8 j p q others items rest more))
 doctype_on src utf8 asked es i p q dtd nodes items is (document.MayHaveDoctype.no_doctype _) more = cc is
 
-pub declared_on : (src : List ℕ) (utf8 : IsUtf8 src) (asked : List Asked) (es : List Entity) (p q : ℕ) (done items : Forest Item) → AheadDeclared src asked es p done → Misc src p q items → AheadDeclared src asked es q (join done items)
+pub declared_on : (src : List ℕ) (utf8 : IsUtf8 src) (asked : List Asked) (es : List Entity) (p q : ℕ) (done items : Forest Item) → PrologWithDoctype src asked es p done → Misc src p q items → PrologWithDoctype src asked es q (join done items)
 declared_on src utf8 asked es p q done items a more =
     record {
       begun = a.begun;
@@ -104,19 +104,19 @@ module _ (src : List ℕ) (utf8 : IsUtf8 src) (limit : ℕ) (allow : Bool) where
   most = max limit 1
 
   -- where no entity is declared the fault stands in the text itself
-  plain_refused : (e : Refusal) → Refuses [] (From (λ k. no_entities) [] limit src false (Ahead src)) src e → Refused [] e
+  plain_refused : (e : Refusal) → Refuses [] (From (λ k. no_entities) [] limit src false (PrologTo src)) src e → Refused [] e
   plain_refused (here f) ill = without f ill
   plain_refused (there source f) ill = let none = ill.1.2 in cc none
   plain_refused (refused request p message) ill = tt
 
   -- behind a document type declaration
-  behind_refused : (asked : List Asked) (es : List Entity) → allow ≡ true → (e : Refusal) → Refuses es (From (opens_at es) es limit src true (AheadDeclared src asked es)) src e → Refused asked e
+  behind_refused : (asked : List Asked) (es : List Entity) → allow ≡ true → (e : Refusal) → Refuses es (From (opens_at es) es limit src true (PrologWithDoctype src asked es)) src e → Refused asked e
   behind_refused asked es may (here f) ill = behind asked es src f may ill
   behind_refused asked es may (there source f) ill = behind asked es source f may ill.0
   behind_refused asked es may (refused request p message) ill = tt
 
   -- in one
-  in_refused : (i : ℕ) (before : Forest Item) → allow ≡ true → Ahead src i before → FitsLimits limit root before → at word.DoctypeStart src i ≡ true → (asked : List Asked) (e : Refusal)
+  in_refused : (i : ℕ) (before : Forest Item) → allow ≡ true → PrologTo src i before → FitsLimits limit root before → at word.DoctypeStart src i ≡ true → (asked : List Asked) (e : Refusal)
       → Stands src utf8 limit most (omega arith) (omega arith) i before asked e → Refused asked e
   in_refused i before may ahead fits opens asked (here f) ill = in_doctype i before asked src f may ahead fits opens ill
   in_refused i before may ahead fits opens asked (there source f) ill = in_doctype i before asked source f may ahead fits opens ill
@@ -131,15 +131,15 @@ module _ (src : List ℕ) (utf8 : IsUtf8 src) (limit : ℕ) (allow : Bool) where
 
   -- ---- without a document type declaration
 
-  plain_rest : (i : ℕ) (before : Forest Item) (rs : List Reply) → IsCharBoundary src i → IsFine most (state i before root 255) → Ahead src i before → is_space (byte src i) ≡ false → at word.CommentStart src i ≡ false
+  plain_rest : (i : ℕ) (before : Forest Item) (rs : List Reply) → IsCharBoundary src i → IsValidState most (state i before root 255) → PrologTo src i before → is_space (byte src i) ≡ false → at word.CommentStart src i ≡ false
       → at word.PIStart src i ≡ false → at word.DoctypeStart src i ≡ false → Whole (rest_of (record { state = state i before root 255; entities = []; replies = rs }))
   plain_rest i before rs cut fine ahead no_space no_comment no_instruction no_doctype =
       let less : limit ≤ most = omega arith in
       let least : most ≤ max limit 1 = omega arith in
       result_by Whole (body limit [] src (state i before root 255)) _
       (λ x main. only_by Whole (finished src x) (λ tops. tt)
-      (λ f bad. without f (finished_fails src utf8 (λ k. no_entities) [] limit most false (Ahead src) less least (plain_values src utf8) (plain_contents src utf8 limit) (no_texts src utf8) (plain_elements src utf8) i before f x cut fine ahead no_space main bad)))
-      (λ e bad. plain_refused e (body_fails src utf8 (λ k. no_entities) [] limit most false (Ahead src) less least (plain_values src utf8) (plain_contents src utf8 limit) (no_texts src utf8) (plain_elements src utf8) i before e cut fine ahead
+      (λ f bad. without f (finished_fails src utf8 (λ k. no_entities) [] limit most false (PrologTo src) less least (plain_values src utf8) (plain_contents src utf8 limit) (no_texts src utf8) (plain_elements src utf8) i before f x cut fine ahead no_space main bad)))
+      (λ e bad. plain_refused e (body_fails src utf8 (λ k. no_entities) [] limit most false (PrologTo src) less least (plain_values src utf8) (plain_contents src utf8 limit) (no_texts src utf8) (plain_elements src utf8) i before e cut fine ahead
       no_comment no_instruction (λ z. no_doctype) bad))
 
   -- ---- behind one
@@ -167,7 +167,7 @@ module _ (src : List ℕ) (utf8 : IsUtf8 src) (limit : ℕ) (allow : Bool) where
   unfolding finished
   finished_none s f past h = chosen (nat_lt s.at (length src)) _ _ _ h (λ more h. absurd (let l = ltb-true _ _ more in omega arith)) (λ all h. cc)
 
-  module _ (i : ℕ) (before : Forest Item) (may : allow ≡ true) (ahead : Ahead src i before) (fits : FitsLimits limit root before) (opens : at word.DoctypeStart src i ≡ true) where
+  module _ (i : ℕ) (before : Forest Item) (may : allow ≡ true) (ahead : PrologTo src i before) (fits : FitsLimits limit root before) (opens : at word.DoctypeStart src i ≡ true) where
     -- what follows it
     abbrev go_on : List Asked → Dtd → Asks Dtd
     go_on asked e = (let next = asks_nothing (lifted (misc limit (length src) src e.state)) >>> λ s. asks_nothing (Ok (with_state e s)) in (asked ++ next.0, next.1))
@@ -189,20 +189,20 @@ module _ (src : List ℕ) (utf8 : IsUtf8 src) (limit : ℕ) (allow : Bool) where
         (λ f bad. absurd (misc_never (length src) e.state f past bad))
 
     -- it is read to its end
-    closed_rest : (asked : List Asked) (e : Dtd) (items : Forest Item) → IsDoctype src i e.state.at items asked e.entities → e.state ≡ state e.state.at (join before items) root 255 → IsCharBoundary src e.state.at → IsFine most e.state
+    closed_rest : (asked : List Asked) (e : Dtd) (items : Forest Item) → IsDoctype src i e.state.at items asked e.entities → e.state ≡ state e.state.at (join before items) root 255 → IsCharBoundary src e.state.at → IsValidState most e.state
         → Whole (go_on asked e >>> rest_of)
     closed_rest asked e items is state_is cut fine =
         let less : limit ≤ most = omega arith in
         let least : most ≤ max limit 1 = omega arith in
         let es = e.entities in
-        let Front : ℕ → Forest Item → Type 0 = AheadDeclared src asked es in
+        let Front : ℕ → Forest Item → Type 0 = PrologWithDoctype src asked es in
         let here' : MayHaveDoctype src i e.state.at true (join items Nil) asked es = document.MayHaveDoctype.doctype i e.state.at e.state.at items Nil asked es is (no_misc e.state.at) in
         let texts : AreTexts es = texts_agree src utf8 i e.state.at true (join items Nil) asked es here' in
         let point : Front e.state.at (join before items) =
         record { begun = i; before = before; ahead = ahead; nodes = join items Nil; doctype = here'; all = ap (λ (f : Forest Item). join before f) (sym (join-nil items)) } in
         let on = declared_on src utf8 asked es in
-        let fine' : IsFine most (state e.state.at (join before items) root 255) = subst (IsFine most) state_is fine in
-        let elements : (i j left : ℕ) (one : Forest Item) → IsElement true (opens_main es) src i j 255 left one → (left' : ℕ) × IsElement true (opens_at es 0) src i j 255 left' one = λ i j left one is. (left, is) in
+        let fine' : IsValidState most (state e.state.at (join before items) root 255) = subst (IsValidState most) state_is fine in
+        let elements : (i j left : ℕ) (one : Forest Item) → IsElement true (included_in_main es) src i j 255 left one → (left' : ℕ) × IsElement true (opens_at es 0) src i j 255 left' one = λ i j left one is. (left, is) in
         let values = values_at es texts in
         let contents = contents_at limit es texts in
         nothing_by (λ r. Whole ((asked ++ r.0, r.1) >>> rest_of)) (misc limit (length src) src e.state) (λ s. asks_nothing (Ok (with_state e s)))
@@ -212,7 +212,7 @@ module _ (src : List ℕ) (utf8 : IsUtf8 src) (limit : ℕ) (allow : Bool) where
         let s_is : s ≡ state s.at (join (join before items) m.0) root 255 = m.2 in
         let there : Front s.at (join (join before items) m.0) = on e.state.at s.at (join before items) m.0 point m.1 in
         let stops = misc_stops src utf8 (length src) limit 255 e.state.at (join before items) s cut (omega arith) read' in
-        let fine'' = subst (IsFine most) s_is m.3 in
+        let fine'' = subst (IsValidState most) s_is m.3 in
         result_by (λ r. Whole ((asked ++ []) ++ r.0, r.1)) (body limit es src s) _
         (λ x main. only_by (λ r. Whole ((asked ++ []) ++ r.0, r.1)) (finished src x) (λ tops. tt)
         (λ f bad. nothing_more asked (here f) (behind asked es src f may
@@ -231,11 +231,11 @@ module _ (src : List ℕ) (utf8 : IsUtf8 src) (limit : ℕ) (allow : Bool) where
     ended_rest asked e (closed items is state_is cut fine) = closed_rest asked e items is state_is cut fine
     ended_rest asked e (cut_off items to state_is solid fine) =
         let past : length src ≤ e.state.at = (let at_is : e.state.at ≡ length src = ap (λ (s : State). s.at) state_is in omega arith) in
-        let within' = fine_fits limit most (state (length src) (join before items) root 255) (omega arith) (subst (IsFine most) state_is fine) in
+        let within' = fine_fits limit most (state (length src) (join before items) root 255) (omega arith) (subst (IsValidState most) state_is fine) in
         cut_rest asked e (in_doctype i before asked src fault.NoRootNode may ahead fits opens (rows.InDoctype.no_root items asked to within' solid)) past
 
     -- the declaration and the rest
-    pub declared_whole : (rs : List Reply) → IsFine most (state i before root 255) → AreTextReplies rs
+    pub declared_whole : (rs : List Reply) → IsValidState most (state i before root 255) → AreTextReplies rs
         → Whole (doctype_step limit src (record { state = state i before root 255; entities = []; replies = rs }) >>> (λ e. asks_nothing (lifted (misc limit (length src) src e.state)) >>> λ s. asks_nothing (Ok (with_state e s))) >>> rest_of)
     declared_whole rs fine texts =
         let start : Dtd = record { state = state i before root 255; entities = []; replies = rs } in
@@ -245,7 +245,7 @@ module _ (src : List ℕ) (utf8 : IsUtf8 src) (limit : ℕ) (allow : Bool) where
         (λ asked e read. in_refused i before may ahead fits opens asked e (subst (Outcome src utf8 limit most (omega arith) (omega arith) i before []) read all))
 
   -- a document type declaration, where one stands, and the rest
-  doctype_whole : (i : ℕ) (before : Forest Item) (rs : List Reply) → AreTextReplies rs → IsCharBoundary src i → IsFine most (state i before root 255) → Ahead src i before → is_space (byte src i) ≡ false
+  doctype_whole : (i : ℕ) (before : Forest Item) (rs : List Reply) → AreTextReplies rs → IsCharBoundary src i → IsValidState most (state i before root 255) → PrologTo src i before → is_space (byte src i) ≡ false
       → at word.CommentStart src i ≡ false → at word.PIStart src i ≡ false → Whole (whole.doctype limit allow src (record { state = state i before root 255; entities = []; replies = rs }) >>> rest_of)
   unfolding whole.doctype
   doctype_whole i before rs texts cut fine ahead no_space no_comment no_instruction =
@@ -268,22 +268,22 @@ module _ (src : List ℕ) (utf8 : IsUtf8 src) (limit : ℕ) (allow : Bool) where
       let may = prolog_sound src utf8 b i declared in
       let cut = prolog_cut src utf8 b i bom may in
       let first = state i Nil root 255 in
-      let start : IsFine most first = record { nodes = omega arith; attributes = omega arith; pairs = omega arith; named = tt } in
-      let ahead : Ahead src i Nil = record { declared_to = i; declaration = may; misc = no_misc i } in
+      let start : IsValidState most first = record { nodes = omega arith; attributes = omega arith; pairs = omega arith; named = tt } in
+      let ahead : PrologTo src i Nil = record { declared_to = i; declaration = may; misc = no_misc i } in
       nothing_by Whole (misc limit (length src) src first) _
       (λ s read.
       let m = misc_sound src utf8 (length src) limit most 255 i Nil s less cut start read in
       let s_is : s ≡ state s.at m.0 root 255 = m.2 in
-      let there : Ahead src s.at m.0 = ahead_on src utf8 i s.at Nil m.0 ahead m.1 in
+      let there : PrologTo src s.at m.0 = ahead_on src utf8 i s.at Nil m.0 ahead m.1 in
       let stops = misc_stops src utf8 (length src) limit 255 i Nil s cut (omega arith) read in
       subst (λ (t : State). Whole (whole.doctype limit allow src (record { state = t; entities = []; replies = replies }) >>> rest_of)) (sym s_is)
-      (doctype_whole s.at m.0 replies texts stops.3 (subst (IsFine most) s_is m.3) there stops.0 stops.1 stops.2))
+      (doctype_whole s.at m.0 replies texts stops.3 (subst (IsValidState most) s_is m.3) there stops.0 stops.1 stops.2))
       (λ f bad.
-      misc_fails src utf8 limit most less least f (Ahead src) (ahead_on src utf8) (RefusalOf limit allow src [] src f) (λ p items point fits ill. without f (in_misc_ahead p items f point fits ill))
+      misc_fails src utf8 limit most less least f (PrologTo src) (ahead_on src utf8) (RefusalOf limit allow src [] src f) (λ p items point fits ill. without f (in_misc_ahead p items f point fits ill))
       (λ p j items item point fits item_is many is. subst (RefusalOf limit allow src [] src) is (without fault.NodesLimitReached (too_many_ahead p j items item point fits item_is many)))
       (length src) 255 i Nil ahead start cut bad))
-      (λ f bad. chosen (at word.DeclarationStart src b) _ _ _ bad
-      (λ is bad. bind_err (declaration_at src b) _ f bad (λ bad. let w = declaration_fails src utf8 b f bad in in_declaration w.0 w.1 f is w.2 w.3) (λ x read bad. no_fault _ f bad))
+      (λ f bad. chosen (at word.XmlDeclStart src b) _ _ _ bad
+      (λ is bad. bind_err (xml_decl_at src b) _ f bad (λ bad. let w = declaration_fails src utf8 b f bad in in_declaration w.0 w.1 f is w.2 w.3) (λ x read bad. no_fault _ f bad))
       (λ none bad. no_fault _ f bad))
 
 -- a refusal stands in the source that it counts in

@@ -10,21 +10,21 @@ use Rattle.rox_grammar.specs.declared.fault.Span.{Span}
 use Rattle.rox_grammar.specs.declared.fault.Word.{Word}
 use Rattle.rox_grammar.specs.declared.fault.Word.TheVariants as word
 use Rattle.rox_grammar.specs.declared.fault.Fault.TheVariants as fault
-use Rattle.rox_grammar.specs.Words.{word_text}
+use Rattle.rox_grammar.specs.FixedTexts.{word_text}
 use Rattle.rox_grammar.specs.Chars.{is_space, is_char, is_part_char, is_name_start, is_name_char}
 use Rattle.rox_grammar.specs.Runs.{run_end, begins, first_passes}
-use Rattle.rox_grammar.specs.Marks.{stands, before_mark, mark_from, byte_from}
+use Rattle.rox_grammar.specs.Search.{stands, before_mark, mark_from, byte_from}
 use Rattle.rox_grammar.specs.Written.{Name, local_span}
 use Rattle.rox_grammar.specs.Names.{byte, slice, spaces_end, IsName, IsQName, unprefixed, prefixed, colon_first}
 use Rattle.rox_grammar.specs.Constructs.{at, first, double_dash, has_mark, AreChars}
 use Rattle.rox_grammar.specs.References.{is_digit, is_hex_digit, number, bytes_end, character}
 use Rattle.rox_grammar.specs.Entities.{Replacement, Entity, text_of}
-use Rattle.rox_grammar.specs.Due.{Thing, a_byte, a_word, a_qname, a_name, chars_to, Lacks, no_name, DueInComment, DueInPI, DueInCData, DueInEnd}
+use Rattle.rox_grammar.specs.Due.{DueItem, a_byte, a_word, a_qname, a_name, chars_to, IsMissing, no_name, DueInComment, DueInPI, DueInCData, DueInEnd}
 use Rattle.rox_grammar.specs.Due as due
-use Rattle.rox_grammar.specs.Faults.{Holds, spelled, InMisc, comment_lacks, double_dashes, a_declaration, instruction_lacks, InReferences, malformed, undeclared}
+use Rattle.rox_grammar.specs.Faults.{SpanIs, spelled, InMisc, comment_lacks, double_dashes, a_declaration, instruction_lacks, InReferences, malformed, undeclared}
 use Rattle.rox_reading.specs.Lexical.{byte_at, string_at, chars_up_to, text_to, qname_at, name_at}
 use Rattle.rox_reading.specs.Markup.{comment_at, instruction_at, cdata_at, end_tag_at}
-use Rattle.rox_reading.specs.Values.{Reference, number_at, name_reference_at, reference_at, found, expanded, expansion_at}
+use Rattle.rox_reading.specs.Values.{Reference, number_at, name_reference_at, reference_at, entity_bit, reference_bit, expansion_at}
 use Rattle.rox_theory.proofs.Basics.{run_end_le, chosen, mark_from_le, chars_sound, text_sound, within}
 use Rattle.rox_theory.proofs.NameLemmas.{slice_nil, qname_sound, name_sound}
 use Rattle.rox_theory.proofs.NameSpans.{run_cut, cut_behind, qname_text}
@@ -64,21 +64,21 @@ mark_cut mark b rest src i is ascii inside =
     let n = length-drop i src in
     elim (cases_lt (i + k) (length src)) as (λ s. IsCharBoundary src (i + k)) [
       | inl below ↦ (
-          let here : get_or (drop i src) k 0 ≡ b = found mark is (omega arith) in
+          let here : get_or (drop i src) k 0 ≡ b = entity_bit mark is (omega arith) in
           let e : byte src (i + k) ≡ b = sym (get_or-drop i src k 0) ∙ here in
           IsCharBoundary-before_ascii src (i + k) below (omega arith))
       | inr past ↦ (let e : length src ≡ i + k = omega arith in subst (IsCharBoundary src) e (IsCharBoundary-end src))
     ]
   where
     -- the byte that is found
-    found : (mark : List ℕ) → mark ≡ b ∷ rest → before_mark mark (drop i src) < length (drop i src) → get_or (drop i src) (before_mark mark (drop i src)) 0 ≡ b
-    found mark is some =
+    entity_bit : (mark : List ℕ) → mark ≡ b ∷ rest → before_mark mark (drop i src) < length (drop i src) → get_or (drop i src) (before_mark mark (drop i src)) 0 ≡ b
+    entity_bit mark is some =
         let some' : before_mark (b ∷ rest) (drop i src) < length (drop i src) = rw is at some in
         rw is (before_mark_is b rest (drop i src) some')
 
 -- the text up to a mark, and the mark
 text_fails : (w : Word) (b : ℕ) (rest src : List ℕ) (i : ℕ) (f : Fault) → word_text w ≡ b ∷ rest → b < 128 → IsUtf8 src → IsCharBoundary src i → text_to w src i ≡ Err f
-    → Lacks src i (chars_to (mark_from (word_text w) src i)) f ⊎ (AreChars src i (mark_from (word_text w) src i) × Lacks src (mark_from (word_text w) src i) (a_word w) f)
+    → IsMissing src i (chars_to (mark_from (word_text w) src i)) f ⊎ (AreChars src i (mark_from (word_text w) src i) × IsMissing src (mark_from (word_text w) src i) (a_word w) f)
 unfolding text_to
 text_fails w b rest src i f is ascii utf8 cut h =
     let e = mark_from (word_text w) src i in
@@ -135,8 +135,8 @@ module _ (src : List ℕ) (utf8 : IsUtf8 src) where
   pub instruction_fails : (i : ℕ) (f : Fault) → at word.PIStart src i ≡ true → instruction_at src i ≡ Err f → InMisc src i f
   unfolding instruction_at name_at
   instruction_fails i f opens h =
-      chosen (at word.DeclarationStart src i) _ _ _ h
-      (λ declares h. let is : fault.UnexpectedDeclaration i ≡ f = cc in subst (InMisc src i) is (a_declaration declares))
+      chosen (at word.XmlDeclStart src i) _ _ _ h
+      (λ is_namespace_decl h. let is : fault.UnexpectedDeclaration i ≡ f = cc in subst (InMisc src i) is (a_declaration is_namespace_decl))
       (λ none h. bind_err (name_at src (i + 2)) _ f h
       (λ bad. instruction_lacks (i + 2) a_name f none (due.DueInPI.its_target opens) (name_fails (i + 2) f bad))
       (λ name read h.
@@ -150,10 +150,10 @@ module _ (src : List ℕ) (utf8 : IsUtf8 src) where
       (λ value read h. no_fault _ f h)))
     where
       -- a name that is due
-      name_fails : (i : ℕ) (f : Fault) → name_at src i ≡ Err f → Lacks src i a_name f
+      name_fails : (i : ℕ) (f : Fault) → name_at src i ≡ Err f → IsMissing src i a_name f
       name_fails i f h =
           chosen (begins is_name_start src i) _ _ _ h (λ fine h. cc)
-          (λ fails h. let is : fault.InvalidName i ≡ f = cc in subst (Lacks src i a_name) is (no_name (λ j name. let s = name.starts in cc (sym fails ∙ s))))
+          (λ fails h. let is : fault.InvalidName i ≡ f = cc in subst (IsMissing src i a_name) is (no_name (λ j name. let s = name.starts in cc (sym fails ∙ s))))
 
       -- a character begins behind the white space after the target
       value_cut : (i n : ℕ) → at word.PIStart src i ≡ true → IsName src (i + 2) n → IsCharBoundary src (spaces_end src n)
@@ -163,18 +163,18 @@ module _ (src : List ℕ) (utf8 : IsUtf8 src) where
           run_cut is_space src n utf8 (subst (IsCharBoundary src) (sym target.longest) (run_cut is_name_char src (i + 2) utf8 cut))
 
   -- a CDATA section
-  pub section_fails : (i : ℕ) (f : Fault) → at word.CDataStart src i ≡ true → cdata_at src i ≡ Err f → (p : ℕ) × (t : Thing) × DueInCData src i p t × Lacks src p t f
+  pub section_fails : (i : ℕ) (f : Fault) → at word.CDataStart src i ≡ true → cdata_at src i ≡ Err f → (p : ℕ) × (t : DueItem) × DueInCData src i p t × IsMissing src p t f
   unfolding cdata_at
   section_fails i f opens h =
       let eight : i + 8 + 1 ≡ i + 9 = omega arith in
       let cut = subst (IsCharBoundary src) eight (behind word.CDataStart src i 8 91 utf8 opens (omega arith) refl (omega arith) (omega arith)) in
-      elim (text_fails word.CDataEnd 93 (93 ∷ 62 ∷ []) src (i + 9) f refl (omega arith) utf8 cut h) as (λ s. (p : ℕ) × (t : Thing) × DueInCData src i p t × Lacks src p t f) [
+      elim (text_fails word.CDataEnd 93 (93 ∷ 62 ∷ []) src (i + 9) f refl (omega arith) utf8 cut h) as (λ s. (p : ℕ) × (t : DueItem) × DueInCData src i p t × IsMissing src p t f) [
         | inl ill ↦ (i + 9, chars_to (first word.CDataEnd src (i + 9)), due.DueInCData.its_text opens, ill)
         | inr none ↦ (first word.CDataEnd src (i + 9), a_word word.CDataEnd, due.DueInCData.its_end opens none.0, none.1)
       ]
 
   -- an end tag
-  pub end_fails : (i : ℕ) (f : Fault) → at word.EndTagStart src i ≡ true → end_tag_at src i ≡ Err f → (p : ℕ) × (t : Thing) × DueInEnd src i p t × Lacks src p t f
+  pub end_fails : (i : ℕ) (f : Fault) → at word.EndTagStart src i ≡ true → end_tag_at src i ≡ Err f → (p : ℕ) × (t : DueItem) × DueInEnd src i p t × IsMissing src p t f
   unfolding end_tag_at
   end_fails i f opens h =
       bind_err (qname_at src (i + 2)) _ f h
@@ -211,7 +211,7 @@ module _ (src : List ℕ) (utf8 : IsUtf8 src) where
       (malformed amp (λ c j is. no_fault _ f (sym (character_complete src p c j is) ∙ h)) (λ n j is. no_fault _ f (sym (name_complete src p n j is) ∙ h)))
 
   -- one to a name that is not declared: row 9
-  pub unknown_fails : (es : List Entity) (p j : ℕ) (r : Reference) (f : Fault) → IsRead src p r j → expanded es src p r ≡ Err f → InReferences es src p f
+  pub unknown_fails : (es : List Entity) (p j : ℕ) (r : Reference) (f : Fault) → IsRead src p r j → reference_bit es src p r ≡ Err f → InReferences es src p f
   unknown_fails es p j r f (is_character c _ stands') h = no_fault _ f h
   unknown_fails es p j r f (is_entity n _ stands' none) h =
       let span : Span = record { start = p + 1; end = n } in
@@ -219,7 +219,7 @@ module _ (src : List ℕ) (utf8 : IsUtf8 src) where
       subst (InReferences es src p) w.1 (undeclared n j span stands' none w.0 refl)
     where
       -- nothing is declared by that name
-      found_fails : (t : Option Replacement) (i : ℕ) (span : Span) (f : Fault) → found t i span ≡ Err f → (t ≡ None) × (fault.UnknownEntityReference span i ≡ f)
+      found_fails : (t : Option Replacement) (i : ℕ) (span : Span) (f : Fault) → entity_bit t i span ≡ Err f → (t ≡ None) × (fault.UnknownEntityReference span i ≡ f)
       found_fails None i span f h = (refl, cc h)
       found_fails (Some t) i span f h = no_fault _ f h
 
@@ -228,7 +228,7 @@ module _ (src : List ℕ) (utf8 : IsUtf8 src) where
   unfolding expansion_at
   expansion_fails es p f amp h =
       bind_err (reference_at src p) _ f h (λ bad. reference_fails es p f amp bad)
-      (λ r read h. bind_err (expanded es src p r.0) _ f h (λ bad. unknown_fails es p r.1 r.0 f (reference_sound src p r amp read) bad) (λ bit ok h. no_fault _ f h))
+      (λ r read h. bind_err (reference_bit es src p r.0) _ f h (λ bad. unknown_fails es p r.1 r.0 f (reference_sound src p r amp read) bad) (λ bit ok h. no_fault _ f h))
 
 -- ---- names as they are written
 
@@ -240,7 +240,7 @@ slice_split src (suc d) i k j to le inside =
     ∙ ap (λ (r : List ℕ). r ++ slice src k j) (sym (slice_cons src i k (omega arith) (omega arith)))
 
 -- the span of a local part holds it
-pub local_holds : (src : List ℕ) (name : Name) (k n : ℕ) → name.local ≡ slice src k n → k ≤ n → n ≤ length src → Holds src (local_span name n) name.local
+pub local_holds : (src : List ℕ) (name : Name) (k n : ℕ) → name.local ≡ slice src k n → k ≤ n → n ≤ length src → SpanIs src (local_span name n) name.local
 local_holds src name k n is le inside =
     let long : length (slice src k n) ≡ n - k = slice_length src k n le inside in
     let e : n - length name.local ≡ k = rw is (omega arith) in
@@ -265,7 +265,7 @@ part_some src i utf8 cut starts no_colon =
     run_some is_part_char src i (part_first (chars (drop i src)) starts other)
 
 -- the span of a name holds it as it is written
-pub spells : (src : List ℕ) (i n : ℕ) (name : Name) → IsUtf8 src → IsCharBoundary src i → IsQName src i name n → Holds src (name_span name i n) (spelled name)
+pub spells : (src : List ℕ) (i n : ℕ) (name : Name) → IsUtf8 src → IsCharBoundary src i → IsQName src i name n → SpanIs src (name_span name i n) (spelled name)
 spells src i n name utf8 cut (unprefixed _ _ is last) =
     let inside = qname_inside src i n _ utf8 cut (unprefixed i n is last) in
     let le = run_end_le is_part_char src i in let l = is.longest in

@@ -10,29 +10,29 @@ use Rattle.rox_grammar.specs.declared.fault.Word.{Word}
 use Rattle.rox_grammar.specs.declared.fault.Word.TheVariants as word
 use Rattle.rox_grammar.specs.Spans.{IsTextSpan, NamesText}
 use Rattle.rox_grammar.specs.Chars.{is_space, is_name_start}
-use Rattle.rox_grammar.specs.Words.{word_text}
+use Rattle.rox_grammar.specs.FixedTexts.{word_text}
 use Rattle.rox_grammar.specs.Runs.{begins}
-use Rattle.rox_grammar.specs.Marks.{stands, mark_from, byte_from}
+use Rattle.rox_grammar.specs.Search.{stands, mark_from, byte_from}
 use Rattle.rox_grammar.specs.Forest.{Forest, Nil, join}
 use Rattle.rox_grammar.specs.Written.{Name, Tag, Item, Element, Text, Comment, PI, leaf, local_span}
 use Rattle.rox_grammar.specs.Names.{byte, spaces_end}
 use Rattle.rox_grammar.specs.Constructs.{at, double_dash, has_mark}
-use Rattle.rox_grammar.specs.Content.{is_plain, literals, line_ends}
-use Rattle.rox_grammar.specs.Start.{after_bom}
-use Rattle.rox_grammar.specs.Entities.{Replacement, Entity, most_open}
+use Rattle.rox_grammar.specs.Content.{is_verbatim, literals, line_ends}
+use Rattle.rox_grammar.specs.TextStart.{after_bom}
+use Rattle.rox_grammar.specs.Entities.{Replacement, Entity, most_deep}
 use Rattle.rox_grammar.specs.Doctype.{Request, Asked}
 use Rattle.rox_grammar.specs.Document.{distinct_pairs}
 use Rattle.rox_grammar.specs.State.{Open, root, inside, is_root, scope_of, nodes_so_far, attributes_so_far, pairs_so_far}
 use Rattle.rox_reading.specs.Refusals.{Refusal, here, there, lifted, elsewhere}
 use Rattle.rox_reading.specs.State.{State, depth_of}
 use Rattle.rox_reading.specs.Lexical.{byte_at, space_at, quote_at, name_at, string_at, chars_up_to, text_to, qname_at}
-use Rattle.rox_reading.specs.Markup.{comment_at, Instruction, instruction_at, cdata_at, EndTag, end_tag_at, pair_at, gap_at, pair_if, declaration_at}
-use Rattle.rox_reading.specs.Values.{Next, at_end, opening, run_part, part_text, raw_run_at, RunText, value_at}
+use Rattle.rox_reading.specs.Markup.{comment_at, Instruction, instruction_at, cdata_at, EndTag, end_tag_at, pair_at, gap_at, pair_if, xml_decl_at}
+use Rattle.rox_reading.specs.Values.{Next, at_end, opening, data_part, part_text, raw_character_data_at, ReadText, value_at}
 use Rattle.rox_reading.specs.Tags.{TagRead, tag_at}
-use Rattle.rox_reading.specs.Machine.{How, counted, with_item, comment_step, instruction_step, cdata_step, with_piece, at_place, after_part, run_parts, run_step, cut_off, opened_by, tag_step, name_span, same_name, closed_by, end_step, step, drive, text_ends, drive_text, budget, values_of, opener, main_text}
-use Rattle.rox_reading.specs.Doctype.{Reply, AreTextReplies, Asks, asks_nothing, ◌>>>◌, quoted_at, system_at, public_at, external_id_at, name_or_end_at, notation_at, Definition, inner as text_inside, outer, definition_at, EntityHead, kind_at, entity_head_at, answer_text, Dtd, next_reply, replied, defined, entity_step, passed_over, with_state, subset_end, subset, external_id_if, doctype_head_at, doctype_step}
-use Rattle.rox_reading.specs.Whole.{misc, body, finished, prolog, doctype, reading}
-use Rattle.rox_theory.specs.Fine.{IsFine, state}
+use Rattle.rox_reading.specs.Machine.{Context, counted, with_item, comment_step, instruction_step, cdata_step, with_piece, at_place, after_part, data_parts, character_data_step, cut_off, opened_by, tag_step, name_span, same_qname, closed_by, end_step, step, drive, text_ends, drive_text, budget, values_of, opener, main_text}
+use Rattle.rox_reading.specs.Doctype.{Reply, AreTextReplies, Asks, asks_nothing, ◌>>>◌, quoted_at, system_at, public_at, external_id_at, name_or_end_at, notation_at, Definition, inner as text_inside, outer, definition_at, EntityHead, kind_at, entity_head_at, answer_text, Dtd, next_reply, replied, defined, entity_step, skipped_declaration, with_state, subset_end, subset, external_id_if, doctype_head_at, doctype_step}
+use Rattle.rox_reading.specs.WholeText.{misc, body, finished, prolog, doctype, reading}
+use Rattle.rox_theory.specs.ValidState.{IsValidState, state}
 use Rattle.rox_theory.specs.Openers.{AreTexts}
 use Rattle.rox_theory.proofs.Basics.{within}
 use Rattle.rox_theory.proofs.NameSpans.{qname_spans}
@@ -106,7 +106,7 @@ module _ (src : List ℕ) where
   instruction_spans : (i : ℕ) → FaultSpanned src (instruction_at src i)
   unfolding instruction_at
   instruction_spans i =
-      spanned_cond src _ (stands (word_text word.DeclarationStart) src i) _ _ (λ h. record { holds = tt })
+      spanned_cond src _ (stands (word_text word.XmlDeclStart) src i) _ _ (λ h. record { holds = tt })
       (λ h. spanned_bind src (λ (x : List ℕ × ℕ). Unit {0}) _ (name_at src (i + 2)) _ (name_spans (i + 2)) (λ target read h.
       spanned_bind src (λ (x : List ℕ × ℕ). Unit {0}) _ (text_to word.PIEnd src (spaces_end src target.1)) _ (text_spans word.PIEnd (spaces_end src target.1))
       (λ value read h. record { holds = tt })))
@@ -148,8 +148,8 @@ module _ (src : List ℕ) where
   last_spans i = spanned_cond src _ (stands (word_text word.Standalone) src i) _ _ (λ h. pair_spans i) (λ h. record { holds = tt })
 
   -- the declaration
-  declaration_spans : (i : ℕ) → FaultSpanned src (declaration_at src i)
-  unfolding declaration_at
+  declaration_spans : (i : ℕ) → FaultSpanned src (xml_decl_at src i)
+  unfolding xml_decl_at
   declaration_spans i =
       let v = spaces_end src (i + 5) in
       spanned_cond src _ (stands (word_text word.Version) src v) _ _
@@ -163,8 +163,8 @@ module _ (src : List ℕ) where
   prolog_spans : (i : ℕ) → FaultSpanned src (prolog src i)
   unfolding prolog
   prolog_spans i =
-      spanned_cond src _ (at word.DeclarationStart src i) _ _
-      (λ h. spanned_bind src (λ (x : Unit {0} × ℕ). Unit {0}) _ (declaration_at src i) _ (declaration_spans i) (λ x read h. record { holds = tt }))
+      spanned_cond src _ (at word.XmlDeclStart src i) _ _
+      (λ h. spanned_bind src (λ (x : Unit {0} × ℕ). Unit {0}) _ (xml_decl_at src i) _ (declaration_spans i) (λ x read h. record { holds = tt }))
       (λ h. record { holds = tt })
 
   -- the end of the text
@@ -330,7 +330,7 @@ module _ (src : List ℕ) (bottom : Open) where
   unfolding closed_by
   closed_spans i name n j done stack left actual deep rests = absurd (omega arith)
   closed_spans i name n j done stack left actual deep (above start tag before up text more) =
-      spanned_cond src _ (same_name tag.name name) _ _ (λ h. record { holds = more }) (λ h. record { holds = (text, actual) })
+      spanned_cond src _ (same_qname tag.name name) _ _ (λ h. record { holds = more }) (λ h. record { holds = (text, actual) })
 
   -- the piece of a part
   piece_spans : (limit : ℕ) (s : State) (i j : ℕ) (bs : List ℕ) → StateNamed s → Spanned State src StateNamed (with_piece limit s i j bs)
@@ -338,8 +338,8 @@ module _ (src : List ℕ) (bottom : Open) where
   piece_spans limit s i j (b ∷ bs) named = item_spans limit s j (Text i j (b ∷ bs) false) named
 
   -- the bytes of a run
-  raw_spans : (i : ℕ) → FaultSpanned src (raw_run_at src i)
-  unfolding raw_run_at
+  raw_spans : (i : ℕ) → FaultSpanned src (raw_character_data_at src i)
+  unfolding raw_character_data_at
   raw_spans i =
       let end = byte_from (λ c. c == 60) src i in
       spanned_bind src (λ (x : List ℕ × ℕ). Unit {0}) _ (chars_up_to end src i) _ (chars_spans src end i) (λ raw read h.
@@ -349,8 +349,8 @@ module _ (src : List ℕ) (bottom : Open) where
   abbrev pub ContentTold : (Replacement → ℕ → State → Result State Refusal) → Type 0
   ContentTold opener = (t : Replacement) (after : ℕ) (s : State) → IsUtf8 t.source → Told State src (λ (u : State). u.stack ≡ s.stack) (opener t after s)
 
-  module _ (utf8 : IsUtf8 src) (how : How) (texts : AreTexts how.values.entities) (base : how.base ≡ depth_of bottom)
-      (values : (i stop left : ℕ) → Told (RunText × ℕ) src (λ x. Unit {0}) (value_at how.values.main how.values.entities how.values.opener src i stop left)) (opens : ContentTold how.opener) where
+  module _ (utf8 : IsUtf8 src) (how : Context) (texts : AreTexts how.values.entities) (base : how.base ≡ depth_of bottom)
+      (values : (i stop left : ℕ) → Told (ReadText × ℕ) src (λ x. Unit {0}) (value_at how.values.main how.values.entities how.values.opener src i stop left)) (opens : ContentTold how.opener) where
     -- behind a part
     after_part_told : (more : State → Result State Refusal) → ((u : State) → StateNamed u → Told State src StateNamed (more u)) → (stop : ℕ) (s : State) (next : Next) → StateNamed s → NextIsSource src utf8 next
         → Told State src StateNamed (after_part how more stop s next)
@@ -359,21 +359,21 @@ module _ (src : List ℕ) (bottom : Open) where
         told_bind src (λ (u : State). u.stack ≡ s.stack) _ (how.opener t j s) _ (opens t j s is) (λ u read same. rest u (subst (Rests src bottom) (sym same) named))
 
     -- the parts of a run
-    run_parts_told : (n start stop : ℕ) (s : State) → StateNamed s → Told State src StateNamed (run_parts how n src start stop s)
-    unfolding run_parts
+    run_parts_told : (n start stop : ℕ) (s : State) → StateNamed s → Told State src StateNamed (data_parts how n src start stop s)
+    unfolding data_parts
     run_parts_told zero start stop s named = record { tells = named }
     run_parts_told (suc n) start stop s named =
-        told_after src (λ (x : List ℕ × Next). NextIsSource src utf8 x.1) _ (run_part how.values.main how.values.entities (stop - s.at) src stop s.at) _
+        told_after src (λ (x : List ℕ × Next). NextIsSource src utf8 x.1) _ (data_part how.values.main how.values.entities (stop - s.at) src stop s.at) _
         (run_part_spans src utf8 how.values.entities texts how.values.main (stop - s.at) stop s.at) (λ x read is.
         told_after src StateNamed _ (with_piece how.limit s start stop (part_text how.values.main x.0)) _ (piece_spans how.limit s start stop (part_text how.values.main x.0) named) (λ t added named'.
-        after_part_told (λ u. run_parts how n src start stop u) (λ u more. run_parts_told n start stop u more) stop t x.1 named' is))
+        after_part_told (λ u. data_parts how n src start stop u) (λ u more. run_parts_told n start stop u more) stop t x.1 named' is))
 
     -- a run
-    run_step_told : (s : State) → StateNamed s → Told State src StateNamed (run_step how src s)
-    unfolding run_step
+    run_step_told : (s : State) → StateNamed s → Told State src StateNamed (character_data_step how src s)
+    unfolding character_data_step
     run_step_told s named =
-        told_after src (λ (x : List ℕ × ℕ). Unit {0}) _ (raw_run_at src s.at) _ (raw_spans s.at) (λ x read h.
-        told_cond src _ (is_plain x.0) _ _
+        told_after src (λ (x : List ℕ × ℕ). Unit {0}) _ (raw_character_data_at src s.at) _ (raw_spans s.at) (λ x read h.
+        told_cond src _ (is_verbatim x.0) _ _
         (λ h. told_lifted src StateNamed (with_item how.limit s x.1 (Text s.at x.1 x.0 true)) (item_spans how.limit s x.1 (Text s.at x.1 x.0 true) named))
         (λ h. run_parts_told (length src) s.at x.1 s named))
 
@@ -461,7 +461,7 @@ opener_told limit es texts zero main src t after s utf8 = record { tells = tt }
 opener_told limit es texts (suc d) main src t after s utf8 =
     let inner = t.source in
     told_after src (λ (r : ℕ). Unit {0}) _ (budget main after s.left) _ (budget_spans src main after s.left) (λ r read h.
-    let how : How = record { limit = limit; values = values_of es d false; base = depth_of s.stack; opener = opener limit es d false } in
+    let how : Context = record { limit = limit; values = values_of es d false; base = depth_of s.stack; opener = opener limit es d false } in
     let start : State = state t.start s.done s.stack r in
     told_bind src (λ (u : State). u.stack ≡ s.stack) _ (elsewhere inner (drive_text how (length inner) inner start)) _
     (told_elsewhere src inner _ (drive_text how (length inner) inner start)
@@ -498,8 +498,8 @@ module _ (src : List ℕ) where
   unfolding answer_text
   answer_told None = record { tells = tt }
   answer_told (Some t) =
-      told_bind src (λ (x : Unit {0} × ℕ). Unit {0}) _ (elsewhere t (lifted (cond (at word.DeclarationStart t (after_bom t)) (declaration_at t (after_bom t)) (Ok (tt, after_bom t))))) _
-      (told_elsewhere src t _ _ (told_lifted t _ _ (spanned_cond t _ (at word.DeclarationStart t (after_bom t)) _ _ (λ h. declaration_spans t (after_bom t)) (λ h. record { holds = tt }))))
+      told_bind src (λ (x : Unit {0} × ℕ). Unit {0}) _ (elsewhere t (lifted (cond (at word.XmlDeclStart t (after_bom t)) (xml_decl_at t (after_bom t)) (Ok (tt, after_bom t))))) _
+      (told_elsewhere src t _ _ (told_lifted t _ _ (spanned_cond t _ (at word.XmlDeclStart t (after_bom t)) _ _ (λ h. declaration_spans t (after_bom t)) (λ h. record { holds = tt }))))
       (λ x read h. record { tells = tt })
 
   replied_told : (request : Request) (p : ℕ) (reply : Reply) → Told (Option Replacement) src (λ x. Unit {0}) (replied request p reply).1
@@ -520,8 +520,8 @@ module _ (src : List ℕ) where
       told_asks src (λ (x : Option Replacement × List Reply). Unit {0}) _ (defined definition.0 definition.1 d.replies) _ (defined_told definition.0 definition.1 d.replies) (λ text read h.
       asks_lifted src (λ (x : Unit {0} × ℕ). Unit {0}) _ (byte_at 62 src (spaces_end src definition.1)) _ (byte_spans src 62 (spaces_end src definition.1)) (λ end read h. record { tells = top }))))
 
-  passed_told : (i : ℕ) (d : Dtd) → AtTop d → Told Dtd src AtTop (passed_over i src d).1
-  unfolding passed_over
+  passed_told : (i : ℕ) (d : Dtd) → AtTop d → Told Dtd src AtTop (skipped_declaration i src d).1
+  unfolding skipped_declaration
   passed_told i d top = asks_cond src _ (ltb (byte_from (λ c. c == 62) src d.state.at) (length src)) _ _ (λ h. record { tells = top }) (λ h. record { tells = tt })
 
   end_told : (d : Dtd) → AtTop d → Told Dtd src AtTop (subset_end src d).1
@@ -545,7 +545,7 @@ module _ (src : List ℕ) where
       (λ h. asks_cond src _ (at word.PIStart src s.at) _ _
       (λ h. asks_lifted src StackAt _ (instruction_step limit src s) _ (instruction_step_spans src root limit s top) (λ t read top'. subset_told n limit i (with_state d t) top'))
       (λ h. asks_cond src _ (at word.ElementStart src s.at || (at word.AttlistStart src s.at || at word.NotationStart src s.at)) _ _
-      (λ h. told_asks src AtTop _ (passed_over i src (with_state d s)) _ (passed_told i (with_state d s) top) (λ e read top'. subset_told n limit i e top'))
+      (λ h. told_asks src AtTop _ (skipped_declaration i src (with_state d s)) _ (passed_told i (with_state d s) top) (λ e read top'. subset_told n limit i e top'))
       (λ h. asks_cond src _ (byte src s.at == 93) _ _ (λ h. end_told (with_state d s) top) (λ h. record { tells = tt }))))))
 
   doctype_step_told : (limit : ℕ) (d : Dtd) → AtTop d → Told Dtd src AtTop (doctype_step limit src d).1
@@ -578,10 +578,10 @@ module _ (src : List ℕ) where
         (λ opens.
         let is = eqb-true _ _ opens in
         let texts = entities is in
-        let values : (i stop left : ℕ) → Told (RunText × ℕ) src (λ x. Unit {0}) (value_at true es how.values.opener src i stop left) =
-        λ i stop left. value_told src utf8 es texts how.values.opener (λ t after left utf8. value_opener_told es texts most_open true src t after left utf8) true i stop left in
+        let values : (i stop left : ℕ) → Told (ReadText × ℕ) src (λ x. Unit {0}) (value_at true es how.values.opener src i stop left) =
+        λ i stop left. value_told src utf8 es texts how.values.opener (λ t after left utf8. value_opener_told es texts most_deep true src t after left utf8) true i stop left in
         let opener' : (t : Replacement) (after : ℕ) (s : State) → IsUtf8 t.source → Told State src (λ (u : State). u.stack ≡ s.stack) (how.opener t after s) =
-        λ t after s utf8. opener_told limit es texts most_open true src t after s utf8 in
+        λ t after s utf8. opener_told limit es texts most_deep true src t after s utf8 in
         told_bind src Named _ (tag_step how src s) _ (tag_step_told src root utf8 how texts refl values opener' s is named) (λ t read more.
         told_bind src Named _ (drive how (length src) src t) _ (drive_told src root utf8 how texts refl values opener' (length src) t more) (λ u read more.
         told_after src Named _ (misc limit (length src) src u) _ (misc_spans src root (length src) limit u more) (λ v read h. record { tells = tt }))))
@@ -612,11 +612,11 @@ module _ (src : List ℕ) where
         entities i s d declared first passed opens =
             let most = max limit 1 in
             let before : State → Dtd = λ s. record { state = s; entities = []; replies = replies } in
-            let start : IsFine most (state i Nil root 255) = record { nodes = omega arith; attributes = omega arith; pairs = omega arith; named = tt } in
+            let start : IsValidState most (state i Nil root 255) = record { nodes = omega arith; attributes = omega arith; pairs = omega arith; named = tt } in
             let cut = prolog_cut src utf8 (after_bom src) i (bom_cut src utf8) (prolog_sound src utf8 (after_bom src) i declared) in
             let m = misc_sound src utf8 (length src) limit most 255 i Nil s (omega arith) cut start first in
             let s_is : s ≡ state s.at m.0 root 255 = m.2 in
-            let fine = subst (IsFine most) s_is m.3 in
+            let fine = subst (IsValidState most) s_is m.3 in
             let passed' : (doctype limit allow src (before (state s.at m.0 root 255))).1 ≡ Ok d = subst (λ (s : State). (doctype limit allow src (before s)).1 ≡ Ok d) s_is passed in
             let asked' = (doctype limit allow src (before (state s.at m.0 root 255))).0 in
             let whole : doctype limit allow src (before (state s.at m.0 root 255)) ≡ (asked', Ok d) = ap (λ (r : Result Dtd Refusal). (asked', r)) passed' in

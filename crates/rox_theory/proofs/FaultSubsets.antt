@@ -8,23 +8,23 @@ use Rattle.rox_grammar.specs.declared.fault.Fault.{Fault}
 use Rattle.rox_grammar.specs.declared.fault.Fault.TheVariants as fault
 use Rattle.rox_grammar.specs.declared.fault.Due.TheVariants as due
 use Rattle.rox_grammar.specs.declared.fault.Word.TheVariants as word
-use Rattle.rox_grammar.specs.Words.{word_text}
+use Rattle.rox_grammar.specs.FixedTexts.{word_text}
 use Rattle.rox_grammar.specs.Chars.{is_space}
-use Rattle.rox_grammar.specs.Marks.{byte_from}
+use Rattle.rox_grammar.specs.Search.{byte_from}
 use Rattle.rox_grammar.specs.Forest.{Forest, Nil, join}
 use Rattle.rox_grammar.specs.Written.{Item, Comment, PI, leaf}
 use Rattle.rox_grammar.specs.Names.{byte, spaces_end}
 use Rattle.rox_grammar.specs.Constructs.{at}
 use Rattle.rox_grammar.specs.Content.{IsMisc, comment, instruction}
-use Rattle.rox_grammar.specs.Start.{after_bom}
+use Rattle.rox_grammar.specs.TextStart.{after_bom}
 use Rattle.rox_grammar.specs.Entities.{Replacement, Entity}
-use Rattle.rox_grammar.specs.Doctype.{Request, Asked, IsDefinition, internal, external, IsPassedOver, Subset, no_more, space, an_item, passed_over, an_entity, BeginsDoctype, IsDoctype, no_subset, with_subset, entry}
+use Rattle.rox_grammar.specs.Doctype.{Request, Asked, IsDefinition, internal, external, IsPassedOver, Subset, no_more, space, an_item, skipped_declaration, an_entity, BeginsDoctype, IsDoctype, no_subset, with_subset, entry}
 use Rattle.rox_grammar.specs.State.{root, nodes_so_far, FitsLimits}
-use Rattle.rox_grammar.specs.Due.{Thing, a_byte, doctype_end, subset_or_end, Lacks, no_end, ends_before, DueInDeclaration}
+use Rattle.rox_grammar.specs.Due.{DueItem, a_byte, doctype_end, subset_or_end, IsMissing, no_end, ends_before, DueInXmlDecl}
 use Rattle.rox_grammar.specs.Due as dues
-use Rattle.rox_grammar.specs.Refused.{SubsetTo, IsPassed, NoItem, InDoctype, head_lacks, no_name, in_misc, too_many, not_passed, in_entity, entity_open, entity_cut, in_answer, end_lacks, unknown}
+use Rattle.rox_grammar.specs.FaultsWithDoctype.{SubsetTo, IsPassed, NoItem, InDoctype, head_lacks, no_name, in_misc, too_many, not_passed, in_entity, entity_open, entity_cut, in_answer, end_lacks, unknown}
 use Rattle.rox_reading.specs.Lexical.{byte_at, space_at}
-use Rattle.rox_reading.specs.Markup.{comment_at, instruction_at, declaration_at}
+use Rattle.rox_reading.specs.Markup.{comment_at, instruction_at, xml_decl_at}
 use Rattle.rox_reading.specs.Refusals.{Refusal, here, there, refused, lifted}
 use Rattle.rox_reading.specs.State.{State}
 use Rattle.rox_reading.specs.Machine.{with_item, comment_step, instruction_step, at_place}
@@ -32,7 +32,7 @@ use Rattle.rox_reading.specs.Doctype as reading
 use Rattle.rox_reading.specs.Doctype.{Reply, Asks, asks_nothing, ◌>>>◌, Dtd, with_state, IsTextReply, AreTextReplies, next_reply, other_replies, replied, EntityHead, entity_head_at, Definition, inner, outer, definition_at, answer_text, defined, entity_step, subset_end, subset, name_or_end_at, external_id_if, doctype_head_at, doctype_step}
 use Rattle.rox_reading.proofs.Forests.{join-nil, join_assoc}
 use Rattle.rox_reading.proofs.Settling.{once}
-use Rattle.rox_theory.specs.Fine.{IsFine, state}
+use Rattle.rox_theory.specs.ValidState.{IsValidState, state}
 use Rattle.rox_theory.proofs.Basics.{ok_same, bind_ok, chosen, run_end_le}
 use Rattle.rox_theory.proofs.NameSpans.{cut_behind}
 use Rattle.rox_theory.proofs.DeclarationLemmas.{stands_reads}
@@ -76,12 +76,12 @@ outer_by P request j (Ok answer) rs g own ill good = by_text (answer_text answer
 
 -- what an answer's declaration lacks
 answer_fails : (answer : Option (List ℕ)) (e : Refusal) → IsTextReply (Ok answer) → answer_text answer ≡ Err e
-    → (t : List ℕ) × (f : Fault) × (answer ≡ Some t) × IsUtf8 t × (there t f ≡ e) × (at word.DeclarationStart t (after_bom t) ≡ true) × Misses t (DueInDeclaration t (after_bom t)) f
+    → (t : List ℕ) × (f : Fault) × (answer ≡ Some t) × IsUtf8 t × (there t f ≡ e) × (at word.XmlDeclStart t (after_bom t) ≡ true) × Misses t (DueInXmlDecl t (after_bom t)) f
 unfolding answer_text
 answer_fails None e utf8 h = cc h
 answer_fails (Some t) e utf8 h =
-    elim (cases_Bool (at word.DeclarationStart t (after_bom t))) as (λ s. (u : List ℕ) × (f : Fault) × (Some t ≡ Some u) × IsUtf8 u × (there u f ≡ e) × (at word.DeclarationStart u (after_bom u) ≡ true) × Misses u (DueInDeclaration u (after_bom u)) f) [
-      | inl is ↦ either (declaration_at t (after_bom t))
+    elim (cases_Bool (at word.XmlDeclStart t (after_bom t))) as (λ s. (u : List ℕ) × (f : Fault) × (Some t ≡ Some u) × IsUtf8 u × (there u f ≡ e) × (at word.XmlDeclStart u (after_bom u) ≡ true) × Misses u (DueInXmlDecl u (after_bom u)) f) [
+      | inl is ↦ either (xml_decl_at t (after_bom t))
           (λ x read. cc (rw (is, read) at h))
           (λ f ill. let same : ◌≡◌ {A = Result (Option Replacement) Refusal} (Err (there t f)) (Err e) = rw (is, ill) at h in (t, f, refl, utf8, cc, is, declaration_fails t utf8 (after_bom t) f ill))
       | inr none ↦ cc (rw none at h)
@@ -102,7 +102,7 @@ pub subset_then : (src : List ℕ) (i j k : ℕ) (xs ys : Forest Item) (a b : Li
 subset_then src i j k xs ys a b es fs (no_more _) rest = rest
 subset_then src i j k xs ys a b es fs (space _ _ _ _ _ is more) rest = space i k (join xs ys) (a ++ b) (es ++ fs) is (subset_then src (i + 1) j k xs ys a b es fs more rest)
 subset_then src i j k xs ys a b es fs (an_item _ l _ item items _ _ is more) rest = an_item i l k item (join items ys) (a ++ b) (es ++ fs) is (subset_then src l j k items ys a b es fs more rest)
-subset_then src i j k xs ys a b es fs (passed_over _ l _ _ _ _ is more) rest = passed_over i l k (join xs ys) (a ++ b) (es ++ fs) is (subset_then src l j k xs ys a b es fs more rest)
+subset_then src i j k xs ys a b es fs (skipped_declaration _ l _ _ _ _ is more) rest = skipped_declaration i l k (join xs ys) (a ++ b) (es ++ fs) is (subset_then src l j k xs ys a b es fs more rest)
 subset_then src i j k xs ys a b es fs (an_entity _ l _ _ first asked one others is more) rest =
     subst (λ (d : List Entity). Subset src i k (join xs ys) ((first ++ asked) ++ b) d) (sym (append_assoc one others fs))
     (subst (λ (c : List Asked). Subset src i k (join xs ys) c (one ++ (others ++ fs))) (sym (append_assoc first asked b))
@@ -217,8 +217,8 @@ module _ (src : List ℕ) (utf8 : IsUtf8 src) (limit most : ℕ) (less : limit �
 
   -- how they end: with the declaration, or with the text
   pub data Ended (all : List Asked) (e : Dtd) : Type 0 where
-    closed : (items : Forest Item) → IsDoctype src i e.state.at items all e.entities → e.state ≡ state e.state.at (join before items) root 255 → IsCharBoundary src e.state.at → IsFine most e.state → Ended all e
-    cut_off : (items : Forest Item) → SubsetTo src i (length src) items all → e.state ≡ state (length src) (join before items) root 255 → is_space (byte src (length src - 1)) ≡ false → IsFine most e.state → Ended all e
+    closed : (items : Forest Item) → IsDoctype src i e.state.at items all e.entities → e.state ≡ state e.state.at (join before items) root 255 → IsCharBoundary src e.state.at → IsValidState most e.state → Ended all e
+    cut_off : (items : Forest Item) → SubsetTo src i (length src) items all → e.state ≡ state (length src) (join before items) root 255 → is_space (byte src (length src - 1)) ≡ false → IsValidState most e.state → Ended all e
 
   abbrev pub Outcome : List Asked → Asks Dtd → Type 0
   Outcome asked0 (asked, Ok e) = Ended (asked0 ++ asked) e
@@ -231,7 +231,7 @@ module _ (src : List ℕ) (utf8 : IsUtf8 src) (limit most : ℕ) (less : limit �
 
   module _ (s : ℕ) (begins : BeginsDoctype src i s) (bracket : byte src s ≡ 91) where
     -- one turn: what stands behind white space
-    module _ (asked0 : List Asked) (d : Dtd) (so : So s asked0 d) (cut : IsCharBoundary src d.state.at) (fine : IsFine most d.state) where
+    module _ (asked0 : List Asked) (d : Dtd) (so : So s asked0 d) (cut : IsCharBoundary src d.state.at) (fine : IsValidState most d.state) where
       abbrev spaced : Dtd
       spaced = with_state d (at_place (spaces_end src d.state.at) d.state)
 
@@ -254,10 +254,10 @@ module _ (src : List ℕ) (utf8 : IsUtf8 src) (limit most : ℕ) (less : limit �
       stack_is = ap (λ (s : State). s.stack) so.state_is
 
       fits : FitsLimits limit root (join before so.items)
-      fits = fine_fits limit most (state d.state.at (join before so.items) root 255) least (subst (IsFine most) so.state_is fine)
+      fits = fine_fits limit most (state d.state.at (join before so.items) root 255) least (subst (IsValidState most) so.state_is fine)
 
-      fine_here : IsFine most (state (spaces_end src d.state.at) (join before so.items) root 255)
-      fine_here = fine_there most (state d.state.at (join before so.items) root 255) (state (spaces_end src d.state.at) (join before so.items) root 255) refl refl (subst (IsFine most) so.state_is fine)
+      fine_here : IsValidState most (state (spaces_end src d.state.at) (join before so.items) root 255)
+      fine_here = fine_there most (state d.state.at (join before so.items) root 255) (state (spaces_end src d.state.at) (join before so.items) root 255) refl refl (subst (IsValidState most) so.state_is fine)
 
       -- where reading goes on behind white space
       place_is : spaced.state ≡ state (spaces_end src d.state.at) (join before so.items) root 255
@@ -265,7 +265,7 @@ module _ (src : List ℕ) (utf8 : IsUtf8 src) (limit most : ℕ) (less : limit �
 
       -- a comment or an instruction
       item_goes : (j : ℕ) (item : Item) (t : State) → IsMisc src (spaces_end src d.state.at) j item → with_item limit spaced.state j item ≡ Ok t
-          → So s asked0 (with_state spaced t) × IsCharBoundary src t.at × IsFine most t × (d.state.at < t.at)
+          → So s asked0 (with_state spaced t) × IsCharBoundary src t.at × IsValidState most t × (d.state.at < t.at)
       item_goes j item t is added =
           let k = spaces_end src d.state.at in
           let plain = misc_plain src utf8 k j item is in
@@ -298,7 +298,7 @@ module _ (src : List ℕ) (utf8 : IsUtf8 src) (limit most : ℕ) (less : limit �
           here_now asked0 f (subst (In asked0 src) same (too_many k j so.items item asked0 to_here fits is (leb-false _ _ more))))
 
       -- a comment
-      comment_taken : (t : State) → at word.CommentStart src (spaces_end src d.state.at) ≡ true → comment_step limit src spaced.state ≡ Ok t → So s asked0 (with_state spaced t) × IsCharBoundary src t.at × IsFine most t × (d.state.at < t.at)
+      comment_taken : (t : State) → at word.CommentStart src (spaces_end src d.state.at) ≡ true → comment_step limit src spaced.state ≡ Ok t → So s asked0 (with_state spaced t) × IsCharBoundary src t.at × IsValidState most t × (d.state.at < t.at)
       unfolding comment_step
       comment_taken t is h =
           let k = spaces_end src d.state.at in
@@ -312,7 +312,7 @@ module _ (src : List ℕ) (utf8 : IsUtf8 src) (limit most : ℕ) (less : limit �
           (λ x read h. item_over x.1 (Comment k x.1 x.0) f (comment_is src utf8 k x.1 x.0 is read) h)
 
       -- a processing instruction
-      instruction_taken : (t : State) → at word.PIStart src (spaces_end src d.state.at) ≡ true → instruction_step limit src spaced.state ≡ Ok t → So s asked0 (with_state spaced t) × IsCharBoundary src t.at × IsFine most t × (d.state.at < t.at)
+      instruction_taken : (t : State) → at word.PIStart src (spaces_end src d.state.at) ≡ true → instruction_step limit src spaced.state ≡ Ok t → So s asked0 (with_state spaced t) × IsCharBoundary src t.at × IsValidState most t × (d.state.at < t.at)
       unfolding instruction_step
       instruction_taken t is h =
           let k = spaces_end src d.state.at in
@@ -368,20 +368,20 @@ module _ (src : List ℕ) (utf8 : IsUtf8 src) (limit most : ℕ) (less : limit �
               elim from as (λ _. (k < length src) ⊎ (is_space (byte src (k - 1)) ≡ true)) [ inl e ↦ inl (omega arith) | inr stands ↦ inr stands ]
 
       -- a declaration that is passed over
-      passed_outcome : (g : Dtd → Asks Dtd) → IsPassed src (spaces_end src d.state.at) → ((e : Dtd) → So s asked0 e → IsCharBoundary src e.state.at → IsFine most e.state → e.replies ≡ d.replies → d.state.at < e.state.at → Outcome asked0 (g e))
-          → Outcome asked0 (reading.passed_over i src spaced >>> g)
-      unfolding reading.passed_over
+      passed_outcome : (g : Dtd → Asks Dtd) → IsPassed src (spaces_end src d.state.at) → ((e : Dtd) → So s asked0 e → IsCharBoundary src e.state.at → IsValidState most e.state → e.replies ≡ d.replies → d.state.at < e.state.at → Outcome asked0 (g e))
+          → Outcome asked0 (reading.skipped_declaration i src spaced >>> g)
+      unfolding reading.skipped_declaration
       passed_outcome g is go =
           let k = spaces_end src d.state.at in
           let e = byte_from (λ c. c == 62) src k in
           let far = run_end_le is_space src d.state.at in
-          elim (cases_Bool (nat_lt e (length src))) as (λ _. Outcome asked0 (reading.passed_over i src spaced >>> g)) [
+          elim (cases_Bool (nat_lt e (length src))) as (λ _. Outcome asked0 (reading.skipped_declaration i src spaced >>> g)) [
             | inl lt ↦ (
                 let passed : IsPassedOver src k (e + 1) = record { opens = is; e = e; end = refl; closes = ltb-true _ _ lt; next = refl } in
                 let moves = passed_moves src utf8 k (e + 1) passed in
                 let closes : byte src e ≡ 62 = eqb-true _ _ (from_here (λ c. c == 62) src k (ltb-true _ _ lt)) in
                 let next : Dtd = record { state = at_place (e + 1) d.state; entities = d.entities; replies = d.replies } in
-                let one : Subset src k (e + 1) Nil [] [] = passed_over k (e + 1) (e + 1) Nil [] [] passed (no_more (e + 1)) in
+                let one : Subset src k (e + 1) Nil [] [] = skipped_declaration k (e + 1) (e + 1) Nil [] [] passed (no_more (e + 1)) in
                 let read' : Subset src (s + 1) (e + 1) so.items asked0 d.entities =
                 subst (λ (f : Forest Item). Subset src (s + 1) (e + 1) f asked0 d.entities) (join-nil so.items)
                 (subst (λ (a : List Asked). Subset src (s + 1) (e + 1) (join so.items Nil) a d.entities) (append-nil asked0)
@@ -393,7 +393,7 @@ module _ (src : List ℕ) (utf8 : IsUtf8 src) (limit most : ℕ) (less : limit �
           ]
 
       -- a declaration of an entity
-      entity_goes : (first : List Asked) (e : Dtd) → EntityRead src spaced first e → So s (asked0 ++ first) e × IsCharBoundary src e.state.at × IsFine most e.state × (d.state.at < e.state.at)
+      entity_goes : (first : List Asked) (e : Dtd) → EntityRead src spaced first e → So s (asked0 ++ first) e × IsCharBoundary src e.state.at × IsValidState most e.state × (d.state.at < e.state.at)
       entity_goes first e o =
           let k = spaces_end src d.state.at in
           let j = e.state.at in
@@ -412,7 +412,7 @@ module _ (src : List ℕ) (utf8 : IsUtf8 src) (limit most : ℕ) (less : limit �
               solid = solid_behind src j (spaces_end src o.is.e) 62 o.is.next closes refl;
             },
             moves.3,
-            subst (IsFine most) (sym o.state_is) (fine_there most d.state (at_place j d.state) refl refl fine),
+            subst (IsValidState most) (sym o.state_is) (fine_there most d.state (at_place j d.state) refl refl fine),
             omega (arith, moves.1),
           )
 
@@ -424,7 +424,7 @@ module _ (src : List ℕ) (utf8 : IsUtf8 src) (limit most : ℕ) (less : limit �
           (so.state_is ∙ ap (λ (j : ℕ). state j (join before so.items) root 255) same) (subst (λ (j : ℕ). is_space (byte src (j - 1)) ≡ false) same so.solid) fine
 
     -- the items, one after the other
-    pub subset_ends : (n : ℕ) (asked0 : List Asked) (d : Dtd) → So s asked0 d → IsCharBoundary src d.state.at → IsFine most d.state → AreTextReplies d.replies → length src ≤ d.state.at + n → Outcome asked0 (subset limit i n src d)
+    pub subset_ends : (n : ℕ) (asked0 : List Asked) (d : Dtd) → So s asked0 d → IsCharBoundary src d.state.at → IsValidState most d.state → AreTextReplies d.replies → length src ≤ d.state.at + n → Outcome asked0 (subset limit i n src d)
     unfolding subset
     subset_ends zero asked0 d so cut fine texts enough = subst (λ (a : List Asked). Ended a d) (sym (append-nil asked0)) (out_outcome asked0 d so cut fine (omega (arith, enough)))
     subset_ends (suc n) asked0 d so cut fine texts enough =
@@ -478,7 +478,7 @@ module _ (src : List ℕ) (utf8 : IsUtf8 src) (limit most : ℕ) (less : limit �
         | inr cut ↦ no_name n.1 sp cut.0
       ])))
 
-  pub doctype_ends : (rs : List Reply) → at word.DoctypeStart src i ≡ true → IsFine most (state i before root 255) → AreTextReplies rs → Outcome [] (doctype_step limit src (record { state = state i before root 255; entities = []; replies = rs }))
+  pub doctype_ends : (rs : List Reply) → at word.DoctypeStart src i ≡ true → IsValidState most (state i before root 255) → AreTextReplies rs → Outcome [] (doctype_step limit src (record { state = state i before root 255; entities = []; replies = rs }))
   unfolding doctype_step
   doctype_ends rs opens fine texts =
       let S : Asks Dtd → Type 0 = Outcome [] in
@@ -499,5 +499,5 @@ module _ (src : List ℕ) (utf8 : IsUtf8 src) (limit most : ℕ) (less : limit �
       (record { items = Nil; read = no_more (head.1 + 1); state_is = ap (λ (f : Forest Item). state (head.1 + 1) f root 255) (sym (join-nil before)); solid = solid_behind src (head.1 + 1) head.1 91 refl bracket refl })
       (cut_behind src head.1 91 utf8 bracket (omega arith) (omega arith)) (fine_there most (state i before root 255) (state (head.1 + 1) before root 255) refl refl fine) texts (omega arith))
       (λ neither. head_lacks head.1 subset_or_end (fault.InvalidChar2 due.SubsetOrEnd (byte src head.1) head.1) (dues.DueInDoctype.its_end head.1 begins)
-      (dues.Lacks.no_subset below (eqb-false _ _ neither) (eqb-false _ _ other))))))
+      (dues.IsMissing.no_subset below (eqb-false _ _ neither) (eqb-false _ _ other))))))
       (λ f ill. let w = doctype_head_fails src i f ill in head_lacks w.0 w.1 f w.2 w.3)

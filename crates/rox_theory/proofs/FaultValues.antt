@@ -10,15 +10,15 @@ use Rattle.rox_grammar.specs.Chars.{is_char}
 use Rattle.rox_grammar.specs.Runs.{StandsAt}
 use Rattle.rox_grammar.specs.Names.{byte, slice}
 use Rattle.rox_grammar.specs.References.{IsCharacter}
-use Rattle.rox_grammar.specs.Content.{Opener, is_plain_value}
-use Rattle.rox_grammar.specs.Entities.{Replacement, Entity, text_of, most_open}
-use Rattle.rox_grammar.specs.Due.{Lacks, no_char, ends_before, chars_to}
-use Rattle.rox_grammar.specs.Places.{is_main, RefersTo, MayOpen, IsSpent, ValueTo, to_here, a_byte, a_character, an_entity, ValuePart, opened}
+use Rattle.rox_grammar.specs.Content.{Inclusion, is_verbatim_value}
+use Rattle.rox_grammar.specs.Entities.{Replacement, Entity, text_of, most_deep}
+use Rattle.rox_grammar.specs.Due.{IsMissing, no_char, ends_before, chars_to}
+use Rattle.rox_grammar.specs.ContentPoints.{is_main, RefersTo, MayOpen, IsSpent, ValueTo, to_here, a_byte, a_character, an_entity, ValuePart, opened}
 use Rattle.rox_grammar.specs.Faults.{InReferences, InValue, in_reference, too_many, less, less_by_reference}
 use Rattle.rox_grammar.specs.Faults as faults
 use Rattle.rox_reading.specs.Lexical.{chars_up_to}
 use Rattle.rox_reading.specs.Refusals.{Refusal}
-use Rattle.rox_reading.specs.Values.{Reference, reference_at, Bit, expanded, is_special, tested_bit, value_reference_at, stretch_at, value_bit_at, after_value_bit, value_text, value_at}
+use Rattle.rox_reading.specs.Values.{Reference, reference_at, Bit, reference_bit, is_special, tested_bit, value_reference_at, stretch_at, value_bit_at, after_value_bit, value_text, value_at}
 use Rattle.rox_reading.specs.Machine.{budget, value_opener}
 use Rattle.rox_theory.specs.Openers.{IsStop, AreTexts, AgreesValue}
 use Rattle.rox_theory.proofs.Basics.{chosen, run_end_le}
@@ -31,7 +31,7 @@ use Rattle.rox_theory.proofs.FaultRows.{reference_fails, unknown_fails}
 use Rattle.rox_theory.proofs.FaultPoints.{Refuses, refuses_here, elsewhere_err, spent_here, may_open, deepest}
 
 -- bytes of no reference
-passes : (O : Opener) (src : List ℕ) (n i j p b c : ℕ) → i + n ≡ j → ((k : ℕ) → i ≤ k → k < j → byte src k ≢ 38) → ValueTo O src j p b c → ValueTo O src i p b c
+passes : (O : Inclusion) (src : List ℕ) (n i j p b c : ℕ) → i + n ≡ j → ((k : ℕ) → i ≤ k → k < j → byte src k ≢ 38) → ValueTo O src j p b c → ValueTo O src i p b c
 passes O src zero i j p b c to none rest = let e : j ≡ i = omega arith in subst (λ (m : ℕ). ValueTo O src m p b c) e rest
 passes O src (suc n) i j p b c to none rest = a_byte i p b c (none i (omega arith) (omega arith)) (passes O src n (i + 1) j p b c (omega arith) (λ k from below. none k (omega arith) below) rest)
 
@@ -44,7 +44,7 @@ module _ (src : List ℕ) (utf8 : IsUtf8 src) (es : List Entity) (stop : ℕ) (l
     ill_char : (q c : ℕ) → main ≡ false → p ≤ q → q < stop → StandsAt c src q → is_char c ≡ false → IllBit main p (fault.NonXmlChar c q)
 
   -- a reference
-  tested_fails : (main : Bool) (p j : ℕ) (r : Reference) (f : Fault) → IsRead src p r j → tested_bit main p r (expanded es src p r) ≡ Err f → IllBit main p f
+  tested_fails : (main : Bool) (p j : ℕ) (r : Reference) (f : Fault) → IsRead src p r j → tested_bit main p r (reference_bit es src p r) ≡ Err f → IllBit main p f
   tested_fails true p j r f read h = ill_reference f (unknown_fails src utf8 es p j r f read h)
   tested_fails false p j r f (is_character c _ stands) h =
       chosen (eqb c 60) _ _ _ h
@@ -57,10 +57,10 @@ module _ (src : List ℕ) (utf8 : IsUtf8 src) (es : List Entity) (stop : ℕ) (l
   unfolding value_reference_at
   value_reference_fails main p f amp h =
       bind_err (reference_at src p) _ f h (λ bad. ill_reference f (reference_fails src utf8 es p f amp bad))
-      (λ r read h. bind_err (tested_bit main p r.0 (expanded es src p r.0)) _ f h (λ bad. tested_fails main p r.1 r.0 f (reference_sound src p r amp read) bad) (λ bit ok h. no_fault _ f h))
+      (λ r read h. bind_err (tested_bit main p r.0 (reference_bit es src p r.0)) _ f h (λ bad. tested_fails main p r.1 r.0 f (reference_sound src p r amp read) bad) (λ bit ok h. no_fault _ f h))
 
   -- Chars up to a place
-  chars_ill : (p e : ℕ) (f : Fault) → e ≤ stop → Lacks src p (chars_to e) f → IllBit false p f
+  chars_ill : (p e : ℕ) (f : Fault) → e ≤ stop → IsMissing src p (chars_to e) f → IllBit false p f
   chars_ill p e f to (no_char _ q c is before stands ill) =
       let le = run_end_le is_char (take e src) p in
       ill_char q c refl (omega arith) (omega arith) stands ill
@@ -95,7 +95,7 @@ module _ (src : List ℕ) (utf8 : IsUtf8 src) (es : List Entity) (stop : ℕ) (l
       (λ special h. chosen (eqb (byte src p) 13) _ _ _ h (λ cr h. chosen (eqb (byte (take stop src) (p + 1)) 10) _ _ _ h (λ lf h. no_fault _ f h) (λ other h. no_fault _ f h)) (λ other h. no_fault _ f h))
       (λ plain h. stretch_fails main p f below cut h))
 
-module _ (opens : ℕ → Opener) (es : List Entity) (k : ℕ) (whole : List ℕ) (start end b : ℕ) where
+module _ (opens : ℕ → Inclusion) (es : List Entity) (k : ℕ) (whole : List ℕ) (start end b : ℕ) where
   -- a fault that stands in a part of the value
   pub data InPart (part : List ℕ) (f : Fault) : Type 0 where
     in_part : (l i stop d : ℕ) → ValuePart opens es k whole start end b l part i stop d → InValue es l (opens l) part i stop d f → InPart part f
@@ -163,8 +163,8 @@ module _ (opens : ℕ → Opener) (es : List Entity) (k : ℕ) (whole : List ℕ
         (λ c to' h. value_text_fails n x.1 c e (omega (arith, moves.0)) (bit_cut es src utf8 stop long closes (is_main l) p x.0 x.1 bit) to' h) h))
         (λ past h. no_fault _ e h)
 
-  module _ (agrees : (d l : ℕ) → d + l ≡ most_open → AgreesValue es (opens l) (value_opener es d (is_main l))) (texts : AreTexts es) where
-    pub value_opener_fails : (d l : ℕ) → d + l ≡ most_open → ValueOpenerFails d l
+  module _ (agrees : (d l : ℕ) → d + l ≡ most_deep → AgreesValue es (opens l) (value_opener es d (is_main l))) (texts : AreTexts es) where
+    pub value_opener_fails : (d l : ℕ) → d + l ≡ most_deep → ValueOpenerFails d l
     unfolding value_opener
     value_opener_fails zero l deep src j left t name e found spent part h = refuses_here es InPart src (fault.EntityReferenceLoop j) e (cc h) (spent (deepest l left deep))
     value_opener_fails (suc d) l deep src j left t name e found spent part h =
@@ -180,11 +180,11 @@ module _ (opens : ℕ → Opener) (es : List Entity) (k : ℕ) (whole : List ℕ
         (λ x ok h. no_fault _ e h))
 
     -- a value
-    pub value_fails : (d : ℕ) (e : Refusal) → d + k ≡ most_open → IsUtf8 whole → end ≤ length whole → (end < length whole → IsStop (byte whole end)) → ((q : ℕ) → start ≤ q → q < end → byte whole q ≢ 60) → IsCharBoundary whole start
+    pub value_fails : (d : ℕ) (e : Refusal) → d + k ≡ most_deep → IsUtf8 whole → end ≤ length whole → (end < length whole → IsStop (byte whole end)) → ((q : ℕ) → start ≤ q → q < end → byte whole q ≢ 60) → IsCharBoundary whole start
         → value_at (is_main k) es (value_opener es d (is_main k)) whole start end b ≡ Err e → Refuses es InPart whole e
     unfolding value_at
     value_fails d e deep utf8 long closes no_tag cut h =
-        chosen (is_plain_value (slice whole start end)) _ _ _ h (λ plain h. no_fault _ e h)
+        chosen (is_verbatim_value (slice whole start end)) _ _ _ h (λ plain h. no_fault _ e h)
         (λ marked h. bind_err (value_text (is_main k) es (value_opener es d (is_main k)) (end - start) whole end start b) _ e h
         (λ bad. value_text_fails d k (agrees d k deep) (value_opener_fails d k deep) whole utf8 start end b long closes (λ main. no_tag) ValuePart.itself (end - start) start b e (omega arith) cut (λ q c rest. rest) bad)
         (λ value read h. no_fault _ e h))

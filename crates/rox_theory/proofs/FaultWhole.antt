@@ -11,32 +11,32 @@ use Rattle.rox_grammar.specs.declared.fault.Due.TheVariants as due
 use Rattle.rox_grammar.specs.declared.fault.Fault.TheVariants as fault
 use Rattle.rox_grammar.specs.Chars.{is_space}
 use Rattle.rox_grammar.specs.Runs.{run_end, passing}
-use Rattle.rox_grammar.specs.Words.{word_text}
-use Rattle.rox_grammar.specs.Marks.{stands, byte_from}
+use Rattle.rox_grammar.specs.FixedTexts.{word_text}
+use Rattle.rox_grammar.specs.Search.{stands, byte_from}
 use Rattle.rox_grammar.specs.Forest.{Forest, Nil, join}
 use Rattle.rox_grammar.specs.Written.{Item, Comment, PI, leaf}
 use Rattle.rox_grammar.specs.Names.{byte, spaces_end}
 use Rattle.rox_grammar.specs.Constructs.{at, IsEq}
 use Rattle.rox_grammar.specs.Content.{IsMisc}
 use Rattle.rox_grammar.specs.WellNamed.{AreWellNamed}
-use Rattle.rox_grammar.specs.Content.{Opener, IsElement}
-use Rattle.rox_grammar.specs.Start.{after_bom}
-use Rattle.rox_grammar.specs.Entities.{Entity, no_entities, most_open, opens_main}
+use Rattle.rox_grammar.specs.Content.{Inclusion, IsElement}
+use Rattle.rox_grammar.specs.TextStart.{after_bom}
+use Rattle.rox_grammar.specs.Entities.{Entity, no_entities, most_deep, included_in_main}
 use Rattle.rox_grammar.specs.Doctype.{Asked}
 use Rattle.rox_grammar.specs.Document.{Misc, no_misc, space, an_item}
 use Rattle.rox_grammar.specs.State.{root, nodes_so_far, FitsLimits}
 use Rattle.rox_reading.specs.Refusals.{Refusal, here, there, refused, lifted}
 use Rattle.rox_reading.specs.State.{State}
-use Rattle.rox_grammar.specs.Due.{Thing, a_byte, a_quote, a_qname, a_gap, a_word, chars_to, Lacks, no_gap, DueInPair, its_name, equals, opening, its_value, closing, value_end, PairBegins, version, encoding, standalone, DueInDeclaration, its_version, in_pair, behind_pair}
+use Rattle.rox_grammar.specs.Due.{DueItem, a_byte, a_quote, a_qname, a_gap, a_word, chars_to, IsMissing, no_gap, DueInPair, its_name, equals, opening, its_value, closing, value_end, PairBegins, version, encoding, standalone, DueInXmlDecl, its_version, in_pair, behind_pair}
 use Rattle.rox_grammar.specs.Due as dues
-use Rattle.rox_grammar.specs.Places.{is_main, Ahead, Behind, begins, of_root}
+use Rattle.rox_grammar.specs.ContentPoints.{is_main, PrologTo, Behind, begins, of_root}
 use Rattle.rox_grammar.specs.Faults.{InMisc, FaultOf, without, in_declaration, in_misc_ahead, too_many_ahead, doctype, no_root, unknown_ahead, in_misc_behind, too_many_behind, unknown_behind}
 use Rattle.rox_reading.specs.Lexical.{byte_at, quote_at, qname_at, chars_up_to}
-use Rattle.rox_reading.specs.Markup.{comment_at, instruction_at, pair_at, gap_at, pair_if, declaration_at}
+use Rattle.rox_reading.specs.Markup.{comment_at, instruction_at, pair_at, gap_at, pair_if, xml_decl_at}
 use Rattle.rox_reading.specs.Machine.{value_opener, opener, with_item, comment_step, instruction_step, tag_step, main_text, drive}
 use Rattle.rox_reading.specs.Doctype.{Reply, Asks, asks_nothing, ◌>>>◌, Dtd}
-use Rattle.rox_reading.specs.Whole.{misc, body, finished, prolog, reading}
-use Rattle.rox_reading.specs.Whole as whole
+use Rattle.rox_reading.specs.WholeText.{misc, body, finished, prolog, reading}
+use Rattle.rox_reading.specs.WholeText as whole
 use Rattle.rox_reading.proofs.Forests.{join-nil, join_assoc, named-right}
 use Rattle.rox_theory.proofs.Basics.{ok_same, bind_ok, bind_lifted, bind_lifted_only, chosen, within, byte_sound, chars_sound, run_end_le}
 use Rattle.rox_theory.proofs.NameLemmas.{chars_here, qname_sound}
@@ -45,8 +45,8 @@ use Rattle.rox_theory.proofs.LiteralLemmas.{from_le, quote_sound, quote_ascii}
 use Rattle.rox_theory.proofs.DeclarationLemmas.{pair_sound, pair_if_sound, last_at, last_sound}
 use Rattle.rox_theory.proofs.Places.{over_spaces, space_ascii, space_within}
 use Rattle.rox_theory.proofs.Constructions.{comment_bytes, instruction_bytes}
-use Rattle.rox_theory.proofs.Standing.{IsFine}
-use Rattle.rox_theory.specs.Fine.{state}
+use Rattle.rox_theory.proofs.Standing.{IsValidState}
+use Rattle.rox_theory.specs.ValidState.{state}
 use Rattle.rox_theory.specs.Openers.{AreTexts, AgreesValue, AgreesContent}
 use Rattle.rox_theory.proofs.Leaves.{fine_there, item_read}
 use Rattle.rox_theory.proofs.MarkupLemmas as markup
@@ -86,7 +86,7 @@ module _ (src : List ℕ) (utf8 : IsUtf8 src) where
   -- ---- the declaration
 
   -- a pair
-  pair_fails : (i : ℕ) (f : Fault) → pair_at src i ≡ Err f → (q : ℕ) × (t : Thing) × DueInPair src i q t × Lacks src q t f
+  pair_fails : (i : ℕ) (f : Fault) → pair_at src i ≡ Err f → (q : ℕ) × (t : DueItem) × DueInPair src i q t × IsMissing src q t f
   unfolding pair_at
   pair_fails i f h =
       bind_err (qname_at src i) _ f h (λ bad. (i, a_qname, its_name, qname_fails src i f bad))
@@ -119,17 +119,17 @@ module _ (src : List ℕ) (utf8 : IsUtf8 src) where
       (e, a_byte (byte src v), closing name.0 name.1 v is_name eq quote.0 (inr sound.0), byte_fails (byte src v) src e f bad')))))
 
   -- a gap
-  gap_fails : (i : ℕ) (f : Fault) → gap_at src i ≡ Err f → Lacks src i a_gap f
+  gap_fails : (i : ℕ) (f : Fault) → gap_at src i ≡ Err f → IsMissing src i a_gap f
   unfolding gap_at
   gap_fails i f h =
       chosen (leb (length src) i) _ _ _ h (λ out h. cc)
       (λ inside h. chosen (is_space (byte src i)) _ _ _ h (λ space h. cc)
       (λ none h. chosen (stands (word_text word.PIEnd) src i) _ _ _ h (λ ends h. cc)
-      (λ other h. let is : fault.InvalidChar2 due.Space (byte src i) i ≡ f = cc in subst (Lacks src i a_gap) is (no_gap (leb-false _ _ inside) none other))))
+      (λ other h. let is : fault.InvalidChar2 due.Space (byte src i) i ≡ f = cc in subst (IsMissing src i a_gap) is (no_gap (leb-false _ _ inside) none other))))
 
   -- what is due in the declaration
   abbrev pub Declares : ℕ → Fault → Type 0
-  Declares i f = (q : ℕ) × (t : Thing) × DueInDeclaration src i q t × Lacks src q t f
+  Declares i f = (q : ℕ) × (t : DueItem) × DueInXmlDecl src i q t × IsMissing src q t f
 
   -- a pair and its gap
   pair_if_fails : (w : Word) (i p : ℕ) (f : Fault) → (at w src p ≡ true → PairBegins src i true p) → pair_if w src p ≡ Err f → Declares i f
@@ -142,8 +142,8 @@ module _ (src : List ℕ) (utf8 : IsUtf8 src) where
       (λ none h. cc)
 
   -- the declaration
-  pub declaration_fails : (i : ℕ) (f : Fault) → declaration_at src i ≡ Err f → Declares i f
-  unfolding declaration_at
+  pub declaration_fails : (i : ℕ) (f : Fault) → xml_decl_at src i ≡ Err f → Declares i f
+  unfolding xml_decl_at
   declaration_fails i f h =
       let p = spaces_end src (i + 5) in
       chosen (stands (word_text word.Version) src p) _ _ _ h
@@ -158,10 +158,10 @@ module _ (src : List ℕ) (utf8 : IsUtf8 src) where
       (λ there bad. let x = pair_fails e.1 f bad in (x.0, x.1, in_pair false e.1 x.0 x.1 (standalone v.1 e.1 here first_pair second there) x.2, x.3))
       (λ none bad. cc))
       (λ s read'' h.
-      (spaces_end src s.1, a_word word.PIEnd, dues.DueInDeclaration.its_end v.1 e.1 s.1 here first_pair second (last_sound src utf8 e.1 s read''), string_fails word.PIEnd src (spaces_end src s.1) f h)))))
+      (spaces_end src s.1, a_word word.PIEnd, dues.DueInXmlDecl.its_end v.1 e.1 s.1 here first_pair second (last_sound src utf8 e.1 s read''), string_fails word.PIEnd src (spaces_end src s.1) f h)))))
       (λ none h.
       let is : fault.InvalidString word.Version p ≡ f = cc in
-      (p, a_word word.Version, its_version, subst (Lacks src p (a_word word.Version)) is (dues.Lacks.other_word word.Version none)))
+      (p, a_word word.Version, its_version, subst (IsMissing src p (a_word word.Version)) is (dues.IsMissing.other_word word.Version none)))
 
   -- ---- comments and processing instructions
 
@@ -211,7 +211,7 @@ module _ (src : List ℕ) (utf8 : IsUtf8 src) where
       (ill : (p : ℕ) (items : Forest Item) → Point p items → FitsLimits limit root items → InMisc src p f → Q)
       (over : (p j : ℕ) (items : Forest Item) (item : Item) → Point p items → FitsLimits limit root items → IsMisc src p j item → limit < nodes_so_far root (join items (leaf item)) → fault.NodesLimitReached ≡ f → Q) where
     -- they fail at a point
-    pub misc_fails : (n b i : ℕ) (done : Forest Item) → Point i done → IsFine most (state i done root b) → IsCharBoundary src i → misc limit n src (state i done root b) ≡ Err f → Q
+    pub misc_fails : (n b i : ℕ) (done : Forest Item) → Point i done → IsValidState most (state i done root b) → IsCharBoundary src i → misc limit n src (state i done root b) ≡ Err f → Q
     unfolding misc comment_step instruction_step
     misc_fails zero b i done point fine cut' h = no_fault _ f h
     misc_fails (suc n) b i done point fine cut' h =
@@ -227,7 +227,7 @@ module _ (src : List ℕ) (utf8 : IsUtf8 src) where
         λ j item u is read h.
         let p = misc_plain src utf8 k j item is in
         let both = item_read limit most (state k done root b) u j item less p.0 p.1 (p.2 _) fine' read in
-        misc_fails n b j (join done (leaf item)) (next j item is) (subst (IsFine most) both.0 both.1) (ends_cut src j utf8 (misc_ends src k j item is)) (subst (λ (u : State). misc limit n src u ≡ Err f) both.0 h)
+        misc_fails n b j (join done (leaf item)) (next j item is) (subst (IsValidState most) both.0 both.1) (ends_cut src j utf8 (misc_ends src k j item is)) (subst (λ (u : State). misc limit n src u ≡ Err f) both.0 h)
         in
         chosen (at word.CommentStart src k) _ _ _ h
         (λ is h. bind_err (comment_step limit src (state k done root b)) _ f h
@@ -242,31 +242,31 @@ module _ (src : List ℕ) (utf8 : IsUtf8 src) where
         (λ neither h. no_fault _ f h))
 
   -- before the root element
-  pub ahead_on : (p q : ℕ) (done items : Forest Item) → Ahead src p done → Misc src p q items → Ahead src q (join done items)
+  pub ahead_on : (p q : ℕ) (done items : Forest Item) → PrologTo src p done → Misc src p q items → PrologTo src q (join done items)
   ahead_on p q done items point more = record { declared_to = point.declared_to; declaration = point.declaration; misc = misc_append point.declared_to p q done items point.misc more }
 
   -- ---- the root element, and what is around it
 
-  module _ (opens : ℕ → Opener) (es : List Entity) (limit most : ℕ) (declared : Bool) (Front : ℕ → Forest Item → Type 0) (less : limit ≤ most) (least : most ≤ max limit 1)
-      (values : (d k : ℕ) → d + k ≡ most_open → AgreesValue es (opens k) (value_opener es d (is_main k))) (contents : (d k : ℕ) → d + k ≡ most_open → AgreesContent es limit (opens k) (opener limit es d (is_main k)))
-      (texts : AreTexts es) (elements : (i j left : ℕ) (one : Forest Item) → IsElement true (opens_main es) src i j 255 left one → (left' : ℕ) × IsElement true (opens 0) src i j 255 left' one) where
+  module _ (opens : ℕ → Inclusion) (es : List Entity) (limit most : ℕ) (declared : Bool) (Front : ℕ → Forest Item → Type 0) (less : limit ≤ most) (least : most ≤ max limit 1)
+      (values : (d k : ℕ) → d + k ≡ most_deep → AgreesValue es (opens k) (value_opener es d (is_main k))) (contents : (d k : ℕ) → d + k ≡ most_deep → AgreesContent es limit (opens k) (opener limit es d (is_main k)))
+      (texts : AreTexts es) (elements : (i j left : ℕ) (one : Forest Item) → IsElement true (included_in_main es) src i j 255 left one → (left' : ℕ) × IsElement true (opens 0) src i j 255 left' one) where
     -- a fault from there on
     abbrev P : List ℕ → Fault → Type 0
     P source f = From opens es limit src declared Front source f
 
-    fits_here : (s : State) → IsFine most s → FitsLimits limit s.stack s.done
+    fits_here : (s : State) → IsValidState most s → FitsLimits limit s.stack s.done
     fits_here s fine = fine_fits limit most s least fine
 
     -- what is read from the tag of the root element on
-    root_read : (i : ℕ) (before : Forest Item) (t u : State) → byte src i ≡ 60 → IsFine most (state i before root 255) → tag_step (main_text limit es) src (state i before root 255) ≡ Ok t
-        → drive (main_text limit es) (length src) src t ≡ Ok u → (left : ℕ) × (one : Forest Item) × IsElement true (opens 0) src i u.at 255 left one × (u ≡ state u.at (join before one) root u.left) × IsFine most u
+    root_read : (i : ℕ) (before : Forest Item) (t u : State) → byte src i ≡ 60 → IsValidState most (state i before root 255) → tag_step (main_text limit es) src (state i before root 255) ≡ Ok t
+        → drive (main_text limit es) (length src) src t ≡ Ok u → (left : ℕ) × (one : Forest Item) × IsElement true (opens 0) src i u.at 255 left one × (u ≡ state u.at (join before one) root u.left) × IsValidState most u
     root_read i before t u opens' fine read driven =
-        let values' = values_agree es texts most_open true in
-        let contents' = openers_agree limit es texts most_open true in
-        let (tagged, fine') = steps.tag_read (main_text limit es) (opens_main es) values' contents' src utf8 most (state i before root 255) t less opens' fine read in
+        let values' = values_agree es texts most_deep true in
+        let contents' = openers_agree limit es texts most_deep true in
+        let (tagged, fine') = steps.tag_read (main_text limit es) (included_in_main es) values' contents' src utf8 most (state i before root 255) t less opens' fine read in
         let (j, c, tag, empty, is, leads) = tagged in
-        let chain = drive_sound limit es src (steps_agree (main_text limit es) (opens_main es) values' contents' src utf8) (length src) most t u less fine' driven in
-        let e = root_element (opens_main es) src i j 255 c before tag empty u is (subst (λ (t : State). Drives (opens_main es) src t u) leads chain.0) in
+        let chain = drive_sound limit es src (steps_agree (main_text limit es) (included_in_main es) values' contents' src utf8) (length src) most t u less fine' driven in
+        let e = root_element (included_in_main es) src i j 255 c before tag empty u is (subst (λ (t : State). Drives (included_in_main es) src t u) leads chain.0) in
         let same = elements i u.at u.left e.0 e.1 in
         (same.0, e.0, same.1, e.2, chain.1)
 
@@ -288,14 +288,14 @@ module _ (src : List ℕ) (utf8 : IsUtf8 src) where
         }
 
     -- right behind it
-    behind_root : (i left : ℕ) (before one : Forest Item) (u : State) → Front i before → IsElement true (opens 0) src i u.at 255 left one → u ≡ state u.at (join before one) root u.left → IsFine most u
+    behind_root : (i left : ℕ) (before one : Forest Item) (u : State) → Front i before → IsElement true (opens 0) src i u.at 255 left one → u ≡ state u.at (join before one) root u.left → IsValidState most u
         → Behind opens src Front u.at (join before one)
     behind_root i left before one u ahead element is fine =
-        let named : AreWellNamed [] (join before one) = (subst (IsFine most) is fine).named in
+        let named : AreWellNamed [] (join before one) = (subst (IsValidState most) is fine).named in
         record { start = i; before = before; ahead = ahead; end = u.at; left = left; one = one; element = element; well_named = named-right [] before one named; after = Nil; misc = no_misc u.at; all = sym (join-nil (join before one)) }
 
     -- the root element and what follows it
-    pub body_fails : (i : ℕ) (before : Forest Item) (e : Refusal) → IsCharBoundary src i → IsFine most (state i before root 255) → Front i before → at word.CommentStart src i ≡ false → at word.PIStart src i ≡ false
+    pub body_fails : (i : ℕ) (before : Forest Item) (e : Refusal) → IsCharBoundary src i → IsValidState most (state i before root 255) → Front i before → at word.CommentStart src i ≡ false → at word.PIStart src i ≡ false
         → (declared ≡ false → at word.DoctypeStart src i ≡ false) → body limit es src (state i before root 255) ≡ Err e → Refuses es P src e
     unfolding body
     body_fails i before e cut' fine ahead no_comment no_instruction no_doctype h =
@@ -305,9 +305,9 @@ module _ (src : List ℕ) (utf8 : IsUtf8 src) where
         let opens' : byte src i ≡ 60 = eqb-true _ _ is in
         let place : Here opens es limit src declared Front most less least values contents texts 0 0 src s = begins i before (ahead, record { opens = opens'; no_comment = no_comment; no_instruction = no_instruction; no_doctype = no_doctype }) in
         bind_err (tag_step (main_text limit es) src s) _ e h
-        (λ bad. tag_fails opens es limit src declared Front most less least values contents texts most_open 0 0 refl src utf8 s e (of_root opens') opens' fine place bad)
+        (λ bad. tag_fails opens es limit src declared Front most less least values contents texts most_deep 0 0 refl src utf8 s e (of_root opens') opens' fine place bad)
         (λ t read h.
-        let tag = tag_taken opens es limit src declared Front most less least values contents texts most_open 0 0 refl src utf8 s t opens' fine read in
+        let tag = tag_taken opens es limit src declared Front most less least values contents texts most_deep 0 0 refl src utf8 s t opens' fine read in
         let takes = tagged_takes true (opens 0) src 0 s t tag.0 in
         bind_err (drive (main_text limit es) (length src) src t) _ e h
         (λ bad. drive_fails opens es limit src declared Front most less least values contents texts utf8 (length src) t e
@@ -324,13 +324,13 @@ module _ (src : List ℕ) (utf8 : IsUtf8 src) where
         refuses_here es P src f e same
         (misc_fails limit most less least f (Behind opens src Front) behind_on (P src f) (λ p items point fits ill. in_misc_behind p items f point fits ill)
         (λ p j items item point fits item_is many is. subst (P src) is (too_many_behind p j items item point fits item_is many))
-        (length src) u.left u.at (join before one) behind (subst (IsFine most) u_is root'.4) (ends_cut src u.at utf8 (element_ends true (opens 0) src i u.at 255 root'.0 one root'.2))
+        (length src) u.left u.at (join before one) behind (subst (IsValidState most) u_is root'.4) (ends_cut src u.at utf8 (element_ends true (opens 0) src i u.at 255 root'.0 one root'.2))
         (subst (λ (u : State). misc limit (length src) src u ≡ Err f) u_is bad)))
         (λ v rest h. no_fault _ e h))))
         (λ none h. no_fault _ e h)
 
     -- nothing may be left
-    pub finished_fails : (i : ℕ) (before : Forest Item) (f : Fault) (x : State × Bool) → IsCharBoundary src i → IsFine most (state i before root 255) → Front i before → is_space (byte src i) ≡ false
+    pub finished_fails : (i : ℕ) (before : Forest Item) (f : Fault) (x : State × Bool) → IsCharBoundary src i → IsValidState most (state i before root 255) → Front i before → is_space (byte src i) ≡ false
         → body limit es src (state i before root 255) ≡ Ok x → finished src x ≡ Err f → P src f
     unfolding body finished
     finished_fails i before f x cut' fine ahead no_space' h bad =
@@ -345,13 +345,13 @@ module _ (src : List ℕ) (utf8 : IsUtf8 src) where
         let cut'' = ends_cut src u.at utf8 (element_ends true (opens 0) src i u.at 255 root'.0 one root'.2) in
         let behind = behind_root i root'.0 before one u ahead root'.2 u_is root'.4 in
         let rest' = subst (λ (u : State). misc limit (length src) src u ≡ Ok v) u_is rest in
-        let m = misc_sound src utf8 (length src) limit most u.left u.at (join before one) v less cut'' (subst (IsFine most) u_is root'.4) rest' in
+        let m = misc_sound src utf8 (length src) limit most u.left u.at (join before one) v less cut'' (subst (IsValidState most) u_is root'.4) rest' in
         let there = behind_on u.at v.at (join before one) m.0 behind m.1 in
         let stops = misc_stops (length src) limit u.left u.at (join before one) v cut'' (omega arith) rest' in
         let bad' : finished src (v, true) ≡ Err f = subst (λ (x : State × Bool). finished src x ≡ Err f) (sym (ok_same _ _ h)) bad in
         chosen (nat_lt v.at (length src)) _ _ _ bad'
         (λ more bad. let is : fault.UnknownToken v.at ≡ f = cc in
-        subst (P src) is (unknown_behind v.at (join (join before one) m.0) there (fits_here (state v.at (join (join before one) m.0) root u.left) (subst (IsFine most) m.2 m.3)) (ltb-true _ _ more) stops.0 stops.1 stops.2))
+        subst (P src) is (unknown_behind v.at (join (join before one) m.0) there (fits_here (state v.at (join (join before one) m.0) root u.left) (subst (IsValidState most) m.2 m.3)) (ltb-true _ _ more) stops.0 stops.1 stops.2))
         (λ all bad. no_fault _ f bad)))))
         (λ none h.
         let bad' : finished src (s, false) ≡ Err f = subst (λ (x : State × Bool). finished src x ≡ Err f) (sym (ok_same _ _ h)) bad in
@@ -369,17 +369,17 @@ module _ (src : List ℕ) (utf8 : IsUtf8 src) where
   no_texts name t found = cc found
 
   -- what is opened where none is declared
-  pub plain_values : (d k : ℕ) → d + k ≡ most_open → AgreesValue [] no_entities (value_opener [] d (is_main k))
+  pub plain_values : (d k : ℕ) → d + k ≡ most_deep → AgreesValue [] no_entities (value_opener [] d (is_main k))
   plain_values d k deep = no_values (value_opener [] d (is_main k))
 
-  pub plain_contents : (limit d k : ℕ) → d + k ≡ most_open → AgreesContent [] limit no_entities (opener limit [] d (is_main k))
+  pub plain_contents : (limit d k : ℕ) → d + k ≡ most_deep → AgreesContent [] limit no_entities (opener limit [] d (is_main k))
   plain_contents limit d k deep = no_contents limit (opener limit [] d (is_main k))
 
-  pub plain_elements : (i j left : ℕ) (one : Forest Item) → IsElement true (opens_main []) src i j 255 left one → (left' : ℕ) × IsElement true no_entities src i j 255 left' one
+  pub plain_elements : (i j left : ℕ) (one : Forest Item) → IsElement true (included_in_main []) src i j 255 left one → (left' : ℕ) × IsElement true no_entities src i j 255 left' one
   plain_elements i j left one element = element_without src i j 255 left one element
 
   -- so that a fault stands in the text itself
-  plain_here : (limit : ℕ) (e : Refusal) → Refuses [] (From (λ k. no_entities) [] limit src false (Ahead src)) src e → IsHere (FaultOf limit src) e
+  plain_here : (limit : ℕ) (e : Refusal) → Refuses [] (From (λ k. no_entities) [] limit src false (PrologTo src)) src e → IsHere (FaultOf limit src) e
   plain_here limit (here f) ill = (f, refl, without f ill)
   plain_here limit (there source f) ill = let none = ill.1.2 in cc none
   plain_here limit (refused request p message) ill = absurd ill
@@ -420,31 +420,31 @@ module _ (src : List ℕ) (utf8 : IsUtf8 src) where
       (λ bad. lifted_only (prolog src b) e bad (λ f bad same. (
         f,
         same,
-        chosen (at word.DeclarationStart src b) _ _ _ bad
-            (λ is bad. bind_err (declaration_at src b) _ f bad (λ bad. let w = declaration_fails b f bad in in_declaration w.0 w.1 f is w.2 w.3) (λ x read bad. no_fault _ f bad))
+        chosen (at word.XmlDeclStart src b) _ _ _ bad
+            (λ is bad. bind_err (xml_decl_at src b) _ f bad (λ bad. let w = declaration_fails b f bad in in_declaration w.0 w.1 f is w.2 w.3) (λ x read bad. no_fault _ f bad))
             (λ none bad. no_fault _ f bad),
       )))
       (λ i declared h.
       let may = prolog_sound src utf8 b i (lifted_ok declared) in
       let cut' = prolog_cut src utf8 b i bom may in
       let first = state i Nil root 255 in
-      let start : IsFine most first = record { nodes = omega arith; attributes = omega arith; pairs = omega arith; named = tt } in
-      let ahead : Ahead src i Nil = record { declared_to = i; declaration = may; misc = no_misc i } in
+      let start : IsValidState most first = record { nodes = omega arith; attributes = omega arith; pairs = omega arith; named = tt } in
+      let ahead : PrologTo src i Nil = record { declared_to = i; declaration = may; misc = no_misc i } in
       asks_err (asks_nothing (lifted (misc limit (length src) src first))) _ e h
       (λ bad. lifted_only (misc limit (length src) src first) e bad (λ f bad same. (
         f,
         same,
-        misc_fails limit most less least f (Ahead src) ahead_on (FaultOf limit src f) (λ p items point fits ill. without f (in_misc_ahead p items f point fits ill))
+        misc_fails limit most less least f (PrologTo src) ahead_on (FaultOf limit src f) (λ p items point fits ill. without f (in_misc_ahead p items f point fits ill))
             (λ p j items item point fits item_is many is. subst (FaultOf limit src) is (without fault.NodesLimitReached (too_many_ahead p j items item point fits item_is many))) (length src) 255 i Nil ahead start cut' bad,
       )))
       (λ s read h.
       let begun = lifted_ok read in
       let m = misc_sound src utf8 (length src) limit most 255 i Nil s less cut' start begun in
       let s_is : s ≡ state s.at m.0 root 255 = m.2 in
-      let there : Ahead src s.at m.0 = ahead_on i s.at Nil m.0 ahead m.1 in
+      let there : PrologTo src s.at m.0 = ahead_on i s.at Nil m.0 ahead m.1 in
       let stops = misc_stops (length src) limit 255 i Nil s cut' (omega arith) begun in
       let cut'' : IsCharBoundary src s.at = stops.3 in
-      let fine = subst (IsFine most) s_is m.3 in
+      let fine = subst (IsValidState most) s_is m.3 in
       let before : Dtd = record { state = s; entities = []; replies = replies } in
       asks_err (whole.doctype limit false src before) _ e h
       (λ bad. let is = doctype_fails limit before e bad in (fault.DtdDetected, is.1, doctype s.at m.0 there (fine_fits limit most (state s.at m.0 root 255) least fine) is.0))
@@ -453,9 +453,9 @@ module _ (src : List ℕ) (utf8 : IsUtf8 src) where
       let h' : (asks_nothing (body limit [] src s) >>> λ x. asks_nothing (lifted (finished src x))).1 ≡ Err e =
       subst (λ (d : Dtd). (asks_nothing (body limit d.entities src d.state) >>> λ x. asks_nothing (lifted (finished src x))).1 ≡ Err e) (sym none.1) h in
       asks_err (asks_nothing (body limit [] src s)) _ e h'
-      (λ bad. plain_here limit e (body_fails (λ k. no_entities) [] limit most false (Ahead src) less least plain_values (plain_contents limit) no_texts plain_elements s.at m.0 e cut'' fine there stops.1 stops.2 (λ z. none.0) (subst (λ (s : State). body limit [] src s ≡ Err e) s_is bad)))
+      (λ bad. plain_here limit e (body_fails (λ k. no_entities) [] limit most false (PrologTo src) less least plain_values (plain_contents limit) no_texts plain_elements s.at m.0 e cut'' fine there stops.1 stops.2 (λ z. none.0) (subst (λ (s : State). body limit [] src s ≡ Err e) s_is bad)))
       (λ x main bad. lifted_only (finished src x) e bad (λ f bad same.
-      (f, same, without f (finished_fails (λ k. no_entities) [] limit most false (Ahead src) less least plain_values (plain_contents limit) no_texts plain_elements s.at m.0 f x cut'' fine there stops.0 (subst (λ (s : State). body limit [] src s ≡ Ok x) s_is main) bad)))))))
+      (f, same, without f (finished_fails (λ k. no_entities) [] limit most false (PrologTo src) less least plain_values (plain_contents limit) no_texts plain_elements s.at m.0 f x cut'' fine there stops.0 (subst (λ (s : State). body limit [] src s ≡ Ok x) s_is main) bad)))))))
     where
       -- what opens nothing
       lifted_ok : {A : Type 0} {r : Result A Fault} {x : A} → lifted r ≡ Ok x → r ≡ Ok x

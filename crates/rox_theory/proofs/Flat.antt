@@ -7,30 +7,30 @@ use Rattle.rox_grammar.specs.Forest.{Forest, Nil, Cons, join}
 use Rattle.rox_grammar.specs.Written.{Item, Element, Text, Tag, leaf, merge}
 use Rattle.rox_grammar.specs.Names.{slice}
 use Rattle.rox_grammar.specs.Constructs.{IsCData, IsEnd}
-use Rattle.rox_grammar.specs.Content.{Opener, Parts, IsRun, IsMisc, IsTag, IsElement, empty, nest, Content, ends, run, cdata, misc, node, literals, line_ends}
+use Rattle.rox_grammar.specs.Content.{Inclusion, Parts, IsCharacterData, IsMisc, IsTag, IsElement, empty, nest, Content, ends, run, cdata, misc, node, literals, line_ends}
 use Rattle.rox_grammar.specs.State.{Open, root, inside}
 use Rattle.rox_reading.specs.State.{State, depth_of}
 use Rattle.rox_reading.proofs.Forests.{join-nil, join_assoc}
 use Rattle.rox_theory.proofs.Leaves.{state}
 
-module _ (main : Bool) (O : Opener) (src : List ℕ) (base : ℕ) where
+module _ (main : Bool) (O : Inclusion) (src : List ℕ) (base : ℕ) where
   -- one construct, by the grammar alone
-  pub data Takes : State → State → Type 0 where
-    takes_run : (i j b c : ℕ) (items done : Forest Item) (stack : Open) → IsRun src i j → Parts main O src i j i b c items
-        → Takes (state i done stack b) (state j (join done items) stack c)
+  pub data StepsOver : State → State → Type 0 where
+    takes_run : (i j b c : ℕ) (items done : Forest Item) (stack : Open) → IsCharacterData src i j → Parts main O src i j i b c items
+        → StepsOver (state i done stack b) (state j (join done items) stack c)
     takes_cdata : (i e j b : ℕ) (done : Forest Item) (stack : Open) → IsCData src i e j
-        → Takes (state i done stack b) (state j (join done (leaf (Text i j (line_ends (literals (slice src (i + 9) e))) (not (list_any (λ b. b == 13) (slice src (i + 9) e)))))) stack b)
-    takes_misc : (i j b : ℕ) (item : Item) (done : Forest Item) (stack : Open) → IsMisc src i j item → Takes (state i done stack b) (state j (join done (leaf item)) stack b)
+        → StepsOver (state i done stack b) (state j (join done (leaf (Text i j (line_ends (literals (slice src (i + 9) e))) (not (list_any (λ b. b == 13) (slice src (i + 9) e)))))) stack b)
+    takes_misc : (i j b : ℕ) (item : Item) (done : Forest Item) (stack : Open) → IsMisc src i j item → StepsOver (state i done stack b) (state j (join done (leaf item)) stack b)
     takes_empty : (i j b c : ℕ) (t : Tag) (done : Forest Item) (stack : Open) → IsTag main O src i j b c true t
-        → Takes (state i done stack b) (state j (join done (leaf (Element i j t))) stack c)
-    takes_start : (i j b c : ℕ) (t : Tag) (done : Forest Item) (stack : Open) → IsTag main O src i j b c false t → Takes (state i done stack b) (state j Nil (inside i t done stack) c)
+        → StepsOver (state i done stack b) (state j (join done (leaf (Element i j t))) stack c)
+    takes_start : (i j b c : ℕ) (t : Tag) (done : Forest Item) (stack : Open) → IsTag main O src i j b c false t → StepsOver (state i done stack b) (state j Nil (inside i t done stack) c)
     takes_end : (i p j b start : ℕ) (t : Tag) (done before : Forest Item) (up : Open) → base < depth_of up + 1 → IsEnd src i t.name p j
-        → Takes (state i done (inside start t before up) b) (state j (join before (Cons (Element start j t) (merge done) Nil)) up b)
+        → StepsOver (state i done (inside start t before up) b) (state j (join before (Cons (Element start j t) (merge done) Nil)) up b)
 
   -- the constructs from a state on, up to the end of the text
   pub data Chain : State → State → Type 0 where
     arrives : (s : State) → s.at ≡ length src → depth_of s.stack ≡ base → Chain s s
-    goes : (s t u : State) → Takes s t → Chain t u → Chain s u
+    goes : (s t u : State) → StepsOver s t → Chain t u → Chain s u
 
   mutual
     -- content in front
@@ -71,7 +71,7 @@ module _ (main : Bool) (O : Opener) (src : List ℕ) (base : ℕ) where
       (join items more, m, p, e, r, front m r more is, end, rw join_assoc at rest)
 
   -- one construct in front
-  pub takes_completes : (own : ℕ) (s t u : State) → Takes s t → depth_of s.stack ≡ base + own
+  pub takes_completes : (own : ℕ) (s t u : State) → StepsOver s t → depth_of s.stack ≡ base + own
       → ((next : ℕ) → depth_of t.stack ≡ base + next → Completes next t.at t.left t.done t.stack u) → Completes own s.at s.left s.done s.stack u
   takes_completes own s t u (takes_run i j b c items done stack is parts) deep h =
       extends own i j b c done items stack u (λ l d more content. run i j l b c d items more is parts content) (h own deep)
@@ -99,11 +99,11 @@ module _ (main : Bool) (O : Opener) (src : List ℕ) (base : ℕ) where
   chain_completes own s u (goes _ t _ takes rest) deep = takes_completes own s t u takes deep (λ next deep'. chain_completes next t u rest deep')
 
 -- a replacement text that is read from a state on, in which so many elements are open, is content, and the other way round
-pub text_sound : (O : Opener) (src : List ℕ) (i b : ℕ) (done : Forest Item) (stack : Open) (u : State) → Chain false O src (depth_of stack) (state i done stack b) u
+pub text_sound : (O : Inclusion) (src : List ℕ) (i b : ℕ) (done : Forest Item) (stack : Open) (u : State) → Chain false O src (depth_of stack) (state i done stack b) u
     → (items : Forest Item) × Content false O src i (length src) b u.left items × (u ≡ state (length src) (join done items) stack u.left)
 text_sound O src i b done stack u chain = chain_completes false O src (depth_of stack) zero (state i done stack b) u chain (omega arith)
 
-pub text_complete : (O : Opener) (src : List ℕ) (i b c : ℕ) (done items : Forest Item) (stack : Open) → Content false O src i (length src) b c items
+pub text_complete : (O : Inclusion) (src : List ℕ) (i b c : ℕ) (done items : Forest Item) (stack : Open) → Content false O src i (length src) b c items
     → Chain false O src (depth_of stack) (state i done stack b) (state (length src) (join done items) stack c)
 text_complete O src i b c done items stack is =
     content_chain false O src (depth_of stack) i (length src) b c items is done stack _ (omega arith) (arrives _ refl refl)

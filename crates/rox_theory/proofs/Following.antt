@@ -4,16 +4,16 @@ use Rattle.std.proofs.Common.{arith, ◌∙◌}
 use Rattle.std.specs.Prelude.{◌≡◌, ℕ, zero, suc, ◌+◌, ◌≤◌, Bool, true, false, List, [], length, refl}
 use Rattle.rox_grammar.specs.Forest.{Forest}
 use Rattle.rox_grammar.specs.Written.{Item, Attribute, Tag}
-use Rattle.rox_grammar.specs.Content.{Opener, Parts, last_part, then_entity, Value, value_ends, line_end, white, other, a_character, an_entity, Attributes, no_more, one_more, IsTag, IsElement, empty, nest, Content, ends, run, cdata, misc, node}
-use Rattle.rox_grammar.specs.Entities.{Entity, Opens, most_open, no_entities, opens_main}
+use Rattle.rox_grammar.specs.Content.{Inclusion, Parts, last_part, then_entity, Value, value_ends, line_end, white, other, a_character, an_entity, Attributes, no_more, one_more, IsTag, IsElement, empty, nest, Content, ends, run, cdata, misc, node}
+use Rattle.rox_grammar.specs.Entities.{Entity, Includes, most_deep, no_entities, included_in_main}
 use Rattle.rox_grammar.specs.Expansion.{Counts}
 
 -- what the one opens the other does, and the openings that the one takes the other counts
-pub record Follows (O P : Opener) : Type 0 where
+pub record Follows (O P : Inclusion) : Type 0 where
   pub content : (name : List ℕ) (b : ℕ) (items : Forest Item) (c : ℕ) → O.content name b items c → (m : ℕ) → (n : ℕ) × P.content name m items n × (m + b ≡ n + c)
   pub value : (name : List ℕ) (b : ℕ) (v : List ℕ) (c : ℕ) → O.value name b v c → (m : ℕ) → (n : ℕ) × P.value name m v n × (m + b ≡ n + c)
 
-module _ (main : Bool) (O P : Opener) (follows : Follows O P) (src : List ℕ) where
+module _ (main : Bool) (O P : Inclusion) (follows : Follows O P) (src : List ℕ) where
   parts_count : (start stop i b c : ℕ) (items : Forest Item) → Parts main O src start stop i b c items → (m : ℕ) → (n : ℕ) × Parts main P src start stop i m n items × (m + b ≡ n + c)
   parts_count start stop i b c items (last_part _ _ ss part) m = (m, last_part i m ss part, refl)
   parts_count start stop i b d items (then_entity _ p n j _ c _ ss front more part reference name opened rest) m =
@@ -66,7 +66,7 @@ module _ (main : Bool) (O P : Opener) (follows : Follows O P) (src : List ℕ) w
           last = is.last;
           attributes = x.1;
           ends = is.ends;
-          declares = is.declares;
+          is_namespace_decl = is.is_namespace_decl;
           has = is.has;
         },
         x.2,
@@ -94,37 +94,37 @@ module _ (main : Bool) (O P : Opener) (follows : Follows O P) (src : List ℕ) w
         (y.0, node i j l m x.0 y.0 one more x.1 y.1, x.2 ∙ y.2)
 
 -- within replacement texts, at most so many within one another
-pub follows_within : (es : List Entity) (d : ℕ) → Follows (Opens es d false) (Counts es d)
+pub follows_within : (es : List Entity) (d : ℕ) → Follows (Includes es d false) (Counts es d)
 follows_within es zero = record { content = λ name b items c h. absurd h; value = λ name b v c h. absurd h }
 follows_within es (suc d) =
     let inner = follows_within es d in
     record {
       content = λ name b items c (t, r, l, found, (before, after), is) m.
-          let x = content_count false (Opens es d false) (Counts es d) inner t.source t.start (length t.source) r l items is (m + 1) in
+          let x = content_count false (Includes es d false) (Counts es d) inner t.source t.start (length t.source) r l items is (m + 1) in
           (x.0, (t, found, x.1), omega (arith, x.2, before, after));
       value = λ name b v c (t, r, l, found, (before, after), chars, is) m.
-          let x = value_count false (Opens es d false) (Counts es d) inner t.source (length t.source) t.start r l v is (m + 1) in
+          let x = value_count false (Includes es d false) (Counts es d) inner t.source (length t.source) t.start r l v is (m + 1) in
           (x.0, (t, found, chars, x.1), omega (arith, x.2, before, after));
     }
 
 -- a reference outside replacement texts opens at most 256 of them, at most ten within one another
-pub few_opened : (es : List Entity) (name : List ℕ) (b c : ℕ) (items : Forest Item) → (Opens es most_open true).content name b items c
-    → (n : ℕ) × (Counts es most_open).content name 0 items n × (n ≤ 256)
+pub few_opened : (es : List Entity) (name : List ℕ) (b c : ℕ) (items : Forest Item) → (Includes es most_deep true).content name b items c
+    → (n : ℕ) × (Counts es most_deep).content name 0 items n × (n ≤ 256)
 few_opened es name b c items (t, r, l, found, (all, same), is) =
-    let x = content_count false (Opens es 9 false) (Counts es 9) (follows_within es 9) t.source t.start (length t.source) r l items is 1 in
+    let x = content_count false (Includes es 9 false) (Counts es 9) (follows_within es 9) t.source t.start (length t.source) r l items is 1 in
     (x.0, (t, found, x.1), omega (arith, x.2, all))
 
 -- so does one in a value
-pub few_opened_in_value : (es : List Entity) (name : List ℕ) (b c : ℕ) (v : List ℕ) → (Opens es most_open true).value name b v c
-    → (n : ℕ) × (Counts es most_open).value name 0 v n × (n ≤ 256)
+pub few_opened_in_value : (es : List Entity) (name : List ℕ) (b c : ℕ) (v : List ℕ) → (Includes es most_deep true).value name b v c
+    → (n : ℕ) × (Counts es most_deep).value name 0 v n × (n ≤ 256)
 few_opened_in_value es name b c v (t, r, l, found, (all, same), chars, is) =
-    let x = value_count false (Opens es 9 false) (Counts es 9) (follows_within es 9) t.source (length t.source) t.start r l v is 1 in
+    let x = value_count false (Includes es 9 false) (Counts es 9) (follows_within es 9) t.source (length t.source) t.start r l v is 1 in
     (x.0, (t, found, chars, x.1), omega (arith, x.2, all))
 
 -- ---- where nothing is declared
 
 -- where nothing is declared nothing is opened
-pub follows_nothing : (d : ℕ) (main : Bool) → Follows (Opens [] d main) no_entities
+pub follows_nothing : (d : ℕ) (main : Bool) → Follows (Includes [] d main) no_entities
 follows_nothing zero main = record { content = λ name b items c h. absurd h; value = λ name b v c h. absurd h }
 follows_nothing (suc d) main =
     record {
@@ -132,11 +132,11 @@ follows_nothing (suc d) main =
       value = λ name b v c (t, r, l, found, spends, chars, is) m. cc found;
     }
 
-pub element_without : (src : List ℕ) (i j b c : ℕ) (one : Forest Item) → IsElement true (opens_main []) src i j b c one → (n : ℕ) × IsElement true no_entities src i j b n one
-element_without src i j b c one is = let x = element_count true (opens_main []) no_entities (follows_nothing most_open true) src i j b c one is b in (x.0, x.1)
+pub element_without : (src : List ℕ) (i j b c : ℕ) (one : Forest Item) → IsElement true (included_in_main []) src i j b c one → (n : ℕ) × IsElement true no_entities src i j b n one
+element_without src i j b c one is = let x = element_count true (included_in_main []) no_entities (follows_nothing most_deep true) src i j b c one is b in (x.0, x.1)
 
 -- and the other way round
-pub follows_any : (O : Opener) → Follows no_entities O
+pub follows_any : (O : Inclusion) → Follows no_entities O
 follows_any O = record { content = λ name b items c h. absurd h; value = λ name b v c h. absurd h }
 
 -- where nothing is opened the openings that are left are any
@@ -176,6 +176,6 @@ tag_free main src i j b c is_empty t is d =
       last = is.last;
       attributes = attributes_free main src t.name_end is.last b c is.written is.attributes d;
       ends = is.ends;
-      declares = is.declares;
+      is_namespace_decl = is.is_namespace_decl;
       has = is.has;
     }

@@ -2,7 +2,7 @@
 use Rattle.std.proofs.Common.{◌≡◌, ℕ, ◌+◌, ◌≤◌, nat_le, List, [], ◌++◌, length, Ok, refl, sym, ap, ◌∙◌, subst, arith, le-leb, leb-true}
 use Rattle.std.proofs.lemmas.List.{append-nil}
 use Rattle.rox_grammar.specs.Forest.{Forest, Nil, join}
-use Rattle.rox_grammar.specs.Written.{Item, Declaration, leaf}
+use Rattle.rox_grammar.specs.Written.{Item, NamespaceDecl, leaf}
 use Rattle.rox_grammar.specs.Tree.{scope_in, listed}
 use Rattle.rox_grammar.specs.WellNamed.{ItemWellNamed}
 use Rattle.rox_grammar.specs.Document.{pairs, own_pairs, own_attributes, with_new, distinct_pairs, most_attributes, most_pairs}
@@ -12,8 +12,8 @@ use Rattle.rox_reading.specs.Machine.{counted, with_item}
 use Rattle.rox_reading.proofs.Forests.{pairs-join, attribute_count-join, named-left}
 use Rattle.std.proofs.Common.{append_assoc}
 use Rattle.rox_theory.proofs.Basics.{chosen}
-use Rattle.rox_theory.proofs.Standing.{AreNamed, IsFine, distinct-append, distinct-grows, attributes-item, pairs-item, named-item, nodes-grow}
-pub use Rattle.rox_theory.specs.Fine.{state}
+use Rattle.rox_theory.proofs.Standing.{AreNamed, IsValidState, distinct-append, distinct-grows, attributes-item, pairs-item, named-item, nodes-grow}
+pub use Rattle.rox_theory.specs.ValidState.{state}
 
 -- one more item without children, up to j
 abbrev pub with_leaf : State → ℕ → Item → State
@@ -34,9 +34,9 @@ pub record Adds (s : State) (item : Item) : Type 0 where
   pub named : ItemWellNamed (scope_in (scope_of s.stack) item) item
 
 -- one more item keeps a state fine
-pub leaf_fine : (limit : ℕ) (s : State) (j : ℕ) (item : Item) → IsFine limit s → Adds s item → nodes_so_far s.stack (join s.done (leaf item)) ≤ limit → IsFine limit (with_leaf s j item)
+pub leaf_fine : (limit : ℕ) (s : State) (j : ℕ) (item : Item) → IsValidState limit s → Adds s item → nodes_so_far s.stack (join s.done (leaf item)) ≤ limit → IsValidState limit (with_leaf s j item)
 leaf_fine limit s j item fine adds nodes =
-    let e : pairs_so_far s.stack (join s.done (leaf item)) ≡ pairs_so_far s.stack s.done ++ own_pairs item = pairs-item s.stack s.done item Nil ∙ ap (λ (ds : List Declaration). pairs_so_far s.stack s.done ++ ds) (append-nil (own_pairs item)) in
+    let e : pairs_so_far s.stack (join s.done (leaf item)) ≡ pairs_so_far s.stack s.done ++ own_pairs item = pairs-item s.stack s.done item Nil ∙ ap (λ (ds : List NamespaceDecl). pairs_so_far s.stack s.done ++ ds) (append-nil (own_pairs item)) in
     record {
       nodes = nodes;
       attributes = omega (arith, attributes-item s.stack s.done item Nil, adds.attributes);
@@ -45,24 +45,24 @@ leaf_fine limit s j item fine adds nodes =
     }
 
 -- an item that declares nothing and has no attributes
-plain_adds : (limit : ℕ) (s : State) (item : Item) → own_attributes item ≡ 0 → own_pairs item ≡ [] → ItemWellNamed (scope_in (scope_of s.stack) item) item → IsFine limit s → Adds s item
+plain_adds : (limit : ℕ) (s : State) (item : Item) → own_attributes item ≡ 0 → own_pairs item ≡ [] → ItemWellNamed (scope_in (scope_of s.stack) item) item → IsValidState limit s → Adds s item
 plain_adds limit s item no_attributes no_pairs named fine =
     record { attributes = omega (arith, fine.attributes); pairs = rw no_pairs fine.pairs; named = named }
 
 -- a plain item that is read
 pub item_read : (limit most : ℕ) (s t : State) (j : ℕ) (item : Item) → limit ≤ most → own_attributes item ≡ 0 → own_pairs item ≡ [] → ItemWellNamed (scope_in (scope_of s.stack) item) item
-    → IsFine most s → with_item limit s j item ≡ Ok t → (t ≡ with_leaf s j item) × IsFine most t
+    → IsValidState most s → with_item limit s j item ≡ Ok t → (t ≡ with_leaf s j item) × IsValidState most t
 item_read limit most s t j item more no_attributes no_pairs named fine h =
     let c = counted_fits limit (with_leaf s j item) t h in
-    (sym c.0, subst (IsFine most) c.0 (leaf_fine most s j item fine (plain_adds most s item no_attributes no_pairs named fine) (omega (arith, c.1))))
+    (sym c.0, subst (IsValidState most) c.0 (leaf_fine most s j item fine (plain_adds most s item no_attributes no_pairs named fine) (omega (arith, c.1))))
 
 -- a plain item is read if the limits allow it
-pub read_item : (limit : ℕ) (s : State) (j : ℕ) (item : Item) → IsFine limit (with_leaf s j item) → with_item limit s j item ≡ Ok (with_leaf s j item)
+pub read_item : (limit : ℕ) (s : State) (j : ℕ) (item : Item) → IsValidState limit (with_leaf s j item) → with_item limit s j item ≡ Ok (with_leaf s j item)
 read_item limit s j item fine = fits_counted limit (with_leaf s j item) fine.nodes
 
 -- ---- what is fine does not hang on the place, nor on how many texts may be opened
 
-pub fine_there : (limit : ℕ) (s t : State) → s.done ≡ t.done → s.stack ≡ t.stack → IsFine limit s → IsFine limit t
+pub fine_there : (limit : ℕ) (s t : State) → s.done ≡ t.done → s.stack ≡ t.stack → IsValidState limit s → IsValidState limit t
 fine_there limit s t done stack fine =
     record {
       nodes = subst (λ (o : Open). nodes_so_far o t.done ≤ limit) stack (subst (λ (f : Forest Item). nodes_so_far s.stack f ≤ limit) done fine.nodes);
@@ -88,7 +88,7 @@ named_before root done more named = named-left [] done more named
 named_before (inside start tag before up) done more named = (named.0, named.1, named-left (listed (scope_of up) tag.declarations) done more named.2)
 
 -- what the limits allow they allow of fewer items
-pub fine_before : (limit i j b c : ℕ) (done more : Forest Item) (stack : Open) → IsFine limit (state j (join done more) stack c) → IsFine limit (state i done stack b)
+pub fine_before : (limit i j b c : ℕ) (done more : Forest Item) (stack : Open) → IsValidState limit (state j (join done more) stack c) → IsValidState limit (state i done stack b)
 fine_before limit i j b c done more stack fine =
     record {
       nodes = omega (arith, nodes-grow stack done more, fine.nodes);

@@ -6,7 +6,7 @@ use Rattle.rox_grammar.specs.Forest.{Forest}
 use Rattle.rox_grammar.specs.Written.{Item}
 use Rattle.rox_grammar.specs.Names.{slice}
 use Rattle.rox_grammar.specs.Entities.{Replacement, Entity}
-use Rattle.rox_grammar.specs.Doctype.{Asked, Gives, nothing, the_rest, IsDefinition, internal, external, entry, IsEntityDeclaration, Subset, no_more, space, an_item, passed_over, an_entity, IsDoctype, no_subset, with_subset}
+use Rattle.rox_grammar.specs.Doctype.{Asked, GivesReplacement, nothing, the_rest, IsDefinition, internal, external, entry, IsEntityDeclaration, Subset, no_more, space, an_item, skipped_declaration, an_entity, IsDoctype, no_subset, with_subset}
 use Rattle.rox_grammar.specs.Document.{MayHaveDoctype, doctype, no_doctype, ParseOf}
 use Rattle.rox_grammar.specs.Expansion.{longest}
 use Rattle.rox_theory.specs.Answers.{AreShort}
@@ -27,7 +27,7 @@ module _ (src : List ℕ) (most : ℕ) where
   IsShort None = Unit {0}
   IsShort (Some t) = length t.source - t.start ≤ max (length src) most
 
-  given_short : (answer : Option (List ℕ)) (text : Option Replacement) → Gives answer text → IfSome answer (λ a. length a ≤ most) → IsShort text
+  given_short : (answer : Option (List ℕ)) (text : Option Replacement) → GivesReplacement answer text → IfSome answer (λ a. length a ≤ most) → IsShort text
   given_short answer text nothing h = tt
   given_short answer text (the_rest whole d utf8 stands) h = let l = length-drop d whole in omega (arith, l, h)
 
@@ -41,14 +41,14 @@ module _ (src : List ℕ) (most : ℕ) where
 
   declaration_short : (i j : ℕ) (asked : List Asked) (declared : List Entity) → IsEntityDeclaration src i j asked declared → AreShort most asked → longest declared ≤ max (length src) most
   declaration_short i j asked declared is h =
-      subst (λ (es : List Entity). longest es ≤ max (length src) most) (sym is.declares)
+      subst (λ (es : List Entity). longest es ≤ max (length src) most) (sym is.is_namespace_decl)
       (entry_short (slice src is.n is.m) is.text (definition_short is.parameter is.d is.e asked is.text is.definition h))
 
   subset_short : (i j : ℕ) (items : Forest Item) (asked : List Asked) (es : List Entity) → Subset src i j items asked es → AreShort most asked → longest es ≤ max (length src) most
   subset_short i j items asked es (no_more _) h = omega arith
   subset_short i j items asked es (space _ _ _ _ _ here rest) h = subset_short (i + 1) j items asked es rest h
   subset_short i j items asked es (an_item _ k _ item more _ _ is rest) h = subset_short k j more asked es rest h
-  subset_short i j items asked es (passed_over _ k _ _ _ _ is rest) h = subset_short k j items asked es rest h
+  subset_short i j items asked es (skipped_declaration _ k _ _ _ _ is rest) h = subset_short k j items asked es rest h
   subset_short i j items asked es (an_entity _ k _ _ first later one others is rest) h =
       let x = short_parts most first later h in
       longest_both (max (length src) most) one others (declaration_short i k first one is x.0) (subset_short k j items later others rest x.1)

@@ -4,7 +4,7 @@ use Rattle.std.proofs.Common.{arith}
 use Rattle.std.proofs.lemmas.List.{length-append}
 use Rattle.std.specs.Prelude.{◌≡◌, ℕ, ◌+◌, ◌≤◌, not, Bool, true, false, List, [], ◌∷◌, Option, length, if◌then◌else◌, refl}
 use Rattle.rox_grammar.specs.Forest.{Forest, Nil, Cons, join, size}
-use Rattle.rox_grammar.specs.Written.{Item, Element, Text, Comment, PI, Attribute, Tag, leaf, merge, glue, declares, attributes_of}
+use Rattle.rox_grammar.specs.Written.{Item, Element, Text, Comment, PI, Attribute, Tag, leaf, merge, glue, is_namespace_decl, plain_attributes_of}
 use Rattle.rox_grammar.specs.Document.{attribute_count}
 use Rattle.rox_grammar.specs.Expansion.{bytes_in, value_bytes_of}
 
@@ -23,11 +23,11 @@ pub record Measure (of : Forest Item → ℕ) : Type 0 where
   pub merged : (f : Forest Item) → of (merge f) ≤ of f
 
 -- of these attributes as many as declare nothing
-pub fewer : (as' : List Attribute) → most_of (attributes_of as') ≤ most_of as'
+pub fewer : (as' : List Attribute) → most_of (plain_attributes_of as') ≤ most_of as'
 fewer [] = omega arith
-fewer (a ∷ as') = let h = fewer as' in at_test (declares a.name) h
+fewer (a ∷ as') = let h = fewer as' in at_test (is_namespace_decl a.name) h
   where
-    at_test : (b : Bool) → most_of (attributes_of as') ≤ most_of as' → most_of (if not b then a ∷ attributes_of as' else attributes_of as') ≤ 1 + length a.value + most_of as'
+    at_test : (b : Bool) → most_of (plain_attributes_of as') ≤ most_of as' → most_of (if not b then a ∷ plain_attributes_of as' else plain_attributes_of as') ≤ 1 + length a.value + most_of as'
     at_test true h = omega (arith, h)
     at_test false h = omega (arith, h)
 

@@ -1,16 +1,16 @@
 -- Where no entity is declared nothing is opened, however replacement texts are read.
 use Rattle.std.proofs.Common.{ℕ, [], true}
 use Rattle.std.specs.Prelude.{Result}
-use Rattle.rox_grammar.specs.Entities.{Replacement, no_entities, most_open}
+use Rattle.rox_grammar.specs.Entities.{Replacement, no_entities, most_deep}
 use Rattle.rox_reading.specs.Refusals.{Refusal}
 use Rattle.rox_reading.specs.State.{State}
-use Rattle.rox_reading.specs.Values.{ValueOpener}
+use Rattle.rox_reading.specs.Values.{ValueInclusion}
 use Rattle.rox_reading.specs.Tags.{Values}
 use Rattle.rox_reading.specs.Machine.{values_of}
 use Rattle.rox_theory.specs.Openers.{AgreesValue, AgreesContent}
 
 -- in a value
-pub no_values : (opener : ValueOpener) → AgreesValue [] no_entities opener
+pub no_values : (opener : ValueInclusion) → AgreesValue [] no_entities opener
 no_values opener = record {
   sound = λ name t after b c w found h. cc found;
   complete = λ name after b c w h. absurd h;
@@ -25,4 +25,4 @@ no_contents limit opener = record {
 
 -- how a tag of the main text is read there
 abbrev pub alone : Values
-alone = values_of [] most_open true
+alone = values_of [] most_deep true

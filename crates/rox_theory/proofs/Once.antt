@@ -7,21 +7,21 @@ use Rattle.rox_grammar.specs.Forest.{Forest, Nil, join}
 use Rattle.rox_grammar.specs.Written.{Tag, Item, Text, Comment, PI}
 use Rattle.rox_grammar.specs.Tree.{none_if_empty}
 use Rattle.rox_grammar.specs.Names.{slice, spaces_end}
-use Rattle.rox_grammar.specs.Content.{Opener, Parts, IsRun, IsMisc, comment, instruction, IsTag, IsElement, Content, literals, line_ends}
-use Rattle.rox_grammar.specs.Entities.{Replacement, Entity, Spends, Opens, opens_main, most_open}
+use Rattle.rox_grammar.specs.Content.{Inclusion, Parts, IsCharacterData, IsMisc, comment, instruction, IsTag, IsElement, Content, literals, line_ends}
+use Rattle.rox_grammar.specs.Entities.{Replacement, Entity, Spends, Includes, included_in_main, most_deep}
 use Rattle.rox_grammar.specs.State.{Open, root, inside}
 use Rattle.rox_reading.specs.Markup.{comment_at, Instruction, instruction_at, cdata_at, EndTag, end_tag_at}
-use Rattle.rox_reading.specs.Values.{ValueOpener}
+use Rattle.rox_reading.specs.Values.{ValueInclusion}
 use Rattle.rox_reading.specs.Tags.{Values}
 use Rattle.rox_reading.specs.State.{State}
 use Rattle.rox_reading.specs.Machine.{value_opener, values_of}
 use Rattle.rox_theory.specs.Openers.{AreTexts, AgreesValue}
-use Rattle.rox_theory.specs.Fine.{state}
+use Rattle.rox_theory.specs.ValidState.{state}
 use Rattle.rox_theory.proofs.MarkupLemmas.{comment_complete, instruction_complete, cdata_complete, end_complete}
 use Rattle.rox_theory.proofs.Openers.{values_agree}
 use Rattle.rox_theory.proofs.Leaves.{with_leaf}
 use Rattle.rox_theory.proofs.Steps.{after, closed}
-use Rattle.rox_theory.proofs.Flat.{Takes, takes_run, takes_cdata, takes_misc, takes_empty, takes_start, takes_end, Chain, arrives, goes, text_complete}
+use Rattle.rox_theory.proofs.Flat.{StepsOver, takes_run, takes_cdata, takes_misc, takes_empty, takes_start, takes_end, Chain, arrives, goes, text_complete}
 use Rattle.rox_theory.proofs.Constructions.{Kind, a_run, a_comment, a_cdata, an_instruction, an_end, a_tag, nothing, kind_at, name_byte, run_within, run_kind, comment_kind, cdata_kind, instruction_kind, end_kind, tag_kind, comment_bytes, cdata_bytes, instruction_bytes, end_bytes}
 use Rattle.rox_theory.proofs.FaultBasics.{ok_one}
 use Rattle.rox_theory.proofs.PartOnce.{OpensOnce, parts_once}
@@ -29,7 +29,7 @@ use Rattle.rox_theory.proofs.TagOnce.{tag_once}
 use Rattle.rox_theory.proofs.Chains as chains
 use Rattle.rox_theory.proofs.Chains.{Drives, root_drives}
 
-module _ (how : Values) (O : Opener) (agrees : AgreesValue how.entities O how.opener) (once : OpensOnce O) (src : List ℕ) (utf8 : IsUtf8 src) where
+module _ (how : Values) (O : Inclusion) (agrees : AgreesValue how.entities O how.opener) (once : OpensOnce O) (src : List ℕ) (utf8 : IsUtf8 src) where
   -- an end tag closes the innermost open element
   abbrev Closes : ℕ → ℕ → Forest Item → Open → State → Type 0
   Closes left j done root t = ⊥
@@ -37,7 +37,7 @@ module _ (how : Values) (O : Opener) (agrees : AgreesValue how.entities O how.op
 
   -- one construct, by its kind
   abbrev OneBy : Kind → State → State → Type 0
-  OneBy a_run s t = (j : ℕ) × (c : ℕ) × (items : Forest Item) × IsRun src s.at j × Parts how.main O src s.at j s.at s.left c items × (t ≡ state j (join s.done items) s.stack c)
+  OneBy a_run s t = (j : ℕ) × (c : ℕ) × (items : Forest Item) × IsCharacterData src s.at j × Parts how.main O src s.at j s.at s.left c items × (t ≡ state j (join s.done items) s.stack c)
   OneBy a_comment s t = (j : ℕ) × (text : List ℕ) × (comment_at src s.at ≡ Ok (text, j)) × (t ≡ with_leaf s j (Comment s.at j text))
   OneBy a_cdata s t = (j : ℕ) × (text : List ℕ) × (cdata_at src s.at ≡ Ok (text, j)) × (t ≡ with_leaf s j (Text s.at j (line_ends (literals text)) (not (list_any (λ b. b == 13) text))))
   OneBy an_instruction s t = (j : ℕ) × (x : Instruction) × (instruction_at src s.at ≡ Ok (x, j)) × (t ≡ with_leaf s j (PI s.at j x.target x.value))
@@ -49,7 +49,7 @@ module _ (how : Values) (O : Opener) (agrees : AgreesValue how.entities O how.op
   by_kind : (k : Kind) (s t : State) → kind_at src s.at ≡ k → OneBy k s t → OneBy (kind_at src s.at) s t
   by_kind k s t is h = subst (λ (k : Kind). OneBy k s t) (sym is) h
 
-  takes_by : (base : ℕ) (s t : State) → Takes how.main O src base s t → OneBy (kind_at src s.at) s t
+  takes_by : (base : ℕ) (s t : State) → StepsOver how.main O src base s t → OneBy (kind_at src s.at) s t
   takes_by base s t (takes_run i j b c items done stack is parts) = by_kind a_run s t (run_kind src i (run_within src i j is).1) (j, c, items, is, parts, refl)
   takes_by base s t (takes_cdata i e j b done stack is) = by_kind a_cdata s t (cdata_kind src i is.opens) (j, slice src (i + 9) e, cdata_complete src i e j is, refl)
   takes_by base s t (takes_misc i j b item done stack is) = misc_by item is
@@ -94,14 +94,14 @@ module _ (how : Values) (O : Opener) (agrees : AgreesValue how.entities O how.op
   by_once nothing s t u h k = absurd h
 
   -- one construct stands at a place
-  pub takes_once : (base : ℕ) (s t u : State) → Takes how.main O src base s t → Takes how.main O src base s u → t ≡ u
+  pub takes_once : (base : ℕ) (s t u : State) → StepsOver how.main O src base s t → StepsOver how.main O src base s u → t ≡ u
   takes_once base s t u h k = by_once (kind_at src s.at) s t u (takes_by base s t h) (takes_by base s u k)
 
 -- ---- replacement texts
 
-module _ (how : Values) (O : Opener) (src : List ℕ) where
+module _ (how : Values) (O : Inclusion) (src : List ℕ) where
   -- one construct begins in the text
-  takes_within : (base : ℕ) (s t : State) → Takes how.main O src base s t → s.at < length src
+  takes_within : (base : ℕ) (s t : State) → StepsOver how.main O src base s t → s.at < length src
   takes_within base s t (takes_run i j b c items done stack is parts) = (run_within src i j is).0
   takes_within base s t (takes_cdata i e j b done stack is) = omega (arith, (cdata_bytes src i is.opens).0)
   takes_within base s t (takes_misc i j b item done stack (comment _ e _ is)) = omega (arith, (comment_bytes src i is.opens).0)
@@ -110,7 +110,7 @@ module _ (how : Values) (O : Opener) (src : List ℕ) where
   takes_within base s t (takes_start i j b c tag done stack is) = omega (arith, (name_byte src (i + 1) tag.name tag.name_end is.is_name).within)
   takes_within base s t (takes_end i p j b start tag done before up deep end) = omega (arith, (end_bytes src i end.opens).0)
 
-module _ (es : List Entity) (opener : ValueOpener) (O : Opener) (agrees : AgreesValue es O opener) (once : OpensOnce O) (src : List ℕ) (utf8 : IsUtf8 src) where
+module _ (es : List Entity) (opener : ValueInclusion) (O : Inclusion) (agrees : AgreesValue es O opener) (once : OpensOnce O) (src : List ℕ) (utf8 : IsUtf8 src) where
   abbrev within : Values
   within = record { main = false; entities = es; opener = opener }
 
@@ -144,12 +144,12 @@ pub same_text : (x y : Replacement) → ◌≡◌ {A = Option Replacement} (Some
 same_text x y h = cc h
 
 -- a reference opens one row of items
-pub opens_once : (es : List Entity) → AreTexts es → (d : ℕ) (main : Bool) → OpensOnce (Opens es d main)
+pub opens_once : (es : List Entity) → AreTexts es → (d : ℕ) (main : Bool) → OpensOnce (Includes es d main)
 opens_once es texts zero main name b c e items more h k = absurd h
 opens_once es texts (suc d) main name b c e items more (t, r, l, found, spends, content) (u, q, m, found', spends', content') =
     let same : u ≡ t = same_text u t (sym found' ∙ found) in
     let budget : q ≡ r = spends_once main b q m e r l c spends' spends in
-    let O = Opens es d false in
+    let O = Includes es d false in
     let content2 : Content false O t.source t.start (length t.source) q m more = subst (λ (u : Replacement). Content false O u.source u.start (length u.source) q m more) same content' in
     let content3 : Content false O t.source t.start (length t.source) r m more = subst (λ (q : ℕ). Content false O t.source t.start (length t.source) q m more) budget content2 in
     let one = text_once es (value_opener es d false) O (values_agree es texts d false) (opens_once es texts d false) t.source (texts name t found).0 t.start r l m items more content content3 in
@@ -157,7 +157,7 @@ opens_once es texts (suc d) main name b c e items more (t, r, l, found, spends, 
 
 -- ---- the root element
 
-module _ (es : List Entity) (d : ℕ) (O : Opener) (agrees : AgreesValue es O (value_opener es d true)) (once : OpensOnce O) (src : List ℕ) (utf8 : IsUtf8 src) where
+module _ (es : List Entity) (d : ℕ) (O : Inclusion) (agrees : AgreesValue es O (value_opener es d true)) (once : OpensOnce O) (src : List ℕ) (utf8 : IsUtf8 src) where
   -- there is one chain up to its end
   drives_once : (s t u : State) → Drives O src s t → Drives O src s u → t ≡ u
   drives_once s t u (chains.arrives _ h) (chains.arrives _ k) = refl
@@ -180,6 +180,6 @@ module _ (es : List Entity) (d : ℕ) (O : Opener) (agrees : AgreesValue es O (v
       (ap (λ (s : State). s.at) u, ap (λ (s : State). s.done) u)
 
 -- whatever the entities are
-pub element_once : (es : List Entity) → AreTexts es → (src : List ℕ) → IsUtf8 src → (i j k b c d : ℕ) (one other : Forest Item) → IsElement true (opens_main es) src i j b c one → IsElement true (opens_main es) src i k b d other
+pub element_once : (es : List Entity) → AreTexts es → (src : List ℕ) → IsUtf8 src → (i j k b c d : ℕ) (one other : Forest Item) → IsElement true (included_in_main es) src i j b c one → IsElement true (included_in_main es) src i k b d other
     → (j ≡ k) × (one ≡ other)
-element_once es texts src utf8 = one_element es most_open (opens_main es) (values_agree es texts most_open true) (opens_once es texts most_open true) src utf8
+element_once es texts src utf8 = one_element es most_deep (included_in_main es) (values_agree es texts most_deep true) (opens_once es texts most_deep true) src utf8

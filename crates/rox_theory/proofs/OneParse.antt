@@ -8,9 +8,9 @@ use Rattle.rox_grammar.specs.Constructs.{at}
 use Rattle.rox_grammar.specs.Forest.{Forest, Nil, Cons, join, size}
 use Rattle.rox_grammar.specs.Written.{Item, merge}
 use Rattle.rox_grammar.specs.Content.{IsMisc, comment, instruction, IsElement}
-use Rattle.rox_grammar.specs.Start.{after_bom}
-use Rattle.rox_grammar.specs.Entities.{Entity, opens_main}
-use Rattle.rox_grammar.specs.Doctype.{Asked, Subset, IsDoctype, no_subset, with_subset, no_more, passed_over, an_entity}
+use Rattle.rox_grammar.specs.TextStart.{after_bom}
+use Rattle.rox_grammar.specs.Entities.{Entity, included_in_main}
+use Rattle.rox_grammar.specs.Doctype.{Asked, Subset, IsDoctype, no_subset, with_subset, no_more, skipped_declaration, an_entity}
 use Rattle.rox_grammar.specs.Doctype as dtd
 use Rattle.rox_grammar.specs.Document.{Misc, no_misc, space, an_item, MayHaveDoctype, doctype, no_doctype, ParseOf, IsTreeOf, Permits, attribute_count, pairs}
 use Rattle.rox_grammar.specs.Tree.{Node, document_tree}
@@ -18,10 +18,10 @@ use Rattle.rox_grammar.specs.WellNamed.{AreWellNamed}
 use Rattle.rox_grammar.specs.State.{root}
 use Rattle.rox_reading.specs.State.{State}
 use Rattle.rox_reading.specs.Doctype.{Reply, replies_of, Asks, Dtd}
-use Rattle.rox_reading.specs.Whole.{misc, prolog}
-use Rattle.rox_reading.specs.Whole as whole
+use Rattle.rox_reading.specs.WholeText.{misc, prolog}
+use Rattle.rox_reading.specs.WholeText as whole
 use Rattle.rox_reading.proofs.Forests.{pairs-join, attribute_count-join, named-left, named-right}
-use Rattle.rox_theory.specs.Fine.{IsFine, state}
+use Rattle.rox_theory.specs.ValidState.{IsValidState, state}
 use Rattle.rox_theory.proofs.Basics.{ok_same}
 use Rattle.rox_theory.proofs.FaultBasics.{ok_one}
 use Rattle.rox_theory.proofs.Whole.{asks_nothing_there}
@@ -59,7 +59,7 @@ bare_subset : (src : List ℕ) (i j : ℕ) (items : Forest Item) (asked : List A
 bare_subset src i j items asked es (no_more _) = (refl, refl)
 bare_subset src i j items asked es (dtd.space _ _ _ _ _ s m) = bare_subset src (i + 1) j items asked es m
 bare_subset src i j items asked es (dtd.an_item _ k _ item more _ _ one m) = bare_item src i k item more one (bare_subset src k j more asked es m)
-bare_subset src i j items asked es (passed_over _ k _ _ _ _ one m) = bare_subset src k j items asked es m
+bare_subset src i j items asked es (skipped_declaration _ k _ _ _ _ one m) = bare_subset src k j items asked es m
 bare_subset src i j items asked es (an_entity _ k _ _ first later one others is m) = bare_subset src k j items later others m
 
 bare_itself : (src : List ℕ) (i j : ℕ) (items : Forest Item) (asked : List Asked) (es : List Entity) → IsDoctype src i j items asked es → IsBare items
@@ -83,7 +83,7 @@ module _ (src : List ℕ) (utf8 : IsUtf8 src) where
 
   module _ (allow : Bool) (doctypes : DoctypesAgree src allow) where
     -- what comes before the root element is within limits that are wide enough
-    bare_fine : (limit j : ℕ) (items : Forest Item) → IsBare items → AreWellNamed [] items → 1 + size (merge items) ≤ limit → IsFine limit (state j items root 255)
+    bare_fine : (limit j : ℕ) (items : Forest Item) → IsBare items → AreWellNamed [] items → 1 + size (merge items) ≤ limit → IsValidState limit (state j items root 255)
     bare_fine limit j items bare named fits =
         let none = bare.1 in
         record { nodes = fits; attributes = omega (arith, bare.0); pairs = rw none (omega arith); named = named }
@@ -113,19 +113,19 @@ module _ (src : List ℕ) (utf8 : IsUtf8 src) where
         → (d ≡ e) × (a ≡ b) × (t ≡ u)
     one_parse d e a b t u p q permits permits' answers =
         let declared = ok_one p.declared_to q.declared_to (prolog src (after_bom src)) (prolog_complete src utf8 (after_bom src) p.declared_to p.declaration) (prolog_complete src utf8 (after_bom src) q.declared_to q.declaration) in
-        let stops = element_stops true (opens_main p.entities) src p.start p.end 255 p.left p.one p.element in
-        let stops' = element_stops true (opens_main q.entities) src q.start q.end 255 q.left q.one q.element in
+        let stops = element_stops true (included_in_main p.entities) src p.start p.end 255 p.left p.one p.element in
+        let stops' = element_stops true (included_in_main q.entities) src q.start q.end 255 q.left q.one q.element in
         let before = one_misc p.declared_to q.declared_to p.begun q.begun p.before q.before declared p.misc_before (begins_stop src p.begun p.start d p.nodes a p.entities p.doctype stops.2)
         q.misc_before (begins_stop src q.begun q.start e q.nodes b q.entities q.doctype stops'.2) in
         let kind : d ≡ e = sym (dtd_begins src p.begun p.start d p.nodes a p.entities p.doctype stops.1) ∙ ap (at word.DoctypeStart src) before.0 ∙ dtd_begins src q.begun q.start e q.nodes b q.entities q.doctype stops'.1 in
-        let declares = one_doctype p.begun q.begun p.start q.start d e p.nodes q.nodes a b p.entities q.entities before.0 answers (named_there d a t p) (named_there e b u q)
+        let is_namespace_decl = one_doctype p.begun q.begun p.start q.start d e p.nodes q.nodes a b p.entities q.entities before.0 answers (named_there d a t p) (named_there e b u q)
         p.doctype stops.2 stops.1 permits q.doctype stops'.2 stops'.1 permits' in
         let texts = doctypes.texts p.begun p.start d p.nodes a p.entities p.doctype permits in
-        let other : IsElement true (opens_main p.entities) src p.start q.end 255 q.left q.one =
-        subst (λ (es : List Entity). IsElement true (opens_main es) src p.start q.end 255 q.left q.one) (sym declares.3) (subst (λ (i : ℕ). IsElement true (opens_main q.entities) src i q.end 255 q.left q.one) (sym declares.1) q.element) in
+        let other : IsElement true (included_in_main p.entities) src p.start q.end 255 q.left q.one =
+        subst (λ (es : List Entity). IsElement true (included_in_main es) src p.start q.end 255 q.left q.one) (sym is_namespace_decl.3) (subst (λ (i : ℕ). IsElement true (included_in_main q.entities) src i q.end 255 q.left q.one) (sym is_namespace_decl.1) q.element) in
         let element = element_once p.entities texts src utf8 p.start p.end q.end 255 p.left q.left p.one q.one p.element other in
         let after = one_misc p.end q.end (length src) (length src) p.after q.after element.0 p.misc_after (end_stops src) q.misc_after (end_stops src) in
-        (kind, declares.0, p.is_tree ∙ rw (before.1, declares.2, element.1, after.1) refl ∙ sym q.is_tree)
+        (kind, is_namespace_decl.0, p.is_tree ∙ rw (before.1, is_namespace_decl.2, element.1, after.1) refl ∙ sym q.is_tree)
 
     -- and its readers see one tree
     pub one_tree : (limit most : ℕ) (d e : Bool) (a b : List Asked) (t u : Forest Node) → IsTreeOf src d a limit t → IsTreeOf src e b most u → Permits allow d → Permits allow e → replies_of a ≡ replies_of b

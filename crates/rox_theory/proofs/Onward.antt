@@ -8,13 +8,13 @@ use Rattle.std.specs.Char.{encode_utf8}
 use Rattle.rox_grammar.specs.Written.{Item}
 use Rattle.rox_grammar.specs.Runs.{run_end}
 use Rattle.rox_grammar.specs.Chars.{is_name_char, is_part_char, is_space}
-use Rattle.rox_grammar.specs.Marks.{byte_from, mark_from}
+use Rattle.rox_grammar.specs.Search.{byte_from, mark_from}
 use Rattle.rox_grammar.specs.declared.fault.Word.TheVariants as word
-use Rattle.rox_grammar.specs.Words.{word_text}
+use Rattle.rox_grammar.specs.FixedTexts.{word_text}
 use Rattle.rox_grammar.specs.Names.{slice, spaces_end, IsQName, unprefixed, prefixed, colon_first}
 use Rattle.rox_grammar.specs.Constructs.{IsCData, IsEnd, IsEq}
 use Rattle.rox_grammar.specs.References.{IsReference, IsCharacter, decimal, hexadecimal, named, predefined}
-use Rattle.rox_grammar.specs.Content.{Sign, is_literal, signs_of, begins_with_line_feed, line_ends, value_bytes, Part, part_ends, as_written, from_reference, TagEnds, opened, closed, IsMisc, comment, instruction}
+use Rattle.rox_grammar.specs.Content.{DataByte, is_literal, data_bytes_of, begins_with_line_feed, line_ends, value_bytes, Part, part_ends, as_written, from_reference, TagEnds, opened, closed, IsMisc, comment, instruction}
 
 -- ---- characters
 
@@ -27,7 +27,7 @@ run_onward p src i = omega arith
 
 -- ---- line ends
 
-pub ends_shorten : (ss : List Sign) → length (line_ends ss) ≤ length ss
+pub ends_shorten : (ss : List DataByte) → length (line_ends ss) ≤ length ss
 ends_shorten [] = omega arith
 ends_shorten (s ∷ ss) =
     let h = ends_shorten ss in
@@ -35,7 +35,7 @@ ends_shorten (s ∷ ss) =
     (λ _. cond_both (begins_with_line_feed ss) _ _ (λ (bs : List ℕ). length bs ≤ length (s ∷ ss)) (λ _. omega (arith, h)) (λ _. omega (arith, h)))
     (λ _. omega (arith, h))
 
-pub signs_length : (main : Bool) (bs : List ℕ) → length (signs_of main bs) ≡ length bs
+pub signs_length : (main : Bool) (bs : List ℕ) → length (data_bytes_of main bs) ≡ length bs
 signs_length main [] = refl
 signs_length true (b ∷ bs) = ap suc (signs_length true bs)
 signs_length false (b ∷ bs) = ap suc (signs_length false bs)
@@ -88,13 +88,13 @@ value_char false src i c n is =
     let some = (len_utf8_bounds c).0 in
     pick_short (c == 9 || (c == 10 || c == 13)) (32 ∷ []) (encode_utf8 c) i n (omega (arith, h, one, some)) h
 
-pub part_bytes : (main : Bool) (src : List ℕ) (j i : ℕ) (ss : List Sign) → Part main src j i ss → length ss + i ≤ j
+pub part_bytes : (main : Bool) (src : List ℕ) (j i : ℕ) (ss : List DataByte) → Part main src j i ss → length ss + i ≤ j
 part_bytes main src j i ss part_ends = omega arith
 part_bytes main src j i ss (as_written _ more within no_amp rest) = let h = part_bytes main src j (i + 1) more rest in omega (arith, h)
 part_bytes main src j i ss (from_reference _ n c more is within rest) =
     let h = part_bytes main src j n more rest in
     let k = char_bytes src i c n is in
-    let l = length-append (signs_of main (encode_utf8 c)) more in
+    let l = length-append (data_bytes_of main (encode_utf8 c)) more in
     let m = signs_length main (encode_utf8 c) in
     omega (arith, h, k, l, m)
 

@@ -5,9 +5,9 @@ use Rattle.rox_grammar.specs.Forest.{Forest, join}
 use Rattle.rox_grammar.specs.Written.{Item}
 use Rattle.rox_grammar.specs.Names.{byte, slice}
 use Rattle.rox_grammar.specs.References.{IsReference, predefined}
-use Rattle.rox_grammar.specs.Content.{Opener, Sign, Parts, last_part, then_entity, piece, Value, value_ends, line_end, white, other, a_character, an_entity}
-use Rattle.rox_grammar.specs.Places.{PartsTo, one_part, ValueTo, to_here, a_byte}
-use Rattle.rox_grammar.specs.Places as places
+use Rattle.rox_grammar.specs.Content.{Inclusion, DataByte, Parts, last_part, then_entity, piece, Value, value_ends, line_end, white, other, a_character, an_entity}
+use Rattle.rox_grammar.specs.ContentPoints.{PartsTo, one_part, ValueTo, to_here, a_byte}
+use Rattle.rox_grammar.specs.ContentPoints as places
 use Rattle.rox_reading.proofs.Forests.{join_assoc}
 use Rattle.rox_theory.proofs.ReferenceLemmas.{character_opens, reference_opens}
 use Rattle.rox_theory.proofs.PartLemmas.{part_le}
@@ -15,7 +15,7 @@ use Rattle.rox_theory.proofs.PartOnce.{no_entity_here, character_ends, entity_en
 
 -- ---- runs
 
-module _ (main : Bool) (O : Opener) (once : OpensOnce O) (src : List ℕ) (start stop : ℕ) where
+module _ (main : Bool) (O : Inclusion) (once : OpensOnce O) (src : List ℕ) (start stop : ℕ) where
   -- what is read does not go back
   parts_to_le : (i p b c : ℕ) (front : Forest Item) → PartsTo main O src start stop i p b c front → i ≤ p
   parts_to_le i p b c front (one_part _ _ _ ss part) = part_le main src p i ss part
@@ -45,7 +45,7 @@ module _ (main : Bool) (O : Opener) (once : OpensOnce O) (src : List ℕ) (start
         rest = more;
         opens = subst (λ (m : ℕ). O.content (slice src (p + 1) m) b one e) ends.0 (subst (λ (q : ℕ). O.content (slice src (q + 1) m) b one e) (sym same.0) opens);
         parts = subst (λ (k : ℕ). Parts main O src start stop k e d more) ends.1 rest;
-        all = ap (λ (ss : List Sign). join (piece start stop false ss) (join one more)) (sym same.1);
+        all = ap (λ (ss : List DataByte). join (piece start stop false ss) (join one more)) (sym same.1);
       }
   parts_front i p n j b c d front items (places.PartsTo.then_entity _ q m k _ _ e _ ss one more part r' none' opens to) (last_part _ _ rs part') below r none =
       let le = parts_to_le k p e c more to in
@@ -68,7 +68,7 @@ module _ (main : Bool) (O : Opener) (once : OpensOnce O) (src : List ℕ) (start
         rest = next.rest;
         opens = next.opens;
         parts = next.parts;
-        all = ap (λ (ss : List Sign). join (piece start stop false ss) (join one' more')) (sym same.1) ∙ ap (λ (f : Forest Item). join (piece start stop false ss) (join f more')) text.0
+        all = ap (λ (ss : List DataByte). join (piece start stop false ss) (join one' more')) (sym same.1) ∙ ap (λ (f : Forest Item). join (piece start stop false ss) (join f more')) text.0
             ∙ ap (λ (f : Forest Item). join (piece start stop false ss) (join one f)) next.all ∙ ap (join (piece start stop false ss)) (sym (join_assoc one more (join next.opened next.rest)))
             ∙ sym (join_assoc (piece start stop false ss) (join one more) (join next.opened next.rest));
       }
@@ -76,10 +76,10 @@ module _ (main : Bool) (O : Opener) (once : OpensOnce O) (src : List ℕ) (start
 -- ---- values
 
 -- as many texts may be opened behind what a reference opens in a value
-abbrev pub SpendsOnce : Opener → Type 0
+abbrev pub SpendsOnce : Inclusion → Type 0
 SpendsOnce O = (name : List ℕ) (b c d : ℕ) (v w : List ℕ) → O.value name b v c → O.value name b w d → c ≡ d
 
-module _ (main : Bool) (O : Opener) (once : SpendsOnce O) (src : List ℕ) where
+module _ (main : Bool) (O : Inclusion) (once : SpendsOnce O) (src : List ℕ) where
   value_to_le : (i p b c : ℕ) → ValueTo O src i p b c → i ≤ p
   value_to_le i p b c (to_here _ _) = omega arith
   value_to_le i p b c (a_byte _ _ _ _ no_amp to) = let le = value_to_le (i + 1) p b c to in omega arith

@@ -9,9 +9,9 @@ use Rattle.std.proofs.lemmas.Bool.{eqb-true, eqb-false, eq-eqb, ne_eqb, lt-ltb, 
 use Rattle.rox_grammar.specs.declared.fault.Fault.{Fault}
 use Rattle.rox_grammar.specs.Names.{byte, slice}
 use Rattle.rox_grammar.specs.References.{IsReference, IsCharacter, predefined}
-use Rattle.rox_grammar.specs.Content.{Sign, literal, signs_of, begins_with_line_feed, line_ends, literals, Part, part_ends, as_written, from_reference}
+use Rattle.rox_grammar.specs.Content.{DataByte, literal, data_bytes_of, begins_with_line_feed, line_ends, literals, Part, part_ends, as_written, from_reference}
 use Rattle.rox_grammar.specs.Entities.{Replacement, Entity, text_of}
-use Rattle.rox_reading.specs.Values.{Reference, reference_at, Bit, bytes_of, opens, expanded, expansion_at, run_bit_at, Next, at_end, opening, after_bit, run_part, part_text}
+use Rattle.rox_reading.specs.Values.{Reference, reference_at, Bit, bytes_of, opens, reference_bit, expansion_at, data_bit_at, Next, at_end, opening, after_bit, data_part, part_text}
 use Rattle.rox_theory.specs.Openers.{IsStop}
 use Rattle.rox_theory.proofs.Basics.{ok_same, bind_ok, chosen}
 use Rattle.rox_theory.proofs.NameLemmas.{slice_nil}
@@ -24,48 +24,48 @@ pub encode_some : (c : ℕ) → 0 < length (encode_utf8 c)
 encode_some c = omega (arith, length-encode c, len_utf8_bounds c)
 
 -- what comes from a reference is kept
-kept_ends : (bs : List ℕ) (ss : List Sign) → line_ends (signs_of true bs ++ ss) ≡ bs ++ line_ends ss
+kept_ends : (bs : List ℕ) (ss : List DataByte) → line_ends (data_bytes_of true bs ++ ss) ≡ bs ++ line_ends ss
 kept_ends [] ss = refl
 kept_ends (b ∷ bs) ss = ap (λ (r : List ℕ). b ∷ r) (kept_ends bs ss)
 
 -- and is no literal LF
-kept_after : (bs : List ℕ) (ss : List Sign) → 0 < length bs → begins_with_line_feed (signs_of true bs ++ ss) ≡ false
+kept_after : (bs : List ℕ) (ss : List DataByte) → 0 < length bs → begins_with_line_feed (data_bytes_of true bs ++ ss) ≡ false
 kept_after [] ss some = absurd (omega arith)
 kept_after (b ∷ bs) ss some = refl
 
 -- a byte but CR stands for itself
-pub literal_ends : (b : ℕ) (ss : List Sign) → b ≢ 13 → line_ends (literal b ∷ ss) ≡ b ∷ line_ends ss
+pub literal_ends : (b : ℕ) (ss : List DataByte) → b ≢ 13 → line_ends (literal b ∷ ss) ≡ b ∷ line_ends ss
 literal_ends b ss no_cr = let n = ne_eqb b 13 no_cr in rw n refl
 
 -- CR LF gives LF
-crlf_ends : (a b : ℕ) (ss : List Sign) → a ≡ 13 → b ≡ 10 → line_ends (literal a ∷ literal b ∷ ss) ≡ 10 ∷ line_ends ss
+crlf_ends : (a b : ℕ) (ss : List DataByte) → a ≡ 13 → b ≡ 10 → line_ends (literal a ∷ literal b ∷ ss) ≡ 10 ∷ line_ends ss
 crlf_ends a b ss cr lf = rw (cr, lf) refl
 
 -- another CR gives LF
-cr_ends : (a : ℕ) (ss : List Sign) → a ≡ 13 → begins_with_line_feed ss ≡ false → line_ends (literal a ∷ ss) ≡ 10 ∷ line_ends ss
+cr_ends : (a : ℕ) (ss : List DataByte) → a ≡ 13 → begins_with_line_feed ss ≡ false → line_ends (literal a ∷ ss) ≡ 10 ∷ line_ends ss
 cr_ends a ss cr after = rw (cr, after) refl
 
 -- the signs of two texts in a row
-literals-append : (bs cs : List ℕ) → literals (bs ++ cs) ≡ signs_of false bs ++ literals cs
+literals-append : (bs cs : List ℕ) → literals (bs ++ cs) ≡ data_bytes_of false bs ++ literals cs
 literals-append [] cs = refl
-literals-append (b ∷ bs) cs = ap (λ (r : List Sign). literal b ∷ r) (literals-append bs cs)
+literals-append (b ∷ bs) cs = ap (λ (r : List DataByte). literal b ∷ r) (literals-append bs cs)
 
 -- a byte that is neither `&` nor CR
 abbrev pub ordinary : ℕ → Bool
 ordinary b = b == 38 || b == 13
 
 -- what is read of signs: outside replacement texts their text, and within them the bytes, whose line ends are left as they are
-abbrev pub Texts : (main : Bool) → List ℕ → List Sign → Type 0
+abbrev pub Texts : (main : Bool) → List ℕ → List DataByte → Type 0
 Texts true bs ss = bs ≡ line_ends ss
 Texts false bs ss = ss ≡ literals bs
 
 -- the text of the part
-pub texts_line_ends : (main : Bool) (bs : List ℕ) (ss : List Sign) → Texts main bs ss → part_text main bs ≡ line_ends ss
+pub texts_line_ends : (main : Bool) (bs : List ℕ) (ss : List DataByte) → Texts main bs ss → part_text main bs ≡ line_ends ss
 texts_line_ends true bs ss h = h
 texts_line_ends false bs ss h = ap line_ends (sym h)
 
 -- a part goes forward
-pub part_le : (main : Bool) (src : List ℕ) (p i : ℕ) (ss : List Sign) → Part main src p i ss → i ≤ p
+pub part_le : (main : Bool) (src : List ℕ) (p i : ℕ) (ss : List DataByte) → Part main src p i ss → i ≤ p
 part_le main src p i ss part_ends = omega arith
 part_le main src p i ss (as_written _ rest lt no_amp q) = omega arith
 part_le main src p i ss (from_reference _ n c rest r inside q) = omega (arith, character_opens src i c n r)
@@ -99,7 +99,7 @@ module _ (es : List Entity) (src : List ℕ) (utf8 : IsUtf8 src) (stop : ℕ) (l
 
   -- ---- a bit that is read stands there
 
-  expanded_sound : (main : Bool) (i : ℕ) (r : Reference) (j : ℕ) (bit : Bit) → i < stop → IsRead src i r j → expanded es src i r ≡ Ok bit → RunBit main es src stop i bit j
+  expanded_sound : (main : Bool) (i : ℕ) (r : Reference) (j : ℕ) (bit : Bit) → i < stop → IsRead src i r j → reference_bit es src i r ≡ Ok bit → RunBit main es src stop i bit j
   expanded_sound main i r j bit below (is_character c _ stands) h =
       subst (λ (x : Bit). RunBit main es src stop i x j) (ok_same _ _ h) (bit_character i c j stands (character_inside src i stop c j utf8 below long closes stands))
   expanded_sound main i r j bit below (is_entity n _ stands none) h =
@@ -109,15 +109,15 @@ module _ (es : List Entity) (src : List ℕ) (utf8 : IsUtf8 src) (stop : ℕ) (l
   expansion_sound : (main : Bool) (i : ℕ) (x : Bit × ℕ) → i < stop → byte src i ≡ 38 → expansion_at es src i ≡ Ok x → RunBit main es src stop i x.0 x.1
   unfolding expansion_at
   expansion_sound main i x below amp h =
-      bind_ok (reference_at src i) _ _ h (λ r read h. bind_ok (expanded es src i r.0) _ _ h (λ bit made h.
+      bind_ok (reference_at src i) _ _ h (λ r read h. bind_ok (reference_bit es src i r.0) _ _ h (λ bit made h.
       subst (λ (y : Bit × ℕ). RunBit main es src stop i y.0 y.1) (ok_same _ _ h) (expanded_sound main i r.0 r.1 bit below (reference_sound src i r amp read) made)))
 
   cr_sound : (i : ℕ) (b : Bool) → eqb (byte (take stop src) (i + 1)) 10 ≡ b → i < stop → byte src i ≡ 13 → RunBit true es src stop i (bytes_of (10 ∷ [])) (cond b (i + 2) (i + 1))
   cr_sound i true lf below cr = let f = follows src stop long (i + 1) lf in bit_cr_lf i refl f.0 cr f.1
   cr_sound i false no_lf below cr = bit_cr i refl below cr (follows_not src stop long (i + 1) no_lf)
 
-  pub run_bit_sound : (main : Bool) (i : ℕ) (x : Bit × ℕ) → i < stop → run_bit_at main es src stop i ≡ Ok x → RunBit main es src stop i x.0 x.1
-  unfolding run_bit_at
+  pub run_bit_sound : (main : Bool) (i : ℕ) (x : Bit × ℕ) → i < stop → data_bit_at main es src stop i ≡ Ok x → RunBit main es src stop i x.0 x.1
+  unfolding data_bit_at
   run_bit_sound true i x below h = chosen (eqb (byte src i) 38) _ _ _ h
       (λ amp h. expansion_sound true i x below (eqb-true _ _ amp) h)
       (λ no_amp h. chosen (eqb (byte src i) 13) _ _ _ h
@@ -139,25 +139,25 @@ module _ (es : List Entity) (src : List ℕ) (utf8 : IsUtf8 src) (stop : ℕ) (l
   -- ---- parts
 
   -- a part goes on with a byte that is no `&`
-  next_part : (main : Bool) (p i : ℕ) (ss : List Sign) → i < p → byte src i ≢ 38 → Part main src p i ss → (rest : List Sign) × (ss ≡ literal (byte src i) ∷ rest) × Part main src p (i + 1) rest
+  next_part : (main : Bool) (p i : ℕ) (ss : List DataByte) → i < p → byte src i ≢ 38 → Part main src p i ss → (rest : List DataByte) × (ss ≡ literal (byte src i) ∷ rest) × Part main src p (i + 1) rest
   next_part main p i ss below other part_ends = absurd (omega arith)
   next_part main p i ss below other (as_written _ rest lt no_amp q) = (rest, refl, q)
   next_part main p i ss below other (from_reference _ n c rest r inside q) = absurd (other (character_opens src i c n r).0)
 
   -- where no LF stands
-  no_line_feed : (p i : ℕ) (ss : List Sign) → (i < p → byte src i ≢ 10) → Part true src p i ss → begins_with_line_feed ss ≡ false
+  no_line_feed : (p i : ℕ) (ss : List DataByte) → (i < p → byte src i ≢ 10) → Part true src p i ss → begins_with_line_feed ss ≡ false
   no_line_feed p i ss none part_ends = refl
   no_line_feed p i ss none (as_written _ rest lt no_amp q) = ne_eqb (byte src i) 10 (none lt)
   no_line_feed p i ss none (from_reference _ n c rest r inside q) = kept_after (encode_utf8 c) rest (encode_some c)
 
   -- one byte in front
-  byte_on : (main : Bool) (p i : ℕ) (bs : List ℕ) (ss : List Sign) → (main ≡ true → byte src i ≢ 13) → Texts main bs ss → Texts main (byte src i ∷ bs) (literal (byte src i) ∷ ss)
+  byte_on : (main : Bool) (p i : ℕ) (bs : List ℕ) (ss : List DataByte) → (main ≡ true → byte src i ≢ 13) → Texts main bs ss → Texts main (byte src i ∷ bs) (literal (byte src i) ∷ ss)
   byte_on true p i bs ss no_cr h = ap (λ (r : List ℕ). byte src i ∷ r) h ∙ sym (literal_ends (byte src i) ss (no_cr refl))
-  byte_on false p i bs ss no_cr h = ap (λ (r : List Sign). literal (byte src i) ∷ r) h
+  byte_on false p i bs ss no_cr h = ap (λ (r : List DataByte). literal (byte src i) ∷ r) h
 
   -- the part from i on that has this text
   abbrev PartFrom : (main : Bool) → ℕ → ℕ → List ℕ → Type 0
-  PartFrom main p i bs = (ss : List Sign) × Part main src p i ss × Texts main bs ss
+  PartFrom main p i bs = (ss : List DataByte) × Part main src p i ss × Texts main bs ss
 
   -- a stretch in front
   pub stretch_on : (main : Bool) (p d i j : ℕ) (bs : List ℕ) → i + d ≡ j → j ≤ p → p ≤ length src → ((k : ℕ) → i ≤ k → k < j → (byte src k ≢ 38) × (main ≡ true → byte src k ≢ 13)) → PartFrom main p j bs → PartFrom main p i (slice src i j ++ bs)
@@ -170,9 +170,9 @@ module _ (es : List Entity) (src : List ℕ) (utf8 : IsUtf8 src) (stop : ℕ) (l
       rw (slice_cons src i j (omega arith) (omega arith)) (literal (byte src i) ∷ ih.0, as_written i ih.0 (omega arith) here.0 ih.1, byte_on main p i (slice src (i + 1) j ++ bs) ih.0 here.1 ih.2)
 
   -- a character in front
-  character_on : (main : Bool) (c : ℕ) (bs : List ℕ) (ss : List Sign) → Texts main bs ss → Texts main (encode_utf8 c ++ bs) (signs_of main (encode_utf8 c) ++ ss)
+  character_on : (main : Bool) (c : ℕ) (bs : List ℕ) (ss : List DataByte) → Texts main bs ss → Texts main (encode_utf8 c ++ bs) (data_bytes_of main (encode_utf8 c) ++ ss)
   character_on true c bs ss h = ap (λ (r : List ℕ). encode_utf8 c ++ r) h ∙ sym (kept_ends (encode_utf8 c) ss)
-  character_on false c bs ss h = ap (λ (r : List Sign). signs_of false (encode_utf8 c) ++ r) h ∙ sym (literals-append (encode_utf8 c) bs)
+  character_on false c bs ss h = ap (λ (r : List DataByte). data_bytes_of false (encode_utf8 c) ++ r) h ∙ sym (literals-append (encode_utf8 c) bs)
 
   -- what a part that is read is
   abbrev pub PartStands : (main : Bool) → ℕ → List ℕ × Next → Type 0
@@ -223,47 +223,47 @@ module _ (es : List Entity) (src : List ℕ) (utf8 : IsUtf8 src) (stop : ℕ) (l
   bit_on main i bit j x more (bit_character _ c _ r to) ih h = bind_ok (more j) _ _ h (λ rest read h.
       let q = ih rest read in
       let le = part_le main src q.0 j q.1.0 q.1.1 in
-      subst (PartStands main i) (ok_same _ _ h) (q.0, (signs_of main (encode_utf8 c) ++ q.1.0, from_reference i j c q.1.0 r le q.1.1, character_on main c rest.0 q.1.0 q.1.2), q.2))
+      subst (PartStands main i) (ok_same _ _ h) (q.0, (data_bytes_of main (encode_utf8 c) ++ q.1.0, from_reference i j c q.1.0 r le q.1.1, character_on main c rest.0 q.1.0 q.1.2), q.2))
   bit_on main i bit j x more (bit_entity _ n _ t r none to is) ih h =
       subst (PartStands main i) (ok_same _ _ h) (i, nothing_from main i, ends_entity i n j t r none to is)
 
   -- a part that is read stands there
-  pub run_part_sound : (main : Bool) (n i : ℕ) (x : List ℕ × Next) → i ≤ stop → stop ≤ i + n → run_part main es n src stop i ≡ Ok x → PartStands main i x
-  unfolding run_part
+  pub run_part_sound : (main : Bool) (n i : ℕ) (x : List ℕ × Next) → i ≤ stop → stop ≤ i + n → data_part main es n src stop i ≡ Ok x → PartStands main i x
+  unfolding data_part
   run_part_sound main zero i x to enough h =
       subst (PartStands main i) (ok_same _ _ h) (i, nothing_from main i, ends_run i (omega arith))
   run_part_sound main (suc n) i x to enough h = chosen (ltb i stop) _ _ _ h
-      (λ lt h. let below = ltb-true _ _ lt in bind_ok (run_bit_at main es src stop i) _ _ h (λ y read h.
+      (λ lt h. let below = ltb-true _ _ lt in bind_ok (data_bit_at main es src stop i) _ _ h (λ y read h.
       let bit = run_bit_sound main i y below read in
       let moves = bit_moves main i y.0 y.1 bit in
-      bit_on main i y.0 y.1 x (λ j. run_part main es n src stop j) bit (λ rest more. run_part_sound main n y.1 rest moves.1 (omega arith) more) h))
+      bit_on main i y.0 y.1 x (λ j. data_part main es n src stop j) bit (λ rest more. run_part_sound main n y.1 rest moves.1 (omega arith) more) h))
       (λ past h. subst (PartStands main i) (ok_same _ _ h) (i, nothing_from main i, ends_run i (omega (arith, ltb-false _ _ past))))
 
   -- ---- a bit that stands there is read
 
   -- CR LF is read
-  cr_lf_read : (i : ℕ) → i + 1 < stop → byte src i ≡ 13 → byte src (i + 1) ≡ 10 → run_bit_at true es src stop i ≡ Ok (bytes_of (10 ∷ []), i + 2)
-  unfolding run_bit_at
+  cr_lf_read : (i : ℕ) → i + 1 < stop → byte src i ≡ 13 → byte src (i + 1) ≡ 10 → data_bit_at true es src stop i ≡ Ok (bytes_of (10 ∷ []), i + 2)
+  unfolding data_bit_at
   cr_lf_read i below cr lf =
       let t : byte (take stop src) (i + 1) ≡ byte src (i + 1) = get_or-take stop src (i + 1) 0 below in
       rw (t, cr, lf) refl
 
   -- CR alone is read
-  cr_read : (i : ℕ) → byte src i ≡ 13 → eqb (byte (take stop src) (i + 1)) 10 ≡ false → run_bit_at true es src stop i ≡ Ok (bytes_of (10 ∷ []), i + 1)
-  unfolding run_bit_at
+  cr_read : (i : ℕ) → byte src i ≡ 13 → eqb (byte (take stop src) (i + 1)) 10 ≡ false → data_bit_at true es src stop i ≡ Ok (bytes_of (10 ∷ []), i + 1)
+  unfolding data_bit_at
   cr_read i cr apart = rw (cr, apart) refl
 
   -- a reference to a character is read
-  character_read : (main : Bool) (i c m : ℕ) → IsCharacter src i c m → run_bit_at main es src stop i ≡ Ok (bytes_of (encode_utf8 c), m)
-  unfolding run_bit_at expansion_at
+  character_read : (main : Bool) (i c m : ℕ) → IsCharacter src i c m → data_bit_at main es src stop i ≡ Ok (bytes_of (encode_utf8 c), m)
+  unfolding data_bit_at expansion_at
   character_read main i c m r =
       let amp = eq-eqb _ _ (character_opens src i c m r).0 in
       let one = character_complete src i c m r in
       rw (amp, one) refl
 
   -- and so is one to an entity
-  entity_read : (main : Bool) (i n j : ℕ) (t : Replacement) → IsReference src i n j → predefined (slice src (i + 1) n) ≡ None → text_of es (slice src (i + 1) n) ≡ Some t → run_bit_at main es src stop i ≡ Ok (opens t, j)
-  unfolding run_bit_at expansion_at
+  entity_read : (main : Bool) (i n j : ℕ) (t : Replacement) → IsReference src i n j → predefined (slice src (i + 1) n) ≡ None → text_of es (slice src (i + 1) n) ≡ Some t → data_bit_at main es src stop i ≡ Ok (opens t, j)
+  unfolding data_bit_at expansion_at
   entity_read main i n j t r none is =
       let amp = eq-eqb _ _ (reference_opens src i n j r).0 in
       let one = entity_complete src i n j r none in
@@ -289,26 +289,26 @@ module _ (es : List Entity) (src : List ℕ) (utf8 : IsUtf8 src) (stop : ℕ) (l
   )
 
   -- a stretch is read
-  stretch_read : (main : Bool) (i : ℕ) → byte src i ≢ 38 → (main ≡ true → byte src i ≢ 13) → run_bit_at main es src stop i ≡ Ok (bytes_of (slice src i (stretch_end main i)), stretch_end main i)
-  unfolding run_bit_at
+  stretch_read : (main : Bool) (i : ℕ) → byte src i ≢ 38 → (main ≡ true → byte src i ≢ 13) → data_bit_at main es src stop i ≡ Ok (bytes_of (slice src i (stretch_end main i)), stretch_end main i)
+  unfolding data_bit_at
   stretch_read true i amp cr = let a = ne_eqb (byte src i) 38 amp in let c = ne_eqb (byte src i) 13 (cr refl) in rw (a, c) refl
   stretch_read false i amp cr = let a = ne_eqb (byte src i) 38 amp in rw a refl
 
   -- ---- a part that stands there is read
 
   -- a bit of bytes is read, and then the rest
-  bytes_on : (main : Bool) (n i j : ℕ) (bytes rest : List ℕ) (next : Next) → i < stop → run_bit_at main es src stop i ≡ Ok (bytes_of bytes, j) → run_part main es n src stop j ≡ Ok (rest, next)
-      → run_part main es (suc n) src stop i ≡ Ok (bytes ++ rest, next)
-  unfolding run_part
+  bytes_on : (main : Bool) (n i j : ℕ) (bytes rest : List ℕ) (next : Next) → i < stop → data_bit_at main es src stop i ≡ Ok (bytes_of bytes, j) → data_part main es n src stop j ≡ Ok (rest, next)
+      → data_part main es (suc n) src stop i ≡ Ok (bytes ++ rest, next)
+  unfolding data_part
   bytes_on main n i j bytes rest next below bit more = let here = lt-ltb i stop below in rw (here, bit, more) refl
 
   -- a part is read to this text
-  abbrev pub PartReads : (main : Bool) → ℕ → ℕ → List Sign → Next → Type 0
-  PartReads main n i ss next = (bs : List ℕ) × (run_part main es n src stop i ≡ Ok (bs, next)) × Texts main bs ss
+  abbrev pub PartReads : (main : Bool) → ℕ → ℕ → List DataByte → Next → Type 0
+  PartReads main n i ss next = (bs : List ℕ) × (data_part main es n src stop i ≡ Ok (bs, next)) × Texts main bs ss
 
   -- nothing is read where the part ends
-  ends_read : (main : Bool) (n p : ℕ) (next : Next) → stop ≤ p + n → Ends es src stop p next → run_part main es n src stop p ≡ Ok ([], next)
-  unfolding run_part
+  ends_read : (main : Bool) (n p : ℕ) (next : Next) → stop ≤ p + n → Ends es src stop p next → data_part main es n src stop p ≡ Ok ([], next)
+  unfolding data_part
   ends_read main zero p next enough (ends_run _ is) = refl
   ends_read main (suc n) p next enough (ends_run _ is) = let past = le-ltb p stop (omega arith) in rw past refl
   ends_read main zero p next enough (ends_entity _ m j t r none to is) = absurd (omega (arith, reference_opens src p m j r))
@@ -322,8 +322,8 @@ module _ (es : List Entity) (src : List ℕ) (utf8 : IsUtf8 src) (stop : ℕ) (l
   no_texts false = refl
 
   -- the signs behind a stretch
-  pub stretch_off : (main : Bool) (p d i j : ℕ) (ss : List Sign) → i + d ≡ j → j ≤ p → p ≤ length src → ((k : ℕ) → i ≤ k → k < j → (byte src k ≢ 38) × (main ≡ true → byte src k ≢ 13)) → Part main src p i ss
-      → (rest : List Sign) × Part main src p j rest × ((bs : List ℕ) → Texts main bs rest → Texts main (slice src i j ++ bs) ss)
+  pub stretch_off : (main : Bool) (p d i j : ℕ) (ss : List DataByte) → i + d ≡ j → j ≤ p → p ≤ length src → ((k : ℕ) → i ≤ k → k < j → (byte src k ≢ 38) × (main ≡ true → byte src k ≢ 13)) → Part main src p i ss
+      → (rest : List DataByte) × Part main src p j rest × ((bs : List ℕ) → Texts main bs rest → Texts main (slice src i j ++ bs) ss)
   stretch_off main p zero i j ss to inside most plain q =
       let e : i ≡ j = omega arith in
       (ss, subst (λ (m : ℕ). Part main src p m ss) e q, λ bs h. rw (e, slice_nil src j) h)
@@ -334,12 +334,12 @@ module _ (es : List Entity) (src : List ℕ) (utf8 : IsUtf8 src) (stop : ℕ) (l
       (ih.0, ih.1, λ bs h. rw (one.1, slice_cons src i j (omega arith) (omega arith)) (byte_on main p i (slice src (i + 1) j ++ bs) one.0 here.1 (ih.2 bs h)))
 
   -- CR LF of the main text
-  texts_cr_lf : (i : ℕ) (bs : List ℕ) (ss : List Sign) → byte src i ≡ 13 → byte src (i + 1) ≡ 10 → bs ≡ line_ends ss → 10 ∷ bs ≡ line_ends (literal (byte src i) ∷ literal (byte src (i + 1)) ∷ ss)
+  texts_cr_lf : (i : ℕ) (bs : List ℕ) (ss : List DataByte) → byte src i ≡ 13 → byte src (i + 1) ≡ 10 → bs ≡ line_ends ss → 10 ∷ bs ≡ line_ends (literal (byte src i) ∷ literal (byte src (i + 1)) ∷ ss)
   texts_cr_lf i bs ss cr lf h = ap (λ (r : List ℕ). 10 ∷ r) h ∙ sym (crlf_ends (byte src i) (byte src (i + 1)) ss cr lf)
 
   -- a stretch begins with a byte that is neither `&` nor, in the main text, CR
-  stretch_first : (main : Bool) (n i p : ℕ) (ss : List Sign) (next : Next) → i < p → byte src i ≢ 38 → (main ≡ true → byte src i ≢ 13) → Part main src p i ss → Ends es src stop p next
-      → ((j : ℕ) (rest : List Sign) → i < j → j ≤ stop → Part main src p j rest → PartReads main n j rest next) → PartReads main (suc n) i ss next
+  stretch_first : (main : Bool) (n i p : ℕ) (ss : List DataByte) (next : Next) → i < p → byte src i ≢ 38 → (main ≡ true → byte src i ≢ 13) → Part main src p i ss → Ends es src stop p next
+      → ((j : ℕ) (rest : List DataByte) → i < j → j ≤ stop → Part main src p j rest → PartReads main n j rest next) → PartReads main (suc n) i ss next
   stretch_first main n i p ss next below amp cr q end ih =
       let to = ends_at p next end in
       let known = stretch_bounds main i (omega (arith, to.0)) amp cr in
@@ -353,8 +353,8 @@ module _ (es : List Entity) (src : List ℕ) (utf8 : IsUtf8 src) (stop : ℕ) (l
       (slice src i j ++ rest.0, bytes_on main n i j (slice src i j) rest.0 next (omega (arith, to.0)) (stretch_read main i amp cr) rest.1, o.2 rest.0 rest.2)
 
   -- a CR of the main text
-  cr_first : (n i p : ℕ) (ss : List Sign) (next : Next) → i < p → byte src i ≡ 13 → Part true src p (i + 1) ss → Ends es src stop p next
-      → ((j : ℕ) (rest : List Sign) → i < j → j ≤ stop → Part true src p j rest → PartReads true n j rest next) → PartReads true (suc n) i (literal (byte src i) ∷ ss) next
+  cr_first : (n i p : ℕ) (ss : List DataByte) (next : Next) → i < p → byte src i ≡ 13 → Part true src p (i + 1) ss → Ends es src stop p next
+      → ((j : ℕ) (rest : List DataByte) → i < j → j ≤ stop → Part true src p j rest → PartReads true n j rest next) → PartReads true (suc n) i (literal (byte src i) ∷ ss) next
   cr_first n i p ss next below cr q end ih =
       let to = ends_at p next end in
       elim (cases_Bool (eqb (byte (take stop src) (i + 1)) 10)) as (λ s. PartReads true (suc n) i (literal (byte src i) ∷ ss) next) [
@@ -368,7 +368,7 @@ module _ (es : List Entity) (src : List ℕ) (utf8 : IsUtf8 src) (stop : ℕ) (l
             let rest = ih (i + 2) one.0 (omega arith) (omega (arith, to.0)) q' in (
               10 ∷ rest.0,
               bytes_on true n i (i + 2) (10 ∷ []) rest.0 next (omega (arith, to.0)) (cr_lf_read i f.0 cr f.1) rest.1,
-              texts_cr_lf i rest.0 one.0 cr f.1 rest.2 ∙ ap (λ (r : List Sign). line_ends (literal (byte src i) ∷ r)) (sym one.1),
+              texts_cr_lf i rest.0 one.0 cr f.1 rest.2 ∙ ap (λ (r : List DataByte). line_ends (literal (byte src i) ∷ r)) (sym one.1),
             ))
         | inr no_lf ↦ (
             let rest = ih (i + 1) ss (omega arith) (omega (arith, to.0)) q in
@@ -380,8 +380,8 @@ module _ (es : List Entity) (src : List ℕ) (utf8 : IsUtf8 src) (stop : ℕ) (l
       ]
 
   -- a byte as it is written
-  written_first : (main : Bool) (n i p : ℕ) (ss : List Sign) (next : Next) → i < p → byte src i ≢ 38 → Part main src p (i + 1) ss → Ends es src stop p next
-      → ((j : ℕ) (rest : List Sign) → i < j → j ≤ stop → Part main src p j rest → PartReads main n j rest next) → PartReads main (suc n) i (literal (byte src i) ∷ ss) next
+  written_first : (main : Bool) (n i p : ℕ) (ss : List DataByte) (next : Next) → i < p → byte src i ≢ 38 → Part main src p (i + 1) ss → Ends es src stop p next
+      → ((j : ℕ) (rest : List DataByte) → i < j → j ≤ stop → Part main src p j rest → PartReads main n j rest next) → PartReads main (suc n) i (literal (byte src i) ∷ ss) next
   written_first false n i p ss next below amp q end ih =
       stretch_first false n i p (literal (byte src i) ∷ ss) next below amp (λ z. absurd (false≢true z)) (as_written i ss below amp q) end ih
   written_first true n i p ss next below amp q end ih =
@@ -391,7 +391,7 @@ module _ (es : List Entity) (src : List ℕ) (utf8 : IsUtf8 src) (stop : ℕ) (l
       ]
 
   -- a part that stands there is read
-  pub run_part_complete : (main : Bool) (n i p : ℕ) (ss : List Sign) (next : Next) → i ≤ stop → stop ≤ i + n → Part main src p i ss → Ends es src stop p next → PartReads main n i ss next
+  pub run_part_complete : (main : Bool) (n i p : ℕ) (ss : List DataByte) (next : Next) → i ≤ stop → stop ≤ i + n → Part main src p i ss → Ends es src stop p next → PartReads main n i ss next
   run_part_complete main n i p ss next to enough part_ends end = ([], ends_read main n p next enough end, no_texts main)
   run_part_complete main zero i p ss next to enough (as_written _ rest lt no_amp q) end = absurd (omega (arith, ends_at p next end))
   run_part_complete main zero i p ss next to enough (from_reference _ m c rest r inside q) end = absurd (omega (arith, ends_at p next end, character_opens src i c m r))

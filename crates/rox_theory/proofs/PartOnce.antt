@@ -6,7 +6,7 @@ use Rattle.rox_grammar.specs.Forest.{Forest, join}
 use Rattle.rox_grammar.specs.Written.{Item}
 use Rattle.rox_grammar.specs.Names.{byte, slice}
 use Rattle.rox_grammar.specs.References.{IsReference, IsCharacter, predefined}
-use Rattle.rox_grammar.specs.Content.{Opener, Sign, literal, signs_of, Part, part_ends, as_written, from_reference, Parts, last_part, then_entity, piece, is_plain}
+use Rattle.rox_grammar.specs.Content.{Inclusion, DataByte, literal, data_bytes_of, Part, part_ends, as_written, from_reference, Parts, last_part, then_entity, piece, is_verbatim}
 use Rattle.rox_reading.specs.Values.{Reference, character_of, entity_at, reference_at}
 use Rattle.rox_theory.proofs.FaultBasics.{ok_one}
 use Rattle.rox_theory.proofs.ReferenceLemmas.{character_complete, entity_complete, character_opens, reference_opens}
@@ -57,7 +57,7 @@ pub entity_ends : (src : List ℕ) (i n m j k : ℕ) → IsReference src i n j �
 entity_ends src i n m j k a b = let same : n ≡ m = a.name.longest ∙ sym b.name.longest in (same, a.next ∙ ap (λ (n : ℕ). n + 1) same ∙ sym b.next)
 
 -- there is one part at most
-pub part_once : (main : Bool) (src : List ℕ) (stop p q i : ℕ) (ss rs : List Sign) → Part main src p i ss → Part main src q i rs → PartEnds src stop p → PartEnds src stop q → p ≤ stop → q ≤ stop
+pub part_once : (main : Bool) (src : List ℕ) (stop p q i : ℕ) (ss rs : List DataByte) → Part main src p i ss → Part main src q i rs → PartEnds src stop p → PartEnds src stop q → p ≤ stop → q ≤ stop
     → (p ≡ q) × (ss ≡ rs)
 unfolding character_in
 part_once main src stop p q i ss rs part_ends part_ends end end' to to' = (refl, refl)
@@ -67,7 +67,7 @@ part_once main src stop p q i ss rs (as_written _ rest lt no_amp part) part_ends
 part_once main src stop p q i ss rs (from_reference _ n c rest r inside part) part_ends end end' to to' = absurd (goes_on_from src stop i c n (omega (arith, character_opens src i c n r)) r end')
 part_once main src stop p q i ss rs (as_written _ rest lt no_amp part) (as_written _ rest' lt' no_amp' part') end end' to to' =
     let ih = part_once main src stop p q (i + 1) rest rest' part part' end end' to to' in
-    (ih.0, ap (λ (more : List Sign). literal (byte src i) ∷ more) ih.1)
+    (ih.0, ap (λ (more : List DataByte). literal (byte src i) ∷ more) ih.1)
 part_once main src stop p q i ss rs (as_written _ rest lt no_amp part) (from_reference _ n c rest' r inside part') end end' to to' = absurd (no_amp (character_opens src i c n r).0)
 part_once main src stop p q i ss rs (from_reference _ n c rest r inside part) (as_written _ rest' lt no_amp part') end end' to to' = absurd (no_amp (character_opens src i c n r).0)
 part_once main src stop p q i ss rs (from_reference _ n c rest r inside part) (from_reference _ m d rest' r' inside' part') end end' to to' =
@@ -75,25 +75,25 @@ part_once main src stop p q i ss rs (from_reference _ n c rest r inside part) (f
     let same : c ≡ d = ap (λ (x : Reference × ℕ). character_in x.0) e in
     let at : m ≡ n = sym (ap (λ (x : Reference × ℕ). x.1) e) in
     let ih = part_once main src stop p q n rest rest' part (subst (λ (k : ℕ). Part main src q k rest') at part') end end' to to' in
-    (ih.0, ap (λ (k : ℕ). signs_of main (encode_utf8 k) ++ rest) same ∙ ap (λ (more : List Sign). signs_of main (encode_utf8 d) ++ more) ih.1)
+    (ih.0, ap (λ (k : ℕ). data_bytes_of main (encode_utf8 k) ++ rest) same ∙ ap (λ (more : List DataByte). data_bytes_of main (encode_utf8 d) ++ more) ih.1)
 
 -- parts begin at the stop or before
-pub parts_le : (main : Bool) (O : Opener) (src : List ℕ) (start stop i b c : ℕ) (items : Forest Item) → Parts main O src start stop i b c items → i ≤ stop
+pub parts_le : (main : Bool) (O : Inclusion) (src : List ℕ) (start stop i b c : ℕ) (items : Forest Item) → Parts main O src start stop i b c items → i ≤ stop
 parts_le main O src start stop i b c items (last_part _ _ ss part) = part_le main src stop i ss part
 parts_le main O src start stop i b d items (then_entity _ p n j _ c _ ss front more part r none opened rest) =
     omega (arith, part_le main src p i ss part, reference_opens src p n j r, parts_le main O src start stop j c d more rest)
 
 -- what a reference opens in content it opens in one way
-abbrev pub OpensOnce : Opener → Type 0
+abbrev pub OpensOnce : Inclusion → Type 0
 OpensOnce O = (name : List ℕ) (b c d : ℕ) (items more : Forest Item) → O.content name b items c → O.content name b more d → (items ≡ more) × (c ≡ d)
 
-module _ (main : Bool) (O : Opener) (once : OpensOnce O) (src : List ℕ) (start stop : ℕ) where
+module _ (main : Bool) (O : Inclusion) (once : OpensOnce O) (src : List ℕ) (start stop : ℕ) where
   -- the parts of a run are there in one way
   pub parts_once : (i b c d : ℕ) (items more : Forest Item) → Parts main O src start stop i b c items → Parts main O src start stop i b d more → (items ≡ more) × (c ≡ d)
   unfolding name_end_in
   parts_once i b c d items more (last_part _ _ ss part) (last_part _ _ rs part') =
       let same = part_once main src stop stop stop i ss rs part part' (inl refl) (inl refl) (omega arith) (omega arith) in
-      (ap (piece start stop (is_plain (slice src start stop))) same.1, refl)
+      (ap (piece start stop (is_verbatim (slice src start stop))) same.1, refl)
   parts_once i b c e items more (last_part _ _ ss part) (then_entity _ p n j _ d _ rs front others part' r none opened rest) =
       let inside : p ≤ stop = omega (arith, reference_opens src p n j r, parts_le main O src start stop j d e others rest) in
       let same = part_once main src stop stop p i ss rs part part' (inl refl) (inr (n, j, r, none)) (omega arith) inside in
@@ -115,7 +115,7 @@ module _ (main : Bool) (O : Opener) (once : OpensOnce O) (src : List ℕ) (start
       let at : k ≡ j = sym (ap (λ (x : Reference × ℕ). x.1) e') in
       let text = once (slice src (p + 1) n) b c d front front' opened (subst (λ (m : ℕ). O.content (slice src (p + 1) m) b front' d) end opened'') in
       let ih = parts_once j c e f others others' rest (subst (λ (k : ℕ). Parts main O src start stop k c f others') at (subst (λ (d : ℕ). Parts main O src start stop k d f others') (sym text.1) rest')) in (
-        ap (λ (ss : List Sign). join (piece start stop false ss) (join front others)) same.1 ∙ ap (λ (f : Forest Item). join (piece start stop false rs) (join f others)) text.0
+        ap (λ (ss : List DataByte). join (piece start stop false ss) (join front others)) same.1 ∙ ap (λ (f : Forest Item). join (piece start stop false rs) (join f others)) text.0
             ∙ ap (λ (f : Forest Item). join (piece start stop false rs) (join front' f)) ih.0,
         ih.1,
       )

@@ -3,14 +3,14 @@ use Rattle.std.proofs.Common.{◌≡◌, ◌+◌, ◌-◌, ◌==◌, ℕ, zero, 
 use Rattle.std.specs.List.{list_any}
 use Rattle.std.proofs.lemmas.Bool.{cases_Bool}
 use Rattle.rox_grammar.specs.declared.fault.Word.TheVariants as word
-use Rattle.rox_grammar.specs.Words.{word_text}
+use Rattle.rox_grammar.specs.FixedTexts.{word_text}
 use Rattle.rox_grammar.specs.Forest.{Forest, Nil, Cons, join}
 use Rattle.rox_grammar.specs.Written.{Item, Element, Text, leaf, merge}
 use Rattle.rox_grammar.specs.Names.{slice}
 use Rattle.rox_grammar.specs.Constructs.{IsCData}
-use Rattle.rox_grammar.specs.Content.{Opener, Sign, literal, kept, is_literal, line_ends, literals, is_plain, piece, Parts, last_part, then_entity, IsMisc, comment, instruction, IsElement, empty, nest, Content, ends, run, cdata, misc, node}
-use Rattle.rox_grammar.specs.Entities.{Entity, Opens, most_open, opens_main}
-use Rattle.rox_grammar.specs.Doctype.{Asked, Subset, no_more as no_item, space as subset_space, an_item as subset_item, passed_over, an_entity as an_entity_declared, IsDoctype, no_subset, with_subset}
+use Rattle.rox_grammar.specs.Content.{Inclusion, DataByte, literal, kept, is_literal, line_ends, literals, is_verbatim, piece, Parts, last_part, then_entity, IsMisc, comment, instruction, IsElement, empty, nest, Content, ends, run, cdata, misc, node}
+use Rattle.rox_grammar.specs.Entities.{Entity, Includes, most_deep, included_in_main}
+use Rattle.rox_grammar.specs.Doctype.{Asked, Subset, no_more as no_item, space as subset_space, an_item as subset_item, skipped_declaration, an_entity as an_entity_declared, IsDoctype, no_subset, with_subset}
 use Rattle.rox_grammar.specs.Document.{Misc, no_misc, space, an_item, MayHaveDoctype, doctype, no_doctype, ParseOf}
 use Rattle.rox_theory.proofs.Basics.{mark_from_le}
 use Rattle.rox_theory.proofs.DeclarationLemmas.{stands_fits}
@@ -20,7 +20,7 @@ use Rattle.rox_theory.specs.Pieces.{Piece, written_in, Writes, parts_pieces, ele
 -- ---- what has no byte
 
 -- signs have one
-pub some_bytes : (s : Sign) (ss : List Sign) → line_ends (s ∷ ss) ≡ [] → ⊥
+pub some_bytes : (s : DataByte) (ss : List DataByte) → line_ends (s ∷ ss) ≡ [] → ⊥
 some_bytes (kept x) ss h = cc h
 some_bytes (literal x) [] h = elim (cases_Bool (x == 13)) [ inl cr ↦ (let e = rw cr at h in cc e) | inr no_cr ↦ (let e = rw no_cr at h in cc e) ]
 some_bytes (literal x) (s ∷ ss) h =
@@ -64,11 +64,11 @@ module _ (text : List ℕ) (es : List Entity) where
       (ap (λ (x : Forest Item). join x more) h.0 ∙ ap (λ (x : Forest Item). join (merged f) x) k.0 ∙ sym (merged-join f g), sections_join text es f g h.1 k.1)
 
   -- so are those that a reference opens
-  record OpensMade (O : Opener) (opened : Writes O) : Type 0 where
+  record OpensMade (O : Inclusion) (opened : Writes O) : Type 0 where
     content : (name : List ℕ) (b : ℕ) (items : Forest Item) (c : ℕ) (is : O.content name b items c) → Made items (opened.content name b items c is)
 
   module _ (src : List ℕ) (known : IsSourceIn text es src) where
-    piece_made : (start stop : ℕ) (plain : Bool) (ss : List Sign) → Made (piece start stop plain ss) (written_in src (piece start stop plain ss))
+    piece_made : (start stop : ℕ) (plain : Bool) (ss : List DataByte) → Made (piece start stop plain ss) (written_in src (piece start stop plain ss))
     piece_made start stop plain [] = (refl, tt)
     piece_made start stop plain (s ∷ ss) = (refl, (known, λ none. absurd (some_bytes s ss none), tt, tt))
 
@@ -80,9 +80,9 @@ module _ (text : List ℕ) (es : List Entity) where
         → Made (leaf (Text i j (line_ends (literals (slice src (i + 9) e))) plain)) (written_in src (leaf (Text i j (line_ends (literals (slice src (i + 9) e))) plain)))
     section_made i e j plain is = (refl, (known, λ none. empty_section src i e j is (no_bytes (slice src (i + 9) e) none), tt, tt))
 
-    module _ (main : Bool) (O : Opener) (opened : Writes O) (opens : OpensMade O opened) where
+    module _ (main : Bool) (O : Inclusion) (opened : Writes O) (opens : OpensMade O opened) where
       parts_made : (start stop i b c : ℕ) (items : Forest Item) (is : Parts main O src start stop i b c items) → Made items (parts_pieces main O opened src start stop i b c items is)
-      parts_made start stop i b c items (last_part _ _ ss part) = piece_made start stop (is_plain (slice src start stop)) ss
+      parts_made start stop i b c items (last_part _ _ ss part) = piece_made start stop (is_verbatim (slice src start stop)) ss
       parts_made start stop i b d items (then_entity _ p n j _ c _ ss inner more part reference name it rest) =
           let x = opens.content (slice src (p + 1) n) b inner c it in
           let y = parts_made start stop j c d more rest in
@@ -126,7 +126,7 @@ module _ (text : List ℕ) (es : List Entity) where
         let x = misc_made i k item is in
         let y = subset_made k j more asked others rest in
         (ap (λ (f : Forest Item). Cons item Nil f) y.0, (x.1.0, x.1.1, tt, y.1))
-    subset_made i j items asked others (passed_over _ k _ _ _ _ is rest) = subset_made k j items asked others rest
+    subset_made i j items asked others (skipped_declaration _ k _ _ _ _ is rest) = subset_made k j items asked others rest
     subset_made i j items asked others (an_entity_declared _ k _ _ first more one behind is rest) = subset_made k j items more behind rest
 
     written-join : (f g : Forest Item) → written_in src (join f g) ≡ join (written_in src f) (written_in src g)
@@ -145,13 +145,13 @@ module _ (text : List ℕ) (es : List Entity) where
 
 -- ---- what references open, by the number of texts that may still be open
 
-opens_made : (text : List ℕ) (es : List Entity) (d : ℕ) (main : Bool) → OpensMade text es (Opens es d main) (writes es d main)
+opens_made : (text : List ℕ) (es : List Entity) (d : ℕ) (main : Bool) → OpensMade text es (Includes es d main) (writes es d main)
 opens_made text es zero main = record { content = λ name b items c h. absurd h }
 opens_made text es (suc d) main =
     let inner = opens_made text es d false in
     record {
       content = λ name b items c (t, r, l, found, spends, is).
-          content_made text es t.source (inr (name, t, found, refl)) false (Opens es d false) (writes es d false) inner t.start (length t.source) r l items is;
+          content_made text es t.source (inr (name, t, found, refl)) false (Includes es d false) (writes es d false) inner t.start (length t.source) r l items is;
     }
 
 -- a parse
@@ -160,7 +160,7 @@ parse_made src dtd asked tree p =
     let known : IsSourceIn src p.entities src = inl refl in
     let before = all_made src p.entities src known p.declared_to p.begun p.before p.misc_before in
     let nodes = doctype_made src p.entities src known p.begun p.start dtd p.nodes asked p.entities p.doctype in
-    let one = element_made src p.entities src known true (opens_main p.entities) (writes p.entities most_open true) (opens_made src p.entities most_open true) p.start p.end 255 p.left p.one p.element in
+    let one = element_made src p.entities src known true (included_in_main p.entities) (writes p.entities most_deep true) (opens_made src p.entities most_deep true) p.start p.end 255 p.left p.one p.element in
     let after = all_made src p.entities src known p.end (length src) p.after p.misc_after in
     let back = made_join src p.entities p.one p.after _ _ one after in
     let more = made_join src p.entities p.nodes (join p.one p.after) _ _ nodes back in

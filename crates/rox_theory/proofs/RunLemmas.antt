@@ -6,21 +6,21 @@ use Rattle.std.specs.Str.{IsUtf8}
 use Rattle.std.proofs.lemmas.List.{append-nil, drop_all}
 use Rattle.std.proofs.lemmas.Bool.{not-true, not_from_false, eqb-true, eqb-false, or_parts, cases_lt, cases_Bool}
 use Rattle.rox_grammar.specs.declared.fault.Word.TheVariants as word
-use Rattle.rox_grammar.specs.Words.{word_text}
-use Rattle.rox_grammar.specs.Marks.{byte_from}
+use Rattle.rox_grammar.specs.FixedTexts.{word_text}
+use Rattle.rox_grammar.specs.Search.{byte_from}
 use Rattle.rox_grammar.specs.Forest.{Forest, join}
 use Rattle.rox_grammar.specs.Written.{Item, Text, leaf}
 use Rattle.rox_grammar.specs.Names.{byte, slice}
 use Rattle.rox_grammar.specs.Constructs.{has_mark}
 use Rattle.rox_grammar.specs.References.{IsReference, predefined}
-use Rattle.rox_grammar.specs.Content.{Opener, Sign, is_literal, sign_byte, line_ends, literals, is_plain, piece, Part, part_ends, as_written, from_reference, Parts, last_part, then_entity, IsRun}
+use Rattle.rox_grammar.specs.Content.{Inclusion, DataByte, is_literal, data_byte, line_ends, literals, is_verbatim, piece, Part, part_ends, as_written, from_reference, Parts, last_part, then_entity, IsCharacterData}
 use Rattle.rox_grammar.specs.Entities.{Replacement}
 use Rattle.rox_reading.specs.Lexical.{chars_up_to}
 use Rattle.rox_reading.specs.Refusals.{Refusal}
-use Rattle.rox_reading.specs.Values.{Next, at_end, opening, run_part, part_text, raw_run_at}
+use Rattle.rox_reading.specs.Values.{Next, at_end, opening, data_part, part_text, raw_character_data_at}
 use Rattle.rox_grammar.specs.State.{Open}
 use Rattle.rox_reading.specs.State.{State}
-use Rattle.rox_reading.specs.Machine.{How, with_item, with_piece, at_place, after_part, run_parts, run_step}
+use Rattle.rox_reading.specs.Machine.{Context, with_item, with_piece, at_place, after_part, data_parts, character_data_step}
 use Rattle.rox_reading.proofs.Forests.{join-nil, join_assoc}
 use Rattle.rox_theory.specs.Openers.{IsStop}
 use Rattle.rox_theory.proofs.Basics.{ok_same, bind_ok, bind_lifted, bind_lifted_only, chosen, chars_sound, chars_complete}
@@ -28,18 +28,18 @@ use Rattle.rox_theory.proofs.LiteralLemmas.{from_le, from_bound, from_here}
 use Rattle.rox_theory.proofs.StretchLemmas.{slice_none, slice_length}
 use Rattle.rox_theory.proofs.ReferenceLemmas.{character_opens, reference_opens}
 use Rattle.rox_theory.proofs.PartLemmas.{ordinary, Texts, literal_ends, stretch_on, stretch_off, nothing_from, no_texts, texts_line_ends, part_le, Ends, ends_run, ends_entity, run_part_sound, run_part_complete}
-use Rattle.rox_theory.proofs.Standing.{IsFine}
+use Rattle.rox_theory.proofs.Standing.{IsValidState}
 use Rattle.rox_theory.proofs.Leaves.{state, with_leaf, item_read, read_item, fine_there, fine_before}
 pub use Rattle.rox_theory.specs.Openers.{AgreesContent}
 
 -- ---- pieces
 
 -- a text of one sign or more has a byte
-some_line_ends : (s : Sign) (ss : List Sign) → (b : ℕ) × (bs : List ℕ) × (line_ends (s ∷ ss) ≡ b ∷ bs)
+some_line_ends : (s : DataByte) (ss : List DataByte) → (b : ℕ) × (bs : List ℕ) × (line_ends (s ∷ ss) ≡ b ∷ bs)
 some_line_ends s [] =
     elim (cases_Bool (is_literal 13 s)) as (λ z. (b : ℕ) × (bs : List ℕ) × (line_ends (s ∷ []) ≡ b ∷ bs)) [
       | inl cr ↦ (10, [], rw cr refl)
-      | inr no_cr ↦ (sign_byte s, [], rw no_cr refl)
+      | inr no_cr ↦ (data_byte s, [], rw no_cr refl)
     ]
 some_line_ends s (t ∷ ss) =
     elim (cases_Bool (is_literal 13 s)) as (λ z. (b : ℕ) × (bs : List ℕ) × (line_ends (s ∷ t ∷ ss) ≡ b ∷ bs)) [
@@ -47,7 +47,7 @@ some_line_ends s (t ∷ ss) =
         | inl lf ↦ (let more = some_line_ends t ss in (more.0, more.1, rw (cr, lf) more.2))
         | inr no_lf ↦ (10, line_ends (t ∷ ss), rw (cr, no_lf) refl)
       ]
-      | inr no_cr ↦ (sign_byte s, line_ends (t ∷ ss), rw no_cr refl)
+      | inr no_cr ↦ (data_byte s, line_ends (t ∷ ss), rw no_cr refl)
     ]
 
 -- a text that has a byte is an item
@@ -55,15 +55,15 @@ with_some : (limit : ℕ) (s : State) (i j b : ℕ) (v bs : List ℕ) → v ≡ 
 with_some limit s i j b v bs is = rw is refl
 
 -- the state behind a piece, but for its place
-pub record IsPiece (s t : State) (i j : ℕ) (ss : List Sign) : Type 0 where
+pub record IsPiece (s t : State) (i j : ℕ) (ss : List DataByte) : Type 0 where
   pub done : t.done ≡ join s.done (piece i j false ss)
   pub stack : t.stack ≡ s.stack
   pub left : t.left ≡ s.left
 
-pub piece_read : (limit most : ℕ) (s t : State) (i j : ℕ) (ss : List Sign) → limit ≤ most → IsFine most s → with_piece limit s i j (line_ends ss) ≡ Ok t → IsPiece s t i j ss × IsFine most t
+pub piece_read : (limit most : ℕ) (s t : State) (i j : ℕ) (ss : List DataByte) → limit ≤ most → IsValidState most s → with_piece limit s i j (line_ends ss) ≡ Ok t → IsPiece s t i j ss × IsValidState most t
 piece_read limit most s t i j [] more fine h =
     let e : s ≡ t = ok_same _ _ h in
-    (record { done = sym (ap (λ (s : State). s.done) e) ∙ sym (join-nil s.done); stack = sym (ap (λ (s : State). s.stack) e); left = sym (ap (λ (s : State). s.left) e) }, subst (IsFine most) e fine)
+    (record { done = sym (ap (λ (s : State). s.done) e) ∙ sym (join-nil s.done); stack = sym (ap (λ (s : State). s.stack) e); left = sym (ap (λ (s : State). s.left) e) }, subst (IsValidState most) e fine)
 piece_read limit most s t i j (x ∷ ss) more fine h =
     let some = some_line_ends x ss in
     let item = Text i j (line_ends (x ∷ ss)) false in
@@ -71,7 +71,7 @@ piece_read limit most s t i j (x ∷ ss) more fine h =
     let r = item_read limit most s t j item more refl refl tt fine h' in
     (record { done = ap (λ (s : State). s.done) r.0; stack = ap (λ (s : State). s.stack) r.0; left = ap (λ (s : State). s.left) r.0 }, r.1)
 
-read_piece : (limit : ℕ) (s : State) (i j : ℕ) (ss : List Sign) → IsFine limit (state j (join s.done (piece i j false ss)) s.stack s.left)
+read_piece : (limit : ℕ) (s : State) (i j : ℕ) (ss : List DataByte) → IsValidState limit (state j (join s.done (piece i j false ss)) s.stack s.left)
     → (t : State) × (with_piece limit s i j (line_ends ss) ≡ Ok t) × IsPiece s t i j ss
 read_piece limit s i j [] fine = (s, refl, record { done = sym (join-nil s.done); stack = refl; left = refl })
 read_piece limit s i j (x ∷ ss) fine =
@@ -81,15 +81,15 @@ read_piece limit s i j (x ∷ ss) fine =
 
 -- ---- parts
 
-module _ (how : How) (O : Opener) (agrees : AgreesContent how.values.entities how.limit O how.opener) (src : List ℕ) (utf8 : IsUtf8 src) (start stop : ℕ) (long : stop ≤ length src)
-    (closes : stop < length src → IsStop (byte src stop)) (marked : is_plain (slice src start stop) ≡ false) where
+module _ (how : Context) (O : Inclusion) (agrees : AgreesContent how.values.entities how.limit O how.opener) (src : List ℕ) (utf8 : IsUtf8 src) (start stop : ℕ) (long : stop ≤ length src)
+    (closes : stop < length src → IsStop (byte src stop)) (marked : is_verbatim (slice src start stop) ≡ false) where
   -- the parts from i on
   abbrev PartsFrom : ℕ → ℕ → ℕ → Forest Item → Type 0
   PartsFrom i b c items = Parts how.values.main O src start stop i b c items
 
   -- what they are that are read from a state to another
   abbrev pub PartsStand : ℕ → State → State → Type 0
-  PartsStand most s u = (items : Forest Item) × (c : ℕ) × PartsFrom s.at s.left c items × (u ≡ state stop (join s.done items) s.stack c) × IsFine most u
+  PartsStand most s u = (items : Forest Item) × (c : ℕ) × PartsFrom s.at s.left c items × (u ≡ state stop (join s.done items) s.stack c) × IsValidState most u
 
   -- parts begin at the stop or before
   parts_le : (i b c : ℕ) (items : Forest Item) → PartsFrom i b c items → i ≤ stop
@@ -98,20 +98,20 @@ module _ (how : How) (O : Opener) (agrees : AgreesContent how.values.entities ho
       omega (arith, part_le how.values.main src p i ss part, reference_opens src p n j r, parts_le j c d more rest)
 
   -- past the stop there are no signs
-  part_none : (i : ℕ) (ss : List Sign) → stop ≤ i → Part how.values.main src stop i ss → ss ≡ []
+  part_none : (i : ℕ) (ss : List DataByte) → stop ≤ i → Part how.values.main src stop i ss → ss ≡ []
   part_none i ss past part_ends = refl
   part_none i ss past (as_written _ rest lt no_amp q) = absurd (omega arith)
   part_none i ss past (from_reference _ n c rest r inside q) = absurd (omega (arith, character_opens src i c n r))
 
   -- the last part
-  last_stands : (most : ℕ) (s t u : State) (ss : List Sign) → Part how.values.main src stop s.at ss → IsPiece s t start stop ss → IsFine most t → u ≡ at_place stop t → PartsStand most s u
+  last_stands : (most : ℕ) (s t u : State) (ss : List DataByte) → Part how.values.main src stop s.at ss → IsPiece s t start stop ss → IsValidState most t → u ≡ at_place stop t → PartsStand most s u
   last_stands most s t u ss part is fine same =
       let p : PartsFrom s.at s.left s.left (piece start stop false ss) = subst (λ (f : Bool). PartsFrom s.at s.left s.left (piece start stop f ss)) marked (last_part s.at s.left ss part) in
       let done = is.done in let stack = is.stack in let left = is.left in
-      (piece start stop false ss, s.left, p, same ∙ rw (done, stack, left) refl, subst (IsFine most) (sym same) (fine_there most t (at_place stop t) refl refl fine))
+      (piece start stop false ss, s.left, p, same ∙ rw (done, stack, left) refl, subst (IsValidState most) (sym same) (fine_there most t (at_place stop t) refl refl fine))
 
   -- a part and a replacement text in front
-  entity_stands : (most : ℕ) (s t v u : State) (p n j : ℕ) (ss : List Sign) (items : Forest Item) (c : ℕ) → Part how.values.main src p s.at ss → IsPiece s t start stop ss
+  entity_stands : (most : ℕ) (s t v u : State) (p n j : ℕ) (ss : List DataByte) (items : Forest Item) (c : ℕ) → Part how.values.main src p s.at ss → IsPiece s t start stop ss
       → IsReference src p n j → predefined (slice src (p + 1) n) ≡ None → O.content (slice src (p + 1) n) t.left items c → v ≡ state j (join t.done items) t.stack c → PartsStand most v u → PartsStand most s u
   entity_stands most s t v u p n j ss items c part is r none opened same (more, d, rest, last, fine) =
       let done = is.done in let stack = is.stack in let left = is.left in
@@ -126,8 +126,8 @@ module _ (how : How) (O : Opener) (agrees : AgreesContent how.values.entities ho
       (join (piece start stop false ss) (join items more), d, then_entity s.at p n j s.left c d ss items more part r none opened' rest', last ∙ rw (all, v_stack) refl, fine)
 
   -- what is read behind a part
-  after_stands : (most : ℕ) (s t u : State) (p : ℕ) (ss : List Sign) (next : Next) (more : State → Result State Refusal) → how.limit ≤ most → Ends how.values.entities src stop p next → Part how.values.main src p s.at ss
-      → IsPiece s t start stop ss → IsFine most t → s.at ≤ p → ((v : State) → p < v.at → v.at ≤ stop → IsFine most v → more v ≡ Ok u → PartsStand most v u)
+  after_stands : (most : ℕ) (s t u : State) (p : ℕ) (ss : List DataByte) (next : Next) (more : State → Result State Refusal) → how.limit ≤ most → Ends how.values.entities src stop p next → Part how.values.main src p s.at ss
+      → IsPiece s t start stop ss → IsValidState most t → s.at ≤ p → ((v : State) → p < v.at → v.at ≤ stop → IsValidState most v → more v ≡ Ok u → PartsStand most v u)
       → after_part how more stop t next ≡ Ok u → PartsStand most s u
   after_stands most s t u p ss next more limits (ends_run _ same) part is fine le ih h =
       last_stands most s t u ss (subst (λ (m : ℕ). Part how.values.main src m s.at ss) same part) is fine (sym (ok_same _ _ h))
@@ -139,32 +139,32 @@ module _ (how : How) (O : Opener) (agrees : AgreesContent how.values.entities ho
       entity_stands most s t v u p n j ss o.0 o.1 part is r none o.2 o.3 (ih v (omega (arith, moves.2)) (omega arith) o.4 h))
 
   -- parts that are read stand there
-  pub run_parts_sound : (n most : ℕ) (s u : State) → how.limit ≤ most → s.at ≤ stop → stop ≤ s.at + n → IsFine most s → run_parts how n src start stop s ≡ Ok u → PartsStand most s u
-  unfolding run_parts
+  pub run_parts_sound : (n most : ℕ) (s u : State) → how.limit ≤ most → s.at ≤ stop → stop ≤ s.at + n → IsValidState most s → data_parts how n src start stop s ≡ Ok u → PartsStand most s u
+  unfolding data_parts
   run_parts_sound zero most s u limits to enough fine h =
       let e : stop ≡ s.at = omega arith in
       last_stands most s s u [] (subst (λ (m : ℕ). Part how.values.main src stop m []) e part_ends) (record { done = sym (join-nil s.done); stack = refl; left = refl }) fine (sym (ok_same _ _ h))
   run_parts_sound (suc n) most s u limits to enough fine h =
-      bind_lifted (run_part how.values.main how.values.entities (stop - s.at) src stop s.at) _ _ h (λ x read h.
+      bind_lifted (data_part how.values.main how.values.entities (stop - s.at) src stop s.at) _ _ h (λ x read h.
       bind_lifted (with_piece how.limit s start stop (part_text how.values.main x.0)) _ _ h (λ t added h.
       let part = run_part_sound how.values.entities src utf8 stop long closes how.values.main (stop - s.at) s.at x to (omega arith) read in
       let text = texts_line_ends how.values.main x.0 part.1.0 part.1.2 in
       let piece = piece_read how.limit most s t start stop part.1.0 limits fine (sym (ap (with_piece how.limit s start stop) text) ∙ added) in
       let le = part_le how.values.main src part.0 s.at part.1.0 part.1.1 in
-      after_stands most s t u part.0 part.1.0 x.1 (λ v. run_parts how n src start stop v) limits part.2 part.1.1 piece.0 piece.1 le
+      after_stands most s t u part.0 part.1.0 x.1 (λ v. data_parts how n src start stop v) limits part.2 part.1.1 piece.0 piece.1 le
       (λ v from to' fine' h. run_parts_sound n most v u limits to' (omega arith) fine' h) h))
 
   -- a part is read, and what is behind it
-  part_on : (n i : ℕ) (s t u : State) (bs : List ℕ) (next : Next) → s.at ≡ i → run_part how.values.main how.values.entities (stop - i) src stop i ≡ Ok (bs, next)
-      → with_piece how.limit s start stop (part_text how.values.main bs) ≡ Ok t → after_part how (λ v. run_parts how n src start stop v) stop t next ≡ Ok u → run_parts how (suc n) src start stop s ≡ Ok u
-  unfolding run_parts
+  part_on : (n i : ℕ) (s t u : State) (bs : List ℕ) (next : Next) → s.at ≡ i → data_part how.values.main how.values.entities (stop - i) src stop i ≡ Ok (bs, next)
+      → with_piece how.limit s start stop (part_text how.values.main bs) ≡ Ok t → after_part how (λ v. data_parts how n src start stop v) stop t next ≡ Ok u → data_parts how (suc n) src start stop s ≡ Ok u
+  unfolding data_parts
   part_on n i s t u bs next at read added after =
-      let read' = subst (λ (m : ℕ). run_part how.values.main how.values.entities (stop - m) src stop m ≡ Ok (bs, next)) (sym at) read in
+      let read' = subst (λ (m : ℕ). data_part how.values.main how.values.entities (stop - m) src stop m ≡ Ok (bs, next)) (sym at) read in
       rw (read', added) after
 
   -- nothing is left to be read
-  none_on : (s : State) → run_parts how zero src start stop s ≡ Ok (at_place stop s)
-  unfolding run_parts
+  none_on : (s : State) → data_parts how zero src start stop s ≡ Ok (at_place stop s)
+  unfolding data_parts
   none_on s = refl
 
   -- the items behind a piece, a replacement text and the rest
@@ -180,8 +180,8 @@ module _ (how : How) (O : Opener) (agrees : AgreesContent how.values.entities ho
   opened_on text j t v u more opened rest = rw opened rest
 
   -- parts that stand there are read, if the limits allow what they lead to
-  pub run_parts_complete : (n i b c : ℕ) (items : Forest Item) (s : State) → s.at ≡ i → s.left ≡ b → stop ≤ i + n → PartsFrom i b c items → IsFine how.limit (state stop (join s.done items) s.stack c)
-      → run_parts how n src start stop s ≡ Ok (state stop (join s.done items) s.stack c)
+  pub run_parts_complete : (n i b c : ℕ) (items : Forest Item) (s : State) → s.at ≡ i → s.left ≡ b → stop ≤ i + n → PartsFrom i b c items → IsValidState how.limit (state stop (join s.done items) s.stack c)
+      → data_parts how n src start stop s ≡ Ok (state stop (join s.done items) s.stack c)
   run_parts_complete zero i b c items s at left enough (last_part _ _ ss part) fine =
       let none = part_none i ss (omega arith) part in
       none_on s ∙ rw (none, left) (rw join-nil refl)
@@ -191,7 +191,7 @@ module _ (how : How) (O : Opener) (agrees : AgreesContent how.values.entities ho
       let to = part_le how.values.main src stop i ss part in
       let q = run_part_complete how.values.entities src utf8 stop long closes how.values.main (stop - i) i stop ss at_end to (omega arith) part (ends_run stop refl) in
       let text = texts_line_ends how.values.main q.0 ss q.2 in
-      let fine' : IsFine how.limit (state stop (join s.done (piece start stop false ss)) s.stack s.left) = rw (marked, ← left) at fine in
+      let fine' : IsValidState how.limit (state stop (join s.done (piece start stop false ss)) s.stack s.left) = rw (marked, ← left) at fine in
       let t = read_piece how.limit s start stop ss fine' in
       let done = t.2.done in let stack = t.2.stack in let left' = t.2.left in
       part_on n i s t.0 _ q.0 at_end at q.1 (ap (with_piece how.limit s start stop) text ∙ t.1) (rw (marked, done, stack, left', left) refl)
@@ -201,21 +201,21 @@ module _ (how : How) (O : Opener) (agrees : AgreesContent how.values.entities ho
       let inside = parts_le j c d more rest in
       let whole : join s.done (join (piece start stop false ss) (join front more)) ≡ join (join (join s.done (piece start stop false ss)) front) more =
       sym (join_assoc s.done (piece start stop false ss) (join front more)) ∙ sym (join_assoc (join s.done (piece start stop false ss)) front more) in
-      let fine2 : IsFine how.limit (state stop (join (join (join s.done (piece start stop false ss)) front) more) s.stack d) = rw whole at fine in
+      let fine2 : IsValidState how.limit (state stop (join (join (join s.done (piece start stop false ss)) front) more) s.stack d) = rw whole at fine in
       let fine1 = fine_before how.limit j stop c d (join (join s.done (piece start stop false ss)) front) more s.stack fine2 in
       let fine0 = fine_before how.limit stop j s.left c (join s.done (piece start stop false ss)) front s.stack fine1 in
       let t = read_piece how.limit s start stop ss fine0 in
       let done = t.2.done in let stack = t.2.stack in let left' = t.2.left in
       let opened' : O.content (slice src (p + 1) m) t.0.left front c = rw (left', left) opened in
-      let fine1' : IsFine how.limit (state j (join t.0.done front) t.0.stack c) = rw (done, stack) fine1 in
+      let fine1' : IsValidState how.limit (state j (join t.0.done front) t.0.stack c) = rw (done, stack) fine1 in
       let text = agrees.complete (slice src (p + 1) m) j c front t.0 opened' fine1' in
       let q = run_part_complete how.values.entities src utf8 stop long closes how.values.main (stop - i) i p ss (opening text.0 j) (omega arith) (omega arith) part (ends_entity p m j text.0 r none inside text.1) in
       let spelled = texts_line_ends how.values.main q.0 ss q.2 in
       let v = state j (join t.0.done front) t.0.stack c in
-      let fine2' : IsFine how.limit (state stop (join v.done more) v.stack d) = rw (done, stack) fine2 in
+      let fine2' : IsValidState how.limit (state stop (join v.done more) v.stack d) = rw (done, stack) fine2 in
       let ih = run_parts_complete n j c d more v refl refl (omega (arith, moves.2)) rest fine2' in
       let last = behind_all s t.0 (piece start stop false ss) front more d done stack in
-      part_on n i s t.0 _ q.0 (opening text.0 j) at q.1 (ap (with_piece how.limit s start stop) spelled ∙ t.1) (opened_on text.0 j t.0 v _ (λ w. run_parts how n src start stop w) text.2 (ih ∙ ap Ok last))
+      part_on n i s t.0 _ q.0 (opening text.0 j) at q.1 (ap (with_piece how.limit s start stop) spelled ∙ t.1) (opened_on text.0 j t.0 v _ (λ w. data_parts how n src start stop w) text.2 (ih ∙ ap Ok last))
 
 -- ---- whole runs
 
@@ -243,20 +243,20 @@ unfolding byte_from
 past_end src i past = rw (drop_all i src past) (add-zero i)
 
 -- the bytes of a run that are read
-pub raw_sound : (src : List ℕ) → IsUtf8 src → (i : ℕ) (x : List ℕ × ℕ) → i < length src → byte src i ≢ 60 → raw_run_at src i ≡ Ok x → IsRun src i x.1 × (x.0 ≡ slice src i x.1)
-unfolding raw_run_at
+pub raw_sound : (src : List ℕ) → IsUtf8 src → (i : ℕ) (x : List ℕ × ℕ) → i < length src → byte src i ≢ 60 → raw_character_data_at src i ≡ Ok x → IsCharacterData src i x.1 × (x.0 ≡ slice src i x.1)
+unfolding raw_character_data_at
 raw_sound src utf8 i x here other h =
     let end = byte_from (λ c. c == 60) src i in
     let some = some_before src i here other in
     bind_ok (chars_up_to end src i) _ _ h (λ raw read h.
     let c = chars_sound end src i raw utf8 (from_le (λ c. c == 60) src i) read in
     chosen (has_mark (word_text word.CDataEnd) raw.0) _ _ _ h (λ ill h. cc) (λ fine h.
-    let run : IsRun src i end = record { some = some; end = refl; chars = c.0; no_end_mark = rw c.1 at fine } in
-    subst (λ (y : List ℕ × ℕ). IsRun src i y.1 × (y.0 ≡ slice src i y.1)) (ok_same _ _ h) (run, c.1)))
+    let run : IsCharacterData src i end = record { some = some; end = refl; chars = c.0; no_end_mark = rw c.1 at fine } in
+    subst (λ (y : List ℕ × ℕ). IsCharacterData src i y.1 × (y.0 ≡ slice src i y.1)) (ok_same _ _ h) (run, c.1)))
 
 -- and that stand there
-raw_complete : (src : List ℕ) (i j : ℕ) → IsRun src i j → raw_run_at src i ≡ Ok (slice src i j, j)
-unfolding raw_run_at
+raw_complete : (src : List ℕ) (i j : ℕ) → IsCharacterData src i j → raw_character_data_at src i ≡ Ok (slice src i j, j)
+unfolding raw_character_data_at
 raw_complete src i j run =
     let end = run.end in
     let c = chars_complete j src i run.chars in
@@ -264,7 +264,7 @@ raw_complete src i j run =
     rw (← end, c, mark) refl
 
 -- a run ends in the text
-pub run_inside : (src : List ℕ) (i j : ℕ) → IsRun src i j → (j ≤ length src) × (j < length src → IsStop (byte src j))
+pub run_inside : (src : List ℕ) (i j : ℕ) → IsCharacterData src i j → (j ≤ length src) × (j < length src → IsStop (byte src j))
 run_inside src i j run =
     let end = run.end in let some = run.some in
     let inside : j ≤ length src = elim (cases_lt i (length src)) as (λ s. j ≤ length src) [
@@ -274,35 +274,35 @@ run_inside src i j run =
     (inside, rw (← end) at (stop_here src i))
 
 -- plain bytes stand for themselves
-plain_ends : (bs : List ℕ) → is_plain bs ≡ true → line_ends (literals bs) ≡ bs
+plain_ends : (bs : List ℕ) → is_verbatim bs ≡ true → line_ends (literals bs) ≡ bs
 plain_ends [] h = refl
 plain_ends (b ∷ bs) h =
     let both = or_parts (eqb b 38 || eqb b 13) (list_any ordinary bs) (not-true _ h) in
     let here = or_parts (eqb b 38) (eqb b 13) both.0 in
     literal_ends b (literals bs) (eqb-false _ _ here.1) ∙ ap (λ (r : List ℕ). b ∷ r) (plain_ends bs (not_from_false _ both.1))
 
-plain_text : (main : Bool) (bs : List ℕ) → is_plain bs ≡ true → part_text main bs ≡ bs
+plain_text : (main : Bool) (bs : List ℕ) → is_verbatim bs ≡ true → part_text main bs ≡ bs
 plain_text true bs h = refl
 plain_text false bs h = plain_ends bs h
 
 -- a part that is not empty gives a text
-pub piece_whole : (i j : ℕ) (plain : Bool) (ss : List Sign) (v : List ℕ) → line_ends ss ≡ v → 0 < length v → piece i j plain ss ≡ leaf (Text i j v plain)
+pub piece_whole : (i j : ℕ) (plain : Bool) (ss : List DataByte) (v : List ℕ) → line_ends ss ≡ v → 0 < length v → piece i j plain ss ≡ leaf (Text i j v plain)
 piece_whole i j plain [] v is some = absurd (omega (arith, ap length is))
 piece_whole i j plain (x ∷ ss) v is some = ap (λ (w : List ℕ). leaf (Text i j w plain)) is
 
-module _ (how : How) (O : Opener) (agrees : AgreesContent how.values.entities how.limit O how.opener) (src : List ℕ) (utf8 : IsUtf8 src) where
+module _ (how : Context) (O : Inclusion) (agrees : AgreesContent how.values.entities how.limit O how.opener) (src : List ℕ) (utf8 : IsUtf8 src) where
   -- a run with what it leads to
   abbrev pub RunStands : ℕ → State → State → Type 0
-  RunStands most s u = (j : ℕ) × (items : Forest Item) × (c : ℕ) × IsRun src s.at j × Parts how.values.main O src s.at j s.at s.left c items × (u ≡ state j (join s.done items) s.stack c) × IsFine most u
+  RunStands most s u = (j : ℕ) × (items : Forest Item) × (c : ℕ) × IsCharacterData src s.at j × Parts how.values.main O src s.at j s.at s.left c items × (u ≡ state j (join s.done items) s.stack c) × IsValidState most u
 
   -- no byte of a plain run is `&` or CR
-  plain_bytes : (i j k : ℕ) → j ≤ length src → is_plain (slice src i j) ≡ true → i ≤ k → k < j → (byte src k ≢ 38) × (how.values.main ≡ true → byte src k ≢ 13)
+  plain_bytes : (i j k : ℕ) → j ≤ length src → is_verbatim (slice src i j) ≡ true → i ≤ k → k < j → (byte src k ≢ 38) × (how.values.main ≡ true → byte src k ≢ 13)
   plain_bytes i j k inside plain from below =
       let both = or_parts (eqb (byte src k) 38) (eqb (byte src k) 13) (slice_none ordinary src i j k inside (not-true _ plain) from below) in
       (eqb-false _ _ both.0, λ z. eqb-false _ _ both.1)
 
   -- the part of a plain run
-  pub plain_part : (i j b : ℕ) → IsRun src i j → is_plain (slice src i j) ≡ true → Parts how.values.main O src i j i b b (leaf (Text i j (slice src i j) true))
+  pub plain_part : (i j b : ℕ) → IsCharacterData src i j → is_verbatim (slice src i j) ≡ true → Parts how.values.main O src i j i b b (leaf (Text i j (slice src i j) true))
   plain_part i j b run plain =
       let some = run.some in
       let inside = run_inside src i j run in
@@ -310,11 +310,11 @@ module _ (how : How) (O : Opener) (agrees : AgreesContent how.values.entities ho
       (nothing_from how.values.entities src utf8 j inside.0 inside.1 how.values.main j) in
       let text : line_ends s.0 ≡ slice src i j = sym (texts_line_ends how.values.main (slice src i j ++ []) s.0 s.2) ∙ ap (part_text how.values.main) (append-nil (slice src i j)) ∙ plain_text how.values.main (slice src i j) plain in
       let long = slice_length src i j (omega arith) inside.0 in
-      let e : piece i j (is_plain (slice src i j)) s.0 ≡ leaf (Text i j (slice src i j) true) = ap (λ (f : Bool). piece i j f s.0) plain ∙ piece_whole i j true s.0 (slice src i j) text (omega arith) in
+      let e : piece i j (is_verbatim (slice src i j)) s.0 ≡ leaf (Text i j (slice src i j) true) = ap (λ (f : Bool). piece i j f s.0) plain ∙ piece_whole i j true s.0 (slice src i j) text (omega arith) in
       subst (λ (f : Forest Item). Parts how.values.main O src i j i b b f) e (last_part i b s.0 s.1)
 
   -- a plain run has no other parts
-  part_plain : (i j b c : ℕ) (items : Forest Item) → IsRun src i j → is_plain (slice src i j) ≡ true → Parts how.values.main O src i j i b c items → (items ≡ leaf (Text i j (slice src i j) true)) × (b ≡ c)
+  part_plain : (i j b c : ℕ) (items : Forest Item) → IsCharacterData src i j → is_verbatim (slice src i j) ≡ true → Parts how.values.main O src i j i b c items → (items ≡ leaf (Text i j (slice src i j) true)) × (b ≡ c)
   part_plain i j b c items run plain (last_part _ _ ss part) =
       let some = run.some in
       let inside = run_inside src i j run in
@@ -325,7 +325,7 @@ module _ (how : How) (O : Opener) (agrees : AgreesContent how.values.entities ho
       let long = slice_length src i j (omega arith) inside.0 in
       (ap (λ (f : Bool). piece i j f ss) plain ∙ piece_whole i j true ss (slice src i j) text (omega arith), refl)
     where
-      empty_part : (main : Bool) (p k : ℕ) (ss : List Sign) → p ≤ k → Part main src p k ss → ss ≡ []
+      empty_part : (main : Bool) (p k : ℕ) (ss : List DataByte) → p ≤ k → Part main src p k ss → ss ≡ []
       empty_part main p k ss past part_ends = refl
       empty_part main p k ss past (as_written _ rest lt no_amp q) = absurd (omega arith)
       empty_part main p k ss past (from_reference _ n c rest r to q) = absurd (omega (arith, character_opens src k c n r))
@@ -339,16 +339,16 @@ module _ (how : How) (O : Opener) (agrees : AgreesContent how.values.entities ho
       rest_le k b d items (then_entity _ p n m _ c _ ss front more part r none opened rest) = omega (arith, part_le how.values.main src p k ss part, reference_opens src p n m r, rest_le m c d more rest)
 
   -- a run that is read stands there
-  pub run_sound : (most : ℕ) (s u : State) → how.limit ≤ most → s.at < length src → byte src s.at ≢ 60 → IsFine most s → run_step how src s ≡ Ok u → RunStands most s u
-  unfolding run_step
+  pub run_sound : (most : ℕ) (s u : State) → how.limit ≤ most → s.at < length src → byte src s.at ≢ 60 → IsValidState most s → character_data_step how src s ≡ Ok u → RunStands most s u
+  unfolding character_data_step
   run_sound most s u limits here other fine h =
-      bind_lifted (raw_run_at src s.at) _ _ h (λ x read h.
+      bind_lifted (raw_character_data_at src s.at) _ _ h (λ x read h.
       let raw = raw_sound src utf8 s.at x here other read in
       let inside = run_inside src s.at x.1 raw.0 in
       let some = raw.0.some in
-      chosen (is_plain x.0) _ _ _ h
+      chosen (is_verbatim x.0) _ _ _ h
       (λ plain h.
-      let plain' : is_plain (slice src s.at x.1) ≡ true = rw (raw.1) at plain in
+      let plain' : is_verbatim (slice src s.at x.1) ≡ true = rw (raw.1) at plain in
       bind_lifted_only (with_item how.limit s x.1 (Text s.at x.1 x.0 true)) u h (λ added.
       let r = item_read how.limit most s u x.1 (Text s.at x.1 x.0 true) limits refl refl tt fine added in (
         x.1,
@@ -360,24 +360,24 @@ module _ (how : How) (O : Opener) (agrees : AgreesContent how.values.entities ho
         r.1,
       )))
       (λ marked h.
-      let marked' : is_plain (slice src s.at x.1) ≡ false = rw (raw.1) at marked in
+      let marked' : is_verbatim (slice src s.at x.1) ≡ false = rw (raw.1) at marked in
       let p = run_parts_sound how O agrees src utf8 s.at x.1 inside.0 inside.1 marked' (length src) most s u limits (omega arith) (omega (arith, inside.0)) fine h in
       (x.1, p.0, p.1, raw.0, p.2, p.3, p.4)))
 
   -- a run that stands there is read, if the limits allow what it leads to
-  pub run_complete : (j c : ℕ) (items : Forest Item) (s : State) → IsRun src s.at j → Parts how.values.main O src s.at j s.at s.left c items → IsFine how.limit (state j (join s.done items) s.stack c)
-      → run_step how src s ≡ Ok (state j (join s.done items) s.stack c)
-  unfolding run_step
+  pub run_complete : (j c : ℕ) (items : Forest Item) (s : State) → IsCharacterData src s.at j → Parts how.values.main O src s.at j s.at s.left c items → IsValidState how.limit (state j (join s.done items) s.stack c)
+      → character_data_step how src s ≡ Ok (state j (join s.done items) s.stack c)
+  unfolding character_data_step
   run_complete j c items s run parts fine =
       let raw = raw_complete src s.at j run in
       let inside = run_inside src s.at j run in
-      elim (cases_Bool (is_plain (slice src s.at j))) as (λ z. run_step how src s ≡ Ok (state j (join s.done items) s.stack c)) [
+      elim (cases_Bool (is_verbatim (slice src s.at j))) as (λ z. character_data_step how src s ≡ Ok (state j (join s.done items) s.stack c)) [
         | inl plain ↦ (
             let p = part_plain s.at j s.left c items run plain parts in
             let items_are = p.0 in let left = p.1 in
             let same : with_leaf s j (Text s.at j (slice src s.at j) true) ≡ state j (join s.done items) s.stack c =
             ap (λ (f : Forest Item). state j (join s.done f) s.stack s.left) (sym items_are) ∙ ap (λ (n : ℕ). state j (join s.done items) s.stack n) left in
-            let fine' = subst (IsFine how.limit) (sym same) fine in
+            let fine' = subst (IsValidState how.limit) (sym same) fine in
             let one = read_item how.limit s j (Text s.at j (slice src s.at j) true) fine' in
             rw (raw, plain, one) (ap Ok same))
         | inr marked ↦ (

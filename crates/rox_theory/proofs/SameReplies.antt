@@ -5,12 +5,12 @@ use Rattle.rox_grammar.specs.declared.fault.Fault.{Fault}
 use Rattle.rox_grammar.specs.declared.fault.Fault.TheVariants as fault
 use Rattle.rox_grammar.specs.declared.fault.Due.TheVariants as due
 use Rattle.rox_grammar.specs.declared.fault.Word.TheVariants as word
-use Rattle.rox_grammar.specs.Marks.{byte_from}
+use Rattle.rox_grammar.specs.Search.{byte_from}
 use Rattle.rox_grammar.specs.Constructs.{at}
 use Rattle.rox_grammar.specs.Forest.{Forest, Nil}
 use Rattle.rox_grammar.specs.Written.{Item}
 use Rattle.rox_grammar.specs.Names.{spaces_end}
-use Rattle.rox_grammar.specs.Start.{after_bom}
+use Rattle.rox_grammar.specs.TextStart.{after_bom}
 use Rattle.rox_grammar.specs.Entities.{Replacement}
 use Rattle.rox_grammar.specs.Doctype.{Request, Asked, entry}
 use Rattle.rox_grammar.specs.State.{root}
@@ -18,8 +18,8 @@ use Rattle.rox_reading.specs.Refusals.{Refusal, here, lifted}
 use Rattle.rox_reading.specs.Lexical.{byte_at}
 use Rattle.rox_reading.specs.State.{State}
 use Rattle.rox_reading.specs.Machine.{comment_step, instruction_step, at_place}
-use Rattle.rox_reading.specs.Doctype.{Reply, replies_of, Asks, asks_nothing, ◌>>>◌, Dtd, with_state, entity_head_at, Definition, inner, outer, definition_at, answer_text, defined, entity_step, passed_over, subset_end, subset, doctype_head_at, doctype_step}
-use Rattle.rox_reading.specs.Whole.{misc, body, finished, prolog, doctype, reading}
+use Rattle.rox_reading.specs.Doctype.{Reply, replies_of, Asks, asks_nothing, ◌>>>◌, Dtd, with_state, entity_head_at, Definition, inner, outer, definition_at, answer_text, defined, entity_step, skipped_declaration, subset_end, subset, doctype_head_at, doctype_step}
+use Rattle.rox_reading.specs.WholeText.{misc, body, finished, prolog, doctype, reading}
 use Rattle.rox_reading.specs.Answering.{left_with, having_asked, Answered, Yields, with_refusal, Stops, Settled, SettledWhole}
 use Rattle.rox_reading.proofs.Answering.{replies_then}
 use Rattle.rox_theory.proofs.Asking.{asks_none}
@@ -135,8 +135,8 @@ entity_same src d =
 
 -- ---- the items
 
-passed_same : (i : ℕ) (src : List ℕ) (d : Dtd) → Same (λ rs. passed_over i src (left_with rs d))
-unfolding passed_over
+passed_same : (i : ℕ) (src : List ℕ) (d : Dtd) → Same (λ rs. skipped_declaration i src (left_with rs d))
+unfolding skipped_declaration
 passed_same i src d =
     let e = byte_from (λ c. c == 62) src d.state.at in
     same_choice (nat_lt e (length src)) _ _ (same_done (record { state = at_place (e + 1) d.state; entities = d.entities; replies = [] })) (same_refused (here (fault.UnknownToken i)))
@@ -158,7 +158,7 @@ subset_same limit i (suc n) src d =
     (same_choice (at word.EntityStart src s.at) _ _ (same_then (λ rs. entity_step src (left_with rs e)) (subset limit i n src) (entity_same src e) (subset_same limit i n src))
     (same_choice (at word.CommentStart src s.at) _ _ (same_behind (lifted (comment_step limit src s)) (λ t rs. subset limit i n src (left_with rs (with_state d t))) (λ t. subset_same limit i n src (with_state d t)))
     (same_choice (at word.PIStart src s.at) _ _ (same_behind (lifted (instruction_step limit src s)) (λ t rs. subset limit i n src (left_with rs (with_state d t))) (λ t. subset_same limit i n src (with_state d t)))
-    (same_choice (at word.ElementStart src s.at || (at word.AttlistStart src s.at || at word.NotationStart src s.at)) _ _ (same_then (λ rs. passed_over i src (left_with rs e)) (subset limit i n src) (passed_same i src e) (subset_same limit i n src))
+    (same_choice (at word.ElementStart src s.at || (at word.AttlistStart src s.at || at word.NotationStart src s.at)) _ _ (same_then (λ rs. skipped_declaration i src (left_with rs e)) (subset limit i n src) (passed_same i src e) (subset_same limit i n src))
     (same_choice (slice_index src s.at == 93) _ _ (end_same src e) (same_refused (here (fault.UnknownToken s.at))))))))
 
 -- ---- the whole

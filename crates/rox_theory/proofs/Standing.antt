@@ -3,13 +3,13 @@ use Rattle.std.proofs.Common.{◌≡◌, ℕ, ◌+◌, ◌≤◌, Bool, true, fa
 use Rattle.std.proofs.lemmas.List.{append-nil, length-append}
 use Rattle.std.proofs.lemmas.Bool.{cond_both}
 use Rattle.rox_grammar.specs.Forest.{Forest, Nil, Cons, join, size}
-use Rattle.rox_grammar.specs.Written.{Tag, Item, Element, Declaration, merge}
+use Rattle.rox_grammar.specs.Written.{Tag, Item, Element, NamespaceDecl, merge}
 use Rattle.rox_grammar.specs.Tree.{scope_in, listed}
 use Rattle.rox_grammar.specs.WellNamed.{ItemWellNamed, AreWellNamed}
 use Rattle.rox_grammar.specs.Document.{own_pairs, pairs, own_attributes, attribute_count, has_pair, with_new, distinct_pairs}
 use Rattle.rox_grammar.specs.State.{Open, root, inside, scope_of, nodes_so_far, attributes_so_far, pairs_so_far}
 use Rattle.rox_reading.proofs.Forests.{size-join, merge-item, merge-more, pairs-join, attribute_count-join, named-join, named-left, named-right}
-pub use Rattle.rox_theory.specs.Fine.{AreNamed, IsFine}
+pub use Rattle.rox_theory.specs.ValidState.{AreNamed, IsValidState}
 
 -- ---- pairs
 
@@ -19,25 +19,25 @@ in_both f true x y v w h k = h
 in_both f false x y v w h k = k
 
 -- those of two lists, one after the other
-with_new-append : (ds es fs : List Declaration) → with_new ds (es ++ fs) ≡ with_new (with_new ds es) fs
+with_new-append : (ds es fs : List NamespaceDecl) → with_new ds (es ++ fs) ≡ with_new (with_new ds es) fs
 with_new-append ds [] fs = refl
 with_new-append ds (e ∷ es) fs =
-    in_both (λ (xs : List Declaration). with_new xs fs) (has_pair ds e) (with_new ds es) (with_new (ds ++ e ∷ []) es) _ _ (with_new-append ds es fs) (with_new-append (ds ++ e ∷ []) es fs)
+    in_both (λ (xs : List NamespaceDecl). with_new xs fs) (has_pair ds e) (with_new ds es) (with_new (ds ++ e ∷ []) es) _ _ (with_new-append ds es fs) (with_new-append (ds ++ e ∷ []) es fs)
 
 -- more of them, one after the other
-pub distinct-append : (ds es : List Declaration) → distinct_pairs (ds ++ es) ≡ with_new (distinct_pairs ds) es
+pub distinct-append : (ds es : List NamespaceDecl) → distinct_pairs (ds ++ es) ≡ with_new (distinct_pairs ds) es
 distinct-append ds es = with_new-append [] ds es
 
 -- there are never fewer
-with_new-grows : (ds es : List Declaration) → length ds ≤ length (with_new ds es)
+with_new-grows : (ds es : List NamespaceDecl) → length ds ≤ length (with_new ds es)
 with_new-grows ds [] = omega arith
 with_new-grows ds (e ∷ es) =
     let more = with_new-grows (ds ++ e ∷ []) es in
-    cond_both (has_pair ds e) (with_new ds es) (with_new (ds ++ e ∷ []) es) (λ (xs : List Declaration). length ds ≤ length xs)
+    cond_both (has_pair ds e) (with_new ds es) (with_new (ds ++ e ∷ []) es) (λ (xs : List NamespaceDecl). length ds ≤ length xs)
     (λ there. with_new-grows ds es) (λ new. omega (arith, length-append ds (e ∷ [])))
 
 -- more pairs never make fewer
-pub distinct-grows : (ds es : List Declaration) → length (distinct_pairs ds) ≤ length (distinct_pairs (ds ++ es))
+pub distinct-grows : (ds es : List NamespaceDecl) → length (distinct_pairs ds) ≤ length (distinct_pairs (ds ++ es))
 distinct-grows ds es = rw distinct-append (with_new-grows (distinct_pairs ds) es)
 
 -- ---- one more item, with what is below it

@@ -4,14 +4,14 @@ use Rattle.std.proofs.lemmas.List.{append-nil}
 use Rattle.std.proofs.lemmas.Bool.{and_parts, and_from}
 use Rattle.std.proofs.lemmas.Slice.Eq.{bytes_eq-Decides}
 use Rattle.rox_grammar.specs.Forest.{Forest, Nil, Cons, join}
-use Rattle.rox_grammar.specs.Written.{Name, Tag, Item, Element, Declaration, merge, leaf}
+use Rattle.rox_grammar.specs.Written.{Name, Tag, Item, Element, NamespaceDecl, merge, leaf}
 use Rattle.rox_grammar.specs.Tree.{listed}
 use Rattle.rox_grammar.specs.Document.{listable, own_pairs, distinct_pairs, most_pairs}
 use Rattle.rox_grammar.specs.State.{Open, inside, scope_of, nodes_so_far, pairs_so_far}
 use Rattle.rox_reading.specs.State.{State}
-use Rattle.rox_reading.specs.Machine.{same_name}
+use Rattle.rox_reading.specs.Machine.{same_qname}
 use Rattle.rox_reading.proofs.Forests.{attribute_count-merge, pairs-merge, named-merge, merge-named}
-use Rattle.rox_theory.proofs.Standing.{IsFine, distinct-append, distinct-grows, attributes-item, pairs-item, named-item, item-named, nodes-element, nodes-grow}
+use Rattle.rox_theory.proofs.Standing.{IsValidState, distinct-append, distinct-grows, attributes-item, pairs-item, named-item, item-named, nodes-element, nodes-grow}
 use Rattle.rox_theory.proofs.Leaves.{state, with_leaf, Adds}
 
 -- after a start tag up to j, by whether the element is empty
@@ -24,9 +24,9 @@ abbrev pub closed : ℕ → Forest Item → ℕ → Tag → Forest Item → Open
 closed j done start tag before up left = state j (join before (Cons (Element start j tag) (merge done) Nil)) up left
 
 -- and what is fine with it was fine before
-pub fine_leaf : (limit : ℕ) (s : State) (j : ℕ) (item : Item) → IsFine limit (with_leaf s j item) → IsFine limit s × Adds s item
+pub fine_leaf : (limit : ℕ) (s : State) (j : ℕ) (item : Item) → IsValidState limit (with_leaf s j item) → IsValidState limit s × Adds s item
 fine_leaf limit s j item fine =
-    let e : pairs_so_far s.stack (join s.done (leaf item)) ≡ pairs_so_far s.stack s.done ++ own_pairs item = pairs-item s.stack s.done item Nil ∙ ap (λ (ds : List Declaration). pairs_so_far s.stack s.done ++ ds) (append-nil (own_pairs item)) in
+    let e : pairs_so_far s.stack (join s.done (leaf item)) ≡ pairs_so_far s.stack s.done ++ own_pairs item = pairs-item s.stack s.done item Nil ∙ ap (λ (ds : List NamespaceDecl). pairs_so_far s.stack s.done ++ ds) (append-nil (own_pairs item)) in
     let all : length (distinct_pairs (pairs_so_far s.stack s.done ++ own_pairs item)) ≤ most_pairs = rw e at fine.pairs in
     let named = item-named s.stack s.done item Nil fine.named in
     let sum = attributes-item s.stack s.done item Nil in (
@@ -40,7 +40,7 @@ fine_leaf limit s j item fine =
     )
 
 -- so does a start tag
-pub opened_fine : (limit : ℕ) (s : State) (j : ℕ) (tag : Tag) (end left : ℕ) → IsFine limit s → Adds s (Element s.at end tag) → nodes_so_far s.stack s.done + 1 ≤ limit → IsFine limit (after s j tag false left)
+pub opened_fine : (limit : ℕ) (s : State) (j : ℕ) (tag : Tag) (end left : ℕ) → IsValidState limit s → Adds s (Element s.at end tag) → nodes_so_far s.stack s.done + 1 ≤ limit → IsValidState limit (after s j tag false left)
 opened_fine limit s j tag end left fine adds nodes =
     record {
       nodes = omega (arith, nodes);
@@ -50,7 +50,7 @@ opened_fine limit s j tag end left fine adds nodes =
     }
 
 -- and what is fine behind it was fine before
-pub fine_opened : (limit : ℕ) (s : State) (j : ℕ) (tag : Tag) (end left : ℕ) → IsFine limit (after s j tag false left) → IsFine limit s × Adds s (Element s.at end tag)
+pub fine_opened : (limit : ℕ) (s : State) (j : ℕ) (tag : Tag) (end left : ℕ) → IsValidState limit (after s j tag false left) → IsValidState limit s × Adds s (Element s.at end tag)
 fine_opened limit s j tag end left fine =
     let all : length (distinct_pairs (pairs_so_far s.stack s.done ++ listable tag)) ≤ most_pairs = rw (append-nil (listable tag)) at fine.pairs in (
       record {
@@ -69,7 +69,7 @@ closed_pairs j done start tag before up = pairs-item up before (Element start j 
 
 -- an end tag keeps a state fine
 pub closed_fine : (limit i j left : ℕ) (done : Forest Item) (start : ℕ) (tag : Tag) (before : Forest Item) (up : Open)
-    → IsFine limit (state i done (inside start tag before up) left) → IsFine limit (closed j done start tag before up left)
+    → IsValidState limit (state i done (inside start tag before up) left) → IsValidState limit (closed j done start tag before up left)
 closed_fine limit i j left done start tag before up fine =
     record {
       nodes = omega (arith, fine.nodes, nodes-element up before start j tag (merge done));
@@ -80,7 +80,7 @@ closed_fine limit i j left done start tag before up fine =
 
 -- and what is fine behind it was fine before
 pub fine_closed : (limit i j left : ℕ) (done : Forest Item) (start : ℕ) (tag : Tag) (before : Forest Item) (up : Open)
-    → IsFine limit (closed j done start tag before up left) → IsFine limit (state i done (inside start tag before up) left)
+    → IsValidState limit (closed j done start tag before up left) → IsValidState limit (state i done (inside start tag before up) left)
 fine_closed limit i j left done start tag before up fine =
     let named = item-named up before (Element start j tag) (merge done) fine.named in
     record {
@@ -91,7 +91,7 @@ fine_closed limit i j left done start tag before up fine =
     }
 
 -- names that agree byte by byte are one
-pub same_names : (m n : Name) → same_name m n ≡ true → m ≡ n
+pub same_names : (m n : Name) → same_qname m n ≡ true → m ≡ n
 same_names m n h =
     let both = and_parts _ _ h in
     let p : m.prefix ≡ n.prefix = (bytes_eq-Decides m.prefix n.prefix).0 both.0 in
@@ -99,5 +99,5 @@ same_names m n h =
     rw (p, l) refl
 
 -- and one name agrees with itself
-pub names_same : (m n : Name) → m ≡ n → same_name m n ≡ true
+pub names_same : (m n : Name) → m ≡ n → same_qname m n ≡ true
 names_same m n h = and_from _ _ ((bytes_eq-Decides m.prefix n.prefix).1 (ap (λ (x : Name). x.prefix) h)) ((bytes_eq-Decides m.local n.local).1 (ap (λ (x : Name). x.local) h))

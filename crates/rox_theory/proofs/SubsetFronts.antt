@@ -7,7 +7,7 @@ use Rattle.std.proofs.lemmas.Bool.{true≢false}
 use Rattle.std.proofs.lemmas.List.{append-nil}
 use Rattle.rox_grammar.specs.declared.fault.Word.{Word}
 use Rattle.rox_grammar.specs.declared.fault.Word.TheVariants as word
-use Rattle.rox_grammar.specs.Words.{word_text}
+use Rattle.rox_grammar.specs.FixedTexts.{word_text}
 use Rattle.rox_grammar.specs.Chars.{is_space, is_name_char}
 use Rattle.rox_grammar.specs.Runs.{run_end}
 use Rattle.rox_grammar.specs.Forest.{Forest, Nil, join}
@@ -16,8 +16,8 @@ use Rattle.rox_grammar.specs.Names.{byte, slice, spaces_end}
 use Rattle.rox_grammar.specs.Constructs.{at}
 use Rattle.rox_grammar.specs.Content.{IsMisc, comment, instruction}
 use Rattle.rox_grammar.specs.Entities.{Replacement, Entity}
-use Rattle.rox_grammar.specs.Doctype.{Request, Asked, IsQuoted, IsSpace, IsExternalID, MayHaveNotation, Gives, IsDefinition, internal, external, IsKind, BeginsEntity, entry, IsEntityDeclaration, IsPassedOver, Subset, no_more, space, an_item, passed_over, an_entity, MayHaveExternalID, BeginsDoctype, IsDoctype, no_subset, with_subset}
-use Rattle.rox_grammar.specs.Refused.{IsPassed}
+use Rattle.rox_grammar.specs.Doctype.{Request, Asked, IsQuoted, IsSpace, IsExternalID, MayHaveNotation, GivesReplacement, IsDefinition, internal, external, IsKind, BeginsEntity, entry, IsEntityDeclaration, IsPassedOver, Subset, no_more, space, an_item, skipped_declaration, an_entity, MayHaveExternalID, BeginsDoctype, IsDoctype, no_subset, with_subset}
+use Rattle.rox_grammar.specs.FaultsWithDoctype.{IsPassed}
 use Rattle.rox_reading.specs.Doctype.{external_id_at, notation_at, kind_at, external_id_if, answer_text}
 use Rattle.rox_reading.proofs.Forests.{join-nil}
 use Rattle.rox_theory.specs.Answers.{SameAnswers}
@@ -156,7 +156,7 @@ module _ (src : List ℕ) where
     definition_once p i j k a b c d t u (external _ n _ r answer _ is may gives) (external _ m _ s answer' _ is' may' gives') same =
         let request = (external_once i n m r s is is').0 in
         let first : answer ≡ answer' = same.0 in
-        let gives'' : Gives answer u = subst (λ (a : Option (List ℕ)). Gives a u) (sym first) gives' in (
+        let gives'' : GivesReplacement answer u = subst (λ (a : Option (List ℕ)). GivesReplacement a u) (sym first) gives' in (
           ap (λ (r : Request). record { request = r; answer = answer } ∷ []) request ∙ ap (λ (a : Option (List ℕ)). record { request = s; answer = a } ∷ []) first,
           ok_one t u (answer_text answer) (answer_complete answer t gives) (answer_complete answer u gives''),
           same.1,
@@ -173,7 +173,7 @@ module _ (src : List ℕ) where
         let one = definition_once x.parameter x.d x.e y.e a b c d x.text y.text x.definition other same in (
           one.0,
           x.next ∙ ap (λ (e : ℕ). spaces_end src e + 1) end ∙ sym y.next,
-          x.declares ∙ ap (λ (n : ℕ). entry (slice src n x.m) x.text) at.1 ∙ ap (λ (m : ℕ). entry (slice src y.n m) x.text) at.2 ∙ ap (entry (slice src y.n y.m)) one.1 ∙ sym y.declares,
+          x.is_namespace_decl ∙ ap (λ (n : ℕ). entry (slice src n x.m) x.text) at.1 ∙ ap (λ (m : ℕ). entry (slice src y.n m) x.text) at.2 ∙ ap (entry (slice src y.n y.m)) one.1 ∙ sym y.is_namespace_decl,
           one.2,
         )
 
@@ -192,14 +192,14 @@ module _ (src : List ℕ) where
       item_there p rest more gs (no_more _) is = absurd (no_end (item_less p is))
       item_there p rest more gs (space _ _ _ _ _ white _) is = absurd (less_no_space src utf8 p (item_less p is) white)
       item_there p rest more gs (an_item _ j _ x others _ _ one left) is = (j, x, others, one, left, refl)
-      item_there p rest more gs (passed_over _ j _ _ _ _ one left) is = absurd (item_no_passed p is one.opens)
+      item_there p rest more gs (skipped_declaration _ j _ _ _ _ one left) is = absurd (item_no_passed p is one.opens)
       item_there p rest more gs (an_entity _ j _ _ _ _ _ _ one left) is = absurd (item_no_entity p is one.begins.opens)
 
       pub passed_there : (p : ℕ) (rest : Forest Item) (more : List Asked) (gs : List Entity) → Left p rest more gs → IsPassed src p → (j : ℕ) × IsPassedOver src p j × Left j rest more gs
       passed_there p rest more gs (no_more _) is = absurd (no_end (passed_less p is))
       passed_there p rest more gs (space _ _ _ _ _ white _) is = absurd (less_no_space src utf8 p (passed_less p is) white)
       passed_there p rest more gs (an_item _ j _ x others _ _ one left) is = absurd (item_no_passed p (misc_opens p j x one) is)
-      passed_there p rest more gs (passed_over _ j _ _ _ _ one left) is = (j, one, left)
+      passed_there p rest more gs (skipped_declaration _ j _ _ _ _ one left) is = (j, one, left)
       passed_there p rest more gs (an_entity _ j _ _ _ _ _ _ one left) is = absurd (passed_no_entity p is one.begins.opens)
 
       pub entity_there : (p : ℕ) (rest : Forest Item) (more : List Asked) (gs : List Entity) → Left p rest more gs → at word.EntityStart src p ≡ true
@@ -207,7 +207,7 @@ module _ (src : List ℕ) where
       entity_there p rest more gs (no_more _) is = absurd (no_end (entity_less p is))
       entity_there p rest more gs (space _ _ _ _ _ white _) is = absurd (less_no_space src utf8 p (entity_less p is) white)
       entity_there p rest more gs (an_item _ j _ x others _ _ one left) is = absurd (item_no_entity p (misc_opens p j x one) is)
-      entity_there p rest more gs (passed_over _ j _ _ _ _ one left) is = absurd (passed_no_entity p one.opens is)
+      entity_there p rest more gs (skipped_declaration _ j _ _ _ _ one left) is = absurd (passed_no_entity p one.opens is)
       entity_there p rest more gs (an_entity _ j _ _ first later one others is' left) is = (j, first, later, one, others, is', left, refl, refl)
 
       -- white space there
@@ -215,7 +215,7 @@ module _ (src : List ℕ) where
       space_there p rest more gs (no_more _) is = absurd (let z : is_space 93 ≡ true = subst (λ (b : ℕ). is_space b ≡ true) bracket is in cc z)
       space_there p rest more gs (space _ _ _ _ _ white left) is = left
       space_there p rest more gs (an_item _ j _ x others _ _ one left) is = absurd (less_no_space src utf8 p (item_less p (misc_opens p j x one)) is)
-      space_there p rest more gs (passed_over _ j _ _ _ _ one left) is = absurd (less_no_space src utf8 p (passed_less p one.opens) is)
+      space_there p rest more gs (skipped_declaration _ j _ _ _ _ one left) is = absurd (less_no_space src utf8 p (passed_less p one.opens) is)
       space_there p rest more gs (an_entity _ j _ _ _ _ _ _ one left) is = absurd (less_no_space src utf8 p (entity_less p one.begins.opens) is)
 
       -- nothing that a subset holds
@@ -223,7 +223,7 @@ module _ (src : List ℕ) where
       nothing_there p rest more gs (no_more _) no_space no_item no_passed no_entity = refl
       nothing_there p rest more gs (space _ _ _ _ _ white left) no_space no_item no_passed no_entity = absurd (true≢false (sym white ∙ no_space))
       nothing_there p rest more gs (an_item _ j _ x others _ _ one left) no_space no_item no_passed no_entity = absurd (no_item (misc_opens p j x one))
-      nothing_there p rest more gs (passed_over _ j _ _ _ _ one left) no_space no_item no_passed no_entity = absurd (no_passed one.opens)
+      nothing_there p rest more gs (skipped_declaration _ j _ _ _ _ one left) no_space no_item no_passed no_entity = absurd (no_passed one.opens)
       nothing_there p rest more gs (an_entity _ j _ _ _ _ _ _ one left) no_space no_item no_passed no_entity = absurd (true≢false (sym one.begins.opens ∙ no_entity))
 
       -- what is read up to j is a front of the items up to the `]`
@@ -254,7 +254,7 @@ module _ (src : List ℕ) where
             entities = next.entities;
             same = next.same;
           }
-      subset_front i j xs ys a b c es fs (passed_over _ m _ _ _ _ one front) all same =
+      subset_front i j xs ys a b c es fs (skipped_declaration _ m _ _ _ _ one front) all same =
           let there = passed_there i ys b fs all one.opens in
           let end : m ≡ there.0 = one.next ∙ ap (λ (e : ℕ). e + 1) (one.end ∙ sym there.1.end) ∙ sym there.1.next in
           subset_front m j xs ys a b c es fs front (subst (λ (m : ℕ). Left m ys b fs) (sym end) there.2) same
@@ -282,7 +282,7 @@ module _ (src : List ℕ) where
     left_ends p k rest more gs end (no_more _) here = (refl, refl, refl, refl)
     left_ends p k rest more gs end (space _ _ _ _ _ white _) here = absurd (let z : is_space 93 ≡ true = subst (λ (b : ℕ). is_space b ≡ true) here white in cc z)
     left_ends p k rest more gs end (an_item _ j _ x others _ _ one left) here = absurd (let less = item_less p (misc_opens p j x one) in omega arith)
-    left_ends p k rest more gs end (passed_over _ j _ _ _ _ one left) here = absurd (let less = passed_less p one.opens in omega arith)
+    left_ends p k rest more gs end (skipped_declaration _ j _ _ _ _ one left) here = absurd (let less = passed_less p one.opens in omega arith)
     left_ends p k rest more gs end (an_entity _ j _ _ _ _ _ _ one left) here = absurd (let less = entity_less p one.begins.opens in omega arith)
 
     -- a document type declaration is read in one way

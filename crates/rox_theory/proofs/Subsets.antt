@@ -9,14 +9,14 @@ use Rattle.rox_grammar.specs.declared.fault.Fault.TheVariants as fault
 use Rattle.rox_grammar.specs.declared.fault.Due.TheVariants as due
 use Rattle.rox_grammar.specs.declared.fault.Word.TheVariants as word
 use Rattle.rox_grammar.specs.Chars.{is_space}
-use Rattle.rox_grammar.specs.Marks.{byte_from}
+use Rattle.rox_grammar.specs.Search.{byte_from}
 use Rattle.rox_grammar.specs.Forest.{Forest, Nil, join}
 use Rattle.rox_grammar.specs.Written.{Item, Comment, PI, leaf}
 use Rattle.rox_grammar.specs.Names.{byte, spaces_end}
 use Rattle.rox_grammar.specs.Constructs.{at}
 use Rattle.rox_grammar.specs.Content.{IsMisc}
 use Rattle.rox_grammar.specs.Entities.{Entity}
-use Rattle.rox_grammar.specs.Doctype.{Request, Asked, IsEntityDeclaration, IsPassedOver, Subset, no_more, space, an_item, passed_over, an_entity}
+use Rattle.rox_grammar.specs.Doctype.{Request, Asked, IsEntityDeclaration, IsPassedOver, Subset, no_more, space, an_item, skipped_declaration, an_entity}
 use Rattle.rox_reading.specs.Markup.{comment_at, instruction_at}
 use Rattle.rox_reading.specs.Refusals.{Refusal, here, there, refused}
 use Rattle.rox_reading.specs.State.{State}
@@ -27,7 +27,7 @@ use Rattle.rox_reading.specs.Answering.{having_asked}
 use Rattle.rox_reading.proofs.Answering.{spaced}
 use Rattle.rox_reading.proofs.Settling.{once}
 use Rattle.rox_reading.proofs.Forests.{join-nil, join_assoc}
-use Rattle.rox_theory.specs.Fine.{IsFine, state}
+use Rattle.rox_theory.specs.ValidState.{IsValidState, state}
 use Rattle.rox_theory.proofs.Basics.{run_end_le}
 use Rattle.rox_theory.proofs.LiteralLemmas.{from_le, from_here}
 use Rattle.rox_theory.proofs.CharTexts.{cut_behind}
@@ -59,8 +59,8 @@ after_entity limit start n src d (first, Err e) is h = turn_refused first e is h
 module _ (src : List ℕ) (utf8 : IsUtf8 src) where
   -- a declaration that is passed over, and what follows it
   after_passed : (limit start n : ℕ) (d : Dtd) → (at word.ElementStart src (spaces_end src d.state.at) || (at word.AttlistStart src (spaces_end src d.state.at) || at word.NotationStart src (spaces_end src d.state.at))) ≡ true
-      → Turns limit start n src d (reading.passed_over start src (spaced src d) >>> λ e. subset limit start n src e)
-  unfolding reading.passed_over
+      → Turns limit start n src d (reading.skipped_declaration start src (spaced src d) >>> λ e. subset limit start n src e)
+  unfolding reading.skipped_declaration
   after_passed limit start n d is =
       let i = spaces_end src d.state.at in
       let e = byte_from (λ c. c == 62) src i in
@@ -146,7 +146,7 @@ pub record SubsetRead (most : ℕ) (src : List ℕ) (d : Dtd) (asked : List Aske
   pub found : Closes src d.state.at e.state.at items asked es ⊎ (length src ≤ e.state.at)
   pub state_is : e.state ≡ state e.state.at (join d.state.done items) d.state.stack d.state.left
   pub entities_are : e.entities ≡ d.entities ++ es
-  pub fine : IsFine most e.state
+  pub fine : IsValidState most e.state
 
 abbrev pub SubsetOutcome : ℕ → List ℕ → Dtd → Asks Dtd → Type 0
 SubsetOutcome most src d (asked, Ok e) = HasLater src d.state.at asked × SubsetRead most src d asked e
@@ -220,10 +220,10 @@ module _ (src : List ℕ) (utf8 : IsUtf8 src) where
   item_front i j item cut is = spaces_front i j (leaf item) [] [] cut (λ k items asked more rest. an_item (spaces_end src i) j k item items asked more is rest)
 
   passed_front : (i j : ℕ) → IsCharBoundary src i → IsPassedOver src (spaces_end src i) j → Fronts src i j Nil [] []
-  passed_front i j cut is = spaces_front i j Nil [] [] cut (λ k items asked more rest. passed_over (spaces_end src i) j k items asked more is rest)
+  passed_front i j cut is = spaces_front i j Nil [] [] cut (λ k items asked more rest. skipped_declaration (spaces_end src i) j k items asked more is rest)
 
   -- one turn, where what follows it stands there
-  module _ (limit most start n : ℕ) (d : Dtd) (limits : limit ≤ most) (cut : IsCharBoundary src d.state.at) (fine : IsFine most d.state) (texts : AreTextReplies d.replies) (enough : length src ≤ d.state.at + suc n) (go : (e : Dtd) → IsCharBoundary src e.state.at → IsFine most e.state → AreTextReplies e.replies → length src ≤ e.state.at + n → SubsetOutcome most src e (subset limit start n src e)) where
+  module _ (limit most start n : ℕ) (d : Dtd) (limits : limit ≤ most) (cut : IsCharBoundary src d.state.at) (fine : IsValidState most d.state) (texts : AreTextReplies d.replies) (enough : length src ≤ d.state.at + suc n) (go : (e : Dtd) → IsCharBoundary src e.state.at → IsValidState most e.state → AreTextReplies e.replies → length src ≤ e.state.at + n → SubsetOutcome most src e (subset limit start n src e)) where
     abbrev i : ℕ
     i = spaces_end src d.state.at
 
@@ -246,7 +246,7 @@ module _ (src : List ℕ) (utf8 : IsUtf8 src) where
         let front = entity_front d.state.at e.state.at first o.es cut o.is in
         let has = once_later d.state.at first cut (declared_asks src utf8 i e.state.at first o.es o.is) in
         let state_is : e.state ≡ state e.state.at (join d.state.done Nil) d.state.stack d.state.left = o.state_is ∙ rw join-nil refl in
-        let fine' : IsFine most e.state = subst (IsFine most) (sym o.state_is) (fine_there most d.state (at_place e.state.at d.state) refl refl fine) in
+        let fine' : IsValidState most e.state = subst (IsValidState most) (sym o.state_is) (fine_there most d.state (at_place e.state.at d.state) refl refl fine) in
         let rest = go e moves.3 fine' o.texts (omega (arith, enough, far, moves.1)) in
         outcome_front most src d e Nil first o.es front state_is o.entities_are has (subset limit start n src e) rest
     by_turn r (turn_refused first e is h) =
@@ -285,7 +285,7 @@ module _ (src : List ℕ) (utf8 : IsUtf8 src) where
     by_turn r (turn_faulty f) = (not_yet, tt)
 
   -- what is read, with so many items at most, stands there
-  pub subset_outcome : (n limit most start : ℕ) (d : Dtd) → limit ≤ most → IsCharBoundary src d.state.at → IsFine most d.state → AreTextReplies d.replies → length src ≤ d.state.at + n
+  pub subset_outcome : (n limit most start : ℕ) (d : Dtd) → limit ≤ most → IsCharBoundary src d.state.at → IsValidState most d.state → AreTextReplies d.replies → length src ≤ d.state.at + n
       → SubsetOutcome most src d (subset limit start n src d)
   unfolding subset
   subset_outcome zero limit most start d limits cut fine texts enough =

@@ -5,16 +5,16 @@ use Rattle.std.proofs.lemmas.List.{append-nil}
 use Rattle.std.proofs.lemmas.Bool.{lt-leb, or_left, or_right, or_from, false_from_ne_true}
 use Rattle.rox_grammar.specs.declared.fault.Word.{Word}
 use Rattle.rox_grammar.specs.declared.fault.Word.TheVariants as word
-use Rattle.rox_grammar.specs.Words.{word_text}
+use Rattle.rox_grammar.specs.FixedTexts.{word_text}
 use Rattle.rox_grammar.specs.Chars.{is_space}
-use Rattle.rox_grammar.specs.Marks.{byte_from}
+use Rattle.rox_grammar.specs.Search.{byte_from}
 use Rattle.rox_grammar.specs.Forest.{Forest, join}
 use Rattle.rox_grammar.specs.Written.{Item, leaf}
 use Rattle.rox_grammar.specs.Names.{byte, spaces_end}
 use Rattle.rox_grammar.specs.Constructs.{at}
 use Rattle.rox_grammar.specs.Content.{IsMisc, comment, instruction}
 use Rattle.rox_grammar.specs.Entities.{Entity}
-use Rattle.rox_grammar.specs.Doctype.{Asked, IsEntityDeclaration, IsPassedOver, Subset, no_more, space, an_item, passed_over, an_entity}
+use Rattle.rox_grammar.specs.Doctype.{Asked, IsEntityDeclaration, IsPassedOver, Subset, no_more, space, an_item, skipped_declaration, an_entity}
 use Rattle.rox_grammar.specs.State.{Open}
 use Rattle.rox_reading.specs.Machine.{comment_step, instruction_step}
 use Rattle.rox_reading.specs.Doctype.{Reply, Asks, Dtd, subset}
@@ -22,7 +22,7 @@ use Rattle.rox_reading.specs.Answering.{left_with, Answered, Continues}
 use Rattle.rox_reading.proofs.Answering as turn
 use Rattle.rox_reading.proofs.Answering.{spaced, none_yet, continued}
 use Rattle.rox_reading.proofs.Forests.{join-nil, join_assoc}
-use Rattle.rox_theory.specs.Fine.{IsFine, state}
+use Rattle.rox_theory.specs.ValidState.{IsValidState, state}
 use Rattle.rox_theory.proofs.Basics.{within}
 use Rattle.rox_theory.proofs.NameLemmas.{run_stops}
 use Rattle.rox_theory.proofs.MarkupLemmas.{comment_complete, instruction_complete}
@@ -64,7 +64,7 @@ module _ (src : List ℕ) (utf8 : IsUtf8 src) where
   subset_le i k items asked es (no_more _) = omega arith
   subset_le i k items asked es (space _ _ _ _ _ is rest) = omega (arith, subset_le (i + 1) k items asked es rest)
   subset_le i k items asked es (an_item _ j _ item more _ _ is rest) = omega (arith, misc_moves src utf8 i j item is, subset_le j k more asked es rest)
-  subset_le i k items asked es (passed_over _ j _ _ _ _ is rest) = omega (arith, (passed_moves src utf8 i j is).0, subset_le j k items asked es rest)
+  subset_le i k items asked es (skipped_declaration _ j _ _ _ _ is rest) = omega (arith, (passed_moves src utf8 i j is).0, subset_le j k items asked es rest)
   subset_le i k items asked es (an_entity _ j _ _ first more one others is rest) = omega (arith, (entity_moves src utf8 i j first one is).1, subset_le j k items more others rest)
 
   module _ (limit start : ℕ) (stack : Open) (left : ℕ) where
@@ -97,7 +97,7 @@ module _ (src : List ℕ) (utf8 : IsUtf8 src) where
         subst (λ (k : ℕ). Answered (here_run (suc n) i done es) [] (here_at (spaces_end src (k + 1) + 1) done stack left es)) e r
 
     -- a comment or an instruction
-    item_read : (n i j : ℕ) (item : Item) (done : Forest Item) (es : List Entity) → IsMisc src i j item → IsFine limit (state j (join done (leaf item)) stack left)
+    item_read : (n i j : ℕ) (item : Item) (done : Forest Item) (es : List Entity) → IsMisc src i j item → IsValidState limit (state j (join done (leaf item)) stack left)
         → Continues (here_run (suc n) i done es) [] limit start n src (here_at j (join done (leaf item)) stack left es)
     unfolding comment_step instruction_step
     item_read n i j item done es (comment _ c _ is) fine =
@@ -175,7 +175,7 @@ module _ (src : List ℕ) (utf8 : IsUtf8 src) where
 
     -- the items and the end of the declaration
     pub subset_complete : (n i k : ℕ) (items done : Forest Item) (asked : List Asked) (more es : List Entity) → Subset src i k items asked more → byte src k ≡ 93 → byte src (spaces_end src (k + 1)) ≡ 62
-        → IsFine limit (state k (join done items) stack left) → length src ≤ i + n
+        → IsValidState limit (state k (join done items) stack left) → length src ≤ i + n
         → Answered (here_run n i done es) asked (here_at (spaces_end src (k + 1) + 1) (join done items) stack left (es ++ more))
     subset_complete zero i k items done asked more es rest bracket closes fine enough =
         let inside = within src k (λ z. omega arith) in
@@ -187,14 +187,14 @@ module _ (src : List ℕ) (utf8 : IsUtf8 src) where
         let next = subset_complete (suc n) (i + 1) k items done asked more es rest bracket closes fine (omega arith) in
         λ rs. space_step n i done es _ is (omega arith) ∙ next rs
     subset_complete (suc n) i k items done asked more es (an_item _ j _ item others _ _ is rest) bracket closes fine enough =
-        let all : IsFine limit (state k (join (join done (leaf item)) others) stack left) = subst (λ (f : Forest Item). IsFine limit (state k f stack left)) (sym (join_assoc done (leaf item) others)) fine in
+        let all : IsValidState limit (state k (join (join done (leaf item)) others) stack left) = subst (λ (f : Forest Item). IsValidState limit (state k f stack left)) (sym (join_assoc done (leaf item) others)) fine in
         let moves = misc_moves src utf8 i j item is in
         let one = item_read n i j item done es is (fine_before limit j k left left (join done (leaf item)) others stack all) in
         let next = subset_complete n j k others (join done (leaf item)) asked more es rest bracket closes all (omega (arith, enough, moves)) in
         let whole = continued (here_run (suc n) i done es) [] asked limit start n src (here_at j (join done (leaf item)) stack left es)
         (here_at (spaces_end src (k + 1) + 1) (join (join done (leaf item)) others) stack left (es ++ more)) one next in
         subst (λ (f : Forest Item). Answered (here_run (suc n) i done es) asked (here_at (spaces_end src (k + 1) + 1) f stack left (es ++ more))) (join_assoc done (leaf item) others) whole
-    subset_complete (suc n) i k items done asked more es (passed_over _ j _ _ _ _ is rest) bracket closes fine enough =
+    subset_complete (suc n) i k items done asked more es (skipped_declaration _ j _ _ _ _ is rest) bracket closes fine enough =
         let moves = (passed_moves src utf8 i j is).0 in
         let next = subset_complete n j k items done asked more es rest bracket closes fine (omega (arith, enough, moves)) in
         continued (here_run (suc n) i done es) [] asked limit start n src (here_at j done stack left es) (here_at (spaces_end src (k + 1) + 1) (join done items) stack left (es ++ more)) (passed_read n i j done es is) next

@@ -5,19 +5,19 @@ use Rattle.std.specs.Str.{IsUtf8}
 use Rattle.std.proofs.lemmas.Bool.{lt-leb, le-ltb, ltb-false}
 use Rattle.rox_grammar.specs.declared.fault.Fault.{Fault}
 use Rattle.rox_grammar.specs.declared.fault.Word.TheVariants as word
-use Rattle.rox_grammar.specs.Words.{word_text}
+use Rattle.rox_grammar.specs.FixedTexts.{word_text}
 use Rattle.rox_grammar.specs.Chars.{is_space}
-use Rattle.rox_grammar.specs.Written.{Name, Attribute, Declaration, Tag}
+use Rattle.rox_grammar.specs.Written.{Name, Attribute, NamespaceDecl, Tag}
 use Rattle.rox_grammar.specs.Tree.{listed}
 use Rattle.rox_grammar.specs.Names.{byte, spaces_end}
-use Rattle.rox_grammar.specs.Content.{Opener, IsAttribute, Attributes, no_more, one_more, TagEnds, IsTag}
+use Rattle.rox_grammar.specs.Content.{Inclusion, IsAttribute, Attributes, no_more, one_more, TagEnds, IsTag}
 use Rattle.rox_grammar.specs.Content as content
 use Rattle.rox_grammar.specs.WellNamed.{IsWellNamed, AreDistinct, may_name}
 use Rattle.rox_grammar.specs.Document.{listable, with_new, most_attributes, most_pairs}
 use Rattle.rox_reading.specs.Lexical.{qname_at}
-use Rattle.rox_reading.specs.Markup.{Turn, more, opened, closed, turn_at}
+use Rattle.rox_reading.specs.Markup.{TagItem, more, opened, closed, tag_item_at}
 use Rattle.rox_reading.specs.Values.{value_at}
-use Rattle.rox_reading.specs.Tags.{Values, Held, TagRest, TagRead, attribute_with, taken, after_turn, attributes_at, names_tested, tag_tested, tag_at}
+use Rattle.rox_reading.specs.Tags.{Values, TagSoFar, TagRest, TagRead, attribute_with, taken, after_tag_item, attributes_at, names_tested, tag_tested, tag_at}
 use Rattle.rox_reading.specs.Refusals.{Refusal}
 use Rattle.rox_theory.specs.Openers.{AgreesValue}
 use Rattle.rox_theory.proofs.Basics.{ok_same, bind_ok, bind_lifted, chosen, within, run_end_le}
@@ -37,7 +37,7 @@ ends_inside src i empty j (content.closed _ slash greater) =
     (omega arith, omega arith)
 
 -- a tag that passes the tests has distinct names, within the limit
-tested_sound : (scope : List Declaration) (count i : ℕ) (name : Name) (as' : List Attribute) (x : Unit {0}) → tag_tested scope count i name as' ≡ Ok x
+tested_sound : (scope : List NamespaceDecl) (count i : ℕ) (name : Name) (as' : List Attribute) (x : Unit {0}) → tag_tested scope count i name as' ≡ Ok x
     → (count + length as' ≤ most_attributes) × AreDistinct scope [] as' × (may_name scope name ≡ true)
 unfolding tag_tested
 tested_sound scope count i name as' x h =
@@ -46,7 +46,7 @@ tested_sound scope count i name as' x h =
     chosen (may_name scope name) _ _ _ h (λ may h. (ltb-false _ _ few, names_sound scope [] as' u names, may)) (λ unknown h. cc)))
 
 -- a tag with distinct names within the limit passes the tests
-tested_complete : (scope : List Declaration) (count i : ℕ) (name : Name) (as' : List Attribute) → count + length as' ≤ most_attributes → AreDistinct scope [] as' → may_name scope name ≡ true
+tested_complete : (scope : List NamespaceDecl) (count i : ℕ) (name : Name) (as' : List Attribute) → count + length as' ≤ most_attributes → AreDistinct scope [] as' → may_name scope name ≡ true
     → tag_tested scope count i name as' ≡ Ok tt
 unfolding tag_tested
 tested_complete scope count i name as' few distinct may =
@@ -55,25 +55,25 @@ tested_complete scope count i name as' few distinct may =
     rw (l, n, may) refl
 
 -- nothing yet
-abbrev pub none_yet : Held
+abbrev pub none_yet : TagSoFar
 none_yet = record { own = []; attributes = [] }
 
-module _ (how : Values) (O : Opener) (agrees : AgreesValue how.entities O how.opener) (src : List ℕ) (utf8 : IsUtf8 src) where
+module _ (how : Values) (O : Inclusion) (agrees : AgreesValue how.entities O how.opener) (src : List ℕ) (utf8 : IsUtf8 src) where
   -- a tag stands there, is well named, and is within the limits after so many attributes and these pairs
-  pub record TagStands (above : List Declaration) (count : ℕ) (known : List Declaration) (i j b : ℕ) (x : TagRead) : Type 0 where
+  pub record TagStands (above : List NamespaceDecl) (count : ℕ) (known : List NamespaceDecl) (i j b : ℕ) (x : TagRead) : Type 0 where
     pub is_tag : IsTag how.main O src i j b x.left x.empty x.tag
     pub well_named : IsWellNamed (listed above x.tag.declarations) x.tag
     pub attributes : count + length x.tag.attributes ≤ most_attributes
     pub pairs : length (with_new known (listable x.tag)) ≤ most_pairs
 
   -- the rest of a tag, from i on, where it holds these
-  abbrev pub RestStands : List Declaration → ℕ → ℕ → Held → TagRest × ℕ → Type 0
+  abbrev pub RestStands : List NamespaceDecl → ℕ → ℕ → TagSoFar → TagRest × ℕ → Type 0
   RestStands known i b h x =
       (written : List Attribute) × (last : ℕ) × Attributes how.main O src i last b x.0.left written × TagEnds src last x.0.empty x.1 × (all_taken known written h ≡ Ok x.0.held)
 
   -- a turn and the rest that are read stand there
-  after_sound : (known : List Declaration) (next : ℕ → ℕ → Held → Result (TagRest × ℕ) Refusal) → ((j l : ℕ) (held : Held) (x : TagRest × ℕ) → next j l held ≡ Ok x → RestStands known j l held x)
-      → (i b : ℕ) (h : Held) (t : Turn) (j : ℕ) (x : TagRest × ℕ) → TurnStands src i t j → after_turn next how known src b h t j ≡ Ok x → RestStands known i b h x
+  after_sound : (known : List NamespaceDecl) (next : ℕ → ℕ → TagSoFar → Result (TagRest × ℕ) Refusal) → ((j l : ℕ) (held : TagSoFar) (x : TagRest × ℕ) → next j l held ≡ Ok x → RestStands known j l held x)
+      → (i b : ℕ) (h : TagSoFar) (t : TagItem) (j : ℕ) (x : TagRest × ℕ) → TurnStands src i t j → after_tag_item next how known src b h t j ≡ Ok x → RestStands known i b h x
   after_sound known next rest i b h (more raw) j x stands is =
       bind_ok (value_at how.main how.entities how.opener src raw.value_start raw.value_end b) _ _ is (λ v read is.
       bind_lifted (taken known (attribute_with raw v.0) h) _ _ is (λ held first is.
@@ -90,11 +90,11 @@ module _ (how : Values) (O : Opener) (agrees : AgreesValue how.entities O how.op
       subst (λ (y : TagRest × ℕ). RestStands known i b h y) (ok_same _ _ is) ([], i, no_more i b, stands, refl)
 
   -- the rest of a tag that is read stands there
-  pub rest_sound : (n : ℕ) (cut : Fault) (known : List Declaration) (i b : ℕ) (h : Held) (x : TagRest × ℕ) → attributes_at n how cut known src i b h ≡ Ok x → RestStands known i b h x
+  pub rest_sound : (n : ℕ) (cut : Fault) (known : List NamespaceDecl) (i b : ℕ) (h : TagSoFar) (x : TagRest × ℕ) → attributes_at n how cut known src i b h ≡ Ok x → RestStands known i b h x
   unfolding attributes_at
   rest_sound zero cut known i b h x is = cc is
   rest_sound (suc n) cut known i b h x is =
-      chosen (leb (length src) i) _ _ _ is (λ out is. cc) (λ inside is. bind_lifted (turn_at src i) _ _ is (λ t turn is.
+      chosen (leb (length src) i) _ _ _ is (λ out is. cc) (λ inside is. bind_lifted (tag_item_at src i) _ _ is (λ t turn is.
       after_sound known (λ j l held. attributes_at n how cut known src j l held) (λ j l held y. rest_sound n cut known j l held y) i b h t.0 t.1 x (turn_sound src utf8 i t turn) is))
 
   -- attributes go forwards
@@ -106,7 +106,7 @@ module _ (how : Values) (O : Opener) (agrees : AgreesValue how.entities O how.op
       omega arith
 
   -- the rest of a tag that stands there is read
-  rest_complete : (n : ℕ) (cut : Fault) (known : List Declaration) (i last b c : ℕ) (written : List Attribute) (empty : Bool) (j : ℕ) (h held : Held)
+  rest_complete : (n : ℕ) (cut : Fault) (known : List NamespaceDecl) (i last b c : ℕ) (written : List Attribute) (empty : Bool) (j : ℕ) (h held : TagSoFar)
       → length src ≤ i + n → Attributes how.main O src i last b c written → TagEnds src last empty j → all_taken known written h ≡ Ok held
       → attributes_at n how cut known src i b h ≡ Ok (record { held = held; empty = empty; left = c }, j)
   unfolding attributes_at
@@ -118,11 +118,11 @@ module _ (how : Values) (O : Opener) (agrees : AgreesValue how.entities O how.op
   rest_complete (suc n) cut known i last b c written true j h held enough (no_more _ _) ends is =
       let inside = lt-leb (length src) i (ends_inside src i true j ends).0 in
       let t = end_complete src i true j ends in
-      rw (inside, t) (ap (λ (k : Held). Ok (record { held = k; empty = true; left = b }, j)) (ok_same _ _ is))
+      rw (inside, t) (ap (λ (k : TagSoFar). Ok (record { held = k; empty = true; left = b }, j)) (ok_same _ _ is))
   rest_complete (suc n) cut known i last b c written false j h held enough (no_more _ _) ends is =
       let inside = lt-leb (length src) i (ends_inside src i false j ends).0 in
       let t = end_complete src i false j ends in
-      rw (inside, t) (ap (λ (k : Held). Ok (record { held = k; empty = false; left = b }, j)) (ok_same _ _ is))
+      rw (inside, t) (ap (λ (k : TagSoFar). Ok (record { held = k; empty = false; left = b }, j)) (ok_same _ _ is))
   rest_complete (suc n) cut known i last b c written empty j h held enough (one_more _ k _ _ d _ a rest some first p) ends is =
       let one = attribute_le how O agrees src utf8 (spaces_end src i) k b d a first in
       let further = attributes_le k last d c rest p in
@@ -138,7 +138,7 @@ module _ (how : Values) (O : Opener) (agrees : AgreesValue how.entities O how.op
       rw (inside, t, value, taken') ih)
 
   -- a tag that is read stands there, well named and within the limits
-  pub tag_sound : (cut : Fault) (above : List Declaration) (count : ℕ) (known : List Declaration) (i j b : ℕ) (x : TagRead) → byte src i ≡ 60
+  pub tag_sound : (cut : Fault) (above : List NamespaceDecl) (count : ℕ) (known : List NamespaceDecl) (i j b : ℕ) (x : TagRead) → byte src i ≡ 60
       → length known ≤ most_pairs → tag_at how cut above count known src i b ≡ Ok (x, j) → TagStands above count known i j b x × (i < j)
   unfolding tag_at
   tag_sound cut above count known i j b y begins few h =
@@ -157,7 +157,7 @@ module _ (how : Values) (O : Opener) (agrees : AgreesValue how.entities O how.op
       let ends_le = ends_inside src r.1 x.0.empty x.1 r.3 in
       subst (λ (z : TagRead × ℕ). TagStands above count known i z.1 b z.0 × (i < z.1)) (ok_same _ _ h) (
         record {
-          is_tag = record { begins = begins; is_name = name; written = r.0; last = r.1; attributes = r.2; ends = r.3; declares = all.own; has = all.attributes };
+          is_tag = record { begins = begins; is_name = name; written = r.0; last = r.1; attributes = r.2; ends = r.3; is_namespace_decl = all.own; has = all.attributes };
           well_named = record { no_xmlns = free; declarations = declarable; attributes = fine.1; element = fine.2 };
           attributes = fine.0;
           pairs = pairs;
@@ -166,14 +166,14 @@ module _ (how : Values) (O : Opener) (agrees : AgreesValue how.entities O how.op
       )))))
 
   -- a tag that stands there, well named and within the limits, is read
-  pub tag_complete : (cut : Fault) (above : List Declaration) (count : ℕ) (known : List Declaration) (i j b c : ℕ) (t : Tag) (empty : Bool)
+  pub tag_complete : (cut : Fault) (above : List NamespaceDecl) (count : ℕ) (known : List NamespaceDecl) (i j b c : ℕ) (t : Tag) (empty : Bool)
       → IsTag how.main O src i j b c empty t → IsWellNamed (listed above t.declarations) t → count + length t.attributes ≤ most_attributes
       → length (with_new known (listable t)) ≤ most_pairs → tag_at how cut above count known src i b ≡ Ok (record { tag = t; empty = empty; left = c }, j)
   unfolding tag_at
   tag_complete cut above count known i j b c t empty tag well few pairs =
       let name = qname_complete src (i + 1) t.name t.name_end tag.is_name in
       let free = well.no_xmlns in
-      let own = tag.declares in
+      let own = tag.is_namespace_decl in
       let has = tag.has in
       let all = taken_complete known tag.written none_yet (rw own at well.declarations) (rw own at pairs) in
       let all' : all_taken known tag.written none_yet ≡ Ok (record { own = t.declarations; attributes = t.attributes }) = rw (← own, ← has) at all in

@@ -1,11 +1,11 @@
 -- At most one start tag stands at a place, whatever the limits are, where as many texts may be opened.
 use Rattle.std.proofs.Common.{◌≡◌, ℕ, ◌+◌, ◌<◌, Bool, true, false, cond, List, Ok, refl, sym, ap, ◌∙◌, subst}
 use Rattle.std.specs.Str.{IsUtf8}
-use Rattle.rox_grammar.specs.Written.{Name, Attribute, Tag, declarations_of, attributes_of}
+use Rattle.rox_grammar.specs.Written.{Name, Attribute, Tag, namespace_decls_of, plain_attributes_of}
 use Rattle.rox_grammar.specs.Names.{spaces_end}
-use Rattle.rox_grammar.specs.Content.{Opener, IsAttribute, Attributes, no_more, one_more, TagEnds, IsTag}
-use Rattle.rox_reading.specs.Markup.{RawAttribute, Turn, more, opened, closed, turn_at}
-use Rattle.rox_reading.specs.Values.{RunText, value_at}
+use Rattle.rox_grammar.specs.Content.{Inclusion, IsAttribute, Attributes, no_more, one_more, TagEnds, IsTag}
+use Rattle.rox_reading.specs.Markup.{RawAttribute, TagItem, more, opened, closed, tag_item_at}
+use Rattle.rox_reading.specs.Values.{ReadText, value_at}
 use Rattle.rox_reading.specs.Tags.{Values, attribute_with}
 use Rattle.rox_reading.specs.Lexical.{qname_at}
 use Rattle.rox_theory.specs.Openers.{AgreesValue}
@@ -19,14 +19,14 @@ apart raw true e = cc
 apart raw false e = cc
 
 -- the end of a tag says whether it is empty
-same_end : (x y : Bool) → ◌≡◌ {A = Turn} (cond x closed opened) (cond y closed opened) → x ≡ y
+same_end : (x y : Bool) → ◌≡◌ {A = TagItem} (cond x closed opened) (cond y closed opened) → x ≡ y
 same_end true true e = refl
 same_end true false e = cc
 same_end false true e = cc
 same_end false false e = refl
 
 -- the attribute of a turn, or another
-raw_of : RawAttribute → Turn → RawAttribute
+raw_of : RawAttribute → TagItem → RawAttribute
 raw_of raw (more r) = r
 raw_of raw opened = raw
 raw_of raw closed = raw
@@ -36,13 +36,13 @@ pub same_more : (r s : RawAttribute) → more r ≡ more s → r ≡ s
 unfolding raw_of
 same_more r s e = ap (raw_of r) e
 
-module _ (how : Values) (O : Opener) (agrees : AgreesValue how.entities O how.opener) (src : List ℕ) (utf8 : IsUtf8 src) where
+module _ (how : Values) (O : Inclusion) (agrees : AgreesValue how.entities O how.opener) (src : List ℕ) (utf8 : IsUtf8 src) where
   abbrev pub Reads : ℕ → ℕ → ℕ → ℕ → Attribute → Type 0
   Reads i j b c a = AttributeReads how O agrees src utf8 i j b c a
 
   -- a turn of a tag that is an attribute
   pub turn_is : (i j b c : ℕ) (a : Attribute) → IsAttribute how.main O src (spaces_end src i) j b c a → (spaces : i < spaces_end src i)
-      → (r : Reads (spaces_end src i) j b c a) × (turn_at src i ≡ Ok (more r.0, j))
+      → (r : Reads (spaces_end src i) j b c a) × (tag_item_at src i ≡ Ok (more r.0, j))
   turn_is i j b c a is spaces =
       let r = attribute_complete how O agrees src utf8 (spaces_end src i) j b c a is in
       (r, more_complete src i j r.0 spaces r.2)
@@ -53,30 +53,30 @@ module _ (how : Values) (O : Opener) (agrees : AgreesValue how.entities O how.op
       let read : value_at how.main how.entities how.opener src r.0.value_start r.0.value_end b ≡ Ok (s.1, d) =
       subst (λ (raw : RawAttribute). value_at how.main how.entities how.opener src raw.value_start raw.value_end b ≡ Ok (s.1, d)) (sym same) s.3 in
       let value = ok_one (r.1, c) (s.1, d) (value_at how.main how.entities how.opener src r.0.value_start r.0.value_end b) r.3 read in (
-        r.4 ∙ ap (λ (raw : RawAttribute). attribute_with raw r.1) same ∙ ap (λ (x : RunText × ℕ). attribute_with s.0 x.0) value ∙ sym s.4,
-        ap (λ (x : RunText × ℕ). x.1) value,
+        r.4 ∙ ap (λ (raw : RawAttribute). attribute_with raw r.1) same ∙ ap (λ (x : ReadText × ℕ). attribute_with s.0 x.0) value ∙ sym s.4,
+        ap (λ (x : ReadText × ℕ). x.1) value,
       )
 
   -- the attributes, and the end of their tag
   one_list : (i l m j k b c d : ℕ) (as' bs : List Attribute) (x y : Bool) → Attributes how.main O src i l b c as' → Attributes how.main O src i m b d bs → TagEnds src l x j → TagEnds src m y k
       → (as' ≡ bs) × (j ≡ k) × (x ≡ y) × (c ≡ d)
   one_list i l m j k b c d as' bs x y (no_more _ _) (no_more _ _) end end' =
-      let same = ok_one (cond x closed opened, j) (cond y closed opened, k) (turn_at src i) (end_complete src i x j end) (end_complete src i y k end') in
-      (refl, ap (λ (p : Turn × ℕ). p.1) same, same_end x y (ap (λ (p : Turn × ℕ). p.0) same), refl)
+      let same = ok_one (cond x closed opened, j) (cond y closed opened, k) (tag_item_at src i) (end_complete src i x j end) (end_complete src i y k end') in
+      (refl, ap (λ (p : TagItem × ℕ). p.1) same, same_end x y (ap (λ (p : TagItem × ℕ). p.0) same), refl)
   one_list i l m j k b c d as' bs x y (no_more _ _) (one_more _ n _ _ f _ a rest spaces is others) end end' =
       let turn = turn_is i n b f a is spaces in
-      let same = ok_one (more turn.0.0, n) (cond x closed opened, j) (turn_at src i) turn.1 (end_complete src i x j end) in
-      absurd (apart turn.0.0 x (ap (λ (p : Turn × ℕ). p.0) same))
+      let same = ok_one (more turn.0.0, n) (cond x closed opened, j) (tag_item_at src i) turn.1 (end_complete src i x j end) in
+      absurd (apart turn.0.0 x (ap (λ (p : TagItem × ℕ). p.0) same))
   one_list i l m j k b c d as' bs x y (one_more _ n _ _ f _ a rest spaces is others) (no_more _ _) end end' =
       let turn = turn_is i n b f a is spaces in
-      let same = ok_one (more turn.0.0, n) (cond y closed opened, k) (turn_at src i) turn.1 (end_complete src i y k end') in
-      absurd (apart turn.0.0 y (ap (λ (p : Turn × ℕ). p.0) same))
+      let same = ok_one (more turn.0.0, n) (cond y closed opened, k) (tag_item_at src i) turn.1 (end_complete src i y k end') in
+      absurd (apart turn.0.0 y (ap (λ (p : TagItem × ℕ). p.0) same))
   one_list i l m j k b c d as' bs x y (one_more _ n _ _ f _ a rest spaces is others) (one_more _ o _ _ g _ a' rest' spaces' is' others') end end' =
       let turn = turn_is i n b f a is spaces in
       let turn' = turn_is i o b g a' is' spaces' in
-      let same = ok_one (more turn.0.0, n) (more turn'.0.0, o) (turn_at src i) turn.1 turn'.1 in
-      let one = one_attribute n o (spaces_end src i) b f g a a' turn.0 turn'.0 (same_more turn.0.0 turn'.0.0 (ap (λ (p : Turn × ℕ). p.0) same)) in
-      let at : o ≡ n = sym (ap (λ (p : Turn × ℕ). p.1) same) in
+      let same = ok_one (more turn.0.0, n) (more turn'.0.0, o) (tag_item_at src i) turn.1 turn'.1 in
+      let one = one_attribute n o (spaces_end src i) b f g a a' turn.0 turn'.0 (same_more turn.0.0 turn'.0.0 (ap (λ (p : TagItem × ℕ). p.0) same)) in
+      let at : o ≡ n = sym (ap (λ (p : TagItem × ℕ). p.1) same) in
       let others'' : Attributes how.main O src n m f d rest' = subst (λ (p : ℕ). Attributes how.main O src p m f d rest') at (subst (λ (f : ℕ). Attributes how.main O src o m f d rest') (sym one.1) others') in
       let next = one_list n l m j k f c d rest rest' x y others others'' end end' in
       (rw (one.0, next.0) refl, next.1, next.2, next.3)
@@ -88,8 +88,8 @@ module _ (how : Values) (O : Opener) (agrees : AgreesValue how.entities O how.op
       let name : s.name ≡ t.name = ap (λ (n : Name × ℕ). n.0) named in
       let at : s.name_end ≡ t.name_end = ap (λ (n : Name × ℕ). n.1) named in
       let list = one_list t.name_end p.last q.last j k b c d p.written q.written x y (subst (λ (n : ℕ). Attributes how.main O src n p.last b c p.written) at p.attributes) q.attributes p.ends q.ends in
-      let declarations : s.declarations ≡ t.declarations = p.declares ∙ ap declarations_of list.0 ∙ sym q.declares in
-      let attributes : s.attributes ≡ t.attributes = p.has ∙ ap attributes_of list.0 ∙ sym q.has in
+      let declarations : s.declarations ≡ t.declarations = p.is_namespace_decl ∙ ap namespace_decls_of list.0 ∙ sym q.is_namespace_decl in
+      let attributes : s.attributes ≡ t.attributes = p.has ∙ ap plain_attributes_of list.0 ∙ sym q.has in
       (list.1, list.3, list.2, rw (name, at, declarations, attributes) refl)
 
   pub one_tag : (i j k b c d : ℕ) (s t : Tag) (x y : Bool) → IsTag how.main O src i j b c x s → IsTag how.main O src i k b d y t → (j ≡ k) × (s ≡ t) × (x ≡ y)

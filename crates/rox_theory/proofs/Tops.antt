@@ -2,9 +2,9 @@
 use Rattle.std.proofs.Common.{◌≡◌, ℕ, ◌+◌, Bool, true, false, List, length, refl, sym, ap, ◌∙◌}
 use Rattle.rox_grammar.specs.Forest.{Forest, Nil, Cons, join}
 use Rattle.rox_grammar.specs.Written.{Item, Element, Text, Comment, PI, merge}
-use Rattle.rox_grammar.specs.Content.{Opener, IsMisc, comment, instruction, IsElement, empty, nest}
-use Rattle.rox_grammar.specs.Entities.{Entity, opens_main}
-use Rattle.rox_grammar.specs.Doctype.{Asked, Subset, IsDoctype, no_subset, with_subset, no_more, passed_over, an_entity}
+use Rattle.rox_grammar.specs.Content.{Inclusion, IsMisc, comment, instruction, IsElement, empty, nest}
+use Rattle.rox_grammar.specs.Entities.{Entity, included_in_main}
+use Rattle.rox_grammar.specs.Doctype.{Asked, Subset, IsDoctype, no_subset, with_subset, no_more, skipped_declaration, an_entity}
 use Rattle.rox_grammar.specs.Doctype as dtd
 use Rattle.rox_grammar.specs.Document.{Misc, no_misc, space, an_item, MayHaveDoctype, doctype, no_doctype, ParseOf}
 use Rattle.rox_reading.proofs.Forests.{is_text}
@@ -31,7 +31,7 @@ subset_no_text : (src : List ℕ) (i j : ℕ) (items : Forest Item) (asked : Lis
 subset_no_text src i j items asked es (no_more _) = tt
 subset_no_text src i j items asked es (dtd.space _ _ _ _ _ s m) = subset_no_text src (i + 1) j items asked es m
 subset_no_text src i j items asked es (dtd.an_item _ k _ item more _ _ one m) = (misc_no_text src i k item one, subset_no_text src k j more asked es m)
-subset_no_text src i j items asked es (passed_over _ k _ _ _ _ one m) = subset_no_text src k j items asked es m
+subset_no_text src i j items asked es (skipped_declaration _ k _ _ _ _ one m) = subset_no_text src k j items asked es m
 subset_no_text src i j items asked es (an_entity _ k _ _ first later one others is m) = subset_no_text src k j items later others m
 
 doctype_itself_no_text : (src : List ℕ) (i j : ℕ) (items : Forest Item) (asked : List Asked) (es : List Entity) → IsDoctype src i j items asked es → HasNoText items
@@ -43,7 +43,7 @@ doctype_no_text src i j is items asked es (doctype _ k _ own more _ _ one after)
     no_text-join own more (doctype_itself_no_text src i k own asked es one) (all_misc_no_text src k j more after)
 doctype_no_text src i j is items asked es (no_doctype _) = tt
 
-pub element_no_text : (main : Bool) (O : Opener) (src : List ℕ) (i j b c : ℕ) (one : Forest Item) → IsElement main O src i j b c one → HasNoText one
+pub element_no_text : (main : Bool) (O : Inclusion) (src : List ℕ) (i j b c : ℕ) (one : Forest Item) → IsElement main O src i j b c one → HasNoText one
 element_no_text main O src i j b c one (empty _ _ _ _ t tag) = (refl, tt)
 element_no_text main O src i j b c one (nest _ k m p _ _ d _ t kids tag inner end) = (refl, tt)
 
@@ -55,17 +55,17 @@ no_text_merge (Cons (Comment x y t) c r) (a, h) = ap (Cons (Comment x y t) c) (n
 no_text_merge (Cons (PI x y t o) c r) (a, h) = ap (Cons (PI x y t o) c) (no_text_merge r h)
 
 -- nor of what stands at the top
-pub tops_merged : (main : Bool) (O : Opener) (src : List ℕ) (h i j k l b c : ℕ) (is : Bool) (before nodes one after : Forest Item) (asked : List Asked) (es : List Entity) → Misc src h i before
+pub tops_merged : (main : Bool) (O : Inclusion) (src : List ℕ) (h i j k l b c : ℕ) (is : Bool) (before nodes one after : Forest Item) (asked : List Asked) (es : List Entity) → Misc src h i before
     → MayHaveDoctype src i j is nodes asked es → IsElement main O src j k b c one → Misc src k l after → merge (join before (join nodes (join one after))) ≡ join before (join nodes (join one after))
-tops_merged main O src h i j k l b c is before nodes one after asked es first declares element last =
+tops_merged main O src h i j k l b c is before nodes one after asked es first is_namespace_decl element last =
     no_text_merge _
     (no_text-join before (join nodes (join one after)) (all_misc_no_text src h i before first)
-    (no_text-join nodes (join one after) (doctype_no_text src i j is nodes asked es declares)
+    (no_text-join nodes (join one after) (doctype_no_text src i j is nodes asked es is_namespace_decl)
     (no_text-join one after (element_no_text main O src j k b c one element) (all_misc_no_text src k l after last))))
 
 -- merging changes nothing of a parse
 pub parse_merged : (src : List ℕ) (is : Bool) (asked : List Asked) (t : Forest Item) → ParseOf src is asked t → merge t ≡ t
 parse_merged src is asked t p =
     ap merge p.is_tree
-    ∙ tops_merged true (opens_main p.entities) src p.declared_to p.begun p.start p.end (length src) 255 p.left is p.before p.nodes p.one p.after asked p.entities p.misc_before p.doctype p.element p.misc_after
+    ∙ tops_merged true (included_in_main p.entities) src p.declared_to p.begun p.start p.end (length src) 255 p.left is p.before p.nodes p.one p.after asked p.entities p.misc_before p.doctype p.element p.misc_after
     ∙ sym p.is_tree

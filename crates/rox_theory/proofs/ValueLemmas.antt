@@ -11,11 +11,11 @@ use Rattle.rox_grammar.specs.Chars.{is_char}
 use Rattle.rox_grammar.specs.Names.{byte, slice}
 use Rattle.rox_grammar.specs.Constructs.{AreChars}
 use Rattle.rox_grammar.specs.References.{IsReference, IsCharacter, predefined}
-use Rattle.rox_grammar.specs.Content.{Opener, is_plain_value, value_bytes, Value, value_ends, line_end, white, other, a_character, an_entity}
+use Rattle.rox_grammar.specs.Content.{Inclusion, is_verbatim_value, value_bytes, Value, value_ends, line_end, white, other, a_character, an_entity}
 use Rattle.rox_grammar.specs.Entities.{Replacement, Entity, text_of}
 use Rattle.rox_reading.specs.Lexical.{chars_up_to}
 use Rattle.rox_reading.specs.Refusals.{Refusal}
-use Rattle.rox_reading.specs.Values.{Reference, character_of, entity_at, reference_at, Bit, bytes_of, opens, found, expanded, RunText, is_special, tested_bit, value_reference_at, stretch_at, value_bit_at, ValueOpener, after_value_bit, value_text, value_at}
+use Rattle.rox_reading.specs.Values.{Reference, character_of, entity_at, reference_at, Bit, bytes_of, opens, entity_bit, reference_bit, ReadText, is_special, tested_bit, value_reference_at, stretch_at, value_bit_at, ValueInclusion, after_value_bit, value_text, value_at}
 use Rattle.rox_theory.specs.Openers.{IsStop, AgreesValue}
 use Rattle.rox_theory.proofs.Basics.{ok_same, bind_ok, bind_lifted, chosen, chars_sound, chars_complete}
 use Rattle.rox_theory.proofs.NameLemmas.{slice_nil}
@@ -72,7 +72,7 @@ white_ascii src stop i (inr (inl lf)) = (omega arith, rw lf refl)
 white_ascii src stop i (inr (inr (cr, more))) = (omega arith, rw cr refl)
 
 -- a text that is found
-pub found_ok : (o : Option Replacement) (i : ℕ) (span : Span) (bit : Bit) → found o i span ≡ Ok bit → (t : Replacement) × (o ≡ Some t) × (opens t ≡ bit)
+pub found_ok : (o : Option Replacement) (i : ℕ) (span : Span) (bit : Bit) → entity_bit o i span ≡ Ok bit → (t : Replacement) × (o ≡ Some t) × (opens t ≡ bit)
 found_ok None i span bit h = cc h
 found_ok (Some t) i span bit h = (t, refl, ok_same _ _ h)
 
@@ -140,7 +140,7 @@ module _ (es : List Entity) (src : List ℕ) (utf8 : IsUtf8 src) (stop : ℕ) (l
   -- ---- a bit that is read stands there
 
   -- a reference
-  tested_sound : (main : Bool) (i : ℕ) (r : Reference) (j : ℕ) (bit : Bit) → i < stop → IsRead src i r j → tested_bit main i r (expanded es src i r) ≡ Ok bit → ValueBit main es src stop i bit j
+  tested_sound : (main : Bool) (i : ℕ) (r : Reference) (j : ℕ) (bit : Bit) → i < stop → IsRead src i r j → tested_bit main i r (reference_bit es src i r) ≡ Ok bit → ValueBit main es src stop i bit j
   tested_sound true i r j bit below (is_character c _ stands) h =
       subst (λ (x : Bit). ValueBit true es src stop i x j) (ok_same _ _ h) (bit_character i c j stands (character_inside src i stop c j utf8 below long closes stands) (inl refl))
   tested_sound false i r j bit below (is_character c _ stands) h = chosen (eqb c 60) _ _ _ h
@@ -156,7 +156,7 @@ module _ (es : List Entity) (src : List ℕ) (utf8 : IsUtf8 src) (stop : ℕ) (l
   value_reference_sound : (main : Bool) (i : ℕ) (x : Bit × ℕ) → i < stop → byte src i ≡ 38 → value_reference_at main es src i ≡ Ok x → ValueBit main es src stop i x.0 x.1
   unfolding value_reference_at
   value_reference_sound main i x below amp h =
-      bind_ok (reference_at src i) _ _ h (λ r read h. bind_ok (tested_bit main i r.0 (expanded es src i r.0)) _ _ h (λ bit tested h.
+      bind_ok (reference_at src i) _ _ h (λ r read h. bind_ok (tested_bit main i r.0 (reference_bit es src i r.0)) _ _ h (λ bit tested h.
       subst (λ (y : Bit × ℕ). ValueBit main es src stop i y.0 y.1) (ok_same _ _ h) (tested_sound main i r.0 r.1 bit below (reference_sound src i r amp read) tested)))
 
   -- a stretch
@@ -235,7 +235,7 @@ module _ (es : List Entity) (src : List ℕ) (utf8 : IsUtf8 src) (stop : ℕ) (l
       rw (t, cr) refl
 
   -- a character is let through
-  tested_character : (main : Bool) (i x : ℕ) → (main ≡ true) ⊎ (x ≢ 60) → tested_bit main i (character_of x) (expanded es src i (character_of x)) ≡ Ok (bytes_of (value_bytes main x))
+  tested_character : (main : Bool) (i x : ℕ) → (main ≡ true) ⊎ (x ≢ 60) → tested_bit main i (character_of x) (reference_bit es src i (character_of x)) ≡ Ok (bytes_of (value_bytes main x))
   tested_character true i x any = refl
   tested_character false i x (inl is) = absurd (false≢true is)
   tested_character false i x (inr apart) = rw (ne_eqb x 60 apart) refl
@@ -251,7 +251,7 @@ module _ (es : List Entity) (src : List ℕ) (utf8 : IsUtf8 src) (stop : ℕ) (l
 
   -- an entity is let through
   tested_entity : (main : Bool) (i n : ℕ) (t : Replacement) → text_of es (slice src (i + 1) n) ≡ Some t
-      → tested_bit main i (entity_at (record { start = i + 1; end = n })) (expanded es src i (entity_at (record { start = i + 1; end = n }))) ≡ Ok (opens t)
+      → tested_bit main i (entity_at (record { start = i + 1; end = n })) (reference_bit es src i (entity_at (record { start = i + 1; end = n }))) ≡ Ok (opens t)
   tested_entity true i n t is = rw is refl
   tested_entity false i n t is = rw is refl
 
@@ -301,7 +301,7 @@ module _ (es : List Entity) (src : List ℕ) (utf8 : IsUtf8 src) (stop : ℕ) (l
 
   -- ---- values
 
-  module _ (main : Bool) (O : Opener) (opener : ValueOpener) (agrees : AgreesValue es O opener) where
+  module _ (main : Bool) (O : Inclusion) (opener : ValueInclusion) (agrees : AgreesValue es O opener) where
     -- the value from i up to the stop
     abbrev ValueFrom : ℕ → ℕ → ℕ → List ℕ → Type 0
     ValueFrom i b c v = Value main O src stop i b c v
@@ -488,24 +488,24 @@ module _ (es : List Entity) (src : List ℕ) (utf8 : IsUtf8 src) (stop : ℕ) (l
     nothing_left i b c v past (an_entity _ n k _ e _ w rest r none inside opened p) = absurd (omega (arith, reference_opens src i n k r))
 
     -- the value of an attribute that is read stands there
-    pub value_sound : (i b c : ℕ) (x : RunText) → i ≤ stop → ((k : ℕ) → i ≤ k → k < stop → byte src k ≢ 60) → value_at main es opener src i stop b ≡ Ok (x, c)
-        → ValueFrom i b c x.value × (x.plain ≡ is_plain_value (slice src i stop))
+    pub value_sound : (i b c : ℕ) (x : ReadText) → i ≤ stop → ((k : ℕ) → i ≤ k → k < stop → byte src k ≢ 60) → value_at main es opener src i stop b ≡ Ok (x, c)
+        → ValueFrom i b c x.value × (x.plain ≡ is_verbatim_value (slice src i stop))
     unfolding value_at
-    value_sound i b c x to no_tag h = chosen (is_plain_value (slice src i stop)) _ _ _ h
+    value_sound i b c x to no_tag h = chosen (is_verbatim_value (slice src i stop)) _ _ _ h
         (λ plain h.
         let s = stretch_on (stop - i) i stop b b [] (omega arith) (omega arith) (λ k from below. (stays (byte src k) (slice_none is_special src i stop k long (not-true _ plain) from below), no_tag k from below)) (value_ends b) in
         let s' : ValueFrom i b b (slice src i stop) = subst (λ (w : List ℕ). ValueFrom i b b w) (append-nil (slice src i stop)) s in
-        subst (λ (y : RunText × ℕ). ValueFrom i b y.1 y.0.value × (y.0.plain ≡ is_plain_value (slice src i stop))) (ok_same _ _ h) (s', sym plain))
+        subst (λ (y : ReadText × ℕ). ValueFrom i b y.1 y.0.value × (y.0.plain ≡ is_verbatim_value (slice src i stop))) (ok_same _ _ h) (s', sym plain))
         (λ marked h. bind_ok (value_text main es opener (stop - i) src stop i b) _ _ h (λ v read h.
         let s = value_text_sound (stop - i) i b v.1 v.0 to (omega arith) (λ is. no_tag) read in
-        subst (λ (y : RunText × ℕ). ValueFrom i b y.1 y.0.value × (y.0.plain ≡ is_plain_value (slice src i stop))) (ok_same _ _ h) (s, sym marked)))
+        subst (λ (y : ReadText × ℕ). ValueFrom i b y.1 y.0.value × (y.0.plain ≡ is_verbatim_value (slice src i stop))) (ok_same _ _ h) (s, sym marked)))
 
     -- the value of an attribute that stands there is read
     pub value_complete : (i b c : ℕ) (v : List ℕ) → i ≤ stop → IsCharBoundary src i → (main ≡ false → AreChars src i stop) → ValueFrom i b c v
-        → value_at main es opener src i stop b ≡ Ok (record { value = v; plain = is_plain_value (slice src i stop) }, c)
+        → value_at main es opener src i stop b ≡ Ok (record { value = v; plain = is_verbatim_value (slice src i stop) }, c)
     unfolding value_at
     value_complete i b c v to cut are p =
-        elim (cases_Bool (is_plain_value (slice src i stop))) as (λ s. value_at main es opener src i stop b ≡ Ok (record { value = v; plain = is_plain_value (slice src i stop) }, c)) [
+        elim (cases_Bool (is_verbatim_value (slice src i stop))) as (λ s. value_at main es opener src i stop b ≡ Ok (record { value = v; plain = is_verbatim_value (slice src i stop) }, c)) [
           | inl plain ↦ (
               let o = stretch_off (stop - i) i stop b c v (omega arith) (omega arith) (λ k from below. stays (byte src k) (slice_none is_special src i stop k long (not-true _ plain) from below)) p in
               let z = nothing_left stop b c o.0 (omega arith) o.1 in

@@ -8,26 +8,26 @@ use Rattle.rox_grammar.specs.declared.fault.Fault.{Fault}
 use Rattle.rox_grammar.specs.Spans.{IsTextSpan, NamesText}
 use Rattle.rox_grammar.specs.Chars.{is_name_start, is_name_char, is_char}
 use Rattle.rox_grammar.specs.Runs.{run_end, begins}
-use Rattle.rox_grammar.specs.Marks.{byte_from}
+use Rattle.rox_grammar.specs.Search.{byte_from}
 use Rattle.rox_grammar.specs.Names.{byte, slice}
 use Rattle.rox_grammar.specs.References.{is_digit, is_hex_digit, number, bytes_end, character, predefined}
-use Rattle.rox_grammar.specs.Content.{is_plain_value}
+use Rattle.rox_grammar.specs.Content.{is_verbatim_value}
 use Rattle.rox_grammar.specs.Entities.{Replacement, Entity, text_of}
 use Rattle.rox_reading.specs.Lexical.{◌>>=◌, chars_up_to}
 use Rattle.rox_reading.specs.Refusals.{Refusal, here, there, refused, lifted, elsewhere}
-use Rattle.rox_reading.specs.Values.{Reference, character_of, entity_at, number_at, named_or, name_reference_at, reference_at, Bit, bytes_of, opens as a_text, found, expanded, expansion_at, run_bit_at, Next, at_end, opening, after_bit, run_part, RunText, is_special, tested_bit, value_reference_at, stretch_at, value_bit_at, ValueOpener, after_value_bit, value_text, value_at}
+use Rattle.rox_reading.specs.Values.{Reference, character_of, entity_at, number_at, named_or, name_reference_at, reference_at, Bit, bytes_of, opens as a_text, entity_bit, reference_bit, expansion_at, data_bit_at, Next, at_end, opening, after_bit, data_part, ReadText, is_special, tested_bit, value_reference_at, stretch_at, value_bit_at, ValueInclusion, after_value_bit, value_text, value_at}
 use Rattle.rox_reading.specs.Machine.{budget, value_opener}
 use Rattle.rox_theory.specs.Openers.{AreTexts}
 use Rattle.rox_theory.proofs.Basics.{run_end_le}
 use Rattle.rox_theory.proofs.NameSpans.{run_cut, cut_behind}
 
 -- what a result gives has a property, or the names of its fault are texts of the source
-abbrev pub Holds : {A : Type 0} → List ℕ → (A → Type 0) → Result A Fault → Type 0
-Holds src P (Ok x) = P x
-Holds src P (Err f) = NamesText src f
+abbrev pub SpanIs : {A : Type 0} → List ℕ → (A → Type 0) → Result A Fault → Type 0
+SpanIs src P (Ok x) = P x
+SpanIs src P (Err f) = NamesText src f
 
 pub record Spanned (A : Type 0) (src : List ℕ) (P : A → Type 0) (r : Result A Fault) : Type 0 where
-  pub holds : Holds src P r
+  pub holds : SpanIs src P r
 
 -- the names of its fault are texts of the source, whatever it gives
 abbrev pub FaultSpanned : {A : Type 0} → List ℕ → Result A Fault → Type 0
@@ -53,11 +53,11 @@ spanned_by src P (Err f) fault gives = record { holds = fault f refl }
 
 -- the fault that it is
 pub spanned_fault : {A : Type 0} (src : List ℕ) (P : A → Type 0) (r : Result A Fault) (f : Fault) → Spanned A src P r → r ≡ Err f → NamesText src f
-spanned_fault src P r f h e = subst (Holds src P) e h.holds
+spanned_fault src P r f h e = subst (SpanIs src P) e h.holds
 
 -- what it gives
 pub spanned_gives : {A : Type 0} (src : List ℕ) (P : A → Type 0) (r : Result A Fault) (x : A) → Spanned A src P r → r ≡ Ok x → P x
-spanned_gives src P r x h e = subst (Holds src P) e h.holds
+spanned_gives src P r x h e = subst (SpanIs src P) e h.holds
 
 -- ---- the same of what may open entities: the names of a refusal are texts of the source that it counts in
 
@@ -179,12 +179,12 @@ module _ (src : List ℕ) (utf8 : IsUtf8 src) where
 
   module _ (es : List Entity) (texts : AreTexts es) where
     -- an entity, or its name
-    found_spans : (i : ℕ) (span : Span) (o : Option Replacement) → ((t : Replacement) → o ≡ Some t → IsUtf8 t.source) → IsTextSpan src span → Spanned Bit src IsSource (found o i span)
+    found_spans : (i : ℕ) (span : Span) (o : Option Replacement) → ((t : Replacement) → o ≡ Some t → IsUtf8 t.source) → IsTextSpan src span → Spanned Bit src IsSource (entity_bit o i span)
     found_spans i span None is text = record { holds = text }
     found_spans i span (Some t) is text = record { holds = is t refl }
 
     -- what a reference stands for, or its name
-    expanded_spans : (i : ℕ) (r : Reference) → RefersTo src r → Spanned Bit src IsSource (expanded es src i r)
+    expanded_spans : (i : ℕ) (r : Reference) → RefersTo src r → Spanned Bit src IsSource (reference_bit es src i r)
     expanded_spans i (character_of c) h = record { holds = tt }
     expanded_spans i (entity_at span) h = found_spans i span (text_of es (slice src span.start span.end)) (λ t is. (texts (slice src span.start span.end) t is).0) h
 
@@ -193,11 +193,11 @@ module _ (src : List ℕ) (utf8 : IsUtf8 src) where
     unfolding expansion_at
     expansion_spans i amp =
         spanned_bind src (λ (r : Reference × ℕ). RefersTo src r.0) _ (reference_at src i) _ (reference_spanned i amp) (λ r read is.
-        spanned_bind src IsSource _ (expanded es src i r.0) _ (expanded_spans i r.0 is) (λ bit read h. record { holds = h }))
+        spanned_bind src IsSource _ (reference_bit es src i r.0) _ (expanded_spans i r.0 is) (λ bit read h. record { holds = h }))
 
     -- a bit of a run
-    run_bit_spans : (main : Bool) (stop i : ℕ) → Spanned (Bit × ℕ) src (λ (x : Bit × ℕ). IsSource x.0) (run_bit_at main es src stop i)
-    unfolding run_bit_at
+    run_bit_spans : (main : Bool) (stop i : ℕ) → Spanned (Bit × ℕ) src (λ (x : Bit × ℕ). IsSource x.0) (data_bit_at main es src stop i)
+    unfolding data_bit_at
     run_bit_spans true stop i =
         spanned_cond src _ (byte src i == 38) _ _
         (λ amp. expansion_spans i (eqb-true _ _ amp))
@@ -211,17 +211,17 @@ module _ (src : List ℕ) (utf8 : IsUtf8 src) where
     after_bit_spans more (a_text t) j is h = record { holds = is }
 
     -- a part of a run
-    pub run_part_spans : (main : Bool) (n stop i : ℕ) → Spanned (List ℕ × Next) src (λ (x : List ℕ × Next). NextIsSource x.1) (run_part main es n src stop i)
-    unfolding run_part
+    pub run_part_spans : (main : Bool) (n stop i : ℕ) → Spanned (List ℕ × Next) src (λ (x : List ℕ × Next). NextIsSource x.1) (data_part main es n src stop i)
+    unfolding data_part
     run_part_spans main zero stop i = record { holds = tt }
     run_part_spans main (suc n) stop i =
         spanned_cond src _ (ltb i stop) _ _
-        (λ h. spanned_bind src (λ (x : Bit × ℕ). IsSource x.0) _ (run_bit_at main es src stop i) _ (run_bit_spans main stop i) (λ x read is.
-        after_bit_spans (λ j. run_part main es n src stop j) x.0 x.1 is (run_part_spans main n stop x.1)))
+        (λ h. spanned_bind src (λ (x : Bit × ℕ). IsSource x.0) _ (data_bit_at main es src stop i) _ (run_bit_spans main stop i) (λ x read is.
+        after_bit_spans (λ j. data_part main es n src stop j) x.0 x.1 is (run_part_spans main n stop x.1)))
         (λ h. record { holds = tt })
 
     -- a reference in a value
-    tested_spans : (main : Bool) (i : ℕ) (r : Reference) → Spanned Bit src IsSource (expanded es src i r) → Spanned Bit src IsSource (tested_bit main i r (expanded es src i r))
+    tested_spans : (main : Bool) (i : ℕ) (r : Reference) → Spanned Bit src IsSource (reference_bit es src i r) → Spanned Bit src IsSource (tested_bit main i r (reference_bit es src i r))
     tested_spans true i r h = h
     tested_spans false i (character_of c) h = spanned_cond src _ (c == 60) _ _ (λ z. record { holds = tt }) (λ z. record { holds = tt })
     tested_spans false i (entity_at span) h = h
@@ -230,7 +230,7 @@ module _ (src : List ℕ) (utf8 : IsUtf8 src) where
     unfolding value_reference_at
     value_reference_spans main i amp =
         spanned_bind src (λ (r : Reference × ℕ). RefersTo src r.0) _ (reference_at src i) _ (reference_spanned i amp) (λ r read is.
-        spanned_bind src IsSource _ (tested_bit main i r.0 (expanded es src i r.0)) _ (tested_spans main i r.0 (expanded_spans i r.0 is)) (λ bit read h. record { holds = h }))
+        spanned_bind src IsSource _ (tested_bit main i r.0 (reference_bit es src i r.0)) _ (tested_spans main i r.0 (expanded_spans i r.0 is)) (λ bit read h. record { holds = h }))
 
     -- a stretch
     stretch_spans : (main : Bool) (stop i : ℕ) → Spanned (Bit × ℕ) src (λ (x : Bit × ℕ). IsSource x.0) (stretch_at main src stop i)
@@ -253,10 +253,10 @@ module _ (src : List ℕ) (utf8 : IsUtf8 src) where
         (λ h. stretch_spans main stop i))
 
     -- the refusals of what a replacement text is read to as a part of a value are told
-    abbrev pub OpenerTold : ValueOpener → Type 0
+    abbrev pub OpenerTold : ValueInclusion → Type 0
     OpenerTold opener = (t : Replacement) (after left : ℕ) → IsUtf8 t.source → Told (List ℕ × ℕ) src (λ x. Unit {0}) (opener t after left)
 
-    module _ (opener : ValueOpener) (opens : OpenerTold opener) where
+    module _ (opener : ValueInclusion) (opens : OpenerTold opener) where
       -- a bit, and what follows it
       after_value_told : (more : ℕ → ℕ → Result (List ℕ × ℕ) Refusal) → ((j left : ℕ) → Told (List ℕ × ℕ) src (λ x. Unit {0}) (more j left)) → (left : ℕ) (bit : Bit) (j : ℕ) → IsSource bit
           → Told (List ℕ × ℕ) src (λ x. Unit {0}) (after_value_bit opener more left bit j)
@@ -276,10 +276,10 @@ module _ (src : List ℕ) (utf8 : IsUtf8 src) where
           (λ h. record { tells = tt })
 
       -- a value
-      pub value_told : (main : Bool) (i stop left : ℕ) → Told (RunText × ℕ) src (λ x. Unit {0}) (value_at main es opener src i stop left)
+      pub value_told : (main : Bool) (i stop left : ℕ) → Told (ReadText × ℕ) src (λ x. Unit {0}) (value_at main es opener src i stop left)
       unfolding value_at
       value_told main i stop left =
-          told_cond src _ (is_plain_value (slice src i stop)) _ _
+          told_cond src _ (is_verbatim_value (slice src i stop)) _ _
           (λ h. record { tells = tt })
           (λ h. told_bind src (λ (x : List ℕ × ℕ). Unit {0}) _ (value_text main es opener (stop - i) src stop i left) _ (value_text_told main (stop - i) stop i left) (λ value read h. record { tells = tt }))
 

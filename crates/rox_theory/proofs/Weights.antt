@@ -7,7 +7,7 @@ use Rattle.rox_grammar.specs.Forest.{Forest, Nil, join}
 use Rattle.rox_grammar.specs.Written.{Item, Text, Attribute, Tag, leaf, merge}
 use Rattle.rox_grammar.specs.Tree.{none_if_empty}
 use Rattle.rox_grammar.specs.Names.{slice, spaces_end}
-use Rattle.rox_grammar.specs.Content.{Opener, Sign, line_ends, literals, is_plain, piece, value_bytes, Parts, last_part, then_entity, Value, value_ends, line_end, white, other, a_character, an_entity, Attributes, no_more, one_more, IsTag, IsMisc, comment, instruction, IsElement, empty, nest, Content, ends, run, cdata, misc, node}
+use Rattle.rox_grammar.specs.Content.{Inclusion, DataByte, line_ends, literals, is_verbatim, piece, value_bytes, Parts, last_part, then_entity, Value, value_ends, line_end, white, other, a_character, an_entity, Attributes, no_more, one_more, IsTag, IsMisc, comment, instruction, IsElement, empty, nest, Content, ends, run, cdata, misc, node}
 use Rattle.rox_grammar.specs.Entities.{Replacement, Entity, text_of}
 use Rattle.rox_grammar.specs.Expansion.{Counts, longest}
 use Rattle.rox_theory.proofs.Onward.{ends_shorten, signs_length, slice_short, reference_onward, value_char, part_bytes, qname_onward, eq_onward, tag_end_onward, end_onward, misc_onward, section_onward}
@@ -15,7 +15,7 @@ use Rattle.rox_theory.proofs.Measures.{Measure, most_of, fewer}
 
 module _ (of : Forest Item → ℕ) (is_measure : Measure of) where
   -- the text of a part
-  pub piece_most : (i j : ℕ) (plain : Bool) (ss : List Sign) → of (piece i j plain ss) ≤ length ss
+  pub piece_most : (i j : ℕ) (plain : Bool) (ss : List DataByte) → of (piece i j plain ss) ≤ length ss
   piece_most i j plain [] = let h = is_measure.none in omega (arith, h)
   piece_most i j plain (s ∷ ss) = is_measure.text i j (line_ends (s ∷ ss)) plain (length (s ∷ ss)) (omega arith) (ends_shorten (s ∷ ss))
 
@@ -39,15 +39,15 @@ module _ (of : Forest Item → ℕ) (is_measure : Measure of) where
       omega (arith, h, t)
 
 -- no text opens more than this for each opening, where r is the length of the longest
-pub record Weighs (of : Forest Item → ℕ) (O : Opener) (r : ℕ) : Type 0 where
+pub record Weighs (of : Forest Item → ℕ) (O : Inclusion) (r : ℕ) : Type 0 where
   pub content : (name : List ℕ) (b : ℕ) (items : Forest Item) (c : ℕ) → O.content name b items c → of items + b * r ≤ c * r
   pub value : (name : List ℕ) (b : ℕ) (v : List ℕ) (c : ℕ) → O.value name b v c → length v + b * r ≤ c * r
 
-module _ (of : Forest Item → ℕ) (is_measure : Measure of) (main : Bool) (O : Opener) (r : ℕ) (weighs : Weighs of O r) (src : List ℕ) where
+module _ (of : Forest Item → ℕ) (is_measure : Measure of) (main : Bool) (O : Inclusion) (r : ℕ) (weighs : Weighs of O r) (src : List ℕ) where
   parts_weigh : (start stop i b c : ℕ) (items : Forest Item) → Parts main O src start stop i b c items → of items + i + b * r ≤ stop + c * r
   parts_weigh start stop i b c items (last_part _ _ ss part) =
       let p = part_bytes main src stop i ss part in
-      let q = piece_most of is_measure start stop (is_plain (slice src start stop)) ss in
+      let q = piece_most of is_measure start stop (is_verbatim (slice src start stop)) ss in
       omega (arith, p, q)
   parts_weigh start stop i b d items (then_entity _ p n j _ c _ ss front more part reference name opens rest) =
       let h = part_bytes main src p i ss part in

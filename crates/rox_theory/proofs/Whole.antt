@@ -10,22 +10,22 @@ use Rattle.rox_grammar.specs.Written.{Item, merge}
 use Rattle.rox_grammar.specs.Names.{byte}
 use Rattle.rox_grammar.specs.Constructs.{at}
 use Rattle.rox_grammar.specs.Content.{IsElement, empty, nest}
-use Rattle.rox_grammar.specs.Start.{after_bom}
-use Rattle.rox_grammar.specs.Entities.{Entity, most_open, opens_main}
+use Rattle.rox_grammar.specs.TextStart.{after_bom}
+use Rattle.rox_grammar.specs.Entities.{Entity, most_deep, included_in_main}
 use Rattle.rox_grammar.specs.Doctype.{Asked}
 use Rattle.rox_grammar.specs.Document.{Misc, MayHaveDoctype, ParseOf, IsWithinLimits, Permits}
 use Rattle.rox_grammar.specs.Document as document
 use Rattle.rox_grammar.specs.State.{root}
-use Rattle.rox_reading.specs.Refusals.{Refusal, here, there, refused, SpeaksOfText}
+use Rattle.rox_reading.specs.Refusals.{Refusal, here, there, refused, IsTextRefusal}
 use Rattle.rox_reading.specs.State.{State}
 use Rattle.rox_reading.specs.Machine.{tag_step, drive, main_text}
 use Rattle.rox_reading.specs.Doctype.{Reply, replies_of, AreTextReplies, Asks, Dtd}
-use Rattle.rox_reading.specs.Whole.{misc, body, finished, prolog, doctype, has_doctype, reading}
+use Rattle.rox_reading.specs.WholeText.{misc, body, finished, prolog, doctype, has_doctype, reading}
 use Rattle.rox_reading.specs.Answering.{with_refusal, Stops as StopsWith, SettledWhole}
 use Rattle.rox_reading.proofs.Answering.{replies_then}
 use Rattle.rox_reading.proofs.Forests.{join_assoc, size-join}
 use Rattle.rox_theory.specs.Openers.{AreTexts}
-use Rattle.rox_theory.specs.Fine.{IsFine, state}
+use Rattle.rox_theory.specs.ValidState.{IsValidState, state}
 use Rattle.rox_theory.proofs.Basics.{within, ok_same, bind_ok, bind_lifted, chosen}
 use Rattle.rox_theory.proofs.Openers.{values_agree}
 use Rattle.rox_theory.proofs.Contents.{StepsAgree}
@@ -41,7 +41,7 @@ use Rattle.rox_theory.proofs.Asking.{ok_lifted, nothing_ok, nothing_lifted_ok, a
 use Rattle.rox_theory.proofs.Around.{DoctypesAgree, element_stops, end_stops, none_agree, begins_stop, dtd_begins, ends_cut, element_ends, bom_cut, misc_sound, misc_complete, prolog_sound, prolog_complete, prolog_cut}
 
 -- an element is a node at least
-element_size : (src : List ℕ) (i j b c : ℕ) (es : List Entity) (one : Forest Item) → IsElement true (opens_main es) src i j b c one → 1 ≤ size one
+element_size : (src : List ℕ) (i j b c : ℕ) (es : List Entity) (one : Forest Item) → IsElement true (included_in_main es) src i j b c one → 1 ≤ size one
 element_size src i j b c es one (empty _ _ _ _ t tag) = omega arith
 element_size src i j b c es one (nest _ k m p _ _ d _ t kids tag inner end) = omega arith
 
@@ -59,11 +59,11 @@ module _ (src : List ℕ) (utf8 : IsUtf8 src) where
     pub end : ℕ
     pub left : ℕ
     pub one : Forest Item
-    pub element : IsElement true (opens_main es) src i end 255 left one
+    pub element : IsElement true (included_in_main es) src i end 255 left one
     pub after : Forest Item
     pub misc_after : Misc src end (length src) after
     pub is_tree : t ≡ join (join before one) after
-    pub fine : IsFine most (state (length src) t root left)
+    pub fine : IsValidState most (state (length src) t root left)
 
   -- a text that is read has come to its end
   finished_is : (v : State) (t : Forest Item) → finished src (v, true) ≡ Ok t → (length src ≤ v.at) × (v.done ≡ t)
@@ -84,11 +84,11 @@ module _ (src : List ℕ) (utf8 : IsUtf8 src) where
       (λ none h. let e : (s, false) ≡ x = ok_same _ _ h in absurd (unfinished s t (rw (← e) at last)))
 
   -- a step of the main text is a construct
-  steps : (limit : ℕ) (es : List Entity) → AreTexts es → StepsAgree (main_text limit es) (opens_main es) src
-  steps limit es texts = steps_agree (main_text limit es) (opens_main es) (values_agree es texts most_open true) (openers_agree limit es texts most_open true) src utf8
+  steps : (limit : ℕ) (es : List Entity) → AreTexts es → StepsAgree (main_text limit es) (included_in_main es) src
+  steps limit es texts = steps_agree (main_text limit es) (included_in_main es) (values_agree es texts most_deep true) (openers_agree limit es texts most_deep true) src utf8
 
   -- what is read from the root element on stands there
-  body_sound : (limit most : ℕ) (es : List Entity) (i : ℕ) (before t : Forest Item) (x : State × Bool) → limit ≤ most → AreTexts es → IsFine most (state i before root 255)
+  body_sound : (limit most : ℕ) (es : List Entity) (i : ℕ) (before t : Forest Item) (x : State × Bool) → limit ≤ most → AreTexts es → IsValidState most (state i before root 255)
       → body limit es src (state i before root 255) ≡ Ok x → finished src x ≡ Ok t → Found most es i before t
   unfolding body
   body_sound limit most es i before t x more texts fine h last =
@@ -97,19 +97,19 @@ module _ (src : List ℕ) (utf8 : IsUtf8 src) where
       let agree = steps limit es texts in
       chosen (byte src i == 60) _ _ _ h
       (λ here h. bind_ok (tag_step how src s) _ _ h (λ v read h. bind_ok (drive how (length src) src v) _ _ h (λ u driven h. bind_lifted (misc limit (length src) src u) _ _ h (λ w rest h.
-      let tag = tag_read how (opens_main es) (values_agree es texts most_open true) (openers_agree limit es texts most_open true) src utf8 most s v more (eqb-true _ _ here) fine read in
+      let tag = tag_read how (included_in_main es) (values_agree es texts most_deep true) (openers_agree limit es texts most_deep true) src utf8 most s v more (eqb-true _ _ here) fine read in
       let chain = drive_sound limit es src agree (length src) most v u more tag.1 driven in
       let begun = tag.0 in
-      let chain' : Drives (opens_main es) src (after s begun.0 begun.2 begun.3 begun.1) u = subst (λ (v : State). Drives (opens_main es) src v u) begun.5 chain.0 in
-      let element = root_element (opens_main es) src i begun.0 255 begun.1 before begun.2 begun.3 u begun.4 chain' in
+      let chain' : Drives (included_in_main es) src (after s begun.0 begun.2 begun.3 begun.1) u = subst (λ (v : State). Drives (included_in_main es) src v u) begun.5 chain.0 in
+      let element = root_element (included_in_main es) src i begun.0 255 begun.1 before begun.2 begun.3 u begun.4 chain' in
       let e : (w, true) ≡ x = ok_same _ _ h in
       let done = finished_is w t (rw (← e) at last) in
       let u_is = element.2 in
-      let cut = ends_cut src u.at utf8 (element_ends true (opens_main es) src i u.at 255 u.left element.0 element.1) in
-      let behind = misc_sound src utf8 (length src) limit most u.left u.at (join before element.0) w more cut (subst (IsFine most) u_is chain.1) (subst (λ (u : State). misc limit (length src) src u ≡ Ok w) u_is rest) in
+      let cut = ends_cut src u.at utf8 (element_ends true (included_in_main es) src i u.at 255 u.left element.0 element.1) in
+      let behind = misc_sound src utf8 (length src) limit most u.left u.at (join before element.0) w more cut (subst (IsValidState most) u_is chain.1) (subst (λ (u : State). misc limit (length src) src u ≡ Ok w) u_is rest) in
       let at_end : w.at ≡ length src = let far = behind.4.0 in let near = done.0 in omega arith in
       let tree : t ≡ join (join before element.0) behind.0 = sym done.1 ∙ ap (λ (s : State). s.done) behind.2 in
-      let all : IsFine most (state w.at (join (join before element.0) behind.0) root u.left) = subst (IsFine most) behind.2 behind.3 in
+      let all : IsValidState most (state w.at (join (join before element.0) behind.0) root u.left) = subst (IsValidState most) behind.2 behind.3 in
       record {
         end = u.at;
         left = u.left;
@@ -132,23 +132,23 @@ module _ (src : List ℕ) (utf8 : IsUtf8 src) where
         let start_dtd : State → Dtd = λ s. record { state = s; entities = []; replies = replies } in
         nothing_lifted_ok (prolog src (after_bom src)) _ _ _ h (λ i declared h.
         nothing_lifted_ok (misc limit (length src) src (state i Nil root 255)) _ _ _ h (λ s first h.
-        asking_ok (doctype limit allow src (start_dtd s)) _ asked t (λ d. asks_none (body limit d.entities src d.state) _ (λ x. refl)) h (λ d declares h.
+        asking_ok (doctype limit allow src (start_dtd s)) _ asked t (λ d. asks_none (body limit d.entities src d.state) _ (λ x. refl)) h (λ d is_namespace_decl h.
         nothing_ok (body limit d.entities src d.state) _ _ _ h (λ x main last.
         let may = prolog_sound src utf8 (after_bom src) i declared in
         let cut = prolog_cut src utf8 (after_bom src) i (bom_cut src utf8) may in
-        let start : IsFine most (state i Nil root 255) = record { nodes = omega arith; attributes = omega arith; pairs = omega arith; named = tt } in
+        let start : IsValidState most (state i Nil root 255) = record { nodes = omega arith; attributes = omega arith; pairs = omega arith; named = tt } in
         let ahead = misc_sound src utf8 (length src) limit most 255 i Nil s (omega arith) cut start first in
         let s_is : s ≡ state s.at ahead.0 root 255 = ahead.2 in
         let begins = body_begins limit d.entities d.state x t main (ok_lifted (finished src x) [] t last) in
-        let dtd = doctypes.sound limit most s.at ahead.0 replies asked d (omega arith) texts (subst (IsFine most) s_is ahead.3)
-        (subst (λ (s : State). doctype limit allow src (start_dtd s) ≡ (asked, Ok d)) s_is declares) (within src d.state.at (λ z. omega arith)) in
+        let dtd = doctypes.sound limit most s.at ahead.0 replies asked d (omega arith) texts (subst (IsValidState most) s_is ahead.3)
+        (subst (λ (s : State). doctype limit allow src (start_dtd s) ≡ (asked, Ok d)) s_is is_namespace_decl) (within src d.state.at (λ z. omega arith)) in
         let d_is : d.state ≡ state d.state.at (join ahead.0 dtd.1) root 255 = dtd.4 in
-        let found = body_sound limit most d.entities d.state.at (join ahead.0 dtd.1) t x (omega arith) (doctypes.texts s.at d.state.at dtd.0 dtd.1 asked d.entities dtd.2 dtd.3) (subst (IsFine most) d_is dtd.5)
+        let found = body_sound limit most d.entities d.state.at (join ahead.0 dtd.1) t x (omega arith) (doctypes.texts s.at d.state.at dtd.0 dtd.1 asked d.entities dtd.2 dtd.3) (subst (IsValidState most) d_is dtd.5)
         (subst (λ (s : State). body limit d.entities src s ≡ Ok x) d_is main) (ok_lifted (finished src x) [] t last) in
         let tree : t ≡ join ahead.0 (join dtd.1 (join found.one found.after)) = found.is_tree ∙ ap (λ (f : Forest Item). join f found.after) (join_assoc ahead.0 dtd.1 found.one)
         ∙ join_assoc ahead.0 (join dtd.1 found.one) found.after ∙ ap (join ahead.0) (join_assoc dtd.1 found.one found.after) in
         let merged : merge t ≡ t = ap merge tree
-        ∙ tops_merged true (opens_main d.entities) src i s.at d.state.at found.end (length src) 255 found.left dtd.0 ahead.0 dtd.1 found.one found.after asked d.entities ahead.1 dtd.2 found.element found.misc_after ∙ sym tree in
+        ∙ tops_merged true (included_in_main d.entities) src i s.at d.state.at found.end (length src) 255 found.left dtd.0 ahead.0 dtd.1 found.one found.after asked d.entities ahead.1 dtd.2 found.element found.misc_after ∙ sym tree in
         let sizes : size t ≡ size ahead.0 + (size dtd.1 + (size found.one + size found.after)) = size_four t ahead.0 dtd.1 found.one found.after tree in
         let some = element_size src d.state.at found.end 255 found.left d.entities found.one found.element in
         let counted : 1 + size t ≤ most = subst (λ (f : Forest Item). 1 + size f ≤ most) merged found.fine.nodes in (
@@ -182,8 +182,8 @@ module _ (src : List ℕ) (utf8 : IsUtf8 src) where
   finishes done left = rw (le-ltb (length src) (length src) (omega arith)) refl
 
   -- what stands there from the root element on is read
-  body_complete : (limit : ℕ) (es : List Entity) (i j c : ℕ) (before one behind : Forest Item) → AreTexts es → IsElement true (opens_main es) src i j 255 c one → Misc src j (length src) behind
-      → IsFine limit (state (length src) (join (join before one) behind) root c)
+  body_complete : (limit : ℕ) (es : List Entity) (i j c : ℕ) (before one behind : Forest Item) → AreTexts es → IsElement true (included_in_main es) src i j 255 c one → Misc src j (length src) behind
+      → IsValidState limit (state (length src) (join (join before one) behind) root c)
       → body limit es src (state i before root 255) ≡ Ok (state (length src) (join (join before one) behind) root c, true)
   unfolding body
   body_complete limit es i j c before one behind texts element last fine =
@@ -191,30 +191,30 @@ module _ (src : List ℕ) (utf8 : IsUtf8 src) where
       let agree = steps limit es texts in
       let s = state i before root 255 in
       let u = state j (join before one) root c in
-      let chain = root_drives (opens_main es) src i j 255 c one before element in
-      let there : IsFine limit u = fine_before limit j (length src) c c (join before one) behind root fine in
+      let chain = root_drives (included_in_main es) src i j 255 c one before element in
+      let there : IsValidState limit u = fine_before limit j (length src) c c (join before one) behind root fine in
       let next = drives_back limit es src agree (after s chain.0 chain.2 chain.3 chain.1) u chain.5 there in
-      let read = read_tag how (opens_main es) (values_agree es texts most_open true) (openers_agree limit es texts most_open true) src utf8 s chain.0 chain.1 chain.2 chain.3 chain.4 next in
+      let read = read_tag how (included_in_main es) (values_agree es texts most_deep true) (openers_agree limit es texts most_deep true) src utf8 s chain.0 chain.1 chain.2 chain.3 chain.4 next in
       let driven = drive_complete limit es src agree (length src) (after s chain.0 chain.2 chain.3 chain.1) u chain.5 there (omega arith) in
       let rest = misc_complete src utf8 (length src) limit c j (length src) behind (join before one) last (end_stops src) (omega (arith, fine.nodes)) (omega arith) in
-      rw (eq-eqb _ _ (element_stops true (opens_main es) src i j 255 c one element).0, read, driven, rest) refl
+      rw (eq-eqb _ _ (element_stops true (included_in_main es) src i j 255 c one element).0, read, driven, rest) refl
 
   -- what the limits allow of a parse they allow where its text has been read
   parse_fine : (limit : ℕ) (dtd : Bool) (asked : List Asked) (t : Forest Item) (p : ParseOf src dtd asked t) → IsWithinLimits limit t
-      → IsFine limit (state (length src) (join (join (join p.before p.nodes) p.one) p.after) root p.left) × (t ≡ join (join (join p.before p.nodes) p.one) p.after)
+      → IsValidState limit (state (length src) (join (join (join p.before p.nodes) p.one) p.after) root p.left) × (t ≡ join (join (join p.before p.nodes) p.one) p.after)
   parse_fine limit dtd asked t p within =
       let tree : t ≡ join (join (join p.before p.nodes) p.one) p.after =
       p.is_tree ∙ ap (join p.before) (sym (join_assoc p.nodes p.one p.after)) ∙ sym (join_assoc p.before (join p.nodes p.one) p.after) ∙ ap (λ (f : Forest Item). join f p.after) (sym (join_assoc p.before p.nodes p.one)) in
       let merged = parse_merged src dtd asked t p in
       let counted : 1 + size (merge t) ≤ limit = rw merged (omega (arith, within.nodes)) in
-      let whole : IsFine limit (state (length src) t root p.left) = record { nodes = counted; attributes = within.attributes; pairs = within.namespaces; named = p.well_named } in
-      (subst (λ (f : Forest Item). IsFine limit (state (length src) f root p.left)) tree whole, tree)
+      let whole : IsValidState limit (state (length src) t root p.left) = record { nodes = counted; attributes = within.attributes; pairs = within.namespaces; named = p.well_named } in
+      (subst (λ (f : Forest Item). IsValidState limit (state (length src) f root p.left)) tree whole, tree)
 
   -- what comes before a document type declaration is read, and one begins behind it, if there is one
   before_read : (limit : ℕ) (dtd : Bool) (asked : List Asked) (t : Forest Item) (p : ParseOf src dtd asked t) → IsWithinLimits limit t
       → (prolog src (after_bom src) ≡ Ok p.declared_to) × (misc limit (length src) src (state p.declared_to Nil root 255) ≡ Ok (state p.begun p.before root 255)) × (at word.DoctypeStart src p.begun ≡ dtd)
   before_read limit dtd asked t p within =
-      let stops = element_stops true (opens_main p.entities) src p.start p.end 255 p.left p.one p.element in
+      let stops = element_stops true (included_in_main p.entities) src p.start p.end 255 p.left p.one p.element in
       let fine = (parse_fine limit dtd asked t p within).0 in
       let behind = fine_before limit p.end (length src) p.left p.left (join (join p.before p.nodes) p.one) p.after root fine in
       let element = fine_before limit p.start p.end 255 p.left (join p.before p.nodes) p.one root behind in
@@ -245,7 +245,7 @@ module _ (src : List ℕ) (utf8 : IsUtf8 src) where
         let b = before_read limit dtd asked t p within in
         let f = parse_fine limit dtd asked t p within in
         let fine = f.0 in
-        let stops = element_stops true (opens_main p.entities) src p.start p.end 255 p.left p.one p.element in
+        let stops = element_stops true (included_in_main p.entities) src p.start p.end 255 p.left p.one p.element in
         let behind = fine_before limit p.end (length src) p.left p.left (join (join p.before p.nodes) p.one) p.after root fine in
         let element = fine_before limit p.start p.end 255 p.left (join p.before p.nodes) p.one root behind in
         let declared = doctypes.complete limit p.begun p.start dtd p.before p.nodes asked p.entities more p.doctype stops.2 stops.1 permits element in
@@ -273,7 +273,7 @@ module _ (src : List ℕ) (utf8 : IsUtf8 src) where
         (sym (doctype_seen all d asked t p x) ∙ doctype_seen all e asked u q y, ok_same t u (ap (λ (x : Asks (Forest Item)). x.1) same))
 
     -- a text that is refused has no parse within the limits whose answers begin with those that were given
-    pub refused_has_none : (limit : ℕ) (replies : List Reply) (asked later : List Asked) (e : Refusal) (dtd : Bool) (t : Forest Item) → reading limit allow replies src ≡ (asked, Err e) → SpeaksOfText e
+    pub refused_has_none : (limit : ℕ) (replies : List Reply) (asked later : List Asked) (e : Refusal) (dtd : Bool) (t : Forest Item) → reading limit allow replies src ≡ (asked, Err e) → IsTextRefusal e
         → ParseOf src dtd (asked ++ later) t → IsWithinLimits limit t → Permits allow dtd → ⊥
     refused_has_none limit replies asked later e dtd t h of_text p within permits =
         let stops : StopsWith (λ rs. reading limit allow rs src) asked e = subst (SettledWhole (λ rs. reading limit allow rs src)) h (reading_same limit allow src replies) in
@@ -281,7 +281,7 @@ module _ (src : List ℕ) (utf8 : IsUtf8 src) where
         let same = ap (λ (rs : List Reply). reading limit allow rs src) (replies_then asked later []) in
         clash e of_text (stops (replies_of later ++ [])) (sym same ∙ read)
       where
-        clash : (e : Refusal) → SpeaksOfText e → reading limit allow (replies_of asked ++ with_refusal e (replies_of later ++ [])) src ≡ (asked, Err e)
+        clash : (e : Refusal) → IsTextRefusal e → reading limit allow (replies_of asked ++ with_refusal e (replies_of later ++ [])) src ≡ (asked, Err e)
             → reading limit allow (replies_of asked ++ (replies_of later ++ [])) src ≡ (asked ++ later, Ok t) → ⊥
         clash (here f) of_text h k = err_not_ok (here f) t (ap (λ (x : Asks (Forest Item)). x.1) (sym h ∙ k))
         clash (there source f) of_text h k = err_not_ok (there source f) t (ap (λ (x : Asks (Forest Item)). x.1) (sym h ∙ k))

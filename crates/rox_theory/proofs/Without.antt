@@ -3,10 +3,10 @@ use Rattle.std.proofs.Common.{◌≡◌, ℕ, true, false, List, [], refl, ap, �
 use Rattle.rox_grammar.specs.Forest.{Forest, Nil, join}
 use Rattle.rox_grammar.specs.Written.{Item}
 use Rattle.rox_grammar.specs.Content.{IsElement}
-use Rattle.rox_grammar.specs.Entities.{Entity, opens_main, no_entities}
+use Rattle.rox_grammar.specs.Entities.{Entity, included_in_main, no_entities}
 use Rattle.rox_grammar.specs.Doctype.{Asked}
 use Rattle.rox_grammar.specs.Document.{Misc, MayHaveDoctype, no_doctype, ParseOf}
-use Rattle.rox_theory.specs.Without.{ParseWithout}
+use Rattle.rox_theory.specs.WithoutDoctype.{ParseWithout}
 use Rattle.rox_theory.proofs.Following.{element_without, element_count, follows_any}
 
 -- nothing stands there, is asked or declared
@@ -18,7 +18,7 @@ pub parse_without : (src : List ℕ) (asked : List Asked) (tree : Forest Item) �
 parse_without src asked tree p =
     let none = no_doctype_there src p.begun p.start p.nodes asked p.entities p.doctype in
     let one = element_without src p.start p.end 255 p.left p.one
-    (subst (λ (es : List Entity). IsElement true (opens_main es) src p.start p.end 255 p.left p.one) none.3 p.element) in (
+    (subst (λ (es : List Entity). IsElement true (included_in_main es) src p.start p.end 255 p.left p.one) none.3 p.element) in (
       none.2,
       record {
         declared_to = p.declared_to;
@@ -38,8 +38,8 @@ parse_without src asked tree p =
     )
 
 -- an element in which nothing is opened stands where entities are declared, too
-pub element_with : (es : List Entity) (src : List ℕ) (i j b c : ℕ) (one : Forest Item) → IsElement true no_entities src i j b c one → (n : ℕ) × IsElement true (opens_main es) src i j b n one
-element_with es src i j b c one is = let x = element_count true no_entities (opens_main es) (follows_any (opens_main es)) src i j b c one is b in (x.0, x.1)
+pub element_with : (es : List Entity) (src : List ℕ) (i j b c : ℕ) (one : Forest Item) → IsElement true no_entities src i j b c one → (n : ℕ) × IsElement true (included_in_main es) src i j b n one
+element_with es src i j b c one is = let x = element_count true no_entities (included_in_main es) (follows_any (included_in_main es)) src i j b c one is b in (x.0, x.1)
 
 pub parse_with : (src : List ℕ) (tree : Forest Item) → ParseWithout src tree → ParseOf src false [] tree
 parse_with src tree p =

@@ -5,14 +5,14 @@ use Rattle.rox_grammar.specs.Written.{Item, Element, Text, Comment, PI}
 use Rattle.rox_reading.proofs.Forests.{is_text}
 
 -- the first is a text
-abbrev pub begins_with_text : Forest Item → Bool
-begins_with_text Nil = false
-begins_with_text (Cons item children rest) = is_text item
+abbrev pub items_begin_with_text : Forest Item → Bool
+items_begin_with_text Nil = false
+items_begin_with_text (Cons item children rest) = is_text item
 
 -- no text is followed by a text, at any depth
 abbrev pub Apart : Forest Item → Type 0
 Apart Nil = Unit {0}
-Apart (Cons item children rest) = ((is_text item && begins_with_text rest) ≡ false) × Apart children × Apart rest
+Apart (Cons item children rest) = ((is_text item && items_begin_with_text rest) ≡ false) × Apart children × Apart rest
 
 -- one of the row is an element
 abbrev pub AnyElement : Forest Item → Type 0

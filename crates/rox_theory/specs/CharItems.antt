@@ -2,7 +2,7 @@
 use Rattle.std.specs.Prelude.{All, IfSome}
 use Rattle.rox_grammar.specs.Forest.{Forest, Nil, Cons}
 use Rattle.rox_grammar.specs.Written.{Attribute, Tag, Item, Element, Text, Comment, PI}
-use Rattle.rox_grammar.specs.CharText.{IsCharText, DeclarationChars}
+use Rattle.rox_grammar.specs.CharText.{IsCharText, NamespaceDeclChars}
 
 -- of an attribute as written its local name and its value
 pub record WrittenChars (a : Attribute) : Type 0 where
@@ -12,7 +12,7 @@ pub record WrittenChars (a : Attribute) : Type 0 where
 -- of a tag what is kept of it
 pub record TagChars (t : Tag) : Type 0 where
   pub local : IsCharText t.name.local
-  pub declarations : All DeclarationChars t.declarations
+  pub declarations : All NamespaceDeclChars t.declarations
   pub attributes : All WrittenChars t.attributes
 
 abbrev pub ItemChars : Item → Type 0

@@ -1,6 +1,6 @@
-pub mod Fine
+pub mod ValidState
 pub mod Openers
-pub mod Without
+pub mod WithoutDoctype
 pub mod CharItems
 pub mod Apart
 pub mod Answers

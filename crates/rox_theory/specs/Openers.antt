@@ -3,12 +3,12 @@ use Rattle.std.specs.Prelude.{◌≡◌, ◌⊎◌, ◌≤◌, ℕ, List, Some, 
 use Rattle.std.specs.Str.{IsUtf8, IsCharBoundary}
 use Rattle.rox_grammar.specs.Forest.{Forest, join}
 use Rattle.rox_grammar.specs.Written.{Item}
-use Rattle.rox_grammar.specs.Content.{Opener}
+use Rattle.rox_grammar.specs.Content.{Inclusion}
 use Rattle.rox_grammar.specs.Entities.{Replacement, Entity, text_of}
 use Rattle.rox_reading.specs.Refusals.{Refusal}
 use Rattle.rox_reading.specs.State.{State}
-use Rattle.rox_reading.specs.Values.{ValueOpener}
-use Rattle.rox_theory.specs.Fine.{IsFine, state}
+use Rattle.rox_reading.specs.Values.{ValueInclusion}
+use Rattle.rox_theory.specs.ValidState.{IsValidState, state}
 
 -- `<` or a quote, which ends a run or a value
 abbrev pub IsStop : ℕ → Type 0
@@ -19,14 +19,14 @@ abbrev pub AreTexts : List Entity → Type 0
 AreTexts es = (name : List ℕ) (t : Replacement) → text_of es name ≡ Some t → IsUtf8 t.source × IsCharBoundary t.source t.start
 
 -- the part of a value that a replacement text is; the place behind the reference matters for a fault alone
-pub record AgreesValue (es : List Entity) (O : Opener) (opener : ValueOpener) : Type 0 where
+pub record AgreesValue (es : List Entity) (O : Inclusion) (opener : ValueInclusion) : Type 0 where
   pub sound : (name : List ℕ) (t : Replacement) (after b c : ℕ) (w : List ℕ) → text_of es name ≡ Some t → opener t after b ≡ Ok (w, c) → O.value name b w c
   pub complete : (name : List ℕ) (after b c : ℕ) (w : List ℕ) → O.value name b w c → (t : Replacement) × (text_of es name ≡ Some t) × (opener t after b ≡ Ok (w, c))
 
 -- What a reference opens in content, over the state of the text around it. The place behind it matters for a fault and for where
 -- reading goes on; the place of the state does not matter.
-pub record AgreesContent (es : List Entity) (limit : ℕ) (O : Opener) (opener : Replacement → ℕ → State → Result State Refusal) : Type 0 where
-  pub sound : (most : ℕ) (name : List ℕ) (t : Replacement) (after : ℕ) (s u : State) → limit ≤ most → text_of es name ≡ Some t → IsFine most s → opener t after s ≡ Ok u
-      → (items : Forest Item) × (c : ℕ) × O.content name s.left items c × (u ≡ state after (join s.done items) s.stack c) × IsFine most u
-  pub complete : (name : List ℕ) (after c : ℕ) (items : Forest Item) (s : State) → O.content name s.left items c → IsFine limit (state after (join s.done items) s.stack c)
+pub record AgreesContent (es : List Entity) (limit : ℕ) (O : Inclusion) (opener : Replacement → ℕ → State → Result State Refusal) : Type 0 where
+  pub sound : (most : ℕ) (name : List ℕ) (t : Replacement) (after : ℕ) (s u : State) → limit ≤ most → text_of es name ≡ Some t → IsValidState most s → opener t after s ≡ Ok u
+      → (items : Forest Item) × (c : ℕ) × O.content name s.left items c × (u ≡ state after (join s.done items) s.stack c) × IsValidState most u
+  pub complete : (name : List ℕ) (after c : ℕ) (items : Forest Item) (s : State) → O.content name s.left items c → IsValidState limit (state after (join s.done items) s.stack c)
       → (t : Replacement) × (text_of es name ≡ Some t) × (opener t after s ≡ Ok (state after (join s.done items) s.stack c))

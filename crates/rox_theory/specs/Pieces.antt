@@ -6,8 +6,8 @@ use Rattle.rox_grammar.specs.Forest.{Forest, Nil, Cons, join}
 use Rattle.rox_grammar.specs.Written.{Item, Element, Text, Comment, PI, leaf, merge}
 use Rattle.rox_grammar.specs.Names.{slice}
 use Rattle.rox_grammar.specs.Constructs.{IsCData}
-use Rattle.rox_grammar.specs.Content.{Opener, line_ends, literals, is_plain, piece, Parts, last_part, then_entity, IsElement, empty, nest, Content, ends, run, cdata, misc, node}
-use Rattle.rox_grammar.specs.Entities.{Replacement, Entity, text_of, Opens, most_open, opens_main}
+use Rattle.rox_grammar.specs.Content.{Inclusion, line_ends, literals, is_verbatim, piece, Parts, last_part, then_entity, IsElement, empty, nest, Content, ends, run, cdata, misc, node}
+use Rattle.rox_grammar.specs.Entities.{Replacement, Entity, text_of, Includes, most_deep, included_in_main}
 use Rattle.rox_grammar.specs.Doctype.{Asked}
 use Rattle.rox_grammar.specs.Document.{ParseOf}
 
@@ -21,13 +21,13 @@ written_in src Nil = Nil
 written_in src (Cons item children rest) = Cons (record { source = src; item = item }) (written_in src children) (written_in src rest)
 
 -- what is written in the texts that references open
-pub record Writes (O : Opener) : Type 0 where
+pub record Writes (O : Inclusion) : Type 0 where
   pub content : (name : List ℕ) (b : ℕ) (items : Forest Item) (c : ℕ) → O.content name b items c → Forest Piece
 
-module _ (main : Bool) (O : Opener) (opened : Writes O) (src : List ℕ) where
+module _ (main : Bool) (O : Inclusion) (opened : Writes O) (src : List ℕ) where
   -- XML 2.4, 4.4.2: of a run its parts that have a character, and between them what its references open
   abbrev pub parts_pieces : (start stop i b c : ℕ) (items : Forest Item) → Parts main O src start stop i b c items → Forest Piece
-  parts_pieces start stop i b c items (last_part _ _ ss part) = written_in src (piece start stop (is_plain (slice src start stop)) ss)
+  parts_pieces start stop i b c items (last_part _ _ ss part) = written_in src (piece start stop (is_verbatim (slice src start stop)) ss)
   parts_pieces start stop i b d items (then_entity _ p n j _ c _ ss inner more part reference name opens rest) =
       join (written_in src (piece start stop false ss)) (join (opened.content (slice src (p + 1) n) b inner c opens) (parts_pieces start stop j c d more rest))
 
@@ -49,12 +49,12 @@ module _ (main : Bool) (O : Opener) (opened : Writes O) (src : List ℕ) where
     content_pieces i j b d items (node _ k _ _ c _ one more is rest) = join (element_pieces i k b c one is) (content_pieces k j c d more rest)
 
 -- what a reference opens is written in its replacement text, and where that refers to others in theirs
-abbrev pub writes : (es : List Entity) (left : ℕ) (main : Bool) → Writes (Opens es left main)
+abbrev pub writes : (es : List Entity) (left : ℕ) (main : Bool) → Writes (Includes es left main)
 writes es zero main = record { content = λ name b items c none. absurd none }
 writes es (suc d) main =
     record {
       content = λ name b items c (t, r, l, found, spends, is).
-          content_pieces false (Opens es d false) (writes es d false) t.source t.start (length t.source) r l items is;
+          content_pieces false (Includes es d false) (writes es d false) t.source t.start (length t.source) r l items is;
     }
 
 -- of a whole parse: the comments and processing instructions around the root element are written in the text itself
@@ -62,7 +62,7 @@ abbrev pub pieces_of : (src : List ℕ) (dtd : Bool) (asked : List Asked) (tree 
 pieces_of src dtd asked tree p =
     join (written_in src p.before)
     (join (written_in src p.nodes)
-    (join (element_pieces true (opens_main p.entities) (writes p.entities most_open true) src p.start p.end 255 p.left p.one p.element) (written_in src p.after)))
+    (join (element_pieces true (included_in_main p.entities) (writes p.entities most_deep true) src p.start p.end 255 p.left p.one p.element) (written_in src p.after)))
 
 -- These items, where below each of them every longest row of touching texts becomes one text: its value is theirs joined, and its
 -- range is that of the first. (At the top of a document there are no texts.)

@@ -7,10 +7,10 @@ ghost use Rattle.rox_grammar.specs.Written.{Item};
 ghost use Rattle.rox_grammar.specs.Tree.{Node};
 ghost use Rattle.rox_grammar.specs.Doctype.{Request, Asked};
 ghost use Rattle.rox_grammar.specs.Document.{ParseOf, IsWithinLimits, IsTreeOf, Permits, HasAsked, AsksNext};
-ghost use Rattle.rox_reading.specs.Refusals.{Refusal, refused, SpeaksOfText};
+ghost use Rattle.rox_reading.specs.Refusals.{Refusal, refused, IsTextRefusal};
 ghost use Rattle.rox_reading.specs.Doctype.{Reply, replies_of, AreTextReplies};
 ghost use Rattle.rox_reading.specs.Answering.{with_refusal};
-ghost use Rattle.rox_reading.specs.Whole.{has_doctype, reading};
+ghost use Rattle.rox_reading.specs.WholeText.{has_doctype, reading};
 
 /// What is read of a text is its parse with what was asked, and within the limits, and a document type declaration stands only
 /// where it may. A parse within the limits is read where the answers are those of the parse. A text that is refused has no
@@ -22,7 +22,7 @@ pub fn documents_read()
     ensures complete { (limit : ℕ) (allow dtd : Bool) (src : List ℕ) (asked : List Asked) (more : List Reply) (t : Forest Item) → IsUtf8 src → ParseOf src dtd asked t → IsWithinLimits limit t
         → Permits allow dtd → reading limit allow (replies_of asked ++ more) src ≡ (asked, Ok t) }
     ensures refused { (limit : ℕ) (allow dtd : Bool) (replies : List Reply) (src : List ℕ) (asked later : List Asked) (e : Refusal) (t : Forest Item) → IsUtf8 src
-        → reading limit allow replies src ≡ (asked, Err e) → SpeaksOfText e → ParseOf src dtd (asked ++ later) t → IsWithinLimits limit t → Permits allow dtd → ⊥ }
+        → reading limit allow replies src ≡ (asked, Err e) → IsTextRefusal e → ParseOf src dtd (asked ++ later) t → IsWithinLimits limit t → Permits allow dtd → ⊥ }
     ensures seen { (limit : ℕ) (dtd : Bool) (src : List ℕ) (asked : List Asked) (t : Forest Item) → IsUtf8 src → ParseOf src dtd asked t → IsWithinLimits limit t → has_doctype limit src ≡ dtd }
 {}
 

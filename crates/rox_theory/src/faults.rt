@@ -9,11 +9,11 @@ ghost use Rattle.rox_grammar.specs.Written.{Item};
 ghost use Rattle.rox_grammar.specs.Doctype.{Asked};
 ghost use Rattle.rox_grammar.specs.Document.{ParseOf, IsWithinLimits, Permits};
 ghost use Rattle.rox_grammar.specs.Faults.{FaultOf};
-ghost use Rattle.rox_grammar.specs.Refused.{RefusalOf};
+ghost use Rattle.rox_grammar.specs.FaultsWithDoctype.{RefusalOf};
 ghost use Rattle.rox_grammar.specs.Spans.{NamesText};
 ghost use Rattle.rox_reading.specs.Refusals.{Refusal, here, there};
 ghost use Rattle.rox_reading.specs.Doctype.{Reply, AreTextReplies};
-ghost use Rattle.rox_reading.specs.Whole.{reading};
+ghost use Rattle.rox_reading.specs.WholeText.{reading};
 ghost use Rattle.rox_theory.specs.Answers.{SameAnswers};
 ghost use Rattle.rox_theory.specs.Limits.{IsLimit};
 

@@ -6,8 +6,8 @@ abbrev pub is_colon : ℕ → Bool
 is_colon byte = byte == 58
 
 -- what stands before the first colon of a name, and behind it
-abbrev pub prefix_of : List ℕ → List ℕ
-prefix_of name = before_first is_colon name
+abbrev pub qname_prefix : List ℕ → List ℕ
+qname_prefix name = before_first is_colon name
 
-abbrev pub local_of : List ℕ → List ℕ
-local_of name = after_first is_colon name
+abbrev pub qname_local : List ℕ → List ℕ
+qname_local name = after_first is_colon name

@@ -1,24 +1,24 @@
 -- Tables of records.
 use Rattle.std.specs.Prelude.{ℕ, Bool, ◌&&◌, ◌||◌, List, ◌++◌, Option, Some, None, filter, string_bytes, codes, decimal}
 use Rattle.std.specs.Option.{is_none}
-use Rattle.roxmltree.specs.Doc.{Doc}
-use Rattle.roxmltree.specs.Names.{same_name}
-use Rattle.roxmltree.specs.Says.{says_element, namespace_of, local_of}
+use Rattle.roxmltree.specs.DocumentView.{DocumentView}
+use Rattle.roxmltree.specs.ExpandedNames.{same_expanded_name}
+use Rattle.roxmltree.specs.NodeParts.{is_element_node, namespace_of, local_of}
 use Rattle.rox_uses.specs.Nodes.{item_at, value_at}
 use Rattle.rox_uses.specs.declared.records.Record.{Record}
 use Rattle.rox_uses.specs.declared.records.RecordsError.{RecordsError}
 use Rattle.rox_uses.specs.declared.records.RecordsError.TheVariants as error
 
 -- an element `row`, without namespace
-abbrev pub is_row : Doc × ℕ → Bool
-is_row spot = says_element (item_at spot) && same_name (namespace_of (item_at spot), local_of (item_at spot)) (None, codes "row")
+abbrev pub is_row : DocumentView × ℕ → Bool
+is_row node_ref = is_element_node (item_at node_ref) && same_expanded_name (namespace_of (item_at node_ref), local_of (item_at node_ref)) (None, codes "row")
 
 -- the rows among these nodes
-abbrev pub rows_of : List (Doc × ℕ) → List (Doc × ℕ)
+abbrev pub rows_of : List (DocumentView × ℕ) → List (DocumentView × ℕ)
 rows_of nodes = filter is_row nodes
 
 -- the name and the value that a row says, if it does
-abbrev pub said : Doc × ℕ → Option (List ℕ) × Option (List ℕ)
+abbrev pub said : DocumentView × ℕ → Option (List ℕ) × Option (List ℕ)
 said row = (value_at (codes "name") row, value_at (codes "value") row)
 
 -- what a record's row says
@@ -26,7 +26,7 @@ abbrev pub written : Record → Option (List ℕ) × Option (List ℕ)
 written record' = (Some (string_bytes record'.name), Some (string_bytes record'.value))
 
 -- one of the two is missing
-abbrev pub is_incomplete : Doc × ℕ → Bool
+abbrev pub is_incomplete : DocumentView × ℕ → Bool
 is_incomplete row = is_none (value_at (codes "name") row) || is_none (value_at (codes "value") row)
 
 -- what an error prints

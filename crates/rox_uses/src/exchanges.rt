@@ -5,9 +5,9 @@ ghost use Rattle.rox_error.specs.declared.error.Error.TheVariants.{OutOfMemory};
 ghost use Rattle.roxmltree.specs.Forest.{Forest};
 ghost use Rattle.roxmltree.specs.Tree as grammar;
 ghost use Rattle.roxmltree.specs.Exchange.{IsReparse, IsExchange};
-ghost use Rattle.roxmltree.specs.Alone.{stands_alone};
+ghost use Rattle.roxmltree.specs.SelfContained.{stands_alone};
 ghost use Rattle.roxmltree.specs.Elements.{root_id};
-ghost use Rattle.roxmltree.specs.Spot.{id_of, document_of, tree_of};
+ghost use Rattle.roxmltree.specs.NodeRef.{id_of, document_of, tree_of};
 
 use rox_laws::exchanges::root_elements_stand_alone;
 use roxmltree::{Error, Node};

@@ -3,7 +3,7 @@
 ghost use Rattle.std.specs.Prelude.{◌≡◌};
 ghost use Rattle.std.specs.Option.{option_map};
 ghost use Rattle.std.specs.List.{find};
-ghost use Rattle.roxmltree.specs.Spot.{spot};
+ghost use Rattle.roxmltree.specs.NodeRef.{node_ref};
 ghost use Rattle.rox_uses.specs.Ids.{has_id};
 ghost use Rattle.rox_uses.specs.Nodes.{nodes_of};
 
@@ -14,7 +14,7 @@ pub fn element_by_id<'a, 'input>(
     document: &'a Document<'input>,
     id: &str,
 ) -> Option<Node<'a, 'input>>
-    ensures { option_map spot result ≡ find (has_id id.now) (nodes_of document.now) }
+    ensures { option_map node_ref result ≡ find (has_id id.now) (nodes_of document.now) }
 {
     for node in document.descendants() {
         if node.attribute("id".into()) == Some(id) {

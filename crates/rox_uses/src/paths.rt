@@ -1,7 +1,7 @@
 //! Records found by a path.
 
 ghost use Rattle.std.specs.Prelude.{◌≡◌, ℕ, List, map, IfOk, Err};
-ghost use Rattle.roxmltree.specs.Spot.{spots};
+ghost use Rattle.roxmltree.specs.NodeRef.{node_refs};
 ghost use Rattle.rox_path.specs.Steps.{PathStep};
 ghost use Rattle.rox_path.specs.Paths.{IsPath, IsBadAt};
 ghost use Rattle.rox_path.specs.Match.{Selects};
@@ -72,7 +72,7 @@ pub fn records_at(
 ) -> Result<Vec<Record>, QueryError>
     ensures ok { IfOk result (λ records. (steps : List PathStep) × (ids : List ℕ)
         × IsPath path.now 0 steps × Selects document.now.tree 0 steps ids
-        × (map written records.items ≡ map said (spots document.now ids))) }
+        × (map written records.items ≡ map said (node_refs document.now ids))) }
     ensures bad_path { (k : ℕ) → result ≡ Err (QueryError.Path (BadPath k)) → IsBadAt path.now k }
 {
     let steps = parse_path(alloc, path)?;

@@ -4,10 +4,10 @@ ghost use Rattle.std.specs.Prelude.{◌≡◌, Some, None};
 ghost use Rattle.std.specs.Option.{option_map};
 ghost use Rattle.std.specs.List.{Contains};
 ghost use Rattle.roxmltree.specs.Tree.{uri_of};
-ghost use Rattle.roxmltree.specs.Names.{expanded};
-ghost use Rattle.roxmltree.specs.Says.{listed_of};
-ghost use Rattle.roxmltree.specs.Spot.{item_of};
-ghost use Rattle.rox_uses.specs.Qualified.{prefix_of, local_of};
+ghost use Rattle.roxmltree.specs.ExpandedNames.{expanded};
+ghost use Rattle.roxmltree.specs.NodeParts.{listed_of};
+ghost use Rattle.roxmltree.specs.NodeRef.{item_of};
+ghost use Rattle.rox_uses.specs.Qualified.{qname_prefix, qname_local};
 
 use roxmltree::{ExpandedName, Node};
 
@@ -20,7 +20,7 @@ pub fn resolve<'a, 'name>(
     name: &'name str,
 ) -> Option<ExpandedName<'a, 'name>>
     ensures prefixed { Contains name.now 58
-        → option_map expanded result ≡ option_map (λ uri. (Some uri, local_of name.now)) (uri_of (listed_of (item_of element.entry)) (Some (prefix_of name.now))) }
+        → option_map expanded result ≡ option_map (λ uri. (Some uri, qname_local name.now)) (uri_of (listed_of (item_of element.entry)) (Some (qname_prefix name.now))) }
     ensures plain { ¬ Contains name.now 58
         → option_map expanded result ≡ Some (uri_of (listed_of (item_of element.entry)) None, name.now) }
 {

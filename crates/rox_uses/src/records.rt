@@ -3,8 +3,8 @@
 ghost use Rattle.std.specs.Prelude.{◌≡◌, ℕ, true, map, IfOk, Err, Some};
 ghost use Rattle.std.specs.Option.{option_map};
 ghost use Rattle.std.specs.List.{find};
-ghost use Rattle.roxmltree.specs.Says.{start_of};
-ghost use Rattle.roxmltree.specs.Spot.{spot};
+ghost use Rattle.roxmltree.specs.NodeParts.{start_of};
+ghost use Rattle.roxmltree.specs.NodeRef.{node_ref};
 ghost use Rattle.rox_uses.specs.Nodes.{children_of, item_at};
 ghost use Rattle.rox_uses.specs.Records.{rows_of, said, written, is_incomplete};
 ghost use Rattle.rox_uses.specs.declared.records.RecordsError.TheVariants.{OutOfMemory};
@@ -75,9 +75,9 @@ pub fn read_records(alloc: Global, table: Node<'_, '_>) -> Result<Vec<Record>, R
 }
 
 pub(crate) fn read_record(alloc: Global, row: Node<'_, '_>) -> Result<Record, RecordsError>
-    ensures ok { IfOk result (λ record'. written record' ≡ said (spot row.entry)) }
+    ensures ok { IfOk result (λ record'. written record' ≡ said (node_ref row.entry)) }
     ensures incomplete { (start : ℕ) → result ≡ Err (RecordsError.Incomplete start)
-        → (is_incomplete (spot row.entry) ≡ true) × (start_of (item_at (spot row.entry)) ≡ start) }
+        → (is_incomplete (node_ref row.entry) ≡ true) × (start_of (item_at (node_ref row.entry)) ≡ start) }
 {
     let incomplete = RecordsError::Incomplete(row.range().start);
     let name = row.attribute("name".into()).ok_or(incomplete)?;

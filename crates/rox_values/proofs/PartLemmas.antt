@@ -5,14 +5,14 @@ use Rattle.rox_grammar.specs.declared.fault.Fault.{Fault}
 use Rattle.rox_reading.specs.Lexical.{Read, ◌>>=◌}
 use Rattle.rox_reading.specs.Refusals as refusal
 use Rattle.rox_reading.specs.Refusals.{Refusal, lifted}
-use Rattle.rox_reading.specs.Values.{Bit, bytes_of, opens, Next, at_end, opening, after_bit, run_bit_at, run_part, ValueOpener, after_value_bit, value_bit_at, value_text}
-use Rattle.rox_grammar.specs.Failing.{Fails}
+use Rattle.rox_reading.specs.Values.{Bit, bytes_of, opens, Next, at_end, opening, after_bit, data_bit_at, data_part, ValueInclusion, after_value_bit, value_bit_at, value_text}
+use Rattle.rox_grammar.specs.Failures.{Fails}
 use Rattle.rox_grammar.specs.declared.failure.Failure.{Failure}
 use Rattle.rox_grammar.specs.declared.failure.Failure.TheVariants as failure
 use Rattle.rox_grammar.specs.Entities.{Replacement, Entity}
-use Rattle.rox_values.specs.Refusing.{Refuses, of_failure}
-use Rattle.rox_values.specs.declared.refused.Refused.{Refused}
-use Rattle.rox_values.specs.declared.refused.Refused.TheVariants as refused
+use Rattle.rox_values.specs.Refusals.{IsRefusal, of_failure}
+use Rattle.rox_values.specs.declared.parse_error.ParseError.{ParseError}
+use Rattle.rox_values.specs.declared.parse_error.ParseError.TheVariants as refused
 use Rattle.rox_values.specs.Values.{behind, text_behind}
 
 -- what is appended behind one bit
@@ -50,7 +50,7 @@ joined front new j (Ok (bytes_of bs, k)) next h =
 joined front new j (Ok (opens t, k)) next h = absurd (apart t new (pair_ok (opens t) (bytes_of new) k j h).0)
 joined front new j (Err f) next h = cc h
 
-value_joined : (opener : ValueOpener) (left : ℕ) (front new : List ℕ) (j : ℕ) (read : Read Bit) (next : ℕ → ℕ → Result (List ℕ × ℕ) Refusal) → behind front read ≡ Ok (bytes_of new, j)
+value_joined : (opener : ValueInclusion) (left : ℕ) (front new : List ℕ) (j : ℕ) (read : Read Bit) (next : ℕ → ℕ → Result (List ℕ × ℕ) Refusal) → behind front read ≡ Ok (bytes_of new, j)
     → text_behind front (lifted read >>= λ x. after_value_bit opener next left x.0 x.1) ≡ text_behind new (next j left)
 value_joined opener left front new j (Ok (bytes_of bs, k)) next h =
     let same = pair_ok (bytes_of (front ++ bs)) (bytes_of new) k j h in
@@ -70,44 +70,44 @@ value_opened front new l (Err e) next h = cc h
 -- ---- a run
 
 -- a bit of it
-pub run_more : (main : Bool) (es : List Entity) (front new : List ℕ) (n m : ℕ) (src : List ℕ) (stop i j : ℕ) → m + 1 ≡ n → i < stop → behind front (run_bit_at main es src stop i) ≡ Ok (bytes_of new, j)
-    → text_behind new (run_part main es m src stop j) ≡ text_behind front (run_part main es n src stop i)
-unfolding run_part
+pub run_more : (main : Bool) (es : List Entity) (front new : List ℕ) (n m : ℕ) (src : List ℕ) (stop i j : ℕ) → m + 1 ≡ n → i < stop → behind front (data_bit_at main es src stop i) ≡ Ok (bytes_of new, j)
+    → text_behind new (data_part main es m src stop j) ≡ text_behind front (data_part main es n src stop i)
+unfolding data_part
 run_more main es front new n m src stop i j one more h =
-    rw (← one, add-one, lt-ltb i stop more) (sym (joined front new j (run_bit_at main es src stop i) (λ k. run_part main es m src stop k) h))
+    rw (← one, add-one, lt-ltb i stop more) (sym (joined front new j (data_bit_at main es src stop i) (λ k. data_part main es m src stop k) h))
 
 -- a reference to an entity
-pub run_opens : (main : Bool) (es : List Entity) (front : List ℕ) (n : ℕ) (src : List ℕ) (stop i j : ℕ) (t : Replacement) → 0 < n → i < stop → run_bit_at main es src stop i ≡ Ok (opens t, j)
-    → text_behind front (run_part main es n src stop i) ≡ Ok (front, opening t j)
-unfolding run_part
+pub run_opens : (main : Bool) (es : List Entity) (front : List ℕ) (n : ℕ) (src : List ℕ) (stop i j : ℕ) (t : Replacement) → 0 < n → i < stop → data_bit_at main es src stop i ≡ Ok (opens t, j)
+    → text_behind front (data_part main es n src stop i) ≡ Ok (front, opening t j)
+unfolding data_part
 run_opens main es front zero src stop i j t some more h = absurd (omega arith)
 run_opens main es front (suc n) src stop i j t some more h = rw (lt-ltb i stop more, h) (nothing_behind front (opening t j))
 
-pub run_fault : (main : Bool) (es : List Entity) (front : List ℕ) (n : ℕ) (src : List ℕ) (stop i : ℕ) (f : Fault) → 0 < n → i < stop → run_bit_at main es src stop i ≡ Err f
-    → text_behind front (run_part main es n src stop i) ≡ Err f
-unfolding run_part
+pub run_fault : (main : Bool) (es : List Entity) (front : List ℕ) (n : ℕ) (src : List ℕ) (stop i : ℕ) (f : Fault) → 0 < n → i < stop → data_bit_at main es src stop i ≡ Err f
+    → text_behind front (data_part main es n src stop i) ≡ Err f
+unfolding data_part
 run_fault main es front zero src stop i f some more h = absurd (omega arith)
 run_fault main es front (suc n) src stop i f some more h = rw (lt-ltb i stop more, h) refl
 
-pub run_done : (main : Bool) (es : List Entity) (front : List ℕ) (n : ℕ) (src : List ℕ) (stop i : ℕ) → stop ≤ i → text_behind front (run_part main es n src stop i) ≡ Ok (front, at_end)
-unfolding run_part
+pub run_done : (main : Bool) (es : List Entity) (front : List ℕ) (n : ℕ) (src : List ℕ) (stop i : ℕ) → stop ≤ i → text_behind front (data_part main es n src stop i) ≡ Ok (front, at_end)
+unfolding data_part
 run_done main es front zero src stop i past = nothing_behind front at_end
 run_done main es front (suc n) src stop i past = rw (le-ltb i stop past) (nothing_behind front at_end)
 
-pub run_out : (main : Bool) (es : List Entity) (front : List ℕ) (n : ℕ) (src : List ℕ) (stop i : ℕ) → n ≡ 0 → text_behind front (run_part main es n src stop i) ≡ Ok (front, at_end)
-unfolding run_part
+pub run_out : (main : Bool) (es : List Entity) (front : List ℕ) (n : ℕ) (src : List ℕ) (stop i : ℕ) → n ≡ 0 → text_behind front (data_part main es n src stop i) ≡ Ok (front, at_end)
+unfolding data_part
 run_out main es front n src stop i none = rw none (nothing_behind front at_end)
 
 -- a bit that fails, of what is read as a whole
 pub run_fails : (main : Bool) (es : List Entity) (e : Failure) (front done : List ℕ) (whole : Result (List ℕ × Next) Fault) (n : ℕ) (src : List ℕ) (stop i : ℕ)
-    → text_behind done (run_part main es n src stop i) ≡ text_behind front whole → 0 < n → i < stop → Fails e (run_bit_at main es src stop i) → Fails e whole
+    → text_behind done (data_part main es n src stop i) ≡ text_behind front whole → 0 < n → i < stop → Fails e (data_bit_at main es src stop i) → Fails e whole
 run_fails main es failure.Memory front done whole n src stop i same some more h = tt
 run_fails main es (failure.Fault f) front done whole n src stop i same some more h = fault_behind front whole f (sym same ∙ run_fault main es done n src stop i f some more h)
 
 -- ---- a value
 
 -- a bit of it
-pub value_more : (main : Bool) (es : List Entity) (opener : ValueOpener) (left : ℕ) (front new : List ℕ) (n m : ℕ) (src : List ℕ) (stop i j : ℕ) → m + 1 ≡ n → i < stop
+pub value_more : (main : Bool) (es : List Entity) (opener : ValueInclusion) (left : ℕ) (front new : List ℕ) (n m : ℕ) (src : List ℕ) (stop i j : ℕ) → m + 1 ≡ n → i < stop
     → behind front (value_bit_at main es src stop i) ≡ Ok (bytes_of new, j)
     → text_behind new (value_text main es opener m src stop j left) ≡ text_behind front (value_text main es opener n src stop i left)
 unfolding value_text
@@ -115,31 +115,31 @@ value_more main es opener left front new n m src stop i j one more h =
     rw (← one, add-one, lt-ltb i stop more) (sym (value_joined opener left front new j (value_bit_at main es src stop i) (λ k l. value_text main es opener m src stop k l) h))
 
 -- a replacement text that was opened
-pub value_opens : (main : Bool) (es : List Entity) (opener : ValueOpener) (left l : ℕ) (front new : List ℕ) (n m : ℕ) (src : List ℕ) (stop i j : ℕ) (t : Replacement) → m + 1 ≡ n → i < stop
+pub value_opens : (main : Bool) (es : List Entity) (opener : ValueInclusion) (left l : ℕ) (front new : List ℕ) (n m : ℕ) (src : List ℕ) (stop i j : ℕ) (t : Replacement) → m + 1 ≡ n → i < stop
     → value_bit_at main es src stop i ≡ Ok (opens t, j) → text_behind front (opener t j left) ≡ Ok (new, l)
     → text_behind new (value_text main es opener m src stop j l) ≡ text_behind front (value_text main es opener n src stop i left)
 unfolding value_text
 value_opens main es opener left l front new n m src stop i j t one more is h =
     rw (← one, add-one, lt-ltb i stop more, is) (sym (value_opened front new l (opener t j left) (λ l. value_text main es opener m src stop j l) h))
 
-pub value_fault : (main : Bool) (es : List Entity) (opener : ValueOpener) (left : ℕ) (front : List ℕ) (n : ℕ) (src : List ℕ) (stop i : ℕ) (f : Fault) → 0 < n → i < stop → value_bit_at main es src stop i ≡ Err f
+pub value_fault : (main : Bool) (es : List Entity) (opener : ValueInclusion) (left : ℕ) (front : List ℕ) (n : ℕ) (src : List ℕ) (stop i : ℕ) (f : Fault) → 0 < n → i < stop → value_bit_at main es src stop i ≡ Err f
     → text_behind front (value_text main es opener n src stop i left) ≡ Err (refusal.here f)
 unfolding value_text
 value_fault main es opener left front zero src stop i f some more h = absurd (omega arith)
 value_fault main es opener left front (suc n) src stop i f some more h = rw (lt-ltb i stop more, h) refl
 
-pub value_done : (main : Bool) (es : List Entity) (opener : ValueOpener) (left : ℕ) (front : List ℕ) (n : ℕ) (src : List ℕ) (stop i : ℕ) → stop ≤ i → text_behind front (value_text main es opener n src stop i left) ≡ Ok (front, left)
+pub value_done : (main : Bool) (es : List Entity) (opener : ValueInclusion) (left : ℕ) (front : List ℕ) (n : ℕ) (src : List ℕ) (stop i : ℕ) → stop ≤ i → text_behind front (value_text main es opener n src stop i left) ≡ Ok (front, left)
 unfolding value_text
 value_done main es opener left front zero src stop i past = nothing_behind front left
 value_done main es opener left front (suc n) src stop i past = rw (le-ltb i stop past) (nothing_behind front left)
 
-pub value_out : (main : Bool) (es : List Entity) (opener : ValueOpener) (left : ℕ) (front : List ℕ) (n : ℕ) (src : List ℕ) (stop i : ℕ) → n ≡ 0 → text_behind front (value_text main es opener n src stop i left) ≡ Ok (front, left)
+pub value_out : (main : Bool) (es : List Entity) (opener : ValueInclusion) (left : ℕ) (front : List ℕ) (n : ℕ) (src : List ℕ) (stop i : ℕ) → n ≡ 0 → text_behind front (value_text main es opener n src stop i left) ≡ Ok (front, left)
 unfolding value_text
 value_out main es opener left front n src stop i none = rw none (nothing_behind front left)
 
 -- a bit that fails
-pub value_fails : (main : Bool) (es : List Entity) (opener : ValueOpener) (left : ℕ) (e : Failure) (front done : List ℕ) (whole : Result (List ℕ × ℕ) Refusal) (n : ℕ) (src : List ℕ) (stop i : ℕ)
-    → text_behind done (value_text main es opener n src stop i left) ≡ text_behind front whole → 0 < n → i < stop → Fails e (value_bit_at main es src stop i) → Refuses (of_failure e) whole
+pub value_fails : (main : Bool) (es : List Entity) (opener : ValueInclusion) (left : ℕ) (e : Failure) (front done : List ℕ) (whole : Result (List ℕ × ℕ) Refusal) (n : ℕ) (src : List ℕ) (stop i : ℕ)
+    → text_behind done (value_text main es opener n src stop i left) ≡ text_behind front whole → 0 < n → i < stop → Fails e (value_bit_at main es src stop i) → IsRefusal (of_failure e) whole
 value_fails main es opener left failure.Memory front done whole n src stop i same some more h = tt
 value_fails main es opener left (failure.Fault f) front done whole n src stop i same some more h =
     fault_behind front whole (refusal.here f) (sym same ∙ value_fault main es opener left done n src stop i f some more h)
@@ -148,20 +148,20 @@ value_fails main es opener left (failure.Fault f) front done whole n src stop i 
 opened_refused : {A : Type 0} (front : List ℕ) (read : Result (List ℕ × ℕ) Refusal) (next : List ℕ × ℕ → Result (List ℕ × A) Refusal) (e : Refusal) → read ≡ Err e → text_behind front (read >>= next) ≡ Err e
 opened_refused front read next e h = rw h refl
 
-value_opens_err : (main : Bool) (es : List Entity) (opener : ValueOpener) (left : ℕ) (front : List ℕ) (n : ℕ) (src : List ℕ) (stop i j : ℕ) (t : Replacement) (e : Refusal) → 0 < n → i < stop
+value_opens_err : (main : Bool) (es : List Entity) (opener : ValueInclusion) (left : ℕ) (front : List ℕ) (n : ℕ) (src : List ℕ) (stop i j : ℕ) (t : Replacement) (e : Refusal) → 0 < n → i < stop
     → value_bit_at main es src stop i ≡ Ok (opens t, j) → opener t j left ≡ Err e → text_behind front (value_text main es opener n src stop i left) ≡ Err e
 unfolding value_text
 value_opens_err main es opener left front zero src stop i j t e some more is h = absurd (omega arith)
 value_opens_err main es opener left front (suc n) src stop i j t e some more is h = rw (lt-ltb i stop more, is, h) refl
 
-pub refuses_by : {A B : Type 0} (e : Refused) (one : Result A Refusal) (other : Result B Refusal) → ((r : Refusal) → one ≡ Err r → other ≡ Err r) → Refuses e one → Refuses e other
+pub refuses_by : {A B : Type 0} (e : ParseError) (one : Result A Refusal) (other : Result B Refusal) → ((r : Refusal) → one ≡ Err r → other ≡ Err r) → IsRefusal e one → IsRefusal e other
 refuses_by refused.Memory one other f h = tt
 refuses_by (refused.Fault g) one other f h = f _ h
-refuses_by (refused.Elsewhere s g) one other f h = f _ h
+refuses_by (refused.FaultIn s g) one other f h = f _ h
 refuses_by (refused.Resolver at message) one other f (request, h) = (request, f _ h)
 
-pub value_opens_fails : (main : Bool) (es : List Entity) (opener : ValueOpener) (left : ℕ) (e : Refused) (front done : List ℕ) (whole : Result (List ℕ × ℕ) Refusal) (n : ℕ) (src : List ℕ) (stop i j : ℕ) (t : Replacement)
+pub value_opens_fails : (main : Bool) (es : List Entity) (opener : ValueInclusion) (left : ℕ) (e : ParseError) (front done : List ℕ) (whole : Result (List ℕ × ℕ) Refusal) (n : ℕ) (src : List ℕ) (stop i j : ℕ) (t : Replacement)
     → text_behind done (value_text main es opener n src stop i left) ≡ text_behind front whole → 0 < n → i < stop → value_bit_at main es src stop i ≡ Ok (opens t, j)
-    → Refuses e (opener t j left) → Refuses e whole
+    → IsRefusal e (opener t j left) → IsRefusal e whole
 value_opens_fails main es opener left e front done whole n src stop i j t same some more is h =
     refuses_by e (opener t j left) whole (λ r err. fault_behind front whole r (sym same ∙ value_opens_err main es opener left done n src stop i j t r some more is err)) h

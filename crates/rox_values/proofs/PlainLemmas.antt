@@ -3,7 +3,7 @@ use Rattle.std.proofs.Common.{◌≡◌, ℕ, ◌+◌, ◌==◌, ◌||◌, not, 
 use Rattle.std.specs.List.{position_or_len, list_any}
 use Rattle.std.proofs.lemmas.Bool.{ne_eqb}
 use Rattle.std.proofs.lemmas.Bool.Decides.{nat_tests}
-use Rattle.rox_grammar.specs.Content.{is_plain}
+use Rattle.rox_grammar.specs.Content.{is_verbatim}
 
 same_suc : (m n : ℕ) → (1 + m == suc n) ≡ (m == n)
 same_suc m n = grind (arith, nat_tests)
@@ -17,5 +17,5 @@ nowhere : (p : ℕ → Bool) (xs : List ℕ) → (position_or_len p xs == length
 nowhere p [] = refl
 nowhere p (x ∷ xs) = nowhere_step p x xs (p x) refl (nowhere p xs)
 
-pub run_plain : (xs : List ℕ) → (position_or_len (λ c. c == 38 || c == 13) xs == length xs) ≡ is_plain xs
+pub run_plain : (xs : List ℕ) → (position_or_len (λ c. c == 38 || c == 13) xs == length xs) ≡ is_verbatim xs
 run_plain xs = nowhere (λ c. c == 38 || c == 13) xs

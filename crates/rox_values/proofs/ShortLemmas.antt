@@ -4,16 +4,16 @@ use Rattle.std.specs.Str.{IsUtf8, IsCharBoundary}
 use Rattle.std.proofs.lemmas.Bool.{le-ltb, eq-eqb, eqb-true, ne_eqb}
 use Rattle.std.proofs.lemmas.Bool.Decides.{nat_tests}
 use Rattle.rox_grammar.specs.declared.fault.Word.TheVariants as word
-use Rattle.rox_grammar.specs.Words.{word_text}
+use Rattle.rox_grammar.specs.FixedTexts.{word_text}
 use Rattle.rox_grammar.specs.Constructs.{has_mark}
-use Rattle.rox_grammar.specs.Content.{is_plain}
-use Rattle.rox_grammar.specs.Marks.{byte_from}
+use Rattle.rox_grammar.specs.Content.{is_verbatim}
+use Rattle.rox_grammar.specs.Search.{byte_from}
 use Rattle.rox_reading.specs.Lexical.{chars_up_to}
-use Rattle.rox_reading.specs.Values.{raw_run_at}
-use Rattle.rox_scan.specs.Near.{AllPass, is_text_byte}
+use Rattle.rox_reading.specs.Values.{raw_character_data_at}
+use Rattle.rox_scan.specs.ByteSets.{AllPass, is_text_byte}
 use Rattle.rox_scan.proofs.NearLemmas.{near_found, near_chars, text_is_plain, none_among, read_among}
 use Rattle.rox_scan.proofs.MarkLemmas.{no_mark}
-use Rattle.rox_scan.specs.Longer.{Looked, ends_run, changes_run}
+use Rattle.rox_scan.specs.Lookahead.{IsLookahead, ends_run, changes_run}
 use Rattle.rox_scan.proofs.LongerLemmas.{looked_run}
 
 text_apart : (b : ℕ) → is_text_byte b ≡ true → (b == 60) ≡ false
@@ -40,18 +40,18 @@ short_chars src i e utf8 start le cut all =
 
 -- what it is read as
 pub short_run : (src : List ℕ) (i e : ℕ) → IsUtf8 src → IsCharBoundary src i → i ≤ e → IsCharBoundary src e → AllPass is_text_byte src i e → (e < length src → get_or src e 0 ≡ 60)
-    → (raw_run_at src i ≡ Ok (slice_range src i e, e)) × (is_plain (slice_range src i e) ≡ true)
-unfolding raw_run_at
+    → (raw_character_data_at src i ≡ Ok (slice_range src i e, e)) × (is_verbatim (slice_range src i e) ≡ true)
+unfolding raw_character_data_at
 short_run src i e utf8 start le cut all here =
     let end : byte_from (λ c. c == 60) src i ≡ e = near_found is_text_byte (λ c. c == 60) src i e le cut.0 all text_apart (λ more. eq-eqb _ _ (here more)) in
     let clear : has_mark (word_text word.CDataEnd) (slice_range src i e) ≡ false =
     no_mark (word_text word.CDataEnd) (slice_range src i e) (omega arith) (λ j below. text_no_bracket _ (read_among is_text_byte src i e j cut.0 all below)) in
-    let plain : is_plain (slice_range src i e) ≡ true = ap not (none_among is_text_byte (λ b. b == 38 || b == 13) src i e (e - i) (omega arith) cut.0 all text_plain) in
+    let plain : is_verbatim (slice_range src i e) ≡ true = ap not (none_among is_text_byte (λ b. b == 38 || b == 13) src i e (e - i) (omega arith) cut.0 all text_plain) in
     (rw (end, short_chars src i e utf8 start le cut all, clear) refl, plain)
 
 -- and a run that a longer look passes
-pub longer_run : (src : List ℕ) (i e : ℕ) (plain : Bool) → Looked (ends_run src) changes_run src i e plain → (e == length src || get_or src e 0 == 60) ≡ true → raw_run_at src i ≡ Ok (slice_range src i e, e)
-unfolding raw_run_at
+pub longer_run : (src : List ℕ) (i e : ℕ) (plain : Bool) → IsLookahead (ends_run src) changes_run src i e plain → (e == length src || get_or src e 0 == 60) ≡ true → raw_character_data_at src i ≡ Ok (slice_range src i e, e)
+unfolding raw_character_data_at
 longer_run src i e plain f here =
     let at : e < length src → get_or src e 0 ≡ 60 = λ more. eqb-true _ _ (or_second _ _ here (ne_eqb e (length src) (λ same. absurd (omega arith)))) in
     let read = looked_run src i e plain f at in

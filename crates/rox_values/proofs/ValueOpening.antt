@@ -8,11 +8,11 @@ use Rattle.rox_reading.specs.Refusals as refusal
 use Rattle.rox_reading.specs.Refusals.{Refusal, elsewhere}
 use Rattle.rox_reading.specs.Values.{value_text}
 use Rattle.rox_reading.specs.Machine.{left_behind, value_opener}
-use Rattle.rox_values.specs.Named.{opened_at}
-use Rattle.rox_values.specs.Refusing.{Refuses, seen_from}
+use Rattle.rox_values.specs.DeclaredEntities.{opened_at}
+use Rattle.rox_values.specs.Refusals.{IsRefusal, seen_from}
 use Rattle.rox_values.specs.Values.{text_behind}
-use Rattle.rox_values.specs.declared.refused.Refused.{Refused}
-use Rattle.rox_values.specs.declared.refused.Refused.TheVariants as refused
+use Rattle.rox_values.specs.declared.parse_error.ParseError.{ParseError}
+use Rattle.rox_values.specs.declared.parse_error.ParseError.TheVariants as refused
 use Rattle.rox_values.proofs.PartLemmas.{pair_ok}
 
 -- it may not be opened
@@ -45,14 +45,14 @@ pub opens_reads : (es : List Entity) (deep d : ℕ) (main : Bool) (t : Replaceme
 opens_reads es deep d main t after left r inner front new below h read =
     ap (text_behind front) (opens_ok es deep d main t after left r below h) ∙ appended front new t.source main left inner (inner_value es d t r) read
 
-refused_there : (source : Bor (List ℕ)) (main : Bool) (left : ℕ) (e : Refused) (read : Result (List ℕ × ℕ) Refusal) → Refuses e read → Refuses (seen_from source e) (behind_it main left source.now read)
+refused_there : (source : Bor (List ℕ)) (main : Bool) (left : ℕ) (e : ParseError) (read : Result (List ℕ × ℕ) Refusal) → IsRefusal e read → IsRefusal (seen_from source e) (behind_it main left source.now read)
 refused_there source main left refused.Memory read h = tt
 refused_there source main left (refused.Fault f) read h = rw h refl
-refused_there source main left (refused.Elsewhere s f) read h = rw h refl
+refused_there source main left (refused.FaultIn s f) read h = rw h refl
 refused_there source main left (refused.Resolver at message) read (request, h) = (request, rw h refl)
 
 -- it was refused
-pub opens_refuses : (es : List Entity) (deep d : ℕ) (main : Bool) (source : Bor (List ℕ)) (start after left r : ℕ) (e : Refused) → d ≡ deep - 1 → opened_at deep main after left ≡ Ok r
-    → Refuses e (inner_value es d (record { source = source.now; start = start }) r) → Refuses (seen_from source e) (value_opener es deep main (record { source = source.now; start = start }) after left)
+pub opens_refuses : (es : List Entity) (deep d : ℕ) (main : Bool) (source : Bor (List ℕ)) (start after left r : ℕ) (e : ParseError) → d ≡ deep - 1 → opened_at deep main after left ≡ Ok r
+    → IsRefusal e (inner_value es d (record { source = source.now; start = start }) r) → IsRefusal (seen_from source e) (value_opener es deep main (record { source = source.now; start = start }) after left)
 opens_refuses es deep d main source start after left r e below h read =
     rw (opens_ok es deep d main (record { source = source.now; start = start }) after left r below h) (refused_there source main left e (inner_value es d (record { source = source.now; start = start }) r) read)

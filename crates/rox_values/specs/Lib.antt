@@ -1,4 +1,4 @@
-pub mod Refusing
-pub mod Named
-pub mod Hows
+pub mod Refusals
+pub mod DeclaredEntities
+pub mod Contexts
 pub mod Values

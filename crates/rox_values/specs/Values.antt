@@ -7,16 +7,16 @@ use Rattle.rox_grammar.specs.References.{is_digit, is_hex_digit}
 use Rattle.rox_reading.specs.Lexical.{Read, ◌>>=◌}
 use Rattle.rox_reading.specs.Refusals.{Refusal}
 use Rattle.rox_reading.specs.Values as reading
-use Rattle.rox_grammar.specs.Failing.{Fails}
+use Rattle.rox_grammar.specs.Failures.{Fails}
 use Rattle.rox_scan.specs.declared.cursor.Cursor.{Cursor}
 use Rattle.rox_grammar.specs.declared.failure.Failure.{Failure}
-use Rattle.rox_scan.specs.Doctypes.{replacement_view}
-use Rattle.rox_values.specs.Refusing.{Refuses}
-use Rattle.rox_values.specs.declared.refused.Refused.{Refused}
+use Rattle.rox_scan.specs.DoctypeViews.{replacement_view}
+use Rattle.rox_values.specs.Refusals.{IsRefusal}
+use Rattle.rox_values.specs.declared.parse_error.ParseError.{ParseError}
 use Rattle.rox_values.specs.declared.reference.Reference.{Reference}
 use Rattle.rox_values.specs.declared.reference.Reference.TheVariants as reference
-use Rattle.rox_values.specs.declared.value.Piece.{Piece}
-use Rattle.rox_values.specs.declared.value.Piece.TheVariants as piece
+use Rattle.rox_values.specs.declared.value.TextValue.{TextValue}
+use Rattle.rox_values.specs.declared.value.TextValue.TheVariants as piece
 
 -- the base of a number's digits, and which bytes they are
 abbrev pub base_of : Bool → ℕ
@@ -31,12 +31,12 @@ reference_view (reference.Character c) = reading.character_of c
 reference_view (reference.Entity span name) = reading.entity_at span
 
 -- the name that a reference has is what stands there
-abbrev pub IsNamed : List ℕ → Reference → Type 0
-IsNamed src (reference.Character c) = Unit {0}
-IsNamed src (reference.Entity span name) = name.now ≡ slice_range src span.start span.end
+abbrev pub HasItsName : List ℕ → Reference → Type 0
+HasItsName src (reference.Character c) = Unit {0}
+HasItsName src (reference.Entity span name) = name.now ≡ slice_range src span.start span.end
 
 -- a text, with what the buffer holds where it had to be changed
-abbrev pub piece_view : Piece → List ℕ → reading.RunText
+abbrev pub piece_view : TextValue → List ℕ → reading.ReadText
 piece_view (piece.Plain s) buffer = record { value = s.now; plain = true }
 piece_view piece.Changed buffer = record { value = buffer; plain = false }
 
@@ -73,9 +73,9 @@ abbrev pub ends_stretch : ℕ → Bool
 ends_stretch b = reading.is_special b || b == 60
 
 -- a replacement text is found, or this fault
-abbrev pub Finds : Result Cursor Fault → Result reading.Bit Fault → Type 0
-Finds (Ok text) read = read ≡ Ok (reading.opens (replacement_view text))
-Finds (Err f) read = read ≡ Err f
+abbrev pub FindsEntity : Result Cursor Fault → Result reading.Bit Fault → Type 0
+FindsEntity (Ok text) read = read ≡ Ok (reading.opens (replacement_view text))
+FindsEntity (Err f) read = read ≡ Err f
 
 -- what ends a part of a run: a replacement text, behind whose reference this place is, or the end
 abbrev pub next_view : Option Cursor → ℕ → reading.Next
@@ -88,17 +88,17 @@ AppendsPart old new after (Ok next) read = text_behind old read ≡ Ok (new, nex
 AppendsPart old new after (Err e) read = Fails e read
 
 -- and a value, or a part of one, behind which so many replacement texts may be opened
-abbrev pub AppendsValue : List ℕ → List ℕ → Result ℕ Refused → Result (List ℕ × ℕ) Refusal → Type 0
+abbrev pub AppendsValue : List ℕ → List ℕ → Result ℕ ParseError → Result (List ℕ × ℕ) Refusal → Type 0
 AppendsValue old new (Ok left) read = text_behind old read ≡ Ok (new, left)
-AppendsValue old new (Err e) read = Refuses e read
+AppendsValue old new (Err e) read = IsRefusal e read
 
 -- a value was read
-abbrev pub GivesValue : {A : Type 0} → (A → reading.RunText) → Result (A × ℕ) Refused → Result (reading.RunText × ℕ) Refusal → Type 0
+abbrev pub GivesValue : {A : Type 0} → (A → reading.ReadText) → Result (A × ℕ) ParseError → Result (reading.ReadText × ℕ) Refusal → Type 0
 GivesValue view (Ok x) read = read ≡ Ok (view x.0, x.1)
-GivesValue view (Err e) read = Refuses e read
+GivesValue view (Err e) read = IsRefusal e read
 
 -- XML 2.7, 2.11: the text of a CDATA section, a slice of the source if it has no CR
-abbrev pub section_text : List ℕ → reading.RunText
+abbrev pub section_text : List ℕ → reading.ReadText
 section_text raw = record { value = line_ends (literals raw); plain = not (list_any (λ b. b == 13) raw) }
 
 -- what a section's text from i on stands for, where no CR comes right before it

@@ -2,8 +2,8 @@
 
 ghost use Rattle.std.specs.Prelude.{◌≡◌, ◌++◌, ◌∷◌, [], None, List, OnOk, option_map};
 ghost use Rattle.rox_grammar.specs.Entities.{Entity};
-ghost use Rattle.rox_scan.specs.Doctypes.{replacement_view};
-ghost use Rattle.rox_values.specs.Named.{AreDeclared, text_in};
+ghost use Rattle.rox_scan.specs.DoctypeViews.{replacement_view};
+ghost use Rattle.rox_values.specs.DeclaredEntities.{AreDeclared, text_in};
 
 use rox_scan::cursor::Cursor;
 use std::alloc::{AllocError, Global};

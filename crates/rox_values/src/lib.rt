@@ -2,7 +2,7 @@
 #![tactic(auto)]
 
 pub mod entities;
-pub mod how;
+pub mod context;
 pub mod reference;
-pub mod refused;
+pub mod parse_error;
 pub mod value;

@@ -4,8 +4,8 @@ ghost use Rattle.std.specs.Prelude.{◌≡◌, ◌^◌, ◌≤◌, ◌<◌, IfOk
 ghost use Rattle.rox_grammar.specs.Chars.{is_char};
 ghost use Rattle.rox_grammar.specs.References as spec;
 ghost use Rattle.rox_reading.specs.Values as reading;
-ghost use Rattle.rox_scan.specs.Gives.{Reads};
-ghost use Rattle.rox_values.specs.Values.{IsNamed, base_of, is_digit_of, reference_view};
+ghost use Rattle.rox_scan.specs.ScanResults.{Reads};
+ghost use Rattle.rox_values.specs.Values.{HasItsName, base_of, is_digit_of, reference_view};
 
 use rox_grammar::fault::{Fault, Span};
 use rox_scan::chars::is_char;
@@ -108,7 +108,7 @@ fn number<'input>(
     ensures value { Reads reference_view cursor.new result (reading.number_at (base_of hexadecimal) (is_digit_of hexadecimal) cursor.old.text.now cursor.old.pos digits) }
     ensures source { cursor.new.text ≡ cursor.old.text }
     ensures onward { cursor.old.pos ≤ cursor.new.pos }
-    ensures name { IfOk result (IsNamed cursor.old.text.now) }
+    ensures name { IfOk result (HasItsName cursor.old.text.now) }
 {
     let start = cursor.pos;
     let text = cursor.text;
@@ -152,7 +152,7 @@ fn name_reference<'input>(cursor: &mut Cursor<'input>) -> Result<Reference<'inpu
     ensures value { Reads reference_view cursor.new result (reading.name_reference_at cursor.old.text.now cursor.old.pos) }
     ensures source { cursor.new.text ≡ cursor.old.text }
     ensures onward { cursor.old.pos ≤ cursor.new.pos }
-    ensures name { IfOk result (IsNamed cursor.old.text.now) }
+    ensures name { IfOk result (HasItsName cursor.old.text.now) }
 {
     let reference = cursor.pos;
     let text = cursor.text;
@@ -180,7 +180,7 @@ pub fn read_reference<'input>(cursor: &mut Cursor<'input>) -> Result<Reference<'
     ensures value { Reads reference_view cursor.new result (reading.reference_at cursor.old.text.now cursor.old.pos) }
     ensures source { cursor.new.text ≡ cursor.old.text }
     ensures onward { cursor.old.pos ≤ cursor.new.pos }
-    ensures name { IfOk result (IsNamed cursor.old.text.now) }
+    ensures name { IfOk result (HasItsName cursor.old.text.now) }
 {
     let start = cursor.pos;
     let text = cursor.text;

@@ -7,34 +7,34 @@ ghost use Rattle.std.specs.String.{string_bytes};
 ghost use Rattle.std.specs.Char.{encode_utf8};
 ghost use Rattle.std.specs.Str.{IsCharBoundary};
 ghost use Rattle.rox_grammar.specs.Content as content;
-ghost use Rattle.rox_grammar.specs.Marks.{byte_from};
+ghost use Rattle.rox_grammar.specs.Search.{byte_from};
 ghost use Rattle.rox_reading.specs.Values as spec;
-ghost use Rattle.rox_grammar.specs.Failing.{Gives};
-ghost use Rattle.rox_scan.specs.Gives.{Reads};
-ghost use Rattle.rox_scan.specs.Parts.{HasValue};
+ghost use Rattle.rox_grammar.specs.Failures.{Gives};
+ghost use Rattle.rox_scan.specs.ScanResults.{Reads};
+ghost use Rattle.rox_scan.specs.Views.{HasValue};
 ghost use Rattle.rox_grammar.specs.Entities.{Entity, text_of};
 ghost use Rattle.rox_grammar.specs.declared.fault.Fault.{Fault};
 ghost use Rattle.rox_reading.specs.Machine.{value_opener};
-ghost use Rattle.rox_scan.specs.Doctypes.{replacement_view};
-ghost use Rattle.rox_values.specs.Named.{AreDeclared};
-ghost use Rattle.rox_values.specs.Values.{Appends, AppendsBit, AppendsCharacter, AppendsPart, AppendsValue, Finds, GivesValue, behind, ends_stretch, piece_view, section_rest, section_text};
+ghost use Rattle.rox_scan.specs.DoctypeViews.{replacement_view};
+ghost use Rattle.rox_values.specs.DeclaredEntities.{AreDeclared};
+ghost use Rattle.rox_values.specs.Values.{Appends, AppendsBit, AppendsCharacter, AppendsPart, AppendsValue, FindsEntity, GivesValue, behind, ends_stretch, piece_view, section_rest, section_text};
 
-use crate::how::How;
+use crate::context::Context;
 use crate::reference::{Reference, read_reference};
-use crate::refused::Refused;
+use crate::parse_error::ParseError;
 use rox_grammar::failure::Failure;
 use rox_grammar::fault::{Fault, Span};
 use rox_scan::cursor::Cursor;
-use rox_scan::longer::{is_special, run_look};
-use rox_scan::marks::{before_byte, before_either, byte_from, either_from, has_mark};
+use rox_scan::lookahead::{is_special, scan_character_data};
+use rox_scan::search::{before_byte, before_either, byte_from, either_from, has_mark};
 use rox_scan::markup::RawAttribute;
-use rox_scan::near::{ValueByte, near_end};
+use rox_scan::byte_set::{ValueByte, skip_set};
 use rox_scan::runs::{after_byte, is_at};
 use std::alloc::AllocError;
 
 /// A text: a slice of the source, or what the caller's buffer holds.
 #[derive(Clone, Copy)]
-pub enum Piece<'input> {
+pub enum TextValue<'input> {
     Plain(&'input str),
     Changed,
 }
@@ -44,12 +44,12 @@ pub enum Piece<'input> {
 #[cold]
 #[inline(never)]
 fn found<'input>(
-    how: How<'_, 'input>,
+    how: Context<'_, 'input>,
     name: &str,
     span: Span,
     start: usize,
 ) -> Result<Cursor<'input>, Fault>
-    ensures { (es : List Entity) → AreDeclared es how.entry.entities.now → Finds result (spec.found (text_of es name.now) start span) }
+    ensures { (es : List Entity) → AreDeclared es how.entry.entities.now → FindsEntity result (spec.found (text_of es name.now) start span) }
 {
     match how.entities.get(name) {
         Some(text) => Ok(text),
@@ -62,7 +62,7 @@ fn found<'input>(
 #[tactic(auto, unfolding(rox_reading::specs::Values::expansion_at))]
 fn expand<'input>(
     cursor: &mut Cursor<'input>,
-    how: How<'_, 'input>,
+    how: Context<'_, 'input>,
     out: &mut String,
 ) -> Result<Option<Cursor<'input>>, Failure>
     requires { slice_index cursor.old.text.now cursor.old.pos ≡ 38 }
@@ -85,19 +85,19 @@ fn expand<'input>(
 
 /// Whether the bytes are a run's text as they stand: they have no `&` and no CR.
 #[inline]
-fn is_plain(bytes: &[u8]) -> bool
-    ensures { result ≡ content.is_plain bytes.now }
+fn is_verbatim(bytes: &[u8]) -> bool
+    ensures { result ≡ content.is_verbatim bytes.now }
 {
     before_either(bytes, b'&', b'\r') == bytes.len()
 }
 
 /// Appends a line feed for the line end that stands here: a CR, and the LF behind it if one stands there before `stop`.
-#[tactic(auto, unfolding(rox_reading::specs::Values::run_bit_at))]
+#[tactic(auto, unfolding(rox_reading::specs::Values::data_bit_at))]
 fn line_end(cursor: &mut Cursor<'_>, stop: usize, out: &mut String) -> Result<(), Failure>
     requires here { slice_index cursor.old.text.now cursor.old.pos ≡ 13 }
     requires before { cursor.old.pos < stop }
     requires cut { IsCharBoundary cursor.old.text.now stop }
-    ensures value { (es : List Entity) → Appends (string_bytes out.old) (string_bytes out.new) cursor.new result (spec.run_bit_at true es cursor.old.text.now stop cursor.old.pos) }
+    ensures value { (es : List Entity) → Appends (string_bytes out.old) (string_bytes out.new) cursor.new result (spec.data_bit_at true es cursor.old.text.now stop cursor.old.pos) }
     ensures source { cursor.new.text ≡ cursor.old.text }
 {
     cursor.advance();
@@ -109,13 +109,13 @@ fn line_end(cursor: &mut Cursor<'_>, stop: usize, out: &mut String) -> Result<()
 }
 
 /// Appends all of a run up to the next `&` or CR.
-#[tactic(auto, unfolding(rox_reading::specs::Values::run_bit_at))]
-fn main_run(cursor: &mut Cursor<'_>, stop: usize, out: &mut String) -> Result<(), Failure>
+#[tactic(auto, unfolding(rox_reading::specs::Values::data_bit_at))]
+fn main_data(cursor: &mut Cursor<'_>, stop: usize, out: &mut String) -> Result<(), Failure>
     requires before { cursor.old.pos < stop }
     requires cut { IsCharBoundary cursor.old.text.now stop }
     requires no_reference { slice_index cursor.old.text.now cursor.old.pos ≢ 38 }
     requires no_line_end { slice_index cursor.old.text.now cursor.old.pos ≢ 13 }
-    ensures value { (es : List Entity) → Appends (string_bytes out.old) (string_bytes out.new) cursor.new result (spec.run_bit_at true es cursor.old.text.now stop cursor.old.pos) }
+    ensures value { (es : List Entity) → Appends (string_bytes out.old) (string_bytes out.new) cursor.new result (spec.data_bit_at true es cursor.old.text.now stop cursor.old.pos) }
     ensures source { cursor.new.text ≡ cursor.old.text }
 {
     let start = cursor.pos;
@@ -127,12 +127,12 @@ fn main_run(cursor: &mut Cursor<'_>, stop: usize, out: &mut String) -> Result<()
 }
 
 /// Appends all of a run of a replacement text up to the next `&`.
-#[tactic(auto, unfolding(rox_reading::specs::Values::run_bit_at))]
-fn inner_run(cursor: &mut Cursor<'_>, stop: usize, out: &mut String) -> Result<(), Failure>
+#[tactic(auto, unfolding(rox_reading::specs::Values::data_bit_at))]
+fn inner_data(cursor: &mut Cursor<'_>, stop: usize, out: &mut String) -> Result<(), Failure>
     requires before { cursor.old.pos < stop }
     requires cut { IsCharBoundary cursor.old.text.now stop }
     requires no_reference { slice_index cursor.old.text.now cursor.old.pos ≢ 38 }
-    ensures value { (es : List Entity) → Appends (string_bytes out.old) (string_bytes out.new) cursor.new result (spec.run_bit_at false es cursor.old.text.now stop cursor.old.pos) }
+    ensures value { (es : List Entity) → Appends (string_bytes out.old) (string_bytes out.new) cursor.new result (spec.data_bit_at false es cursor.old.text.now stop cursor.old.pos) }
     ensures source { cursor.new.text ≡ cursor.old.text }
 {
     let start = cursor.pos;
@@ -145,17 +145,17 @@ fn inner_run(cursor: &mut Cursor<'_>, stop: usize, out: &mut String) -> Result<(
 
 /// Appends a bit of a run: a reference, a line end, or all up to the next of these; or answers the replacement text that a
 /// reference names. Within a replacement text line ends stay as they are.
-#[tactic(auto, unfolding(rox_reading::specs::Values::run_bit_at))]
-fn run_bit<'input>(
+#[tactic(auto, unfolding(rox_reading::specs::Values::data_bit_at))]
+fn data_bit<'input>(
     cursor: &mut Cursor<'input>,
     stop: usize,
-    how: How<'_, 'input>,
+    how: Context<'_, 'input>,
     out: &mut String,
 ) -> Result<Option<Cursor<'input>>, Failure>
     requires before { cursor.old.pos < stop }
     requires cut { IsCharBoundary cursor.old.text.now stop }
     ensures value { (es : List Entity) → AreDeclared es how.entry.entities.now
-        → AppendsBit (string_bytes out.old) (string_bytes out.new) cursor.new result (spec.run_bit_at how.entry.main es cursor.old.text.now stop cursor.old.pos) }
+        → AppendsBit (string_bytes out.old) (string_bytes out.new) cursor.new result (spec.data_bit_at how.entry.main es cursor.old.text.now stop cursor.old.pos) }
     ensures source { cursor.new.text ≡ cursor.old.text }
 {
     let here = cursor.text.as_bytes()[cursor.pos];
@@ -163,35 +163,35 @@ fn run_bit<'input>(
         return expand(cursor, how, out);
     }
     if !how.main {
-        inner_run(cursor, stop, out)?;
+        inner_data(cursor, stop, out)?;
         return Ok(None);
     }
     if here == b'\r' {
         line_end(cursor, stop, out)?;
         return Ok(None);
     }
-    main_run(cursor, stop, out)?;
+    main_data(cursor, stop, out)?;
     Ok(None)
 }
 
 /// Appends what the run from here up to `stop` stands for, or up to the next reference to an entity, whose replacement text
 /// it answers. Within a replacement text line ends stay as they are.
-pub fn run_part<'input>(
+pub fn data_part<'input>(
     cursor: &mut Cursor<'input>,
     stop: usize,
-    how: How<'_, 'input>,
+    how: Context<'_, 'input>,
     out: &mut String,
 ) -> Result<Option<Cursor<'input>>, Failure>
     requires { IsCharBoundary cursor.old.text.now stop }
     ensures value { (es : List Entity) → AreDeclared es how.entry.entities.now
-        → AppendsPart (string_bytes out.old) (string_bytes out.new) cursor.new result (spec.run_part how.entry.main es (stop - cursor.old.pos) cursor.old.text.now stop cursor.old.pos) }
+        → AppendsPart (string_bytes out.old) (string_bytes out.new) cursor.new result (spec.data_part how.entry.main es (stop - cursor.old.pos) cursor.old.text.now stop cursor.old.pos) }
     ensures source { cursor.new.text ≡ cursor.old.text }
 {
     'bits: for _turn in cursor.pos..stop {
         if cursor.pos >= stop {
             return Ok(None);
         }
-        if let Some(text) = run_bit(cursor, stop, how, out)? {
+        if let Some(text) = data_bit(cursor, stop, how, out)? {
             return Ok(Some(text));
         }
     }
@@ -213,14 +213,14 @@ fn before_special(bytes: &[u8]) -> usize
 }
 
 /// The first place from `at` on of a special byte of a value, or the end.
-#[tactic(auto, using(rox_scan::proofs::NearLemmas::special_goes_on, rox_scan::proofs::NearLemmas::value_cut), unfolding(rox_grammar::specs::Marks::byte_from))]
+#[tactic(auto, using(rox_scan::proofs::NearLemmas::special_goes_on, rox_scan::proofs::NearLemmas::value_cut), unfolding(rox_grammar::specs::Search::byte_from))]
 fn special_from(text: &str, at: usize) -> usize
     requires { IsCharBoundary text.now at }
     ensures place { result ≡ byte_from spec.is_special text.now at }
     ensures onward { at ≤ result }
     ensures cut { IsCharBoundary text.now result }
 {
-    let near = near_end::<ValueByte>(text, at);
+    let near = skip_set::<ValueByte>(text, at);
     near + before_special(text[near..].as_bytes())
 }
 
@@ -274,7 +274,7 @@ fn character_in_value(
 #[tactic(auto, unfolding(rox_reading::specs::Values::value_reference_at))]
 fn expand_in_value<'input>(
     cursor: &mut Cursor<'input>,
-    how: How<'_, 'input>,
+    how: Context<'_, 'input>,
     out: &mut String,
 ) -> Result<Option<Cursor<'input>>, Failure>
     requires { slice_index cursor.old.text.now cursor.old.pos ≡ 38 }
@@ -318,7 +318,7 @@ fn before_stop(bytes: &[u8]) -> usize
 }
 
 /// The first place from `at` on of a special byte of a value or a `<`, or the end.
-#[tactic(auto, unfolding(rox_grammar::specs::Marks::byte_from))]
+#[tactic(auto, unfolding(rox_grammar::specs::Search::byte_from))]
 fn stretch_end(text: &str, at: usize) -> usize
     requires { IsCharBoundary text.now at }
     ensures place { result ≡ byte_from ends_stretch text.now at }
@@ -373,7 +373,7 @@ fn main_stretch(cursor: &mut Cursor<'_>, stop: usize, out: &mut String) -> Resul
 fn value_bit<'input>(
     cursor: &mut Cursor<'input>,
     stop: usize,
-    how: How<'_, 'input>,
+    how: Context<'_, 'input>,
     out: &mut String,
 ) -> Result<Option<Cursor<'input>>, Failure>
     requires before { cursor.old.pos < stop }
@@ -405,10 +405,10 @@ fn value_text<'input>(
     cursor: &mut Cursor<'input>,
     stop: usize,
     bits: usize,
-    how: How<'_, 'input>,
+    how: Context<'_, 'input>,
     mut left: u32,
     out: &mut String,
-) -> Result<u32, Refused<'input>>
+) -> Result<u32, ParseError<'input>>
     requires { IsCharBoundary cursor.old.text.now stop }
     ensures { (es : List Entity) → AreDeclared es how.entry.entities.now
         → AppendsValue (string_bytes out.old) (string_bytes out.new) result (spec.value_text how.entry.main es (value_opener es how.entry.deep how.entry.main) bits cursor.old.text.now stop cursor.old.pos left) }
@@ -432,10 +432,10 @@ fn value_text<'input>(
 fn open_value<'input>(
     text: Cursor<'input>,
     after: usize,
-    how: How<'_, 'input>,
+    how: Context<'_, 'input>,
     left: u32,
     out: &mut String,
-) -> Result<u32, Refused<'input>>
+) -> Result<u32, ParseError<'input>>
     ensures { (es : List Entity) → AreDeclared es how.entry.entities.now
         → AppendsValue (string_bytes out.old) (string_bytes out.new) result (value_opener es how.entry.deep how.entry.main (replacement_view text.entry) after left) }
 {
@@ -450,7 +450,7 @@ fn open_value<'input>(
 
 /// Whether a run ends at `at`: a `<` stands there, or the text ends.
 #[inline(always)]
-pub fn is_run_end(text: &str, at: usize) -> bool
+pub fn ends_character_data(text: &str, at: usize) -> bool
     requires { at ≤ length text.now }
     ensures { result ≡ (at == length text.now || slice_index text.now at == 60) }
 {
@@ -459,39 +459,39 @@ pub fn is_run_end(text: &str, at: usize) -> bool
 
 /// A run of character data as it stands. `plain` says that it has no reference and no carriage return.
 #[derive(Clone, Copy)]
-pub struct RawRun<'input> {
+pub struct RawCharacterData<'input> {
     pub text: &'input str,
     pub plain: bool,
 }
 
 /// A run of character data, up to the next `<` or the end (XML 1.0 section 2.4), as it stands: of Chars, and without `]]>`,
 /// which is a fault at its end.
-pub fn raw_run<'input>(cursor: &mut Cursor<'input>) -> Result<RawRun<'input>, Fault>
-    ensures value { Reads (λ raw. raw.text.now) cursor.new result (spec.raw_run_at cursor.old.text.now cursor.old.pos) }
-    ensures plain { IfOk result (λ raw. raw.plain ≡ content.is_plain raw.text.now) }
+pub fn raw_character_data<'input>(cursor: &mut Cursor<'input>) -> Result<RawCharacterData<'input>, Fault>
+    ensures value { Reads (λ raw. raw.text.now) cursor.new result (spec.raw_character_data_at cursor.old.text.now cursor.old.pos) }
+    ensures plain { IfOk result (λ raw. raw.plain ≡ content.is_verbatim raw.text.now) }
     ensures source { cursor.new.text ≡ cursor.old.text }
     ensures cut { OnOk result (IsCharBoundary cursor.old.text.now cursor.new.pos) }
 {
     let start = cursor.pos;
     let text = cursor.text;
-    let look = run_look(text, start);
-    if is_run_end(text, look.end) {
+    let look = scan_character_data(text, start);
+    if ends_character_data(text, look.end) {
         cursor.pos = look.end;
-        return Ok(RawRun {
+        return Ok(RawCharacterData {
             text: &text[start..look.end],
             plain: look.plain,
         });
     }
-    faulty_run(cursor)
+    faulty_character_data(cursor)
 }
 
 /// The same of a run that is not in order.
 #[cold]
 #[inline(never)]
-#[tactic(auto, unfolding(rox_reading::specs::Values::raw_run_at))]
-fn faulty_run<'input>(cursor: &mut Cursor<'input>) -> Result<RawRun<'input>, Fault>
-    ensures value { Reads (λ raw. raw.text.now) cursor.new result (spec.raw_run_at cursor.old.text.now cursor.old.pos) }
-    ensures plain { IfOk result (λ raw. raw.plain ≡ content.is_plain raw.text.now) }
+#[tactic(auto, unfolding(rox_reading::specs::Values::raw_character_data_at))]
+fn faulty_character_data<'input>(cursor: &mut Cursor<'input>) -> Result<RawCharacterData<'input>, Fault>
+    ensures value { Reads (λ raw. raw.text.now) cursor.new result (spec.raw_character_data_at cursor.old.text.now cursor.old.pos) }
+    ensures plain { IfOk result (λ raw. raw.plain ≡ content.is_verbatim raw.text.now) }
     ensures source { cursor.new.text ≡ cursor.old.text }
     ensures cut { OnOk result (IsCharBoundary cursor.old.text.now cursor.new.pos) }
 {
@@ -500,9 +500,9 @@ fn faulty_run<'input>(cursor: &mut Cursor<'input>) -> Result<RawRun<'input>, Fau
     if has_mark(raw.as_bytes(), b"]]>") {
         return Err(Fault::InvalidCharacterData(end));
     }
-    Ok(RawRun {
+    Ok(RawCharacterData {
         text: raw,
-        plain: is_plain(raw.as_bytes()),
+        plain: is_verbatim(raw.as_bytes()),
     })
 }
 
@@ -514,37 +514,37 @@ fn faulty_run<'input>(cursor: &mut Cursor<'input>) -> Result<RawRun<'input>, Fau
 pub fn value<'input>(
     text: &'input str,
     raw: &RawAttribute<'input>,
-    how: How<'_, 'input>,
+    how: Context<'_, 'input>,
     left: u32,
     scratch: &mut String,
-) -> Result<(Piece<'input>, u32), Refused<'input>>
+) -> Result<(TextValue<'input>, u32), ParseError<'input>>
     requires { HasValue text.now raw.now }
     ensures { (es : List Entity) → AreDeclared es how.entry.entities.now → GivesValue (λ p. piece_view p (string_bytes scratch.new)) result
         (spec.value_at how.entry.main es (value_opener es how.entry.deep how.entry.main) text.entry.now raw.now.value_start raw.now.value_end left) }
 {
     if raw.plain {
-        return Ok((Piece::Plain(raw.value), left));
+        return Ok((TextValue::Plain(raw.value), left));
     }
     scratch.clear();
     let mut cursor = Cursor::at(text, raw.value_start);
     let bits = raw.value_end.saturating_sub(raw.value_start);
     let left = value_text(&mut cursor, raw.value_end, bits, how, left, scratch)?;
-    Ok((Piece::Changed, left))
+    Ok((TextValue::Changed, left))
 }
 
 /// The text of a CDATA section (XML 1.0 sections 2.7 and 2.11): a slice of the source where it has no CR, and else with a LF
 /// for each line end, in `scratch`, which is cleared first. The only error is want of memory.
 #[inline]
-pub fn cdata_text<'input>(raw: &'input str, scratch: &mut String) -> Result<Piece<'input>, Failure>
+pub fn cdata_text<'input>(raw: &'input str, scratch: &mut String) -> Result<TextValue<'input>, Failure>
     ensures { Gives (λ p. piece_view p (string_bytes scratch.new)) result (Ok (section_text raw.now)) }
 {
     let bytes = raw.as_bytes();
     if before_byte(bytes, b'\r') == bytes.len() {
-        return Ok(Piece::Plain(raw));
+        return Ok(TextValue::Plain(raw));
     }
     scratch.clear();
     line_feeds(raw, scratch)?;
-    Ok(Piece::Changed)
+    Ok(TextValue::Changed)
 }
 
 /// Appends a text with a LF for each line end (XML 1.0 section 2.11).

@@ -3,12 +3,12 @@ use Rattle.std.proofs.Common.{◌≡◌, ℕ, zero, suc, ◌+◌, ◌-◌, ◌<�
 use Rattle.std.specs.List.{AllByRecursion, slice_range, zip}
 use Rattle.std.proofs.lemmas.List.{length-map}
 use Rattle.std.proofs.lemmas.Slice.Zip.{firsts-zip, get_or-zip}
-use Rattle.rox_grammar.specs.Written.{Declaration}
-use Rattle.rox_tables.specs.Lines.{AttributeRow, NamespaceWithin, attribute, rows_of}
+use Rattle.rox_grammar.specs.Written.{NamespaceDecl}
+use Rattle.rox_tables.specs.Rows.{AttributeRow, NamespaceWithin, attribute, attribute_rows}
 use Rattle.rox_tables.specs.declared.tables.AttributeData.{AttributeData}
 use Rattle.rox_tables.specs.declared.tables.AttributePlaces.{AttributePlaces}
 use Rattle.rox_tables.specs.declared.attributes.AttributeTable.{AttributeTable}
-use Rattle.roxmltree.specs.Reach.{reach}
+use Rattle.roxmltree.specs.NamespaceBound.{namespace_bound}
 use Rattle.roxmltree.proofs.Ends.{first_of, last_of, length_stretch}
 use Rattle.roxmltree.proofs.Entries.{reach_within}
 
@@ -40,22 +40,22 @@ last_row as' ps i j x p e o n w =
     ∙ ap (λ r. slice_range (zip as' ps) i (j - 1) ++ r ∷ []) (row_at as' ps (j - 1) x p e (omega arith))
 
 -- how many attributes a stretch has
-pub length_left : (names : List Declaration) (as' : List AttributeData) (ps : List AttributePlaces) (i j : ℕ)
+pub length_left : (names : List NamespaceDecl) (as' : List AttributeData) (ps : List AttributePlaces) (i j : ℕ)
     → length ps ≡ length as' → i ≤ j → j ≤ length as' → length (map (attribute names) (slice_range (zip as' ps) i j)) ≡ j - i
 length_left names as' ps i j e o w =
     let l = length_rows as' ps e in
     length_stretch (attribute names) (zip as' ps) i j o (omega arith)
 
 -- what holds of each row's data holds of each of the column
-pub all_column : (n : ℕ) (t : AttributeTable) → AllByRecursion (λ (r : AttributeRow). NamespaceWithin n r.0.namespace) (rows_of t) → AllByRecursion (λ a. NamespaceWithin n a.namespace) t.items.items
-all_column n t h = subst (AllByRecursion (λ a. NamespaceWithin n a.namespace)) (firsts-zip t.items.items t.places.items t.even) (all_firsts (rows_of t) h)
+pub all_column : (n : ℕ) (t : AttributeTable) → AllByRecursion (λ (r : AttributeRow). NamespaceWithin n r.0.namespace) (attribute_rows t) → AllByRecursion (λ a. NamespaceWithin n a.namespace) t.items.items
+all_column n t h = subst (AllByRecursion (λ a. NamespaceWithin n a.namespace)) (firsts-zip t.items.items t.places.items t.even) (all_firsts (attribute_rows t) h)
   where
     all_firsts : (rows : List AttributeRow) → AllByRecursion (λ (r : AttributeRow). NamespaceWithin n r.0.namespace) rows → AllByRecursion (λ (a : AttributeData). NamespaceWithin n a.namespace) (map (λ (r : AttributeRow). r.0) rows)
     all_firsts [] h = tt
     all_firsts (r ∷ rows) h = (h.0, all_firsts rows h.1)
 
 -- a namespace that is named at a place of the column is within the table
-pub reach_at : (n : ℕ) (as' : List AttributeData) (i : ℕ) (x : AttributeData) → AllByRecursion (λ (a : AttributeData). NamespaceWithin n a.namespace) as' → i < length as' → x ≡ get_or as' i x → reach x.namespace ≤ n
+pub reach_at : (n : ℕ) (as' : List AttributeData) (i : ℕ) (x : AttributeData) → AllByRecursion (λ (a : AttributeData). NamespaceWithin n a.namespace) as' → i < length as' → x ≡ get_or as' i x → namespace_bound x.namespace ≤ n
 reach_at n [] i x h l is = absurd (omega arith)
-reach_at n (a ∷ as') zero x h l is = subst (λ (y : AttributeData). reach y.namespace ≤ n) (sym is) (reach_within n a.namespace h.0)
+reach_at n (a ∷ as') zero x h l is = subst (λ (y : AttributeData). namespace_bound y.namespace ≤ n) (sym is) (reach_within n a.namespace h.0)
 reach_at n (a ∷ as') (suc i) x h l is = reach_at n as' i x h.1 (omega arith) is

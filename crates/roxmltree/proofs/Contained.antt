@@ -3,20 +3,20 @@ use Rattle.std.proofs.Common.{◌≡◌, ℕ, zero, suc, ◌+◌, ◌-◌, ◌<�
 use Rattle.std.specs.List.{list_all}
 use Rattle.std.proofs.lemmas.Bool.{cases_Bool, cases_lt, ne_eqb}
 use Rattle.rox_grammar.specs.Forest.{Forest, Nil, Cons, size}
-use Rattle.rox_grammar.specs.Written.{Declaration}
+use Rattle.rox_grammar.specs.Written.{NamespaceDecl}
 use Rattle.rox_grammar.specs.Tree.{Node, Root, Element, Text, Comment, PI}
 use Rattle.rox_grammar.specs.Exchange.{is_an_element, none_of, lists_none, self_contained, first_byte, past_byte, start_at, end_at}
 use Rattle.roxmltree.specs.Places.{Place, preorder, place}
-use Rattle.roxmltree.specs.Says.{node_at, says_element, start_of, end_of, listed_of}
-use Rattle.roxmltree.specs.Doc.{Doc}
-use Rattle.roxmltree.specs.Spot.{spots}
+use Rattle.roxmltree.specs.NodeParts.{node_at, is_element_node, start_of, end_of, listed_of}
+use Rattle.roxmltree.specs.DocumentView.{DocumentView}
+use Rattle.roxmltree.specs.NodeRef.{node_refs}
 use Rattle.roxmltree.specs.Elements.{nearest_element, first_element}
 use Rattle.roxmltree.proofs.Preorder.{at, Sits}
 use Rattle.roxmltree.proofs.Tops.{whole_sits}
 
 -- ---- what a node says of itself
 
-element_says : (node : Node) → says_element node ≡ is_an_element node
+element_says : (node : Node) → is_element_node node ≡ is_an_element node
 element_says (Root end) = refl
 element_says (Element start end namespace local listed attributes) = refl
 element_says (Text start end value borrowed) = refl
@@ -58,13 +58,13 @@ module _ (T : List Place) where
   and_swap false false c = refl
 
   contained_sits : (up left : List ℕ) (b : ℕ) (f : Forest Node) (id : ℕ) → Sits T up left b f → id < size f
-      → (says_element (at T (b + id)).item && list_all bare_at (at T (b + id)).above) ≡ (self_contained f id && list_all bare_at up)
+      → (is_element_node (at T (b + id)).item && list_all bare_at (at T (b + id)).above) ≡ (self_contained f id && list_all bare_at up)
   contained_sits up left b Nil id s lt = absurd (omega arith)
   contained_sits up left b (Cons node children rest) zero s lt =
       let e : b + 0 ≡ b = omega arith in
       rw (e, s.0) (ap (λ (q : Bool). q && list_all bare_at up) (element_says node))
   contained_sits up left b (Cons node children rest) (suc id) s lt =
-      elim (cases_lt id (size children)) as (λ q. (says_element (at T (b + suc id)).item && list_all bare_at (at T (b + suc id)).above) ≡ (self_contained (Cons node children rest) (suc id) && list_all bare_at up)) [
+      elim (cases_lt id (size children)) as (λ q. (is_element_node (at T (b + suc id)).item && list_all bare_at (at T (b + suc id)).above) ≡ (self_contained (Cons node children rest) (suc id) && list_all bare_at up)) [
         | inl under ↦ (
             let inside = lt-ltb id (size children) under in
             let e : b + suc id ≡ b + 1 + id = omega arith in
@@ -98,7 +98,7 @@ module _ (T : List Place) where
 -- ---- by ids
 
 pub contained_is : (tree : Forest Node) (id : ℕ) → id < size tree
-    → (says_element (node_at tree id) && list_all (λ a. none_of (listed_of (node_at tree a))) (place tree id).above) ≡ self_contained tree id
+    → (is_element_node (node_at tree id) && list_all (λ a. none_of (listed_of (node_at tree a))) (place tree id).above) ≡ self_contained tree id
 unfolding place
 contained_is tree id lt =
     let e : 0 + id ≡ id = omega arith in
@@ -117,34 +117,34 @@ bounds_are tree id lt =
     rw e at s
 
 -- of nodes of one document
-pub all_of_spots : (d : Doc) (p : Forest Node → ℕ → Bool) (ids : List ℕ) → list_all (λ s. p s.0.tree s.1) (spots d ids) ≡ list_all (p d.tree) ids
+pub all_of_spots : (d : DocumentView) (p : Forest Node → ℕ → Bool) (ids : List ℕ) → list_all (λ s. p s.0.tree s.1) (node_refs d ids) ≡ list_all (p d.tree) ids
 all_of_spots d p [] = refl
 all_of_spots d p (id ∷ ids) = ap (λ (b : Bool). p d.tree id && b) (all_of_spots d p ids)
 
 -- an element is, if none of the nodes above it lists anything, and nothing else is
-pub contained_then : (d : Doc) (id : ℕ) → id < size d.tree → says_element (node_at d.tree id) ≡ true
-    → list_all (λ s. none_of (listed_of (node_at s.0.tree s.1))) (spots d (place d.tree id).above) ≡ self_contained d.tree id
+pub contained_then : (d : DocumentView) (id : ℕ) → id < size d.tree → is_element_node (node_at d.tree id) ≡ true
+    → list_all (λ s. none_of (listed_of (node_at s.0.tree s.1))) (node_refs d (place d.tree id).above) ≡ self_contained d.tree id
 contained_then d id lt is =
     all_of_spots d (λ tree a. none_of (listed_of (node_at tree a))) (place d.tree id).above
     ∙ ap (λ (b : Bool). b && list_all (λ a. none_of (listed_of (node_at d.tree a))) (place d.tree id).above) (sym is) ∙ contained_is d.tree id lt
 
-pub contained_else : (d : Doc) (id : ℕ) → id < size d.tree → says_element (node_at d.tree id) ≡ false → false ≡ self_contained d.tree id
+pub contained_else : (d : DocumentView) (id : ℕ) → id < size d.tree → is_element_node (node_at d.tree id) ≡ false → false ≡ self_contained d.tree id
 contained_else d id lt is = ap (λ (b : Bool). b && list_all (λ a. none_of (listed_of (node_at d.tree a))) (place d.tree id).above) (sym is) ∙ contained_is d.tree id lt
 
 -- the first element of nodes of one document
-pub nearest_is : (d : Doc) (ids : List ℕ) (s : Doc × ℕ) → Some s ≡ nearest_element (spots d ids) → (s.0 ≡ d) × (s.1 ≡ first_element d.tree ids)
+pub nearest_is : (d : DocumentView) (ids : List ℕ) (s : DocumentView × ℕ) → Some s ≡ nearest_element (node_refs d ids) → (s.0 ≡ d) × (s.1 ≡ first_element d.tree ids)
 nearest_is d [] s is = cc is
 nearest_is d (id ∷ ids) s is =
-    elim (cases_Bool (says_element (node_at d.tree id))) as (λ q. (s.0 ≡ d) × (s.1 ≡ first_element d.tree (id ∷ ids))) [
+    elim (cases_Bool (is_element_node (node_at d.tree id))) as (λ q. (s.0 ≡ d) × (s.1 ≡ first_element d.tree (id ∷ ids))) [
       | inl here ↦ (
           let same : Some s ≡ Some (d, id) = rw here at is in
           rw here (cc same, cc same))
       | inr later ↦ (
-          let more : Some s ≡ nearest_element (spots d ids) = rw later at is in
+          let more : Some s ≡ nearest_element (node_refs d ids) = rw later at is in
           rw later (nearest_is d ids s more))
     ]
 
 -- none are listed where their count is 0
-pub none_long : (ds : List Declaration) → (length ds == 0) ≡ none_of ds
+pub none_long : (ds : List NamespaceDecl) → (length ds == 0) ≡ none_of ds
 none_long [] = refl
 none_long (d ∷ ds) = ne_eqb (length (d ∷ ds)) 0 (λ e. omega arith)

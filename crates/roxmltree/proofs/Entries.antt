@@ -1,11 +1,11 @@
 -- Rows of namespaces and of attributes, and what they name.
 use Rattle.std.proofs.Common.{◌≡◌, ℕ, zero, suc, ◌<◌, ◌≤◌, List, [], ◌∷◌, length, get_or, map, ap, arith}
 use Rattle.rox_tables.specs.Storage.{storage_bytes}
-use Rattle.rox_tables.specs.Lines.{declaration, entry, NamespaceWithin}
+use Rattle.rox_tables.specs.Rows.{declaration, entry, NamespaceWithin}
 use Rattle.rox_tables.specs.declared.tables.Namespace.{Namespace}
 use Rattle.rox_tables.specs.declared.tables.AttributeNamespace.{AttributeNamespace}
 use Rattle.rox_tables.specs.declared.tables.AttributeNamespace.TheVariants as space
-use Rattle.roxmltree.specs.Reach.{reach}
+use Rattle.roxmltree.specs.NamespaceBound.{namespace_bound}
 
 -- a namespace's row is the entry of its place
 pub entry_is : (ns : List Namespace) (i : ℕ) (x : Namespace) → i < length ns → x ≡ get_or ns i x → declaration x ≡ entry (map declaration ns) i
@@ -17,7 +17,7 @@ pub entry_uri : (ns : List Namespace) (i : ℕ) (x : Namespace) → i < length n
 entry_uri ns i x l e = ap (λ d. d.uri) (entry_is ns i x l e)
 
 -- what is named in a table is within its length
-pub reach_within : (n : ℕ) (s : AttributeNamespace) → NamespaceWithin n s → reach s ≤ n
+pub reach_within : (n : ℕ) (s : AttributeNamespace) → NamespaceWithin n s → namespace_bound s ≤ n
 reach_within n space.None w = omega arith
 reach_within n space.Xml w = omega arith
 reach_within n (space.Listed i) w = omega (arith, w)

@@ -4,10 +4,10 @@ use Rattle.std.proofs.lemmas.Bool.{cases_lt}
 use Rattle.std.proofs.lemmas.List.{get_or_append_left, get_or-append-add}
 use Rattle.rox_grammar.specs.Forest.{Forest, Nil, Cons, size}
 use Rattle.rox_grammar.specs.Tree.{Node}
-use Rattle.roxmltree.specs.Doc.{Doc}
-use Rattle.roxmltree.specs.Spot.{spots}
-use Rattle.roxmltree.specs.Places.{ids, first_line, last_line, places, nowhere, preorder, place, children}
-use Rattle.roxmltree.specs.Left.{between}
+use Rattle.roxmltree.specs.DocumentView.{DocumentView}
+use Rattle.roxmltree.specs.NodeRef.{node_refs}
+use Rattle.roxmltree.specs.Places.{ids, first_descent, last_descent, places, nowhere, preorder, place, children}
+use Rattle.roxmltree.specs.ChildrenLeft.{between}
 use Rattle.roxmltree.proofs.Preorder.{at, here, place_is, length-places, length-preorder}
 use Rattle.roxmltree.proofs.Stretches.{children_left}
 use Rattle.roxmltree.proofs.Ranges.{length_spots}
@@ -16,11 +16,11 @@ few_ids : (b : ℕ) (f : Forest Node) → length (ids b f) ≤ size f
 few_ids b Nil = omega arith
 few_ids b (Cons x c r) = omega (arith, few_ids (b + (1 + size c)) r)
 
-few_first_line : (b : ℕ) (f : Forest Node) → length (first_line b f) ≤ size f
+few_first_line : (b : ℕ) (f : Forest Node) → length (first_descent b f) ≤ size f
 few_first_line b Nil = omega arith
 few_first_line b (Cons x c r) = omega (arith, few_first_line (b + 1) c)
 
-few_last_line : (b : ℕ) (f : Forest Node) → length (last_line b f) ≤ size f
+few_last_line : (b : ℕ) (f : Forest Node) → length (last_descent b f) ≤ size f
 few_last_line b Nil = omega arith
 few_last_line b (Cons x c Nil) = omega (arith, few_last_line (b + 1) c)
 few_last_line b (Cons x c (Cons x' c' r')) = omega (arith, few_last_line (b + (1 + size c)) (Cons x' c' r'))
@@ -62,17 +62,17 @@ few_children f i l =
 pub few_first_children : (f : Forest Node) (i : ℕ) → i < size f → length (place f i).first_children ≤ size f
 few_first_children f i l =
     let h = here f i l in
-    let k : suc (length (first_line (i + 1) h.below)) ≤ size f = omega (arith, h.ends, length-preorder f, few_first_line (i + 1) h.below) in
+    let k : suc (length (first_descent (i + 1) h.below)) ≤ size f = omega (arith, h.ends, length-preorder f, few_first_line (i + 1) h.below) in
     rw (place_is f i h) k
 
 pub few_last_children : (f : Forest Node) (i : ℕ) → i < size f → length (place f i).last_children ≤ size f
 few_last_children f i l =
     let h = here f i l in
-    let k : suc (length (last_line (i + 1) h.below)) ≤ size f = omega (arith, h.ends, length-preorder f, few_last_line (i + 1) h.below) in
+    let k : suc (length (last_descent (i + 1) h.below)) ≤ size f = omega (arith, h.ends, length-preorder f, few_last_line (i + 1) h.below) in
     rw (place_is f i h) k
 
 -- what `children` has left at first
-pub few_left_of_children : (d : Doc) (f : Forest Node) (i a u h : ℕ) → i < size f → a ≡ i + 1 → u ≡ i + (place f i).count → h ≡ length (place f i).above + 1
-    → length (spots d (between f a u h)) < size f
+pub few_left_of_children : (d : DocumentView) (f : Forest Node) (i a u h : ℕ) → i < size f → a ≡ i + 1 → u ≡ i + (place f i).count → h ≡ length (place f i).above + 1
+    → length (node_refs d (between f a u h)) < size f
 few_left_of_children d f i a u h l ea eu eh =
     omega (arith, ap length (children_left d f i a u h l ea eu eh), length_spots d (children f i), few_children f i l)

@@ -3,19 +3,19 @@ use Rattle.std.proofs.Common.{Bool, ℕ, ◌^◌, ◌<◌, ◌≤◌, List, [], 
 use Rattle.std.proofs.lemmas.List.{length-map}
 use Rattle.rox_grammar.specs.Forest.{Forest, Nil, Cons}
 use Rattle.rox_grammar.specs.Written as written
-use Rattle.rox_grammar.specs.Written.{Declaration, Item}
+use Rattle.rox_grammar.specs.Written.{NamespaceDecl, Item}
 use Rattle.rox_grammar.specs.Tree.{Node, attribute_in, listed, resolved}
 use Rattle.rox_grammar.specs.Doctype.{Asked}
 use Rattle.rox_grammar.specs.Document.{attribute_count, most_attributes, IsTreeOf}
-use Rattle.roxmltree.specs.Says.{node_at, attributes_of}
-use Rattle.roxmltree.specs.Each.{Each}
+use Rattle.roxmltree.specs.NodeParts.{node_at, attributes_of}
+use Rattle.roxmltree.specs.EachNode.{EachNode}
 use Rattle.roxmltree.proofs.Everywhere.{at_each}
 
 -- it has no more than these
 abbrev HasFew : ℕ → Node → Type 0
 HasFew most node = length (attributes_of node) ≤ most
 
-few_resolved : (most : ℕ) (above : List Declaration) (f : Forest Item) → attribute_count f ≤ most → Each (HasFew most) (resolved above f)
+few_resolved : (most : ℕ) (above : List NamespaceDecl) (f : Forest Item) → attribute_count f ≤ most → EachNode (HasFew most) (resolved above f)
 few_resolved most above Nil h = tt
 few_resolved most above (Cons (written.Element a e t) c r) h =
     let scope = listed above t.declarations in
@@ -27,7 +27,7 @@ few_resolved most above (Cons (written.PI a e t o) c r) h = (omega arith, few_re
 -- in a document
 pub few_attributes : {dtd : Bool} {asked : List Asked} (src : List ℕ) (limit : ℕ) (tree : Forest Node) (id : ℕ) → IsTreeOf src dtd asked limit tree → length (attributes_of (node_at tree id)) < 2 ^ 32
 few_attributes src limit tree id h =
-    let all : Each (HasFew most_attributes) tree =
-    subst (λ (f : Forest Node). Each (HasFew most_attributes) f) (sym h.shown) (omega arith, few_resolved most_attributes [] h.written h.within.attributes, tt) in
+    let all : EachNode (HasFew most_attributes) tree =
+    subst (λ (f : Forest Node). EachNode (HasFew most_attributes) f) (sym h.shown) (omega arith, few_resolved most_attributes [] h.written h.within.attributes, tt) in
     let here : HasFew most_attributes (node_at tree id) = at_each (HasFew most_attributes) tree all (omega arith) id in
     omega (arith, here)

@@ -10,7 +10,7 @@ use Rattle.rox_grammar.specs.Doctype.{Request, Asked}
 use Rattle.rox_grammar.specs.Document.{ParseOf, IsTreeOf, IsWithinLimits, Permits}
 use Rattle.rox_reading.specs.Refusals.{Refusal, here}
 use Rattle.rox_reading.specs.Doctype.{Reply, replies_of, AreTextReplies}
-use Rattle.rox_reading.specs.Whole.{has_doctype, reading}
+use Rattle.rox_reading.specs.WholeText.{has_doctype, reading}
 use Rattle.rox_reading.proofs.Forests.{size-resolved}
 use Rattle.rox_theory.proofs.DoctypeAgreement.{doctypes_agree}
 use Rattle.rox_theory.proofs.OneParse as once
@@ -19,11 +19,11 @@ use Rattle.rox_theory.proofs.Tops.{parse_merged}
 use Rattle.rox_theory.proofs.Whole.{seen_parse, doctype_seen, plain_refused, asks_nothing_there}
 use Rattle.rox_resolver.specs.Requests.{AreAllowed}
 use Rattle.rox_build.specs.Built.{Built}
-use Rattle.rox_tables.specs.Lines.{Holds}
+use Rattle.rox_tables.specs.Rows.{HoldsTree}
 use Rattle.rox_tables.specs.declared.tables.Tables.{Tables}
-use Rattle.roxmltree.specs.Doc.{Doc}
-use Rattle.roxmltree.specs.Told.{IsRead}
-use Rattle.roxmltree.specs.Whole.{HoldsDocument}
+use Rattle.roxmltree.specs.DocumentView.{DocumentView}
+use Rattle.roxmltree.specs.FirstError.{IsReadDocument}
+use Rattle.roxmltree.specs.DocumentTables.{HoldsDocument}
 use Rattle.roxmltree.proofs.Rows.{row_count}
 
 -- ---- what is read
@@ -39,7 +39,7 @@ module _ (limit : ℕ) (allow : Bool) (allows : Request → Reply → Type 0) (s
   parse_read asked tops texts h = seen_parse src utf8 allow (doctypes_agree src utf8 allow) limit (replies_of asked) asked tops texts (read_alone asked (Ok tops) h)
 
   -- and the tree of what is read
-  pub read_tree : (d : Doc) → IsRead limit allow allows src d → (asked : List Asked) × AreAllowed allows asked × Permits allow d.dtd × IsTreeOf src d.dtd asked limit d.tree
+  pub read_tree : (d : DocumentView) → IsReadDocument limit allow allows src d → (asked : List Asked) × AreAllowed allows asked × Permits allow d.dtd × IsTreeOf src d.dtd asked limit d.tree
   read_tree d r =
       let p = parse_read r.asked r.tops r.texts (r.read []) in (
         r.asked,
@@ -49,10 +49,10 @@ module _ (limit : ℕ) (allow : Bool) (allows : Request → Reply → Type 0) (s
       )
 
   -- the tables have no two texts to join at the top
-  pub built_holds : (t : Tables) (dtd : Bool) (b : Built limit allow allows src t dtd) → Holds t (document_tree (length src) b.tops)
+  pub built_holds : (t : Tables) (dtd : Bool) (b : Built limit allow allows src t dtd) → HoldsTree t (document_tree (length src) b.tops)
   built_holds t dtd b =
       let p = parse_read b.asked b.tops b.texts (b.read []) in
-      subst (λ (f : Forest Item). Holds t (document_tree (length src) f)) (parse_merged src (has_doctype limit src) b.asked b.tops p.0) b.holds
+      subst (λ (f : Forest Item). HoldsTree t (document_tree (length src) f)) (parse_merged src (has_doctype limit src) b.asked b.tops p.0) b.holds
 
   -- tables of what is read are a document's: there are fewer than 2^32 rows, whatever the limit is
   pub built_document : (t : Tables) (dtd : Bool) → Built limit allow allows src t dtd → HoldsDocument src dtd t

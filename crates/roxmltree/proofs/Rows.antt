@@ -3,12 +3,12 @@ use Rattle.std.proofs.Common.{◌≡◌, ℕ, suc, ◌+◌, ◌-◌, ◌<◌, Bo
 use Rattle.std.proofs.lemmas.List.{get_or-map, length-map, map-append}
 use Rattle.rox_grammar.specs.Forest.{Forest, Nil, Cons, size}
 use Rattle.rox_grammar.specs.Tree.{Node}
-use Rattle.rox_tables.specs.Lines.{Line, line, lines, names_of, scopes_of, Holds, rows_of}
+use Rattle.rox_tables.specs.Rows.{RowView, row_view, preorder_rows, names_of, scopes_of, HoldsTree, attribute_rows}
 use Rattle.rox_tables.specs.declared.tables.NodeData.{NodeData}
 use Rattle.rox_tables.specs.declared.tables.Tables.{Tables}
-use Rattle.roxmltree.specs.Flat.{flat, unflat, unflat-flat}
+use Rattle.roxmltree.specs.TreeCodes.{flattened, unflattened, unflattened-flattened}
 use Rattle.roxmltree.specs.Places.{Place, places, preorder, place, nowhere, first, parent}
-use Rattle.roxmltree.specs.Whole.{tree_in, nodes_from, HoldsDocument, IsWhole}
+use Rattle.roxmltree.specs.DocumentTables.{tree_in, nodes_from, HoldsDocument, IsWhole}
 use Rattle.roxmltree.proofs.Preorder.{length-places, place_id}
 
 -- the nearest node above, or 0
@@ -17,18 +17,18 @@ top [] = 0
 top (q ∷ up) = q
 
 -- the row of a place
-abbrev pub place_line : Place → Line
+abbrev pub place_line : Place → RowView
 place_line p = record { parent = top p.above; next = p.id + p.count; depth = length p.above; node = p.item }
 
 -- the rows of a forest are those of its places
-pub lines-places : (up left : List ℕ) (b : ℕ) (f : Forest Node) → map place_line (places up left b f) ≡ lines (top up) (length up) b f
-lines-places up left b Nil = refl
-lines-places up left b (Cons x c r) =
+pub preorder_rows-places : (up left : List ℕ) (b : ℕ) (f : Forest Node) → map place_line (places up left b f) ≡ preorder_rows (top up) (length up) b f
+preorder_rows-places up left b Nil = refl
+preorder_rows-places up left b (Cons x c r) =
     let e : (b + 1) + size c ≡ b + (1 + size c) = omega arith in
     let d : length up + 1 ≡ suc (length up) = omega arith in
     rw (e, d) (ap (λ l. place_line (record { id = b; item = x; above = up; before = left; after = []; children = []; descendants = []; first_children = []; last_children = []; count = 1 + size c }) ∷ l)
     (map-append place_line (places (b ∷ up) [] (b + 1) c) (places up (b ∷ left) (b + (1 + size c)) r)
-    ∙ rw (lines-places (b ∷ up) [] (b + 1) c, lines-places up (b ∷ left) (b + (1 + size c)) r) refl))
+    ∙ rw (preorder_rows-places (b ∷ up) [] (b + 1) c, preorder_rows-places up (b ∷ left) (b + (1 + size c)) r) refl))
 
 -- these places have the ids from b on
 abbrev IdsFrom : ℕ → List Place → Type 0
@@ -51,7 +51,7 @@ ids_places up left b (Cons x c r) = (
 abbrev below : Place → ℕ × Node
 below p = (p.count - 1, p.item)
 
-flat_places : (up left : List ℕ) (b : ℕ) (f : Forest Node) → map below (places up left b f) ≡ flat f
+flat_places : (up left : List ℕ) (b : ℕ) (f : Forest Node) → map below (places up left b f) ≡ flattened f
 flat_places up left b Nil = refl
 flat_places up left b (Cons x c r) =
     let e : (1 + size c) - 1 ≡ size c = omega arith in
@@ -65,10 +65,10 @@ nodes_are b (p ∷ ps) h =
     rw (n, nodes_are (b + 1) ps h.1) refl
 
 -- the tables of a tree hold no other
-pub same_tree : (t : Tables) (f : Forest Node) → Holds t f → tree_in t ≡ f
+pub same_tree : (t : Tables) (f : Forest Node) → HoldsTree t f → tree_in t ≡ f
 same_tree t f h =
-    ap unflat (ap (nodes_from 0) (h.rows ∙ sym (lines-places [] [] 0 f)) ∙ nodes_are 0 (places [] [] 0 f) (ids_places [] [] 0 f) ∙ flat_places [] [] 0 f)
-    ∙ unflat-flat f
+    ap unflattened (ap (nodes_from 0) (h.rows ∙ sym (preorder_rows-places [] [] 0 f)) ∙ nodes_are 0 (places [] [] 0 f) (ids_places [] [] 0 f) ∙ flat_places [] [] 0 f)
+    ∙ unflattened-flattened f
 
 -- tables of a text's tree are whole
 pub is_whole : (text : List ℕ) (dtd : Bool) (t : Tables) → HoldsDocument text dtd t → IsWhole text dtd t
@@ -77,27 +77,27 @@ is_whole text dtd t h =
     record { holds = rw e h.holds; asked = h.asked; parsed = rw e h.parsed; utf8 = h.utf8 }
 
 -- there are as many rows as nodes
-pub row_count : (t : Tables) (f : Forest Node) → Holds t f → length t.nodes.items ≡ size f
+pub row_count : (t : Tables) (f : Forest Node) → HoldsTree t f → length t.nodes.items ≡ size f
 unfolding preorder
 row_count t f h =
-    sym (length-map t.nodes.items (line (rows_of t.attributes) (names_of t) (scopes_of t)))
-    ∙ ap length (h.rows ∙ sym (lines-places [] [] 0 f))
+    sym (length-map t.nodes.items (row_view (attribute_rows t.attributes) (names_of t) (scopes_of t)))
+    ∙ ap length (h.rows ∙ sym (preorder_rows-places [] [] 0 f))
     ∙ length-map (places [] [] 0 f) place_line
     ∙ length-places [] [] 0 f
 
 -- a row is that of its node's place
-pub row_line : (t : Tables) (f : Forest Node) (i : ℕ) (x : NodeData) → Holds t f → i < length t.nodes.items → x ≡ get_or t.nodes.items i x → line (rows_of t.attributes) (names_of t) (scopes_of t) x ≡ place_line (place f i)
+pub row_line : (t : Tables) (f : Forest Node) (i : ℕ) (x : NodeData) → HoldsTree t f → i < length t.nodes.items → x ≡ get_or t.nodes.items i x → row_view (attribute_rows t.attributes) (names_of t) (scopes_of t) x ≡ place_line (place f i)
 unfolding place preorder
 row_line t f i x h l e =
-    let read = line (rows_of t.attributes) (names_of t) (scopes_of t) in
+    let read = row_view (attribute_rows t.attributes) (names_of t) (scopes_of t) in
     let n : i < length (places [] [] 0 f) = omega (arith, row_count t f h, length-places [] [] 0 f) in
     ap read e
     ∙ sym (get_or-map read t.nodes.items i x (read x) l)
-    ∙ ap (λ ls. get_or ls i (read x)) (h.rows ∙ sym (lines-places [] [] 0 f))
+    ∙ ap (λ ls. get_or ls i (read x)) (h.rows ∙ sym (preorder_rows-places [] [] 0 f))
     ∙ get_or-map place_line (places [] [] 0 f) i nowhere (read x) n
 
 -- an id of the tree is a row's
-pub in_rows : (t : Tables) (f : Forest Node) (i : ℕ) → Holds t f → i < size f → i < length t.nodes.items
+pub in_rows : (t : Tables) (f : Forest Node) (i : ℕ) → HoldsTree t f → i < size f → i < length t.nodes.items
 in_rows t f i h l = omega (arith, row_count t f h)
 
 top_some : (up : List ℕ) → 0 < length up → Some (top up) ≡ first up
@@ -109,17 +109,17 @@ top_none [] e = refl
 top_none (q ∷ up) e = absurd (omega arith)
 
 -- What the row of a node says: the id past its subtree, how many nodes are above it, and its parent.
-pub row_next : (t : Tables) (f : Forest Node) (i : ℕ) (x : NodeData) → Holds t f → i < size f → x ≡ get_or t.nodes.items i x → x.next ≡ i + (place f i).count
+pub row_next : (t : Tables) (f : Forest Node) (i : ℕ) (x : NodeData) → HoldsTree t f → i < size f → x ≡ get_or t.nodes.items i x → x.next ≡ i + (place f i).count
 row_next t f i x h l e = rw (place_id f i l) at (ap (λ r. r.next) (row_line t f i x h (in_rows t f i h l) e))
 
-pub row_depth : (t : Tables) (f : Forest Node) (i : ℕ) (x : NodeData) → Holds t f → i < size f → x ≡ get_or t.nodes.items i x → x.depth ≡ length (place f i).above
+pub row_depth : (t : Tables) (f : Forest Node) (i : ℕ) (x : NodeData) → HoldsTree t f → i < size f → x ≡ get_or t.nodes.items i x → x.depth ≡ length (place f i).above
 row_depth t f i x h l e = ap (λ r. r.depth) (row_line t f i x h (in_rows t f i h l) e)
 
-pub row_parent : (t : Tables) (f : Forest Node) (i : ℕ) (x : NodeData) → Holds t f → i < size f → x ≡ get_or t.nodes.items i x → 0 < x.depth → parent f i ≡ Some x.parent
+pub row_parent : (t : Tables) (f : Forest Node) (i : ℕ) (x : NodeData) → HoldsTree t f → i < size f → x ≡ get_or t.nodes.items i x → 0 < x.depth → parent f i ≡ Some x.parent
 row_parent t f i x h l e d =
     let n : 0 < length (place f i).above = omega (arith, row_depth t f i x h l e) in
     sym (top_some (place f i).above n) ∙ ap Some (sym (ap (λ r. r.parent) (row_line t f i x h (in_rows t f i h l) e)))
 
-pub row_no_parent : (t : Tables) (f : Forest Node) (i : ℕ) (x : NodeData) → Holds t f → i < size f → x ≡ get_or t.nodes.items i x → x.depth ≡ 0 → parent f i ≡ None
+pub row_no_parent : (t : Tables) (f : Forest Node) (i : ℕ) (x : NodeData) → HoldsTree t f → i < size f → x ≡ get_or t.nodes.items i x → x.depth ≡ 0 → parent f i ≡ None
 row_no_parent t f i x h l e d =
     top_none (place f i).above (omega (arith, row_depth t f i x h l e))

@@ -5,8 +5,8 @@ use Rattle.std.proofs.Math.Seq.{take-suc, drop-cons}
 use Rattle.std.specs.List.{Contains, range_with_len}
 use Rattle.rox_grammar.specs.Forest.{Forest, Nil, Cons, size}
 use Rattle.rox_grammar.specs.Tree.{Node}
-use Rattle.roxmltree.specs.Places.{ids, all_ids, first_line, last_line, Place, places, preorder, place, first, last, parent, first_child, last_child, next_sibling, prev_sibling}
-use Rattle.roxmltree.specs.Walk.{row_from, apart, run, IsRun}
+use Rattle.roxmltree.specs.Places.{ids, all_ids, first_descent, last_descent, Place, places, preorder, place, first, last, parent, first_child, last_child, next_sibling, prev_sibling}
+use Rattle.roxmltree.specs.SiblingRange.{row_from, apart, siblings_through, IsSiblingRange}
 use Rattle.roxmltree.proofs.Preorder.{no_first, at, Prior, Sits, sits, length-places, Here, here, place_is, length-preorder}
 
 -- the k-th of nodes side by side
@@ -62,15 +62,15 @@ next_prev f i j l =
     rw h.is (next_before (preorder f) h.up h.left i (i + (1 + size h.below)) h.beside j h.next)
 
 -- a run of one node
-pub run_same : (f : Forest Node) (i j : ℕ) → i ≡ j → run f i j ≡ i ∷ []
-unfolding run
+pub run_same : (f : Forest Node) (i j : ℕ) → i ≡ j → siblings_through f i j ≡ i ∷ []
+unfolding siblings_through
 run_same f i j e = let k : apart f i i ≡ 0 = omega arith in rw (← e, k) refl
 
 not_zero : (i j k : ℕ) (xs : List ℕ) → get_or (i ∷ xs) k 0 ≡ j → (i ≡ j → ⊥) → 0 < k
 not_zero i j zero xs e n = absurd (n e)
 not_zero i j (suc k) xs e n = omega arith
 
-apart_pos : (f : Forest Node) (i j : ℕ) → IsRun f i j → (i ≡ j → ⊥) → 0 < apart f i j
+apart_pos : (f : Forest Node) (i j : ℕ) → IsSiblingRange f i j → (i ≡ j → ⊥) → 0 < apart f i j
 apart_pos f i j r n = not_zero i j (apart f i j) (place f i).after r.there n
 
 -- the second of a list
@@ -86,8 +86,8 @@ next_row f i n l e =
     (a.inside, drop-cons (place f i).after 0 0 s.0 ∙ rw (s.1, a.after) refl, a.before ∙ omega arith)
 
 -- from the front
-pub run_next : (f : Forest Node) (i j n : ℕ) → i < size f → IsRun f i j → (i ≡ j → ⊥) → next_sibling f i ≡ Some n → (run f i j ≡ i ∷ run f n j) × IsRun f n j
-unfolding run
+pub run_next : (f : Forest Node) (i j n : ℕ) → i < size f → IsSiblingRange f i j → (i ≡ j → ⊥) → next_sibling f i ≡ Some n → (siblings_through f i j ≡ i ∷ siblings_through f n j) × IsSiblingRange f n j
+unfolding siblings_through
 run_next f i j n l r ne e =
     let a = next_row f i n l e in
     let p = apart_pos f i j r ne in
@@ -102,14 +102,14 @@ run_next f i j n l r ne e =
       },
     )
 
-pub run_next_none : (f : Forest Node) (i j : ℕ) → IsRun f i j → (i ≡ j → ⊥) → next_sibling f i ≡ None → ⊥
+pub run_next_none : (f : Forest Node) (i j : ℕ) → IsSiblingRange f i j → (i ≡ j → ⊥) → next_sibling f i ≡ None → ⊥
 run_next_none f i j r ne e =
     let p = apart_pos f i j r ne in
     let z = no_first (place f i).after e in
     omega (arith, r.short, z)
 
 -- the node before the last one of a run
-back_at : (f : Forest Node) (i j k : ℕ) → i < size f → IsRun f i j → apart f i j ≡ suc k → (get_or (row_from f i) k 0 < size f) × (prev_sibling f j ≡ Some (get_or (row_from f i) k 0))
+back_at : (f : Forest Node) (i j k : ℕ) → i < size f → IsSiblingRange f i j → apart f i j ≡ suc k → (get_or (row_from f i) k 0 < size f) × (prev_sibling f j ≡ Some (get_or (row_from f i) k 0))
 back_at f i j k l r e =
     let q = get_or (row_from f i) k 0 in
     let a = row_at f i k q l (omega (arith, r.short)) refl in
@@ -119,8 +119,8 @@ back_at f i j k l r e =
     (a.inside, next_prev f q j a.inside n)
 
 -- from the back
-pub run_back : (f : Forest Node) (i j p : ℕ) → i < size f → IsRun f i j → (i ≡ j → ⊥) → prev_sibling f j ≡ Some p → (run f i j ≡ run f i p ++ j ∷ []) × IsRun f i p
-unfolding run
+pub run_back : (f : Forest Node) (i j p : ℕ) → i < size f → IsSiblingRange f i j → (i ≡ j → ⊥) → prev_sibling f j ≡ Some p → (siblings_through f i j ≡ siblings_through f i p ++ j ∷ []) × IsSiblingRange f i p
+unfolding siblings_through
 run_back f i j p l r ne e =
     let b = back_at f i j (apart f i j - 1) l r (let z = apart_pos f i j r ne in omega arith) in
     let same : get_or (row_from f i) (apart f i j - 1) 0 ≡ p = cc (b.1, e) in
@@ -136,7 +136,7 @@ run_back f i j p l r ne e =
       },
     )
 
-pub run_back_none : (f : Forest Node) (i j : ℕ) → i < size f → IsRun f i j → (i ≡ j → ⊥) → prev_sibling f j ≡ None → ⊥
+pub run_back_none : (f : Forest Node) (i j : ℕ) → i < size f → IsSiblingRange f i j → (i ≡ j → ⊥) → prev_sibling f j ≡ None → ⊥
 run_back_none f i j l r ne e =
     let b = back_at f i j (apart f i j - 1) l r (let z = apart_pos f i j r ne in omega arith) in
     cc (b.1, e)
@@ -168,8 +168,8 @@ child_row f i c l =
     let n = length-preorder f in
     rw h.is (λ e. let k = first_row (preorder f) (i ∷ h.up) (i + 1) h.below c h.under e in (omega (arith, k.0), k.1, k.2))
 
-pub run_children : (f : Forest Node) (i c d : ℕ) → i < size f → first_child f i ≡ Some c → last_child f i ≡ Some d → (run f c d ≡ (place f i).children) × IsRun f c d
-unfolding run
+pub run_children : (f : Forest Node) (i c d : ℕ) → i < size f → first_child f i ≡ Some c → last_child f i ≡ Some d → (siblings_through f c d ≡ (place f i).children) × IsSiblingRange f c d
+unfolding siblings_through
 run_children f i c d l e u =
     let k = child_row f i c l e in
     let xs = (place f c).after in
@@ -231,7 +231,7 @@ prev_row f i q l =
     let n = length-preorder f in
     rw h.is (λ e. let k = before_prior (preorder f) i h.up h.left q h.prior e in (omega (arith, k.0), k.1))
 
-first_line_is : (T : List Place) (up left : List ℕ) (b : ℕ) (r : Forest Node) (c : ℕ) → Sits T up left b r → first (ids b r) ≡ Some c → first_line b r ≡ (at T c).first_children
+first_line_is : (T : List Place) (up left : List ℕ) (b : ℕ) (r : Forest Node) (c : ℕ) → Sits T up left b r → first (ids b r) ≡ Some c → first_descent b r ≡ (at T c).first_children
 first_line_is T up left b Nil c s e = cc
 first_line_is T up left b (Cons x k r) c s e = let same : b ≡ c = cc in rw (← same) (ap (λ p. p.first_children) (sym s.0))
 
@@ -241,7 +241,7 @@ first_children_step f i c l =
     let h = here f i l in
     rw h.is (λ e. ap (λ xs. i ∷ xs) (first_line_is (preorder f) (i ∷ h.up) [] (i + 1) h.below c h.under e))
 
-last_line_is : (T : List Place) (up left : List ℕ) (b : ℕ) (r : Forest Node) (c : ℕ) → Sits T up left b r → last (ids b r) ≡ Some c → last_line b r ≡ (at T c).last_children
+last_line_is : (T : List Place) (up left : List ℕ) (b : ℕ) (r : Forest Node) (c : ℕ) → Sits T up left b r → last (ids b r) ≡ Some c → last_descent b r ≡ (at T c).last_children
 last_line_is T up left b Nil c s e = cc
 last_line_is T up left b (Cons x k Nil) c s e = let same : b ≡ c = cc in rw (← same) (ap (λ p. p.last_children) (sym s.0))
 last_line_is T up left b (Cons x k (Cons x' k' r')) c s e = last_line_is T up (b ∷ left) (b + (1 + size k)) (Cons x' k' r') c s.3 e
@@ -261,14 +261,14 @@ no_next f i e = nothing (place f i).after e
 pub no_prev : (f : Forest Node) (i : ℕ) → prev_sibling f i ≡ None → (place f i).before ≡ []
 no_prev f i e = nothing (place f i).before e
 
-first_line_none : (b : ℕ) (f : Forest Node) → first (ids b f) ≡ None → first_line b f ≡ []
+first_line_none : (b : ℕ) (f : Forest Node) → first (ids b f) ≡ None → first_descent b f ≡ []
 first_line_none b Nil e = refl
 first_line_none b (Cons x c r) e = cc
 
 pub no_first_child : (f : Forest Node) (i : ℕ) → i < size f → first_child f i ≡ None → (place f i).first_children ≡ i ∷ []
 no_first_child f i l = let h = here f i l in rw (place_is f i h) (λ e. ap (λ xs. i ∷ xs) (first_line_none (i + 1) h.below e))
 
-last_line_none : (b : ℕ) (f : Forest Node) → last (ids b f) ≡ None → last_line b f ≡ []
+last_line_none : (b : ℕ) (f : Forest Node) → last (ids b f) ≡ None → last_descent b f ≡ []
 last_line_none b Nil e = refl
 last_line_none b (Cons x c r) e = absurd (last_some b (ids (b + (1 + size c)) r) e)
 

@@ -9,8 +9,8 @@ use Rattle.rox_grammar.specs.Document.{IsTreeOf}
 use Rattle.rox_grammar.specs.Exchange.{shifted, subtree, self_contained, start_at, end_at, text_with, IsReparse, IsExchange}
 use Rattle.rox_error.specs.declared.error.Error.{Error}
 use Rattle.rox_error.specs.declared.error.Error.TheVariants as error
-use Rattle.rox_local.proofs.Wholes.{whole, tree_of_text, reparse_within, cut_is, exchange_whole}
-use Rattle.roxmltree.specs.Says.{node_at, start_of, end_of}
+use Rattle.rox_exchange.proofs.Wholes.{whole, tree_of_text, reparse_within, cut_is, exchange_whole}
+use Rattle.roxmltree.specs.NodeParts.{node_at, start_of, end_of}
 use Rattle.roxmltree.proofs.Parsed.{one_tree}
 use Rattle.roxmltree.proofs.Contained.{bounds_are}
 

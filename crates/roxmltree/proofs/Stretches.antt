@@ -5,11 +5,11 @@ use Rattle.std.proofs.lemmas.List.{map-append}
 use Rattle.std.proofs.Common.{length-append}
 use Rattle.rox_grammar.specs.Forest.{Forest, Nil, Cons, size}
 use Rattle.rox_grammar.specs.Tree.{Node}
-use Rattle.roxmltree.specs.Doc.{Doc}
-use Rattle.roxmltree.specs.Spot.{spots}
+use Rattle.roxmltree.specs.DocumentView.{DocumentView}
+use Rattle.roxmltree.specs.NodeRef.{node_refs}
 use Rattle.roxmltree.specs.Places.{ids, Place, preorder, place, first, last, children, last_child, next_sibling, prev_sibling, up_to}
-use Rattle.roxmltree.specs.Walk.{row_from, apart, run, IsRun}
-use Rattle.roxmltree.specs.Left.{if_some, last_before, between, IsStretch}
+use Rattle.roxmltree.specs.SiblingRange.{row_from, apart, siblings_through, IsSiblingRange}
+use Rattle.roxmltree.specs.ChildrenLeft.{if_some, last_before, between, IsStretch}
 use Rattle.roxmltree.proofs.Preorder.{at, Sits, here, place_is, prior_rest, up_to_leads, length-preorder, first_child_some, first_child_none, last_child_some, place_end}
 use Rattle.roxmltree.proofs.Siblings.{row_sits, row_at, second, next_row, prev_row, prev_next, run_same, run_next, run_next_none, run_back, run_back_none, run_children, no_children}
 
@@ -55,7 +55,7 @@ row_low f i k l m =
     let m' : k < length (ids i (Cons h.item h.below h.beside)) = rw h.is at m in
     subst (λ (p : Place). i ≤ get_or (i ∷ p.after) k 0) (sym h.is) (ids_from i (Cons h.item h.below h.beside) k m')
 
-run_low : (f : Forest Node) (i j : ℕ) → i < size f → IsRun f i j → i ≤ j
+run_low : (f : Forest Node) (i j : ℕ) → i < size f → IsSiblingRange f i j → i ≤ j
 run_low f i j l r = rw r.there at (row_low f i (apart f i j) l r.short)
 
 option_cases : (o : Option ℕ) → (o ≡ None) ⊎ ((n : ℕ) × (o ≡ Some n))
@@ -71,8 +71,8 @@ none_of zero xs e = refl
 none_of (suc k) xs e = absurd (omega arith)
 
 -- none are left where the first would not end before
-pub front_none : (d : Doc) (f : Forest Node) (a u h : ℕ) → u ≤ a → spots d (between f a u h) ≡ []
-front_none d f a u h l = ap (spots d) (none_of (u - a) (run f a (last_before f u h)) (omega arith))
+pub front_none : (d : DocumentView) (f : Forest Node) (a u h : ℕ) → u ≤ a → node_refs d (between f a u h) ≡ []
+front_none d f a u h l = ap (node_refs d) (none_of (u - a) (siblings_through f a (last_before f u h)) (omega arith))
 
 -- without the first one
 record Front (f : Forest Node) (a u h : ℕ) : Type 0 where
@@ -84,12 +84,12 @@ front f a u h l s =
     let z = last_before f u h in
     let n = a + (place f a).count in
     let c = count_some f z s.last_inside in
-    let whole = some_of (u - a) (run f a z) (omega arith) in
+    let whole = some_of (u - a) (siblings_through f a z) (omega arith) in
     ⊎_elim
     (λ same.
     let e : n ≡ u = ap (λ i. i + (place f i).count) same ∙ s.ends in
     record {
-      rest = whole ∙ run_same f a z same ∙ ap (λ xs. a ∷ xs) (sym (none_of (u - n) (run f n z) (omega arith)));
+      rest = whole ∙ run_same f a z same ∙ ap (λ xs. a ∷ xs) (sym (none_of (u - n) (siblings_through f n z) (omega arith)));
       sound = λ m. absurd (omega arith);
     })
     (λ other. ⊎_elim
@@ -101,14 +101,14 @@ front f a u h l s =
     let i = next_row f a n s.inside next in
     let low = run_low f n z i.0 r.1 in
     record {
-      rest = whole ∙ r.0 ∙ ap (λ xs. a ∷ xs) (sym (some_of (u - n) (run f n z) (omega (arith, s.ends))));
+      rest = whole ∙ r.0 ∙ ap (λ xs. a ∷ xs) (sym (some_of (u - n) (siblings_through f n z) (omega (arith, s.ends))));
       sound = λ m. record { inside = i.0; is_run = r.1; last_inside = s.last_inside; ends = s.ends; deep = s.deep };
     })
     (option_cases (next_sibling f a)))
     (cases_eq a z)
 
-pub front_left : (d : Doc) (f : Forest Node) (a u h n : ℕ) → a < u → IsStretch f a u h → n ≡ a + (place f a).count → spots d (between f a u h) ≡ (d, a) ∷ spots d (between f n u h)
-front_left d f a u h n l s e = rw e (ap (spots d) (front f a u h l s).rest)
+pub front_left : (d : DocumentView) (f : Forest Node) (a u h n : ℕ) → a < u → IsStretch f a u h → n ≡ a + (place f a).count → node_refs d (between f a u h) ≡ (d, a) ∷ node_refs d (between f n u h)
+front_left d f a u h n l s e = rw e (ap (node_refs d) (front f a u h l s).rest)
 
 pub front_rest : (f : Forest Node) (a u h n : ℕ) → a < u → IsStretch f a u h → n ≡ a + (place f a).count → n < u → IsStretch f n u h
 front_rest f a u h n l s e = rw e (front f a u h l s).sound
@@ -121,11 +121,11 @@ record Back (f : Forest Node) (a u h : ℕ) : Type 0 where
 back : (f : Forest Node) (a u h : ℕ) → a < u → IsStretch f a u h → Back f a u h
 back f a u h l s =
     let z = last_before f u h in
-    let whole = some_of (u - a) (run f a z) (omega arith) in
+    let whole = some_of (u - a) (siblings_through f a z) (omega arith) in
     ⊎_elim
     (λ same.
     record {
-      rest = whole ∙ run_same f a z same ∙ rw (none_of (z - a) (run f a (last_before f z h)) (omega arith)) (ap (λ i. i ∷ []) same);
+      rest = whole ∙ run_same f a z same ∙ rw (none_of (z - a) (siblings_through f a (last_before f z h)) (omega arith)) (ap (λ i. i ∷ []) same);
       sound = λ m. absurd (omega arith);
     })
     (λ other. ⊎_elim
@@ -142,7 +142,7 @@ back f a u h l s =
     let is : last_before f z h ≡ p = rw deep at up in
     let low = run_low f a p s.inside r.1 in
     record {
-      rest = whole ∙ r.0 ∙ ap (λ xs. xs ++ z ∷ []) (sym (some_of (z - a) (run f a (last_before f z h)) (omega arith) ∙ ap (run f a) is));
+      rest = whole ∙ r.0 ∙ ap (λ xs. xs ++ z ∷ []) (sym (some_of (z - a) (siblings_through f a (last_before f z h)) (omega arith) ∙ ap (siblings_through f a) is));
       sound = λ m. record {
         inside = s.inside;
         is_run = rw is r.1;
@@ -154,9 +154,9 @@ back f a u h l s =
     (option_cases (prev_sibling f z)))
     (cases_eq a z)
 
-pub back_left : (d : Doc) (f : Forest Node) (a u h z : ℕ) → a < u → IsStretch f a u h → z ≡ last_before f u h → spots d (between f a u h) ≡ spots d (between f a z h) ++ (d, z) ∷ []
+pub back_left : (d : DocumentView) (f : Forest Node) (a u h z : ℕ) → a < u → IsStretch f a u h → z ≡ last_before f u h → node_refs d (between f a u h) ≡ node_refs d (between f a z h) ++ (d, z) ∷ []
 back_left d f a u h z l s e =
-    rw e (ap (spots d) (back f a u h l s).rest ∙ map-append _ (between f a (last_before f u h) h) (last_before f u h ∷ []))
+    rw e (ap (node_refs d) (back f a u h l s).rest ∙ map-append _ (between f a (last_before f u h) h) (last_before f u h ∷ []))
 
 pub back_rest : (f : Forest Node) (a u h z : ℕ) → a < u → IsStretch f a u h → z ≡ last_before f u h → a < z → IsStretch f a z h
 back_rest f a u h z l s e = rw e (back f a u h l s).sound
@@ -202,23 +202,23 @@ whole_children f i l =
     let r = run_children f i (i + 1) z l c d in
     let k = last_child_is f i z l d in
     record {
-      rest = some_of ((i + n) - (i + 1)) (run f (i + 1) z) (omega arith) ∙ r.0;
+      rest = some_of ((i + n) - (i + 1)) (siblings_through f (i + 1) z) (omega arith) ∙ r.0;
       sound = λ m. record { inside = omega (arith, place_end f i l); is_run = r.1; last_inside = k.inside; ends = k.ends; deep = k.deep };
     })
     (λ few.
     record {
-      rest = none_of ((i + n) - (i + 1)) (run f (i + 1) z) (omega arith) ∙ sym (no_children f i (first_child_none f i l few));
+      rest = none_of ((i + n) - (i + 1)) (siblings_through f (i + 1) z) (omega arith) ∙ sym (no_children f i (first_child_none f i l few));
       sound = λ m. absurd (omega arith);
     })
     (cases_lt 1 n)
 
-pub children_left : (d : Doc) (f : Forest Node) (i a u h : ℕ) → i < size f → a ≡ i + 1 → u ≡ i + (place f i).count → h ≡ length (place f i).above + 1 → spots d (between f a u h) ≡ spots d (children f i)
-children_left d f i a u h l ea eu eh = rw (ea, eu, eh) (ap (spots d) (whole_children f i l).rest)
+pub children_left : (d : DocumentView) (f : Forest Node) (i a u h : ℕ) → i < size f → a ≡ i + 1 → u ≡ i + (place f i).count → h ≡ length (place f i).above + 1 → node_refs d (between f a u h) ≡ node_refs d (children f i)
+children_left d f i a u h l ea eu eh = rw (ea, eu, eh) (ap (node_refs d) (whole_children f i l).rest)
 
 pub children_stretch : (f : Forest Node) (i a u h : ℕ) → i < size f → a ≡ i + 1 → u ≡ i + (place f i).count → h ≡ length (place f i).above + 1 → a < u → IsStretch f a u h
 children_stretch f i a u h l ea eu eh = rw (ea, eu, eh) (whole_children f i l).sound
 
 -- fewer are left
-pub back_fewer : (d : Doc) (f : Forest Node) (a u h z : ℕ) → a < u → IsStretch f a u h → z ≡ last_before f u h → length (spots d (between f a z h)) < length (spots d (between f a u h))
+pub back_fewer : (d : DocumentView) (f : Forest Node) (a u h z : ℕ) → a < u → IsStretch f a u h → z ≡ last_before f u h → length (node_refs d (between f a z h)) < length (node_refs d (between f a u h))
 back_fewer d f a u h z l s e =
-    omega (arith, ap length (back_left d f a u h z l s e), length-append (spots d (between f a z h)) ((d, z) ∷ []))
+    omega (arith, ap length (back_left d f a u h z l s e), length-append (node_refs d (between f a z h)) ((d, z) ∷ []))

@@ -9,13 +9,13 @@ use Rattle.rox_grammar.specs.Forest.{Forest}
 use Rattle.rox_grammar.specs.Tree.{Node}
 use Rattle.rox_grammar.specs.Spans.{NamesText}
 use Rattle.rox_grammar.specs.Faults.{FaultOf}
-use Rattle.rox_grammar.specs.Refused.{RefusalOf}
+use Rattle.rox_grammar.specs.FaultsWithDoctype.{RefusalOf}
 use Rattle.rox_grammar.specs.Doctype.{Request, Asked}
 use Rattle.rox_grammar.specs.Document.{IsTreeOf, Permits, HasAsked, nothing, one_more, AsksNext}
 use Rattle.rox_reading.specs.Refusals.{Refusal, here, there, refused}
 use Rattle.rox_reading.specs.Doctype.{Reply, replies_of, AreTextReplies}
 use Rattle.rox_reading.specs.Answering.{with_refusal, Stops}
-use Rattle.rox_reading.specs.Whole.{reading}
+use Rattle.rox_reading.specs.WholeText.{reading}
 use Rattle.rox_theory.proofs.Answering.{has_asked, asks_next}
 use Rattle.rox_theory.proofs.DoctypeAgreement.{doctypes_agree}
 use Rattle.rox_theory.proofs.FaultRefused.{refusal_here, refusal_there}
@@ -23,15 +23,15 @@ use Rattle.rox_theory.proofs.FaultSpans.{names_here, names_there}
 use Rattle.rox_theory.proofs.FaultWhole.{reading_faults}
 use Rattle.rox_theory.proofs.Whole.{refused_has_none}
 use Rattle.rox_resolver.specs.Requests.{AreAllowed}
-use Rattle.rox_error.specs.Telling.{position_at, IsErrorOf}
+use Rattle.rox_error.specs.FaultErrors.{position_at, IsErrorOf}
 use Rattle.rox_error.specs.declared.error.Error.{Error}
 use Rattle.rox_error.specs.declared.error.Error.TheVariants as error
 use Rattle.rox_error.specs.declared.position.TextPos.{TextPos}
 use Rattle.rox_build.specs.Built.{BuiltNone, BuiltRefusal}
-use Rattle.rox_values.specs.declared.refused.Refused.{Refused}
-use Rattle.rox_values.specs.declared.refused.Refused.TheVariants as why
-use Rattle.roxmltree.specs.Speaks.{SpeaksOfText}
-use Rattle.roxmltree.specs.Told.{IsTold, MayRefuse, IsFirst, Tells}
+use Rattle.rox_values.specs.declared.parse_error.ParseError.{ParseError}
+use Rattle.rox_values.specs.declared.parse_error.ParseError.TheVariants as why
+use Rattle.roxmltree.specs.TextErrors.{IsTextError}
+use Rattle.roxmltree.specs.FirstError.{IsErrorOfRefusal, MayRefuse, IsFirst, IsErrorOfReason}
 use Rattle.roxmltree.proofs.Parsed.{read_alone}
 
 -- ---- replies
@@ -93,17 +93,17 @@ no_resolver src fault.UnexpectedEndOfStream e p words is h = cc
 -- ---- the error
 
 module _ (limit : ℕ) (allow : Bool) (allows : Request → Reply → Type 0) (src : List ℕ) (utf8 : IsUtf8 src) where
-  from_none : (e : Error) (r : Refusal) → BuiltNone limit allow allows src r → MayRefuse allows r → IsTold src r e → IsFirst limit allow allows src e
+  from_none : (e : Error) (r : Refusal) → BuiltNone limit allow allows src r → MayRefuse allows r → IsErrorOfRefusal src r e → IsFirst limit allow allows src e
   from_none e r none may told =
       record { asked = none.asked; allowed = none.allowed; texts = none.texts; refusal = r; may = may; stops = none.stops; told = told }
 
   -- what is told where there are no tables is of what reading meets first
-  pub is_first : (r : Refused) (e : Error) → e ≢ error.OutOfMemory → BuiltRefusal limit allow allows src r → Tells src r e → IsFirst limit allow allows src e
+  pub is_first : (r : ParseError) (e : Error) → e ≢ error.OutOfMemory → BuiltRefusal limit allow allows src r → IsErrorOfReason src r e → IsFirst limit allow allows src e
   is_first why.Memory e some built tells = absurd (some tells)
   is_first (why.Fault f) e some built tells =
       from_none e (here f) built tt
       (names_here limit allow (replies_of built.asked) src built.asked f utf8 built.texts (read_alone limit allow allows src utf8 built.asked (Err (here f)) (built.stops [])), tells)
-  is_first (why.Elsewhere source f) e some built tells =
+  is_first (why.FaultIn source f) e some built tells =
       from_none e (there source.now f) built tt
       (names_there limit allow (replies_of built.asked) src source.now built.asked f utf8 built.texts (read_alone limit allow allows src utf8 built.asked (Err (there source.now f)) (built.stops [])), tells)
   is_first (why.Resolver at words) e some (request, may, built) tells = from_none e (refused request at (string_bytes words)) built may (words, refl, tells)
@@ -114,10 +114,10 @@ module _ (limit : ℕ) (allow : Bool) (allows : Request → Reply → Type 0) (s
     first_asked = has_asked src utf8 allow limit (replies_of first.asked ++ with_refusal first.refusal []) first.asked (Err first.refusal) (stop_texts first.asked first.refusal first.texts) (first.stops [])
 
     -- no parse has answers that begin so
-    pub first_none : SpeaksOfText e → (dtd : Bool) (later : List Asked) (tree : Forest Node) → Permits allow dtd → IsTreeOf src dtd (first.asked ++ later) limit tree → ⊥
+    pub first_none : IsTextError e → (dtd : Bool) (later : List Asked) (tree : Forest Node) → Permits allow dtd → IsTreeOf src dtd (first.asked ++ later) limit tree → ⊥
     first_none speaks dtd later tree permits t = by_case first.refusal (first.stops []) first.told
       where
-        by_case : (r : Refusal) → reading limit allow (replies_of first.asked ++ with_refusal r []) src ≡ (first.asked, Err r) → IsTold src r e → ⊥
+        by_case : (r : Refusal) → reading limit allow (replies_of first.asked ++ with_refusal r []) src ≡ (first.asked, Err r) → IsErrorOfRefusal src r e → ⊥
         by_case (here f) h told = refused_has_none src utf8 allow (doctypes_agree src utf8 allow) limit _ first.asked later (here f) dtd t.written h tt t.parse t.within permits
         by_case (there source f) h told = refused_has_none src utf8 allow (doctypes_agree src utf8 allow) limit _ first.asked later (there source f) dtd t.written h tt t.parse t.within permits
         by_case (refused request p message) h (words, bytes, is) = speaks.1 (position_at src p) words is
@@ -127,7 +127,7 @@ module _ (limit : ℕ) (allow : Bool) (allows : Request → Reply → Type 0) (s
         → (asked : List Asked) × (request : Request) × (at : ℕ) × (allow ≡ true) × AreAllowed allows asked × AsksNext src asked request at × allows request (Err (string_bytes words)) × (p ≡ position_at src at)
     first_resolver p words is = by_case first.refusal (first.stops []) first.may first.told
       where
-        by_case : (r : Refusal) → reading limit allow (replies_of first.asked ++ with_refusal r []) src ≡ (first.asked, Err r) → MayRefuse allows r → IsTold src r e
+        by_case : (r : Refusal) → reading limit allow (replies_of first.asked ++ with_refusal r []) src ≡ (first.asked, Err r) → MayRefuse allows r → IsErrorOfRefusal src r e
             → (asked : List Asked) × (request : Request) × (at : ℕ) × (allow ≡ true) × AreAllowed allows asked × AsksNext src asked request at × allows request (Err (string_bytes words)) × (p ≡ position_at src at)
         by_case (here f) h may told = absurd (no_resolver src f e p words is told.1)
         by_case (there source f) h may told = absurd (no_resolver source f e p words is told.1)
@@ -139,10 +139,10 @@ module _ (limit : ℕ) (allow : Bool) (allows : Request → Reply → Type 0) (s
             (first.asked, request, at, asks.0, first.allowed, asks.1, subst (λ (m : List ℕ). allows request (Err m)) (sym bytes ∙ sym (ap string_bytes text)) may, place)
 
     -- what stands by the grammar, after what was asked, and in which source
-    pub first_refusal : SpeaksOfText e → (asked : List Asked) × (source : List ℕ) × (f : Fault) × AreAllowed allows asked × RefusalOf limit allow src asked source f × NamesText source f × IsErrorOf source f e
+    pub first_refusal : IsTextError e → (asked : List Asked) × (source : List ℕ) × (f : Fault) × AreAllowed allows asked × RefusalOf limit allow src asked source f × NamesText source f × IsErrorOf source f e
     first_refusal speaks = by_case first.refusal (first.stops []) first.told
       where
-        by_case : (r : Refusal) → reading limit allow (replies_of first.asked ++ with_refusal r []) src ≡ (first.asked, Err r) → IsTold src r e
+        by_case : (r : Refusal) → reading limit allow (replies_of first.asked ++ with_refusal r []) src ≡ (first.asked, Err r) → IsErrorOfRefusal src r e
             → (asked : List Asked) × (source : List ℕ) × (f : Fault) × AreAllowed allows asked × RefusalOf limit allow src asked source f × NamesText source f × IsErrorOf source f e
         by_case (here f) h told =
             (first.asked, src, f, first.allowed, refusal_here limit allow (replies_of first.asked ++ with_refusal (here f) []) src first.asked f utf8 (stop_texts first.asked (here f) first.texts) h, told.0, told.1)
@@ -174,7 +174,7 @@ first_plain limit allows src utf8 e first =
 
     from_fault : (f : Fault) × (here f ≡ first.refusal) × FaultOf limit src f → (f : Fault) × (reading limit false [] src ≡ ([], Err (here f))) × FaultOf limit src f × NamesText src f × IsErrorOf src f e
     from_fault (f, is, stands) =
-        let told : IsTold src (here f) e = subst (λ (r : Refusal). IsTold src r e) (sym is) first.told in
+        let told : IsErrorOfRefusal src (here f) e = subst (λ (r : Refusal). IsErrorOfRefusal src r e) (sym is) first.told in
         let stops : Stops (λ replies. reading limit false replies src) [] (here f) =
         subst (λ (asked : List Asked). Stops (λ replies. reading limit false replies src) asked (here f)) none (subst (λ (r : Refusal). Stops (λ replies. reading limit false replies src) first.asked r) (sym is) first.stops) in
         (f, stops [], stands, told.0, told.1)

@@ -2,16 +2,16 @@
 use Rattle.std.proofs.Common.{◌≡◌, ℕ, ◌+◌, Bool, List, [], ◌∷◌, length, None, Some, true, false, refl, ap, subst, arith}
 use Rattle.rox_grammar.specs.Forest.{Forest, Nil, Cons, size}
 use Rattle.rox_grammar.specs.Written as written
-use Rattle.rox_grammar.specs.Written.{Declaration}
+use Rattle.rox_grammar.specs.Written.{NamespaceDecl}
 use Rattle.rox_grammar.specs.Tree.{Node, Root, Element, Text, Comment, PI, resolved}
 use Rattle.rox_grammar.specs.Document.{IsTreeOf}
 use Rattle.rox_theory.specs.Apart.{AnyElement}
 use Rattle.rox_theory.proofs.Apart.{parse_has}
 use Rattle.rox_grammar.specs.Doctype.{Asked}
-use Rattle.roxmltree.specs.Doc.{Doc}
+use Rattle.roxmltree.specs.DocumentView.{DocumentView}
 use Rattle.roxmltree.specs.Places.{places, preorder, place, ids, children}
-use Rattle.roxmltree.specs.Says.{says_element}
-use Rattle.roxmltree.specs.Spot.{spots}
+use Rattle.roxmltree.specs.NodeParts.{is_element_node}
+use Rattle.roxmltree.specs.NodeRef.{node_refs}
 use Rattle.roxmltree.specs.Elements.{nearest_element}
 use Rattle.roxmltree.proofs.Preorder.{Sits, sits, length-places}
 
@@ -31,29 +31,29 @@ pub record IsDocument (end : ℕ) (tree : Forest Node) : Type 0 where
   pub element : HasElement tops
 
 -- an element is the nearest
-nearest_here : (d : Doc) (i : ℕ) (xs : List ℕ) → says_element (place d.tree i).item ≡ true → nearest_element (spots d (i ∷ xs)) ≡ None → ⊥
+nearest_here : (d : DocumentView) (i : ℕ) (xs : List ℕ) → is_element_node (place d.tree i).item ≡ true → nearest_element (node_refs d (i ∷ xs)) ≡ None → ⊥
 nearest_here d i xs e h =
-    let k : nearest_element (spots d (i ∷ xs)) ≡ Some (d, i) = rw e refl in
+    let k : nearest_element (node_refs d (i ∷ xs)) ≡ Some (d, i) = rw e refl in
     cc
 
 -- what is none from here on is none after
-nearest_after : (d : Doc) (i : ℕ) (xs : List ℕ) → says_element (place d.tree i).item ≡ false → nearest_element (spots d (i ∷ xs)) ≡ None → nearest_element (spots d xs) ≡ None
+nearest_after : (d : DocumentView) (i : ℕ) (xs : List ℕ) → is_element_node (place d.tree i).item ≡ false → nearest_element (node_refs d (i ∷ xs)) ≡ None → nearest_element (node_refs d xs) ≡ None
 nearest_after d i xs e h = rw e at h
 
 -- where an element is among nodes side by side, one is the nearest
-none_among : (d : Doc) (up left : List ℕ) (b : ℕ) (f : Forest Node) → Sits (preorder d.tree) up left b f → HasElement f → nearest_element (spots d (ids b f)) ≡ None → ⊥
+none_among : (d : DocumentView) (up left : List ℕ) (b : ℕ) (f : Forest Node) → Sits (preorder d.tree) up left b f → HasElement f → nearest_element (node_refs d (ids b f)) ≡ None → ⊥
 unfolding place
 none_among d up left b Nil s h e = h
 none_among d up left b (Cons (Element start end namespace local listed attributes) c r) s h e =
-    nearest_here d b (ids (b + (1 + size c)) r) (ap (λ p. says_element p.item) s.0) e
+    nearest_here d b (ids (b + (1 + size c)) r) (ap (λ p. is_element_node p.item) s.0) e
 none_among d up left b (Cons (Root end) c r) s h e =
-    none_among d up (b ∷ left) (b + (1 + size c)) r s.3 h (nearest_after d b (ids (b + (1 + size c)) r) (ap (λ p. says_element p.item) s.0) e)
+    none_among d up (b ∷ left) (b + (1 + size c)) r s.3 h (nearest_after d b (ids (b + (1 + size c)) r) (ap (λ p. is_element_node p.item) s.0) e)
 none_among d up left b (Cons (Text start end value borrowed) c r) s h e =
-    none_among d up (b ∷ left) (b + (1 + size c)) r s.3 h (nearest_after d b (ids (b + (1 + size c)) r) (ap (λ p. says_element p.item) s.0) e)
+    none_among d up (b ∷ left) (b + (1 + size c)) r s.3 h (nearest_after d b (ids (b + (1 + size c)) r) (ap (λ p. is_element_node p.item) s.0) e)
 none_among d up left b (Cons (Comment start end text) c r) s h e =
-    none_among d up (b ∷ left) (b + (1 + size c)) r s.3 h (nearest_after d b (ids (b + (1 + size c)) r) (ap (λ p. says_element p.item) s.0) e)
+    none_among d up (b ∷ left) (b + (1 + size c)) r s.3 h (nearest_after d b (ids (b + (1 + size c)) r) (ap (λ p. is_element_node p.item) s.0) e)
 none_among d up left b (Cons (PI start end target value) c r) s h e =
-    none_among d up (b ∷ left) (b + (1 + size c)) r s.3 h (nearest_after d b (ids (b + (1 + size c)) r) (ap (λ p. says_element p.item) s.0) e)
+    none_among d up (b ∷ left) (b + (1 + size c)) r s.3 h (nearest_after d b (ids (b + (1 + size c)) r) (ap (λ p. is_element_node p.item) s.0) e)
 
 -- a tree stands in its own preorder list
 pub whole_sits : (f : Forest Node) → Sits (preorder f) [] [] 0 f
@@ -62,7 +62,7 @@ whole_sits f =
     sits (places [] [] 0 f) [] [] 0 f (λ k m. let e : 0 + k ≡ k = omega arith in rw e refl) (omega (arith, length-places [] [] 0 f))
 
 -- a document has an outermost element
-pub root_element_there : (d : Doc) (n : ℕ) → IsDocument n d.tree → nearest_element (spots d (children d.tree 0)) ≡ None → ⊥
+pub root_element_there : (d : DocumentView) (n : ℕ) → IsDocument n d.tree → nearest_element (node_refs d (children d.tree 0)) ≡ None → ⊥
 unfolding place
 root_element_there d n w h =
     let s : Sits (preorder d.tree) [] [] 0 (Cons (Root n) w.tops Nil) = subst (λ f. Sits (preorder d.tree) [] [] 0 f) w.rooted (whole_sits d.tree) in
@@ -70,7 +70,7 @@ root_element_there d n w h =
     none_among d (0 ∷ []) [] 1 w.tops s.2 w.element (rw c at h)
 
 -- an element is one still with the names resolved
-element_stays : (above : List Declaration) (f : Forest written.Item) → AnyElement f → HasElement (resolved above f)
+element_stays : (above : List NamespaceDecl) (f : Forest written.Item) → AnyElement f → HasElement (resolved above f)
 element_stays above Nil h = h
 element_stays above (Cons (written.Element start end tag) c r) h = tt
 element_stays above (Cons (written.Text start end value borrowed) c r) h = element_stays above r h

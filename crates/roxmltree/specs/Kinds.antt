@@ -1,7 +1,7 @@
 -- The kinds of node.
 use Rattle.rox_grammar.specs.Tree.{Node, Root, Element, Text, Comment, PI}
-use Rattle.roxmltree.specs.declared.contents.NodeType.{NodeType}
-use Rattle.roxmltree.specs.declared.contents.NodeType.TheVariants as type
+use Rattle.roxmltree.specs.declared.node_content.NodeType.{NodeType}
+use Rattle.roxmltree.specs.declared.node_content.NodeType.TheVariants as type
 
 abbrev pub type_of : Node → NodeType
 type_of (Root end) = type.Root

@@ -1,25 +1,25 @@
 pub mod Places
-pub mod Says
-pub mod Bare
+pub mod NodeParts
+pub mod Stripped
 pub mod Kinds
-pub mod Stored
-pub mod Flat
-pub mod Doc
-pub mod Whole
-pub mod Each
-pub mod Names
-pub mod Reach
-pub mod Listed
-pub mod Words
-pub mod Spot
+pub mod StoredText
+pub mod TreeCodes
+pub mod DocumentView
+pub mod DocumentTables
+pub mod EachNode
+pub mod ExpandedNames
+pub mod NamespaceBound
+pub mod ElementLists
+pub mod GivesNode
+pub mod NodeRef
 pub mod Elements
-pub mod Walk
-pub mod Left
-pub mod Range
-pub mod Axis
-pub mod Speaks
-pub mod Told
-pub mod Alone
+pub mod SiblingRange
+pub mod ChildrenLeft
+pub mod DescendantsLeft
+pub mod AxisNodes
+pub mod TextErrors
+pub mod FirstError
+pub mod SelfContained
 -- what the public clauses cite of the crates below
 pub use Rattle.rox_grammar.specs.Forest
 pub use Rattle.rox_grammar.specs.Written
@@ -28,16 +28,16 @@ pub use Rattle.rox_grammar.specs.Document
 pub use Rattle.rox_grammar.specs.Doctype
 pub use Rattle.rox_grammar.specs.Exchange
 pub use Rattle.rox_grammar.specs.Faults
-pub use Rattle.rox_grammar.specs.Refused
+pub use Rattle.rox_grammar.specs.FaultsWithDoctype
 pub use Rattle.rox_grammar.specs.Spans
 pub use Rattle.rox_grammar.specs.Positions
 pub use Rattle.rox_grammar.specs.declared.fault.Fault
-pub use Rattle.rox_reading.specs.Whole as Reading
+pub use Rattle.rox_reading.specs.WholeText as Reading
 pub use Rattle.rox_reading.specs.Refusals
 pub use Rattle.rox_reading.specs.Doctype as Replies
 pub use Rattle.rox_reading.specs.Answering
 pub use Rattle.rox_resolver.specs.Requests
-pub use Rattle.rox_error.specs.Telling
+pub use Rattle.rox_error.specs.FaultErrors
 pub use Rattle.rox_error.specs.Messages
-pub use Rattle.rox_tables.specs.Lines
+pub use Rattle.rox_tables.specs.Rows
 pub use Rattle.rox_tables.specs.Storage

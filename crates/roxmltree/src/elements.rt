@@ -2,8 +2,8 @@
 
 ghost use Rattle.std.specs.Prelude.{◌≡◌, ◌≤◌, ◌-◌, length, bytes_eq};
 ghost use Rattle.std.specs.Option.{option_map, option_eq};
-ghost use Rattle.rox_tables.specs.Lines.{declaration};
-ghost use Rattle.roxmltree.specs.Reach.{reach};
+ghost use Rattle.rox_tables.specs.Rows.{declaration};
+ghost use Rattle.roxmltree.specs.NamespaceBound.{namespace_bound};
 
 use crate::names::{ExpandedName, NS_XML_URI};
 use rox_tables::rope::{count, place_at};
@@ -19,13 +19,13 @@ pub struct Attribute<'a, 'input> {
     data: &'a AttributeData<'input>,
     places: &'a AttributePlaces,
     names: &'a [Namespace<'input>],
-    ghost within: { reach data.now.namespace ≤ length names.now },
+    ghost within: { namespace_bound data.now.namespace ≤ length names.now },
 }
 
 impl<'a, 'input> Attribute<'a, 'input> {
-    ghost use Rattle.roxmltree.specs.Listed.{attribute_of};
-    ghost use Rattle.roxmltree.specs.Names.{expanded, same_name};
-    ghost use Rattle.roxmltree.specs.Stored.{stored};
+    ghost use Rattle.roxmltree.specs.ElementLists.{attribute_of};
+    ghost use Rattle.roxmltree.specs.ExpandedNames.{expanded, same_expanded_name};
+    ghost use Rattle.roxmltree.specs.StoredText.{stored};
 
     /// The namespace of its name. None where the name has no prefix.
     #[tactic(auto, using(crate::proofs::Entries::entry_uri))]
@@ -53,7 +53,7 @@ impl<'a, 'input> Attribute<'a, 'input> {
     /// Whether it has this name.
     #[inline]
     pub(crate) fn has_name(&self, name: &ExpandedName<'_, '_>) -> bool
-        ensures { result ≡ same_name ((attribute_of self.now).namespace, (attribute_of self.now).local) (expanded name.now) }
+        ensures { result ≡ same_expanded_name ((attribute_of self.now).namespace, (attribute_of self.now).local) (expanded name.now) }
     {
         self.name() == name.name() && self.namespace() == name.namespace()
     }
@@ -114,7 +114,7 @@ impl PartialEq for Attribute<'_, '_> {
     ghost use Rattle.std.specs.Ordering.{on, eq_of_both};
     ghost use Rattle.std.specs.Cmp.{partial_equiv_from_equiv, and_equiv, on_equiv};
     ghost use Rattle.std.specs.Cmp.Lexicographic.{options_equiv, nat_list_eq_equiv};
-    ghost use Rattle.roxmltree.specs.Listed.{attribute_of};
+    ghost use Rattle.roxmltree.specs.ElementLists.{attribute_of};
 
     ghost eq = { eq_of_both (eq_of_both (on (λ a. (attribute_of a).local) bytes_eq) (on (λ a. (attribute_of a).namespace) (option_eq bytes_eq))) (on (λ a. (attribute_of a).value) bytes_eq) };
 
@@ -148,7 +148,7 @@ pub struct Attributes<'a, 'input> {
 impl<'a, 'input> Model for Attributes<'a, 'input> {
     ghost use Rattle.std.specs.Prelude.{List};
     ghost use Rattle.rox_grammar.specs.Tree as tree;
-    ghost use Rattle.roxmltree.specs.Listed.{attributes_code, attributes_left, AttributesWithin};
+    ghost use Rattle.roxmltree.specs.ElementLists.{attributes_code, attributes_left, AttributesWithin};
 
     ghost Value = { List tree.Attribute };
 
@@ -162,7 +162,7 @@ impl<'a, 'input> Model for Attributes<'a, 'input> {
 impl<'a, 'input> Attributes<'a, 'input> {
     ghost use Rattle.std.specs.Prelude.{map, slice_range};
     ghost use Rattle.std.specs.List.{AllByRecursion, zip};
-    ghost use Rattle.rox_tables.specs.Lines.{attribute, NamespaceWithin};
+    ghost use Rattle.rox_tables.specs.Rows.{attribute, NamespaceWithin};
 
     /// A stretch of the attributes of all elements, whose namespaces are in this table.
     #[inline]
@@ -203,7 +203,7 @@ impl<'a, 'input> Iterator for Attributes<'a, 'input> {
     ghost use Rattle.std.specs.Prelude.{Some, IfSome, length};
     ghost use Rattle.std.specs.Iterator.{YieldsFirstBy, item_count, UpTo};
     ghost use Rattle.std.specs.Iterator.SizeHint.{IsWithinCount};
-    ghost use Rattle.roxmltree.specs.Listed.{attribute_of};
+    ghost use Rattle.roxmltree.specs.ElementLists.{attribute_of};
 
     ghost next_gives = { YieldsFirstBy attribute_of (λ s. s) };
 
@@ -235,7 +235,7 @@ impl<'a, 'input> Iterator for Attributes<'a, 'input> {
 
 impl<'a, 'input> DoubleEndedIterator for Attributes<'a, 'input> {
     ghost use Rattle.std.specs.Iterator.{YieldsLastBy};
-    ghost use Rattle.roxmltree.specs.Listed.{attribute_of};
+    ghost use Rattle.roxmltree.specs.ElementLists.{attribute_of};
 
     ghost next_back_gives = { YieldsLastBy attribute_of (λ s. s) };
 
@@ -273,12 +273,12 @@ pub struct NamespaceIter<'a, 'input> {
 
 impl<'a, 'input> Model for NamespaceIter<'a, 'input> {
     ghost use Rattle.std.specs.Prelude.{List};
-    ghost use Rattle.rox_grammar.specs.Written.{Declaration};
-    ghost use Rattle.roxmltree.specs.Listed.{declarations_code, namespaces_left, NamespacesWithin};
+    ghost use Rattle.rox_grammar.specs.Written.{NamespaceDecl};
+    ghost use Rattle.roxmltree.specs.ElementLists.{namespace_decls_code, namespaces_left, NamespacesWithin};
 
-    ghost Value = { List Declaration };
+    ghost Value = { List NamespaceDecl };
 
-    ghost coded = { declarations_code };
+    ghost coded = { namespace_decls_code };
 
     ghost view = { namespaces_left };
 
@@ -287,7 +287,7 @@ impl<'a, 'input> Model for NamespaceIter<'a, 'input> {
 
 impl<'a, 'input> NamespaceIter<'a, 'input> {
     ghost use Rattle.std.specs.Prelude.{[], map, ◌<◌, ◌^◌};
-    ghost use Rattle.rox_tables.specs.Lines.{entry, AreScopes};
+    ghost use Rattle.rox_tables.specs.Rows.{entry, AreScopes};
     ghost use Rattle.rox_tables.specs.Scopes.{places_in, ArePlaces};
 
     /// All that a scope lists of these places, in this table of namespaces.

@@ -1,7 +1,7 @@
 //! A read-only tree of an XML document, in document order.
 #![tactic(auto)]
 
-mod contents;
+mod node_content;
 mod debug;
 mod elements;
 pub mod laws;
@@ -12,17 +12,17 @@ mod options;
 mod order;
 mod parse;
 mod positions;
-mod slices;
+mod exchange;
 mod tree;
-mod walks;
+mod iterators;
 
-pub use crate::contents::NodeType;
+pub use crate::node_content::NodeType;
 pub use crate::elements::{Attribute, Attributes, NamespaceIter};
 pub use crate::names::{ExpandedName, NS_XML_URI, NS_XMLNS_URI};
 pub use crate::nodes::{Node, NodeId, NodeIdTooLarge};
 pub use crate::options::ParsingOptions;
 pub use crate::tree::Document;
-pub use crate::walks::{AxisIter, Children, Descendants};
+pub use crate::iterators::{AxisIter, Children, Descendants};
 pub use rox_error::position::TextPos;
 pub use rox_resolver::resolver::{EntityResolver, NoResolver, ResolveWith};
 pub use rox_tables::storage::StringStorage;

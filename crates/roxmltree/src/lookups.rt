@@ -3,11 +3,11 @@
 ghost use Rattle.std.specs.Prelude.{◌≡◌, ◌&&◌, ◌<◌, ◌^◌, length, bytes_eq};
 ghost use Rattle.std.specs.Option.{option_map, is_some};
 ghost use Rattle.rox_grammar.specs.Tree.{uri_of};
-ghost use Rattle.rox_tables.specs.Lines.{declaration};
-ghost use Rattle.roxmltree.specs.Says.{says_element, local_of, namespace_of, listed_of, attributes_of};
-ghost use Rattle.roxmltree.specs.Names.{expanded, same_name, named, named_locally, prefix_of, first_prefix};
-ghost use Rattle.roxmltree.specs.Listed.{attribute_of};
-ghost use Rattle.roxmltree.specs.Spot.{item_of};
+ghost use Rattle.rox_tables.specs.Rows.{declaration};
+ghost use Rattle.roxmltree.specs.NodeParts.{is_element_node, local_of, namespace_of, listed_of, attributes_of};
+ghost use Rattle.roxmltree.specs.ExpandedNames.{expanded, same_expanded_name, named, named_locally, prefix_of, first_prefix};
+ghost use Rattle.roxmltree.specs.ElementLists.{attribute_of};
+ghost use Rattle.roxmltree.specs.NodeRef.{item_of};
 
 use crate::elements::{Attribute, Attributes, NamespaceIter};
 use crate::names::{ExpandedName, NS_XML_URI};
@@ -37,7 +37,7 @@ impl<'a, 'input> Node<'a, 'input> {
 
     /// Whether it is an element of this name.
     pub fn has_tag_name(&self, name: ExpandedName<'_, '_>) -> bool
-        ensures { result ≡ (says_element (item_of self.now) && same_name (namespace_of (item_of self.now), local_of (item_of self.now)) (expanded name.entry)) }
+        ensures { result ≡ (is_element_node (item_of self.now) && same_expanded_name (namespace_of (item_of self.now), local_of (item_of self.now)) (expanded name.entry)) }
     {
         self.is_element()
             && self.local_name() == name.name()
@@ -46,7 +46,7 @@ impl<'a, 'input> Node<'a, 'input> {
 
     /// Whether it is an element of this local name, whatever its namespace.
     pub fn has_local_name(&self, local: &str) -> bool
-        ensures { result ≡ (says_element (item_of self.now) && bytes_eq (local_of (item_of self.now)) local.now) }
+        ensures { result ≡ (is_element_node (item_of self.now) && bytes_eq (local_of (item_of self.now)) local.now) }
     {
         self.is_element() && self.local_name() == local
     }

@@ -2,7 +2,7 @@
 
 ghost use Rattle.std.specs.Prelude.{◌≡◌, Some, None};
 ghost use Rattle.std.specs.Option.{option_map};
-ghost use Rattle.roxmltree.specs.Names.{expanded, same_name};
+ghost use Rattle.roxmltree.specs.ExpandedNames.{expanded, same_expanded_name};
 
 use std::fmt;
 

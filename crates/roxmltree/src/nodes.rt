@@ -6,7 +6,7 @@ ghost use Rattle.rox_grammar.specs.Forest.{size};
 ghost use Rattle.roxmltree.specs.Places.{place, parent, children, first_child, last_child, next_sibling, prev_sibling, up_to};
 
 use crate::tree::Document;
-use crate::walks::{Axis, AxisIter, Children, Descendants};
+use crate::iterators::{Axis, AxisIter, Children, Descendants};
 use std::fmt;
 
 /// The place of a node in document order: the root node has 0.
@@ -18,7 +18,7 @@ pub struct NodeId(pub(crate) u32);
 pub struct NodeIdTooLarge;
 
 impl NodeId {
-    ghost use Rattle.roxmltree.specs.Spot.{number};
+    ghost use Rattle.roxmltree.specs.NodeRef.{number};
 
     /// The id of this number.
     #[inline]
@@ -46,7 +46,7 @@ impl NodeId {
 }
 
 impl From<u32> for NodeId {
-    ghost use Rattle.roxmltree.specs.Spot.{number};
+    ghost use Rattle.roxmltree.specs.NodeRef.{number};
 
     ghost from_gives = { λ n id. number id ≡ n };
 
@@ -59,7 +59,7 @@ impl TryFrom<usize> for NodeId {
     type Error = NodeIdTooLarge;
 
     ghost use Rattle.std.specs.Prelude.{MatchResult};
-    ghost use Rattle.roxmltree.specs.Spot.{number};
+    ghost use Rattle.roxmltree.specs.NodeRef.{number};
 
     ghost try_from_gives = { λ n r. MatchResult r (λ id. number id ≡ n) (λ _. 2 ^ 32 ≤ n) };
 
@@ -93,9 +93,9 @@ pub struct Node<'a, 'input> {
 }
 
 impl<'a, 'input> Node<'a, 'input> {
-    ghost use Rattle.roxmltree.specs.Words.{GivesNode};
+    ghost use Rattle.roxmltree.specs.GivesNode.{GivesNode};
     ghost use Rattle.roxmltree.specs.Elements.{nearest_element};
-    ghost use Rattle.roxmltree.specs.Spot.{number, id_of, document_of, tree_of, spot, spots};
+    ghost use Rattle.roxmltree.specs.NodeRef.{number, id_of, document_of, tree_of, node_ref, node_refs};
 
     /// The document that it is in.
     #[inline]
@@ -222,7 +222,7 @@ impl<'a, 'input> Node<'a, 'input> {
     #[inline]
     #[tactic(auto, using(crate::proofs::Preorder::place_end, crate::proofs::Preorder::depth_le, crate::proofs::Stretches::children_left, crate::proofs::Stretches::children_stretch, crate::proofs::Few::few_left_of_children))]
     pub fn children(&self) -> Children<'a, 'input>
-        ensures value { result ≡ spots (document_of self.now) (children (tree_of self.now) (id_of self.now)) }
+        ensures value { result ≡ node_refs (document_of self.now) (children (tree_of self.now) (id_of self.now)) }
         ensures few { length result < 2 ^ 32 }
     {
         let document = self.document;
@@ -239,7 +239,7 @@ impl<'a, 'input> Node<'a, 'input> {
     #[inline]
     #[tactic(auto, using(crate::proofs::Preorder::place_end, crate::proofs::Siblings::descendants_is, crate::proofs::Ranges::spots_length))]
     pub fn descendants(&self) -> Descendants<'a, 'input>
-        ensures value { result ≡ spots (document_of self.now) (place (tree_of self.now) (id_of self.now)).descendants }
+        ensures value { result ≡ node_refs (document_of self.now) (place (tree_of self.now) (id_of self.now)).descendants }
         ensures few { length result < 2 ^ 32 }
     {
         let document = self.document;
@@ -255,7 +255,7 @@ impl<'a, 'input> Node<'a, 'input> {
     #[inline]
     #[tactic(auto, using(crate::proofs::Preorder::depth_le, crate::proofs::Ranges::length_spots))]
     pub fn ancestors(&self) -> AxisIter<'a, 'input>
-        ensures value { result ≡ spots (document_of self.now) (id_of self.now ∷ (place (tree_of self.now) (id_of self.now)).above) }
+        ensures value { result ≡ node_refs (document_of self.now) (id_of self.now ∷ (place (tree_of self.now) (id_of self.now)).above) }
         ensures few { length result < 2 ^ 32 }
     {
         let _nodes = self.document.count();
@@ -269,7 +269,7 @@ impl<'a, 'input> Node<'a, 'input> {
     #[inline]
     #[tactic(auto, using(crate::proofs::Few::few_before, crate::proofs::Ranges::length_spots))]
     pub fn prev_siblings(&self) -> AxisIter<'a, 'input>
-        ensures value { result ≡ spots (document_of self.now) (id_of self.now ∷ (place (tree_of self.now) (id_of self.now)).before) }
+        ensures value { result ≡ node_refs (document_of self.now) (id_of self.now ∷ (place (tree_of self.now) (id_of self.now)).before) }
         ensures few { length result < 2 ^ 32 }
     {
         let _nodes = self.document.count();
@@ -283,7 +283,7 @@ impl<'a, 'input> Node<'a, 'input> {
     #[inline]
     #[tactic(auto, using(crate::proofs::Few::few_after, crate::proofs::Ranges::length_spots))]
     pub fn next_siblings(&self) -> AxisIter<'a, 'input>
-        ensures value { result ≡ spots (document_of self.now) (id_of self.now ∷ (place (tree_of self.now) (id_of self.now)).after) }
+        ensures value { result ≡ node_refs (document_of self.now) (id_of self.now ∷ (place (tree_of self.now) (id_of self.now)).after) }
         ensures few { length result < 2 ^ 32 }
     {
         let _nodes = self.document.count();
@@ -297,7 +297,7 @@ impl<'a, 'input> Node<'a, 'input> {
     #[inline]
     #[tactic(auto, using(crate::proofs::Few::few_first_children, crate::proofs::Ranges::length_spots))]
     pub fn first_children(&self) -> AxisIter<'a, 'input>
-        ensures value { result ≡ spots (document_of self.now) (place (tree_of self.now) (id_of self.now)).first_children }
+        ensures value { result ≡ node_refs (document_of self.now) (place (tree_of self.now) (id_of self.now)).first_children }
         ensures few { length result < 2 ^ 32 }
     {
         let _nodes = self.document.count();
@@ -311,7 +311,7 @@ impl<'a, 'input> Node<'a, 'input> {
     #[inline]
     #[tactic(auto, using(crate::proofs::Few::few_last_children, crate::proofs::Ranges::length_spots))]
     pub fn last_children(&self) -> AxisIter<'a, 'input>
-        ensures value { result ≡ spots (document_of self.now) (place (tree_of self.now) (id_of self.now)).last_children }
+        ensures value { result ≡ node_refs (document_of self.now) (place (tree_of self.now) (id_of self.now)).last_children }
         ensures few { length result < 2 ^ 32 }
     {
         let _nodes = self.document.count();
@@ -323,7 +323,7 @@ impl<'a, 'input> Node<'a, 'input> {
 
     /// The nearest element above it.
     pub fn parent_element(&self) -> Option<Node<'a, 'input>>
-        ensures { option_map spot result ≡ nearest_element (spots (document_of self.now) (place (tree_of self.now) (id_of self.now)).above) }
+        ensures { option_map node_ref result ≡ nearest_element (node_refs (document_of self.now) (place (tree_of self.now) (id_of self.now)).above) }
     {
         let mut nodes = self.ancestors();
         nodes.next();
@@ -332,7 +332,7 @@ impl<'a, 'input> Node<'a, 'input> {
 
     /// The nearest element among its siblings before it.
     pub fn prev_sibling_element(&self) -> Option<Node<'a, 'input>>
-        ensures { option_map spot result ≡ nearest_element (spots (document_of self.now) (place (tree_of self.now) (id_of self.now)).before) }
+        ensures { option_map node_ref result ≡ nearest_element (node_refs (document_of self.now) (place (tree_of self.now) (id_of self.now)).before) }
     {
         let mut nodes = self.prev_siblings();
         nodes.next();
@@ -341,7 +341,7 @@ impl<'a, 'input> Node<'a, 'input> {
 
     /// The nearest element among its siblings after it.
     pub fn next_sibling_element(&self) -> Option<Node<'a, 'input>>
-        ensures { option_map spot result ≡ nearest_element (spots (document_of self.now) (place (tree_of self.now) (id_of self.now)).after) }
+        ensures { option_map node_ref result ≡ nearest_element (node_refs (document_of self.now) (place (tree_of self.now) (id_of self.now)).after) }
     {
         let mut nodes = self.next_siblings();
         nodes.next();
@@ -350,14 +350,14 @@ impl<'a, 'input> Node<'a, 'input> {
 
     /// The first element among its children.
     pub fn first_element_child(&self) -> Option<Node<'a, 'input>>
-        ensures { option_map spot result ≡ nearest_element (spots (document_of self.now) (children (tree_of self.now) (id_of self.now))) }
+        ensures { option_map node_ref result ≡ nearest_element (node_refs (document_of self.now) (children (tree_of self.now) (id_of self.now))) }
     {
         Children::first_element(self.children())
     }
 
     /// The last element among its children.
     pub fn last_element_child(&self) -> Option<Node<'a, 'input>>
-        ensures { option_map spot result ≡ nearest_element (reverse (spots (document_of self.now) (children (tree_of self.now) (id_of self.now)))) }
+        ensures { option_map node_ref result ≡ nearest_element (reverse (node_refs (document_of self.now) (children (tree_of self.now) (id_of self.now)))) }
     {
         Children::last_element(self.children())
     }

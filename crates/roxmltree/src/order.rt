@@ -5,7 +5,7 @@ use std::cmp::Ordering;
 use std::hash::{Hash, Hasher};
 
 impl PartialEq for Node<'_, '_> {
-    ghost use Rattle.roxmltree.specs.Spot.{id_of, document_of};
+    ghost use Rattle.roxmltree.specs.NodeRef.{id_of, document_of};
     ghost use Rattle.std.specs.Prelude.{◌==◌};
     ghost use Rattle.std.specs.Ordering.{on, eq_of_both};
     ghost use Rattle.std.proofs.Common.{rules};
@@ -21,7 +21,7 @@ impl PartialEq for Node<'_, '_> {
 }
 
 impl Eq for Node<'_, '_> {
-    ghost use Rattle.roxmltree.specs.Spot.{id_of, document_of};
+    ghost use Rattle.roxmltree.specs.NodeRef.{id_of, document_of};
     ghost use Rattle.std.proofs.Common.{rules};
     ghost use Rattle.std.specs.Cmp.Rules.{comparing};
 
@@ -29,7 +29,7 @@ impl Eq for Node<'_, '_> {
 }
 
 impl Ord for Node<'_, '_> {
-    ghost use Rattle.roxmltree.specs.Spot.{id_of, document_of};
+    ghost use Rattle.roxmltree.specs.NodeRef.{id_of, document_of};
     ghost use Rattle.std.specs.Ordering.{on, then_cmp, nat_cmp};
     ghost use Rattle.std.proofs.Common.{rules};
     ghost use Rattle.std.specs.Cmp.Rules.{comparing};
@@ -51,7 +51,7 @@ impl Ord for Node<'_, '_> {
 }
 
 impl PartialOrd for Node<'_, '_> {
-    ghost use Rattle.roxmltree.specs.Spot.{id_of, document_of};
+    ghost use Rattle.roxmltree.specs.NodeRef.{id_of, document_of};
     ghost use Rattle.std.specs.Ordering.{on, then_cmp, nat_cmp, as_partial_cmp};
     ghost use Rattle.std.proofs.Common.{rules};
     ghost use Rattle.std.specs.Cmp.{partial_order_from_own_ties};
@@ -67,7 +67,7 @@ impl PartialOrd for Node<'_, '_> {
 }
 
 impl Hash for Node<'_, '_> {
-    ghost use Rattle.roxmltree.specs.Spot.{id_of, document_of};
+    ghost use Rattle.roxmltree.specs.NodeRef.{id_of, document_of};
     ghost use Rattle.std.specs.Prelude.{◌++◌};
     ghost use Rattle.std.specs.Hash as fed;
     ghost use Rattle.std.proofs.Common.{rules};

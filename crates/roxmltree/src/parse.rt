@@ -7,16 +7,16 @@ ghost use Rattle.rox_grammar.specs.declared.fault.Fault.{Fault};
 ghost use Rattle.rox_grammar.specs.Forest.{Forest};
 ghost use Rattle.rox_grammar.specs.Spans.{NamesText};
 ghost use Rattle.rox_grammar.specs.Faults.{FaultOf};
-ghost use Rattle.rox_grammar.specs.Refused.{RefusalOf};
+ghost use Rattle.rox_grammar.specs.FaultsWithDoctype.{RefusalOf};
 ghost use Rattle.rox_grammar.specs.Tree as grammar;
 ghost use Rattle.rox_grammar.specs.Doctype.{Request, Asked};
 ghost use Rattle.rox_grammar.specs.Document.{IsTreeOf, Permits, HasAsked, AsksNext};
 ghost use Rattle.rox_reading.specs.Refusals.{here};
-ghost use Rattle.rox_reading.specs.Whole.{reading};
+ghost use Rattle.rox_reading.specs.WholeText.{reading};
 ghost use Rattle.rox_resolver.specs.Requests.{Allows, AreAllowed, MayAsk};
-ghost use Rattle.rox_error.specs.Telling.{position_at, IsErrorOf};
-ghost use Rattle.roxmltree.specs.Speaks.{SpeaksOfText};
-ghost use Rattle.roxmltree.specs.Told.{IsFirst, IsRead, Tells};
+ghost use Rattle.rox_error.specs.FaultErrors.{position_at, IsErrorOf};
+ghost use Rattle.roxmltree.specs.TextErrors.{IsTextError};
+ghost use Rattle.roxmltree.specs.FirstError.{IsFirst, IsReadDocument, IsErrorOfReason};
 
 use crate::options::ParsingOptions;
 use crate::tree::Document;
@@ -24,7 +24,7 @@ use rox_build::reader::{Options, build};
 use rox_error::error::Error;
 use rox_error::position::TextPos;
 use rox_resolver::resolver::EntityResolver;
-use rox_values::refused::Refused;
+use rox_values::parse_error::ParseError;
 use std::alloc::Global;
 
 impl<'input> Document<'input> {
@@ -71,9 +71,9 @@ impl<'input> Document<'input> {
         ensures is_parse { IfOk result (λ document. (asked : List Asked) × AreAllowed (Allows R.allows opt.entity_resolver) asked × Permits opt.allow_dtd document.dtd × IsTreeOf text.now document.dtd asked opt.nodes_limit document.tree) }
         ensures text { IfOk result (λ document. document.text ≡ text.now) }
         ensures key { IfOk result (λ document. document.key ≡ opt.document_key) }
-        ensures no_parse { IfErr result (λ e. SpeaksOfText e → (asked : List Asked) × HasAsked text.now opt.allow_dtd asked × AreAllowed (Allows R.allows opt.entity_resolver) asked × ((dtd : Bool) (later : List Asked) (tree : Forest grammar.Node) → Permits opt.allow_dtd dtd → IsTreeOf text.now dtd (asked ++ later) opt.nodes_limit tree → ⊥)) }
+        ensures no_parse { IfErr result (λ e. IsTextError e → (asked : List Asked) × HasAsked text.now opt.allow_dtd asked × AreAllowed (Allows R.allows opt.entity_resolver) asked × ((dtd : Bool) (later : List Asked) (tree : Forest grammar.Node) → Permits opt.allow_dtd dtd → IsTreeOf text.now dtd (asked ++ later) opt.nodes_limit tree → ⊥)) }
         ensures resolver { IfErr result (λ e. (p : TextPos) (words : String Global) → e ≡ Error.EntityResolver p words → (asked : List Asked) × (request : Request) × (at : ℕ) × (opt.allow_dtd ≡ true) × AreAllowed (Allows R.allows opt.entity_resolver) asked × AsksNext text.now asked request at × Allows R.allows opt.entity_resolver request (Err (string_bytes words)) × (p ≡ position_at text.now at)) }
-        ensures fault { IfErr result (λ e. SpeaksOfText e → (asked : List Asked) × (source : List ℕ) × (f : Fault) × AreAllowed (Allows R.allows opt.entity_resolver) asked × RefusalOf opt.nodes_limit opt.allow_dtd text.now asked source f × NamesText source f × IsErrorOf source f e) }
+        ensures fault { IfErr result (λ e. IsTextError e → (asked : List Asked) × (source : List ℕ) × (f : Fault) × AreAllowed (Allows R.allows opt.entity_resolver) asked × RefusalOf opt.nodes_limit opt.allow_dtd text.now asked source f × NamesText source f × IsErrorOf source f e) }
         ensures first { IfErr result (λ e. e ≢ Error.OutOfMemory → IsFirst opt.nodes_limit opt.allow_dtd (Allows R.allows opt.entity_resolver) text.now e) }
     {
         read(alloc, text, opt)
@@ -87,7 +87,7 @@ fn read<'input, 'w, R: EntityResolver<'input> + Drop>(
     opt: ParsingOptions<R>,
 ) -> Result<Document<'input>, Error<'w>>
     requires may { MayAsk R.can_resolve opt.entity_resolver }
-    ensures tree { IfOk result (λ document. IsRead opt.nodes_limit opt.allow_dtd (Allows R.allows opt.entity_resolver) text.now document) }
+    ensures tree { IfOk result (λ document. IsReadDocument opt.nodes_limit opt.allow_dtd (Allows R.allows opt.entity_resolver) text.now document) }
     ensures text { IfOk result (λ document. document.text ≡ text.now) }
     ensures key { IfOk result (λ document. document.key ≡ opt.document_key) }
     ensures told { IfErr result (λ e. e ≢ Error.OutOfMemory → IsFirst opt.nodes_limit opt.allow_dtd (Allows R.allows opt.entity_resolver) text.now e) }
@@ -104,13 +104,13 @@ fn read<'input, 'w, R: EntityResolver<'input> + Drop>(
 
 /// What a caller is told of a refusal.
 #[cold]
-fn told<'w>(alloc: Global, text: &str, refused: Refused<'_>) -> Error<'w>
-    ensures { Tells text.now refused.entry result }
+fn told<'w>(alloc: Global, text: &str, refused: ParseError<'_>) -> Error<'w>
+    ensures { IsErrorOfReason text.now refused.entry result }
 {
     match refused {
-        Refused::Memory => Error::OutOfMemory,
-        Refused::Fault(fault) => Error::from_fault(alloc, text, fault),
-        Refused::Elsewhere(source, fault) => Error::from_fault(alloc, source, fault),
-        Refused::Resolver(at, words) => Error::from_resolver(text, at, words),
+        ParseError::Memory => Error::OutOfMemory,
+        ParseError::Fault(fault) => Error::from_fault(alloc, text, fault),
+        ParseError::FaultIn(source, fault) => Error::from_fault(alloc, source, fault),
+        ParseError::Resolver(at, words) => Error::from_resolver(text, at, words),
     }
 }

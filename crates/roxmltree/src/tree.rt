@@ -4,11 +4,11 @@ ghost use Rattle.std.specs.Prelude.{◌≡◌, ◌+◌, ◌^◌, ◌<◌, ◌≤
 ghost use Rattle.std.specs.Option.{option_map};
 ghost use Rattle.rox_grammar.specs.Forest.{Forest, size};
 ghost use Rattle.roxmltree.specs.Places.{place, parent, children};
-ghost use Rattle.roxmltree.specs.Says.{node_at, content_of, namespace_of, listed_of, attributes_of};
+ghost use Rattle.roxmltree.specs.NodeParts.{node_at, content_of, namespace_of, listed_of, attributes_of};
 
 use crate::elements::{Attributes, NamespaceIter};
 use crate::nodes::{Node, NodeId};
-use crate::walks::Descendants;
+use crate::iterators::Descendants;
 use rox_tables::tables::{NodeData, NodeKind, Tables};
 use std::marker::Model;
 
@@ -22,17 +22,17 @@ pub struct Document<'input> {
 }
 
 impl<'input> Model for Document<'input> {
-    ghost use Rattle.roxmltree.specs.Doc.{Doc, doc_code};
+    ghost use Rattle.roxmltree.specs.DocumentView.{DocumentView, document_code};
 
-    ghost Value = { Doc };
+    ghost Value = { DocumentView };
 
-    ghost coded = { doc_code };
+    ghost coded = { document_code };
 
-    ghost use Rattle.roxmltree.specs.Whole.{doc_of, IsSound};
+    ghost use Rattle.roxmltree.specs.DocumentTables.{document_view, IsDocumentOf};
 
-    ghost view = { doc_of };
+    ghost view = { document_view };
 
-    ghost invariant = { IsSound };
+    ghost invariant = { IsDocumentOf };
 }
 
 impl<'input> Document<'input> {
@@ -40,11 +40,11 @@ impl<'input> Document<'input> {
     ghost use Rattle.rox_grammar.specs.Doctype.{Asked};
     ghost use Rattle.rox_grammar.specs.Document.{IsTreeOf};
     ghost use Rattle.std.specs.Prelude.{IsUtf8};
-    ghost use Rattle.rox_tables.specs.Lines.{Holds};
-    ghost use Rattle.roxmltree.specs.Whole.{HoldsDocument};
-    ghost use Rattle.roxmltree.specs.Bare.{bare, bare_row};
-    ghost use Rattle.roxmltree.specs.Stored.{content_in};
-    ghost use Rattle.roxmltree.specs.Spot.{number, spot, spots, id_of, document_of};
+    ghost use Rattle.rox_tables.specs.Rows.{HoldsTree};
+    ghost use Rattle.roxmltree.specs.DocumentTables.{HoldsDocument};
+    ghost use Rattle.roxmltree.specs.Stripped.{stripped, stripped_row};
+    ghost use Rattle.roxmltree.specs.StoredText.{content_in};
+    ghost use Rattle.roxmltree.specs.NodeRef.{number, node_ref, node_refs, id_of, document_of};
     ghost use Rattle.roxmltree.specs.Elements.{nearest_element, root_id};
 
     /// The document of a text, from the tables of its tree, where it is known whether it has a document type declaration.
@@ -55,7 +55,7 @@ impl<'input> Document<'input> {
         tables: Tables<'input>,
     ) -> Document<'input>
         requires { HoldsDocument text.now dtd tables }
-        ensures tree { (tree : Forest grammar.Node) → Holds tables.entry tree → result.tree ≡ tree }
+        ensures tree { (tree : Forest grammar.Node) → HoldsTree tables.entry tree → result.tree ≡ tree }
         ensures text { result.text ≡ text.now }
         ensures key { result.key ≡ key }
         ensures dtd { result.dtd ≡ dtd }
@@ -94,7 +94,7 @@ impl<'input> Document<'input> {
         ensures parent { 0 < result.now.depth → parent self.now.tree (number id) ≡ Some result.now.parent }
         ensures next { result.now.next ≡ number id + (place self.now.tree (number id)).count }
         ensures depth { result.now.depth ≡ length (place self.now.tree (number id)).above }
-        ensures item { bare_row result.now.start result.now.end result.now.kind ≡ bare (node_at self.now.tree (number id)) }
+        ensures item { stripped_row result.now.start result.now.end result.now.kind ≡ stripped (node_at self.now.tree (number id)) }
         ensures content { content_in result.now.kind ≡ content_of (node_at self.now.tree (number id)) }
         ensures few { size self.now.tree < 2 ^ 32 }
     {
@@ -141,7 +141,7 @@ impl<'input> Document<'input> {
     /// The outermost element (XML 1.0 section 2.1).
     #[tactic(auto, using(crate::proofs::Tops::root_element_there, crate::proofs::Contained::nearest_is))]
     pub fn root_element(&self) -> Node<'_, 'input>
-        ensures element { Some (spot result) ≡ nearest_element (spots self.now (children self.now.tree 0)) }
+        ensures element { Some (node_ref result) ≡ nearest_element (node_refs self.now (children self.now.tree 0)) }
         ensures id { id_of result ≡ root_id self.now.tree }
         ensures document { document_of result ≡ self.now }
     {
@@ -169,7 +169,7 @@ impl<'input> Document<'input> {
     /// All nodes, the root node first, in document order.
     #[inline]
     pub fn descendants(&self) -> Descendants<'_, 'input>
-        ensures value { result ≡ spots self.now (place self.now.tree 0).descendants }
+        ensures value { result ≡ node_refs self.now (place self.now.tree 0).descendants }
         ensures few { length result < 2 ^ 32 }
     {
         self.root().descendants()

@@ -1,14 +1,14 @@
 use Rattle.std.specs.Prelude.{OnOk}
 use Rattle.std.proofs.Common.{ℕ, true, false, Bool, refl, sym, ap, subst, ◌∙◌, List}
 use Rattle.std.proofs.lemmas.Result.{err_from_is_err_and}
-use Rattle.rox_grammar.specs.Written.{Element, Declaration}
+use Rattle.rox_grammar.specs.Written.{Element, NamespaceDecl}
 use Rattle.rox_grammar.specs.State.{scope_of}
 use Rattle.rox_reading.specs.State.{State}
 use Rattle.rox_reading.specs.Machine.{opened_by}
 use Rattle.rox_reading.specs.Refusals.{lifted}
-use Rattle.rox_values.specs.Hows.{how_of}
-use Rattle.rox_build.specs.Tagged.{Tagged}
-use Rattle.rox_build.specs.Shown.{IsNode, Fine, Stepped}
+use Rattle.rox_values.specs.Contexts.{context_of}
+use Rattle.rox_build.specs.ElementRow.{Tagged}
+use Rattle.rox_build.specs.BuilderState.{IsNode, IsConsistent, ScansTo}
 use Rattle.rox_tables.specs.declared.tables.NodeKind.TheVariants as kind
 use Rattle.rox_build.proofs.Declared.{some_declare}
 use Rattle.rox_build.proofs.Lifting.{refused_too}
@@ -25,7 +25,7 @@ start_tag-requires-clause-once c = c.scope-above.ensures.once c.requires.fine
 pub returns-in_err-tag-clause-value : goal.returns-in_err-tag-clause-value
 returns-in_err-tag-clause-value c = λ limit end es s declared h.
     let p = err_from_is_err_and c.from_residual.result c.from_residual.ensures.1 in
-    rw (p.1, p.2) (tag_fails (how_of limit es c.args.how) c.args.cursor.now.text.now s c.args.cursor.now.pos _ _ _ _ c.in_err-tag.field-0.0 h.here (c.cut_off-cut.ensures end s.stack s.done h.shows)
+    rw (p.1, p.2) (tag_fails (context_of limit es c.args.how) c.args.cursor.now.text.now s c.args.cursor.now.pos _ _ _ _ c.in_err-tag.field-0.0 h.here (c.cut_off-cut.ensures end s.stack s.done h.shows)
     (c.scope-above.ensures.value c.requires.fine end s.stack s.done h.shows) h.attributes h.names (rw h.left_is at (c.in_err-tag.ensures.value es declared)))
 
 pub returns-then-tag-clause-value : goal.returns-then-tag-clause-value
@@ -38,14 +38,14 @@ returns-then-tag-clause-value c = λ limit end es s declared h.
     let pos = c.args.cursor.now.pos in
     let d = c.start_tag.new.cursor in
     let sc = c.scope-above.ensures.value c.requires.fine end s.stack s.done h.shows in
-    let tg : Tagged old new t (scope_of s.stack) v.0 = subst (λ (a : List Declaration). Tagged old new t a v.0) sc v.2 in
+    let tg : Tagged old new t (scope_of s.stack) v.0 = subst (λ (a : List NamespaceDecl). Tagged old new t a v.0) sc v.2 in
     let shows = grown_shows end s.stack s.done b _ h.shows c.requires.fine.sound c.requires.fine.elements (grown_by old new t (scope_of s.stack) v.0 tg) refl refl refl refl in
     let node : IsNode new (scope_of s.stack) pos d.pos (kind.Element t.element) (Element s.at d.pos v.0) =
     subst (λ (n : ℕ). IsNode new (scope_of s.stack) pos d.pos (kind.Element t.element) (Element n d.pos v.0)) h.here (is_node old new t (scope_of s.stack) v.0 pos d.pos tg) in
     let adds = c.leaf.ensures.value end d.pos (with_left t.left s) (Element s.at d.pos v.0) shows node in
-    rw (tag_is (how_of limit es c.args.how) c.args.cursor.now.text.now s pos _ _ _ _ v.0 t.empty t.left d.pos h.here (c.cut_off-cut.ensures end s.stack s.done h.shows) sc h.attributes h.names v.1
+    rw (tag_is (context_of limit es c.args.how) c.args.cursor.now.text.now s pos _ _ _ _ v.0 t.empty t.left d.pos h.here (c.cut_off-cut.ensures end s.stack s.done h.shows) sc h.attributes h.names v.1
     ∙ ap (λ (e : Bool). lifted (opened_by limit s v.0 e t.left d.pos)) c.if-tag.true)
-    (subst (λ r. Stepped limit end r d c.leaf.new.self (lifted (opened_by limit s v.0 true t.left d.pos))) c.in_ok-leaf.was
+    (subst (λ r. ScansTo limit end r d c.leaf.new.self (lifted (opened_by limit s v.0 true t.left d.pos))) c.in_ok-leaf.was
     (empty_stepped limit end t.left s d old new b.nodes_limit c.leaf.new.self c.leaf.result t (scope_of s.stack) v.0 tg h.names h.attributes h.limit_is c.leaf.ensures.left c.leaf.ensures.tables c.leaf.ensures.limit adds))
 
 pub returns-in_err-leaf-clause-value : goal.returns-in_err-leaf-clause-value
@@ -58,7 +58,7 @@ returns-in_err-leaf-clause-value c = λ limit end es s declared h.
     let pos = c.args.cursor.now.pos in
     let d = c.start_tag.new.cursor in
     let sc = c.scope-above.ensures.value c.requires.fine end s.stack s.done h.shows in
-    let tg : Tagged old new t (scope_of s.stack) v.0 = subst (λ (a : List Declaration). Tagged old new t a v.0) sc v.2 in
+    let tg : Tagged old new t (scope_of s.stack) v.0 = subst (λ (a : List NamespaceDecl). Tagged old new t a v.0) sc v.2 in
     let shows = grown_shows end s.stack s.done b _ h.shows c.requires.fine.sound c.requires.fine.elements (grown_by old new t (scope_of s.stack) v.0 tg) refl refl refl refl in
     let node : IsNode new (scope_of s.stack) pos d.pos (kind.Element t.element) (Element s.at d.pos v.0) =
     subst (λ (n : ℕ). IsNode new (scope_of s.stack) pos d.pos (kind.Element t.element) (Element n d.pos v.0)) h.here (is_node old new t (scope_of s.stack) v.0 pos d.pos tg) in
@@ -67,10 +67,10 @@ returns-in_err-leaf-clause-value c = λ limit end es s declared h.
     rw (
       p.1,
       p.2,
-      tag_is (how_of limit es c.args.how) c.args.cursor.now.text.now s pos _ _ _ _ v.0 t.empty t.left d.pos h.here (c.cut_off-cut.ensures end s.stack s.done h.shows) sc h.attributes h.names v.1
+      tag_is (context_of limit es c.args.how) c.args.cursor.now.text.now s pos _ _ _ _ v.0 t.empty t.left d.pos h.here (c.cut_off-cut.ensures end s.stack s.done h.shows) sc h.attributes h.names v.1
           ∙ ap (λ (e : Bool). lifted (opened_by limit s v.0 e t.left d.pos)) c.if-tag.true,
     )
-    (refused_too c.in_err-leaf.field-0.0 (lifted (opened_by limit s v.0 true t.left d.pos)) (subst (λ r. Stepped limit end r d c.leaf.new.self (lifted (opened_by limit s v.0 true t.left d.pos))) c.in_err-leaf.was
+    (refused_too c.in_err-leaf.field-0.0 (lifted (opened_by limit s v.0 true t.left d.pos)) (subst (λ r. ScansTo limit end r d c.leaf.new.self (lifted (opened_by limit s v.0 true t.left d.pos))) c.in_err-leaf.was
     (empty_stepped limit end t.left s d old new b.nodes_limit c.leaf.new.self c.leaf.result t (scope_of s.stack) v.0 tg h.names h.attributes h.limit_is c.leaf.ensures.left c.leaf.ensures.tables c.leaf.ensures.limit adds)))
 
 pub returns-clause-value : goal.returns-clause-value
@@ -83,12 +83,12 @@ returns-clause-value c = λ limit end es s declared h.
     let pos = c.args.cursor.now.pos in
     let d = c.start_tag.new.cursor in
     let sc = c.scope-above.ensures.value c.requires.fine end s.stack s.done h.shows in
-    let tg : Tagged old new t (scope_of s.stack) v.0 = subst (λ (a : List Declaration). Tagged old new t a v.0) sc v.2 in
+    let tg : Tagged old new t (scope_of s.stack) v.0 = subst (λ (a : List NamespaceDecl). Tagged old new t a v.0) sc v.2 in
     let shows = grown_shows end s.stack s.done b _ h.shows c.requires.fine.sound c.requires.fine.elements (grown_by old new t (scope_of s.stack) v.0 tg) refl refl refl refl in
     let adds = c.open_element.ensures.value end d.pos t.left s v.0 shows (sym h.here) (is_opening old new t (scope_of s.stack) v.0 pos tg c.in_ok-tag.ensures.starts) in
-    rw (tag_is (how_of limit es c.args.how) c.args.cursor.now.text.now s pos _ _ _ _ v.0 t.empty t.left d.pos h.here (c.cut_off-cut.ensures end s.stack s.done h.shows) sc h.attributes h.names v.1
+    rw (tag_is (context_of limit es c.args.how) c.args.cursor.now.text.now s pos _ _ _ _ v.0 t.empty t.left d.pos h.here (c.cut_off-cut.ensures end s.stack s.done h.shows) sc h.attributes h.names v.1
     ∙ ap (λ (e : Bool). lifted (opened_by limit s v.0 e t.left d.pos)) c.if-tag.false)
-    (subst (λ r. Stepped limit end r d c.open_element.new.self (lifted (opened_by limit s v.0 false t.left d.pos))) c.in_ok-open_element.was
+    (subst (λ r. ScansTo limit end r d c.open_element.new.self (lifted (opened_by limit s v.0 false t.left d.pos))) c.in_ok-open_element.was
     (open_stepped limit end t.left s d old new b.nodes_limit c.open_element.new.self c.open_element.result t (scope_of s.stack) v.0 tg h.names h.attributes h.limit_is c.open_element.ensures.left c.open_element.ensures.tables c.open_element.ensures.limit adds))
 
 pub returns-in_err-open_element-clause-value : goal.returns-in_err-open_element-clause-value
@@ -101,17 +101,17 @@ returns-in_err-open_element-clause-value c = λ limit end es s declared h.
     let pos = c.args.cursor.now.pos in
     let d = c.start_tag.new.cursor in
     let sc = c.scope-above.ensures.value c.requires.fine end s.stack s.done h.shows in
-    let tg : Tagged old new t (scope_of s.stack) v.0 = subst (λ (a : List Declaration). Tagged old new t a v.0) sc v.2 in
+    let tg : Tagged old new t (scope_of s.stack) v.0 = subst (λ (a : List NamespaceDecl). Tagged old new t a v.0) sc v.2 in
     let shows = grown_shows end s.stack s.done b _ h.shows c.requires.fine.sound c.requires.fine.elements (grown_by old new t (scope_of s.stack) v.0 tg) refl refl refl refl in
     let adds = c.open_element.ensures.value end d.pos t.left s v.0 shows (sym h.here) (is_opening old new t (scope_of s.stack) v.0 pos tg c.in_ok-tag.ensures.starts) in
     let p = err_from_is_err_and c.from_residual-in_err-open_element.result c.from_residual-in_err-open_element.ensures.1 in
     rw (
       p.1,
       p.2,
-      tag_is (how_of limit es c.args.how) c.args.cursor.now.text.now s pos _ _ _ _ v.0 t.empty t.left d.pos h.here (c.cut_off-cut.ensures end s.stack s.done h.shows) sc h.attributes h.names v.1
+      tag_is (context_of limit es c.args.how) c.args.cursor.now.text.now s pos _ _ _ _ v.0 t.empty t.left d.pos h.here (c.cut_off-cut.ensures end s.stack s.done h.shows) sc h.attributes h.names v.1
           ∙ ap (λ (e : Bool). lifted (opened_by limit s v.0 e t.left d.pos)) c.if-tag.false,
     )
-    (refused_too c.in_err-open_element.field-0.0 (lifted (opened_by limit s v.0 false t.left d.pos)) (subst (λ r. Stepped limit end r d c.open_element.new.self (lifted (opened_by limit s v.0 false t.left d.pos))) c.in_err-open_element.was
+    (refused_too c.in_err-open_element.field-0.0 (lifted (opened_by limit s v.0 false t.left d.pos)) (subst (λ r. ScansTo limit end r d c.open_element.new.self (lifted (opened_by limit s v.0 false t.left d.pos))) c.in_err-open_element.was
     (open_stepped limit end t.left s d old new b.nodes_limit c.open_element.new.self c.open_element.result t (scope_of s.stack) v.0 tg h.names h.attributes h.limit_is c.open_element.ensures.left c.open_element.ensures.tables c.open_element.ensures.limit adds)))
 
 pub returns-then-tag-clause-fine : goal.returns-then-tag-clause-fine
@@ -119,7 +119,7 @@ returns-then-tag-clause-fine c =
     let d = some_declare c.args.how.entities.now in
     let v = c.in_ok-tag.ensures.value d.0 d.1 in
     let b = c.args.builder.now in
-    subst (λ r. OnOk r (Fine c.leaf.new.self.tables c.leaf.new.self.opened.items)) c.in_ok-leaf.was
+    subst (λ r. OnOk r (IsConsistent c.leaf.new.self.tables c.leaf.new.self.opened.items)) c.in_ok-leaf.was
     (fine_kept c.leaf.result c.start_tag.new.elements b.opened.items c.leaf.new.self (fine_by b.tables c.start_tag.new.elements c.in_ok-tag.tag _ v.0 b.opened.items v.2 c.requires.fine) c.leaf.ensures.tables
     (ap (λ x. x.items) c.leaf.ensures.opened))
 
@@ -128,6 +128,6 @@ returns-clause-fine c =
     let d = some_declare c.args.how.entities.now in
     let v = c.in_ok-tag.ensures.value d.0 d.1 in
     let b = c.args.builder.now in
-    subst (λ r. OnOk r (Fine c.open_element.new.self.tables c.open_element.new.self.opened.items)) c.in_ok-open_element.was
+    subst (λ r. OnOk r (IsConsistent c.open_element.new.self.tables c.open_element.new.self.opened.items)) c.in_ok-open_element.was
     (fine_more c.open_element.result c.start_tag.new.elements b.opened.items c.open_element.new.self c.in_ok-tag.tag
     (fine_by b.tables c.start_tag.new.elements c.in_ok-tag.tag _ v.0 b.opened.items v.2 c.requires.fine) c.open_element.ensures.tables c.open_element.ensures.opened v.2.element.scope_within v.2.once)

@@ -2,7 +2,7 @@ use Rattle.std.proofs.Common.{refl, ap, ℕ}
 use Rattle.std.proofs.lemmas.Result.{err_from_is_err_and}
 use Rattle.rox_grammar.specs.Tree as tree
 use Rattle.rox_grammar.specs.Written.{Item, PI}
-use Rattle.rox_scan.specs.Parts.{instruction_view}
+use Rattle.rox_scan.specs.Views.{instruction_view}
 use Rattle.rox_reading.specs.Refusals.{lifted}
 use Rattle.rox_build.proofs.Stepping.{instruction_is, instruction_fails, item_stepped}
 use Rattle.rox_build.proofs.constructs.instruction.Goals as goal

@@ -1,19 +1,19 @@
 use Rattle.std.proofs.Common.{◌≡◌, ◌<◌, ◌≤◌, ◌==◌, ◌||◌, ◌+◌, ◌-◌, suc, ℕ, Bool, true, false, List, Ok, Err, get_or, length, slice_index, slice_range, refl, sym, ap, ◌∙◌, arith}
 use Rattle.std.proofs.lemmas.Bool.{eqb-true, ne_eqb, leb-true, leb-false}
 use Rattle.std.proofs.lemmas.Result.{err_from_is_err_and}
-use Rattle.rox_grammar.specs.Content.{is_plain}
+use Rattle.rox_grammar.specs.Content.{is_verbatim}
 use Rattle.rox_reading.specs.State.{depth_of}
-use Rattle.rox_reading.specs.Values.{RunText}
-use Rattle.rox_scan.specs.Doctypes.{replacement_view}
+use Rattle.rox_reading.specs.Values.{ReadText}
+use Rattle.rox_scan.specs.DoctypeViews.{replacement_view}
 use Rattle.rox_scan.proofs.NearLemmas.{text_cut}
-use Rattle.rox_values.specs.Hows.{how_of}
+use Rattle.rox_values.specs.Contexts.{context_of}
 use Rattle.rox_build.proofs.Lifting.{refused_too}
 use Rattle.rox_build.proofs.Stepping.{two_stand, step_is_run, step_is_markup, plain_run, parted_run, run_fails, text_stepped, same_shows}
 use Rattle.rox_values.proofs.ShortLemmas.{short_run}
 use Rattle.rox_build.proofs.Parting.{rests_of, parting_ends, parting_on, parting_fails, parting_stops, parting_out}
 use Rattle.rox_build.proofs.TextLooping.{opened_depth, text_on, text_fails, text_at_end, text_spent}
 use Rattle.rox_build.proofs.TextOpening.{inner_state, outer_state, opens_err, opens_reads, opens_refuses, opener_at}
-use Rattle.rox_build.specs.Parted.{IsLine}
+use Rattle.rox_build.specs.DataParts.{IsLine}
 use Rattle.rox_build.proofs.LineRuns.{line_run}
 use Rattle.rox_build.proofs.content.+content.Goals as goal
 
@@ -23,18 +23,18 @@ stands_here : (ends : Bool) (b : ℕ) → (ends || b == 60) ≡ true → ends �
 stands_here true b h other = cc other
 stands_here false b h other = eqb-true b 60 h
 
-pub character_data-returns-then-is_run_end-clause-value : goal.character_data-returns-then-is_run_end-clause-value
-character_data-returns-then-is_run_end-clause-value t c = λ limit end es s declared h.
+pub character_data-returns-then-ends_character_data-clause-value : goal.character_data-returns-then-ends_character_data-clause-value
+character_data-returns-then-ends_character_data-clause-value t c = λ limit end es s declared h.
     let src = c.args.cursor.now.text.now in
     let b = c.args.builder.now in
     let i = c.args.cursor.now.pos in
-    let e = c.near_end-near.result in
-    let n = c.near_end-near.ensures in
+    let e = c.skip_set-near.result in
+    let n = c.skip_set-near.ensures in
     let cut = text_cut src e n.within n.stops in
-    let here : e < length src → get_or src e 0 ≡ 60 = λ more. stands_here _ _ (sym c.is_run_end.ensures ∙ c.if-is_run_end.true) (ne_eqb e (length src) (λ same. absurd (omega arith))) in
+    let here : e < length src → get_or src e 0 ≡ 60 = λ more. stands_here _ _ (sym c.ends_character_data.ensures ∙ c.if-ends_character_data.true) (ne_eqb e (length src) (λ same. absurd (omega arith))) in
     let r = short_run src i e c.args.cursor.now.utf8 c.args.cursor.now.cut n.onward cut n.passes here in
-    let text : RunText = record { value = slice_range src i e; plain = true } in
-    rw (plain_run (how_of limit es c.args.how) src s i e (slice_range src i e) h.here r.0 r.1)
+    let text : ReadText = record { value = slice_range src i e; plain = true } in
+    rw (plain_run (context_of limit es c.args.how) src s i e (slice_range src i e) h.here r.0 r.1)
     (text_stepped limit end s c.args.cursor.now _ b c.slice_piece.new.self (Ok c.in_ok-slice_piece.field-0) text h c.slice_piece.ensures.tables c.slice_piece.ensures.limit c.slice_piece.ensures.left
     (rw c.range.ensures.value at (c.in_ok-slice_piece.ensures.value end e s h.shows)))
 
@@ -43,98 +43,98 @@ character_data-returns-in_err-slice_piece-clause-value t c = λ limit end es s d
     let src = c.args.cursor.now.text.now in
     let b = c.args.builder.now in
     let i = c.args.cursor.now.pos in
-    let e = c.near_end-near.result in
-    let n = c.near_end-near.ensures in
+    let e = c.skip_set-near.result in
+    let n = c.skip_set-near.ensures in
     let cut = text_cut src e n.within n.stops in
-    let here : e < length src → get_or src e 0 ≡ 60 = λ more. stands_here _ _ (sym c.is_run_end.ensures ∙ c.if-is_run_end.true) (ne_eqb e (length src) (λ same. absurd (omega arith))) in
+    let here : e < length src → get_or src e 0 ≡ 60 = λ more. stands_here _ _ (sym c.ends_character_data.ensures ∙ c.if-ends_character_data.true) (ne_eqb e (length src) (λ same. absurd (omega arith))) in
     let r = short_run src i e c.args.cursor.now.utf8 c.args.cursor.now.cut n.onward cut n.passes here in
-    let text : RunText = record { value = slice_range src i e; plain = true } in
+    let text : ReadText = record { value = slice_range src i e; plain = true } in
     let p = err_from_is_err_and c.from_residual.result c.from_residual.ensures.1 in
-    rw (p.1, p.2, plain_run (how_of limit es c.args.how) src s i e (slice_range src i e) h.here r.0 r.1)
+    rw (p.1, p.2, plain_run (context_of limit es c.args.how) src s i e (slice_range src i e) h.here r.0 r.1)
     (refused_too c.in_err-slice_piece.field-0.0 _
     (text_stepped limit end s c.args.cursor.now (record { text = c.args.cursor.now.text; pos = e; utf8 = c.args.cursor.now.utf8; cut = cut }) b c.slice_piece.new.self (Err c.in_err-slice_piece.field-0.0) text h c.slice_piece.ensures.tables c.slice_piece.ensures.limit c.slice_piece.ensures.left
     (rw c.range.ensures.value at (c.in_err-slice_piece.ensures.value end e s h.shows))))
 
-pub far_run-returns-in_err-raw-clause-value : goal.far_run-returns-in_err-raw-clause-value
-far_run-returns-in_err-raw-clause-value t c = λ limit end es s declared h.
+pub slow_character_data-returns-in_err-raw-clause-value : goal.slow_character_data-returns-in_err-raw-clause-value
+slow_character_data-returns-in_err-raw-clause-value t c = λ limit end es s declared h.
     let p = err_from_is_err_and c.from_residual.result c.from_residual.ensures.1 in
-    rw (p.1, p.2) (run_fails (how_of limit es c.args.how) c.args.cursor.now.text.now s c.args.cursor.now.pos c.in_err-raw.field-0.0 h.here c.in_err-raw.ensures.value)
+    rw (p.1, p.2) (run_fails (context_of limit es c.args.how) c.args.cursor.now.text.now s c.args.cursor.now.pos c.in_err-raw.field-0.0 h.here c.in_err-raw.ensures.value)
 
-pub far_run-returns-then-raw-clause-value : goal.far_run-returns-then-raw-clause-value
-far_run-returns-then-raw-clause-value t c = λ limit end es s declared h.
+pub slow_character_data-returns-then-raw-clause-value : goal.slow_character_data-returns-then-raw-clause-value
+slow_character_data-returns-then-raw-clause-value t c = λ limit end es s declared h.
     let src = c.args.cursor.now.text.now in
     let b = c.args.builder.now in
     let raw = c.in_ok-raw.raw.text.now in
-    let j = c.raw_run.new.cursor.pos in
-    let plain : is_plain raw ≡ true = sym c.in_ok-raw.ensures.plain ∙ c.if-raw.true in
-    let text : RunText = record { value = raw; plain = true } in
-    rw (plain_run (how_of limit es c.args.how) src s c.args.cursor.now.pos j raw h.here c.in_ok-raw.ensures.value plain)
-    (text_stepped limit end s c.args.cursor.now c.raw_run.new.cursor b c.slice_piece.new.self (Ok c.in_ok-slice_piece.field-0) text h c.slice_piece.ensures.tables c.slice_piece.ensures.limit c.slice_piece.ensures.left
+    let j = c.raw_character_data.new.cursor.pos in
+    let plain : is_verbatim raw ≡ true = sym c.in_ok-raw.ensures.plain ∙ c.if-raw.true in
+    let text : ReadText = record { value = raw; plain = true } in
+    rw (plain_run (context_of limit es c.args.how) src s c.args.cursor.now.pos j raw h.here c.in_ok-raw.ensures.value plain)
+    (text_stepped limit end s c.args.cursor.now c.raw_character_data.new.cursor b c.slice_piece.new.self (Ok c.in_ok-slice_piece.field-0) text h c.slice_piece.ensures.tables c.slice_piece.ensures.limit c.slice_piece.ensures.left
     (c.in_ok-slice_piece.ensures.value end j s h.shows))
 
-pub far_run-returns-in_err-slice_piece-clause-value : goal.far_run-returns-in_err-slice_piece-clause-value
-far_run-returns-in_err-slice_piece-clause-value t c = λ limit end es s declared h.
+pub slow_character_data-returns-in_err-slice_piece-clause-value : goal.slow_character_data-returns-in_err-slice_piece-clause-value
+slow_character_data-returns-in_err-slice_piece-clause-value t c = λ limit end es s declared h.
     let src = c.args.cursor.now.text.now in
     let b = c.args.builder.now in
     let raw = c.in_ok-raw.raw.text.now in
-    let j = c.raw_run.new.cursor.pos in
-    let plain : is_plain raw ≡ true = sym c.in_ok-raw.ensures.plain ∙ c.if-raw.true in
-    let text : RunText = record { value = raw; plain = true } in
+    let j = c.raw_character_data.new.cursor.pos in
+    let plain : is_verbatim raw ≡ true = sym c.in_ok-raw.ensures.plain ∙ c.if-raw.true in
+    let text : ReadText = record { value = raw; plain = true } in
     let p = err_from_is_err_and c.from_residual-in_err-slice_piece.result c.from_residual-in_err-slice_piece.ensures.1 in
-    rw (p.1, p.2, plain_run (how_of limit es c.args.how) src s c.args.cursor.now.pos j raw h.here c.in_ok-raw.ensures.value plain)
+    rw (p.1, p.2, plain_run (context_of limit es c.args.how) src s c.args.cursor.now.pos j raw h.here c.in_ok-raw.ensures.value plain)
     (refused_too c.in_err-slice_piece.field-0.0 _
-    (text_stepped limit end s c.args.cursor.now c.raw_run.new.cursor b c.slice_piece.new.self (Err c.in_err-slice_piece.field-0.0) text h c.slice_piece.ensures.tables c.slice_piece.ensures.limit c.slice_piece.ensures.left
+    (text_stepped limit end s c.args.cursor.now c.raw_character_data.new.cursor b c.slice_piece.new.self (Err c.in_err-slice_piece.field-0.0) text h c.slice_piece.ensures.tables c.slice_piece.ensures.limit c.slice_piece.ensures.left
     (c.in_err-slice_piece.ensures.value end j s h.shows)))
 
-pub far_run-returns-clause-value : goal.far_run-returns-clause-value
-far_run-returns-clause-value t c = λ limit end es s declared h.
+pub slow_character_data-returns-clause-value : goal.slow_character_data-returns-clause-value
+slow_character_data-returns-clause-value t c = λ limit end es s declared h.
     let src = c.args.cursor.now.text.now in
     let raw = c.in_ok-raw.raw.text.now in
-    let j = c.raw_run.new.cursor.pos in
+    let j = c.raw_character_data.new.cursor.pos in
     let same = ap (λ t. t.now) c.in_ok-raw.ensures.source in
-    let other : is_plain raw ≡ false = sym c.in_ok-raw.ensures.plain ∙ c.if-raw.false in
-    rw (parted_run (how_of limit es c.args.how) src s c.args.cursor.now.pos j raw h.here c.in_ok-raw.ensures.value other, ← same)
-    (c.run_parts.ensures.value limit end es s declared (record { here = h.here; limit_is = h.limit_is; shows = h.shows; names = h.names; attributes = h.attributes; left_is = h.left_is }))
+    let other : is_verbatim raw ≡ false = sym c.in_ok-raw.ensures.plain ∙ c.if-raw.false in
+    rw (parted_run (context_of limit es c.args.how) src s c.args.cursor.now.pos j raw h.here c.in_ok-raw.ensures.value other, ← same)
+    (c.data_parts.ensures.value limit end es s declared (record { here = h.here; limit_is = h.limit_is; shows = h.shows; names = h.names; attributes = h.attributes; left_is = h.left_is }))
 
 -- a line end and bytes that stand for themselves
-pub far_run-returns-then-is_line-clause-value : goal.far_run-returns-then-is_line-clause-value
-far_run-returns-then-is_line-clause-value t c = λ limit end es s declared h.
+pub slow_character_data-returns-then-is_line-clause-value : goal.slow_character_data-returns-then-is_line-clause-value
+slow_character_data-returns-then-is_line-clause-value t c = λ limit end es s declared h.
     let src = c.args.cursor.now.text.now in
     let b = c.args.builder.now in
     let i = c.args.cursor.now.pos in
     let raw = c.in_ok-raw.raw.text.now in
-    let j = c.raw_run.new.cursor.pos in
+    let j = c.raw_character_data.new.cursor.pos in
     let same = ap (λ t. t.now) c.in_ok-raw.ensures.source in
-    let other : is_plain raw ≡ false = sym c.in_ok-raw.ensures.plain ∙ c.if-raw.false in
+    let other : is_verbatim raw ≡ false = sym c.in_ok-raw.ensures.plain ∙ c.if-raw.false in
     let line : IsLine src i j = rw same at (c.is_line.ensures c.if-is_line.true) in
-    let text : RunText = record { value = slice_range src (i + 1) j; plain = false } in
-    rw (parted_run (how_of limit es c.args.how) src s i j raw h.here c.in_ok-raw.ensures.value other, line_run (how_of limit es c.args.how) src s i j h.here c.if-how.true line)
-    (text_stepped limit end s c.args.cursor.now c.raw_run.new.cursor b c.changed_piece.new.builder (Ok c.in_ok-changed_piece.field-0) text h c.changed_piece.ensures.tables c.changed_piece.ensures.limit c.changed_piece.ensures.left
+    let text : ReadText = record { value = slice_range src (i + 1) j; plain = false } in
+    rw (parted_run (context_of limit es c.args.how) src s i j raw h.here c.in_ok-raw.ensures.value other, line_run (context_of limit es c.args.how) src s i j h.here c.if-how.true line)
+    (text_stepped limit end s c.args.cursor.now c.raw_character_data.new.cursor b c.changed_piece.new.builder (Ok c.in_ok-changed_piece.field-0) text h c.changed_piece.ensures.tables c.changed_piece.ensures.limit c.changed_piece.ensures.left
     (rw (c.range.ensures.value, same) at (c.in_ok-changed_piece.ensures.value end j s h.shows)))
 
-pub far_run-returns-in_err-changed_piece-clause-value : goal.far_run-returns-in_err-changed_piece-clause-value
-far_run-returns-in_err-changed_piece-clause-value t c = λ limit end es s declared h.
+pub slow_character_data-returns-in_err-changed_piece-clause-value : goal.slow_character_data-returns-in_err-changed_piece-clause-value
+slow_character_data-returns-in_err-changed_piece-clause-value t c = λ limit end es s declared h.
     let src = c.args.cursor.now.text.now in
     let b = c.args.builder.now in
     let i = c.args.cursor.now.pos in
     let raw = c.in_ok-raw.raw.text.now in
-    let j = c.raw_run.new.cursor.pos in
+    let j = c.raw_character_data.new.cursor.pos in
     let same = ap (λ t. t.now) c.in_ok-raw.ensures.source in
-    let other : is_plain raw ≡ false = sym c.in_ok-raw.ensures.plain ∙ c.if-raw.false in
+    let other : is_verbatim raw ≡ false = sym c.in_ok-raw.ensures.plain ∙ c.if-raw.false in
     let line : IsLine src i j = rw same at (c.is_line.ensures c.if-is_line.true) in
-    let text : RunText = record { value = slice_range src (i + 1) j; plain = false } in
+    let text : ReadText = record { value = slice_range src (i + 1) j; plain = false } in
     let p = err_from_is_err_and c.from_residual-in_err-changed_piece.result c.from_residual-in_err-changed_piece.ensures.1 in
-    rw (p.1, p.2, parted_run (how_of limit es c.args.how) src s i j raw h.here c.in_ok-raw.ensures.value other, line_run (how_of limit es c.args.how) src s i j h.here c.if-how.true line)
+    rw (p.1, p.2, parted_run (context_of limit es c.args.how) src s i j raw h.here c.in_ok-raw.ensures.value other, line_run (context_of limit es c.args.how) src s i j h.here c.if-how.true line)
     (refused_too c.in_err-changed_piece.field-0.0 _
-    (text_stepped limit end s c.args.cursor.now c.raw_run.new.cursor b c.changed_piece.new.builder (Err c.in_err-changed_piece.field-0.0) text h c.changed_piece.ensures.tables c.changed_piece.ensures.limit c.changed_piece.ensures.left
+    (text_stepped limit end s c.args.cursor.now c.raw_character_data.new.cursor b c.changed_piece.new.builder (Err c.in_err-changed_piece.field-0.0) text h c.changed_piece.ensures.tables c.changed_piece.ensures.limit c.changed_piece.ensures.left
     (rw (c.range.ensures.value, same) at (c.in_err-changed_piece.ensures.value end j s h.shows))))
 
 -- ---- its parts
 
-pub run_parts-returns-in_err-text-clause-value : goal.run_parts-returns-in_err-text-clause-value
-run_parts-returns-in_err-text-clause-value t c = λ limit end es s declared h.
+pub data_parts-returns-in_err-text-clause-value : goal.data_parts-returns-in_err-text-clause-value
+data_parts-returns-in_err-text-clause-value t c = λ limit end es s declared h.
     let src = c.args.cursor.now.text.now in
-    let how = how_of limit es c.args.how in
+    let how = context_of limit es c.args.how in
     let n = length src - c.loop-turn._turn in
     let one : n ≡ suc (n - 1) = omega arith in
     let s0 = ap (λ t. t.now) c.loop-turn.invariant.source in
@@ -142,10 +142,10 @@ run_parts-returns-in_err-text-clause-value t c = λ limit end es s declared h.
     let p = err_from_is_err_and c.from_residual.result c.from_residual.ensures.1 in
     rw (p.1, p.2) (parting_fails how end src c.args.start c.args.stop _ n (n - 1) c.loop-turn.cursor c.loop-turn.builder c.in_err-text.field-0.0 g one (rw s0 at (c.in_err-text.ensures.value limit end es g.s declared g.sees)))
 
-pub run_parts-returns-in_err-open_text-in-Some-clause-value : goal.run_parts-returns-in_err-open_text-in-Some-clause-value
-run_parts-returns-in_err-open_text-in-Some-clause-value t c = λ limit end es s declared h.
+pub data_parts-returns-in_err-open_text-in-Some-clause-value : goal.data_parts-returns-in_err-open_text-in-Some-clause-value
+data_parts-returns-in_err-open_text-in-Some-clause-value t c = λ limit end es s declared h.
     let src = c.args.cursor.now.text.now in
-    let how = how_of limit es c.args.how in
+    let how = context_of limit es c.args.how in
     let n = length src - c.loop-turn._turn in
     let one : n ≡ suc (n - 1) = omega arith in
     let s0 = ap (λ t. t.now) c.loop-turn.invariant.source in
@@ -155,10 +155,10 @@ run_parts-returns-in_err-open_text-in-Some-clause-value t c = λ limit end es s 
     rw (p.1, p.2) (parting_stops how end src c.args.start c.args.stop _ n (n - 1) c.loop-turn.cursor c.loop-turn.builder part.0 (replacement_view c.in-Some.text) c.part_piece.new.cursor.pos c.in_err-open_text-in-Some.field-0.0 g one part.1
     (c.in_err-open_text-in-Some.ensures.value limit end es part.0 declared part.2))
 
-pub run_parts-returns-in-None-clause-value : goal.run_parts-returns-in-None-clause-value
-run_parts-returns-in-None-clause-value t c = λ limit end es s declared h.
+pub data_parts-returns-in-None-clause-value : goal.data_parts-returns-in-None-clause-value
+data_parts-returns-in-None-clause-value t c = λ limit end es s declared h.
     let src = c.args.cursor.now.text.now in
-    let how = how_of limit es c.args.how in
+    let how = context_of limit es c.args.how in
     let n = length src - c.loop-turn._turn in
     let one : n ≡ suc (n - 1) = omega arith in
     let s0 = ap (λ t. t.now) c.loop-turn.invariant.source in
@@ -166,13 +166,13 @@ run_parts-returns-in-None-clause-value t c = λ limit end es s declared h.
     let part = rw (s0, c.in-None.is) at (c.in_ok-text.ensures.value limit end es g.s declared g.sees) in
     parting_ends how end src c.args.start c.args.stop _ n (n - 1) c.loop-turn.cursor _ c.loop-turn.builder c.part_piece.new.builder part.0 g one part.1 part.2 refl
 
-pub run_parts-loop-turn-preserved : goal.run_parts-loop-turn-preserved
-run_parts-loop-turn-preserved t c = record {
+pub data_parts-loop-turn-preserved : goal.data_parts-loop-turn-preserved
+data_parts-loop-turn-preserved t c = record {
   source = c.in_ok-text.ensures.source ∙ c.loop-turn.invariant.source;
   fine = c.in_ok-open_text-in-Some.ensures.fine;
   reads = λ limit end es s declared h.
       let src = c.args.cursor.now.text.now in
-      let how = how_of limit es c.args.how in
+      let how = context_of limit es c.args.how in
       let n = length src - c.loop-turn._turn in
       let one : n ≡ suc (length src - (c.loop-turn._turn + 1)) = omega arith in
       let s0 = ap (λ t. t.now) c.loop-turn.invariant.source in
@@ -185,12 +185,12 @@ run_parts-loop-turn-preserved t c = record {
       (sym (opener_at limit es c.args.how.deep c.args.how.main text after part.0 opened.0 opened.1)) opened.2;
 }
 
-pub run_parts-returns-clause-value : goal.run_parts-returns-clause-value
-run_parts-returns-clause-value t c = λ limit end es s declared h.
+pub data_parts-returns-clause-value : goal.data_parts-returns-clause-value
+data_parts-returns-clause-value t c = λ limit end es s declared h.
     let src = c.args.cursor.now.text.now in
     let over = c.loop-turn-test.false in
     let none : length src - c.loop-turn._turn ≡ 0 = omega arith in
-    parting_out (how_of limit es c.args.how) end src c.args.start c.args.stop _ _ c.loop-turn.cursor _ c.loop-turn.builder (c.loop-turn.invariant.reads limit end es s declared h) none refl
+    parting_out (context_of limit es c.args.how) end src c.args.start c.args.stop _ _ c.loop-turn.cursor _ c.loop-turn.builder (c.loop-turn.invariant.reads limit end es s declared h) none refl
 
 -- ---- a replacement text
 
@@ -240,7 +240,7 @@ content_text-returns-then-is_at_end-clause-value t c = λ limit end es s declare
     let s0 = ap (λ t. t.now) c.loop-turn.invariant.source in
     let g = c.loop-turn.invariant.reads limit end es s declared h at in
     let past : length src ≤ g.s.at = rw (s0, g.sees.here) at (leb-true _ _ (sym c.is_at_end.ensures ∙ c.if-is_at_end.true)) in
-    text_at_end (how_of limit es c.args.how) end src _ _ c.loop-turn.cursor c.loop-turn.builder c.text_end.result g past (c.text_end.ensures limit end es g.s (rests_of limit end g.s c.loop-turn.cursor c.loop-turn.builder g.sees))
+    text_at_end (context_of limit es c.args.how) end src _ _ c.loop-turn.cursor c.loop-turn.builder c.text_end.result g past (c.text_end.ensures limit end es g.s (rests_of limit end g.s c.loop-turn.cursor c.loop-turn.builder g.sees))
 
 pub content_text-returns-in_err-step-clause-value : goal.content_text-returns-in_err-step-clause-value
 content_text-returns-in_err-step-clause-value t c = λ limit end es s declared h at.
@@ -251,7 +251,7 @@ content_text-returns-in_err-step-clause-value t c = λ limit end es s declared h
     let g = c.loop-turn.invariant.reads limit end es s declared h at in
     let more : g.s.at < length src = rw (s0, g.sees.here) at (leb-false _ _ (sym c.is_at_end.ensures ∙ c.if-is_at_end.false)) in
     let p = err_from_is_err_and c.from_residual.result c.from_residual.ensures.1 in
-    rw (p.1, p.2) (text_fails (how_of limit es c.args.how) end src _ n (n - 1) c.loop-turn.cursor c.loop-turn.builder c.in_err-step.field-0.0 g one more (rw s0 at (c.in_err-step.ensures.value limit end es g.s declared g.sees)))
+    rw (p.1, p.2) (text_fails (context_of limit es c.args.how) end src _ n (n - 1) c.loop-turn.cursor c.loop-turn.builder c.in_err-step.field-0.0 g one more (rw s0 at (c.in_err-step.ensures.value limit end es g.s declared g.sees)))
 
 pub content_text-loop-turn-preserved : goal.content_text-loop-turn-preserved
 content_text-loop-turn-preserved t c = record {
@@ -265,7 +265,7 @@ content_text-loop-turn-preserved t c = record {
       let g = c.loop-turn.invariant.reads limit end es s declared h at in
       let more : g.s.at < length src = rw (s0, g.sees.here) at (leb-false _ _ (sym c.is_at_end.ensures ∙ c.if-is_at_end.false)) in
       let went = rw s0 at (c.in_ok-step.ensures.value limit end es g.s declared g.sees) in
-      text_on (how_of limit es c.args.how) end src _ n (length src - (c.loop-turn._turn + 1)) c.loop-turn.cursor _ c.loop-turn.builder _ _ g one more went;
+      text_on (context_of limit es c.args.how) end src _ n (length src - (c.loop-turn._turn + 1)) c.loop-turn.cursor _ c.loop-turn.builder _ _ g one more went;
 }
 
 pub content_text-returns-clause-value : goal.content_text-returns-clause-value
@@ -274,7 +274,7 @@ content_text-returns-clause-value t c = λ limit end es s declared h at.
     let g = c.loop-turn.invariant.reads limit end es s declared h at in
     let over = c.loop-turn-test.false in
     let none : length src - c.loop-turn._turn ≡ 0 = omega arith in
-    text_spent (how_of limit es c.args.how) end src _ _ c.loop-turn.cursor c.loop-turn.builder c.text_end-2.result g none (c.text_end-2.ensures limit end es g.s (rests_of limit end g.s c.loop-turn.cursor c.loop-turn.builder g.sees))
+    text_spent (context_of limit es c.args.how) end src _ _ c.loop-turn.cursor c.loop-turn.builder c.text_end-2.result g none (c.text_end-2.ensures limit end es g.s (rests_of limit end g.s c.loop-turn.cursor c.loop-turn.builder g.sees))
 
 -- ---- one construct
 
@@ -288,7 +288,7 @@ step-end_tag-requires-clause-here t c =
 
 pub step-returns-then-bytes-cursor-ne60-clause-value : goal.step-returns-then-bytes-cursor-ne60-clause-value
 step-returns-then-bytes-cursor-ne60-clause-value t c = λ limit end es s declared h.
-    rw (step_is_run (how_of limit es c.args.how) c.args.cursor.now.text.now _ s c.args.cursor.now.pos c.as_bytes-bytes.ensures.value h.here c.if-bytes-cursor-ne60.true) (c.character_data.ensures.value limit end es s declared h)
+    rw (step_is_run (context_of limit es c.args.how) c.args.cursor.now.text.now _ s c.args.cursor.now.pos c.as_bytes-bytes.ensures.value h.here c.if-bytes-cursor-ne60.true) (c.character_data.ensures.value limit end es s declared h)
 
 pub step-returns-in_err-end_tag-clause-value : goal.step-returns-in_err-end_tag-clause-value
 step-returns-in_err-end_tag-clause-value t c = λ limit end es s declared h.
@@ -296,11 +296,11 @@ step-returns-in_err-end_tag-clause-value t c = λ limit end es s declared h.
     rw (
       p.1,
       p.2,
-      step_is_markup (how_of limit es c.args.how) c.args.cursor.now.text.now _ s c.args.cursor.now.pos 47 c.as_bytes-bytes.ensures.value h.here c.if-bytes-cursor-ne60.false c.if-cursor-bytes.false c.if-next-eq47.true (λ e. cc e),
+      step_is_markup (context_of limit es c.args.how) c.args.cursor.now.text.now _ s c.args.cursor.now.pos 47 c.as_bytes-bytes.ensures.value h.here c.if-bytes-cursor-ne60.false c.if-cursor-bytes.false c.if-next-eq47.true (λ e. cc e),
     )
     (refused_too c.in_err-end_tag.field-0.0 _ (c.in_err-end_tag.ensures.value limit end es s h))
 
 pub step-returns-then-next-eq47-clause-value : goal.step-returns-then-next-eq47-clause-value
 step-returns-then-next-eq47-clause-value t c = λ limit end es s declared h.
-    rw (step_is_markup (how_of limit es c.args.how) c.args.cursor.now.text.now _ s c.args.cursor.now.pos 47 c.as_bytes-bytes.ensures.value h.here c.if-bytes-cursor-ne60.false c.if-cursor-bytes.false c.if-next-eq47.true (λ e. cc e))
+    rw (step_is_markup (context_of limit es c.args.how) c.args.cursor.now.text.now _ s c.args.cursor.now.pos 47 c.as_bytes-bytes.ensures.value h.here c.if-bytes-cursor-ne60.false c.if-cursor-bytes.false c.if-next-eq47.true (λ e. cc e))
     (c.in_ok-end_tag.ensures.value limit end es s h)

@@ -1,5 +1,5 @@
 use Rattle.std.proofs.Common.{arith}
-use Rattle.rox_values.specs.Hows.{how_of}
+use Rattle.rox_values.specs.Contexts.{context_of}
 use Rattle.rox_build.proofs.TextLooping.{opened_depth, text_closed, text_open}
 use Rattle.rox_build.proofs.content.text_end.Goals as goal
 
@@ -7,10 +7,10 @@ pub returns-then-len-how : goal.returns-then-len-how
 returns-then-len-how c = λ limit end es s h.
     let k = c.args.builder.now.opened.ok.0 in
     let d = opened_depth limit end s c.args.builder.now h in
-    (s, text_closed (how_of limit es c.args.how) s (omega arith), h)
+    (s, text_closed (context_of limit es c.args.how) s (omega arith), h)
 
 pub returns-else-len-how : goal.returns-else-len-how
 returns-else-len-how c = λ limit end es s h.
     let k = c.args.builder.now.opened.ok.0 in
     let d = opened_depth limit end s c.args.builder.now h in
-    text_open (how_of limit es c.args.how) s (λ same. c.if-len-how.false (omega arith))
+    text_open (context_of limit es c.args.how) s (λ same. c.if-len-how.false (omega arith))

@@ -8,8 +8,8 @@ use Rattle.rox_reading.specs.Doctype.{EntityHead, entity_head_at, definition_at,
 use Rattle.rox_reading.specs.Lexical.{byte_at}
 use Rattle.rox_reading.proofs.Settling.{entity_run, head_stops, definition_stops, declared_there}
 use Rattle.rox_resolver.specs.Requests.{Allows}
-use Rattle.rox_scan.specs.Doctypes.{definition_view, head_view, replacement_view}
-use Rattle.rox_values.specs.Named.{AreDeclared}
+use Rattle.rox_scan.specs.DoctypeViews.{definition_view, head_view, replacement_view}
+use Rattle.rox_values.specs.DeclaredEntities.{AreDeclared}
 use Rattle.rox_build.proofs.Asking.{none_given, stops_by, definition_refused, entity_unclosed, entity_read}
 use Rattle.rox_build.proofs.dtd.entity.Goals as goal
 use Rattle.rox_build.proofs.dtd.entity.Goals.{in-Some+in_ok-declare, in_default}

@@ -35,26 +35,26 @@ pub returns-then-starts-3-clause-value : goal.returns-then-starts-3-clause-value
 returns-then-starts-3-clause-value g c = λ limit end n m run one going.
     instruction_turn limit end c.args.start n m c.args.cursor.now.text.now (Allows g.R.EntityResolver.allows c.args.resolver.now) run one c.args.cursor.now c.spaces.new.self c.args.builder.now c.args.entities.now going c.requires.inside (ap (λ t. t.now) c.spaces.ensures.source) c.spaces.ensures.place (sym c.starts.ensures ∙ c.if-starts.false) (sym c.starts-2.ensures ∙ c.if-starts-2.false) c.instruction.new.cursor c.instruction.new.builder (Ok tt) (sym c.starts-3.ensures ∙ c.if-starts-3.true) (c.in_ok-instruction.ensures.value limit end _)
 
-pub returns-in_err-pass_over-clause-value : goal.returns-in_err-pass_over-clause-value
-returns-in_err-pass_over-clause-value g c = λ limit end n m run one going.
-    let q = err_from_is_err_and c.from_residual-in_err-pass_over.result c.from_residual-in_err-pass_over.ensures.1 in
+pub returns-in_err-skip_declaration-clause-value : goal.returns-in_err-skip_declaration-clause-value
+returns-in_err-skip_declaration-clause-value g c = λ limit end n m run one going.
+    let q = err_from_is_err_and c.from_residual-in_err-skip_declaration.result c.from_residual-in_err-skip_declaration.ensures.1 in
     rw (q.1, q.2)
-    (going.asked, going.given, passed_stops limit end c.args.start n m c.args.cursor.now.text.now (Allows g.R.EntityResolver.allows c.args.resolver.now) run one c.args.cursor.now c.spaces.new.self c.args.builder.now c.args.entities.now going c.requires.inside (ap (λ t. t.now) c.spaces.ensures.source) c.spaces.ensures.place (sym c.starts.ensures ∙ c.if-starts.false) (sym c.starts-2.ensures ∙ c.if-starts-2.false) (sym c.starts-3.ensures ∙ c.if-starts-3.false) c.in_err-pass_over.field-0.0 (sym c.is_passed_over.ensures ∙ c.if-is_passed_over.true) c.in_err-pass_over.ensures.value)
+    (going.asked, going.given, passed_stops limit end c.args.start n m c.args.cursor.now.text.now (Allows g.R.EntityResolver.allows c.args.resolver.now) run one c.args.cursor.now c.spaces.new.self c.args.builder.now c.args.entities.now going c.requires.inside (ap (λ t. t.now) c.spaces.ensures.source) c.spaces.ensures.place (sym c.starts.ensures ∙ c.if-starts.false) (sym c.starts-2.ensures ∙ c.if-starts-2.false) (sym c.starts-3.ensures ∙ c.if-starts-3.false) c.in_err-skip_declaration.field-0.0 (sym c.is_skipped_declaration.ensures ∙ c.if-is_skipped_declaration.true) c.in_err-skip_declaration.ensures.value)
 
-pub returns-then-is_passed_over-clause-value : goal.returns-then-is_passed_over-clause-value
-returns-then-is_passed_over-clause-value g c = λ limit end n m run one going.
-    passed_turn limit end c.args.start n m c.args.cursor.now.text.now (Allows g.R.EntityResolver.allows c.args.resolver.now) run one c.args.cursor.now c.spaces.new.self c.args.builder.now c.args.entities.now going c.requires.inside (ap (λ t. t.now) c.spaces.ensures.source) c.spaces.ensures.place (sym c.starts.ensures ∙ c.if-starts.false) (sym c.starts-2.ensures ∙ c.if-starts-2.false) (sym c.starts-3.ensures ∙ c.if-starts-3.false) c.pass_over.new.self (sym c.is_passed_over.ensures ∙ c.if-is_passed_over.true) c.in_ok-pass_over.ensures.value
+pub returns-then-is_skipped_declaration-clause-value : goal.returns-then-is_skipped_declaration-clause-value
+returns-then-is_skipped_declaration-clause-value g c = λ limit end n m run one going.
+    passed_turn limit end c.args.start n m c.args.cursor.now.text.now (Allows g.R.EntityResolver.allows c.args.resolver.now) run one c.args.cursor.now c.spaces.new.self c.args.builder.now c.args.entities.now going c.requires.inside (ap (λ t. t.now) c.spaces.ensures.source) c.spaces.ensures.place (sym c.starts.ensures ∙ c.if-starts.false) (sym c.starts-2.ensures ∙ c.if-starts-2.false) (sym c.starts-3.ensures ∙ c.if-starts-3.false) c.skip_declaration.new.self (sym c.is_skipped_declaration.ensures ∙ c.if-is_skipped_declaration.true) c.in_ok-skip_declaration.ensures.value
 
 pub returns-then-not-is_at-clause-value : goal.returns-then-not-is_at-clause-value
 returns-then-not-is_at-clause-value g c = λ limit end n m run one going.
-    (going.asked, going.given, unknown_stops limit end c.args.start n m c.args.cursor.now.text.now (Allows g.R.EntityResolver.allows c.args.resolver.now) run one c.args.cursor.now c.spaces.new.self c.args.builder.now c.args.entities.now going c.requires.inside (ap (λ t. t.now) c.spaces.ensures.source) c.spaces.ensures.place (sym c.starts.ensures ∙ c.if-starts.false) (sym c.starts-2.ensures ∙ c.if-starts-2.false) (sym c.starts-3.ensures ∙ c.if-starts-3.false) (sym c.is_passed_over.ensures ∙ c.if-is_passed_over.false) (sym c.is_at.ensures ∙ c.if-not-is_at.true))
+    (going.asked, going.given, unknown_stops limit end c.args.start n m c.args.cursor.now.text.now (Allows g.R.EntityResolver.allows c.args.resolver.now) run one c.args.cursor.now c.spaces.new.self c.args.builder.now c.args.entities.now going c.requires.inside (ap (λ t. t.now) c.spaces.ensures.source) c.spaces.ensures.place (sym c.starts.ensures ∙ c.if-starts.false) (sym c.starts-2.ensures ∙ c.if-starts-2.false) (sym c.starts-3.ensures ∙ c.if-starts-3.false) (sym c.is_skipped_declaration.ensures ∙ c.if-is_skipped_declaration.false) (sym c.is_at.ensures ∙ c.if-not-is_at.true))
 
 pub returns-in_err-subset_end-clause-value : goal.returns-in_err-subset_end-clause-value
 returns-in_err-subset_end-clause-value g c = λ limit end n m run one going.
     let q = err_from_is_err_and c.from_residual-in_err-subset_end.result c.from_residual-in_err-subset_end.ensures.1 in
     rw (q.1, q.2)
-    (going.asked, going.given, end_stops limit end c.args.start n m c.args.cursor.now.text.now (Allows g.R.EntityResolver.allows c.args.resolver.now) run one c.args.cursor.now c.spaces.new.self c.args.builder.now c.args.entities.now going c.requires.inside (ap (λ t. t.now) c.spaces.ensures.source) c.spaces.ensures.place (sym c.starts.ensures ∙ c.if-starts.false) (sym c.starts-2.ensures ∙ c.if-starts-2.false) (sym c.starts-3.ensures ∙ c.if-starts-3.false) (sym c.is_passed_over.ensures ∙ c.if-is_passed_over.false) (eqb-true _ _ (sym c.is_at.ensures ∙ c.if-not-is_at.false)) c.in_err-subset_end.field-0.0 c.in_err-subset_end.ensures.value)
+    (going.asked, going.given, end_stops limit end c.args.start n m c.args.cursor.now.text.now (Allows g.R.EntityResolver.allows c.args.resolver.now) run one c.args.cursor.now c.spaces.new.self c.args.builder.now c.args.entities.now going c.requires.inside (ap (λ t. t.now) c.spaces.ensures.source) c.spaces.ensures.place (sym c.starts.ensures ∙ c.if-starts.false) (sym c.starts-2.ensures ∙ c.if-starts-2.false) (sym c.starts-3.ensures ∙ c.if-starts-3.false) (sym c.is_skipped_declaration.ensures ∙ c.if-is_skipped_declaration.false) (eqb-true _ _ (sym c.is_at.ensures ∙ c.if-not-is_at.false)) c.in_err-subset_end.field-0.0 c.in_err-subset_end.ensures.value)
 
 pub returns-clause-value : goal.returns-clause-value
 returns-clause-value g c = λ limit end n m run one going.
-    (going.asked, going.given, end_turn limit end c.args.start n m c.args.cursor.now.text.now (Allows g.R.EntityResolver.allows c.args.resolver.now) run one c.args.cursor.now c.spaces.new.self c.args.builder.now c.args.entities.now going c.requires.inside (ap (λ t. t.now) c.spaces.ensures.source) c.spaces.ensures.place (sym c.starts.ensures ∙ c.if-starts.false) (sym c.starts-2.ensures ∙ c.if-starts-2.false) (sym c.starts-3.ensures ∙ c.if-starts-3.false) (sym c.is_passed_over.ensures ∙ c.if-is_passed_over.false) (eqb-true _ _ (sym c.is_at.ensures ∙ c.if-not-is_at.false)) c.subset_end.new.self c.in_ok-subset_end.ensures.value)
+    (going.asked, going.given, end_turn limit end c.args.start n m c.args.cursor.now.text.now (Allows g.R.EntityResolver.allows c.args.resolver.now) run one c.args.cursor.now c.spaces.new.self c.args.builder.now c.args.entities.now going c.requires.inside (ap (λ t. t.now) c.spaces.ensures.source) c.spaces.ensures.place (sym c.starts.ensures ∙ c.if-starts.false) (sym c.starts-2.ensures ∙ c.if-starts-2.false) (sym c.starts-3.ensures ∙ c.if-starts-3.false) (sym c.is_skipped_declaration.ensures ∙ c.if-is_skipped_declaration.false) (eqb-true _ _ (sym c.is_at.ensures ∙ c.if-not-is_at.false)) c.subset_end.new.self c.in_ok-subset_end.ensures.value)

@@ -5,10 +5,10 @@ use Rattle.rox_reading.specs.Doctype as reading
 use Rattle.rox_reading.specs.Doctype.{Asks, Dtd}
 use Rattle.rox_reading.specs.Answering.{left_with}
 use Rattle.rox_resolver.specs.Requests.{Reply, Allows}
-use Rattle.rox_build.specs.Asking.{IsGoing, Turns}
+use Rattle.rox_build.specs.Asking.{IsSubsetSoFar, ItemOutcome}
 use Rattle.rox_build.specs.declared.builder.Builder.{Builder}
 use Rattle.rox_values.specs.declared.entities.Entities.{Entities}
-use Rattle.rox_values.specs.declared.refused.Refused.{Refused}
+use Rattle.rox_values.specs.declared.parse_error.ParseError.{ParseError}
 use Rattle.rox_scan.specs.declared.cursor.Cursor.{Cursor}
 use Rattle.rox_build.proofs.Items.{none_yet, text_ends, turns_end}
 use Rattle.rox_build.proofs.dtd.subset.Goals as goal
@@ -34,10 +34,10 @@ returns-then-is_at_end-clause-value g c = λ limit end d sees declared.
     (k.asked, k.given, text_ends limit end c.args.start n src _ _ c.loop-turn.cursor c.loop-turn.builder c.loop-turn.entities k (n - 1) one outside)
 
 -- the item's turn, over the text as it was at the start
-turned : (limit end i n m : ℕ) (src text : List ℕ) (allows : _) (run : List Reply → Asks Dtd) (c e : Cursor) (b u : Builder) (es fs : Entities) (r : Result Bool Refused) → text ≡ src
-    → (IsGoing limit end i n text allows run c b es → Turns limit end i m text allows run e u fs r) → IsGoing limit end i n src allows run c b es → Turns limit end i m src allows run e u fs r
+turned : (limit end i n m : ℕ) (src text : List ℕ) (allows : _) (run : List Reply → Asks Dtd) (c e : Cursor) (b u : Builder) (es fs : Entities) (r : Result Bool ParseError) → text ≡ src
+    → (IsSubsetSoFar limit end i n text allows run c b es → ItemOutcome limit end i m text allows run e u fs r) → IsSubsetSoFar limit end i n src allows run c b es → ItemOutcome limit end i m src allows run e u fs r
 turned limit end i n m src text allows run c e b u es fs r same item going =
-    subst (λ (t : List ℕ). Turns limit end i m t allows run e u fs r) same (item (subst (λ (t : List ℕ). IsGoing limit end i n t allows run c b es) (sym same) going))
+    subst (λ (t : List ℕ). ItemOutcome limit end i m t allows run e u fs r) same (item (subst (λ (t : List ℕ). IsSubsetSoFar limit end i n t allows run c b es) (sym same) going))
 
 pub returns-in_err-item-clause-value : goal.returns-in_err-item-clause-value
 returns-in_err-item-clause-value g c = λ limit end d sees declared.

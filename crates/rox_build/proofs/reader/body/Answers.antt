@@ -3,11 +3,11 @@ use Rattle.std.proofs.lemmas.List.{get_or_past}
 use Rattle.std.proofs.lemmas.Result.{err_from_is_err_and}
 use Rattle.rox_reading.specs.Refusals.{lifted}
 use Rattle.rox_reading.specs.Machine.{main_text, drive}
-use Rattle.rox_reading.specs.Whole.{misc}
-use Rattle.rox_values.specs.Refusing.{Stops, Refuses}
-use Rattle.rox_values.specs.Named.{AreDeclared}
-use Rattle.rox_values.specs.Hows.{how_of}
-use Rattle.rox_values.specs.declared.how.How.{How}
+use Rattle.rox_reading.specs.WholeText.{misc}
+use Rattle.rox_values.specs.Refusals.{IsFailure, IsRefusal}
+use Rattle.rox_values.specs.DeclaredEntities.{AreDeclared}
+use Rattle.rox_values.specs.Contexts.{context_of}
+use Rattle.rox_values.specs.declared.context.Context.{Context}
 use Rattle.rox_build.proofs.Wholes.{no_body, tag_fails_body, content_fails_body, misc_fails_body, a_body}
 use Rattle.rox_build.proofs.reader.body.Goals as goal
 use Rattle.rox_build.proofs.reader.body.Goals.{then-is_at_end-via-then-is_at_end, then-is_at_end-via-else-is_at_end+then-as_bytes-cursor-ne60}
@@ -27,9 +27,9 @@ returns-then-is_at_end-clause-value c = λ limit end es s declared sees.
 pub returns-in_err-element-clause-value : goal.returns-in_err-element-clause-value
 returns-in_err-element-clause-value c = λ limit end es s declared sees.
     let src = c.args.cursor.now.text.now in
-    let w = how_of limit es c.main_text-how.result in
-    let main : w ≡ main_text limit es = ap (how_of limit es) c.main_text-how.ensures in
-    let held : AreDeclared es c.main_text-how.result.entities.now = subst (λ (h : How). AreDeclared es h.entities.now) (sym c.main_text-how.ensures) declared in
+    let w = context_of limit es c.main_text-how.result in
+    let main : w ≡ main_text limit es = ap (context_of limit es) c.main_text-how.ensures in
+    let held : AreDeclared es c.main_text-how.result.entities.now = subst (λ (h : Context). AreDeclared es h.entities.now) (sym c.main_text-how.ensures) declared in
     let here : slice_index src s.at ≡ 60 = ap (λ (i : ℕ). slice_index src i) (sym sees.here) ∙ ap (λ (xs : List ℕ). slice_index xs c.args.cursor.now.pos) (sym c.as_bytes.ensures.value) ∙ c.if-as_bytes-cursor-ne60.false in
     let q = err_from_is_err_and c.from_residual.result c.from_residual.ensures.1 in
     rw (q.1, q.2) (tag_fails_body limit es w src s c.in_err-element.field-0.0 main here (c.in_err-element.ensures.value limit end es s held sees))
@@ -37,22 +37,22 @@ returns-in_err-element-clause-value c = λ limit end es s declared sees.
 pub returns-in_err-content-clause-value : goal.returns-in_err-content-clause-value
 returns-in_err-content-clause-value c = λ limit end es s declared sees.
     let src = c.args.cursor.now.text.now in
-    let w = how_of limit es c.main_text-how.result in
-    let main : w ≡ main_text limit es = ap (how_of limit es) c.main_text-how.ensures in
-    let held : AreDeclared es c.main_text-how.result.entities.now = subst (λ (h : How). AreDeclared es h.entities.now) (sym c.main_text-how.ensures) declared in
+    let w = context_of limit es c.main_text-how.result in
+    let main : w ≡ main_text limit es = ap (context_of limit es) c.main_text-how.ensures in
+    let held : AreDeclared es c.main_text-how.result.entities.now = subst (λ (h : Context). AreDeclared es h.entities.now) (sym c.main_text-how.ensures) declared in
     let here : slice_index src s.at ≡ 60 = ap (λ (i : ℕ). slice_index src i) (sym sees.here) ∙ ap (λ (xs : List ℕ). slice_index xs c.args.cursor.now.pos) (sym c.as_bytes.ensures.value) ∙ c.if-as_bytes-cursor-ne60.false in
     let s1 = ap (λ t. t.now) c.in_ok-element.ensures.source in
     let e1 = c.in_ok-element.ensures.value limit end es s held sees in
     let q = err_from_is_err_and c.from_residual-in_err-content.result c.from_residual-in_err-content.ensures.1 in
-    let fails : Refuses c.in_err-content.field-0.0 (drive w (length src) src e1.0) = rw s1 at (c.in_err-content.ensures.value limit end es e1.0 held e1.2) in
+    let fails : IsRefusal c.in_err-content.field-0.0 (drive w (length src) src e1.0) = rw s1 at (c.in_err-content.ensures.value limit end es e1.0 held e1.2) in
     rw (q.1, q.2) (content_fails_body limit es w src s e1.0 c.in_err-content.field-0.0 main here e1.1 fails)
 
 pub returns-in_err-misc-clause-value : goal.returns-in_err-misc-clause-value
 returns-in_err-misc-clause-value c = λ limit end es s declared sees.
     let src = c.args.cursor.now.text.now in
-    let w = how_of limit es c.main_text-how.result in
-    let main : w ≡ main_text limit es = ap (how_of limit es) c.main_text-how.ensures in
-    let held : AreDeclared es c.main_text-how.result.entities.now = subst (λ (h : How). AreDeclared es h.entities.now) (sym c.main_text-how.ensures) declared in
+    let w = context_of limit es c.main_text-how.result in
+    let main : w ≡ main_text limit es = ap (context_of limit es) c.main_text-how.ensures in
+    let held : AreDeclared es c.main_text-how.result.entities.now = subst (λ (h : Context). AreDeclared es h.entities.now) (sym c.main_text-how.ensures) declared in
     let here : slice_index src s.at ≡ 60 = ap (λ (i : ℕ). slice_index src i) (sym sees.here) ∙ ap (λ (xs : List ℕ). slice_index xs c.args.cursor.now.pos) (sym c.as_bytes.ensures.value) ∙ c.if-as_bytes-cursor-ne60.false in
     let s1 = ap (λ t. t.now) c.in_ok-element.ensures.source in
     let e1 = c.in_ok-element.ensures.value limit end es s held sees in
@@ -60,15 +60,15 @@ returns-in_err-misc-clause-value c = λ limit end es s declared sees.
     let e2 = c.in_ok-content.ensures.value limit end es e1.0 held e1.2 in
     let inner : drive w (length src) src e1.0 ≡ Ok e2.0 = rw s1 at e2.1 in
     let q = err_from_is_err_and c.from_residual-in_err-misc.result c.from_residual-in_err-misc.ensures.1 in
-    let fails : Stops c.in_err-misc.field-0.0 (lifted (misc limit (length src) src e2.0)) = rw s2 at (c.in_err-misc.ensures.value limit end e2.0 e2.2) in
+    let fails : IsFailure c.in_err-misc.field-0.0 (lifted (misc limit (length src) src e2.0)) = rw s2 at (c.in_err-misc.ensures.value limit end e2.0 e2.2) in
     rw (q.1, q.2) (misc_fails_body limit es w src s e1.0 e2.0 c.in_err-misc.field-0.0 main here e1.1 inner fails)
 
 pub returns-clause-value : goal.returns-clause-value
 returns-clause-value c = λ limit end es s declared sees.
     let src = c.args.cursor.now.text.now in
-    let w = how_of limit es c.main_text-how.result in
-    let main : w ≡ main_text limit es = ap (how_of limit es) c.main_text-how.ensures in
-    let held : AreDeclared es c.main_text-how.result.entities.now = subst (λ (h : How). AreDeclared es h.entities.now) (sym c.main_text-how.ensures) declared in
+    let w = context_of limit es c.main_text-how.result in
+    let main : w ≡ main_text limit es = ap (context_of limit es) c.main_text-how.ensures in
+    let held : AreDeclared es c.main_text-how.result.entities.now = subst (λ (h : Context). AreDeclared es h.entities.now) (sym c.main_text-how.ensures) declared in
     let here : slice_index src s.at ≡ 60 = ap (λ (i : ℕ). slice_index src i) (sym sees.here) ∙ ap (λ (xs : List ℕ). slice_index xs c.args.cursor.now.pos) (sym c.as_bytes.ensures.value) ∙ c.if-as_bytes-cursor-ne60.false in
     let s1 = ap (λ t. t.now) c.in_ok-element.ensures.source in
     let e1 = c.in_ok-element.ensures.value limit end es s held sees in

@@ -4,10 +4,10 @@ use Rattle.rox_grammar.specs.State.{root}
 use Rattle.rox_reading.specs.State.{State}
 use Rattle.rox_reading.specs.Doctype.{Dtd, replies_of}
 use Rattle.rox_reading.specs.Answering.{left_with, Answered}
-use Rattle.rox_reading.specs.Whole.{misc, doctype}
+use Rattle.rox_reading.specs.WholeText.{misc, doctype}
 use Rattle.rox_reading.proofs.Settling.{doctype_run, whole_run, whole_doctype_stops}
 use Rattle.rox_resolver.specs.Requests.{Allows}
-use Rattle.rox_build.specs.Wholes.{start_at, beginning}
+use Rattle.rox_build.specs.WholeTexts.{start_state, beginning}
 use Rattle.rox_build.proofs.Asking.{none_given, stops_by}
 use Rattle.rox_build.proofs.Lifting.{lifted_ok}
 use Rattle.rox_build.proofs.Wholes.{misc_open}
@@ -20,10 +20,10 @@ abbrev undeclared : State → Dtd
 undeclared s = record { state = s; entities = []; replies = [] }
 
 -- no element is open behind the document type declaration
-top : (limit : ℕ) (allow : Bool) (src : List ℕ) (i : ℕ) (s : State) (asked : _) (d : Dtd) → misc limit (length src) src (start_at i) ≡ Ok s
+top : (limit : ℕ) (allow : Bool) (src : List ℕ) (i : ℕ) (s : State) (asked : _) (d : Dtd) → misc limit (length src) src (start_state i) ≡ Ok s
     → Answered (λ replies. doctype limit allow src (left_with replies (undeclared s))) asked d → d.state.stack ≡ root
 top limit allow src i s asked d before read =
-    doctype_open limit allow src (left_with (replies_of asked ++ []) (undeclared s)) (left_with [] d) root (misc_open limit (length src) src (start_at i) s before) (ap (λ p. p.1) (read []))
+    doctype_open limit allow src (left_with (replies_of asked ++ []) (undeclared s)) (left_with [] d) root (misc_open limit (length src) src (start_state i) s before) (ap (λ p. p.1) (read []))
 
 pub returns-in_err-lead-clause-value : goal.returns-in_err-lead-clause-value
 returns-in_err-lead-clause-value g c = λ limit end here sees.

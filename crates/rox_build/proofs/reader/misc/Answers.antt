@@ -4,7 +4,7 @@ use Rattle.rox_grammar.specs.declared.fault.Word.TheVariants as word
 use Rattle.rox_grammar.specs.Names.{spaces_end}
 use Rattle.rox_grammar.specs.Constructs.{at}
 use Rattle.rox_reading.specs.Refusals.{lifted}
-use Rattle.rox_values.specs.Refusing.{Stops}
+use Rattle.rox_values.specs.Refusals.{IsFailure}
 use Rattle.rox_scan.specs.declared.cursor.Cursor.{Cursor}
 use Rattle.rox_reading.specs.Machine.{comment_step, instruction_step}
 use Rattle.rox_build.proofs.Looping.{spaced, sees_spaced, comment_on, instruction_on, comment_fails, instruction_fails, misc_done, misc_spent}
@@ -24,7 +24,7 @@ returns-in_err-comment-clause-value c = λ limit end s sees.
     let p : c.spaces.new.self.pos ≡ spaces_end src g.s.at = next ∙ ap (spaces_end src) g.sees.here in
     let is : at word.CommentStart src (spaces_end src g.s.at) ≡ true = rw (sp, p) at (sym c.starts.ensures ∙ c.if-starts.true) in
     let q = err_from_is_err_and c.from_residual.result c.from_residual.ensures.1 in
-    let fails : Stops c.in_err-comment.field-0.0 (lifted (comment_step limit src (spaced src g.s))) = rw sp at (c.in_err-comment.ensures.value limit end (spaced src g.s) seen) in
+    let fails : IsFailure c.in_err-comment.field-0.0 (lifted (comment_step limit src (spaced src g.s))) = rw sp at (c.in_err-comment.ensures.value limit end (spaced src g.s) seen) in
     rw (q.1, q.2) (comment_fails limit end src _ n (n - 1) c.loop-turn.cursor c.loop-turn.builder c.in_err-comment.field-0.0 g one is fails)
 
 pub returns-in_err-instruction-clause-value : goal.returns-in_err-instruction-clause-value
@@ -41,7 +41,7 @@ returns-in_err-instruction-clause-value c = λ limit end s sees.
     let other : at word.CommentStart src (spaces_end src g.s.at) ≡ false = rw (sp, p) at (sym c.starts.ensures ∙ c.if-starts.false) in
     let is : at word.PIStart src (spaces_end src g.s.at) ≡ true = rw (sp, p) at (sym c.starts-else-starts.ensures ∙ c.if-starts-2.true) in
     let q = err_from_is_err_and c.from_residual-in_err-instruction.result c.from_residual-in_err-instruction.ensures.1 in
-    let fails : Stops c.in_err-instruction.field-0.0 (lifted (instruction_step limit src (spaced src g.s))) = rw sp at (c.in_err-instruction.ensures.value limit end (spaced src g.s) seen) in
+    let fails : IsFailure c.in_err-instruction.field-0.0 (lifted (instruction_step limit src (spaced src g.s))) = rw sp at (c.in_err-instruction.ensures.value limit end (spaced src g.s) seen) in
     rw (q.1, q.2) (instruction_fails limit end src _ n (n - 1) c.loop-turn.cursor c.loop-turn.builder c.in_err-instruction.field-0.0 g one other is fails)
 
 pub returns-else-starts-2-clause-value : goal.returns-else-starts-2-clause-value

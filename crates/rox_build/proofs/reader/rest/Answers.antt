@@ -2,7 +2,7 @@ use Rattle.std.proofs.Common.{◌≡◌, ◌<◌, ◌≤◌, sym, ap, ◌∙◌,
 use Rattle.std.proofs.lemmas.Result.{err_from_is_err_and}
 use Rattle.std.proofs.lemmas.Bool.{leb-true, leb-false}
 use Rattle.rox_grammar.specs.State.{Open, root}
-use Rattle.rox_build.specs.Shown.{Shows}
+use Rattle.rox_build.specs.BuilderState.{Represents}
 use Rattle.rox_build.proofs.Documents.{body_fails, more_stands, no_element, an_element}
 use Rattle.rox_build.proofs.Wholes.{body_open}
 use Rattle.rox_build.proofs.reader.rest.Goals as goal
@@ -35,4 +35,4 @@ returns-clause-value c = λ limit end es s declared sees top.
     let same = ap (λ t. t.now) c.in_ok-some.ensures.source in
     let all : length src ≤ k.0.at = rw (same, k.2.here) at (leb-true _ _ (sym c.is_at_end.ensures ∙ c.if-not-is_at_end.false)) in
     let none : k.0.stack ≡ root = body_open limit es src s k.0 _ top k.1 in
-    (k.0.done, an_element limit es src s k.0 _ k.1 all c.if-not-some.false, subst (λ (o : Open). Shows end o k.0.done c.body.new.builder) none k.2.shows)
+    (k.0.done, an_element limit es src s k.0 _ k.1 all c.if-not-some.false, subst (λ (o : Open). Represents end o k.0.done c.body.new.builder) none k.2.shows)

@@ -5,10 +5,10 @@ use Rattle.std.proofs.lemmas.List.{length-map}
 use Rattle.std.proofs.lemmas.Result.{err_from_is_err_and}
 use Rattle.rox_grammar.specs.Tree.{attribute_in}
 use Rattle.rox_grammar.specs.Document.{most_attributes}
-use Rattle.rox_grammar.specs.Failing.{name_view}
-use Rattle.rox_tables.specs.Lines.{declaration, entry, attribute, scope_at, NamespaceWithin, OptionWithin, AttributeRow, rows_of}
-use Rattle.rox_tables.specs.Present.{places_view}
-use Rattle.rox_tables.specs.Declares.{taken_view}
+use Rattle.rox_grammar.specs.Failures.{name_view}
+use Rattle.rox_tables.specs.Rows.{declaration, entry, attribute, scope_at, NamespaceWithin, OptionWithin, AttributeRow, attribute_rows}
+use Rattle.rox_tables.specs.Bindings.{places_view}
+use Rattle.rox_tables.specs.TagDeclarations.{unresolved_view}
 use Rattle.rox_tables.specs.TagScopes.{lists_in}
 use Rattle.rox_tables.proofs.Finding.{looks_for, found_for, seen_by}
 use Rattle.rox_build.proofs.Starting.{tested_amiss, tested_unknown, tested_known}
@@ -36,11 +36,11 @@ returns-in_err-resolve-clause-err c =
     let t = c.args.elements.now in
     let names = map declaration t.namespaces.items.items in
     let scope = scope_at (lists_in t) c.args.scope in
-    let written = map taken_view c.args.taken.now.items in
-    let count = length (rows_of t.attributes) in
+    let written = map unresolved_view c.args.taken.now.items in
+    let count = length (attribute_rows t.attributes) in
     let name = name_view c.args.name in
     let few : count + length written ≤ most_attributes =
-    (let k = c.args.taken.now.ok.0 in let a = c.if-len-from.false in let b = c.len-from.ensures in let l = c.len.ensures in let most = c.requires.few in let m = length-map c.args.taken.now.items taken_view in omega arith) in
+    (let k = c.args.taken.now.ok.0 in let a = c.if-len-from.false in let b = c.len-from.ensures in let l = c.len.ensures in let most = c.requires.few in let m = length-map c.args.taken.now.items unresolved_view in omega arith) in
     let finds = found_for t c.deref.result.now c.deref-2.result.now c.few_places-few.result c.args.scope c.deref.ensures.value c.deref-2.ensures.value c.few_places-few.ensures.few c.few_places-few.ensures.many c.requires.present in
     let here = seen_by t c.as_slice.result.now (places_view c.few_places-few.result) scope c.as_slice.ensures.value finds in
     let e = c.in_err-resolve.field-0.0 in
@@ -52,11 +52,11 @@ returns-in_err-namespace-clause-err c =
     let t = c.args.elements.now in
     let names = map declaration t.namespaces.items.items in
     let scope = scope_at (lists_in t) c.args.scope in
-    let written = map taken_view c.args.taken.now.items in
-    let count = length (rows_of t.attributes) in
+    let written = map unresolved_view c.args.taken.now.items in
+    let count = length (attribute_rows t.attributes) in
     let name = name_view c.args.name in
     let few : count + length written ≤ most_attributes =
-    (let k = c.args.taken.now.ok.0 in let a = c.if-len-from.false in let b = c.len-from.ensures in let l = c.len.ensures in let most = c.requires.few in let m = length-map c.args.taken.now.items taken_view in omega arith) in
+    (let k = c.args.taken.now.ok.0 in let a = c.if-len-from.false in let b = c.len-from.ensures in let l = c.len.ensures in let most = c.requires.few in let m = length-map c.args.taken.now.items unresolved_view in omega arith) in
     let finds = found_for t c.deref.result.now c.deref-2.result.now c.few_places-few.result c.args.scope c.deref.ensures.value c.deref-2.ensures.value c.few_places-few.ensures.few c.few_places-few.ensures.many c.requires.present in
     let here = seen_by t c.as_slice.result.now (places_view c.few_places-few.result) scope c.as_slice.ensures.value finds in
     let here2 = seen_by t c.as_slice-2.result.now (places_view c.few_places-few.result) scope c.as_slice-2.ensures.value finds in
@@ -70,11 +70,11 @@ returns-clause-tested c =
     let t = c.args.elements.now in
     let names = map declaration t.namespaces.items.items in
     let scope = scope_at (lists_in t) c.args.scope in
-    let written = map taken_view c.args.taken.now.items in
-    let count = length (rows_of t.attributes) in
+    let written = map unresolved_view c.args.taken.now.items in
+    let count = length (attribute_rows t.attributes) in
     let name = name_view c.args.name in
     let few : count + length written ≤ most_attributes =
-    (let k = c.args.taken.now.ok.0 in let a = c.if-len-from.false in let b = c.len-from.ensures in let l = c.len.ensures in let most = c.requires.few in let m = length-map c.args.taken.now.items taken_view in omega arith) in
+    (let k = c.args.taken.now.ok.0 in let a = c.if-len-from.false in let b = c.len-from.ensures in let l = c.len.ensures in let most = c.requires.few in let m = length-map c.args.taken.now.items unresolved_view in omega arith) in
     let finds = found_for t c.deref.result.now c.deref-2.result.now c.few_places-few.result c.args.scope c.deref.ensures.value c.deref-2.ensures.value c.few_places-few.ensures.few c.few_places-few.ensures.many c.requires.present in
     let here = seen_by t c.as_slice.result.now (places_view c.few_places-few.result) scope c.as_slice.ensures.value finds in
     let here2 = seen_by t c.as_slice-2.result.now (places_view c.few_places-few.result) scope c.as_slice-2.ensures.value finds in
@@ -85,14 +85,14 @@ overflow_cast-result-2 c =
     let t = c.args.elements.now in
     let names = map declaration t.namespaces.items.items in
     let scope = scope_at (lists_in t) c.args.scope in
-    let written = map taken_view c.args.taken.now.items in
-    let count = length (rows_of t.attributes) in
+    let written = map unresolved_view c.args.taken.now.items in
+    let count = length (attribute_rows t.attributes) in
     let few : count + length written ≤ most_attributes =
-    (let k = c.args.taken.now.ok.0 in let a = c.if-len-from.false in let b = c.len-from.ensures in let l = c.len.ensures in let most = c.requires.few in let m = length-map c.args.taken.now.items taken_view in omega arith) in
+    (let k = c.args.taken.now.ok.0 in let a = c.if-len-from.false in let b = c.len-from.ensures in let l = c.len.ensures in let most = c.requires.few in let m = length-map c.args.taken.now.items unresolved_view in omega arith) in
     let finds = found_for t c.deref.result.now c.deref-2.result.now c.few_places-few.result c.args.scope c.deref.ensures.value c.deref-2.ensures.value c.few_places-few.ensures.few c.few_places-few.ensures.many c.requires.present in
     let here = seen_by t c.as_slice.result.now (places_view c.few_places-few.result) scope c.as_slice.ensures.value finds in
     let moved = (c.in_ok-resolve.ensures.ok scope here).1 in
-    let grown = ap length moved.1 ∙ length-append (rows_of t.attributes) moved.0 in
+    let grown = ap length moved.1 ∙ length-append (attribute_rows t.attributes) moved.0 in
     let n = ap length moved.2 in
     let a = length-map moved.0 (attribute (map declaration c.as_slice.result.now)) in
     let b = length-map written (attribute_in scope) in
@@ -104,11 +104,11 @@ returns-clause-element c =
     let t = c.args.elements.now in
     let names = map declaration t.namespaces.items.items in
     let scope = scope_at (lists_in t) c.args.scope in
-    let written = map taken_view c.args.taken.now.items in
-    let count = length (rows_of t.attributes) in
+    let written = map unresolved_view c.args.taken.now.items in
+    let count = length (attribute_rows t.attributes) in
     let name = name_view c.args.name in
     let few : count + length written ≤ most_attributes =
-    (let k = c.args.taken.now.ok.0 in let a = c.if-len-from.false in let b = c.len-from.ensures in let l = c.len.ensures in let most = c.requires.few in let m = length-map c.args.taken.now.items taken_view in omega arith) in
+    (let k = c.args.taken.now.ok.0 in let a = c.if-len-from.false in let b = c.len-from.ensures in let l = c.len.ensures in let most = c.requires.few in let m = length-map c.args.taken.now.items unresolved_view in omega arith) in
     let finds = found_for t c.deref.result.now c.deref-2.result.now c.few_places-few.result c.args.scope c.deref.ensures.value c.deref-2.ensures.value c.few_places-few.ensures.few c.few_places-few.ensures.many c.requires.present in
     let here = seen_by t c.as_slice.result.now (places_view c.few_places-few.result) scope c.as_slice.ensures.value finds in
     let here2 = seen_by t c.as_slice-2.result.now (places_view c.few_places-few.result) scope c.as_slice-2.ensures.value finds in
@@ -120,7 +120,7 @@ returns-clause-element c =
     let same : map (attribute names) moved.0 ≡ map (attribute_in scope) written =
     ap (λ ns. map (attribute ns) moved.0) (sym seen) ∙ moved.2 in
     let wide : length c.as_slice.result.now ≡ length names = ap length c.as_slice.ensures.value ∙ sym (length-map t.namespaces.items.items declaration) in
-    let grown = ap length moved.1 ∙ length-append (rows_of t.attributes) moved.0 in
+    let grown = ap length moved.1 ∙ length-append (attribute_rows t.attributes) moved.0 in
     let n = ap length same in
     let a = length-map moved.0 (attribute names) in
     let b = length-map written (attribute_in scope) in

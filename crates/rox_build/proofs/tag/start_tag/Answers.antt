@@ -2,16 +2,16 @@ use Rattle.std.proofs.Common.{◌≡◌, ◌≤◌, ◌+◌, [], false, length, 
 use Rattle.std.proofs.lemmas.List.{length-map}
 use Rattle.std.proofs.lemmas.Result.{err_from_is_err_and}
 use Rattle.rox_grammar.specs.declared.fault.Word.TheVariants.{Xmlns}
-use Rattle.rox_grammar.specs.Words.{word_text}
+use Rattle.rox_grammar.specs.FixedTexts.{word_text}
 use Rattle.rox_grammar.specs.Tree.{listed}
 use Rattle.rox_grammar.specs.Document.{most_pairs}
 use Rattle.rox_reading.specs.Lexical.{qname_at}
-use Rattle.rox_reading.specs.Tags.{Held, attributes_at, tag_tested}
-use Rattle.rox_grammar.specs.Failing.{Fails, name_view}
-use Rattle.rox_values.specs.Named.{values_in}
-use Rattle.rox_tables.specs.Lines.{declaration, scope_at, AreScopes, rows_of}
+use Rattle.rox_reading.specs.Tags.{TagSoFar, attributes_at, tag_tested}
+use Rattle.rox_grammar.specs.Failures.{Fails, name_view}
+use Rattle.rox_values.specs.DeclaredEntities.{values_in}
+use Rattle.rox_tables.specs.Rows.{declaration, scope_at, AreScopes, attribute_rows}
 use Rattle.rox_tables.specs.Scopes.{Once}
-use Rattle.rox_build.specs.Tagged.{scope_in_tables}
+use Rattle.rox_build.specs.ElementRow.{scope_in_tables}
 use Rattle.rox_tables.proofs.Declaring.{scope_declared, once_none}
 use Rattle.rox_tables.proofs.Remembering.{remembers_none}
 use Rattle.rox_build.proofs.Starting.{holds_nothing, tag_unread, tag_untested, tag_made, tagged, tested_fails, tested_passes}
@@ -64,11 +64,11 @@ returns-in_err-xml-clause-value c = λ es declared.
     let k = old.listed.ok.0 in
     let own : c.len-own.result ≡ length old.listed.items = omega arith in
     let few : length known ≤ most_pairs = rw (length-map old.namespaces.items.items declaration) c.requires.few in
-    let start : Held = record { own = []; attributes = [] } in
+    let start : TagSoFar = record { own = []; attributes = [] } in
     let nothing = holds_nothing known old.listed.items _ few c.clear.ensures.items in
     let took = c.in_err-xml.ensures.took es known old.listed.items start declared own nothing in
     let p = err_from_is_err_and c.from_residual-in_err-xml.result c.from_residual-in_err-xml.ensures.1 in
-    rw (p.1, p.2) (tag_unread (values_in es c.args.how) c.args.cut above (length (rows_of old.attributes)) known src i c.args.left name n c.in_err-xml.field-0.0 is other (rw s2 at took))
+    rw (p.1, p.2) (tag_unread (values_in es c.args.how) c.args.cut above (length (attribute_rows old.attributes)) known src i c.args.left name n c.in_err-xml.field-0.0 is other (rw s2 at took))
 
 pub returns-in_err-element-clause-value : goal.returns-in_err-element-clause-value
 returns-in_err-element-clause-value c = λ es declared.
@@ -86,22 +86,22 @@ returns-in_err-element-clause-value c = λ es declared.
     let k = old.listed.ok.0 in
     let own : c.len-own.result ≡ length old.listed.items = omega arith in
     let few : length known ≤ most_pairs = rw (length-map old.namespaces.items.items declaration) c.requires.few in
-    let start : Held = record { own = []; attributes = [] } in
+    let start : TagSoFar = record { own = []; attributes = [] } in
     let nothing = holds_nothing known old.listed.items _ few c.clear.ensures.items in
     let took = c.in_ok-xml.ensures.took es known old.listed.items start declared own nothing in
     let h = took.0 in
     let read : attributes_at (length src) (values_in es c.args.how) c.args.cut known src n c.args.left start ≡ Ok (record { held = h; empty = c.in_ok-xml.empty; left = c.in_ok-xml.left }, c.attributes.new.cursor.pos) = rw s2 at took.1 in
     let scopes : scope_in_tables c.scope_of_tag.new.elements c.in_ok-scope.scope ≡ listed above h.own =
     scope_declared known old.listed.items (map declaration c.attributes.new.elements.namespaces.items.items) c.attributes.new.elements.listed.items c.in_ok-xml.xml h.own
-    (scope_in_tables c.attributes.new.elements c.args.above) (scope_in_tables c.scope_of_tag.new.elements c.in_ok-scope.scope) c.len-own.result own took.2.declares c.in_ok-scope.ensures.value.lists
+    (scope_in_tables c.attributes.new.elements c.args.above) (scope_in_tables c.scope_of_tag.new.elements c.in_ok-scope.scope) c.len-own.result own took.2.is_namespace_decl c.in_ok-scope.ensures.value.lists
     ∙ ap (λ xs. listed xs h.own) (ap (λ ls. scope_at ls c.args.above) c.in_ok-xml.ensures.lists) in
     let written = took.2.attributes in
-    let count : length (rows_of c.scope_of_tag.new.elements.attributes) ≡ length (rows_of old.attributes) =
-    ap (λ v. length (rows_of v)) (c.in_ok-scope.ensures.attributes ∙ c.in_ok-xml.ensures.attributes) in
+    let count : length (attribute_rows c.scope_of_tag.new.elements.attributes) ≡ length (attribute_rows old.attributes) =
+    ap (λ v. length (attribute_rows v)) (c.in_ok-scope.ensures.attributes ∙ c.in_ok-xml.ensures.attributes) in
     let p = err_from_is_err_and c.from_residual-in_err-element.result c.from_residual-in_err-element.ensures.1 in
-    let fails : Fails c.in_err-element.field-0.0 (tag_tested (listed above h.own) (length (rows_of old.attributes)) i name h.attributes) =
-    tested_fails c.in_err-element.field-0.0 (listed above h.own) (length (rows_of old.attributes)) i name h.attributes (rw (scopes, count, written, c.advance.ensures.place) at c.in_err-element.ensures.err) in
-    rw (p.1, p.2) (tag_untested (values_in es c.args.how) c.args.cut above (length (rows_of old.attributes)) known src i c.args.left name n c.attributes.new.cursor.pos h c.in_ok-xml.empty c.in_ok-xml.left c.in_err-element.field-0.0 is other read fails)
+    let fails : Fails c.in_err-element.field-0.0 (tag_tested (listed above h.own) (length (attribute_rows old.attributes)) i name h.attributes) =
+    tested_fails c.in_err-element.field-0.0 (listed above h.own) (length (attribute_rows old.attributes)) i name h.attributes (rw (scopes, count, written, c.advance.ensures.place) at c.in_err-element.ensures.err) in
+    rw (p.1, p.2) (tag_untested (values_in es c.args.how) c.args.cut above (length (attribute_rows old.attributes)) known src i c.args.left name n c.attributes.new.cursor.pos h c.in_ok-xml.empty c.in_ok-xml.left c.in_err-element.field-0.0 is other read fails)
 
 pub returns-clause-value : goal.returns-clause-value
 returns-clause-value c = λ es declared.
@@ -119,22 +119,22 @@ returns-clause-value c = λ es declared.
     let k = old.listed.ok.0 in
     let own : c.len-own.result ≡ length old.listed.items = omega arith in
     let few : length known ≤ most_pairs = rw (length-map old.namespaces.items.items declaration) c.requires.few in
-    let start : Held = record { own = []; attributes = [] } in
+    let start : TagSoFar = record { own = []; attributes = [] } in
     let nothing = holds_nothing known old.listed.items _ few c.clear.ensures.items in
     let took = c.in_ok-xml.ensures.took es known old.listed.items start declared own nothing in
     let h = took.0 in
     let read : attributes_at (length src) (values_in es c.args.how) c.args.cut known src n c.args.left start ≡ Ok (record { held = h; empty = c.in_ok-xml.empty; left = c.in_ok-xml.left }, c.attributes.new.cursor.pos) = rw s2 at took.1 in
     let scopes : scope_in_tables c.scope_of_tag.new.elements c.in_ok-scope.scope ≡ listed above h.own =
     scope_declared known old.listed.items (map declaration c.attributes.new.elements.namespaces.items.items) c.attributes.new.elements.listed.items c.in_ok-xml.xml h.own
-    (scope_in_tables c.attributes.new.elements c.args.above) (scope_in_tables c.scope_of_tag.new.elements c.in_ok-scope.scope) c.len-own.result own took.2.declares c.in_ok-scope.ensures.value.lists
+    (scope_in_tables c.attributes.new.elements c.args.above) (scope_in_tables c.scope_of_tag.new.elements c.in_ok-scope.scope) c.len-own.result own took.2.is_namespace_decl c.in_ok-scope.ensures.value.lists
     ∙ ap (λ xs. listed xs h.own) (ap (λ ls. scope_at ls c.args.above) c.in_ok-xml.ensures.lists) in
     let written = took.2.attributes in
-    let count : length (rows_of c.scope_of_tag.new.elements.attributes) ≡ length (rows_of old.attributes) =
-    ap (λ v. length (rows_of v)) (c.in_ok-scope.ensures.attributes ∙ c.in_ok-xml.ensures.attributes) in
-    let fine : tag_tested (listed above h.own) (length (rows_of old.attributes)) i name h.attributes ≡ Ok tt =
-    tested_passes (listed above h.own) (length (rows_of old.attributes)) i name h.attributes (rw (scopes, count, written, c.advance.ensures.place) at c.in_ok-element.ensures.tested) in (
+    let count : length (attribute_rows c.scope_of_tag.new.elements.attributes) ≡ length (attribute_rows old.attributes) =
+    ap (λ v. length (attribute_rows v)) (c.in_ok-scope.ensures.attributes ∙ c.in_ok-xml.ensures.attributes) in
+    let fine : tag_tested (listed above h.own) (length (attribute_rows old.attributes)) i name h.attributes ≡ Ok tt =
+    tested_passes (listed above h.own) (length (attribute_rows old.attributes)) i name h.attributes (rw (scopes, count, written, c.advance.ensures.place) at c.in_ok-element.ensures.tested) in (
       record { name = name; name_end = n; declarations = h.own; attributes = h.attributes },
-      tag_made (values_in es c.args.how) c.args.cut above (length (rows_of old.attributes)) known src i c.args.left name n c.attributes.new.cursor.pos h c.in_ok-xml.empty c.in_ok-xml.left is other read fine,
+      tag_made (values_in es c.args.how) c.args.cut above (length (attribute_rows old.attributes)) known src i c.args.left name n c.attributes.new.cursor.pos h c.in_ok-xml.empty c.in_ok-xml.left is other read fine,
       tagged old c.attributes.new.elements c.scope_of_tag.new.elements c.element_data.new.elements _ above name n h c.in_ok-xml.xml _ c.in_ok-scope.scope refl refl
           c.in_ok-xml.ensures.attributes took.2 c.in_ok-xml.ensures.few c.in_ok-scope.ensures.names c.in_ok-scope.ensures.attributes c.in_ok-xml.ensures.lists (c.in_ok-scope.ensures.value.more, c.in_ok-scope.ensures.value.lists_more) c.in_ok-scope.ensures.value.places
           c.in_ok-scope.ensures.value.scopes scopes c.in_ok-element.ensures.names c.in_ok-element.ensures.listed c.in_ok-element.ensures.scopes c.in_ok-element.ensures.element c.in_ok-scope.ensures.value.kept c.in_ok-element.ensures.present c.in_ok-scope.ensures.value.once,

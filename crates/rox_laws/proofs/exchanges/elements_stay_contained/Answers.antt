@@ -1,5 +1,5 @@
-use Rattle.rox_local.proofs.ExchangeLaws.{stays_contained}
-use Rattle.roxmltree.specs.Spot.{id_of, document_of, tree_of}
+use Rattle.rox_exchange.proofs.ExchangeLaws.{stays_contained}
+use Rattle.roxmltree.specs.NodeRef.{id_of, document_of, tree_of}
 use Rattle.roxmltree.specs.Elements.{root_id}
 use Rattle.roxmltree.proofs.Plain.{alone_contained}
 use Rattle.rox_laws.proofs.exchanges.elements_stay_contained.Goals as goal

@@ -1,6 +1,6 @@
-use Rattle.rox_local.proofs.Wholes.{tree_of_text}
-use Rattle.rox_local.proofs.ExchangeLaws.{goes_back}
-use Rattle.roxmltree.specs.Spot.{id_of, document_of, tree_of}
+use Rattle.rox_exchange.proofs.Wholes.{tree_of_text}
+use Rattle.rox_exchange.proofs.ExchangeLaws.{goes_back}
+use Rattle.roxmltree.specs.NodeRef.{id_of, document_of, tree_of}
 use Rattle.roxmltree.specs.Elements.{root_id}
 use Rattle.roxmltree.proofs.Plain.{alone_tree, alone_contained}
 use Rattle.rox_laws.proofs.exchanges.exchanges_go_back.Goals as goal

@@ -1,7 +1,7 @@
 use Rattle.std.proofs.Common.{ap, ◌∙◌, arith}
-use Rattle.roxmltree.specs.Says.{attributes_of}
-use Rattle.roxmltree.specs.Names.{expanded}
-use Rattle.roxmltree.specs.Spot.{id_of, tree_of, item_of}
+use Rattle.roxmltree.specs.NodeParts.{attributes_of}
+use Rattle.roxmltree.specs.ExpandedNames.{expanded}
+use Rattle.roxmltree.specs.NodeRef.{id_of, tree_of, item_of}
 use Rattle.rox_laws.proofs.Once.{names_distinct}
 use Rattle.rox_laws.proofs.OnlyOne.{how_many, one_at_most, counted_all, counted_one}
 use Rattle.rox_laws.proofs.laws.one_attribute_or_none.Goals as goal

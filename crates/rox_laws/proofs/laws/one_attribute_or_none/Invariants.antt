@@ -1,7 +1,7 @@
 use Rattle.std.proofs.Common.{◌≡◌, ◌+◌, ◌≤◌}
-use Rattle.roxmltree.specs.Says.{attributes_of}
-use Rattle.roxmltree.specs.Spot.{item_of}
-use Rattle.roxmltree.specs.Names.{expanded}
+use Rattle.roxmltree.specs.NodeParts.{attributes_of}
+use Rattle.roxmltree.specs.NodeRef.{item_of}
+use Rattle.roxmltree.specs.ExpandedNames.{expanded}
 use Rattle.rox_laws.proofs.OnlyOne.{how_many}
 use Rattle.rox_laws.proofs.laws.one_attribute_or_none.Given as goal
 

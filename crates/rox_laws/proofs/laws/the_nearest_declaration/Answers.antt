@@ -1,7 +1,7 @@
 use Rattle.std.proofs.Common.{◌≡◌, ◌↔◌, ℕ, List, Option, Some, None, subst, sym, ◌∙◌}
 use Rattle.std.specs.Option.{option_map}
-use Rattle.rox_laws.specs.Nearest.{upwards, NoneDeclares, IsNearest, listed_uri}
-use Rattle.roxmltree.specs.Spot.{id_of, tree_of}
+use Rattle.rox_laws.specs.NearestDeclaration.{upwards, NoneDeclares, IsNearest, listed_uri}
+use Rattle.roxmltree.specs.NodeRef.{id_of, tree_of}
 use Rattle.rox_laws.proofs.Nearest.{found_is_nearest, none_is_declared, xml_is_never_listed, others_list_nothing}
 use Rattle.rox_laws.proofs.laws.the_nearest_declaration.Goals as goal
 

@@ -1,8 +1,8 @@
 use Rattle.std.proofs.Common.{sym, ◌∙◌}
-use Rattle.roxmltree.specs.Says.{attributes_of}
-use Rattle.roxmltree.specs.Names.{expanded}
-use Rattle.roxmltree.specs.Listed.{attribute_of}
-use Rattle.roxmltree.specs.Spot.{id_of, tree_of, item_of}
+use Rattle.roxmltree.specs.NodeParts.{attributes_of}
+use Rattle.roxmltree.specs.ExpandedNames.{expanded}
+use Rattle.roxmltree.specs.ElementLists.{attribute_of}
+use Rattle.roxmltree.specs.NodeRef.{id_of, tree_of, item_of}
 use Rattle.rox_laws.proofs.Once.{names_distinct}
 use Rattle.rox_laws.proofs.OnlyOne.{only_named, answer_is_one}
 use Rattle.rox_laws.proofs.laws.the_only_attribute.Goals as goal

@@ -1,6 +1,6 @@
 use Rattle.std.proofs.Common.{◌≡◌, ◌⊎◌, List, [], ℕ, inl, inr, subst}
 use Rattle.rox_grammar.specs.declared.fault.Fault.{Fault}
-use Rattle.rox_error.specs.Telling.{IsErrorOf}
+use Rattle.rox_error.specs.FaultErrors.{IsErrorOf}
 use Rattle.rox_error.specs.declared.error.Error.{Error}
 use Rattle.rox_error.specs.declared.error.Error.TheVariants as error
 use Rattle.rox_theory.specs.Limits.{IsLimit}

@@ -1,7 +1,7 @@
 use Rattle.std.proofs.Common.{ap, ◌∙◌, drop}
 use Rattle.std.specs.List.{position_or_len}
 use Rattle.memchr.specs.Find.{is_byte3}
-use Rattle.rox_grammar.specs.Marks.{byte_from}
+use Rattle.rox_grammar.specs.Search.{byte_from}
 use Rattle.rox_path.proofs.PathLemmas.{first_byte_found}
 use Rattle.rox_path.proofs.parse.local_end.Goals as goal
 

@@ -38,10 +38,10 @@ range-requires-clause-start_boundary c some =
     let brace = c.if-not-is_at.ensures.yes refl in
     IsCharBoundary-after_ascii c.args.text.now c.args.at c.utf8.text brace.0 (omega (arith, brace.1))
 
-same_name : (x : Expanded) (u v a b : List ℕ) → x ≡ (Some u, a) → u ≡ v → a ≡ b → x ≡ (Some v, b)
-same_name x u v a b is e f = cc
+same_expanded_name : (x : Expanded) (u v a b : List ℕ) → x ≡ (Some u, a) → u ≡ v → a ≡ b → x ≡ (Some v, b)
+same_expanded_name x u v a b is e f = cc
 
 pub returns-clause-name : goal.returns-clause-name
 returns-clause-name c =
     let within : c.uri_end-close.result < length c.args.text.now = omega (arith, c.uri_end-close.ensures.within, c.if-close-text.false) in
-    name_with _ _ _ _ _ (c.if-not-is_at.ensures.yes refl).1 c.uri_end-close.ensures.value within c.in_ok-local-2.ensures.end c.in_ok-local-2.ensures.onward (same_name _ _ _ _ _ c.from-2.ensures c.range.ensures.value c.in_ok-local-2.ensures.local)
+    name_with _ _ _ _ _ (c.if-not-is_at.ensures.yes refl).1 c.uri_end-close.ensures.value within c.in_ok-local-2.ensures.end c.in_ok-local-2.ensures.onward (same_expanded_name _ _ _ _ _ c.from-2.ensures c.range.ensures.value c.in_ok-local-2.ensures.local)

@@ -1,6 +1,6 @@
 use Rattle.std.proofs.Common.{subst}
-use Rattle.roxmltree.specs.Doc.{Doc}
-use Rattle.rox_path.specs.Marks.{Laws}
+use Rattle.roxmltree.specs.DocumentView.{DocumentView}
+use Rattle.rox_path.specs.NodeMarks.{Laws}
 use Rattle.rox_path.proofs.selection.laws.Goals as goal
 
 pub returns : goal.returns
@@ -11,4 +11,4 @@ returns c =
       below = c.descendants_are_below.ensures.leads;
       parents = c.parents_are_the_nearest_above.ensures.above;
     } in
-    subst (λ (d : Doc). Laws d.tree) c.document-document.ensures laws
+    subst (λ (d : DocumentView). Laws d.tree) c.document-document.ensures laws

@@ -1,7 +1,7 @@
 use Rattle.std.proofs.Common.{◌≡◌, map, ◌++◌}
-use Rattle.roxmltree.specs.Names.{expanded}
-use Rattle.roxmltree.specs.Spot.{id_of}
-use Rattle.rox_path.specs.Marks.{subtree_of, is_child}
+use Rattle.roxmltree.specs.ExpandedNames.{expanded}
+use Rattle.roxmltree.specs.NodeRef.{id_of}
+use Rattle.rox_path.specs.NodeMarks.{subtree_of, is_child}
 use Rattle.rox_path.proofs.selection.mark_children.Given as goal
 
 abbrev pub invariant-loop-node : goal.invariant-loop-node

@@ -1,9 +1,9 @@
 use Rattle.std.proofs.Common.{◌≡◌, ℕ, ◌+◌, ◌&&◌, List, Bool, length, subst, sym, ap, ◌∙◌}
-use Rattle.roxmltree.specs.Doc.{Doc}
-use Rattle.roxmltree.specs.Names.{expanded}
+use Rattle.roxmltree.specs.DocumentView.{DocumentView}
+use Rattle.roxmltree.specs.ExpandedNames.{expanded}
 use Rattle.roxmltree.specs.Places.{place}
-use Rattle.roxmltree.specs.Spot.{id_of, document_of, tree_of, spot}
-use Rattle.rox_path.specs.Marks.{marks_by, is_below, is_named, is_descendant}
+use Rattle.roxmltree.specs.NodeRef.{id_of, document_of, tree_of, node_ref}
+use Rattle.rox_path.specs.NodeMarks.{marks_by, is_below, is_named, is_descendant}
 use Rattle.rox_path.proofs.MarkLemmas.{next_place, both_tests, no_test, mark_pushed, below_pushed, left_pushed}
 use Rattle.rox_path.proofs.selection.mark_descendants.Goals as goal
 use Rattle.rox_path.proofs.selection.mark_descendants.Goals.{then-reached, else-reached}
@@ -11,7 +11,7 @@ use Rattle.rox_path.proofs.selection.mark_descendants.Goals.{then-reached, else-
 pub is_below-reached-requires-clause-place : goal.is_below-reached-requires-clause-place
 is_below-reached-requires-clause-place c =
     let next = next_place (document_of c.args.start) (id_of c.args.start) (length c.loop-node.below.items) (place (tree_of c.args.start) (id_of c.args.start)).count _ _ (sym c.in-Some.ensures.steps ∙ c.loop-node.invariant.left) in
-    ap (λ (s : Doc × ℕ). s.1) next.0 ∙ ap (λ (b : List Bool). id_of c.args.start + length b) (sym c.deref.ensures.value)
+    ap (λ (s : DocumentView × ℕ). s.1) next.0 ∙ ap (λ (b : List Bool). id_of c.args.start + length b) (sym c.deref.ensures.value)
 
 pub is_below-reached-requires-clause-so_far : goal.is_below-reached-requires-clause-so_far
 is_below-reached-requires-clause-so_far c =
@@ -21,7 +21,7 @@ is_below-reached-requires-clause-so_far c =
 pub is_below-reached-requires-clause-document : goal.is_below-reached-requires-clause-document
 is_below-reached-requires-clause-document c =
     let next = next_place (document_of c.args.start) (id_of c.args.start) (length c.loop-node.below.items) (place (tree_of c.args.start) (id_of c.args.start)).count _ _ (sym c.in-Some.ensures.steps ∙ c.loop-node.invariant.left) in
-    ap (λ (s : Doc × ℕ). s.0) next.0
+    ap (λ (s : DocumentView × ℕ). s.0) next.0
 
 pub loop-node-preserved : goal.loop-node-preserved
 loop-node-preserved c =
@@ -30,7 +30,7 @@ loop-node-preserved c =
     let marks = c.args.marks.now in
     let name = expanded c.args.name in
     let next = next_place doc top (length c.loop-node.below.items) (place (tree_of c.args.start) top).count _ _ (sym c.in-Some.ensures.steps ∙ c.loop-node.invariant.left) in
-    let mark : c.if-reached.push ≡ (is_below top marks (spot c.in-Some.node) && is_named name (spot c.in-Some.node)) =
+    let mark : c.if-reached.push ≡ (is_below top marks (node_ref c.in-Some.node) && is_named name (node_ref c.in-Some.node)) =
     elim c.if-reached.branch [
       | then-reached w ↦ both_tests _ _ _ _ w.if-reached.true c.is_below-reached.ensures (w.push-is ∙ w.has_tag_name.ensures)
       | else-reached w ↦ no_test _ _ _ _ w.if-reached.false c.is_below-reached.ensures (w.push-is ∙ w.if-reached.false)

@@ -2,10 +2,10 @@ use Rattle.std.proofs.Common.{◌≡◌, Bool, List, map, take, ◌∙◌, sym, 
 use Rattle.std.specs.List.{filter}
 use Rattle.std.proofs.lemmas.Result.{IfOk-weaker}
 use Rattle.std.proofs.lemmas.List.{take_all}
-use Rattle.roxmltree.specs.Names.{expanded}
-use Rattle.roxmltree.specs.Spot.{id_of, document_of, spot}
+use Rattle.roxmltree.specs.ExpandedNames.{expanded}
+use Rattle.roxmltree.specs.NodeRef.{id_of, document_of, node_ref}
 use Rattle.rox_path.specs.Steps.{PathStep, step_of}
-use Rattle.rox_path.specs.Marks.{subtree_of, is_child, is_descendant, has_mark}
+use Rattle.rox_path.specs.NodeMarks.{subtree_of, is_child, is_descendant, is_marked_node}
 use Rattle.rox_path.proofs.MarkLemmas.{Shows, start_shows, child_shows, descendant_shows, nodes_selected, one_more_step}
 use Rattle.rox_path.proofs.selection.select.Goals as goal
 use Rattle.rox_path.proofs.selection.select.Goals.{in-Child+in_ok-marks-in-Child, in-Descendant+in_ok-marks-in-Descendant}
@@ -41,6 +41,6 @@ returns c =
     let shows = subst (λ (s : List PathStep). Shows doc.tree top s c.loop-step.marks.items) (ap (map step_of) all) c.loop-step.invariant in
     IfOk-weaker c.marked_nodes.result _ _
     (λ nodes is.
-    nodes_selected doc top (map step_of c.args.steps.now) c.loop-step.marks.items (map spot nodes.items) c.laws.ensures c.args.start.in_tree shows
-    (is ∙ ap (λ (m : List Bool). filter (has_mark top m) (subtree_of c.args.start)) c.deref-2.ensures.value))
+    nodes_selected doc top (map step_of c.args.steps.now) c.loop-step.marks.items (map node_ref nodes.items) c.laws.ensures c.args.start.in_tree shows
+    (is ∙ ap (λ (m : List Bool). filter (is_marked_node top m) (subtree_of c.args.start)) c.deref-2.ensures.value))
     c.marked_nodes.ensures

@@ -1,5 +1,5 @@
 use Rattle.std.proofs.Common.{map, take}
-use Rattle.roxmltree.specs.Spot.{id_of, tree_of}
+use Rattle.roxmltree.specs.NodeRef.{id_of, tree_of}
 use Rattle.rox_path.specs.Steps.{step_of}
 use Rattle.rox_path.proofs.MarkLemmas.{Shows}
 use Rattle.rox_path.proofs.selection.select.Given as goal

@@ -1,6 +1,6 @@
 use Rattle.std.proofs.Common.{◌≡◌, map, ◌++◌}
-use Rattle.roxmltree.specs.Spot.{id_of}
-use Rattle.rox_path.specs.Marks.{subtree_of, is_first}
+use Rattle.roxmltree.specs.NodeRef.{id_of}
+use Rattle.rox_path.specs.NodeMarks.{subtree_of, is_first}
 use Rattle.rox_path.proofs.selection.start_alone.Given as goal
 
 abbrev pub invariant-loop-node : goal.invariant-loop-node

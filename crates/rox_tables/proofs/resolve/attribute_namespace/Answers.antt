@@ -1,5 +1,5 @@
 use Rattle.std.proofs.Common.{sym, ◌∙◌}
-use Rattle.rox_grammar.specs.Failing.{name_view}
+use Rattle.rox_grammar.specs.Failures.{name_view}
 use Rattle.rox_tables.proofs.NameTests.{empty_is, known_some, known_none}
 use Rattle.rox_tables.proofs.resolve.attribute_namespace.Goals as goal
 

@@ -1,8 +1,8 @@
 use Rattle.std.proofs.Common.{◌≡◌, refl, sym, ap, ◌∙◌, map, bytes_eq, [], false}
 use Rattle.rox_grammar.specs.declared.fault.Span.{Span}
 use Rattle.rox_grammar.specs.declared.fault.Fault.TheVariants as fault
-use Rattle.rox_grammar.specs.Failing.{name_view}
-use Rattle.rox_tables.specs.Lines.{declaration}
+use Rattle.rox_grammar.specs.Failures.{name_view}
+use Rattle.rox_tables.specs.Rows.{declaration}
 use Rattle.rox_tables.proofs.NameTests.{empty_is, element_some, element_none}
 use Rattle.rox_tables.proofs.resolve.element_namespace.Goals as goal
 

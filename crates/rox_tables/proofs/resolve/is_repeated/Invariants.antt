@@ -1,7 +1,7 @@
 use Rattle.std.proofs.Common.{◌≡◌, false, map, take}
 use Rattle.std.specs.List.{list_any}
-use Rattle.rox_tables.specs.Lines.{declaration}
-use Rattle.rox_tables.specs.Resolved.{has_expanded}
+use Rattle.rox_tables.specs.Rows.{declaration}
+use Rattle.rox_tables.specs.ResolvedNames.{has_expanded}
 use Rattle.rox_tables.proofs.resolve.is_repeated.Given as goal
 
 abbrev pub invariant-loop-attribute : goal.invariant-loop-attribute

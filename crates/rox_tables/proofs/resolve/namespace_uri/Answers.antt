@@ -1,7 +1,7 @@
 use Rattle.std.proofs.Common.{◌<◌, Some, length, map, sym, ap, ◌∙◌, subst}
-use Rattle.rox_grammar.specs.Written.{Declaration}
+use Rattle.rox_grammar.specs.Written.{NamespaceDecl}
 use Rattle.rox_tables.specs.declared.tables.AttributeNamespace.{AttributeNamespace}
-use Rattle.rox_tables.specs.Lines.{declaration, namespace_of, NamespaceWithin}
+use Rattle.rox_tables.specs.Rows.{declaration, attribute_uri, NamespaceWithin}
 use Rattle.rox_tables.proofs.Pairs.{entry-get}
 use Rattle.rox_tables.proofs.resolve.namespace_uri.Goals as goal
 
@@ -10,5 +10,5 @@ returns-in-Listed c =
     let rows = c.args.names.now in
     let place = c.in-Listed.place in
     let lt : place < length rows = subst (λ (s : AttributeNamespace). NamespaceWithin (length rows) s) c.in-Listed.is c.requires in
-    ap Some (c.as_str.ensures ∙ ap (λ (d : Declaration). d.uri) (sym (entry-get rows place c.index-names-place.result lt)))
-    ∙ ap (namespace_of (map declaration rows)) (sym c.in-Listed.is)
+    ap Some (c.as_str.ensures ∙ ap (λ (d : NamespaceDecl). d.uri) (sym (entry-get rows place c.index-names-place.result lt)))
+    ∙ ap (attribute_uri (map declaration rows)) (sym c.in-Listed.is)

@@ -1,13 +1,13 @@
 use Rattle.std.proofs.Common.{◌≡◌, ◌+◌, ◌-◌, ◌<◌, [], arith}
-use Rattle.rox_tables.specs.Lines.{count_at}
+use Rattle.rox_tables.specs.Rows.{count_at}
 use Rattle.rox_tables.proofs.Ropes.{row_found, if_some}
 use Rattle.rox_tables.proofs.rope.+find.Goals as goal
 
 pub returns-then-position-low : goal.returns-then-position-low
 returns-then-position-low t c =
-    let r = row_found [] _ _ _ c.requires.rows c.requires.within c.in-Both.is in
-    let n : count_at c.args.scopes.now c.args.scope ≡ c.in-Both.parts.count = r.count in
-    let m : c.in-Both.parts.count ≡ count_at c.args.scopes.now c.in-Both.parts.first + count_at c.args.scopes.now c.in-Both.parts.rest = r.row.2 in
+    let r = row_found [] _ _ _ c.requires.rows c.requires.within c.in-Concat.is in
+    let n : count_at c.args.scopes.now c.args.scope ≡ c.in-Concat.parts.count = r.count in
+    let m : c.in-Concat.parts.count ≡ count_at c.args.scopes.now c.in-Concat.parts.first + count_at c.args.scopes.now c.in-Concat.parts.rest = r.row.2 in
     if_some c.find.result c.find.ensures (λ i h. omega arith)
 
 pub returns-else-position-stretch : goal.returns-else-position-stretch
@@ -24,9 +24,9 @@ returns-else-position-until t c =
 
 pub returns-in-Some : goal.returns-in-Some
 returns-in-Some t c =
-    let r = row_found [] _ _ _ c.requires.rows c.requires.within c.in-Both.is in
-    let n : count_at c.args.scopes.now c.args.scope ≡ c.in-Both.parts.count = r.count in
-    let m : c.in-Both.parts.count ≡ count_at c.args.scopes.now c.in-Both.parts.first + count_at c.args.scopes.now c.in-Both.parts.rest = r.row.2 in
-    let f : c.count-before.result ≡ count_at c.args.scopes.now c.in-Both.parts.first = c.count-before.ensures.value in
-    let g : c.in-Some.index < count_at c.args.scopes.now c.in-Both.parts.rest = c.in-Some.ensures in
+    let r = row_found [] _ _ _ c.requires.rows c.requires.within c.in-Concat.is in
+    let n : count_at c.args.scopes.now c.args.scope ≡ c.in-Concat.parts.count = r.count in
+    let m : c.in-Concat.parts.count ≡ count_at c.args.scopes.now c.in-Concat.parts.first + count_at c.args.scopes.now c.in-Concat.parts.rest = r.row.2 in
+    let f : c.count-before.result ≡ count_at c.args.scopes.now c.in-Concat.parts.first = c.count-before.ensures.value in
+    let g : c.in-Some.index < count_at c.args.scopes.now c.in-Concat.parts.rest = c.in-Some.ensures in
     omega arith

@@ -14,8 +14,8 @@ returns-in-Back-clause-value c = sym (row_found [] _ _ _ c.requires.rows c.requi
 pub returns-in-Back-clause-length : goal.returns-in-Back-clause-length
 returns-in-Back-clause-length c = λ ls h. sym (row_found [] _ _ _ c.requires.rows c.requires.within c.in-Back.is).count ∙ count_places ls _ _ h c.requires.within
 
-pub returns-in-Both-clause-value : goal.returns-in-Both-clause-value
-returns-in-Both-clause-value c = sym (row_found [] _ _ _ c.requires.rows c.requires.within c.in-Both.is).count
+pub returns-in-Concat-clause-value : goal.returns-in-Concat-clause-value
+returns-in-Concat-clause-value c = sym (row_found [] _ _ _ c.requires.rows c.requires.within c.in-Concat.is).count
 
-pub returns-in-Both-clause-length : goal.returns-in-Both-clause-length
-returns-in-Both-clause-length c = λ ls h. sym (row_found [] _ _ _ c.requires.rows c.requires.within c.in-Both.is).count ∙ count_places ls _ _ h c.requires.within
+pub returns-in-Concat-clause-length : goal.returns-in-Concat-clause-length
+returns-in-Concat-clause-length c = λ ls h. sym (row_found [] _ _ _ c.requires.rows c.requires.within c.in-Concat.is).count ∙ count_places ls _ _ h c.requires.within

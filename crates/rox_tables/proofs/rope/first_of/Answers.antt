@@ -1,8 +1,8 @@
 use Rattle.std.proofs.Common.{◌≡◌, ◌<◌, ◌≤◌, length, get_or, take, true, false, map, sym, ap, subst, ◌∙◌, arith, None}
 use Rattle.std.proofs.lemmas.List.{take_all}
 use Rattle.rox_grammar.specs.Tree.{same_prefix, uri_of}
-use Rattle.rox_grammar.specs.Written.{Declaration}
-use Rattle.rox_tables.specs.Lines.{declaration, entry}
+use Rattle.rox_grammar.specs.Written.{NamespaceDecl}
+use Rattle.rox_tables.specs.Rows.{declaration, entry}
 use Rattle.rox_tables.specs.Scopes.{prefix_view, entries, places_in}
 use Rattle.rox_tables.proofs.Pairs.{entry-get, uri_none_more, declared_none}
 use Rattle.rox_tables.proofs.rope.first_of.Goals as goal
@@ -25,7 +25,7 @@ returns-then-same_prefix-clause-there c =
     let here : place < length rows = c.place_at-place.ensures.place _ c.requires.places in
     let e = entry-get rows place item here in
     let same : same_prefix (declaration (get_or rows place item)).prefix p ≡ true = sym c.same_prefix.ensures ∙ c.if-same_prefix.true in
-    (omega arith, ap (λ i. same_prefix (entry (map declaration rows) i).prefix p) (sym c.place_at-place.ensures.value) ∙ ap (λ (d : Declaration). same_prefix d.prefix p) e ∙ same)
+    (omega arith, ap (λ i. same_prefix (entry (map declaration rows) i).prefix p) (sym c.place_at-place.ensures.value) ∙ ap (λ (d : NamespaceDecl). same_prefix d.prefix p) e ∙ same)
 
 pub loop-index-preserved : goal.loop-index-preserved
 loop-index-preserved c =
@@ -41,7 +41,7 @@ loop-index-preserved c =
     let e = entry-get rows place item here in
     let other : same_prefix (declaration (get_or rows place item)).prefix p ≡ false = sym c.same_prefix.ensures ∙ c.if-same_prefix.false in
     uri_none_more (map declaration rows) places k 0 p lt c.loop-index.invariant
-    (ap (λ i. same_prefix (entry (map declaration rows) i).prefix p) (sym c.place_at-place.ensures.value) ∙ ap (λ (d : Declaration). same_prefix d.prefix p) e ∙ other)
+    (ap (λ i. same_prefix (entry (map declaration rows) i).prefix p) (sym c.place_at-place.ensures.value) ∙ ap (λ (d : NamespaceDecl). same_prefix d.prefix p) e ∙ other)
 
 pub returns-clause-absent : goal.returns-clause-absent
 returns-clause-absent c =

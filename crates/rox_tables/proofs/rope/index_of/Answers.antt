@@ -1,7 +1,7 @@
 use Rattle.std.proofs.Common.{◌≡◌, ◌<◌, length, get_or, true, map, sym, ap, ◌∙◌, arith}
 use Rattle.rox_grammar.specs.Tree.{same_prefix}
-use Rattle.rox_grammar.specs.Written.{Declaration}
-use Rattle.rox_tables.specs.Lines.{declaration, entry, count_at}
+use Rattle.rox_grammar.specs.Written.{NamespaceDecl}
+use Rattle.rox_tables.specs.Rows.{declaration, entry, count_at}
 use Rattle.rox_tables.specs.Scopes.{prefix_view, places_in}
 use Rattle.rox_tables.proofs.Pairs.{entry-get}
 use Rattle.rox_tables.proofs.Ropes.{count_places}
@@ -31,4 +31,4 @@ returns-then-same_prefix-clause-there c =
     let here : place < length rows = c.place_at-place.ensures.place _ c.requires.places in
     let e = entry-get rows place item here in
     let same : same_prefix (declaration (get_or rows place item)).prefix p ≡ true = sym c.same_prefix.ensures ∙ c.if-same_prefix.true in
-    (omega arith, ap (λ i. same_prefix (entry (map declaration rows) i).prefix p) (sym c.place_at-place.ensures.value) ∙ ap (λ (d : Declaration). same_prefix d.prefix p) e ∙ same)
+    (omega arith, ap (λ i. same_prefix (entry (map declaration rows) i).prefix p) (sym c.place_at-place.ensures.value) ∙ ap (λ (d : NamespaceDecl). same_prefix d.prefix p) e ∙ same)

@@ -1,5 +1,5 @@
 use Rattle.std.proofs.Common.{◌≡◌, ◌+◌}
-use Rattle.rox_tables.specs.Lines.{count_at}
+use Rattle.rox_tables.specs.Rows.{count_at}
 use Rattle.rox_tables.proofs.Ropes.{rope_pushed}
 use Rattle.rox_tables.proofs.rope.pair.Goals as goal
 

@@ -1,6 +1,6 @@
 use Rattle.std.proofs.Common.{◌-◌, ◌≤◌, ℕ, length, arith}
 use Rattle.std.specs.List.{AllByRecursion}
-use Rattle.rox_tables.specs.Lines.{EndsWithin}
+use Rattle.rox_tables.specs.Rows.{EndsWithin}
 use Rattle.rox_tables.proofs.Leaves.{cut_back}
 use Rattle.rox_tables.proofs.Ropes.{if_ok, leaves_rows, rope_leaves}
 use Rattle.rox_tables.proofs.rope.without_back.Goals as goal

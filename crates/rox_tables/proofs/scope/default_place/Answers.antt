@@ -1,7 +1,7 @@
 use Rattle.std.proofs.Common.{◌≡◌, ◌<◌, length, get_or, true, false, map, sym, ap, ◌∙◌, arith, None}
 use Rattle.rox_grammar.specs.Tree.{same_prefix}
-use Rattle.rox_tables.specs.Lines.{declaration}
-use Rattle.rox_grammar.specs.Written.{Declaration}
+use Rattle.rox_tables.specs.Rows.{declaration}
+use Rattle.rox_grammar.specs.Written.{NamespaceDecl}
 use Rattle.rox_tables.proofs.Pairs.{entry-get, place_at, uri_here, uri_none_more}
 use Rattle.rox_tables.proofs.scope.default_place.Goals as goal
 
@@ -17,7 +17,7 @@ returns-then-same_prefix-clause-there c =
     let here : place < length rows = place_at (length rows) places k 0 c.requires lt in
     let e = entry-get rows place item here in
     let same : same_prefix (declaration (get_or rows place item)).prefix p ≡ true = sym c.same_prefix.ensures ∙ c.if-same_prefix.true in
-    (here, uri_here (map declaration rows) places k 0 p lt c.loop-place.invariant (ap (λ (d : Declaration). same_prefix d.prefix p) e ∙ same))
+    (here, uri_here (map declaration rows) places k 0 p lt c.loop-place.invariant (ap (λ (d : NamespaceDecl). same_prefix d.prefix p) e ∙ same))
 
 pub loop-place-preserved : goal.loop-place-preserved
 loop-place-preserved c =
@@ -31,4 +31,4 @@ loop-place-preserved c =
     let here : place < length rows = place_at (length rows) places k 0 c.requires lt in
     let e = entry-get rows place item here in
     let other : same_prefix (declaration (get_or rows place item)).prefix p ≡ false = sym c.same_prefix.ensures ∙ c.if-same_prefix.false in
-    uri_none_more (map declaration rows) places k 0 p lt c.loop-place.invariant (ap (λ (d : Declaration). same_prefix d.prefix p) e ∙ other)
+    uri_none_more (map declaration rows) places k 0 p lt c.loop-place.invariant (ap (λ (d : NamespaceDecl). same_prefix d.prefix p) e ∙ other)

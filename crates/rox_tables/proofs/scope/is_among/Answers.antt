@@ -1,5 +1,5 @@
 use Rattle.std.proofs.Common.{◌<◌, ◌∙◌, length, map, arith}
-use Rattle.rox_tables.specs.Lines.{declaration}
+use Rattle.rox_tables.specs.Rows.{declaration}
 use Rattle.rox_tables.specs.Scopes.{prefix_view}
 use Rattle.rox_tables.proofs.Remembering.{remembered}
 use Rattle.rox_tables.proofs.scope.is_among.Goals as goal

@@ -1,6 +1,6 @@
 use Rattle.std.proofs.Common.{◌≡◌, None, map, take}
 use Rattle.rox_grammar.specs.Tree.{uri_of}
-use Rattle.rox_tables.specs.Lines.{declaration}
+use Rattle.rox_tables.specs.Rows.{declaration}
 use Rattle.rox_tables.specs.Scopes.{prefix_view, entries}
 use Rattle.rox_tables.proofs.scope.place_of.Given as goal
 

@@ -1,8 +1,8 @@
 use Rattle.std.proofs.Common.{◌≡◌, ◌<◌, true, false, length, map, get_or, sym, ap, subst, arith}
 use Rattle.rox_grammar.specs.Tree.{same_prefix, is_declared}
-use Rattle.rox_tables.specs.Lines.{declaration, entry}
+use Rattle.rox_tables.specs.Rows.{declaration, entry}
 use Rattle.rox_tables.specs.Scopes.{prefix_view, entries, places_in}
-use Rattle.rox_tables.specs.Present.{namespace_at}
+use Rattle.rox_tables.specs.Bindings.{namespace_at}
 use Rattle.rox_tables.proofs.Hiding.{unlisted_none, unlisted_one}
 use Rattle.rox_tables.proofs.Leaves.{cut}
 use Rattle.rox_tables.proofs.Ropes.{count_places}

@@ -1,10 +1,10 @@
 use Rattle.std.proofs.Common.{◌<◌, ◌≤◌, false, Some, length, map, get_or, refl, sym, subst, arith}
 use Rattle.std.specs.List.{slice_range}
 use Rattle.rox_grammar.specs.declared.fault.Word.TheVariants.{Xml}
-use Rattle.rox_grammar.specs.Words.{word_text}
-use Rattle.rox_tables.specs.Lines.{declaration}
+use Rattle.rox_grammar.specs.FixedTexts.{word_text}
+use Rattle.rox_tables.specs.Rows.{declaration}
 use Rattle.rox_tables.specs.Scopes.{prefix_view, entries, places_in, Once}
-use Rattle.rox_tables.specs.Present.{found}
+use Rattle.rox_tables.specs.Bindings.{bound_place}
 use Rattle.rox_tables.proofs.Pairs.{place_at}
 use Rattle.rox_tables.proofs.Hiding.{once_others}
 use Rattle.rox_tables.proofs.Below.{hides_none, hides_more, hides_xml, hides_own, absent_bound}
@@ -29,7 +29,7 @@ pub hide-requires-clause-absent : goal.hide-requires-clause-absent
 hide-requires-clause-absent c = λ none.
     let names = map declaration c.args.names.now in
     let p = prefix_view (get_or c.args.names.now (get_or c.args.listed.now c.loop-turn.turn 0) c.index-names-place.result).name in
-    absent_bound names (found c.args.present.now) (entries names (slice_range c.args.listed.now c.args.own c.loop-turn.turn)) (entries names (places_in c.args.listed.now c.args.scopes.now.items c.args.scope))
+    absent_bound names (bound_place c.args.present.now) (entries names (slice_range c.args.listed.now c.args.own c.loop-turn.turn)) (entries names (places_in c.args.listed.now c.args.scopes.now.items c.args.scope))
     (entries names (places_in c.args.listed.now c.loop-turn.scopes.items c.loop-turn.left)) false p c.requires.bound c.loop-turn.invariant.lists none
 
 pub loop-turn-preserved : goal.loop-turn-preserved
@@ -52,7 +52,7 @@ hide-requires-then-xml-clause-once c =
 pub hide-requires-then-xml-clause-absent : goal.hide-requires-then-xml-clause-absent
 hide-requires-then-xml-clause-absent c = λ none.
     let names = map declaration c.args.names.now in
-    absent_bound names (found c.args.present.now) (entries names (slice_range c.args.listed.now c.args.own c.loop-turn.turn)) (entries names (places_in c.args.listed.now c.args.scopes.now.items c.args.scope))
+    absent_bound names (bound_place c.args.present.now) (entries names (slice_range c.args.listed.now c.args.own c.loop-turn.turn)) (entries names (places_in c.args.listed.now c.args.scopes.now.items c.args.scope))
     (entries names (places_in c.args.listed.now c.loop-turn.scopes.items c.loop-turn.left)) false (Some (word_text Xml)) c.requires.bound c.loop-turn.invariant.lists none
 
 pub returns-in_ok-left-2-clause-value : goal.returns-in_ok-left-2-clause-value

@@ -1,6 +1,6 @@
 use Rattle.std.proofs.Common.{false, map}
 use Rattle.std.specs.List.{slice_range}
-use Rattle.rox_tables.specs.Lines.{declaration}
+use Rattle.rox_tables.specs.Rows.{declaration}
 use Rattle.rox_tables.specs.Scopes.{entries, places_in, others}
 use Rattle.rox_tables.specs.Ropes.{IsListed}
 use Rattle.rox_tables.proofs.tag_scope.hide_own.Given as goal

@@ -1,6 +1,6 @@
 use Rattle.std.proofs.Common.{length, map, sym, subst}
 use Rattle.std.proofs.lemmas.List.{length-map}
-use Rattle.rox_tables.specs.Lines.{declaration}
+use Rattle.rox_tables.specs.Rows.{declaration}
 use Rattle.rox_tables.specs.Scopes.{ArePlaces}
 use Rattle.rox_tables.proofs.Sharing.{inherits_listed, places_behind, scopes_behind, within_behind}
 use Rattle.rox_tables.proofs.tag_scope.listed_below_few.Goals as goal

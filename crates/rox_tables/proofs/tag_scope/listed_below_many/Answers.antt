@@ -1,5 +1,5 @@
 use Rattle.std.proofs.Common.{map, drop, subst}
-use Rattle.rox_tables.specs.Lines.{declaration}
+use Rattle.rox_tables.specs.Rows.{declaration}
 use Rattle.rox_tables.specs.Scopes.{entries, places_in, others}
 use Rattle.rox_tables.specs.Ropes.{IsListed}
 use Rattle.rox_tables.proofs.Below.{joined_listed}

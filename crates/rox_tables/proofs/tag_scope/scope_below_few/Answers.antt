@@ -1,7 +1,7 @@
 use Rattle.std.proofs.Common.{◌++◌, length, map, drop, refl, sym, ap, subst, ◌∙◌}
 use Rattle.std.specs.List.{slice_range}
 use Rattle.rox_tables.specs.declared.tables.ElementTables.{ElementTables}
-use Rattle.rox_tables.specs.Lines.{declaration, scope_at}
+use Rattle.rox_tables.specs.Rows.{declaration, scope_at}
 use Rattle.rox_tables.specs.Scopes.{entries, others}
 use Rattle.rox_tables.specs.Ropes.{IsListed}
 use Rattle.rox_tables.specs.TagScopes.{lists_in}
@@ -52,9 +52,9 @@ returns c =
     ++ others (entries (map declaration v) (drop c.args.own listed)) c.args.xml (entries (map declaration v) (slice_range listed s.from s.until)))) c.as_slice.ensures.value c.in_ok-scope.ensures.value in
     let y : IsListed names listed o.scopes.items after rows i (mine ++ others mine c.args.xml above) =
     listed_is names listed after o.scopes.items rows i _ _ x (ap (λ ds. mine ++ others mine c.args.xml ds) (few_lists names listed o.scopes.items c.args.above s c.requires.scopes.rows c.requires.above c.requires.few)) in
-    let t : ElementTables = record { attributes = o.attributes; namespaces = o.namespaces; listed = c.listed_below_few.new.listed; scopes = c.listed_below_few.new.scopes; present = c.stand_in.new.self } in
-    let stood = stood_in o.namespaces.items.items c.as_slice-2.result.now after c.deref.result.now rows c.deref-2.result.now o.present c.stand_in.new.self i c.as_slice-2.ensures.value c.deref.ensures.value c.deref-2.ensures.value
-    c.in_ok-stand_in.ensures.value (kept_then names listed after o.scopes.items rows i _ o.present h y c.requires.kept) in
+    let t : ElementTables = record { attributes = o.attributes; namespaces = o.namespaces; listed = c.listed_below_few.new.listed; scopes = c.listed_below_few.new.scopes; present = c.make_innermost.new.self } in
+    let stood = stood_in o.namespaces.items.items c.as_slice-2.result.now after c.deref.result.now rows c.deref-2.result.now o.present c.make_innermost.new.self i c.as_slice-2.ensures.value c.deref.ensures.value c.deref-2.ensures.value
+    c.in_ok-make_innermost.ensures.value (kept_then names listed after o.scopes.items rows i _ o.present h y c.requires.kept) in
     record {
       names = refl;
       attributes = refl;

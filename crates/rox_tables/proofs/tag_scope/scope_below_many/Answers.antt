@@ -1,9 +1,9 @@
 use Rattle.std.proofs.Common.{◌≡◌, ◌≤◌, ◌++◌, length, map, drop, refl, sym, ap, subst, arith}
 use Rattle.rox_tables.specs.declared.tables.ElementTables.{ElementTables}
-use Rattle.rox_tables.specs.Lines.{declaration, scope_at, lists_of}
+use Rattle.rox_tables.specs.Rows.{declaration, scope_at, lists_of}
 use Rattle.rox_tables.specs.Scopes.{entries, places_in, others, Once}
 use Rattle.rox_tables.specs.Ropes.{IsListed}
-use Rattle.rox_tables.specs.Present.{IsBound, found}
+use Rattle.rox_tables.specs.Bindings.{IsBound, bound_place}
 use Rattle.rox_tables.specs.TagScopes.{lists_in}
 use Rattle.rox_tables.proofs.Finding.{present_by}
 use Rattle.rox_tables.proofs.Ropes.{scope_places, scopes_more}
@@ -15,9 +15,9 @@ returns-then-not-xml-clause-value c =
     let o = c.args.elements.now in
     let k = o.listed.ok.0 in
     let none : length o.listed.items ≤ c.args.own = omega arith in
-    let t : ElementTables = record { attributes = o.attributes; namespaces = o.namespaces; listed = o.listed; scopes = o.scopes; present = c.stand_in.new.self } in
-    let stood = stood_in o.namespaces.items.items c.as_slice.result.now o.listed.items c.deref.result.now o.scopes.items c.deref-2.result.now o.present c.stand_in.new.self c.args.above c.as_slice.ensures.value c.deref.ensures.value
-    c.deref-2.ensures.value c.in_ok-stand_in.ensures.value c.requires.kept in
+    let t : ElementTables = record { attributes = o.attributes; namespaces = o.namespaces; listed = o.listed; scopes = o.scopes; present = c.make_innermost.new.self } in
+    let stood = stood_in o.namespaces.items.items c.as_slice.result.now o.listed.items c.deref.result.now o.scopes.items c.deref-2.result.now o.present c.make_innermost.new.self c.args.above c.as_slice.ensures.value c.deref.ensures.value
+    c.deref-2.ensures.value c.in_ok-make_innermost.ensures.value c.requires.kept in
     has_scope o t c.args.above c.args.own c.args.above c.args.xml refl c.requires.places c.requires.scopes c.requires.own c.requires.once c.requires.own_once stood.0 (present_by t c.args.above stood.1)
     (nothing_listed (map declaration o.namespaces.items.items) o.listed.items o.scopes.items c.args.above c.args.own c.args.xml c.requires.scopes c.requires.own c.requires.above none c.if-not-xml.true)
 
@@ -35,11 +35,11 @@ pub listed_below_many-requires-clause-bound : goal.listed_below_many-requires-cl
 listed_below_many-requires-clause-bound c =
     let o = c.args.elements.now in
     let names = map declaration o.namespaces.items.items in
-    let x = c.stand_in.new.self in
+    let x = c.make_innermost.new.self in
     let stood = stood_in o.namespaces.items.items c.as_slice.result.now o.listed.items c.deref.result.now o.scopes.items c.deref-2.result.now o.present x c.args.above c.as_slice.ensures.value c.deref.ensures.value
-    c.deref-2.ensures.value c.in_ok-stand_in.ensures.value c.requires.kept in
-    subst (λ v. IsBound (map declaration v) (found x) (entries (map declaration v) (places_in o.listed.items o.scopes.items c.args.above))) (sym c.as_slice-2.ensures.value)
-    (subst (IsBound names (found x)) (scope_places names o.listed.items o.scopes.items c.args.above) stood.1)
+    c.deref-2.ensures.value c.in_ok-make_innermost.ensures.value c.requires.kept in
+    subst (λ v. IsBound (map declaration v) (bound_place x) (entries (map declaration v) (places_in o.listed.items o.scopes.items c.args.above))) (sym c.as_slice-2.ensures.value)
+    (subst (IsBound names (bound_place x)) (scope_places names o.listed.items o.scopes.items c.args.above) stood.1)
 
 pub returns-clause-value : goal.returns-clause-value
 returns-clause-value c =
@@ -52,8 +52,8 @@ returns-clause-value c =
     let mine = entries names (drop c.args.own listed) in
     let above = scope_at (lists_in o) c.args.above in
     let h = scopes_more c.args.own (length listed) o.scopes.items c.requires.own c.requires.scopes in
-    let stood = stood_in o.namespaces.items.items c.as_slice.result.now listed c.deref.result.now o.scopes.items c.deref-2.result.now o.present c.stand_in.new.self c.args.above c.as_slice.ensures.value c.deref.ensures.value
-    c.deref-2.ensures.value c.in_ok-stand_in.ensures.value c.requires.kept in
+    let stood = stood_in o.namespaces.items.items c.as_slice.result.now listed c.deref.result.now o.scopes.items c.deref-2.result.now o.present c.make_innermost.new.self c.args.above c.as_slice.ensures.value c.deref.ensures.value
+    c.deref-2.ensures.value c.in_ok-make_innermost.ensures.value c.requires.kept in
     let x : IsListed names listed o.scopes.items after rows i (mine ++ others mine c.args.xml (entries names (places_in listed o.scopes.items c.args.above))) =
     subst (λ v. IsListed (map declaration v) listed o.scopes.items after rows i (entries (map declaration v) (drop c.args.own listed)
     ++ others (entries (map declaration v) (drop c.args.own listed)) c.args.xml (entries (map declaration v) (places_in listed o.scopes.items c.args.above)))) c.as_slice-2.ensures.value c.in_ok-scope.ensures.value in
@@ -64,7 +64,7 @@ returns-clause-value c =
     let m = c.listed_below_many.new.listed.ok.0 in
     let begins : c.len-from.result ≡ length listed = omega arith in
     let ends : c.len-2.result ≡ length after = omega arith in
-    let inside = entered_in o.namespaces.items.items c.as_slice-3.result.now after c.deref-3.result.now c.stand_in.new.self c.enter.new.self c.len-from.result c.len-2.result i c.args.xml c.as_slice-3.ensures.value
-    c.deref-3.ensures.value c.in_ok-enter.ensures.value (lists_of names after rows) above (kept_then names listed after o.scopes.items rows i _ c.stand_in.new.self h y stood.0) stood.1
+    let inside = entered_in o.namespaces.items.items c.as_slice-3.result.now after c.deref-3.result.now c.make_innermost.new.self c.enter.new.self c.len-from.result c.len-2.result i c.args.xml c.as_slice-3.ensures.value
+    c.deref-3.ensures.value c.in_ok-enter.ensures.value (lists_of names after rows) above (kept_then names listed after o.scopes.items rows i _ c.make_innermost.new.self h y stood.0) stood.1
     (entered names listed after o.scopes.items rows i c.args.own c.len-from.result c.len-2.result c.args.xml above c.in_ok-scope.ensures.own begins ends y) in
     has_scope o t c.args.above c.args.own i c.args.xml refl c.requires.places c.requires.scopes c.requires.own c.requires.once c.requires.own_once inside.0 (present_by t i inside.1) y

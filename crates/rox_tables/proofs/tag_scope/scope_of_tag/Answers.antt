@@ -1,5 +1,5 @@
 use Rattle.std.proofs.Common.{◌≤◌, length, map, refl, sym, ◌∙◌, arith}
-use Rattle.rox_tables.specs.Lines.{declaration}
+use Rattle.rox_tables.specs.Rows.{declaration}
 use Rattle.rox_tables.proofs.Finding.{present_few}
 use Rattle.rox_tables.proofs.Below.{few_here, has_scope, nothing_listed}
 use Rattle.rox_tables.proofs.tag_scope.scope_of_tag.Goals as goal

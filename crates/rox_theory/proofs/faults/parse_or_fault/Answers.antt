@@ -7,7 +7,7 @@ use Rattle.rox_grammar.specs.Written.{Item}
 use Rattle.rox_grammar.specs.Document.{ParseOf, IsWithinLimits}
 use Rattle.rox_grammar.specs.Faults.{FaultOf}
 use Rattle.rox_reading.specs.Doctype.{Asks}
-use Rattle.rox_reading.specs.Whole.{reading}
+use Rattle.rox_reading.specs.WholeText.{reading}
 use Rattle.rox_theory.proofs.Whole.{plain_parse}
 use Rattle.rox_theory.proofs.FaultWhole.{reading_faults}
 use Rattle.rox_theory.proofs.faults.parse_or_fault.Goals as goal

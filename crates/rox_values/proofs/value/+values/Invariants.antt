@@ -3,7 +3,7 @@ use Rattle.std.specs.String.{string_bytes}
 use Rattle.rox_grammar.specs.Entities.{Entity}
 use Rattle.rox_reading.specs.Machine.{value_opener}
 use Rattle.rox_reading.specs.Values.{value_text}
-use Rattle.rox_values.specs.Named.{AreDeclared}
+use Rattle.rox_values.specs.DeclaredEntities.{AreDeclared}
 use Rattle.rox_values.specs.Values.{text_behind}
 use Rattle.rox_values.proofs.value.+values.Given as goal
 

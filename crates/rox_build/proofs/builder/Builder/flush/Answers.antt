@@ -2,8 +2,8 @@ use Rattle.std.proofs.Common.{◌≡◌, ◌++◌, ◌∷◌, [], true, false, r
 use Rattle.rox_grammar.specs.Tree.{node_in}
 use Rattle.rox_grammar.specs.Written.{Text}
 use Rattle.rox_grammar.specs.State.{scope_of}
-use Rattle.rox_tables.specs.Lines.{node, rows_of}
-use Rattle.rox_build.specs.Shown.{pending_text, names_in}
+use Rattle.rox_tables.specs.Rows.{node, attribute_rows}
+use Rattle.rox_build.specs.BuilderState.{pending_text, names_in}
 use Rattle.rox_tables.specs.TagScopes.{lists_in}
 use Rattle.rox_build.specs.declared.pending.Pending.{Pending}
 use Rattle.rox_tables.specs.declared.tables.NodeKind.{NodeKind}
@@ -33,6 +33,6 @@ returns-in_ok-push-in-Joined-clause-ok c = λ end stack done sh.
     let v = c.in_ok-text-in-Joined.ensures.bytes ∙ c.as_str.ensures.value in
     let o = c.in_ok-text-in-Joined.ensures.owned in
     let k : NodeKind = kind.Text c.in_ok-text-in-Joined.text in
-    let is : node (rows_of b.tables.attributes) (names_in b.tables) (lists_in b.tables) c.in-Joined.start c.in-Joined.end k ≡ node_in (scope_of stack) (Text c.in-Joined.start c.in-Joined.end (string_bytes b.joined) false) = rw (v, o) refl in
+    let is : node (attribute_rows b.tables.attributes) (names_in b.tables) (lists_in b.tables) c.in-Joined.start c.in-Joined.end k ≡ node_in (scope_of stack) (Text c.in-Joined.start c.in-Joined.end (string_bytes b.joined) false) = rw (v, o) refl in
     settled_some end stack done b _ c.in-Joined.start c.in-Joined.end (string_bytes b.joined) false k sh p is tt
     (c.in_ok-push-in-Joined.ensures.items ∙ ap (λ (r : NodeData). b.nodes.items ++ r ∷ []) c.row-row-in-Joined.ensures) refl refl c.in-Joined.ensures.after

@@ -2,7 +2,7 @@ use Rattle.std.proofs.Common.{◌++◌, ◌∷◌, [], refl, ap, ◌∙◌, arit
 use Rattle.std.proofs.lemmas.Result.{err_from_is_err_and}
 use Rattle.rox_grammar.specs.Forest.{join}
 use Rattle.rox_grammar.specs.Written.{leaf}
-use Rattle.rox_build.specs.Shown.{IsNode}
+use Rattle.rox_build.specs.BuilderState.{IsNode}
 use Rattle.rox_grammar.specs.State.{scope_of}
 use Rattle.rox_reading.specs.State.{State}
 use Rattle.rox_tables.specs.declared.tables.NodeData.{NodeData}

@@ -4,7 +4,7 @@ use Rattle.rox_grammar.specs.Forest.{Nil}
 use Rattle.rox_grammar.specs.Tree.{listed}
 use Rattle.rox_grammar.specs.State.{inside, scope_of}
 use Rattle.rox_reading.specs.State.{State}
-use Rattle.rox_build.specs.Shown.{IsOpening, opened}
+use Rattle.rox_build.specs.BuilderState.{IsOpening, opened}
 use Rattle.rox_tables.specs.TagScopes.{lists_in}
 use Rattle.rox_build.specs.declared.builder.OpenElement.{OpenElement}
 use Rattle.rox_tables.specs.declared.tables.NodeKind.{NodeKind}

@@ -1,7 +1,7 @@
 use Rattle.std.proofs.Common.{◌≡◌, ◌-◌, ◌<◌, ℕ, suc, List, [], ◌∷◌, length, get_or, ap, sym, subst, arith}
 use Rattle.rox_build.specs.declared.builder.OpenElement.{OpenElement}
 use Rattle.rox_tables.specs.declared.tables.ElementTables.{ElementTables}
-use Rattle.rox_build.specs.Shown.{opened_in, last_row}
+use Rattle.rox_build.specs.BuilderState.{opened_in, last_row}
 use Rattle.rox_build.proofs.builder.Builder.parent.Goals as goal
 
 last_row_is : (t : ElementTables) (xs : List OpenElement) (o : OpenElement) → 0 < length xs → o ≡ get_or xs (length xs - 1) o → o.row ≡ last_row (opened_in t xs)

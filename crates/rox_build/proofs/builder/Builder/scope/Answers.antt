@@ -2,7 +2,7 @@ use Rattle.std.proofs.Common.{◌≡◌, ◌-◌, ◌++◌, ◌∷◌, [], List,
 use Rattle.std.proofs.lemmas.Option.{slice_get_cases}
 use Rattle.std.specs.List.{AllByRecursion}
 use Rattle.rox_tables.specs.Scopes.{Once}
-use Rattle.rox_build.specs.Shown.{IsOpenWithin, opened_in}
+use Rattle.rox_build.specs.BuilderState.{IsOpenWithin, opened_in}
 use Rattle.rox_build.specs.declared.builder.OpenElement.{OpenElement}
 use Rattle.rox_build.proofs.Showing.{last_split}
 use Rattle.rox_build.proofs.Stepping.{top_scope, no_scope}

@@ -4,8 +4,8 @@ use Rattle.std.specs.String.{string_bytes}
 use Rattle.rox_grammar.specs.Forest.{join}
 use Rattle.rox_grammar.specs.Written.{Text, leaf}
 use Rattle.rox_reading.specs.State.{State}
-use Rattle.rox_build.specs.Waiting.{waiting}
-use Rattle.rox_build.specs.Shown.{pending_text}
+use Rattle.rox_build.specs.PendingText.{waiting}
+use Rattle.rox_build.specs.BuilderState.{pending_text}
 use Rattle.rox_build.specs.declared.pending.Pending.{Pending}
 use Rattle.rox_build.proofs.Showing.{piece_first, piece_more, first_count, more_count, counted_ok, counted_err}
 use Rattle.rox_build.proofs.builder.Builder.slice_piece.Goals as goal

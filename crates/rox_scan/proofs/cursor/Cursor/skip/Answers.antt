@@ -2,8 +2,8 @@ use Rattle.std.proofs.Common.{◌≡◌, ◌+◌, ℕ, List, length, true, lit<,
 use Rattle.std.specs.Str.{IsUtf8, IsCharBoundary}
 use Rattle.rox_grammar.specs.declared.fault.Word.{Word}
 use Rattle.rox_grammar.specs.declared.fault.Word.TheVariants as word
-use Rattle.rox_grammar.specs.Marks.{stands}
-use Rattle.rox_grammar.specs.Words.{word_text}
+use Rattle.rox_grammar.specs.Search.{stands}
+use Rattle.rox_grammar.specs.FixedTexts.{word_text}
 use Rattle.rox_scan.proofs.MarkLemmas.{stands_cut}
 use Rattle.rox_scan.proofs.cursor.Cursor.skip.Goals as goal
 
@@ -13,7 +13,7 @@ word_cut word.CommentStart src i utf8 h = stands_cut _ src i 3 refl utf8 (lit< t
 word_cut word.CommentEnd src i utf8 h = stands_cut _ src i 2 refl utf8 (lit< tt) h
 word_cut word.PIStart src i utf8 h = stands_cut _ src i 1 refl utf8 (lit< tt) h
 word_cut word.PIEnd src i utf8 h = stands_cut _ src i 1 refl utf8 (lit< tt) h
-word_cut word.DeclarationStart src i utf8 h = stands_cut _ src i 5 refl utf8 (lit< tt) h
+word_cut word.XmlDeclStart src i utf8 h = stands_cut _ src i 5 refl utf8 (lit< tt) h
 word_cut word.CDataStart src i utf8 h = stands_cut _ src i 8 refl utf8 (lit< tt) h
 word_cut word.CDataEnd src i utf8 h = stands_cut _ src i 2 refl utf8 (lit< tt) h
 word_cut word.EndTagStart src i utf8 h = stands_cut _ src i 1 refl utf8 (lit< tt) h

@@ -5,7 +5,7 @@ use Rattle.std.specs.Cmp.Lexicographic.{slice_cmp}
 use Rattle.std.specs.Ordering.{nat_cmp}
 use Rattle.std.proofs.lemmas.Map.Text.{btree_map_updates_str}
 use Rattle.rox_grammar.specs.Entities.{Replacement, Entity}
-use Rattle.rox_scan.specs.Doctypes.{replacement_view}
+use Rattle.rox_scan.specs.DoctypeViews.{replacement_view}
 use Rattle.rox_scan.specs.declared.cursor.Cursor.{Cursor}
 use Rattle.rox_values.proofs.Binding.{declared_again, declared_first}
 use Rattle.rox_values.proofs.entities.Entities.declare.Goals as goal

@@ -1,7 +1,7 @@
 use Rattle.std.proofs.Common.{◌-◌, ◌∷◌, [], length, map, sym, ap, ◌∙◌, arith}
 use Rattle.std.specs.List.{slice_range, zip}
 use Rattle.std.proofs.lemmas.List.{map-append}
-use Rattle.rox_tables.specs.Lines.{attribute, declaration}
+use Rattle.rox_tables.specs.Rows.{attribute, declaration}
 use Rattle.roxmltree.proofs.Columns.{last_row, length_left}
 use Rattle.roxmltree.proofs.elements.AttributesDoubleEndedIterator.next_back.Goals as goal
 

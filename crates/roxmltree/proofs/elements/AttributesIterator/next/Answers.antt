@@ -1,5 +1,5 @@
 use Rattle.std.proofs.Common.{◌+◌, length, map, ap, arith}
-use Rattle.rox_tables.specs.Lines.{declaration}
+use Rattle.rox_tables.specs.Rows.{declaration}
 use Rattle.roxmltree.proofs.Columns.{length_left}
 use Rattle.roxmltree.proofs.elements.AttributesIterator.next.Goals as goal
 

@@ -1,7 +1,7 @@
 use Rattle.std.proofs.Common.{◌<◌, ◌-◌, [], ◌∷◌, ◌++◌, length, map, ap, sym, ◌∙◌, arith}
 use Rattle.std.specs.List.{slice_range}
 use Rattle.std.proofs.lemmas.List.{map-append}
-use Rattle.rox_tables.specs.Lines.{declaration, entry}
+use Rattle.rox_tables.specs.Rows.{declaration, entry}
 use Rattle.rox_tables.specs.Scopes.{places_in}
 use Rattle.roxmltree.proofs.Entries.{entry_is}
 use Rattle.roxmltree.proofs.Ends.{last_of}

@@ -3,8 +3,8 @@ use Rattle.std.specs.Str.{IsCharBoundary}
 use Rattle.std.proofs.lemmas.List.{append_assoc}
 use Rattle.rox_grammar.specs.Names.{slice}
 use Rattle.rox_grammar.specs.Exchange.{start_at, end_at, text_with, IsExchange}
-use Rattle.roxmltree.specs.Doc.{Doc}
-use Rattle.roxmltree.specs.Spot.{id_of, document_of, tree_of}
+use Rattle.roxmltree.specs.DocumentView.{DocumentView}
+use Rattle.roxmltree.specs.NodeRef.{id_of, document_of, tree_of}
 use Rattle.roxmltree.specs.Elements.{root_id}
 use Rattle.roxmltree.proofs.Sliced.{starts, stops, cut, is_exchange}
 use Rattle.roxmltree.proofs.Plain.{alone_tree, alone_contained}
@@ -37,7 +37,7 @@ returns c =
     let after : c.range_from.result.now ≡ drop (end_at (tree_of n) (id_of n)) text =
     c.range_from.ensures.value ∙ ap (drop c.range-range.result.end) c.input_text-text.ensures ∙ ap (λ (k : ℕ). drop k text) stop in
     let middle : c.own_text.result.now ≡ new =
-    c.own_text.ensures ∙ ap (λ (d : Doc). slice d.text (start_at d.tree (id_of c.root_element.result)) (end_at d.tree (id_of c.root_element.result))) c.root_element.ensures.document
+    c.own_text.ensures ∙ ap (λ (d : DocumentView). slice d.text (start_at d.tree (id_of c.root_element.result)) (end_at d.tree (id_of c.root_element.result))) c.root_element.ensures.document
     ∙ ap (λ (k : ℕ). slice other.text (start_at other.tree k) (end_at other.tree k)) c.root_element.ensures.id in
     let first : string_bytes c.push_str.new.self ≡ take (start_at (tree_of n) (id_of n)) text ++ new =
     c.in_ok-push_str.ensures.bytes ∙ ap (λ (l : List ℕ). l ++ c.own_text.result.now) (c.in_ok-answer.ensures.ok ∙ before) ∙ ap (λ (l : List ℕ). take (start_at (tree_of n) (id_of n)) text ++ l) middle in

@@ -1,5 +1,5 @@
 use Rattle.std.proofs.Common.{◌≡◌}
-use Rattle.roxmltree.specs.Names.{first_prefix}
+use Rattle.roxmltree.specs.ExpandedNames.{first_prefix}
 use Rattle.roxmltree.proofs.nodes.Node.first_prefix.Given as goal
 
 abbrev pub invariant-loop-namespace : goal.invariant-loop-namespace

@@ -1,8 +1,8 @@
 use Rattle.std.proofs.Common.{◌≡◌}
 use Rattle.std.specs.Option.{option_map}
 use Rattle.rox_grammar.specs.Tree.{uri_of}
-use Rattle.roxmltree.specs.Says.{node_at, listed_of}
-use Rattle.roxmltree.specs.Spot.{id_of, tree_of}
+use Rattle.roxmltree.specs.NodeParts.{node_at, listed_of}
+use Rattle.roxmltree.specs.NodeRef.{id_of, tree_of}
 use Rattle.roxmltree.proofs.nodes.Node.lookup_namespace_uri.Given as goal
 
 abbrev pub invariant-loop-namespace : goal.invariant-loop-namespace

@@ -2,7 +2,7 @@ use Rattle.std.proofs.Common.{ℕ, List, sym, ap, ◌∙◌, subst, arith}
 use Rattle.std.specs.Str.{IsCharBoundary}
 use Rattle.rox_grammar.specs.Names.{slice}
 use Rattle.rox_grammar.specs.Exchange.{start_at}
-use Rattle.roxmltree.specs.Spot.{id_of, document_of, tree_of}
+use Rattle.roxmltree.specs.NodeRef.{id_of, document_of, tree_of}
 use Rattle.roxmltree.proofs.Sliced.{starts, stops, cut}
 use Rattle.roxmltree.proofs.Plain.{alone_tree, alone_contained}
 use Rattle.roxmltree.proofs.nodes.Node.own_text.Goals as goal

@@ -1,7 +1,7 @@
 use Rattle.std.proofs.Common.{false, [], ℕ, List, sym, ◌∙◌, subst}
 use Rattle.std.specs.Str.{IsUtf8}
 use Rattle.rox_grammar.specs.Document.{IsTreeOf}
-use Rattle.roxmltree.specs.Spot.{id_of, document_of, tree_of}
+use Rattle.roxmltree.specs.NodeRef.{id_of, document_of, tree_of}
 use Rattle.roxmltree.proofs.Sliced.{is_reparse, only_memory, no_other, if_ok, if_err}
 use Rattle.roxmltree.proofs.Plain.{alone_tree, alone_contained}
 use Rattle.roxmltree.proofs.nodes.Node.reparse.Goals as goal

@@ -1,6 +1,6 @@
 use Rattle.std.proofs.Common.{◌≡◌, ◌<◌, length, ap, arith}
 use Rattle.rox_grammar.specs.Forest.{size}
-use Rattle.roxmltree.specs.Whole.{tree_in}
+use Rattle.roxmltree.specs.DocumentTables.{tree_in}
 use Rattle.roxmltree.proofs.Rows.{in_rows}
 use Rattle.roxmltree.proofs.Columns.{length_rows, all_column}
 use Rattle.roxmltree.proofs.Parts.{row_attributes, row_no_attributes, element_within}

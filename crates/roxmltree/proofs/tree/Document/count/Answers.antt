@@ -1,5 +1,5 @@
 use Rattle.std.proofs.Common.{◌≡◌, ap, arith}
-use Rattle.roxmltree.specs.Whole.{tree_in}
+use Rattle.roxmltree.specs.DocumentTables.{tree_in}
 use Rattle.roxmltree.proofs.Rows.{row_count}
 use Rattle.roxmltree.proofs.tree.Document.count.Goals as goal
 

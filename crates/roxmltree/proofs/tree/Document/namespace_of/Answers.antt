@@ -1,7 +1,7 @@
 use Rattle.std.proofs.Common.{◌≡◌, ◌<◌, ℕ, Option, Some, ap, arith, subst, ◌∙◌}
-use Rattle.rox_tables.specs.Lines.{OptionWithin}
+use Rattle.rox_tables.specs.Rows.{OptionWithin}
 use Rattle.rox_grammar.specs.Forest.{size}
-use Rattle.roxmltree.specs.Whole.{tree_in}
+use Rattle.roxmltree.specs.DocumentTables.{tree_in}
 use Rattle.roxmltree.proofs.Rows.{in_rows}
 use Rattle.roxmltree.proofs.Parts.{row_namespace, row_no_namespace, element_within}
 use Rattle.roxmltree.proofs.Entries.{entry_uri}

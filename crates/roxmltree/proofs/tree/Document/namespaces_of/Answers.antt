@@ -1,6 +1,6 @@
 use Rattle.std.proofs.Common.{◌≡◌, ◌<◌, ap, arith}
 use Rattle.rox_grammar.specs.Forest.{size}
-use Rattle.roxmltree.specs.Whole.{tree_in}
+use Rattle.roxmltree.specs.DocumentTables.{tree_in}
 use Rattle.roxmltree.proofs.Rows.{in_rows}
 use Rattle.roxmltree.proofs.Parts.{row_listed, row_no_listed, element_within}
 use Rattle.roxmltree.proofs.tree.Document.namespaces_of.Goals as goal

@@ -8,11 +8,11 @@ use Rattle.rox_grammar.specs.Spans.{NamesText}
 use Rattle.rox_grammar.specs.Faults.{FaultOf}
 use Rattle.rox_grammar.specs.Document.{IsTreeOf}
 use Rattle.rox_reading.specs.Refusals.{here}
-use Rattle.rox_reading.specs.Whole.{reading}
-use Rattle.rox_error.specs.Telling.{IsErrorOf}
+use Rattle.rox_reading.specs.WholeText.{reading}
+use Rattle.rox_error.specs.FaultErrors.{IsErrorOf}
 use Rattle.rox_error.specs.declared.error.Error.{Error}
 use Rattle.rox_error.specs.declared.error.Error.TheVariants as error
-use Rattle.roxmltree.specs.Doc.{Doc}
+use Rattle.roxmltree.specs.DocumentView.{DocumentView}
 use Rattle.roxmltree.proofs.Parsed.{permitted_tree, refused_tree}
 use Rattle.roxmltree.proofs.Telling.{first_plain}
 use Rattle.roxmltree.proofs.tree.Document.parse.Goals as goal
@@ -20,14 +20,14 @@ use Rattle.roxmltree.proofs.tree.Document.parse.Goals as goal
 pub returns-clause-is_parse : goal.returns-clause-is_parse
 returns-clause-is_parse c =
     let src = c.args.text.now in
-    IfOk-weaker c.parse_with_options.result _ (λ (d : Doc). IsTreeOf src false [] 4294967295 d.tree)
-    (λ (d : Doc) h. (permitted_tree src d.dtd h.0 4294967295 d.tree c.utf8.text h.2 h.3).1) (rw (c.default.ensures.0, c.default.ensures.1) at c.parse_with_options.ensures.is_parse)
+    IfOk-weaker c.parse_with_options.result _ (λ (d : DocumentView). IsTreeOf src false [] 4294967295 d.tree)
+    (λ (d : DocumentView) h. (permitted_tree src d.dtd h.0 4294967295 d.tree c.utf8.text h.2 h.3).1) (rw (c.default.ensures.0, c.default.ensures.1) at c.parse_with_options.ensures.is_parse)
 
 pub returns-clause-dtd : goal.returns-clause-dtd
 returns-clause-dtd c =
     let src = c.args.text.now in
-    IfOk-weaker c.parse_with_options.result _ (λ (d : Doc). d.dtd ≡ false)
-    (λ (d : Doc) h. (permitted_tree src d.dtd h.0 4294967295 d.tree c.utf8.text h.2 h.3).0) (rw (c.default.ensures.0, c.default.ensures.1) at c.parse_with_options.ensures.is_parse)
+    IfOk-weaker c.parse_with_options.result _ (λ (d : DocumentView). d.dtd ≡ false)
+    (λ (d : DocumentView) h. (permitted_tree src d.dtd h.0 4294967295 d.tree c.utf8.text h.2 h.3).0) (rw (c.default.ensures.0, c.default.ensures.1) at c.parse_with_options.ensures.is_parse)
 
 pub returns-clause-first : goal.returns-clause-first
 returns-clause-first c =

@@ -6,16 +6,16 @@ use Rattle.rox_grammar.specs.declared.fault.Fault.{Fault}
 use Rattle.rox_grammar.specs.Forest.{Forest}
 use Rattle.rox_grammar.specs.Tree as grammar
 use Rattle.rox_grammar.specs.Spans.{NamesText}
-use Rattle.rox_grammar.specs.Refused.{RefusalOf}
+use Rattle.rox_grammar.specs.FaultsWithDoctype.{RefusalOf}
 use Rattle.rox_grammar.specs.Doctype.{Request, Asked}
 use Rattle.rox_grammar.specs.Document.{IsTreeOf, Permits, HasAsked, AsksNext}
 use Rattle.rox_resolver.specs.Requests.{Allows, AreAllowed}
-use Rattle.rox_error.specs.Telling.{position_at, IsErrorOf}
+use Rattle.rox_error.specs.FaultErrors.{position_at, IsErrorOf}
 use Rattle.rox_error.specs.declared.position.TextPos.{TextPos}
 use Rattle.rox_error.specs.declared.error.Error.{Error}
 use Rattle.rox_error.specs.declared.error.Error.TheVariants as error
-use Rattle.roxmltree.specs.Doc.{Doc}
-use Rattle.roxmltree.specs.Speaks.{SpeaksOfText}
+use Rattle.roxmltree.specs.DocumentView.{DocumentView}
+use Rattle.roxmltree.specs.TextErrors.{IsTextError}
 use Rattle.roxmltree.proofs.Parsed.{read_tree}
 use Rattle.roxmltree.proofs.Telling.{first_asked, first_none, first_resolver, first_refusal}
 use Rattle.roxmltree.proofs.tree.Document.parse_with_options.Goals as goal
@@ -26,8 +26,8 @@ returns-clause-is_parse g c =
     let limit = c.args.opt.nodes_limit in
     let allow = c.args.opt.allow_dtd in
     let allows = Allows g.R.EntityResolver.allows c.args.opt.entity_resolver in
-    IfOk-weaker c.read.result _ (λ (d : Doc). (asked : List Asked) × AreAllowed allows asked × Permits allow d.dtd × IsTreeOf src d.dtd asked limit d.tree)
-    (λ (d : Doc) r. read_tree limit allow allows src c.utf8.text d r) c.read.ensures.tree
+    IfOk-weaker c.read.result _ (λ (d : DocumentView). (asked : List Asked) × AreAllowed allows asked × Permits allow d.dtd × IsTreeOf src d.dtd asked limit d.tree)
+    (λ (d : DocumentView) r. read_tree limit allow allows src c.utf8.text d r) c.read.ensures.tree
 
 pub returns-clause-no_parse : goal.returns-clause-no_parse
 returns-clause-no_parse g c =
@@ -36,7 +36,7 @@ returns-clause-no_parse g c =
     let allow = c.args.opt.allow_dtd in
     let allows = Allows g.R.EntityResolver.allows c.args.opt.entity_resolver in
     IfErr-weaker c.read.result _
-    (λ (e : Error). SpeaksOfText e → (asked : List Asked) × HasAsked src allow asked × AreAllowed allows asked
+    (λ (e : Error). IsTextError e → (asked : List Asked) × HasAsked src allow asked × AreAllowed allows asked
     × ((dtd : Bool) (later : List Asked) (tree : Forest grammar.Node) → Permits allow dtd → IsTreeOf src dtd (asked ++ later) limit tree → ⊥))
     (λ (e : Error) h speaks. let first = h speaks.0 in
     (first.asked, first_asked limit allow allows src c.utf8.text e first, first.allowed, first_none limit allow allows src c.utf8.text e first speaks)) c.read.ensures.told
@@ -59,5 +59,5 @@ returns-clause-fault g c =
     let allow = c.args.opt.allow_dtd in
     let allows = Allows g.R.EntityResolver.allows c.args.opt.entity_resolver in
     IfErr-weaker c.read.result _
-    (λ (e : Error). SpeaksOfText e → (asked : List Asked) × (source : List ℕ) × (f : Fault) × AreAllowed allows asked × RefusalOf limit allow src asked source f × NamesText source f × IsErrorOf source f e)
+    (λ (e : Error). IsTextError e → (asked : List Asked) × (source : List ℕ) × (f : Fault) × AreAllowed allows asked × RefusalOf limit allow src asked source f × NamesText source f × IsErrorOf source f e)
     (λ (e : Error) h speaks. first_refusal limit allow allows src c.utf8.text e (h speaks.0) speaks) c.read.ensures.told

@@ -1,5 +1,5 @@
 use Rattle.std.proofs.Common.{◌≡◌, ap, sym, arith}
-use Rattle.roxmltree.specs.Whole.{tree_in}
+use Rattle.roxmltree.specs.DocumentTables.{tree_in}
 use Rattle.roxmltree.proofs.tree.Document.root.Goals as goal
 
 pub invariant_of-result : goal.invariant_of-result

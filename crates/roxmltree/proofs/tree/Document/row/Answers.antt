@@ -1,6 +1,6 @@
 use Rattle.std.proofs.Common.{◌≡◌, ◌<◌, ap, arith}
 use Rattle.rox_grammar.specs.Forest.{size}
-use Rattle.roxmltree.specs.Whole.{tree_in}
+use Rattle.roxmltree.specs.DocumentTables.{tree_in}
 use Rattle.roxmltree.proofs.Rows.{row_count, row_next, row_depth, row_parent, row_no_parent}
 use Rattle.roxmltree.proofs.Bare.{row_item, row_content}
 use Rattle.roxmltree.proofs.tree.Document.row.Goals as goal

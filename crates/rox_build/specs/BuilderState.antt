@@ -1,0 +1,188 @@
+-- What the builder holds, against where reading stands.
+use Rattle.std.specs.Prelude.{◌≡◌, ℕ, ◌+◌, ◌<◌, ◌≤◌, Bool, true, false, List, [], ◌∷◌, ◌++◌, Option, Result, Ok, Err, length, map}
+use Rattle.std.specs.String.{string_bytes}
+use Rattle.std.specs.List.{AllByRecursion}
+use Rattle.rox_grammar.specs.declared.fault.Fault.{Fault}
+use Rattle.rox_grammar.specs.Forest.{Forest, Nil, join, size}
+use Rattle.rox_grammar.specs.Written.{Name, NamespaceDecl, Tag, Item, Element, Text, merge, leaf}
+use Rattle.rox_grammar.specs.Tree.{listed, scope_in, node_in}
+use Rattle.rox_grammar.specs.Document.{distinct_pairs, most_pairs, most_attributes}
+use Rattle.rox_reading.specs.Refusals.{Refusal}
+use Rattle.rox_reading.specs.State.{State}
+use Rattle.rox_grammar.specs.State.{Open, root, inside, scope_of, pairs_so_far, attributes_so_far}
+use Rattle.rox_reading.proofs.Forests.{Clean, is_text}
+use Rattle.rox_grammar.specs.Failures.{Fails, name_view}
+use Rattle.rox_scan.specs.declared.cursor.Cursor.{Cursor}
+use Rattle.rox_grammar.specs.declared.failure.Failure.{Failure}
+use Rattle.rox_tables.specs.Rows.{RowView, row_view, node, declaration, scope_at, NamespaceWithin, KindWithin, AreScopes, AttributeRow, attribute_rows}
+use Rattle.rox_reading.specs.Values.{Next, part_text}
+use Rattle.rox_values.specs.Refusals.{IsFailure, IsRefusal}
+use Rattle.rox_values.specs.Values.{next_view}
+use Rattle.rox_values.specs.declared.parse_error.ParseError.{ParseError}
+use Rattle.rox_build.specs.OpenRows.{top, so_far}
+use Rattle.rox_tables.specs.Scopes.{Once}
+use Rattle.rox_tables.specs.TagScopes.{HasBindings, lists_in}
+use Rattle.rox_tables.specs.declared.tables.NodeKind.{NodeKind}
+use Rattle.rox_tables.specs.declared.tables.NodeData.{NodeData}
+use Rattle.rox_tables.specs.declared.tables.ElementTables.{ElementTables}
+use Rattle.rox_tables.specs.declared.tables.NodeKind.TheVariants as kind
+use Rattle.rox_build.specs.declared.tag.StartTag.{StartTag}
+use Rattle.rox_build.specs.declared.pending.Pending.{Pending}
+use Rattle.rox_build.specs.declared.pending.Pending.TheVariants as pending
+use Rattle.rox_build.specs.declared.builder.OpenElement.{OpenElement}
+use Rattle.rox_build.specs.declared.builder.Builder.{Builder}
+
+-- what is kept of an open element
+pub record OpenRow : Type 0 where
+  pub row : ℕ
+  pub name : Name
+  pub name_start : ℕ
+  pub name_end : ℕ
+  pub scope : List NamespaceDecl
+
+abbrev pub opened : List (List NamespaceDecl) → OpenElement → OpenRow
+opened lists o = record { row = o.row; name = name_view o.name; name_start = o.name_start; name_end = o.name_end; scope = scope_at lists o.scope }
+
+-- the open elements, outermost first
+abbrev pub open_lines : Open → List OpenRow
+open_lines root = []
+open_lines (inside start tag before up) =
+    open_lines up
+    ++ record { row = top up + 1 + size (merge before); name = tag.name; name_start = start + 1; name_end = tag.name_end; scope = listed (scope_of up) tag.declarations }
+    ∷ []
+
+-- the row of the last, or that of the root node
+abbrev pub last_row : List OpenRow → ℕ
+last_row [] = 0
+last_row (o ∷ []) = o.row
+last_row (o ∷ p ∷ ps) = last_row (p ∷ ps)
+
+-- the text that may go on, where the buffer holds this
+abbrev pub pending_text : Pending → List ℕ → Forest Item
+pending_text pending.None joined = Nil
+pending_text (pending.Slice start end text) joined = leaf (Text start end text.now true)
+pending_text (pending.Joined start end) joined = leaf (Text start end joined false)
+
+abbrev pub names_in : ElementTables → List NamespaceDecl
+names_in t = map declaration t.namespaces.items.items
+
+abbrev pub line_in : ElementTables → NodeData → RowView
+line_in t row = row_view (attribute_rows t.attributes) (names_in t) (lists_in t) row
+
+abbrev pub opened_in : ElementTables → List OpenElement → List OpenRow
+opened_in t os = map (opened (lists_in t)) os
+
+-- what a row names is in the tables
+abbrev pub IsRowWithin : ElementTables → NodeKind → Type 0
+IsRowWithin t k = KindWithin (length (attribute_rows t.attributes)) (length t.namespaces.items.items) (length t.scopes.items) k
+
+-- The builder holds these open elements, with these items in the innermost, of a text of this length.
+pub record Represents (end : ℕ) (stack : Open) (done : Forest Item) (b : Builder) : Type 0 where
+  -- the rows of the innermost
+  pub front : Forest Item
+  pub merged : merge done ≡ join front (pending_text b.pending (string_bytes b.joined))
+  pub clean : Clean front
+  pub rows : map (line_in b.tables) b.nodes.items ≡ so_far end stack front
+  pub open_rows : opened_in b.tables b.opened.items ≡ open_lines stack
+  pub within : AllByRecursion (λ r. IsRowWithin b.tables r.kind) b.nodes.items
+
+-- the same with no text that may go on
+pub record RepresentsFlushed (end : ℕ) (stack : Open) (done : Forest Item) (b : Builder) : Type 0 where
+  pub rows : map (line_in b.tables) b.nodes.items ≡ so_far end stack (merge done)
+  pub open_rows : opened_in b.tables b.opened.items ≡ open_lines stack
+  pub within : AllByRecursion (λ r. IsRowWithin b.tables r.kind) b.nodes.items
+  pub empty : b.pending ≡ pending.None
+
+-- a row shows an item with nothing below it, below an element that lists these
+pub record IsNode (t : ElementTables) (above : List NamespaceDecl) (start end : ℕ) (k : NodeKind) (item : Item) : Type 0 where
+  pub is : node (attribute_rows t.attributes) (names_in t) (lists_in t) start end k ≡ node_in (scope_in above item) item
+  pub within : IsRowWithin t k
+  pub no_text : is_text item ≡ false
+
+-- what the tag holds is this, below an element that lists these
+pub record IsOpening (tables : ElementTables) (above : List NamespaceDecl) (start : ℕ) (tag : StartTag) (t : Tag) : Type 0 where
+  pub node : IsNode tables above start 0 (kind.Element tag.element) (Element start 0 t)
+  pub name : name_view tag.name ≡ t.name
+  pub name_start : tag.name_start ≡ start + 1
+  pub name_end : tag.name_end ≡ t.name_end
+  pub scope : scope_at (lists_in tables) tag.element.scope ≡ listed above t.declarations
+
+-- attributes and listed places name only what the table of namespaces has, and scopes only places that are listed
+pub record AreSound (t : ElementTables) : Type 0 where
+  pub attributes : AllByRecursion (λ a. NamespaceWithin (length t.namespaces.items.items) a.0.namespace) (attribute_rows t.attributes)
+  pub listed : AllByRecursion (λ i. i < length t.namespaces.items.items) t.listed.items
+  pub scopes : AreScopes (length t.listed.items) t.scopes.items
+
+-- the builder holds what is read, unless memory ran out
+abbrev pub Adds : ℕ → Result (Unit {0}) Failure → Builder → Result State Fault → Type 0
+Adds end (Ok x) b read = (s : State) × (read ≡ Ok s) × Represents end s.stack s.done b
+Adds end (Err e) b read = Fails e read
+
+-- the scope of an open element is in the table, and has each prefix once
+abbrev pub IsOpenWithin : ElementTables → OpenElement → Type 0
+IsOpenWithin t o = (o.scope < length t.scopes.items) × Once (scope_at (lists_in t) o.scope)
+
+-- the first scope lists nothing
+pub record HasEmpty (t : ElementTables) : Type 0 where
+  pub there : 0 < length t.scopes.items
+  pub none : scope_at (lists_in t) 0 ≡ []
+
+-- what is so between two constructs, whatever the text
+pub record IsConsistent (t : ElementTables) (opened : List OpenElement) : Type 0 where
+  pub sound : AreSound t
+  pub elements : AllByRecursion (IsOpenWithin t) opened
+  pub empty : HasEmpty t
+  pub kept : HasBindings t
+  pub few_names : length t.namespaces.items.items ≤ most_pairs
+  pub few_attributes : length (attribute_rows t.attributes) ≤ most_attributes
+
+-- The cursor and the builder stand where reading does, in a text of this length.
+pub record IsInState (limit end : ℕ) (s : State) (c : Cursor) (b : Builder) : Type 0 where
+  pub here : c.pos ≡ s.at
+  pub limit_is : b.nodes_limit ≡ limit
+  pub shows : Represents end s.stack s.done b
+  pub names : names_in b.tables ≡ distinct_pairs (pairs_so_far s.stack s.done)
+  pub attributes : length (attribute_rows b.tables.attributes) ≡ attributes_so_far s.stack s.done
+  pub left_is : b.left ≡ s.left
+
+-- the same after a step, unless memory ran out
+abbrev pub ScansTo : ℕ → ℕ → Result (Unit {0}) Failure → Cursor → Builder → Result State Refusal → Type 0
+ScansTo limit end (Ok x) c b read = (s : State) × (read ≡ Ok s) × IsInState limit end s c b
+ScansTo limit end (Err e) c b read = IsFailure e read
+
+-- the same where entities may be opened
+abbrev pub ParsesTo : ℕ → ℕ → Result (Unit {0}) ParseError → Cursor → Builder → Result State Refusal → Type 0
+ParsesTo limit end (Ok x) c b read = (s : State) × (read ≡ Ok s) × IsInState limit end s c b
+ParsesTo limit end (Err e) c b read = IsRefusal e read
+
+-- the builder stands where reading does, whatever the source is and the place in it
+pub record HoldsState (limit end : ℕ) (s : State) (b : Builder) : Type 0 where
+  pub limit_is : b.nodes_limit ≡ limit
+  pub shows : Represents end s.stack s.done b
+  pub names : names_in b.tables ≡ distinct_pairs (pairs_so_far s.stack s.done)
+  pub attributes : length (attribute_rows b.tables.attributes) ≡ attributes_so_far s.stack s.done
+  pub left_is : b.left ≡ s.left
+
+-- the same after a replacement text
+abbrev pub ParsesToHeld : ℕ → ℕ → Result (Unit {0}) ParseError → Builder → Result State Refusal → Type 0
+ParsesToHeld limit end (Ok x) b read = (s : State) × (read ≡ Ok s) × HoldsState limit end s b
+ParsesToHeld limit end (Err e) b read = IsRefusal e read
+
+-- the same of the root element, with whether it stands there
+abbrev pub ParsesToWith : ℕ → ℕ → Result Bool ParseError → Cursor → Builder → Result (State × Bool) Refusal → Type 0
+ParsesToWith limit end (Ok x) c b read = (s : State) × (read ≡ Ok (s, x)) × IsInState limit end s c b
+ParsesToWith limit end (Err e) c b read = IsRefusal e read
+
+-- a part of a run stands in the buffer for values, up to the run's end or a reference
+abbrev pub GivesPart : Bool → List ℕ → Cursor → Result (Option Cursor) Failure → Result (List ℕ × Next) Fault → Type 0
+GivesPart main text after (Ok next) read = (bs : List ℕ) × (read ≡ Ok (bs, next_view next after.pos)) × (text ≡ part_text main bs)
+GivesPart main text after (Err e) read = Fails e read
+
+-- tables that have grown
+pub record Grown (old new : ElementTables) : Type 0 where
+  pub more_attributes : List AttributeRow
+  pub attributes : (attribute_rows new.attributes) ≡ (attribute_rows old.attributes) ++ more_attributes
+  pub more_names : List NamespaceDecl
+  pub names : names_in new ≡ names_in old ++ more_names
+  pub more_lists : List (List NamespaceDecl)
+  pub lists : lists_in new ≡ lists_in old ++ more_lists

@@ -1,0 +1,33 @@
+-- A part of a run, and its piece.
+use Rattle.std.specs.Prelude.{◌≡◌, ◌<◌, ◌≤◌, ◌+◌, ◌==◌, ◌||◌, ℕ, ◌-◌, List, Option, Result, Ok, Err, take, length, slice_index}
+use Rattle.rox_grammar.specs.declared.fault.Fault.{Fault}
+use Rattle.rox_grammar.specs.Search.{byte_from}
+use Rattle.rox_reading.specs.Lexical.{◌>>=◌}
+use Rattle.rox_reading.specs.State.{State}
+use Rattle.rox_reading.specs.Values.{Next, data_part, part_text}
+use Rattle.rox_reading.specs.Machine.{Context, with_piece}
+use Rattle.rox_grammar.specs.Failures.{Fails}
+use Rattle.rox_scan.specs.declared.cursor.Cursor.{Cursor}
+use Rattle.rox_grammar.specs.declared.failure.Failure.{Failure}
+use Rattle.rox_values.specs.Values.{next_view}
+use Rattle.rox_build.specs.BuilderState.{HoldsState}
+use Rattle.rox_build.specs.declared.builder.Builder.{Builder}
+
+-- a part of the run from start up to stop, from the state's place on: the state with its piece, if it has one, and what ends it
+abbrev pub next_part : Context → List ℕ → (start stop : ℕ) → State → Result (State × Next) Fault
+next_part how src start stop s =
+    data_part how.values.main how.values.entities (stop - s.at) src stop s.at >>= λ x.
+    with_piece how.limit s start stop (part_text how.values.main x.0) >>= λ t. Ok (t, x.1)
+
+-- it was read
+abbrev pub GivesDataPart : ℕ → ℕ → Result (Option Cursor) Failure → Cursor → Builder → Result (State × Next) Fault → Type 0
+GivesDataPart limit end (Ok next) c b read = (t : State) × (read ≡ Ok (t, next_view next c.pos)) × HoldsState limit end t b
+GivesDataPart limit end (Err e) c b read = Fails e read
+
+-- from i up to j a CR, a LF, and bytes that are no `&` and no CR
+pub record IsLine (src : List ℕ) (i j : ℕ) : Type 0 where
+  pub some : i + 1 < j
+  pub within : j ≤ length src
+  pub cr : slice_index src i ≡ 13
+  pub feed : slice_index src (i + 1) ≡ 10
+  pub rest : byte_from (λ c. c == 38 || c == 13) (take j src) (i + 1 + 1) ≡ j

@@ -1,0 +1,53 @@
+-- The parts of a whole text, and what is read of them.
+use Rattle.std.specs.Prelude.{◌≡◌, ℕ, Bool, List, Result, Ok, Err, length}
+use Rattle.rox_grammar.specs.declared.fault.Fault.{Fault}
+use Rattle.rox_grammar.specs.declared.fault.Word.TheVariants as word
+use Rattle.rox_grammar.specs.Constructs.{at}
+use Rattle.rox_grammar.specs.TextStart.{after_bom}
+use Rattle.rox_grammar.specs.Forest.{Forest, Nil}
+use Rattle.rox_grammar.specs.Written.{Item}
+use Rattle.rox_grammar.specs.Entities.{Entity}
+use Rattle.rox_grammar.specs.Doctype.{Asked}
+use Rattle.rox_grammar.specs.State.{root}
+use Rattle.rox_reading.specs.Lexical.{◌>>=◌}
+use Rattle.rox_reading.specs.Refusals.{Refusal, lifted}
+use Rattle.rox_reading.specs.State.{State}
+use Rattle.rox_reading.specs.Doctype.{Dtd}
+use Rattle.rox_reading.specs.Answering.{left_with, Yields}
+use Rattle.rox_reading.specs.WholeText.{misc, prolog, doctype, body, finished, has_doctype, reading}
+use Rattle.rox_scan.specs.declared.cursor.Cursor.{Cursor}
+use Rattle.rox_build.specs.Asking.{IsRead}
+use Rattle.rox_values.specs.Refusals.{IsRefusal}
+use Rattle.rox_build.specs.BuilderState.{Represents}
+use Rattle.rox_build.specs.declared.builder.Builder.{Builder}
+use Rattle.rox_values.specs.declared.entities.Entities.{Entities}
+use Rattle.rox_values.specs.declared.parse_error.ParseError.{ParseError}
+
+-- nothing is read yet
+abbrev pub start_state : ℕ → State
+start_state i = record { at = i; done = Nil; stack = root; left = 255 }
+
+-- what stands before a document type declaration
+abbrev pub beginning : ℕ → List ℕ → Result State Fault
+beginning limit src = prolog src (after_bom src) >>= λ i. misc limit (length src) src (start_state i)
+
+-- it was read, with what follows it, or does not stand there
+pub record IsDoctypeRead (limit end : ℕ) (allow : Bool) (src : List ℕ) (d : Dtd) (c : Cursor) (b : Builder) (es : Entities) (asked : List Asked) (some : Bool) : Type 0 where
+  pub read : IsRead limit end (λ replies. doctype limit allow src (left_with replies d)) c b es asked
+  pub told : some ≡ at word.DoctypeStart src d.state.at
+
+-- the root element and what follows it
+abbrev pub root_read : ℕ → List Entity → List ℕ → State → Result (Forest Item) Refusal
+root_read limit es src s = body limit es src s >>= λ x. lifted (finished src x)
+
+-- the builder shows the top items, unless memory ran out
+abbrev pub Finishes : (end : ℕ) → Result (Unit {0}) ParseError → Builder → Result (Forest Item) Refusal → Type 0
+Finishes end (Ok x) b read = (tops : Forest Item) × (read ≡ Ok tops) × Represents end root tops b
+Finishes end (Err e) b read = IsRefusal e read
+
+-- a whole text was read
+pub record IsWholeRead (limit end : ℕ) (allow : Bool) (src : List ℕ) (b : Builder) (asked : List Asked) (dtd : Bool) : Type 0 where
+  pub tops : Forest Item
+  pub read : Yields (λ replies. reading limit allow replies src) asked tops
+  pub told : dtd ≡ has_doctype limit src
+  pub shows : Represents end root tops b

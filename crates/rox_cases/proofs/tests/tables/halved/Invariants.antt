@@ -1,6 +1,0 @@
-use Rattle.std.proofs.Common.{◌<◌, length}
-use Rattle.rox_tables.specs.Lines.{AreRows}
-use Rattle.rox_cases.proofs.tests.tables.halved.Given as goal
-
-abbrev pub invariant-loop-index : goal.invariant-loop-index
-invariant-loop-index l = (l.left < length l.scopes.items) × AreRows l.scopes.items

@@ -1,0 +1,136 @@
+//! From a fault of a source to the error that is told of it.
+
+ghost use Rattle.std.specs.Prelude.{◌≡◌, IfOk, MatchResult};
+ghost use Rattle.rox_grammar.specs.FixedTexts.{word_text};
+ghost use Rattle.rox_error.specs.declared.error.Error.TheVariants as error;
+ghost use Rattle.rox_error.specs.FaultErrors.{due_text, position_at, Names, IsErrorOf};
+
+use crate::error::Error;
+use crate::position::{TextPos, text_pos_at};
+use rox_grammar::fault::{Due, Fault, Span, Word};
+use std::alloc::{AllocError, Global};
+use std::str;
+
+impl<'w> Error<'w> {
+    /// The error of this fault of `text`: rows and columns in place of counts of bytes, and names in place of spans. Where
+    /// there is no memory for a name it is `OutOfMemory`.
+    #[cold]
+    pub fn from_fault(alloc: Global, text: &str, fault: Fault) -> Error<'w>
+        ensures { IsErrorOf text.now fault result }
+    {
+        match told(alloc, text, fault) {
+            Ok(error) => error,
+            Err(_) => Error::OutOfMemory,
+        }
+    }
+
+    /// The error of a resolver that refused the request which `text` makes at `at`, with these words.
+    #[cold]
+    pub fn from_resolver(text: &str, at: usize, words: String) -> Error<'w>
+        ensures { result ≡ error.EntityResolver (position_at text.now at) words }
+    {
+        Error::EntityResolver(pos(text, at), words)
+    }
+}
+
+/// The error of a fault. The only `Err` is want of memory for a name.
+fn told<'w>(alloc: Global, text: &str, fault: Fault) -> Result<Error<'w>, AllocError>
+    ensures { MatchResult result (IsErrorOf text.now fault) (λ _. IsErrorOf text.now fault error.OutOfMemory) }
+{
+    match fault {
+        Fault::InvalidXmlPrefixUri(at) => Ok(Error::InvalidXmlPrefixUri(pos(text, at))),
+        Fault::UnexpectedXmlUri(at) => Ok(Error::UnexpectedXmlUri(pos(text, at))),
+        Fault::UnexpectedXmlnsUri(at) => Ok(Error::UnexpectedXmlnsUri(pos(text, at))),
+        Fault::InvalidElementNamePrefix(at) => Ok(Error::InvalidElementNamePrefix(pos(text, at))),
+        Fault::DuplicatedNamespace(prefix, at) => Ok(Error::DuplicatedNamespace(
+            named(alloc, text, prefix)?,
+            pos(text, at),
+        )),
+        Fault::UnknownNamespace(prefix, at) => Ok(Error::UnknownNamespace(
+            named(alloc, text, prefix)?,
+            pos(text, at),
+        )),
+        Fault::UnexpectedCloseTag(expected, actual, at) => {
+            Ok(Error::UnexpectedCloseTag(
+                named(alloc, text, expected)?,
+                named(alloc, text, actual)?,
+                pos(text, at),
+            ))
+        }
+        Fault::UnexpectedEntityCloseTag(at) => Ok(Error::UnexpectedEntityCloseTag(pos(text, at))),
+        Fault::UnknownEntityReference(entity, at) => Ok(Error::UnknownEntityReference(
+            named(alloc, text, entity)?,
+            pos(text, at),
+        )),
+        Fault::MalformedEntityReference(at) => Ok(Error::MalformedEntityReference(pos(text, at))),
+        Fault::EntityReferenceLoop(at) => Ok(Error::EntityReferenceLoop(pos(text, at))),
+        Fault::InvalidAttributeValue(at) => Ok(Error::InvalidAttributeValue(pos(text, at))),
+        Fault::DuplicatedAttribute(local, at) => Ok(Error::DuplicatedAttribute(
+            named(alloc, text, local)?,
+            pos(text, at),
+        )),
+        Fault::NoRootNode => Ok(Error::NoRootNode),
+        Fault::UnclosedRootNode => Ok(Error::UnclosedRootNode),
+        Fault::UnexpectedDeclaration(at) => Ok(Error::UnexpectedDeclaration(pos(text, at))),
+        Fault::DtdDetected => Ok(Error::DtdDetected),
+        Fault::NodesLimitReached => Ok(Error::NodesLimitReached),
+        Fault::AttributesLimitReached => Ok(Error::AttributesLimitReached),
+        Fault::NamespacesLimitReached => Ok(Error::NamespacesLimitReached),
+        Fault::InvalidName(at) => Ok(Error::InvalidName(pos(text, at))),
+        Fault::NonXmlChar(c, at) => Ok(Error::NonXmlChar(c, pos(text, at))),
+        Fault::InvalidChar(expected, actual, at) => Ok(Error::InvalidChar(
+            expected,
+            actual,
+            pos(text, at),
+        )),
+        Fault::InvalidChar2(expected, actual, at) => Ok(Error::InvalidChar2(
+            due_words(expected),
+            actual,
+            pos(text, at),
+        )),
+        Fault::InvalidString(expected, at) => Ok(Error::InvalidString(
+            fixed_text(expected),
+            pos(text, at),
+        )),
+        Fault::InvalidExternalID(at) => Ok(Error::InvalidExternalID(pos(text, at))),
+        Fault::InvalidComment(at) => Ok(Error::InvalidComment(pos(text, at))),
+        Fault::InvalidCharacterData(at) => Ok(Error::InvalidCharacterData(pos(text, at))),
+        Fault::UnknownToken(at) => Ok(Error::UnknownToken(pos(text, at))),
+        Fault::UnexpectedEndOfStream => Ok(Error::UnexpectedEndOfStream),
+    }
+}
+
+/// The position of a place.
+fn pos(text: &str, at: usize) -> TextPos
+    ensures { result ≡ position_at text.now at }
+{
+    text_pos_at(text, at)
+}
+
+/// The text of a span. The only error is want of memory.
+fn named(alloc: Global, text: &str, span: Span) -> Result<String, AllocError>
+    ensures { IfOk result (Names text.now span) }
+{
+    let name = text.get(span.start..span.end).unwrap_or("");
+    String::from_str(alloc, name)
+}
+
+/// What was due, in words.
+fn due_words(due: Due) -> &'static str
+    ensures { result.now ≡ due_text due }
+{
+    match due {
+        Due::Space => "a whitespace",
+        Due::Quote => "a quote",
+        Due::SubsetOrEnd => "'[' or '>'",
+        Due::End => "'>'",
+        Due::EntityDefinition => "a quote, SYSTEM or PUBLIC",
+    }
+}
+
+/// The fixed text that was due.
+fn fixed_text(word: Word) -> &'static str
+    ensures { result.now ≡ word_text word }
+{
+    str::from_utf8(word.text()).unwrap()
+}

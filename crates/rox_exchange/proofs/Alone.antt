@@ -1,0 +1,142 @@
+-- An element alone is a document.
+use Rattle.std.proofs.Common.{◌≡◌, ◌≢◌, ℕ, ◌+◌, ◌-◌, ◌≤◌, ◌==◌, true, false, List, [], length, take, drop, refl, sym, ap, ◌∙◌, subst, arith, inl, inr, length-drop, length-take}
+use Rattle.std.specs.List.{starts_with}
+use Rattle.std.specs.Str.{IsUtf8}
+use Rattle.std.proofs.lemmas.Bool.{cases_Bool}
+use Rattle.std.proofs.lemmas.List.{drop-take, take-take, get_or-take}
+use Rattle.std.proofs.lemmas.Str.{IsUtf8-take, IsUtf8-drop, IsCharBoundary-before_ascii}
+use Rattle.rox_grammar.specs.declared.fault.Word.TheVariants as word
+use Rattle.rox_grammar.specs.FixedTexts.{word_text}
+use Rattle.rox_grammar.specs.Search.{stands}
+use Rattle.rox_grammar.specs.Forest.{Forest, Nil, Cons}
+use Rattle.rox_grammar.specs.Written.{Item}
+use Rattle.rox_grammar.specs.Tree.{Node, Root, resolved, document_tree}
+use Rattle.rox_grammar.specs.Names.{byte, slice}
+use Rattle.rox_grammar.specs.Constructs.{at}
+use Rattle.rox_grammar.specs.Content.{IsElement, empty, nest}
+use Rattle.rox_grammar.specs.WellNamed.{AreWellNamed}
+use Rattle.rox_grammar.specs.TextStart.{bom, after_bom, MayHaveXmlDecl, not_declared}
+use Rattle.rox_grammar.specs.Entities.{no_entities}
+use Rattle.rox_grammar.specs.Document.{Misc, no_misc}
+use Rattle.rox_theory.proofs.Constructions.{name_byte}
+use Rattle.rox_theory.proofs.Around.{element_ends, ends_cut}
+use Rattle.rox_theory.specs.WithoutDoctype.{ParseWithout}
+use Rattle.rox_theory.proofs.Without.{parse_with}
+use Rattle.rox_grammar.specs.Exchange.{Move, shifted, HasTree}
+use Rattle.rox_exchange.specs.Local.{Follows, Fronts, moved_items}
+use Rattle.rox_exchange.proofs.Order.{element_lt}
+use Rattle.rox_exchange.proofs.Fronts.{stands_reads}
+use Rattle.rox_exchange.proofs.MovesContent.{element_moves}
+use Rattle.rox_exchange.proofs.CutsContent.{element_cut}
+use Rattle.rox_exchange.proofs.MovedItems.{moved_named, moved_resolved}
+use Rattle.rox_exchange.proofs.Context.{join_nil}
+
+-- the first two bytes of an element
+pub element_begins : (src : List ℕ) (i j b c : ℕ) (one : Forest Item) → IsElement true no_entities src i j b c one → (byte src i ≡ 60) × (byte src (i + 1) ≢ 63)
+element_begins src i j b c one (empty _ _ _ _ t tag) = let n = name_byte src (i + 1) t.name t.name_end tag.is_name in (tag.begins, n.no_question)
+element_begins src i j b c one (nest _ k m p _ _ d _ t kids tag inner end) = let n = name_byte src (i + 1) t.name t.name_end tag.is_name in (tag.begins, n.no_question)
+
+-- no declaration begins with it
+pub undeclared : (src : List ℕ) (i j b c : ℕ) (one : Forest Item) → IsElement true no_entities src i j b c one → at word.XmlDeclStart src i ≡ false
+undeclared src i j b c one is =
+    let first = element_begins src i j b c one is in
+    elim (cases_Bool (at word.XmlDeclStart src i)) as (λ s. at word.XmlDeclStart src i ≡ false) [
+      | inl there ↦ absurd (first.1 (stands_reads (word_text word.XmlDeclStart) src i 1 there (omega arith)))
+      | inr out ↦ out
+    ]
+
+-- nor a byte order mark
+unmarked : (src : List ℕ) → byte src 0 ≡ 60 → after_bom src ≡ 0
+unfolding stands
+unmarked src first =
+    elim (cases_Bool (starts_with ◌==◌ src bom)) as (λ s. after_bom src ≡ 0) [
+      | inl there ↦ (let b : byte src (0 + 0) ≡ 239 = stands_reads bom src 0 0 there (omega arith) in absurd (omega arith))
+      | inr out ↦ rw out refl
+    ]
+
+-- what it is written in
+pub alone_utf8 : (src : List ℕ) (s e left : ℕ) (one : Forest Item) → IsUtf8 src → IsElement true no_entities src s e 255 left one → (e ≤ length src) × IsUtf8 (slice src s e)
+alone_utf8 src s e left one utf8 is =
+    let ends = element_ends true no_entities src s e 255 left one is in
+    let cut = ends_cut src e utf8 ends in
+    let inside = cut.0 in
+    let lt = element_lt src true no_entities s e 255 left one is in
+    let first = element_begins src s e 255 left one is in
+    let n = length-take e src in
+    let same = get_or-take e src s 0 lt in
+    let here = first.0 in
+    let start = IsCharBoundary-before_ascii (take e src) s (omega arith) (omega arith) in
+    let q : s + (e - s) ≡ e = omega arith in
+    let d : drop s (take e src) ≡ slice src s e = ap (λ (k : ℕ). drop s (take k src)) (sym q) ∙ drop-take s (e - s) src in
+    (inside, subst IsUtf8 d (IsUtf8-drop (take e src) s (IsUtf8-take src e utf8 cut) start))
+
+-- an element of the slice
+pub element_alone : (src : List ℕ) (s e left : ℕ) (one : Forest Item) → IsUtf8 src → IsElement true no_entities src s e 255 left one
+    → IsElement true no_entities (slice src s e) 0 (e - s) 255 left (moved_items (record { add = 0; sub = s }) one)
+element_alone src s e left one utf8 is =
+    let mv : Move = record { add = 0; sub = s } in
+    let a = alone_utf8 src s e left one utf8 is in
+    let inside = a.0 in
+    let lt = element_lt src true no_entities s e 255 left one is in
+    let z : s + 0 - s ≡ 0 = omega arith in
+    let z' : e + 0 - s ≡ e - s = omega arith in
+    let f : Follows mv src s (drop s src) (s + 0 - s) = record { same = ap (λ (k : ℕ). drop k (drop s src)) (sym z); at = omega arith } in
+    let there = element_moves mv src (drop s src) s e 255 left one f is in
+    let front : Fronts (drop s src) (slice src s e) (e - s) = record {
+      same = sym (take-take (e - s) (e - s) (drop s src) (omega arith));
+      inside = omega (arith, length-drop s src);
+      utf8 = a.1;
+    } in
+    let cut = element_cut (drop s src) (slice src s e) (e - s) front (s + 0 - s) (e + 0 - s) 255 left (moved_items mv one) (omega arith) there in
+    subst (λ (k : ℕ). IsElement true no_entities (slice src s e) k (e - s) 255 left (moved_items mv one)) z
+    (subst (λ (k : ℕ). IsElement true no_entities (slice src s e) (s + 0 - s) k 255 left (moved_items mv one)) z' cut)
+
+-- how long it is
+alone_long : (src : List ℕ) (s e left : ℕ) (one : Forest Item) → IsUtf8 src → IsElement true no_entities src s e 255 left one → e - s ≡ length (slice src s e)
+alone_long src s e left one utf8 is =
+    let a = alone_utf8 src s e left one utf8 is in
+    let inside = a.0 in
+    let lt = element_lt src true no_entities s e 255 left one is in
+    omega (arith, length-take (e - s) (drop s src), length-drop s src)
+
+-- a parse of it
+pub parse_alone : (src : List ℕ) (s e left : ℕ) (one : Forest Item) → IsUtf8 src → IsElement true no_entities src s e 255 left one → AreWellNamed [] one
+    → ParseWithout (slice src s e) (moved_items (record { add = 0; sub = s }) one)
+parse_alone src s e left one utf8 is named =
+    let mv : Move = record { add = 0; sub = s } in
+    let text = slice src s e in
+    let own = element_alone src s e left one utf8 is in
+    let first = element_begins text 0 (e - s) 255 left (moved_items mv one) own in
+    record {
+      declared_to = 0;
+      declaration = subst (λ (k : ℕ). MayHaveXmlDecl text k 0) (sym (unmarked text first.0)) (not_declared 0 (undeclared text 0 (e - s) 255 left (moved_items mv one) own));
+      start = 0;
+      before = Nil;
+      misc_before = no_misc 0;
+      end = e - s;
+      left = left;
+      one = moved_items mv one;
+      element = own;
+      after = Nil;
+      misc_after = subst (λ (k : ℕ). Misc text (e - s) k Nil) (alone_long src s e left one utf8 is) (no_misc (e - s));
+      is_tree = sym (join_nil (moved_items mv one));
+      well_named = moved_named mv [] one named;
+    }
+
+-- its tree
+pub shown_alone : (src : List ℕ) (s e left : ℕ) (one : Forest Item) → IsUtf8 src → IsElement true no_entities src s e 255 left one
+    → Cons (Root (e - s)) (shifted (record { add = 0; sub = s }) (resolved [] one)) Nil ≡ document_tree (length (slice src s e)) (moved_items (record { add = 0; sub = s }) one)
+shown_alone src s e left one utf8 is =
+    let mv : Move = record { add = 0; sub = s } in
+    ap (λ (k : ℕ). Cons (Root k) (shifted mv (resolved [] one)) Nil) (alone_long src s e left one utf8 is)
+    ∙ ap (λ (f : Forest Node). Cons (Root (length (slice src s e))) f Nil) (sym (moved_resolved mv [] one))
+
+-- a document of it
+pub reparse_at : (src : List ℕ) (s e left : ℕ) (one : Forest Item) → IsUtf8 src → IsElement true no_entities src s e 255 left one → AreWellNamed [] one
+    → HasTree (slice src s e) (Cons (Root (e - s)) (shifted (record { add = 0; sub = s }) (resolved [] one)) Nil)
+reparse_at src s e left one utf8 is named =
+    record {
+      written = moved_items (record { add = 0; sub = s }) one;
+      parse = parse_with (slice src s e) (moved_items (record { add = 0; sub = s }) one) (parse_alone src s e left one utf8 is named);
+      shown = shown_alone src s e left one utf8 is;
+    }

@@ -1,0 +1,218 @@
+-- What stands in a source stands in each that has the same bytes up to its end.
+use Rattle.std.proofs.Common.{◌≡◌, ◌≢◌, ℕ, zero, suc, ◌+◌, ◌-◌, ◌<◌, ◌≤◌, ◌⊎◌, ◌==◌, Bool, true, false, List, [], ◌∷◌, ◌++◌, length, take, drop, get_or, refl, sym, ap, ◌∙◌, subst, arith, inl, inr, length-drop, length-take}
+use Rattle.std.specs.List.{position_or_len, starts_with}
+use Rattle.std.proofs.lemmas.Bool.{cases_Bool}
+use Rattle.std.proofs.lemmas.List.{drop-take, take-take, get_or-take}
+use Rattle.rox_grammar.specs.Search.{stands, before_mark, mark_from, byte_from}
+use Rattle.std.specs.Char.{encode_utf8, len_utf8}
+use Rattle.std.specs.Str.{chars, IsUtf8, IsCharBoundary, encode_utf8_all}
+use Rattle.std.proofs.lemmas.Str.{chars-append, encodes-chars, length-encode, IsUtf8-drop}
+use Rattle.std.proofs.lemmas.List.{drop-append-le}
+use Rattle.std.proofs.Common.{length-append}
+use Rattle.rox_grammar.specs.Chars.{is_name_start, is_name_char}
+use Rattle.rox_grammar.specs.Runs.{run_end, begins, passing, first_passes}
+use Rattle.rox_grammar.specs.Chars.{is_char}
+use Rattle.rox_grammar.specs.FixedTexts.{word_text}
+use Rattle.rox_grammar.specs.declared.fault.Word.TheVariants as word
+use Rattle.rox_grammar.specs.Names.{byte, slice, IsName}
+use Rattle.rox_grammar.specs.Constructs.{AreChars, has_mark, double_dash, IsComment, IsLiteral}
+use Rattle.rox_grammar.specs.Content.{IsCharacterData}
+
+-- two lists with one front agree byte by byte
+pub heads : (n x y : ℕ) (xs ys : List ℕ) → take (suc n) (x ∷ xs) ≡ take (suc n) (y ∷ ys) → (x ≡ y) × (take n xs ≡ take n ys)
+heads n x y xs ys h = (cc, cc)
+
+-- a mark that begins a list begins its front
+pub starts_take : (mark : List ℕ) (n : ℕ) (xs : List ℕ) → length mark ≤ n → starts_with ◌==◌ (take n xs) mark ≡ starts_with ◌==◌ xs mark
+starts_take mark n xs fits = rw (take-take (length mark) n xs fits) refl
+
+-- a mark that begins both
+pub starts_cut : (mark : List ℕ) (n : ℕ) (xs ys : List ℕ) → take n xs ≡ take n ys → length mark ≤ n → starts_with ◌==◌ xs mark ≡ starts_with ◌==◌ ys mark
+starts_cut mark n xs ys h fits =
+    sym (starts_take mark n xs fits) ∙ ap (λ (zs : List ℕ). starts_with ◌==◌ zs mark) h ∙ starts_take mark n ys fits
+
+-- the first byte that passes
+pub first_cut : (p : ℕ → Bool) (n : ℕ) (xs ys : List ℕ) → take n xs ≡ take n ys → position_or_len p xs < n → position_or_len p ys ≡ position_or_len p xs
+first_cut p zero xs ys h some = absurd (omega arith)
+first_cut p (suc n) [] [] h some = refl
+first_cut p (suc n) [] (y ∷ ys) h some = cc h
+first_cut p (suc n) (x ∷ xs) [] h some = cc h
+first_cut p (suc n) (x ∷ xs) (y ∷ ys) h some =
+    let both = heads n x y xs ys h in
+    elim (cases_Bool (p x)) as (λ s. position_or_len p (y ∷ ys) ≡ position_or_len p (x ∷ xs)) [
+      | inl here ↦ (let there : p y ≡ true = rw (← both.0) here in rw (here, there) refl)
+      | inr later ↦ (
+          let there : p y ≡ false = rw (← both.0) later in
+          let some' : 1 + position_or_len p xs < suc n = rw later at some in
+          let ih = first_cut p n xs ys both.1 (omega arith) in
+          rw (later, there) (ap (λ (k : ℕ). 1 + k) ih))
+    ]
+
+-- the first mark
+pub mark_cut : (mark : List ℕ) (n : ℕ) (xs ys : List ℕ) → take n xs ≡ take n ys → before_mark mark xs + length mark ≤ n → 0 < length mark → before_mark mark ys ≡ before_mark mark xs
+mark_cut mark zero xs ys h fits some = absurd (omega arith)
+mark_cut mark (suc n) [] [] h fits some = refl
+mark_cut mark (suc n) [] (y ∷ ys) h fits some = cc h
+mark_cut mark (suc n) (x ∷ xs) [] h fits some = cc h
+mark_cut mark (suc n) (x ∷ xs) (y ∷ ys) h fits some =
+    let same = starts_cut mark (suc n) (x ∷ xs) (y ∷ ys) h (omega arith) in
+    elim (cases_Bool (starts_with ◌==◌ (x ∷ xs) mark)) as (λ s. before_mark mark (y ∷ ys) ≡ before_mark mark (x ∷ xs)) [
+      | inl here ↦ (let there : starts_with ◌==◌ (y ∷ ys) mark ≡ true = sym same ∙ here in rw (here, there) refl)
+      | inr later ↦ (
+          let there : starts_with ◌==◌ (y ∷ ys) mark ≡ false = sym same ∙ later in
+          let fits' : 1 + before_mark mark xs + length mark ≤ suc n = rw later at fits in
+          let ih = mark_cut mark n xs ys (heads n x y xs ys h).1 (omega arith) some in
+          rw (later, there) (ap (λ (k : ℕ). 1 + k) ih))
+    ]
+
+module _ (src to : List ℕ) (m : ℕ) (same : take m src ≡ take m to) where
+  -- the fronts behind a place agree
+  pub fronts : (i : ℕ) → i ≤ m → take (m - i) (drop i src) ≡ take (m - i) (drop i to)
+  fronts i le =
+      let e : i + (m - i) ≡ m = omega arith in
+      sym (drop-take i (m - i) src) ∙ ap (λ (k : ℕ). drop i (take k src)) e ∙ ap (drop i) same ∙ sym (ap (λ (k : ℕ). drop i (take k to)) e) ∙ drop-take i (m - i) to
+
+  -- and up to one
+  pub front : (j : ℕ) → j ≤ m → take j src ≡ take j to
+  front j le = sym (take-take j m src le) ∙ ap (take j) same ∙ take-take j m to le
+
+  -- a byte
+  pub byte_cut : (i : ℕ) → i < m → byte src i ≡ byte to i
+  byte_cut i lt = sym (get_or-take m src i 0 lt) ∙ ap (λ (bs : List ℕ). get_or bs i 0) same ∙ get_or-take m to i 0 lt
+
+  -- a fixed text
+  pub stands_cut : (mark : List ℕ) (i : ℕ) → i + length mark ≤ m → stands mark src i ≡ stands mark to i
+  unfolding stands
+  stands_cut mark i fits = starts_cut mark (m - i) (drop i src) (drop i to) (fronts i (omega arith)) (omega arith)
+
+  -- the first place of a fixed text
+  pub mark_from_cut : (mark : List ℕ) (i e : ℕ) → e ≡ mark_from mark src i → e + length mark ≤ m → 0 < length mark → e ≡ mark_from mark to i
+  unfolding mark_from
+  mark_from_cut mark i e is fits some =
+      let q = mark_cut mark (m - i) (drop i src) (drop i to) (fronts i (omega arith)) (omega arith) some in
+      omega arith
+
+  -- the first place of a byte
+  pub byte_from_cut : (p : ℕ → Bool) (i e : ℕ) → e ≡ byte_from p src i → e < m → e ≡ byte_from p to i
+  unfolding byte_from
+  byte_from_cut p i e is fits =
+      let q = first_cut p (m - i) (drop i src) (drop i to) (fronts i (omega arith)) (omega arith) in
+      omega arith
+
+  -- Chars
+  pub chars_cut : (i j : ℕ) → j ≤ m → AreChars src i j → AreChars to i j
+  chars_cut i j le are = subst (λ (bs : List ℕ). run_end is_char bs i ≡ j) (front j le) are
+
+  -- a slice
+  pub slice_cut : (i j : ℕ) → i ≤ j → j ≤ m → slice src i j ≡ slice to i j
+  slice_cut i j le fits =
+      let e : i + (j - i) ≡ j = omega arith in
+      let f = front (i + (j - i)) (omega arith) in
+      sym (drop-take i (j - i) src) ∙ ap (drop i) f ∙ drop-take i (j - i) to
+
+  -- a place within both
+  pub within_cut : (e : ℕ) → e < m → e < length src → e < length to
+  within_cut e lt inside =
+      let n : length (take m src) ≡ length (take m to) = ap length same in
+      omega (arith, length-take m src, length-take m to)
+
+  -- ---- constructs
+
+  -- a comment
+  pub comment_cut : (i e j : ℕ) → j ≤ m → IsComment src i e j → IsComment to i e j
+  unfolding run_end
+  comment_cut i e j fits is =
+      let next = is.next in
+      let chars = is.chars in
+      let le : i + 4 ≤ e = omega arith in
+      let text = slice_cut (i + 4) e le (omega arith) in
+      record {
+        opens = sym (stands_cut (word_text word.CommentStart) i (omega arith)) ∙ is.opens;
+        end = mark_from_cut (word_text word.CommentEnd) (i + 4) e is.end (omega arith) (omega arith);
+        chars = chars_cut (i + 4) e (omega arith) is.chars;
+        closes = sym (stands_cut (word_text word.CommentEnd) e (omega arith)) ∙ is.closes;
+        no_dashes = ap (has_mark double_dash) (sym text) ∙ is.no_dashes;
+        no_last = subst (λ (t : List ℕ). byte t (length t - 1) ≢ 45) text is.no_last;
+        next = is.next;
+      }
+
+  -- a literal
+  pub literal_cut : (i e j : ℕ) → j ≤ m → IsLiteral src i e j → IsLiteral to i e j
+  unfolding run_end
+  literal_cut i e j fits is =
+      let next = is.next in
+      let chars = is.chars in
+      let le : i + 1 ≤ e = omega arith in
+      let first = byte_cut i (omega arith) in
+      record {
+        quote = subst (λ (b : ℕ). (b ≡ 39) ⊎ (b ≡ 34)) first is.quote;
+        end = byte_from_cut (λ c. c == byte src i) (i + 1) e is.end (omega arith) ∙ ap (λ (q : ℕ). byte_from (λ c. c == q) to (i + 1)) first;
+        closes = within_cut e (omega arith) is.closes;
+        chars = chars_cut (i + 1) e (omega arith) is.chars;
+        no_markup = is.no_markup ∙ ap (λ (bs : List ℕ). byte_from (λ c. c == 60) bs (i + 1)) (front e (omega arith));
+        next = is.next;
+      }
+
+  -- a run that `<` ends
+  pub run_cut : (i j : ℕ) → j < m → IsCharacterData src i j → IsCharacterData to i j
+  run_cut i j fits is =
+      let some = is.some in
+      record {
+        some = is.some;
+        end = byte_from_cut (λ c. c == 60) i j is.end fits;
+        chars = chars_cut i j (omega arith) is.chars;
+        no_end_mark = ap (has_mark (word_text word.CDataEnd)) (sym (slice_cut i j (omega arith) (omega arith))) ∙ is.no_end_mark;
+      }
+
+-- ---- runs of characters
+
+-- characters that pass, with others behind them
+pub passing_front : (p : ℕ → Bool) (cs ds : List ℕ) → passing p (cs ++ ds) < length (encode_utf8_all cs) → passing p (cs ++ ds) ≡ passing p cs
+passing_front p [] ds some = absurd (omega arith)
+passing_front p (c ∷ cs) ds some =
+    elim (cases_Bool (p c)) as (λ s. passing p (c ∷ (cs ++ ds)) ≡ passing p (c ∷ cs)) [
+      | inl passes ↦ (
+          let some' : len_utf8 c + passing p (cs ++ ds) < length (encode_utf8 c ++ encode_utf8_all cs) = rw passes at some in
+          let n = length-append (encode_utf8 c) (encode_utf8_all cs) in
+          let m = length-encode c in
+          let ih = passing_front p cs ds (omega arith) in
+          rw passes (ap (λ (k : ℕ). len_utf8 c + k) ih))
+      | inr fails ↦ rw fails refl
+    ]
+
+-- a run that ends before the end of a text in UTF-8 ends there whatever follows the text
+pub run_end_front : (p : ℕ → Bool) (front back : List ℕ) (i : ℕ) → IsUtf8 front → IsCharBoundary front i → run_end p (front ++ back) i < length front → run_end p (front ++ back) i ≡ run_end p front i
+unfolding run_end
+run_end_front p front back i utf8 cut below =
+    let rest = IsUtf8-drop front i utf8 cut in
+    let split : drop i (front ++ back) ≡ drop i front ++ back = drop-append-le i front back cut.0 in
+    let both : chars (drop i (front ++ back)) ≡ chars (drop i front) ++ chars back = ap chars split ∙ chars-append (drop i front) back rest in
+    let spelled : encode_utf8_all (chars (drop i front)) ≡ drop i front = encodes-chars (drop i front) rest in
+    let n : length (encode_utf8_all (chars (drop i front))) ≡ length front - i = ap length spelled ∙ length-drop i front in
+    let some : passing p (chars (drop i front) ++ chars back) < length (encode_utf8_all (chars (drop i front))) = subst (λ (cs : List ℕ). passing p cs < length (encode_utf8_all (chars (drop i front)))) both (omega arith) in
+    ap (λ (cs : List ℕ). i + passing p cs) both ∙ ap (λ (k : ℕ). i + k) (passing_front p (chars (drop i front)) (chars back) some)
+
+-- a run goes forwards
+forwards : (src : List ℕ) (i : ℕ) → i ≤ run_end is_name_char src i
+unfolding run_end
+forwards src i = omega arith
+
+-- so a name that ends before the end of a text is a name in the text alone
+pub name_front : (front back : List ℕ) (i j : ℕ) → IsUtf8 front → IsCharBoundary front i → j < length front → IsName (front ++ back) i j → IsName front i j
+unfolding begins
+name_front front back i j utf8 cut below is =
+    let below' : run_end is_name_char (front ++ back) i < length front = subst (λ (k : ℕ). k < length front) is.longest below in
+    let le : i ≤ run_end is_name_char (front ++ back) i = forwards (front ++ back) i in
+    let rest = IsUtf8-drop front i utf8 cut in
+    let both : chars (drop i (front ++ back)) ≡ chars (drop i front) ++ chars back = ap chars (drop-append-le i front back cut.0) ∙ chars-append (drop i front) back rest in
+    record {
+      starts = first_front (chars (drop i front)) (chars back) (omega arith) (encodes-chars (drop i front) rest) (subst (λ (cs : List ℕ). first_passes is_name_start cs ≡ true) both is.starts);
+      longest = is.longest ∙ run_end_front is_name_char front back i utf8 cut below';
+    }
+  where
+    -- the first character is in front
+    first_front : (cs ds : List ℕ) → i < length front → encode_utf8_all cs ≡ drop i front → first_passes is_name_start (cs ++ ds) ≡ true → first_passes is_name_start cs ≡ true
+    first_front [] ds inside is' h =
+        let n : 0 ≡ length front - i = ap length is' ∙ length-drop i front in
+        absurd (omega arith)
+    first_front (c ∷ cs) ds inside is' h = h

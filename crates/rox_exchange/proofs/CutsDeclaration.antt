@@ -1,0 +1,152 @@
+-- A declaration stands in each source with the same front. It ends in `>`, and no word in it but the last has that byte.
+use Rattle.std.proofs.Common.{◌≡◌, ◌≢◌, ℕ, zero, suc, ◌+◌, ◌-◌, ◌<◌, ◌≤◌, ◌==◌, ◌&&◌, Bool, true, false, List, [], ◌∷◌, take, drop, length, get_or, refl, sym, ap, ◌∙◌, subst, arith, inl, inr, get_or-drop}
+use Rattle.std.proofs.lemmas.Bool.{ne_eqb}
+use Rattle.std.specs.List.{starts_with}
+use Rattle.std.specs.Str.{IsCharBoundary}
+use Rattle.rox_grammar.specs.declared.fault.Word.{Word}
+use Rattle.rox_grammar.specs.declared.fault.Word.TheVariants as word
+use Rattle.rox_grammar.specs.FixedTexts.{word_text}
+use Rattle.rox_grammar.specs.Search.{stands}
+use Rattle.rox_grammar.specs.Chars.{is_space}
+use Rattle.rox_grammar.specs.Names.{byte, spaces_end}
+use Rattle.rox_grammar.specs.Constructs.{at, IsPair, IsGap, some_space, no_space, MayBePair, is_pair, no_pair, MayEndPair, is_last, no_last, IsXmlDecl}
+use Rattle.rox_theory.proofs.Basics.{within as byte_within}
+use Rattle.rox_exchange.specs.Local.{Fronts}
+use Rattle.rox_exchange.proofs.Cuts.{heads, fronts, stands_cut, literal_cut}
+use Rattle.rox_exchange.proofs.CutsLexical.{space_cut, qname_cut, eq_cut}
+use Rattle.rox_exchange.proofs.CutsTags.{behind_literal}
+use Rattle.rox_exchange.proofs.Fronts.{stands_reads, behind}
+use Rattle.rox_exchange.proofs.Order.{run_le, qname_le, eq_lt, literal_lt}
+
+-- the byte is none of these
+abbrev pub IsMissing : ℕ → List ℕ → Type 0
+IsMissing c [] = Unit {0}
+IsMissing c (b ∷ bs) = (b ≢ c) × IsMissing c bs
+
+-- byte by byte
+starts_on : (x w : ℕ) (xs ws : List ℕ) → starts_with ◌==◌ (x ∷ xs) (w ∷ ws) ≡ ((w == x) && starts_with ◌==◌ xs ws)
+starts_on x w xs ws = refl
+
+-- a text without a byte begins one list as it begins another that is the same up to that byte
+starts_before : (c : ℕ) (mark : List ℕ) → 0 < c → IsMissing c mark → (n k : ℕ) (xs ys : List ℕ) → take n xs ≡ take n ys → k < n → get_or xs k 0 ≡ c → starts_with ◌==◌ xs mark ≡ starts_with ◌==◌ ys mark
+starts_before c [] some none n k xs ys same below is = refl
+starts_before c (w ∷ ws) some (no_end, none) zero k xs ys same below is = absurd (omega arith)
+starts_before c (w ∷ ws) some (no_end, none) (suc n) k [] ys same below is = (let z : 0 ≡ c = is in absurd (omega arith))
+starts_before c (w ∷ ws) some (no_end, none) (suc n) k (x ∷ xs) [] same below is = cc same
+starts_before c (w ∷ ws) some (no_end, none) (suc n) zero (x ∷ xs) (y ∷ ys) same below is =
+    let both = heads n x y xs ys same in
+    let differs : (w == x) ≡ false = ne_eqb w x (λ e. no_end (e ∙ is)) in
+    let differs' : (w == y) ≡ false = ne_eqb w y (λ e. no_end (e ∙ sym both.0 ∙ is)) in
+    starts_on x w xs ws ∙ ap (λ (b : Bool). b && starts_with ◌==◌ xs ws) differs ∙ sym (ap (λ (b : Bool). b && starts_with ◌==◌ ys ws) differs') ∙ sym (starts_on y w ys ws)
+starts_before c (w ∷ ws) some (no_end, none) (suc n) (suc k) (x ∷ xs) (y ∷ ys) same below is =
+    let both = heads n x y xs ys same in
+    let more = starts_before c ws some none n k xs ys both.1 (omega arith) is in
+    starts_on x w xs ws ∙ ap (λ (b : Bool). (w == x) && b) more ∙ ap (λ (z : ℕ). (w == z) && starts_with ◌==◌ ys ws) both.0 ∙ sym (starts_on y w ys ws)
+
+lacks_version : IsMissing 62 (word_text word.Version)
+lacks_version = ((λ e. omega arith), ((λ e. omega arith), ((λ e. omega arith), ((λ e. omega arith), ((λ e. omega arith), ((λ e. omega arith), ((λ e. omega arith), tt)))))))
+
+lacks_encoding : IsMissing 62 (word_text word.Encoding)
+lacks_encoding = ((λ e. omega arith), ((λ e. omega arith), ((λ e. omega arith), ((λ e. omega arith), ((λ e. omega arith), ((λ e. omega arith), ((λ e. omega arith), ((λ e. omega arith), tt))))))))
+
+lacks_standalone : IsMissing 62 (word_text word.Standalone)
+lacks_standalone = ((λ e. omega arith), ((λ e. omega arith), ((λ e. omega arith), ((λ e. omega arith), ((λ e. omega arith), ((λ e. omega arith), ((λ e. omega arith), ((λ e. omega arith), ((λ e. omega arith), ((λ e. omega arith), tt))))))))))
+
+module _ (src to : List ℕ) (m : ℕ) (f : Fronts src to m) where
+  -- a fixed text that lacks a byte, in front of that byte
+  pub word_cut : (c : ℕ) (mark : List ℕ) (i q : ℕ) → 0 < c → IsMissing c mark → i ≤ q → q < m → byte src q ≡ c → stands mark src i ≡ stands mark to i
+  unfolding stands
+  word_cut c mark i q some none le below is =
+      let e : i + (q - i) ≡ q = omega arith in
+      starts_before c mark some none (m - i) (q - i) (drop i src) (drop i to) (fronts src to m f.same i (omega arith)) (omega arith)
+      (get_or-drop i src (q - i) 0 ∙ ap (byte src) e ∙ is)
+
+  gap_le : (i j : ℕ) → IsGap src i j → i ≤ j
+  gap_le i j (some_space _ some) = omega arith
+  gap_le i j (no_space _ none) = omega arith
+
+  pair_lt : (i j : ℕ) → IsPair src i j → i < j
+  pair_lt i j is =
+      let next = is.literal.next in
+      omega (arith, qname_le src i is.name is.n is.is_name, eq_lt src is.n is.v is.eq, literal_lt src is.v is.e j is.literal)
+
+  may_le : (w : Word) (i j : ℕ) → MayBePair w src i j → i ≤ j
+  may_le w i j (is_pair _ k _ here is gap) = omega (arith, pair_lt i k is, gap_le k j gap)
+  may_le w i j (no_pair _ none) = omega arith
+
+  last_le : (w : Word) (i j : ℕ) → MayEndPair w src i j → i ≤ j
+  last_le w i j (is_last _ _ here is) = omega (arith, pair_lt i j is)
+  last_le w i j (no_last _ none) = omega arith
+
+  -- a pair ends in its quote
+  pair_cut : (i j : ℕ) → IsCharBoundary (take m src) i → j < m → IsPair src i j → IsPair to i j × IsCharBoundary (take m src) j
+  pair_cut i j cut below is =
+      let next = is.literal.next in
+      let a = qname_le src i is.name is.n is.is_name in
+      let b = eq_lt src is.n is.v is.eq in
+      let c = literal_lt src is.v is.e j is.literal in
+      let name = qname_cut src to m f i is.name is.n cut (omega arith) is.is_name in (
+        record { name = is.name; n = is.n; is_name = name.0; v = is.v; eq = eq_cut src to m f is.n is.v name.1 (omega arith) is.eq; e = is.e; literal = literal_cut src to m f.same is.v is.e j (omega arith) is.literal },
+        behind_literal src to m f is.v is.e j (omega arith) is.literal,
+      )
+
+  -- where `>` stands at q, and white space or the end of the declaration is left before it
+  module _ (q : ℕ) (below : q < m) (is_end : byte src q ≡ 62) (inside : q < length src) where
+    gap_cut : (i j : ℕ) → IsCharBoundary (take m src) i → j + 1 ≤ q → IsGap src i j → IsGap to i j × IsCharBoundary (take m src) j
+    gap_cut i j cut le (some_space _ some) =
+        let s = space_cut src to m f i j cut (omega arith) refl in
+        (subst (IsGap to i) (sym s.0) (some_space i (omega (arith, s.0))), s.1)
+    gap_cut i j cut le (no_space _ (inl out)) = absurd (omega arith)
+    gap_cut i j cut le (no_space _ (inr close)) = (no_space i (inr (sym (stands_cut src to m f.same (word_text word.PIEnd) i (omega arith)) ∙ close)), cut)
+
+    may_cut : (w : Word) (i j : ℕ) → IsMissing 62 (word_text w) → IsCharBoundary (take m src) i → j + 1 ≤ q → MayBePair w src i j → MayBePair w to i j × IsCharBoundary (take m src) j
+    may_cut w i j lacks cut le (is_pair _ k _ here is gap) =
+        let lt = pair_lt i k is in
+        let gl = gap_le k j gap in
+        let p = pair_cut i k cut (omega arith) is in
+        let g = gap_cut k j p.1 le gap in
+        (is_pair i k j (sym (word_cut 62 (word_text w) i q (omega arith) lacks (omega arith) below is_end) ∙ here) p.0 g.0, g.1)
+    may_cut w i j lacks cut le (no_pair _ none) =
+        (no_pair i (sym (word_cut 62 (word_text w) i q (omega arith) lacks (omega arith) below is_end) ∙ none), cut)
+
+    last_cut : (w : Word) (i j : ℕ) → IsMissing 62 (word_text w) → IsCharBoundary (take m src) i → j + 1 ≤ q → MayEndPair w src i j → MayEndPair w to i j × IsCharBoundary (take m src) j
+    last_cut w i j lacks cut le (is_last _ _ here is) =
+        let lt = pair_lt i j is in
+        let p = pair_cut i j cut (omega arith) is in
+        (is_last i j (sym (word_cut 62 (word_text w) i q (omega arith) lacks (omega arith) below is_end) ∙ here) p.0, p.1)
+    last_cut w i j lacks cut le (no_last _ none) =
+        (no_last i (sym (word_cut 62 (word_text w) i q (omega arith) lacks (omega arith) below is_end) ∙ none), cut)
+
+  -- the first and the last byte of the declaration
+  pub declaration_cut : (i j : ℕ) → j ≤ m → IsXmlDecl src i j → IsXmlDecl to i j
+  declaration_cut i j fits is =
+      let next = is.next in
+      let le_v = may_le word.Version (spaces_end src (i + 5)) is.v is.first_pair in
+      let le_e = may_le word.Encoding is.v is.e is.encoding in
+      let le_s = last_le word.Standalone is.e is.s is.standalone in
+      let sp = run_le is_space src (i + 5) in
+      let sp' = run_le is_space src is.s in
+      let q = spaces_end src is.s + 1 in
+      let is_end : byte src q ≡ 62 = stands_reads (word_text word.PIEnd) src (spaces_end src is.s) 1 is.closes (omega arith) in
+      let inside : q < length src = byte_within src q (λ z. omega arith) in
+      let l : byte src (i + 4) ≡ 108 = stands_reads (word_text word.XmlDeclStart) src i 4 is.opens (omega arith) in
+      let e : i + 4 + 1 ≡ i + 5 = omega arith in
+      let start : IsCharBoundary (take m src) (i + 5) = subst (IsCharBoundary (take m src)) e (behind src to m f 108 (i + 4) (omega arith) l (omega arith)) in
+      let white = space_cut src to m f (i + 5) (spaces_end src (i + 5)) start (omega arith) refl in
+      let one = may_cut q (omega arith) is_end inside word.Version (spaces_end src (i + 5)) is.v lacks_version white.1 (omega arith) is.first_pair in
+      let two = may_cut q (omega arith) is_end inside word.Encoding is.v is.e lacks_encoding one.1 (omega arith) is.encoding in
+      let three = last_cut q (omega arith) is_end inside word.Standalone is.e is.s lacks_standalone two.1 (omega arith) is.standalone in
+      let tail = space_cut src to m f is.s (spaces_end src is.s) three.1 (omega arith) refl in
+      let version = sym (word_cut 62 (word_text word.Version) (spaces_end src (i + 5)) q (omega arith) lacks_version (omega arith) (omega arith) is_end) ∙ is.version in
+      record {
+        opens = sym (stands_cut src to m f.same (word_text word.XmlDeclStart) i (omega arith)) ∙ is.opens;
+        version = subst (λ (k : ℕ). at word.Version to k ≡ true) white.0 version;
+        v = is.v;
+        first_pair = subst (λ (k : ℕ). MayBePair word.Version to k is.v) white.0 one.0;
+        e = is.e;
+        encoding = two.0;
+        s = is.s;
+        standalone = three.0;
+        closes = subst (λ (k : ℕ). at word.PIEnd to k ≡ true) tail.0 (sym (stands_cut src to m f.same (word_text word.PIEnd) (spaces_end src is.s) (omega arith)) ∙ is.closes);
+        next = next ∙ ap (λ (k : ℕ). k + 2) tail.0;
+      }

@@ -1,0 +1,206 @@
+-- Names, references and the constructs that hold no others stand in each source with the same front.
+use Rattle.std.proofs.Common.{◌≡◌, ◌≢◌, ℕ, ◌+◌, ◌^◌, ◌<◌, ◌≤◌, Bool, false, List, [], take, refl, sym, ap, ◌∙◌, subst, arith, inl, inr}
+use Rattle.std.specs.Str.{IsCharBoundary}
+use Rattle.std.proofs.lemmas.Bool.{cases_Bool, cases_lt}
+use Rattle.rox_grammar.specs.declared.fault.Word.TheVariants as word
+use Rattle.rox_grammar.specs.FixedTexts.{word_text}
+use Rattle.rox_grammar.specs.Chars.{is_space, is_name_start, is_name_char, is_part_char}
+use Rattle.rox_grammar.specs.Search.{mark_from}
+use Rattle.rox_grammar.specs.Written.{Name}
+use Rattle.rox_grammar.specs.Names.{byte, slice, spaces_end, IsName, IsNCName, IsQName, unprefixed, prefixed, colon_first}
+use Rattle.rox_grammar.specs.References.{is_digit, is_hex_digit, number, character, predefined, IsNumber, IsReference, IsCharacter, decimal, hexadecimal, named}
+use Rattle.rox_grammar.specs.Constructs.{at, AreChars, IsPI, IsCData, IsEq, IsEnd}
+use Rattle.rox_exchange.specs.Local.{Fronts}
+use Rattle.rox_exchange.proofs.Cuts.{byte_cut, stands_cut, mark_from_cut, chars_cut, slice_cut}
+use Rattle.rox_exchange.proofs.Fronts.{stands_reads, behind, run_cuts, begins_cut, bytes_end_cut}
+use Rattle.rox_exchange.proofs.Order.{run_le, name_le, ncname_le, qname_le, cdata_le, pi_le, reference_lt}
+
+module _ (src to : List ℕ) (m : ℕ) (f : Fronts src to m) where
+  -- white space
+  pub space_cut : (i e : ℕ) → IsCharBoundary (take m src) i → e < m → e ≡ spaces_end src i → (e ≡ spaces_end to i) × IsCharBoundary (take m src) e
+  space_cut i e cut below is = run_cuts src to m f is_space i e cut below is
+
+  -- a byte that a place has, and one that it has not
+  pub has_byte : (b i : ℕ) → i < m → byte src i ≡ b → byte to i ≡ b
+  has_byte b i below is = sym (byte_cut src to m f.same i below) ∙ is
+
+  pub has_other : (b i : ℕ) → i < m → byte src i ≢ b → byte to i ≢ b
+  has_other b i below differs = λ is. differs (byte_cut src to m f.same i below ∙ is)
+
+  -- a name
+  pub name_cut : (i j : ℕ) → IsCharBoundary (take m src) i → j < m → IsName src i j → IsName to i j × IsCharBoundary (take m src) j
+  name_cut i j cut below is =
+      let r = run_cuts src to m f is_name_char i j cut below is.longest in
+      (record { starts = sym (begins_cut src to m f is_name_start i cut (omega (arith, name_le src i j is))) ∙ is.starts; longest = r.0 }, r.1)
+
+  -- a name without colon
+  pub ncname_cut : (i j : ℕ) → IsCharBoundary (take m src) i → j < m → IsNCName src i j → IsNCName to i j × IsCharBoundary (take m src) j
+  ncname_cut i j cut below is =
+      let r = run_cuts src to m f is_part_char i j cut below is.longest in
+      let le = ncname_le src i j is in
+      (record { starts = sym (begins_cut src to m f is_name_start i cut (omega arith)) ∙ is.starts; no_colon = has_other 58 i (omega arith) is.no_colon; longest = r.0 }, r.1)
+
+  -- a name in a namespace
+  pub qname_cut : (i : ℕ) (name : Name) (j : ℕ) → IsCharBoundary (take m src) i → j < m → IsQName src i name j → IsQName to i name j × IsCharBoundary (take m src) j
+  qname_cut i name j cut below (unprefixed _ _ n last) =
+      let r = ncname_cut i j cut below n in
+      let s = slice_cut src to m f.same i j (ncname_le src i j n) (omega arith) in
+      (subst (λ (bs : List ℕ). IsQName to i (record { prefix = []; local = bs }) j) (sym s) (unprefixed i j r.0 (has_other 58 j below last)), r.1)
+  qname_cut i name j cut below (prefixed _ k _ n colon rest last) =
+      let le = ncname_le src i k n in
+      let le' = ncname_le src (k + 1) j rest in
+      let r = ncname_cut i k cut (omega arith) n in
+      let t = ncname_cut (k + 1) j (behind src to m f 58 k (omega arith) colon (omega arith)) below rest in
+      let s = slice_cut src to m f.same i k le (omega arith) in
+      let u = slice_cut src to m f.same (k + 1) j le' (omega arith) in (
+        subst (λ (bs : List ℕ). IsQName to i (record { prefix = bs; local = slice src (k + 1) j }) j) (sym s)
+            (subst (λ (bs : List ℕ). IsQName to i (record { prefix = slice to i k; local = bs }) j) (sym u)
+            (prefixed i k j r.0 (has_byte 58 k (omega arith) colon) t.0 (has_other 58 j below last))),
+        t.1,
+      )
+  qname_cut i name j cut below (colon_first _ _ colon n last) =
+      let le = ncname_le src (i + 1) j n in
+      let r = ncname_cut (i + 1) j (behind src to m f 58 i (omega arith) colon (omega arith)) below n in
+      let s = slice_cut src to m f.same (i + 1) j le (omega arith) in
+      (subst (λ (bs : List ℕ). IsQName to i (record { prefix = []; local = bs }) j) (sym s) (colon_first i j (has_byte 58 i (omega arith) colon) r.0 (has_other 58 j below last)), r.1)
+
+  -- Eq
+  pub eq_cut : (i j : ℕ) → IsCharBoundary (take m src) i → j < m → IsEq src i j → IsEq to i j
+  eq_cut i j cut below is =
+      let next = is.next in
+      let le = run_le is_space src (spaces_end src i + 1) in
+      let s = space_cut i (spaces_end src i) cut (omega arith) refl in
+      let r = space_cut (spaces_end src i + 1) j (behind src to m f 61 (spaces_end src i) (omega arith) is.equals (omega arith)) below is.next in
+      record {
+        equals = ap (byte to) (sym s.0) ∙ has_byte 61 (spaces_end src i) (omega arith) is.equals;
+        next = r.0 ∙ ap (λ (x : ℕ). spaces_end to (x + 1)) s.0;
+      }
+
+  -- a number
+  pub number_cut : (base : ℕ) (p : ℕ → Bool) (d e c j : ℕ) → j ≤ m → IsNumber base p src d e c j → IsNumber base p to d e c j
+  number_cut base p d e c j fits is =
+      let some = is.some in
+      let next = is.next in
+      let s = slice_cut src to m f.same d e (omega arith) (omega arith) in
+      record {
+        end = bytes_end_cut src to m f p d e is.end (omega arith);
+        some = is.some;
+        closes = has_byte 59 e (omega arith) is.closes;
+        small = subst (λ (bs : List ℕ). number base bs < 2 ^ 32) s is.small;
+        is_character = is.is_character ∙ ap (λ (bs : List ℕ). character (number base bs)) s;
+        allowed = is.allowed;
+        next = is.next;
+      }
+
+  -- a reference
+  pub reference_cut : (i n j : ℕ) → j ≤ m → IsReference src i n j → IsReference to i n j
+  reference_cut i n j fits is =
+      let next = is.next in
+      let lt = reference_lt src i n j is in
+      record {
+        opens = has_byte 38 i (omega arith) is.opens;
+        name = (name_cut (i + 1) n (behind src to m f 38 i (omega arith) is.opens (omega arith)) (omega arith) is.name).0;
+        closes = has_byte 59 n (omega arith) is.closes;
+        next = is.next;
+      }
+
+  -- its name
+  pub reference_same : (i n j : ℕ) → j ≤ m → IsReference src i n j → slice src (i + 1) n ≡ slice to (i + 1) n
+  reference_same i n j fits is =
+      let next = is.next in
+      let lt = reference_lt src i n j is in
+      slice_cut src to m f.same (i + 1) n (omega arith) (omega arith)
+
+  -- a reference to a character
+  pub character_cut : (i c j : ℕ) → j ≤ m → IsCharacter src i c j → IsCharacter to i c j
+  character_cut i c j fits (decimal _ e _ _ amp hash is) =
+      let some = is.some in
+      let next = is.next in
+      decimal i e c j (has_byte 38 i (omega arith) amp) (has_byte 35 (i + 1) (omega arith) hash) (number_cut 10 is_digit (i + 2) e c j fits is)
+  character_cut i c j fits (hexadecimal _ e _ _ amp hash x is) =
+      let some = is.some in
+      let next = is.next in
+      hexadecimal i e c j (has_byte 38 i (omega arith) amp) (has_byte 35 (i + 1) (omega arith) hash) (has_byte 120 (i + 2) (omega arith) x) (number_cut 16 is_hex_digit (i + 3) e c j fits is)
+  character_cut i c j fits (named _ n _ _ is known) =
+      named i n c j (reference_cut i n j fits is) (ap predefined (sym (reference_same i n j fits is)) ∙ known)
+
+  -- no declaration begins where `?` comes so soon
+  undeclared : (i e : ℕ) → i + 2 ≤ e → e + 2 ≤ m → at word.XmlDeclStart src i ≡ false → byte to e ≡ 63 → at word.XmlDeclStart to i ≡ false
+  undeclared i e le fits before close =
+      elim (cases_lt m (i + 6)) as (λ s. at word.XmlDeclStart to i ≡ false) [
+        | inr far ↦ (sym (stands_cut src to m f.same (word_text word.XmlDeclStart) i (omega arith)) ∙ before)
+        | inl near ↦ elim (cases_Bool (at word.XmlDeclStart to i)) as (λ s. at word.XmlDeclStart to i ≡ false) [
+          | inr out ↦ out
+          | inl stands_there ↦ (
+              let two = stands_reads (word_text word.XmlDeclStart) to i 2 stands_there (omega arith) in
+              let three = stands_reads (word_text word.XmlDeclStart) to i 3 stands_there (omega arith) in
+              elim (cases_lt e (i + 3)) as (λ s. at word.XmlDeclStart to i ≡ false) [
+                | inl first ↦ (
+                    let is : e ≡ i + 2 = omega arith in
+                    let no_x : byte to e ≡ 120 = ap (byte to) is ∙ two in
+                    absurd (omega arith))
+                | inr second ↦ (
+                    let is : e ≡ i + 3 = omega arith in
+                    let no_m : byte to e ≡ 109 = ap (byte to) is ∙ three in
+                    absurd (omega arith))
+              ])
+        ]
+      ]
+
+  -- a processing instruction
+  pub pi_cut : (i n e j : ℕ) → j ≤ m → IsPI src i n e j → IsPI to i n e j × (spaces_end src n ≡ spaces_end to n)
+  pi_cut i n e j fits is =
+      let next = is.next in
+      let le = pi_le src i n e j is in
+      let le0 = le.0 in
+      let le1 = le.1 in
+      let le2 = run_le is_space src n in
+      let question = stands_reads (word_text word.PIStart) src i 1 is.opens (omega arith) in
+      let close = stands_reads (word_text word.PIEnd) src e 0 is.closes (omega arith) in
+      let z : e + 0 ≡ e = omega arith in
+      let close' : byte to e ≡ 63 = has_byte 63 e (omega arith) (ap (byte src) (sym z) ∙ close) in
+      let one : i + 1 + 1 ≡ i + 2 = omega arith in
+      let t = name_cut (i + 2) n (subst (IsCharBoundary (take m src)) one (behind src to m f 63 (i + 1) (omega arith) question (omega arith))) (omega arith) is.target in
+      let s = space_cut n (spaces_end src n) t.1 (omega arith) refl in (
+        record {
+          opens = sym (stands_cut src to m f.same (word_text word.PIStart) i (omega arith)) ∙ is.opens;
+          no_declaration = undeclared i e (omega arith) (omega arith) is.no_declaration close';
+          target = t.0;
+          end = mark_from_cut src to m f.same (word_text word.PIEnd) (spaces_end src n) e is.end (omega arith) (omega arith) ∙ ap (mark_from (word_text word.PIEnd) to) s.0;
+          chars = subst (λ (x : ℕ). AreChars to x e) s.0 (chars_cut src to m f.same (spaces_end src n) e (omega arith) is.chars);
+          closes = sym (stands_cut src to m f.same (word_text word.PIEnd) e (omega arith)) ∙ is.closes;
+          next = is.next;
+        },
+        s.0,
+      )
+
+  -- a CDATA section
+  pub cdata_cut : (i e j : ℕ) → j ≤ m → IsCData src i e j → IsCData to i e j
+  cdata_cut i e j fits is =
+      let next = is.next in
+      let le = cdata_le src i e j is in
+      record {
+        opens = sym (stands_cut src to m f.same (word_text word.CDataStart) i (omega arith)) ∙ is.opens;
+        end = mark_from_cut src to m f.same (word_text word.CDataEnd) (i + 9) e is.end (omega arith) (omega arith);
+        chars = chars_cut src to m f.same (i + 9) e (omega arith) is.chars;
+        closes = sym (stands_cut src to m f.same (word_text word.CDataEnd) e (omega arith)) ∙ is.closes;
+        next = is.next;
+      }
+
+  -- an end tag
+  pub end_cut : (i : ℕ) (name : Name) (n j : ℕ) → j ≤ m → IsEnd src i name n j → IsEnd to i name n j
+  end_cut i name n j fits is =
+      let next = is.next in
+      let le = qname_le src (i + 2) name n is.is_name in
+      let le' = run_le is_space src n in
+      let slash = stands_reads (word_text word.EndTagStart) src i 1 is.opens (omega arith) in
+      let one : i + 1 + 1 ≡ i + 2 = omega arith in
+      let t = qname_cut (i + 2) name n (subst (IsCharBoundary (take m src)) one (behind src to m f 47 (i + 1) (omega arith) slash (omega arith))) (omega arith) is.is_name in
+      let s = space_cut n (spaces_end src n) t.1 (omega arith) refl in
+      let same = s.0 in
+      record {
+        opens = sym (stands_cut src to m f.same (word_text word.EndTagStart) i (omega arith)) ∙ is.opens;
+        is_name = t.0;
+        closes = ap (byte to) (sym same) ∙ has_byte 62 (spaces_end src n) (omega arith) is.closes;
+        next = omega arith;
+      }

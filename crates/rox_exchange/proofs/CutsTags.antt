@@ -1,0 +1,137 @@
+-- Character data, values, attributes and tags stand in each source with the same front.
+use Rattle.std.proofs.Common.{◌≡◌, ◌≢◌, ℕ, ◌+◌, ◌<◌, ◌≤◌, ◌⊎◌, ◌==◌, Bool, true, false, List, ◌∷◌, take, refl, sym, ap, ◌∙◌, subst, arith, inl, inr}
+use Rattle.std.specs.Str.{IsCharBoundary}
+use Rattle.std.proofs.lemmas.Bool.{eqb-true, cases_lt}
+use Rattle.rox_grammar.specs.Chars.{is_space}
+use Rattle.rox_grammar.specs.Written.{Attribute, Tag}
+use Rattle.rox_grammar.specs.Names.{byte, spaces_end}
+use Rattle.rox_grammar.specs.References.{predefined}
+use Rattle.rox_grammar.specs.Constructs.{IsLiteral}
+use Rattle.rox_grammar.specs.Content.{Inclusion, DataByte, literal, Part, part_ends, as_written, from_reference, Value, value_ends, line_end, white, other, a_character, an_entity, is_verbatim_value, IsAttribute, Attributes, no_more, one_more, TagEnds, opened, closed, IsTag}
+use Rattle.rox_exchange.specs.Local.{Fronts}
+use Rattle.rox_exchange.proofs.Cuts.{byte_cut, slice_cut, literal_cut}
+use Rattle.rox_exchange.proofs.Fronts.{from_here, behind}
+use Rattle.rox_exchange.proofs.CutsLexical.{space_cut, has_byte, has_other, qname_cut, eq_cut, reference_cut, reference_same, character_cut}
+use Rattle.rox_exchange.proofs.Order.{run_le, qname_le, eq_lt, literal_lt, attribute_lt, attributes_le, tag_ends_lt}
+
+module _ (src to : List ℕ) (m : ℕ) (f : Fronts src to m) where
+  -- a part
+  pub part_cut : (main : Bool) (j i : ℕ) (ss : List DataByte) → j ≤ m → Part main src j i ss → Part main to j i ss
+  part_cut main j i ss fits part_ends = part_ends
+  part_cut main j i ss fits (as_written _ rest lt no_amp is) =
+      subst (λ (b : ℕ). Part main to j i (literal b ∷ rest)) (sym (byte_cut src to m f.same i (omega arith)))
+      (as_written i rest lt (has_other src to m f 38 i (omega arith) no_amp) (part_cut main j (i + 1) rest fits is))
+  part_cut main j i ss fits (from_reference _ n c rest is le more) =
+      from_reference i n c rest (character_cut src to m f i c n (omega arith) is) le (part_cut main j n rest fits more)
+
+  -- a value
+  pub value_cut : (main : Bool) (Includes : Inclusion) (j i b c : ℕ) (v : List ℕ) → j ≤ m → Value main Includes src j i b c v → Value main Includes to j i b c v
+  value_cut main Includes j i b c v fits (value_ends _) = value_ends b
+  value_cut main Includes j i b c v fits (line_end _ _ _ _ lt cr lf more) =
+      line_end i b c v lt (has_byte src to m f 13 i (omega arith) cr) (has_byte src to m f 10 (i + 1) (omega arith) lf) (value_cut main Includes j (i + 1) b c v fits more)
+  value_cut main Includes j i b c v fits (white _ _ _ w lt is more) =
+      white i b c w lt (is_white lt is) (value_cut main Includes j (i + 1) b c w fits more)
+    where
+      is_white : i < j → (byte src i ≡ 9) ⊎ ((byte src i ≡ 10) ⊎ ((byte src i ≡ 13) × ((j ≡ i + 1) ⊎ (byte src (i + 1) ≢ 10))))
+          → (byte to i ≡ 9) ⊎ ((byte to i ≡ 10) ⊎ ((byte to i ≡ 13) × ((j ≡ i + 1) ⊎ (byte to (i + 1) ≢ 10))))
+      is_white lt (inl tab) = inl (has_byte src to m f 9 i (omega arith) tab)
+      is_white lt (inr (inl line)) = inr (inl (has_byte src to m f 10 i (omega arith) line))
+      is_white lt (inr (inr (cr, inl last))) = inr (inr (has_byte src to m f 13 i (omega arith) cr, inl last))
+      is_white lt (inr (inr (cr, inr more))) =
+          inr (inr (
+            has_byte src to m f 13 i (omega arith) cr,
+            elim (cases_lt (i + 1) j) as (λ s. (j ≡ i + 1) ⊎ (byte to (i + 1) ≢ 10)) [
+              | inl inside ↦ inr (has_other src to m f 10 (i + 1) (omega arith) more)
+              | inr past ↦ inl (omega arith)
+            ],
+          ))
+  value_cut main Includes j i b c v fits (other _ _ _ w lt x₁ x₂ x₃ x₄ x₅ more) =
+      let n : (b : ℕ) → byte src i ≢ b → byte to i ≢ b = λ b. has_other src to m f b i (omega arith) in
+      subst (λ (x : ℕ). Value main Includes to j i b c (x ∷ w)) (sym (byte_cut src to m f.same i (omega arith)))
+      (other i b c w lt (n 38 x₁) (n 9 x₂) (n 10 x₃) (n 13 x₄) (n 60 x₅) (value_cut main Includes j (i + 1) b c w fits more))
+  value_cut main Includes j i b c v fits (a_character _ n x _ _ w is le allowed more) =
+      a_character i n x b c w (character_cut src to m f i x n (omega arith) is) le allowed (value_cut main Includes j n b c w fits more)
+  value_cut main Includes j i b c v fits (an_entity _ n p _ d _ u w is name le opens more) =
+      let same = reference_same src to m f i n p (omega arith) is in
+      an_entity i n p b d c u w (reference_cut src to m f i n p (omega arith) is) (ap predefined (sym same) ∙ name) le
+      (subst (λ (bs : List ℕ). Includes.value bs b u d) same opens)
+      (value_cut main Includes j p d c w fits more)
+
+  -- a character begins behind a literal
+  pub behind_literal : (i e j : ℕ) → j ≤ m → IsLiteral src i e j → IsCharBoundary (take m src) j
+  behind_literal i e j fits is =
+      let next = is.next in
+      let end = is.end in
+      let inside = is.closes in
+      let q = from_here (λ c. c == byte src i) src (i + 1) (omega arith) in
+      let same : byte src e ≡ byte src i = eqb-true _ _ (subst (λ (x : ℕ). (byte src x == byte src i) ≡ true) (sym end) q) in
+      let small : byte src i < 128 = elim is.quote as (λ s. byte src i < 128) [ inl one ↦ omega arith | inr two ↦ omega arith ] in
+      subst (IsCharBoundary (take m src)) (sym next) (behind src to m f (byte src i) e (omega arith) same small)
+
+  -- an attribute, and a character begins behind it
+  pub attribute_cut : (main : Bool) (Includes : Inclusion) (i j b c : ℕ) (a : Attribute) → IsCharBoundary (take m src) i → j ≤ m → IsAttribute main Includes src i j b c a
+      → IsAttribute main Includes to i j b c a × IsCharBoundary (take m src) j
+  attribute_cut main Includes i j b c a cut fits is =
+      let next = is.literal.next in
+      let v = eq_lt src a.name_end is.v is.eq in
+      let e = literal_lt src is.v is.e j is.literal in
+      let n = qname_cut src to m f i a.name a.name_end cut (omega arith) is.is_name in (
+        record {
+          starts = is.starts;
+          is_name = n.0;
+          v = is.v;
+          eq = eq_cut src to m f a.name_end is.v n.1 (omega arith) is.eq;
+          e = is.e;
+          literal = literal_cut src to m f.same is.v is.e j fits is.literal;
+          value_start = is.value_start;
+          end = is.end;
+          value = value_cut main Includes is.e (is.v + 1) b c a.value (omega arith) is.value;
+          borrowed = is.borrowed ∙ ap is_verbatim_value (slice_cut src to m f.same (is.v + 1) is.e (omega arith) (omega arith));
+        },
+        behind_literal is.v is.e j fits is.literal,
+      )
+
+  -- attributes
+  pub attributes_cut : (main : Bool) (Includes : Inclusion) (i j b c : ℕ) (as' : List Attribute) → IsCharBoundary (take m src) i → j ≤ m → Attributes main Includes src i j b c as'
+      → Attributes main Includes to i j b c as' × IsCharBoundary (take m src) j
+  attributes_cut main Includes i j b c as' cut fits (no_more _ _) = (no_more i b, cut)
+  attributes_cut main Includes i j b c as' cut fits (one_more _ n _ _ d _ a rest spaces is more) =
+      let lt = attribute_lt src main Includes (spaces_end src i) n b d a is in
+      let le = attributes_le src main Includes n j d c rest more in
+      let s = space_cut src to m f i (spaces_end src i) cut (omega arith) refl in
+      let same = s.0 in
+      let one = attribute_cut main Includes (spaces_end src i) n b d a s.1 (omega arith) is in
+      let others = attributes_cut main Includes n j d c rest one.1 fits more in
+      (one_more i n j b d c a rest (omega arith) (subst (λ (x : ℕ). IsAttribute main Includes to x n b d a) same one.0) others.0, others.1)
+
+  -- the end of a tag
+  pub tag_ends_cut : (i : ℕ) (is_empty : Bool) (j : ℕ) → IsCharBoundary (take m src) i → j ≤ m → TagEnds src i is_empty j → TagEnds to i is_empty j
+  tag_ends_cut i is_empty j cut fits (opened _ close) =
+      let same = (space_cut src to m f i (spaces_end src i) cut (omega arith) refl).0 in
+      subst (λ (x : ℕ). TagEnds to i false (x + 1)) (sym same)
+      (opened i (ap (byte to) (sym same) ∙ has_byte src to m f 62 (spaces_end src i) (omega arith) close))
+  tag_ends_cut i is_empty j cut fits (closed _ slash close) =
+      let same = (space_cut src to m f i (spaces_end src i) cut (omega arith) refl).0 in
+      subst (λ (x : ℕ). TagEnds to i true (x + 2)) (sym same)
+      (closed i (ap (byte to) (sym same) ∙ has_byte src to m f 47 (spaces_end src i) (omega arith) slash)
+      (ap (λ (x : ℕ). byte to (x + 1)) (sym same) ∙ has_byte src to m f 62 (spaces_end src i + 1) (omega arith) close))
+
+  -- a tag
+  pub tag_cut : (main : Bool) (Includes : Inclusion) (i j b c : ℕ) (is_empty : Bool) (t : Tag) → j ≤ m → IsTag main Includes src i j b c is_empty t → IsTag main Includes to i j b c is_empty t
+  tag_cut main Includes i j b c is_empty t fits is =
+      let le = qname_le src (i + 1) t.name t.name_end is.is_name in
+      let le' = attributes_le src main Includes t.name_end is.last b c is.written is.attributes in
+      let lt = tag_ends_lt src is.last is_empty j is.ends in
+      let lt' = run_le is_space src is.last in
+      let n = qname_cut src to m f (i + 1) t.name t.name_end (behind src to m f 60 i (omega arith) is.begins (omega arith)) (omega arith) is.is_name in
+      let a = attributes_cut main Includes t.name_end is.last b c is.written n.1 (omega arith) is.attributes in
+      record {
+        begins = has_byte src to m f 60 i (omega arith) is.begins;
+        is_name = n.0;
+        written = is.written;
+        last = is.last;
+        attributes = a.0;
+        ends = tag_ends_cut is.last is_empty j a.1 fits is.ends;
+        is_namespace_decl = is.is_namespace_decl;
+        has = is.has;
+      }

@@ -1,0 +1,200 @@
+-- A document with another element in the place of one of its own.
+use Rattle.std.proofs.Common.{◌≡◌, ℕ, zero, suc, ◌+◌, ◌-◌, ◌<◌, ◌≤◌, ◌==◌, Bool, true, false, List, [], ◌∷◌, ◌++◌, length, take, drop, get_or, lt-ltb, refl, sym, ap, ◌∙◌, subst, arith, inl, inr, cond, length-drop, length-append}
+use Rattle.std.specs.Str.{IsUtf8}
+use Rattle.std.proofs.lemmas.Bool.{cases_Bool, cases_lt}
+use Rattle.rox_grammar.specs.declared.fault.Word.TheVariants as word
+use Rattle.rox_grammar.specs.FixedTexts.{word_text}
+use Rattle.rox_grammar.specs.Search.{stands}
+use Rattle.rox_grammar.specs.Forest.{Forest, Nil, Cons, join}
+use Rattle.rox_grammar.specs.Written.{Tag, Item, Element, leaf}
+use Rattle.rox_grammar.specs.Names.{byte, slice}
+use Rattle.rox_grammar.specs.Constructs.{at}
+use Rattle.rox_grammar.specs.Content.{comment, instruction, IsElement}
+use Rattle.rox_grammar.specs.WellNamed.{AreWellNamed}
+use Rattle.rox_grammar.specs.TextStart.{bom, after_bom, MayHaveXmlDecl, declared, not_declared}
+use Rattle.rox_grammar.specs.Entities.{no_entities}
+use Rattle.rox_grammar.specs.Document.{Misc, no_misc, space, an_item}
+use Rattle.rox_grammar.specs.Exchange.{Move, moved, replaced}
+use Rattle.rox_theory.specs.WithoutDoctype.{ParseWithout}
+use Rattle.rox_exchange.specs.Local.{Fronts, moved_items}
+use Rattle.rox_exchange.specs.ElementWith.{ElementWith, exchanged_items}
+use Rattle.rox_exchange.specs.SourceKinds.{StandsInEach}
+use Rattle.rox_exchange.specs.SelfContained.{is_contained}
+use Rattle.rox_exchange.proofs.Order.{element_lt}
+use Rattle.rox_exchange.proofs.Follows.{from}
+use Rattle.rox_exchange.proofs.Fronts.{stands_reads}
+use Rattle.rox_exchange.proofs.Cuts.{stands_cut}
+use Rattle.rox_exchange.proofs.CutsDeclaration.{IsMissing, word_cut, declaration_cut}
+use Rattle.rox_exchange.proofs.MovedItems.{moved_named}
+use Rattle.rox_exchange.proofs.Context.{join_nil, EndUpTo, past_front, one_element, element_bounds}
+use Rattle.rox_exchange.proofs.Found.{stands_join, in_none, no_misc_item, element_found}
+use Rattle.rox_exchange.proofs.Alone.{element_begins, undeclared}
+use Rattle.rox_exchange.proofs.Around.{around_le, around_moves, around_cut}
+use Rattle.rox_exchange.proofs.Named.{named_exchanged}
+use Rattle.rox_exchange.proofs.Ordered.{Ordered, ordered_join, wider, around_ordered, element_ordered}
+use Rattle.rox_exchange.proofs.Put.{sizes, parts, put, behind, in_front, exchanged_whole}
+
+-- ---- in front of the root element
+
+lacks_bom : IsMissing 60 bom
+lacks_bom = ((λ e. omega arith), ((λ e. omega arith), ((λ e. omega arith), tt)))
+
+-- behind its first byte the start of a declaration has no `<`
+abbrev behind_first : List ℕ
+behind_first = 63 ∷ 120 ∷ 109 ∷ 108 ∷ 32 ∷ []
+
+no_second : (j : ℕ) → get_or behind_first j 0 ≡ 60 → ⊥
+no_second zero e = omega arith
+no_second (suc zero) e = omega arith
+no_second (suc (suc zero)) e = omega arith
+no_second (suc (suc (suc zero))) e = omega arith
+no_second (suc (suc (suc (suc zero)))) e = omega arith
+no_second (suc (suc (suc (suc (suc j))))) e = cc e
+
+module _ (src to : List ℕ) (s : ℕ) (f : Fronts src to (s + 1)) (begins : byte src s ≡ 60) (begins' : byte to s ≡ 60) (none_there : at word.XmlDeclStart to s ≡ false) where
+  -- a byte order mark
+  bom_cut : after_bom src ≡ after_bom to
+  unfolding stands
+  bom_cut = ap (λ (b : Bool). cond b 3 0) (word_cut src to (s + 1) f 60 bom 0 s (omega arith) lacks_bom (omega arith) (omega arith) begins)
+
+  -- no declaration
+  undeclared_cut : (i : ℕ) → i ≤ s → at word.XmlDeclStart src i ≡ false → at word.XmlDeclStart to i ≡ false
+  undeclared_cut i le none =
+      elim (cases_Bool (at word.XmlDeclStart to i)) as (λ q. at word.XmlDeclStart to i ≡ false) [
+        | inr out ↦ out
+        | inl here ↦ elim (cases_lt s (i + 6)) as (λ q. at word.XmlDeclStart to i ≡ false) [
+          | inr far ↦ sym (stands_cut src to (s + 1) f.same (word_text word.XmlDeclStart) i (omega arith)) ∙ none
+          | inl near ↦ elim (cases_lt i s) as (λ q. at word.XmlDeclStart to i ≡ false) [
+            | inr at_once ↦ (let e : s ≡ i = omega arith in subst (λ (k : ℕ). at word.XmlDeclStart to k ≡ false) e none_there)
+            | inl before ↦ (
+                let e : i + suc (s - i - 1) ≡ s = omega arith in
+                let read = stands_reads (word_text word.XmlDeclStart) to i (suc (s - i - 1)) here (omega arith) in
+                absurd (no_second (s - i - 1) (sym read ∙ ap (byte to) e ∙ begins')))
+          ]
+        ]
+      ]
+
+  may_declare_cut : (i j : ℕ) → j ≤ s → MayHaveXmlDecl src i j → MayHaveXmlDecl to i j
+  may_declare_cut i j le (declared _ _ is) = declared i j (declaration_cut src to (s + 1) f i j (omega arith) is)
+  may_declare_cut i j le (not_declared _ none) = not_declared i (undeclared_cut i le none)
+
+-- ---- around it there is no element
+
+module _ (src : List ℕ) (s e : ℕ) (t : Tag) (kids : Forest Item) where
+  none_around : (i j : ℕ) (items : Forest Item) → Misc src i j items → StandsInEach s e t kids items → ⊥
+  none_around i j items (no_misc _) is = in_none s e t kids is
+  none_around i j items (space _ _ _ white rest) is = none_around (i + 1) j items rest is
+  none_around i j items (an_item _ k _ item more one rest) is =
+      elim (stands_join s e t kids (leaf item) more is) as (λ q. ⊥) [ inl early ↦ no_misc_item src s e t kids i k item one early | inr late ↦ none_around k j more rest late ]
+
+  -- so an element of the document is in the root element
+  pub in_root : (tops : Forest Item) (p : ParseWithout src tops) → StandsInEach s e t kids tops → StandsInEach s e t kids p.one
+  in_root tops p is =
+      elim (stands_join s e t kids p.before (join p.one p.after) (subst (StandsInEach s e t kids) p.is_tree is)) as (λ q. StandsInEach s e t kids p.one) [
+        | inl early ↦ absurd (none_around p.declared_to p.start p.before p.misc_before early)
+        | inr later ↦ elim (stands_join s e t kids p.one p.after later) as (λ q. StandsInEach s e t kids p.one) [
+          | inl within ↦ within
+          | inr late ↦ absurd (none_around p.end (length src) p.after p.misc_after late)
+        ]
+      ]
+
+up_to_around : (src : List ℕ) (s i j : ℕ) (items : Forest Item) → Misc src i j items → EndUpTo s items
+up_to_around src s i j items (no_misc _) = tt
+up_to_around src s i j items (space _ _ _ white rest) = up_to_around src s (i + 1) j items rest
+up_to_around src s i j items (an_item _ k _ _ more (comment _ x _ is) rest) = up_to_around src s k j more rest
+up_to_around src s i j items (an_item _ k _ _ more (instruction _ n x _ is) rest) = up_to_around src s k j more rest
+
+-- the top nodes of a document are in order
+pub tops_ordered : (src : List ℕ) (tops : Forest Item) → ParseWithout src tops → Ordered 0 (length src) tops
+tops_ordered src tops p =
+    let one = ordered_join p.start p.end (length src) p.one p.after (element_ordered src p.start p.end 255 p.left p.one p.element) (around_ordered src p.end (length src) p.after p.misc_after) in
+    let all = ordered_join p.declared_to p.start (length src) p.before (join p.one p.after) (around_ordered src p.declared_to p.start p.before p.misc_before) one in
+    subst (Ordered 0 (length src)) (sym p.is_tree) (wider p.declared_to (length src) 0 (length src) (join p.before (join p.one p.after)) (omega arith) (omega arith) all)
+
+-- a row that one element begins, with another within it
+exchanged_front : (mv : Move) (new : Forest Item) (s i j : ℕ) (t : Tag) (kids after : Forest Item) → i ≤ s → s < j
+    → exchanged_items mv new s (join (Cons (Element i j t) kids Nil) after) ≡ join (exchanged_items mv new s (Cons (Element i j t) kids Nil)) (moved_items mv after)
+exchanged_front mv new s i j t kids after le lt =
+    elim (cases_Bool (i == s)) as (λ q. exchanged_items mv new s (join (Cons (Element i j t) kids Nil) after) ≡ join (exchanged_items mv new s (Cons (Element i j t) kids Nil)) (moved_items mv after)) [
+      | inl same ↦ rw (same, join_nil new) refl
+      | inr other ↦ (let over = lt-ltb s j lt in rw (other, over) refl)
+    ]
+
+-- ---- the whole document
+
+module _ (src other : List ℕ) (s e a z : ℕ) (t : Tag) (kids one : Forest Item) (utf8 : IsUtf8 src) (utf8' : IsUtf8 other) (new : IsElement true no_entities other a z 255 255 one) (named : AreWellNamed [] one)
+    (tops : Forest Item) (p : ParseWithout src tops) (is : StandsInEach s e t kids tops) (contained : is_contained s tops ≡ true) where
+  abbrev hole : Forest Item
+  hole = Cons (Element s e t) kids Nil
+
+  -- where the element stands
+  placed : ElementWith src s e hole p.start p.end p.one × IsElement true no_entities src s e 255 255 hole
+  placed = element_found src s e t kids p.start p.end 255 p.left p.one p.element (in_root src s e t kids tops p is)
+
+  -- the items of the new text
+  items_are : exchanged_items (record { add = z - a; sub = e - s }) (moved_items (record { add = s; sub = a }) one) s tops
+      ≡ join p.before (join (exchanged_items (record { add = z - a; sub = e - s }) (moved_items (record { add = s; sub = a }) one) s p.one) (moved_items (record { add = z - a; sub = e - s }) p.after))
+  items_are =
+      let mv : Move = record { add = z - a; sub = e - s } in
+      let put_in = moved_items (record { add = s; sub = a }) one in
+      let b = element_bounds src s e hole p.start p.end p.one placed.0 in
+      let b0 = b.0 in
+      let b1 = b.1 in
+      let lt = element_lt src true no_entities s e 255 255 hole placed.1 in
+      let o = one_element src p.start p.end 255 p.left p.one p.element in
+      let front = subst (λ (f : Forest Item). exchanged_items mv put_in s (join f p.after) ≡ join (exchanged_items mv put_in s f) (moved_items mv p.after)) (sym o.2)
+      (exchanged_front mv put_in s p.start p.end o.0 o.1 p.after b0 (omega arith)) in
+      ap (exchanged_items mv put_in s) p.is_tree ∙ past_front mv put_in s p.before (join p.one p.after) (up_to_around src s p.declared_to p.start p.before p.misc_before) ∙ ap (join p.before) front
+
+  -- how long it is
+  pub long_exchanged : moved (record { add = z - a; sub = e - s }) (length src) ≡ length (replaced src s e (slice other a z))
+  long_exchanged =
+      let n = sizes src other s e a z utf8 utf8' hole one placed.1 new in
+      let n0 = n.0 in
+      let n1 = n.1 in
+      let n2 = n.2 in
+      let long = n.6 in
+      let size : length (replaced src s e (slice other a z)) ≡ s + (z - a) + (length src - e) =
+      ap length (parts src other s e a z utf8 utf8' hole one placed.1 new) ∙ omega (arith, length-append (take s src ++ slice other a z) (drop e src), length-drop e src) in
+      omega arith
+
+  pub parse_exchanged : ParseWithout (replaced src s e (slice other a z)) (exchanged_items (record { add = z - a; sub = e - s }) (moved_items (record { add = s; sub = a }) one) s tops)
+  parse_exchanged =
+      let mv : Move = record { add = z - a; sub = e - s } in
+      let put_in = moved_items (record { add = s; sub = a }) one in
+      let text = replaced src s e (slice other a z) in
+      let with_hole = placed.0 in
+      let is_hole = placed.1 in
+      let b = element_bounds src s e hole p.start p.end p.one with_hole in
+      let b0 = b.0 in
+      let b1 = b.1 in
+      let n = sizes src other s e a z utf8 utf8' hole one is_hole new in
+      let n0 = n.0 in
+      let n1 = n.1 in
+      let n2 = n.2 in
+      let long = n.6 in
+      let there = put src other s e a z utf8 utf8' hole one is_hole new in
+      let front = in_front src other s e a z utf8 utf8' hole one is_hole new in
+      let back = behind src other s e a z utf8 utf8' hole one is_hole new in
+      let first = element_begins src s e 255 255 hole is_hole in
+      let second = element_begins text s (moved mv e) 255 255 put_in there in
+      let none_there = undeclared text s (moved mv e) 255 255 put_in there in
+      let le_root = around_le src p.declared_to p.start p.before p.misc_before in
+      let le_after = around_le src p.end (length src) p.after p.misc_after in
+      let mark = bom_cut src text s front first.0 second.0 none_there in
+      record {
+        declared_to = p.declared_to;
+        declaration = subst (λ (k : ℕ). MayHaveXmlDecl text k p.declared_to) mark (may_declare_cut src text s front first.0 second.0 none_there (after_bom src) p.declared_to (omega arith) p.declaration);
+        start = p.start;
+        before = p.before;
+        misc_before = around_cut src text (s + 1) front p.declared_to p.start p.before (omega arith) p.misc_before;
+        end = moved mv p.end;
+        left = 255;
+        one = exchanged_items mv put_in s p.one;
+        element = exchanged_whole src other s e a z utf8 utf8' hole one is_hole new p.start p.end p.one with_hole;
+        after = moved_items mv p.after;
+        misc_after = subst (λ (k : ℕ). Misc text (moved mv p.end) k (moved_items mv p.after)) long_exchanged
+            (around_moves mv src text p.end (length src) p.after (from mv src text e (moved mv e) p.end b1 back) p.misc_after);
+        is_tree = items_are;
+        well_named = named_exchanged mv put_in s (moved_named (record { add = s; sub = a }) [] one named) tops contained p.well_named;
+      }

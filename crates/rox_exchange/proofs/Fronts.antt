@@ -1,0 +1,164 @@
+-- What stands in a source stands in each that has the same bytes up to its end: runs of characters, and where characters begin.
+use Rattle.std.proofs.Common.{◌≡◌, ℕ, zero, suc, ◌+◌, ◌-◌, ◌<◌, Bool, true, false, not, List, [], ◌∷◌, ◌++◌, length, take, drop, get_or, refl, sym, ap, ◌∙◌, subst, arith, inl, inr, add-zero, length-drop, length-take, length-append, get_or-drop, take-append-drop}
+use Rattle.std.specs.List.{prefix_len}
+use Rattle.std.specs.Char.{encode_utf8, len_utf8}
+use Rattle.std.specs.Str.{chars, IsUtf8, IsCharBoundary, encode_utf8_all}
+use Rattle.std.proofs.lemmas.Bool.{cases_Bool, not-false}
+use Rattle.std.proofs.lemmas.List.{drop-drop, get_or-take, drop-append-le}
+use Rattle.std.proofs.lemmas.List.Prefix.{at_reads}
+use Rattle.std.proofs.lemmas.List.Sums.{prefix_len_stops}
+use Rattle.std.proofs.lemmas.Slice.Eq.{starts_is}
+use Rattle.std.proofs.lemmas.Bool.Decides.{Decides-eqb}
+use Rattle.std.proofs.lemmas.Str.{chars-append, chars-encodes, encodes-chars, length-encode, IsUtf8-drop, IsCharBoundary-past_char, IsCharBoundary-after_ascii}
+use Rattle.std.proofs.Math.Seq.{drop-append_seam}
+use Rattle.rox_grammar.specs.Search.{stands, byte_from}
+use Rattle.rox_grammar.specs.Runs.{run_end, begins, passing, first_passes}
+use Rattle.rox_grammar.specs.Names.{byte}
+use Rattle.rox_grammar.specs.References.{bytes_end}
+use Rattle.rox_exchange.specs.Local.{Fronts}
+use Rattle.rox_exchange.proofs.Cuts.{heads, fronts, run_end_front}
+
+-- ---- of one source
+
+-- behind the characters that pass another begins
+boundary_in : (p : ℕ → Bool) (src cs : List ℕ) (i : ℕ) → IsUtf8 src → IsCharBoundary src i → drop i src ≡ encode_utf8_all cs → IsCharBoundary src (i + passing p cs)
+boundary_in p src [] i utf8 cut is = rw (add-zero i) cut
+boundary_in p src (c ∷ cs) i utf8 cut is =
+    elim (cases_Bool (p c)) as (λ s. IsCharBoundary src (i + passing p (c ∷ cs))) [
+      | inl passes ↦ (
+          let next = IsCharBoundary-past_char src (encode_utf8_all cs) i c cut.0 (IsUtf8-drop src i utf8 cut) is in
+          let past : drop (len_utf8 c) (encode_utf8 c ++ encode_utf8_all cs) ≡ encode_utf8_all cs =
+          rw (← length-encode c) (drop-append_seam (encode_utf8 c) (encode_utf8_all cs)) in
+          let rest : drop (i + len_utf8 c) src ≡ encode_utf8_all cs = sym (drop-drop (len_utf8 c) i src) ∙ ap (drop (len_utf8 c)) is ∙ past in
+          let e : i + len_utf8 c + passing p cs ≡ i + passing p (c ∷ cs) = rw passes (omega arith) in
+          subst (IsCharBoundary src) e (boundary_in p src cs (i + len_utf8 c) utf8 next rest))
+      | inr fails ↦ rw (fails, add-zero i) cut
+    ]
+
+-- a run that begins where a character does ends so
+run_boundary : (p : ℕ → Bool) (src : List ℕ) (i : ℕ) → IsUtf8 src → IsCharBoundary src i → IsCharBoundary src (run_end p src i)
+unfolding run_end
+run_boundary p src i utf8 cut =
+    let spelled = IsUtf8-drop src i utf8 cut in
+    let all : chars (drop i src) ≡ spelled.0 = ap chars (sym spelled.1.1) ∙ chars-encodes spelled.0 spelled.1.0 in
+    rw all (boundary_in p src spelled.0 i utf8 cut (sym spelled.1.1))
+
+-- the byte that was looked for passes
+pub from_here : (p : ℕ → Bool) (src : List ℕ) (i : ℕ) → byte_from p src i < length src → p (byte src (byte_from p src i)) ≡ true
+unfolding byte_from
+from_here p src i below =
+    let q = prefix_len_stops (λ c. not (p c)) (drop i src) 0 (rw length-drop (omega arith)) in
+    not-false _ (rw get_or-drop at q)
+
+-- where a mark stands, each of its bytes stands
+pub stands_reads : (mark src : List ℕ) (i j : ℕ) → stands mark src i ≡ true → j < length mark → byte src (i + j) ≡ get_or mark j 0
+unfolding stands
+stands_reads mark src i j h within = at_reads 0 src mark i _ ((starts_is Decides-eqb (drop i src) mark true (sym h)).0 refl) j within
+
+-- characters that pass and one that does not, with others behind them
+passing_more : (p : ℕ → Bool) (cs ds : List ℕ) → passing p cs < length (encode_utf8_all cs) → passing p (cs ++ ds) ≡ passing p cs
+passing_more p [] ds some = absurd (omega arith)
+passing_more p (c ∷ cs) ds some =
+    elim (cases_Bool (p c)) as (λ s. passing p (c ∷ (cs ++ ds)) ≡ passing p (c ∷ cs)) [
+      | inl passes ↦ (
+          let some' : len_utf8 c + passing p cs < length (encode_utf8 c ++ encode_utf8_all cs) = rw passes at some in
+          let n = length-append (encode_utf8 c) (encode_utf8_all cs) in
+          let m = length-encode c in
+          let ih = passing_more p cs ds (omega arith) in
+          rw passes (ap (λ (k : ℕ). len_utf8 c + k) ih))
+      | inr fails ↦ rw fails refl
+    ]
+
+-- a run that ends before the end of a text in UTF-8 ends there with anything behind the text
+run_end_more : (p : ℕ → Bool) (front back : List ℕ) (i : ℕ) → IsUtf8 front → IsCharBoundary front i → run_end p front i < length front → run_end p (front ++ back) i ≡ run_end p front i
+unfolding run_end
+run_end_more p front back i utf8 cut below =
+    let rest = IsUtf8-drop front i utf8 cut in
+    let split : drop i (front ++ back) ≡ drop i front ++ back = drop-append-le i front back cut.0 in
+    let both : chars (drop i (front ++ back)) ≡ chars (drop i front) ++ chars back = ap chars split ∙ chars-append (drop i front) back rest in
+    let spelled : encode_utf8_all (chars (drop i front)) ≡ drop i front = encodes-chars (drop i front) rest in
+    let n : length (encode_utf8_all (chars (drop i front))) ≡ length front - i = ap length spelled ∙ length-drop i front in
+    ap (λ (cs : List ℕ). i + passing p cs) both ∙ ap (λ (k : ℕ). i + k) (passing_more p (chars (drop i front)) (chars back) (omega arith))
+
+-- its first character is that of the text
+begins_more : (p : ℕ → Bool) (front back : List ℕ) (i : ℕ) → IsUtf8 front → IsCharBoundary front i → i < length front → begins p (front ++ back) i ≡ begins p front i
+unfolding begins
+begins_more p front back i utf8 cut below =
+    let rest = IsUtf8-drop front i utf8 cut in
+    let both : chars (drop i (front ++ back)) ≡ chars (drop i front) ++ chars back = ap chars (drop-append-le i front back cut.0) ∙ chars-append (drop i front) back rest in
+    ap (first_passes p) both ∙ some (chars (drop i front)) (chars back) (encodes-chars (drop i front) rest)
+  where
+    some : (cs ds : List ℕ) → encode_utf8_all cs ≡ drop i front → first_passes p (cs ++ ds) ≡ first_passes p cs
+    some [] ds is =
+        let n : 0 ≡ length front - i = ap length is ∙ length-drop i front in
+        absurd (omega arith)
+    some (c ∷ cs) ds is = refl
+
+-- the stretch of bytes that pass
+stretch_cut : (p : ℕ → Bool) (n : ℕ) (xs ys : List ℕ) → take n xs ≡ take n ys → prefix_len p xs < n → prefix_len p ys ≡ prefix_len p xs
+stretch_cut p zero xs ys h some = absurd (omega arith)
+stretch_cut p (suc n) [] [] h some = refl
+stretch_cut p (suc n) [] (y ∷ ys) h some = cc h
+stretch_cut p (suc n) (x ∷ xs) [] h some = cc h
+stretch_cut p (suc n) (x ∷ xs) (y ∷ ys) h some =
+    let both = heads n x y xs ys h in
+    elim (cases_Bool (p x)) as (λ s. prefix_len p (y ∷ ys) ≡ prefix_len p (x ∷ xs)) [
+      | inl here ↦ (
+          let there : p y ≡ true = rw (← both.0) here in
+          let some' : 1 + prefix_len p xs < suc n = rw here at some in
+          let ih = stretch_cut p n xs ys both.1 (omega arith) in
+          rw (here, there) (ap (λ (k : ℕ). 1 + k) ih))
+      | inr later ↦ (let there : p y ≡ false = rw (← both.0) later in rw (later, there) refl)
+    ]
+
+-- ---- of two that have one front
+
+module _ (src to : List ℕ) (m : ℕ) (f : Fronts src to m) where
+  -- how long the front is
+  long : length (take m src) ≡ m
+  long = let inside = f.inside in omega (arith, length-take m src)
+
+  -- it is the other's too
+  pub front_back : Fronts to src m
+  front_back =
+      let inside = f.inside in
+      let n : length (take m src) ≡ length (take m to) = ap length f.same in
+      record { same = sym f.same; inside = omega (arith, length-take m src, length-take m to); utf8 = subst IsUtf8 f.same f.utf8 }
+
+  split_src : take m src ++ drop m src ≡ src
+  split_src = take-append-drop m src
+
+  split_to : take m src ++ drop m to ≡ to
+  split_to = ap (λ (bs : List ℕ). bs ++ drop m to) f.same ∙ take-append-drop m to
+
+  -- a character begins behind a byte that is ASCII
+  pub behind : (b i : ℕ) → i < m → byte src i ≡ b → b < 128 → IsCharBoundary (take m src) (i + 1)
+  behind b i below is ascii =
+      let inside = f.inside in
+      let n = long in
+      let same = get_or-take m src i 0 below in
+      IsCharBoundary-after_ascii (take m src) i f.utf8 (omega arith) (omega arith)
+
+  -- a run of characters, and behind it another begins
+  pub run_cuts : (p : ℕ → Bool) (i e : ℕ) → IsCharBoundary (take m src) i → e < m → e ≡ run_end p src i → (e ≡ run_end p to i) × IsCharBoundary (take m src) e
+  run_cuts p i e cut below is =
+      let n = long in
+      let whole : run_end p (take m src ++ drop m src) i ≡ e = ap (λ (bs : List ℕ). run_end p bs i) split_src ∙ sym is in
+      let one : run_end p (take m src ++ drop m src) i ≡ run_end p (take m src) i = run_end_front p (take m src) (drop m src) i f.utf8 cut (omega arith) in
+      let two : run_end p (take m src ++ drop m to) i ≡ run_end p (take m src) i = run_end_more p (take m src) (drop m to) i f.utf8 cut (omega arith) in
+      let at : run_end p (take m src) i ≡ e = sym one ∙ whole in
+      (sym at ∙ sym two ∙ ap (λ (bs : List ℕ). run_end p bs i) split_to, subst (IsCharBoundary (take m src)) at (run_boundary p (take m src) i f.utf8 cut))
+
+  -- its first character
+  pub begins_cut : (p : ℕ → Bool) (i : ℕ) → IsCharBoundary (take m src) i → i < m → begins p src i ≡ begins p to i
+  begins_cut p i cut below =
+      let n = long in
+      sym (ap (λ (bs : List ℕ). begins p bs i) split_src) ∙ begins_more p (take m src) (drop m src) i f.utf8 cut (omega arith)
+      ∙ sym (begins_more p (take m src) (drop m to) i f.utf8 cut (omega arith)) ∙ ap (λ (bs : List ℕ). begins p bs i) split_to
+
+  -- a stretch of bytes
+  pub bytes_end_cut : (p : ℕ → Bool) (i e : ℕ) → e ≡ bytes_end p src i → e < m → e ≡ bytes_end p to i
+  unfolding bytes_end
+  bytes_end_cut p i e is below =
+      let q = stretch_cut p (m - i) (drop i src) (drop i to) (fronts src to m f.same i (omega arith)) (omega arith) in
+      omega arith

@@ -1,0 +1,129 @@
+-- An element of a document has no more than the document: nodes, attributes, distinct pairs of a prefix and a URI.
+use Rattle.std.proofs.Common.{◌≡◌, ℕ, ◌≤◌, ◌||◌, Bool, true, false, List, [], ◌∷◌, ◌++◌, length, Option, None, Some, refl, sym, ap, ◌∙◌, arith, inl, inr, length-append, append_assoc}
+use Rattle.std.specs.Prelude.{bytes_eq}
+use Rattle.std.proofs.lemmas.Bool.{cases_Bool, and_parts}
+use Rattle.std.proofs.lemmas.List.{append-nil}
+use Rattle.std.proofs.lemmas.Slice.Eq.{bytes_eq-Decides}
+use Rattle.rox_grammar.specs.Forest.{Forest, Nil, Cons, size}
+use Rattle.rox_grammar.specs.Written.{NamespaceDecl, Tag, Item, Element}
+use Rattle.rox_grammar.specs.Tree.{same_prefix}
+use Rattle.rox_grammar.specs.Document.{own_pairs, pairs, attribute_count, same_pair, has_pair, with_new, distinct_pairs, IsWithinLimits}
+use Rattle.rox_theory.proofs.Standing.{distinct-append, distinct-grows}
+use Rattle.rox_exchange.specs.SourceKinds.{StandsInEach, first, below, beside}
+
+-- ---- pairs
+
+same_none_is : (p q : Option (List ℕ)) → same_prefix p q ≡ true → p ≡ q
+same_none_is None None is = refl
+same_none_is None (Some q) is = cc is
+same_none_is (Some p) None is = cc is
+same_none_is (Some p) (Some q) is = ap Some ((bytes_eq-Decides p q).0 is)
+
+-- equal by the test is equal
+same_is : (d e : NamespaceDecl) → same_pair d e ≡ true → d ≡ e
+same_is d e is =
+    let both = and_parts (same_prefix d.prefix e.prefix) (bytes_eq d.uri e.uri) is in
+    let p = same_none_is d.prefix e.prefix both.0 in
+    let u = (bytes_eq-Decides d.uri e.uri).0 both.1 in
+    ap (λ (x : Option (List ℕ)). record { prefix = x; uri = d.uri }) p ∙ ap (λ (x : List ℕ). record { prefix = e.prefix; uri = x }) u
+
+-- a pair at the end
+has_snoc : (ds : List NamespaceDecl) (e x : NamespaceDecl) → has_pair (ds ++ e ∷ []) x ≡ (has_pair ds x || same_pair e x)
+has_snoc [] e x = elim (same_pair e x) as (λ b. (b || false) ≡ b) [ true ↦ refl | false ↦ refl ]
+has_snoc (d ∷ ds) e x = elim (same_pair d x) as (λ b. (b || has_pair (ds ++ e ∷ []) x) ≡ ((b || has_pair ds x) || same_pair e x)) [ true ↦ refl | false ↦ has_snoc ds e x ]
+
+-- lists that hold the same pairs, and as many, are joined by as many
+as_many : (ds bs es : List NamespaceDecl) → length ds ≡ length bs → ((x : NamespaceDecl) → has_pair ds x ≡ has_pair bs x) → length (with_new ds es) ≡ length (with_new bs es)
+as_many ds bs [] long same = long
+as_many ds bs (e ∷ es) long same =
+    elim (cases_Bool (has_pair ds e)) as (λ q. length (with_new ds (e ∷ es)) ≡ length (with_new bs (e ∷ es))) [
+      | inl there ↦ (let there' : has_pair bs e ≡ true = sym (same e) ∙ there in rw (there, there') (as_many ds bs es long same))
+      | inr new ↦ (
+          let new' : has_pair bs e ≡ false = sym (same e) ∙ new in
+          rw (new, new') (as_many (ds ++ e ∷ []) (bs ++ e ∷ []) es (omega (arith, length-append ds (e ∷ []), length-append bs (e ∷ [])))
+          (λ x. has_snoc ds e x ∙ ap (λ (b : Bool). b || same_pair e x) (same x) ∙ sym (has_snoc bs e x))))
+    ]
+
+or_swap : (a b : Bool) → (a || b) ≡ (b || a)
+or_swap true true = refl
+or_swap true false = refl
+or_swap false true = refl
+or_swap false false = refl
+
+-- with one pair more there are no fewer
+one_more : (d : NamespaceDecl) (ds es : List NamespaceDecl) → length (with_new ds es) ≤ length (with_new (d ∷ ds) es)
+one_more d ds [] = omega arith
+one_more d ds (e ∷ es) =
+    elim (cases_Bool (has_pair ds e)) as (λ q. length (with_new ds (e ∷ es)) ≤ length (with_new (d ∷ ds) (e ∷ es))) [
+      | inl there ↦ rw (there, or_swap (same_pair d e) true) (one_more d ds es)
+      | inr new ↦ elim (cases_Bool (same_pair d e)) as (λ q. length (with_new ds (e ∷ es)) ≤ length (with_new (d ∷ ds) (e ∷ es))) [
+        | inl same ↦ (
+            let q = same_is d e same in
+            let n = as_many (ds ++ e ∷ []) (d ∷ ds) es (omega (arith, length-append ds (e ∷ [])))
+            (λ x. has_snoc ds e x ∙ or_swap (has_pair ds x) (same_pair e x) ∙ ap (λ (c : NamespaceDecl). same_pair c x || has_pair ds x) (sym q)) in
+            rw (new, same) (omega (arith, n)))
+        | inr other ↦ rw (new, other) (one_more d (ds ++ e ∷ []) es)
+      ]
+    ]
+
+more_before : (ds es : List NamespaceDecl) → length (with_new [] es) ≤ length (with_new ds es)
+more_before [] es = omega arith
+more_before (d ∷ ds) es = omega (arith, more_before ds es, one_more d ds es)
+
+-- of a part of a list there are no more
+distinct_part : (before part after : List NamespaceDecl) → length (distinct_pairs part) ≤ length (distinct_pairs (before ++ (part ++ after)))
+distinct_part before part after =
+    let n = more_before (distinct_pairs before) (part ++ after) in
+    let e = ap length (distinct-append before (part ++ after)) in
+    omega (arith, distinct-grows part after)
+
+-- ---- an element among items
+
+module _ (s e : ℕ) (t : Tag) (kids : Forest Item) where
+  abbrev one : Forest Item
+  one = Cons (Element s e t) kids Nil
+
+  fewer_nodes : (f : Forest Item) → StandsInEach s e t kids f → size one ≤ size f
+  fewer_nodes f (first rest) = omega arith
+  fewer_nodes f (below item children rest is) = omega (arith, fewer_nodes children is)
+  fewer_nodes f (beside item children rest is) = omega (arith, fewer_nodes rest is)
+
+  fewer_attributes : (f : Forest Item) → StandsInEach s e t kids f → attribute_count one ≤ attribute_count f
+  fewer_attributes f (first rest) = omega arith
+  fewer_attributes f (below item children rest is) = omega (arith, fewer_attributes children is)
+  fewer_attributes f (beside item children rest is) = omega (arith, fewer_attributes rest is)
+
+  part_of_pairs : (f : Forest Item) → StandsInEach s e t kids f → (before : List NamespaceDecl) × (after : List NamespaceDecl) × (pairs f ≡ before ++ (pairs one ++ after))
+  part_of_pairs f (first rest) =
+      ([], pairs rest, ap (λ (ds : List NamespaceDecl). own_pairs (Element s e t) ++ (ds ++ pairs rest)) (sym (append-nil (pairs kids))) ∙ sym (append_assoc (own_pairs (Element s e t)) (pairs kids ++ []) (pairs rest)))
+  part_of_pairs f (below item children rest is) =
+      let p = part_of_pairs children is in (
+        own_pairs item ++ p.0,
+        p.1 ++ pairs rest,
+        ap (λ (ds : List NamespaceDecl). own_pairs item ++ (ds ++ pairs rest)) p.2
+            ∙ ap (λ (ds : List NamespaceDecl). own_pairs item ++ ds) (append_assoc p.0 (pairs one ++ p.1) (pairs rest) ∙ ap (λ (ds : List NamespaceDecl). p.0 ++ ds) (append_assoc (pairs one) p.1 (pairs rest)))
+            ∙ sym (append_assoc (own_pairs item) p.0 (pairs one ++ (p.1 ++ pairs rest))),
+      )
+  part_of_pairs f (beside item children rest is) =
+      let p = part_of_pairs rest is in (
+        (own_pairs item ++ pairs children) ++ p.0,
+        p.1,
+        ap (λ (ds : List NamespaceDecl). own_pairs item ++ (pairs children ++ ds)) p.2
+            ∙ sym (append_assoc (own_pairs item) (pairs children) (p.0 ++ (pairs one ++ p.1)))
+            ∙ sym (append_assoc (own_pairs item ++ pairs children) p.0 (pairs one ++ p.1)),
+      )
+
+  -- it is within the limits that they are within
+  pub part_within : (limit : ℕ) (f : Forest Item) → StandsInEach s e t kids f → IsWithinLimits limit f → IsWithinLimits limit one
+  part_within limit f is within =
+      let nodes = within.nodes in
+      let attributes = within.attributes in
+      let namespaces = within.namespaces in
+      let p = part_of_pairs f is in
+      let n = distinct_part p.0 (pairs one) p.1 in
+      let q = ap (λ (ds : List NamespaceDecl). length (distinct_pairs ds)) p.2 in
+      record {
+        nodes = omega (arith, fewer_nodes f is);
+        attributes = omega (arith, fewer_attributes f is);
+        namespaces = omega arith;
+      }

@@ -1,0 +1,222 @@
+-- Names, references and the constructs that hold no others stand wherever the same bytes follow.
+use Rattle.std.proofs.Common.{◌≡◌, ◌≢◌, ℕ, ◌+◌, ◌-◌, ◌^◌, ◌<◌, ◌≤◌, ◌⊎◌, ◌==◌, Bool, List, [], length, refl, sym, ap, ◌∙◌, subst, arith}
+use Rattle.rox_grammar.specs.declared.fault.Word.TheVariants as word
+use Rattle.rox_grammar.specs.FixedTexts.{word_text}
+use Rattle.rox_grammar.specs.Chars.{is_space, is_name_start, is_name_char, is_part_char}
+use Rattle.rox_grammar.specs.Search.{byte_from}
+use Rattle.rox_grammar.specs.Written.{Name}
+use Rattle.rox_grammar.specs.Names.{byte, slice, spaces_end, IsName, IsNCName, IsQName, unprefixed, prefixed, colon_first}
+use Rattle.rox_grammar.specs.References.{is_digit, is_hex_digit, number, character, predefined, IsNumber, IsReference, IsCharacter, decimal, hexadecimal, named}
+use Rattle.rox_grammar.specs.Constructs.{has_mark, double_dash, IsComment, IsPI, IsCData, IsEq, IsLiteral, IsEnd}
+use Rattle.rox_grammar.specs.Content.{IsCharacterData}
+use Rattle.rox_grammar.specs.Exchange.{Move, moved}
+use Rattle.rox_exchange.specs.Local.{Follows}
+use Rattle.rox_exchange.proofs.Follows.{on, from, byte_moves, rest_moves, stands_moves, mark_moves, byte_from_moves, bytes_end_moves, run_end_moves, begins_moves, chars_move, markup_moves, slice_moves}
+use Rattle.rox_exchange.proofs.Order.{run_le, ncname_le, qname_le, literal_lt, comment_le, cdata_le, pi_le, reference_lt}
+
+module _ (m : Move) (src to : List ℕ) where
+  -- white space
+  pub space_end : (i k : ℕ) → Follows m src i to k → Follows m src (spaces_end src i) to (spaces_end to k)
+  space_end i k f =
+      subst (λ (x : ℕ). Follows m src (spaces_end src i) to x) (run_end_moves m src to is_space i k (spaces_end src i) f refl)
+      (from m src to i k (spaces_end src i) (run_le is_space src i) f)
+
+  -- a byte that a place has, and one that it has not
+  pub byte_is : (b i k : ℕ) → Follows m src i to k → byte src i ≡ b → byte to k ≡ b
+  byte_is b i k f is = sym (byte_moves m src to i k f) ∙ is
+
+  pub byte_not : (b i k : ℕ) → Follows m src i to k → byte src i ≢ b → byte to k ≢ b
+  byte_not b i k f differs = λ is. differs (byte_moves m src to i k f ∙ is)
+
+  -- a name
+  pub name_moves : (i k j : ℕ) → Follows m src i to k → IsName src i j → IsName to k (moved m j)
+  name_moves i k j f is = record {
+    starts = sym (begins_moves m src to is_name_start i k f) ∙ is.starts;
+    longest = run_end_moves m src to is_name_char i k j f is.longest;
+  }
+
+  -- a name without colon
+  pub ncname_moves : (i k j : ℕ) → Follows m src i to k → IsNCName src i j → IsNCName to k (moved m j)
+  ncname_moves i k j f is = record {
+    starts = sym (begins_moves m src to is_name_start i k f) ∙ is.starts;
+    no_colon = byte_not 58 i k f is.no_colon;
+    longest = run_end_moves m src to is_part_char i k j f is.longest;
+  }
+
+  -- a name in a namespace
+  pub qname_moves : (i k : ℕ) (name : Name) (j : ℕ) → Follows m src i to k → IsQName src i name j → IsQName to k name (moved m j)
+  qname_moves i k name j f (unprefixed _ _ n last) =
+      let le = ncname_le src i j n in
+      subst (λ (bs : List ℕ). IsQName to k (record { prefix = []; local = bs }) (moved m j)) (sym (slice_moves m src to i k j le f))
+      (unprefixed k (moved m j) (ncname_moves i k j f n) (byte_not 58 j (moved m j) (from m src to i k j le f) last))
+  qname_moves i k name j f (prefixed _ p _ n colon rest last) =
+      let le = ncname_le src i p n in
+      let le' = ncname_le src (p + 1) j rest in
+      let g = from m src to i k p le f in
+      let h = on m src to p (moved m p) 1 g in
+      subst (λ (bs : List ℕ). IsQName to k (record { prefix = bs; local = slice src (p + 1) j }) (moved m j)) (sym (slice_moves m src to i k p le f))
+      (subst (λ (bs : List ℕ). IsQName to k (record { prefix = slice to k (moved m p); local = bs }) (moved m j)) (sym (slice_moves m src to (p + 1) (moved m p + 1) j le' h))
+      (prefixed k (moved m p) (moved m j) (ncname_moves i k p f n) (byte_is 58 p (moved m p) g colon) (ncname_moves (p + 1) (moved m p + 1) j h rest)
+      (byte_not 58 j (moved m j) (from m src to (p + 1) (moved m p + 1) j le' h) last)))
+  qname_moves i k name j f (colon_first _ _ colon n last) =
+      let le = ncname_le src (i + 1) j n in
+      let h = on m src to i k 1 f in
+      subst (λ (bs : List ℕ). IsQName to k (record { prefix = []; local = bs }) (moved m j)) (sym (slice_moves m src to (i + 1) (k + 1) j le h))
+      (colon_first k (moved m j) (byte_is 58 i k f colon) (ncname_moves (i + 1) (k + 1) j h n) (byte_not 58 j (moved m j) (from m src to (i + 1) (k + 1) j le h) last))
+
+  -- Eq
+  pub eq_moves : (i k j : ℕ) → Follows m src i to k → IsEq src i j → IsEq to k (moved m j)
+  eq_moves i k j f is =
+      let s = space_end i k f in
+      record {
+        equals = byte_is 61 (spaces_end src i) (spaces_end to k) s is.equals;
+        next = run_end_moves m src to is_space (spaces_end src i + 1) (spaces_end to k + 1) j (on m src to (spaces_end src i) (spaces_end to k) 1 s) is.next;
+      }
+
+  -- a number
+  pub number_moves : (base : ℕ) (p : ℕ → Bool) (d k e c j : ℕ) → Follows m src d to k → IsNumber base p src d e c j → IsNumber base p to k (moved m e) c (moved m j)
+  number_moves base p d k e c j f is =
+      let at = f.at in
+      let some = is.some in
+      let next = is.next in
+      let s = slice_moves m src to d k e (omega arith) f in
+      record {
+        end = bytes_end_moves m src to p d k e f is.end;
+        some = omega arith;
+        closes = byte_is 59 e (moved m e) (from m src to d k e (omega arith) f) is.closes;
+        small = subst (λ (bs : List ℕ). number base bs < 2 ^ 32) s is.small;
+        is_character = is.is_character ∙ ap (λ (bs : List ℕ). character (number base bs)) s;
+        allowed = is.allowed;
+        next = omega arith;
+      }
+
+  -- a reference
+  pub reference_moves : (i k n j : ℕ) → Follows m src i to k → IsReference src i n j → IsReference to k (moved m n) (moved m j)
+  reference_moves i k n j f is =
+      let at = f.at in
+      let next = is.next in
+      let lt = reference_lt src i n j is in
+      record {
+        opens = byte_is 38 i k f is.opens;
+        name = name_moves (i + 1) (k + 1) n (on m src to i k 1 f) is.name;
+        closes = byte_is 59 n (moved m n) (from m src to i k n (omega arith) f) is.closes;
+        next = omega arith;
+      }
+
+  -- its name
+  pub reference_name : (i k n j : ℕ) → Follows m src i to k → IsReference src i n j → slice src (i + 1) n ≡ slice to (k + 1) (moved m n)
+  reference_name i k n j f is = slice_moves m src to (i + 1) (k + 1) n (omega (arith, reference_lt src i n j is)) (on m src to i k 1 f)
+
+  -- a reference to a character
+  pub character_moves : (i k c j : ℕ) → Follows m src i to k → IsCharacter src i c j → IsCharacter to k c (moved m j)
+  character_moves i k c j f (decimal _ e _ _ amp hash is) =
+      decimal k (moved m e) c (moved m j) (byte_is 38 i k f amp) (byte_is 35 (i + 1) (k + 1) (on m src to i k 1 f) hash)
+      (number_moves 10 is_digit (i + 2) (k + 2) e c j (on m src to i k 2 f) is)
+  character_moves i k c j f (hexadecimal _ e _ _ amp hash x is) =
+      hexadecimal k (moved m e) c (moved m j) (byte_is 38 i k f amp) (byte_is 35 (i + 1) (k + 1) (on m src to i k 1 f) hash) (byte_is 120 (i + 2) (k + 2) (on m src to i k 2 f) x)
+      (number_moves 16 is_hex_digit (i + 3) (k + 3) e c j (on m src to i k 3 f) is)
+  character_moves i k c j f (named _ n _ _ is known) =
+      named k (moved m n) c (moved m j) (reference_moves i k n j f is) (ap predefined (sym (reference_name i k n j f is)) ∙ known)
+
+  -- a comment
+  pub comment_moves : (i k e j : ℕ) → Follows m src i to k → IsComment src i e j → IsComment to k (moved m e) (moved m j)
+  comment_moves i k e j f is =
+      let at = f.at in
+      let next = is.next in
+      let le = comment_le src i e j is in
+      let g = on m src to i k 4 f in
+      let text = slice_moves m src to (i + 4) (k + 4) e le g in
+      record {
+        opens = sym (stands_moves m src to (word_text word.CommentStart) i k f) ∙ is.opens;
+        end = mark_moves m src to (word_text word.CommentEnd) (i + 4) (k + 4) e g is.end;
+        chars = chars_move m src to (i + 4) (k + 4) e le g is.chars;
+        closes = sym (stands_moves m src to (word_text word.CommentEnd) e (moved m e) (from m src to i k e (omega arith) f)) ∙ is.closes;
+        no_dashes = ap (has_mark double_dash) (sym text) ∙ is.no_dashes;
+        no_last = subst (λ (t : List ℕ). byte t (length t - 1) ≢ 45) text is.no_last;
+        next = omega arith;
+      }
+
+  -- a processing instruction
+  pub pi_moves : (i k n e j : ℕ) → Follows m src i to k → IsPI src i n e j → IsPI to k (moved m n) (moved m e) (moved m j)
+  pi_moves i k n e j f is =
+      let at = f.at in
+      let next = is.next in
+      let le = pi_le src i n e j is in
+      let le0 = le.0 in
+      let le1 = le.1 in
+      let g = from m src to i k n (omega arith) f in
+      let s = space_end n (moved m n) g in
+      let long = run_le is_space src n in
+      record {
+        opens = sym (stands_moves m src to (word_text word.PIStart) i k f) ∙ is.opens;
+        no_declaration = sym (stands_moves m src to (word_text word.XmlDeclStart) i k f) ∙ is.no_declaration;
+        target = name_moves (i + 2) (k + 2) n (on m src to i k 2 f) is.target;
+        end = mark_moves m src to (word_text word.PIEnd) (spaces_end src n) (spaces_end to (moved m n)) e s is.end;
+        chars = chars_move m src to (spaces_end src n) (spaces_end to (moved m n)) e le1 s is.chars;
+        closes = sym (stands_moves m src to (word_text word.PIEnd) e (moved m e) (from m src to i k e (omega arith) f)) ∙ is.closes;
+        next = omega arith;
+      }
+
+  -- a CDATA section
+  pub cdata_moves : (i k e j : ℕ) → Follows m src i to k → IsCData src i e j → IsCData to k (moved m e) (moved m j)
+  cdata_moves i k e j f is =
+      let at = f.at in
+      let next = is.next in
+      let le = cdata_le src i e j is in
+      let g = on m src to i k 9 f in
+      record {
+        opens = sym (stands_moves m src to (word_text word.CDataStart) i k f) ∙ is.opens;
+        end = mark_moves m src to (word_text word.CDataEnd) (i + 9) (k + 9) e g is.end;
+        chars = chars_move m src to (i + 9) (k + 9) e le g is.chars;
+        closes = sym (stands_moves m src to (word_text word.CDataEnd) e (moved m e) (from m src to i k e (omega arith) f)) ∙ is.closes;
+        next = omega arith;
+      }
+
+  -- a literal
+  pub literal_moves : (i k e j : ℕ) → Follows m src i to k → IsLiteral src i e j → IsLiteral to k (moved m e) (moved m j)
+  literal_moves i k e j f is =
+      let at = f.at in
+      let next = is.next in
+      let inside = is.closes in
+      let lt = literal_lt src i e j is in
+      let le : i + 1 ≤ e = omega arith in
+      let g = on m src to i k 1 f in
+      let first = byte_moves m src to i k f in
+      let left = rest_moves m src to i k f in
+      record {
+        quote = subst (λ (b : ℕ). (b ≡ 39) ⊎ (b ≡ 34)) first is.quote;
+        end = byte_from_moves m src to (λ c. c == byte src i) (i + 1) (k + 1) e g is.end ∙ ap (λ (q : ℕ). byte_from (λ c. c == q) to (k + 1)) first;
+        closes = omega arith;
+        chars = chars_move m src to (i + 1) (k + 1) e le g is.chars;
+        no_markup = markup_moves m src to (λ c. c == 60) (i + 1) (k + 1) e le g is.no_markup;
+        next = omega arith;
+      }
+
+  -- a run
+  pub run_moves : (i k j : ℕ) → Follows m src i to k → IsCharacterData src i j → IsCharacterData to k (moved m j)
+  run_moves i k j f is =
+      let at = f.at in
+      let some = is.some in
+      let le : i ≤ j = omega arith in
+      record {
+        some = omega arith;
+        end = byte_from_moves m src to (λ c. c == 60) i k j f is.end;
+        chars = chars_move m src to i k j le f is.chars;
+        no_end_mark = ap (has_mark (word_text word.CDataEnd)) (sym (slice_moves m src to i k j le f)) ∙ is.no_end_mark;
+      }
+
+  -- an end tag
+  pub end_moves : (i k : ℕ) (name : Name) (n j : ℕ) → Follows m src i to k → IsEnd src i name n j → IsEnd to k name (moved m n) (moved m j)
+  end_moves i k name n j f is =
+      let at = f.at in
+      let next = is.next in
+      let le = qname_le src (i + 2) name n is.is_name in
+      let g = from m src to i k n (omega arith) f in
+      let s = space_end n (moved m n) g in
+      let at' = s.at in
+      record {
+        opens = sym (stands_moves m src to (word_text word.EndTagStart) i k f) ∙ is.opens;
+        is_name = qname_moves (i + 2) (k + 2) name n (on m src to i k 2 f) is.is_name;
+        closes = byte_is 62 (spaces_end src n) (spaces_end to (moved m n)) s is.closes;
+        next = omega arith;
+      }

@@ -1,0 +1,45 @@
+-- Names stay well named where an element above which nothing is listed is exchanged for one whose names are declared within it.
+use Rattle.std.proofs.Common.{◌≡◌, ℕ, ◌==◌, ◌&&◌, true, List, [], ◌∷◌, nat_lt, refl, sym, subst, inl, inr}
+use Rattle.std.proofs.lemmas.Bool.{cases_Bool, and_parts}
+use Rattle.rox_grammar.specs.Forest.{Forest, Nil, Cons, join}
+use Rattle.rox_grammar.specs.Written.{NamespaceDecl, Item, Element, Text, Comment, PI}
+use Rattle.rox_grammar.specs.Tree.{listed}
+use Rattle.rox_grammar.specs.WellNamed.{AreWellNamed}
+use Rattle.rox_grammar.specs.Exchange.{Move, none_of}
+use Rattle.rox_exchange.specs.Local.{moved_items}
+use Rattle.rox_exchange.specs.ElementWith.{exchanged_items}
+use Rattle.rox_exchange.proofs.MovedItems.{moved_named}
+use Rattle.rox_exchange.specs.SelfContained.{is_contained}
+
+-- rows one behind the other
+pub named_join : (above : List NamespaceDecl) (f g : Forest Item) → AreWellNamed above f → AreWellNamed above g → AreWellNamed above (join f g)
+named_join above Nil g is more = more
+named_join above (Cons item children rest) g (own, below, beside) more = (own, below, named_join above rest g beside more)
+
+pub none_listed : (ds : List NamespaceDecl) → none_of ds ≡ true → ds ≡ []
+none_listed [] is = refl
+none_listed (d ∷ ds) is = cc
+
+module _ (mv : Move) (one : Forest Item) (s : ℕ) (new : AreWellNamed [] one) where
+  pub named_exchanged : (f : Forest Item) → is_contained s f ≡ true → AreWellNamed [] f → AreWellNamed [] (exchanged_items mv one s f)
+  named_exchanged Nil within is = is
+  named_exchanged (Cons (Element a z t) children rest) within (own, below, beside) =
+      elim (cases_Bool (a == s)) as (λ q. AreWellNamed [] (exchanged_items mv one s (Cons (Element a z t) children rest))) [
+        | inl same ↦ rw same (named_join [] one (moved_items mv rest) new (moved_named mv [] rest beside))
+        | inr other ↦ elim (cases_Bool (nat_lt s z)) as (λ q. AreWellNamed [] (exchanged_items mv one s (Cons (Element a z t) children rest))) [
+          | inl inside ↦ (
+              let both : (none_of (listed [] t.declarations) && is_contained s children) ≡ true = rw (other, inside) at within in
+              let above = and_parts _ _ both in
+              let bare = none_listed (listed [] t.declarations) above.0 in
+              let low : AreWellNamed (listed [] t.declarations) (exchanged_items mv one s children) =
+              subst (λ (ds : List NamespaceDecl). AreWellNamed ds (exchanged_items mv one s children)) (sym bare)
+              (named_exchanged children above.1 (subst (λ (ds : List NamespaceDecl). AreWellNamed ds children) bare below)) in
+              rw (other, inside) (own, low, moved_named mv [] rest beside))
+          | inr behind ↦ (
+              let next : is_contained s rest ≡ true = rw (other, behind) at within in
+              rw (other, behind) (own, below, named_exchanged rest next beside))
+        ]
+      ]
+  named_exchanged (Cons (Text a z v plain) children rest) within (own, below, beside) = (own, below, named_exchanged rest within beside)
+  named_exchanged (Cons (Comment a z v) children rest) within (own, below, beside) = (own, below, named_exchanged rest within beside)
+  named_exchanged (Cons (PI a z v o) children rest) within (own, below, beside) = (own, below, named_exchanged rest within beside)

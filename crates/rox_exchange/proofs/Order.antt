@@ -1,0 +1,99 @@
+-- Each construct ends behind its start.
+use Rattle.std.proofs.Common.{ℕ, ◌+◌, ◌<◌, ◌≤◌, Bool, true, false, List, take, arith}
+use Rattle.rox_grammar.specs.Chars.{is_char, is_space, is_name_char, is_part_char}
+use Rattle.rox_grammar.specs.Forest.{Forest}
+use Rattle.rox_grammar.specs.Written.{Name, Attribute, Tag, Item}
+use Rattle.rox_grammar.specs.Runs.{run_end}
+use Rattle.rox_grammar.specs.Names.{spaces_end, IsName, IsNCName, IsQName, unprefixed, prefixed, colon_first}
+use Rattle.rox_grammar.specs.References.{IsReference, IsCharacter, decimal, hexadecimal, named}
+use Rattle.rox_grammar.specs.Constructs.{AreChars, IsComment, IsPI, IsCData, IsEq, IsLiteral, IsEnd}
+use Rattle.rox_grammar.specs.Content.{Inclusion, IsAttribute, Attributes, no_more, one_more, TagEnds, opened, closed, IsTag, IsMisc, comment, instruction, IsElement, empty, nest, Content, ends, run, cdata, misc, node}
+
+pub run_le : (p : ℕ → Bool) (src : List ℕ) (i : ℕ) → i ≤ run_end p src i
+unfolding run_end
+run_le p src i = omega arith
+
+module _ (src : List ℕ) where
+  pub chars_le : (i j : ℕ) → AreChars src i j → i ≤ j
+  chars_le i j is = omega (arith, run_le is_char (take j src) i)
+
+  pub name_le : (i j : ℕ) → IsName src i j → i ≤ j
+  name_le i j is = let l = is.longest in omega (arith, run_le is_name_char src i)
+
+  pub ncname_le : (i j : ℕ) → IsNCName src i j → i ≤ j
+  ncname_le i j is = let l = is.longest in omega (arith, run_le is_part_char src i)
+
+  pub qname_le : (i : ℕ) (name : Name) (j : ℕ) → IsQName src i name j → i ≤ j
+  qname_le i name j (unprefixed _ _ n last) = ncname_le i j n
+  qname_le i name j (prefixed _ k _ n colon rest last) = omega (arith, ncname_le i k n, ncname_le (k + 1) j rest)
+  qname_le i name j (colon_first _ _ colon n last) = omega (arith, ncname_le (i + 1) j n)
+
+  pub eq_lt : (i j : ℕ) → IsEq src i j → i < j
+  eq_lt i j is = let l = is.next in omega (arith, run_le is_space src i, run_le is_space src (spaces_end src i + 1))
+
+  pub literal_lt : (i e j : ℕ) → IsLiteral src i e j → i < e
+  literal_lt i e j is = omega (arith, chars_le (i + 1) e is.chars)
+
+  pub comment_le : (i e j : ℕ) → IsComment src i e j → i + 4 ≤ e
+  comment_le i e j is = chars_le (i + 4) e is.chars
+
+  pub cdata_le : (i e j : ℕ) → IsCData src i e j → i + 9 ≤ e
+  cdata_le i e j is = chars_le (i + 9) e is.chars
+
+  pub pi_le : (i n e j : ℕ) → IsPI src i n e j → (i + 2 ≤ n) × (spaces_end src n ≤ e)
+  pi_le i n e j is = (name_le (i + 2) n is.target, chars_le (spaces_end src n) e is.chars)
+
+  pub reference_lt : (i n j : ℕ) → IsReference src i n j → i < n
+  reference_lt i n j is = omega (arith, name_le (i + 1) n is.name)
+
+  pub character_lt : (i c j : ℕ) → IsCharacter src i c j → i < j
+  character_lt i c j (decimal _ e _ _ amp hash is) = let some = is.some in let next = is.next in omega arith
+  character_lt i c j (hexadecimal _ e _ _ amp hash x is) = let some = is.some in let next = is.next in omega arith
+  character_lt i c j (named _ n _ _ is known) = let next = is.next in omega (arith, reference_lt i n j is)
+
+  pub attribute_lt : (main : Bool) (Includes : Inclusion) (i j b c : ℕ) (a : Attribute) → IsAttribute main Includes src i j b c a → i < j
+  attribute_lt main Includes i j b c a is =
+      let next = is.literal.next in
+      omega (arith, qname_le i a.name a.name_end is.is_name, eq_lt a.name_end is.v is.eq, literal_lt is.v is.e j is.literal)
+
+  pub attributes_le : (main : Bool) (Includes : Inclusion) (i j b c : ℕ) (as' : List Attribute) → Attributes main Includes src i j b c as' → i ≤ j
+  attributes_le main Includes i j b c as' (no_more _ _) = omega arith
+  attributes_le main Includes i j b c as' (one_more _ k _ _ d _ a rest spaces is more) =
+      omega (arith, attribute_lt main Includes (spaces_end src i) k b d a is, attributes_le main Includes k j d c rest more)
+
+  pub tag_ends_lt : (i : ℕ) (is_empty : Bool) (j : ℕ) → TagEnds src i is_empty j → spaces_end src i < j
+  tag_ends_lt i is_empty j (opened _ close) = omega arith
+  tag_ends_lt i is_empty j (closed _ slash close) = omega arith
+
+  pub tag_lt : (main : Bool) (Includes : Inclusion) (i j b c : ℕ) (is_empty : Bool) (t : Tag) → IsTag main Includes src i j b c is_empty t → i < j
+  tag_lt main Includes i j b c is_empty t is =
+      omega (
+        arith,
+        qname_le (i + 1) t.name t.name_end is.is_name,
+        attributes_le main Includes t.name_end is.last b c is.written is.attributes,
+        tag_ends_lt is.last is_empty j is.ends,
+        run_le is_space src is.last,
+      )
+
+  pub end_lt : (i : ℕ) (name : Name) (n j : ℕ) → IsEnd src i name n j → i < j
+  end_lt i name n j is = let next = is.next in omega (arith, qname_le (i + 2) name n is.is_name, run_le is_space src n)
+
+  pub misc_lt : (i j : ℕ) (item : Item) → IsMisc src i j item → i < j
+  misc_lt i j item (comment _ e _ is) = let next = is.next in omega (arith, comment_le i e j is)
+  misc_lt i j item (instruction _ n e _ is) =
+      let next = is.next in
+      let le = pi_le i n e j is in
+      omega (arith, le.0, le.1, run_le is_space src n)
+
+  mutual
+    pub content_le : (main : Bool) (Includes : Inclusion) (i j b c : ℕ) (items : Forest Item) → Content main Includes src i j b c items → i ≤ j
+    content_le main Includes i j b c items (ends _ _) = omega arith
+    content_le main Includes i j b c items (run _ k _ _ d _ here more is parts rest) = let some = is.some in omega (arith, content_le main Includes k j d c more rest)
+    content_le main Includes i j b c items (cdata _ e k _ _ _ more is rest) = let next = is.next in omega (arith, cdata_le i e k is, content_le main Includes k j b c more rest)
+    content_le main Includes i j b c items (misc _ k _ _ _ item more is rest) = omega (arith, misc_lt i k item is, content_le main Includes k j b c more rest)
+    content_le main Includes i j b c items (node _ k _ _ d _ one more is rest) = omega (arith, element_lt main Includes i k b d one is, content_le main Includes k j d c more rest)
+
+    pub element_lt : (main : Bool) (Includes : Inclusion) (i j b c : ℕ) (one : Forest Item) → IsElement main Includes src i j b c one → i < j
+    element_lt main Includes i j b c one (empty _ _ _ _ t is) = tag_lt main Includes i j b c true t is
+    element_lt main Includes i j b c one (nest _ k n p _ _ d _ t kids is inner end) =
+        omega (arith, tag_lt main Includes i k b d false t is, content_le main Includes k n d c kids inner, end_lt n t.name p j end)

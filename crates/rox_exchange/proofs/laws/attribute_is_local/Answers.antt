@@ -1,0 +1,10 @@
+use Rattle.rox_exchange.proofs.MovesTags.{attribute_moves}
+use Rattle.rox_exchange.proofs.CutsTags.{attribute_cut}
+use Rattle.rox_grammar.specs.Entities.{no_entities}
+use Rattle.rox_exchange.proofs.laws.attribute_is_local.Goals as goal
+
+pub returns-clause-moves : goal.returns-clause-moves
+returns-clause-moves c = λ v src to main i k j b c a same is. attribute_moves v src to main no_entities i k j b c a same is
+
+pub returns-clause-cut : goal.returns-clause-cut
+returns-clause-cut c = λ src to m main i j b c a same cut fits is. attribute_cut src to m same main no_entities i j b c a cut fits is

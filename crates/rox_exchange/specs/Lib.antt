@@ -1,0 +1,4 @@
+pub mod Local
+pub mod ElementWith
+pub mod SourceKinds
+pub mod SelfContained

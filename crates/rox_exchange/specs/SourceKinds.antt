@@ -1,0 +1,10 @@
+-- An element in a row of items, at any depth.
+use Rattle.std.specs.Prelude.{ℕ}
+use Rattle.rox_grammar.specs.Forest.{Forest, Cons}
+use Rattle.rox_grammar.specs.Written.{Tag, Item, Element}
+
+-- the element from s to e with this tag and with this below it is one of these
+pub data StandsInEach (s e : ℕ) (t : Tag) (kids : Forest Item) : Forest Item → Type 0 where
+  first : (rest : Forest Item) → StandsInEach s e t kids (Cons (Element s e t) kids rest)
+  below : (item : Item) (children rest : Forest Item) → StandsInEach s e t kids children → StandsInEach s e t kids (Cons item children rest)
+  beside : (item : Item) (children rest : Forest Item) → StandsInEach s e t kids rest → StandsInEach s e t kids (Cons item children rest)

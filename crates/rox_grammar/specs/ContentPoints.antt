@@ -1,0 +1,149 @@
+-- The points that reading comes to: places of content, and points before and behind the root element. A construct is
+-- passed where it stands in the grammar and is well named; nothing else is.
+use Rattle.std.specs.Prelude.{◌≡◌, ◌≢◌, ℕ, zero, suc, ◌+◌, ◌<◌, ◌≤◌, ◌==◌, ◌⊎◌, Some, None, Bool, true, false, not, List, [], length, bytes_eq}
+use Rattle.std.specs.List.{list_any}
+use Rattle.rox_grammar.specs.declared.fault.Word.TheVariants as word
+use Rattle.rox_grammar.specs.Forest.{Forest, Nil, Cons, join}
+use Rattle.rox_grammar.specs.FixedTexts.{word_text}
+use Rattle.rox_grammar.specs.Written.{Name, Attribute, Tag, Item, Element, Text, namespace_decls_of, merge, leaf}
+use Rattle.rox_grammar.specs.Tree.{listed}
+use Rattle.rox_grammar.specs.Names.{byte, slice, IsQName}
+use Rattle.rox_grammar.specs.Constructs.{at, IsCData, IsEnd}
+use Rattle.rox_grammar.specs.Content.{Inclusion, DataByte, piece, literals, line_ends, Part, Parts, IsCharacterData, Attributes, IsTag, IsMisc, IsElement}
+use Rattle.rox_grammar.specs.WellNamed.{AreDeclarable, IsWellNamed, AreWellNamed}
+use Rattle.rox_grammar.specs.TextStart.{after_bom, MayHaveXmlDecl}
+use Rattle.rox_grammar.specs.References.{IsReference, IsCharacter, predefined}
+use Rattle.rox_grammar.specs.Entities.{Replacement, Entity, text_of, most_deep}
+use Rattle.rox_grammar.specs.Doctype.{Asked}
+use Rattle.rox_grammar.specs.Document.{Misc, MayHaveDoctype, listable_of, with_new, distinct_pairs, most_pairs}
+use Rattle.rox_grammar.specs.State.{Open, root, inside, State, depth_of, scope_of, pairs_so_far}
+
+-- what stands before an element in the main text, up to p: these comments and processing instructions
+pub record PrologTo (text : List ℕ) (p : ℕ) (items : Forest Item) : Type 0 where
+  pub declared_to : ℕ
+  pub declaration : MayHaveXmlDecl text (after_bom text) declared_to
+  pub misc : Misc text declared_to p items
+
+-- the same where a document type declaration stands there too: with what is asked for its entities, and the entities
+pub record PrologWithDoctype (text : List ℕ) (asked : List Asked) (es : List Entity) (p : ℕ) (items : Forest Item) : Type 0 where
+  pub begun : ℕ
+  pub before : Forest Item
+  pub ahead : PrologTo text begun before
+  pub nodes : Forest Item
+  pub doctype : MayHaveDoctype text begun p true nodes asked es
+  pub all : items ≡ join before nodes
+
+-- the `<` of the root element: of no comment, processing instruction or document type declaration. Behind a document type
+-- declaration no other may stand, so there `<!DOCTYPE` is read as a start tag.
+pub record RootBegins (declared : Bool) (src : List ℕ) (i : ℕ) : Type 0 where
+  pub opens : byte src i ≡ 60
+  pub no_comment : at word.CommentStart src i ≡ false
+  pub no_instruction : at word.PIStart src i ≡ false
+  pub no_doctype : declared ≡ false → at word.DoctypeStart src i ≡ false
+
+-- with k replacement texts open, content stands here; in the main text that is inside the root element alone
+abbrev pub is_content : ℕ → Open → Bool
+is_content zero root = false
+is_content zero (inside start tag before up) = true
+is_content (suc k) stack = true
+
+-- no replacement text is open
+abbrev pub is_main : ℕ → Bool
+is_main zero = true
+is_main (suc k) = false
+
+-- a start tag begins here: in content `<` and a byte that begins no other markup, and the root element's `<`
+pub data TagBegins (src : List ℕ) (i : ℕ) : Bool → Type 0 where
+  of_root : byte src i ≡ 60 → TagBegins src i false
+  in_content : byte src i ≡ 60 → i + 1 < length src → byte src (i + 1) ≢ 33 → byte src (i + 1) ≢ 63 → byte src (i + 1) ≢ 47 → TagBegins src i true
+
+-- One construct of content (XML 3.1 [43]) from one state to another, and the openings that are left before it and behind it.
+pub data StepsOver (k : ℕ) (Includes : Inclusion) (src : List ℕ) (s : State) : ℕ → State → ℕ → Type 0 where
+  a_run : (j b c : ℕ) (items : Forest Item) → is_content k s.stack ≡ true → IsCharacterData src s.at j → Parts (is_main k) Includes src s.at j s.at b c items
+      → AreWellNamed (scope_of s.stack) items → StepsOver k Includes src s b (record { at = j; done = join s.done items; stack = s.stack }) c
+  a_section : (e j b : ℕ) → is_content k s.stack ≡ true → IsCData src s.at e j
+      → StepsOver k Includes src s b (record { at = j; done = join s.done (leaf (Text s.at j (line_ends (literals (slice src (s.at + 9) e))) (not (list_any (λ b. b == 13) (slice src (s.at + 9) e))))); stack = s.stack }) b
+  a_misc : (j b : ℕ) (item : Item) → is_content k s.stack ≡ true → IsMisc src s.at j item
+      → StepsOver k Includes src s b (record { at = j; done = join s.done (leaf item); stack = s.stack }) b
+  an_empty_tag : (j b c : ℕ) (t : Tag) → IsTag (is_main k) Includes src s.at j b c true t → IsWellNamed (listed (scope_of s.stack) t.declarations) t
+      → StepsOver k Includes src s b (record { at = j; done = join s.done (leaf (Element s.at j t)); stack = s.stack }) c
+  a_start_tag : (j b c : ℕ) (t : Tag) → IsTag (is_main k) Includes src s.at j b c false t → IsWellNamed (listed (scope_of s.stack) t.declarations) t
+      → StepsOver k Includes src s b (record { at = j; done = Nil; stack = inside s.at t s.done s.stack }) c
+  an_end_tag : (n j b start : ℕ) (t : Tag) (before : Forest Item) (up : Open) → s.stack ≡ inside start t before up → IsEnd src s.at t.name n j
+      → StepsOver k Includes src s b (record { at = j; done = join before (Cons (Element start j t) (merge s.done) Nil); stack = up }) b
+
+-- The run from start up to stop is read from i up to p, behind a reference to an entity or before one: the parts of it, and the
+-- openings that are left before them and behind.
+pub data PartsTo (main : Bool) (Includes : Inclusion) (src : List ℕ) (start stop : ℕ) : ℕ → ℕ → ℕ → ℕ → Forest Item → Type 0 where
+  one_part : (i p b : ℕ) (ss : List DataByte) → Part main src p i ss → PartsTo main Includes src start stop i p b b (piece start stop false ss)
+  then_entity : (i q n j p b c d : ℕ) (ss : List DataByte) (items more : Forest Item) → Part main src q i ss → IsReference src q n j → predefined (slice src (q + 1) n) ≡ None
+      → Includes.content (slice src (q + 1) n) b items c → PartsTo main Includes src start stop j p c d more → PartsTo main Includes src start stop i p b d (join (piece start stop false ss) (join items more))
+
+-- a reference to an entity stands at p and ends at j: its replacement text
+pub record RefersTo (es : List Entity) (src : List ℕ) (p j : ℕ) (t : Replacement) : Type 0 where
+  pub n : ℕ
+  pub is_reference : IsReference src p n j
+  pub no_character : predefined (slice src (p + 1) n) ≡ None
+  pub found : text_of es (slice src (p + 1) n) ≡ Some t
+
+-- where k replacement texts are open and b openings are left, one more may be opened, with r left in it
+abbrev pub MayOpen : (k b r : ℕ) → Type 0
+MayOpen zero b r = r ≡ 255
+MayOpen (suc k) b r = (b ≡ r + 1) × (suc k < most_deep)
+
+-- none may be opened
+abbrev pub IsSpent : (k b : ℕ) → Type 0
+IsSpent zero b = ⊥
+IsSpent (suc k) b = (b ≡ 0) ⊎ (most_deep ≤ suc k)
+
+-- A point that content reaches from the left: with k replacement texts open, around which `base` elements are open, in this
+-- source, with b openings left, and what is read and open there. `opens k` is the meaning of a reference there.
+pub data ContentPoint (opens : ℕ → Inclusion) (es : List Entity) (text : List ℕ) (Root : ℕ → Forest Item → Type 0) : (k base : ℕ) → List ℕ → ℕ → State → Type 0 where
+  begins : (p : ℕ) (items : Forest Item) → Root p items → ContentPoint opens es text Root 0 0 text 255 (record { at = p; done = items; stack = root })
+  -- no element is closed that a replacement text did not open
+  goes : (k base b c : ℕ) (src : List ℕ) (s t : State) → ContentPoint opens es text Root k base src b s → StepsOver k (opens k) src s b t c → is_content k t.stack ≡ true → base ≤ depth_of t.stack
+      → ContentPoint opens es text Root k base src c t
+  -- the run at a place is read up to a reference, whose replacement text is opened
+  enters : (k base b c r stop p j : ℕ) (src : List ℕ) (s : State) (front : Forest Item) (t : Replacement) → ContentPoint opens es text Root k base src b s → is_content k s.stack ≡ true → IsCharacterData src s.at stop
+      → PartsTo (is_main k) (opens k) src s.at stop s.at p b c front → AreWellNamed (scope_of s.stack) front → p < stop → RefersTo es src p j t → MayOpen k c r
+      → ContentPoint opens es text Root (suc k) (depth_of s.stack) t.source r (record { at = t.start; done = join s.done front; stack = s.stack })
+
+-- A value is read from i up to p: the references to entities in it, and the openings that are left before them and behind.
+pub data ValueTo (Includes : Inclusion) (src : List ℕ) : ℕ → ℕ → ℕ → ℕ → Type 0 where
+  to_here : (i b : ℕ) → ValueTo Includes src i i b b
+  a_byte : (i p b c : ℕ) → byte src i ≢ 38 → ValueTo Includes src (i + 1) p b c → ValueTo Includes src i p b c
+  a_character : (i n x p b c : ℕ) → IsCharacter src i x n → ValueTo Includes src n p b c → ValueTo Includes src i p b c
+  an_entity : (i n j p b c d : ℕ) (w : List ℕ) → IsReference src i n j → predefined (slice src (i + 1) n) ≡ None → Includes.value (slice src (i + 1) n) b w c → ValueTo Includes src j p c d
+      → ValueTo Includes src i p b d
+
+-- A part of a value: from i up to stop of a source, where l replacement texts are open and d openings are left. It is the value
+-- itself, which stands from `start` up to `end` of src where k are open and b are left, or a replacement text that is opened in it.
+pub data ValuePart (opens : ℕ → Inclusion) (es : List Entity) (k : ℕ) (src : List ℕ) (start end b : ℕ) : (l : ℕ) → List ℕ → (i stop d : ℕ) → Type 0 where
+  itself : ValuePart opens es k src start end b k src start end b
+  opened : (l i stop d c r p j : ℕ) (part : List ℕ) (t : Replacement) → ValuePart opens es k src start end b l part i stop d → ValueTo (opens l) part i p d c → p < stop
+      → RefersTo es part p j t → MayOpen l c r → ValuePart opens es k src start end b (suc l) t.source t.start (length t.source) r
+
+-- what stands behind the root element, up to p: all of these, with what stands before it
+pub record Behind (opens : ℕ → Inclusion) (text : List ℕ) (Front : ℕ → Forest Item → Type 0) (p : ℕ) (items : Forest Item) : Type 0 where
+  pub start : ℕ
+  pub before : Forest Item
+  pub ahead : Front start before
+  pub end : ℕ
+  pub left : ℕ
+  pub one : Forest Item
+  pub element : IsElement true (opens 0) text start end 255 left one
+  pub well_named : AreWellNamed [] one
+  pub after : Forest Item
+  pub misc : Misc text end p after
+  pub all : items ≡ join (join before one) after
+
+-- The start tag that begins at a place is read up to p, right behind its name or one of these attributes and declarations.
+-- No fault of the tag stands before p: each declaration may be there, and with their pairs the limit is kept.
+pub record TagTo (main : Bool) (Includes : Inclusion) (src : List ℕ) (s : State) (p b c : ℕ) (written : List Attribute) : Type 0 where
+  pub name : Name
+  pub name_end : ℕ
+  pub is_name : IsQName src (s.at + 1) name name_end
+  pub no_xmlns : bytes_eq name.prefix (word_text word.Xmlns) ≡ false
+  pub attributes : Attributes main Includes src name_end p b c written
+  pub declarable : AreDeclarable [] (namespace_decls_of written)
+  pub few_pairs : length (with_new (distinct_pairs (pairs_so_far s.stack s.done)) (listable_of (namespace_decls_of written))) ≤ most_pairs

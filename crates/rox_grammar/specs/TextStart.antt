@@ -1,0 +1,19 @@
+-- How a text begins: the main text, or a resolver's answer.
+use Rattle.std.specs.Prelude.{◌≡◌, ℕ, ◌==◌, false, List, [], ◌∷◌, if◌then◌else◌}
+use Rattle.std.specs.List.{starts_with}
+use Rattle.rox_grammar.specs.declared.fault.Word.TheVariants as word
+use Rattle.rox_grammar.specs.Constructs.{at, IsXmlDecl}
+
+-- EF BB BF
+abbrev pub bom : List ℕ
+bom = 239 ∷ 187 ∷ 191 ∷ []
+
+-- the place after a byte order mark, if there is one
+abbrev pub after_bom : List ℕ → ℕ
+after_bom src = if starts_with ◌==◌ src bom then 3 else 0
+
+-- XML 2.8 [23], 4.3.1 [77]: a declaration where `<?xml` and a space stand, else nothing. That of an answer is read as that of the
+-- main text, where [77] wants `encoding`, lets `version` be missing, and has no `standalone`.
+pub data MayHaveXmlDecl (src : List ℕ) : ℕ → ℕ → Type 0 where
+  declared : (i j : ℕ) → IsXmlDecl src i j → MayHaveXmlDecl src i j
+  not_declared : (i : ℕ) → at word.XmlDeclStart src i ≡ false → MayHaveXmlDecl src i i

@@ -1,0 +1,28 @@
+-- Texts without a character.
+use Rattle.std.specs.Prelude.{◌≡◌, ℕ, ◌+◌, false, List, []}
+use Rattle.rox_grammar.specs.declared.fault.Word.TheVariants as word
+use Rattle.rox_grammar.specs.Forest.{Forest}
+use Rattle.rox_grammar.specs.Tree.{Node, Text}
+use Rattle.rox_grammar.specs.Names.{byte}
+use Rattle.rox_grammar.specs.Constructs.{at, IsCData}
+use Rattle.rox_grammar.specs.Entities.{Entity}
+use Rattle.rox_theory.specs.Pieces.{IsSourceIn, IsEmptySection}
+use Rattle.roxmltree.specs.EachNode.{EachNode}
+
+-- XML 2.7: from this place on empty CDATA sections stand, one at least, and then markup that is no such section
+pub data EmptySections (text : List ℕ) : ℕ → Type 0 where
+  last : (i : ℕ) → IsCData text i (i + 9) (i + 12) → byte text (i + 12) ≡ 60 → at word.CDataStart text (i + 12) ≡ false → EmptySections text i
+  more : (i : ℕ) → IsCData text i (i + 9) (i + 12) → EmptySections text (i + 12) → EmptySections text i
+
+-- a text node that is empty is made of such sections alone
+abbrev pub EmptyIsSections : List ℕ → Node → Type 0
+EmptyIsSections text (Text start end value borrowed) = value ≡ [] → EmptySections text start
+EmptyIsSections text other = Unit {0}
+
+abbrev pub EmptyTextsAreSections : List ℕ → Forest Node → Type 0
+EmptyTextsAreSections text tree = EachNode (EmptyIsSections text) tree
+
+-- With entities too: if a text is empty its range is an empty section, the first of its pieces, in the text or in a replacement text.
+abbrev pub BeginsWithSection : (text : List ℕ) (es : List Entity) → Node → Type 0
+BeginsWithSection text es (Text start end value borrowed) = value ≡ [] → (source : List ℕ) × IsSourceIn text es source × IsEmptySection source start end
+BeginsWithSection text es other = Unit {0}

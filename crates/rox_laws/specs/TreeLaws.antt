@@ -1,0 +1,57 @@
+-- What is true of the tree of every document.
+use Rattle.std.specs.Prelude.{◌≡◌, Bool, false, ◌&&◌, List, [], ◌∷◌, ◌++◌, bytes_eq, All, IfSome}
+use Rattle.std.specs.List.{list_any}
+pub use Rattle.rox_grammar.specs.CharText.{IsCharText, NamespaceDeclChars}
+use Rattle.rox_grammar.specs.Forest.{Forest, Nil, Cons}
+use Rattle.rox_grammar.specs.Written.{NamespaceDecl}
+use Rattle.rox_grammar.specs.Tree.{Node, Attribute, Root, Element, Text, Comment, PI, same_prefix, is_declared}
+use Rattle.roxmltree.specs.NodeParts.{is_text_node, listed_of, attributes_of}
+
+abbrev pub begins_with_text : Forest Node → Bool
+begins_with_text Nil = false
+begins_with_text (Cons node children rest) = is_text_node node
+
+-- no text is followed by a text, at any depth
+abbrev pub TextsApart : Forest Node → Type 0
+TextsApart Nil = Unit {0}
+TextsApart (Cons node children rest) = ((is_text_node node && begins_with_text rest) ≡ false) × TextsApart children × TextsApart rest
+
+-- none of these has the prefix of one before it
+abbrev pub PrefixesOnce : List NamespaceDecl → List NamespaceDecl → Type 0
+PrefixesOnce before [] = Unit {0}
+PrefixesOnce before (d ∷ ds) = (is_declared d.prefix before ≡ false) × PrefixesOnce (before ++ d ∷ []) ds
+
+-- NS 6.3: both have no namespace or one, and one local name
+abbrev pub same_attribute_name : Attribute → Attribute → Bool
+same_attribute_name a b = same_prefix a.namespace b.namespace && bytes_eq a.local b.local
+
+-- none of these has the expanded name of one before it
+abbrev pub NamesOnce : List Attribute → List Attribute → Type 0
+NamesOnce before [] = Unit {0}
+NamesOnce before (a ∷ as') = (list_any (λ e. same_attribute_name e a) before ≡ false) × NamesOnce (before ++ a ∷ []) as'
+
+-- each node lists a prefix, or the default, once at most, and has an attribute of an expanded name once at most
+abbrev pub NamesDistinct : Forest Node → Type 0
+NamesDistinct Nil = Unit {0}
+NamesDistinct (Cons node children rest) =
+    (PrefixesOnce [] (listed_of node) × NamesOnce [] (attributes_of node)) × NamesDistinct children × NamesDistinct rest
+
+-- the namespace of an attribute, if it has one, its local name and its value are texts of Chars
+pub record AttributeChars (a : Attribute) : Type 0 where
+  pub namespace : IfSome a.namespace IsCharText
+  pub local : IsCharText a.local
+  pub value : IsCharText a.value
+
+-- and all that a node says
+abbrev pub NodeChars : Node → Type 0
+NodeChars (Root end) = Unit {0}
+NodeChars (Element start end namespace local listed attributes) =
+    IfSome namespace IsCharText × IsCharText local × All NamespaceDeclChars listed × All AttributeChars attributes
+NodeChars (Text start end value borrowed) = IsCharText value
+NodeChars (Comment start end text) = IsCharText text
+NodeChars (PI start end target value) = IsCharText target × IfSome value IsCharText
+
+-- and all that these nodes say, at any depth
+abbrev pub AllChars : Forest Node → Type 0
+AllChars Nil = Unit {0}
+AllChars (Cons node children rest) = NodeChars node × AllChars children × AllChars rest

@@ -1,0 +1,43 @@
+-- How much the nodes of a tree say, and how many they are, against their text.
+use Rattle.std.specs.Prelude.{ℕ, ◌+◌, ◌*◌, ◌≤◌, ◌==◌, List, [], ◌∷◌, length, count_by}
+use Rattle.rox_grammar.specs.Forest.{Forest, Nil, Cons, size}
+use Rattle.rox_grammar.specs.Tree.{Attribute, Node, Root, Element, Text, Comment, PI}
+
+abbrev pub attribute_bytes : List Attribute → ℕ
+attribute_bytes [] = 0
+attribute_bytes (a ∷ as') = length a.value + attribute_bytes as'
+
+-- the bytes of the value of a text, or of those of an element's attributes
+abbrev pub bytes_of : Node → ℕ
+bytes_of (Root end) = 0
+bytes_of (Element start end namespace local listed attributes) = attribute_bytes attributes
+bytes_of (Text start end value borrowed) = length value
+bytes_of (Comment start end text) = 0
+bytes_of (PI start end target value) = 0
+
+abbrev pub attribute_count_of : Node → ℕ
+attribute_count_of (Root end) = 0
+attribute_count_of (Element start end namespace local listed attributes) = length attributes
+attribute_count_of (Text start end value borrowed) = 0
+attribute_count_of (Comment start end text) = 0
+attribute_count_of (PI start end target value) = 0
+
+-- the values of all texts and attributes together
+abbrev pub all_bytes : Forest Node → ℕ
+all_bytes Nil = 0
+all_bytes (Cons node children rest) = bytes_of node + (all_bytes children + all_bytes rest)
+
+-- how many attributes there are
+abbrev pub all_attributes : Forest Node → ℕ
+all_attributes Nil = 0
+all_attributes (Cons node children rest) = attribute_count_of node + all_attributes children + all_attributes rest
+
+-- the bytes of the text, and for each `&` in it 256 times so many
+abbrev pub most_bytes : (text : List ℕ) (longest : ℕ) → ℕ
+most_bytes text longest = length text + 256 * count_by (λ b. b == 38) text * longest
+
+-- The values have at most these bytes, where `longest` is how many a replacement text has at most; nodes, the root node aside, and
+-- attributes together are no more than that.
+pub record IsTreeBounded (text : List ℕ) (longest : ℕ) (tree : Forest Node) : Type 0 where
+  pub bytes : all_bytes tree ≤ most_bytes text longest
+  pub nodes : size tree + all_attributes tree ≤ most_bytes text longest + 1

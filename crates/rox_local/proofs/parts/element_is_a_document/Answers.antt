@@ -1,5 +1,0 @@
-use Rattle.rox_local.proofs.Alone.{reparse_at}
-use Rattle.rox_local.proofs.parts.element_is_a_document.Goals as goal
-
-pub returns : goal.returns
-returns c = λ src s e left one utf8 is named. reparse_at src s e left one utf8 is named

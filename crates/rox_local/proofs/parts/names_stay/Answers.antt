@@ -1,5 +1,0 @@
-use Rattle.rox_local.proofs.Named.{named_exchanged}
-use Rattle.rox_local.proofs.parts.names_stay.Goals as goal
-
-pub returns : goal.returns
-returns c = λ v one all s new within is. named_exchanged v one s new all within is

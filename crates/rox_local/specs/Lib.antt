@@ -1,4 +1,0 @@
-pub mod Local
-pub mod Context
-pub mod Stands
-pub mod Contained

@@ -1,0 +1,70 @@
+-- Reading of a document.
+use Rattle.std.specs.Prelude.{ℕ, zero, suc, ◌==◌, Bool, true, false, List, [], Result, Ok, Err, length, slice_index, nat_lt, if◌then◌else◌}
+use Rattle.rox_grammar.specs.declared.fault.Fault.{Fault}
+use Rattle.rox_grammar.specs.declared.fault.Fault.TheVariants as fault
+use Rattle.rox_grammar.specs.declared.fault.Word.TheVariants as word
+use Rattle.rox_grammar.specs.Forest.{Forest, Nil}
+use Rattle.rox_grammar.specs.Written.{Item}
+use Rattle.rox_grammar.specs.Names.{spaces_end}
+use Rattle.rox_grammar.specs.Constructs.{at}
+use Rattle.rox_grammar.specs.TextStart.{after_bom}
+use Rattle.rox_grammar.specs.Entities.{Entity}
+use Rattle.rox_reading.specs.Lexical.{◌>>=◌}
+use Rattle.rox_reading.specs.Markup.{xml_decl_at}
+use Rattle.rox_reading.specs.Refusals.{Refusal, here, lifted}
+use Rattle.rox_grammar.specs.State.{root}
+use Rattle.rox_reading.specs.State.{State}
+use Rattle.rox_reading.specs.Machine.{comment_step, instruction_step, at_place, main_text, tag_step, drive}
+use Rattle.rox_reading.specs.Doctype.{Reply, Asks, asks_nothing, ◌>>>◌, Dtd, with_state, doctype_step}
+
+-- comments, processing instructions and white space; the number bounds them
+unfoldable pub misc : ℕ → ℕ → List ℕ → State → Result State Fault
+misc limit zero src s = Ok s
+misc limit (suc n) src s =
+    let t = at_place (spaces_end src s.at) s in
+    if at word.CommentStart src t.at then (comment_step limit src t >>= λ u. misc limit n src u)
+    else if at word.PIStart src t.at then (instruction_step limit src t >>= λ u. misc limit n src u)
+    else Ok t
+
+-- the root element, if `<` stands here, and what follows it
+unfoldable pub body : ℕ → List Entity → List ℕ → State → Result (State × Bool) Refusal
+body limit es src s =
+    if slice_index src s.at == 60 then
+    (tag_step (main_text limit es) src s >>= λ t. drive (main_text limit es) (length src) src t >>= λ u. lifted (misc limit (length src) src u) >>= λ v. Ok (v, true))
+    else Ok (s, false)
+
+-- nothing is left, and there is an element
+unfoldable pub finished : List ℕ → State × Bool → Result (Forest Item) Fault
+finished src (s, some) =
+    if nat_lt s.at (length src) then Err (fault.UnknownToken s.at)
+    else if some then Ok s.done else Err fault.NoRootNode
+
+-- the declaration, if it stands here
+unfoldable pub prolog : List ℕ → ℕ → Result ℕ Fault
+prolog src i = if at word.XmlDeclStart src i then (xml_decl_at src i >>= λ x. Ok x.1) else Ok i
+
+-- the document type declaration, if it stands here, and what follows it
+unfoldable pub doctype : ℕ → (allow : Bool) → List ℕ → Dtd → Asks Dtd
+doctype limit allow src d =
+    if at word.DoctypeStart src d.state.at then
+    (if allow then (doctype_step limit src d >>> λ e. asks_nothing (lifted (misc limit (length src) src e.state)) >>> λ s. asks_nothing (Ok (with_state e s)))
+    else ([], Err (here fault.DtdDetected)))
+    else ([], Ok d)
+
+-- a document type declaration stands behind what is read
+abbrev pub begins_doctype : List ℕ → Result State Fault → Bool
+begins_doctype src (Ok s) = at word.DoctypeStart src s.at
+begins_doctype src (Err f) = false
+
+-- whether the text has a document type declaration
+unfoldable pub has_doctype : ℕ → List ℕ → Bool
+has_doctype limit src =
+    begins_doctype src (prolog src (after_bom src) >>= λ i. misc limit (length src) src (record { at = i; done = Nil; stack = root; left = 255 }))
+
+-- a whole text: what is asked, and its top items, or why it is refused
+unfoldable pub reading : ℕ → (allow : Bool) → List Reply → List ℕ → Asks (Forest Item)
+reading limit allow replies src =
+    asks_nothing (lifted (prolog src (after_bom src))) >>> λ i.
+    asks_nothing (lifted (misc limit (length src) src (record { at = i; done = Nil; stack = root; left = 255 }))) >>> λ s.
+    doctype limit allow src (record { state = s; entities = []; replies = replies }) >>> λ d.
+    asks_nothing (body limit d.entities src d.state) >>> λ x. asks_nothing (lifted (finished src x))

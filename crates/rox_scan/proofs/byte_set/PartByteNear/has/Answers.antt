@@ -1,0 +1,12 @@
+use Rattle.std.proofs.Common.{arith}
+use Rattle.std.proofs.lemmas.Bool.Decides.{nat_tests}
+use Rattle.rox_scan.specs.ByteSets.{is_part_byte}
+use Rattle.rox_scan.proofs.byte_set.PartByteNear.has.Goals as goal
+
+pub returns-then-byte-lt128 : goal.returns-then-byte-lt128
+unfolding is_part_byte
+returns-then-byte-lt128 c = grind (arith, nat_tests, c.is_part_byte.ensures)
+
+pub returns-else-byte-lt128 : goal.returns-else-byte-lt128
+unfolding is_part_byte
+returns-else-byte-lt128 c = grind (arith, nat_tests)

@@ -1,7 +1,0 @@
-use Rattle.std.proofs.Common.{sym, ◌∙◌}
-use Rattle.rox_scan.proofs.LongerLemmas.{looked_value}
-use Rattle.rox_scan.proofs.cursor.Cursor.longer_value.Goals as goal
-
-pub returns-then-is_at-clause-value : goal.returns-then-is_at-clause-value
-returns-then-is_at-clause-value c =
-    looked_value c.args.self.now.text.now c.args.quote c.args.self.now.pos _ _ c.requires.quote c.value_look-look.ensures.looked (sym c.is_at.ensures ∙ c.if-is_at.true)

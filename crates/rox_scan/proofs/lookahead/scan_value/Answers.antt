@@ -1,0 +1,37 @@
+use Rattle.std.proofs.Common.{◌≡◌, ◌<◌, ℕ, List, false, get_or, refl, ap, ◌∙◌, arith}
+use Rattle.std.proofs.lemmas.Bool.{ne_eqb}
+use Rattle.rox_reading.specs.Values.{is_special}
+use Rattle.rox_scan.specs.Lookahead.{ends_value}
+use Rattle.rox_scan.proofs.LongerLemmas.{value_near, value_on}
+use Rattle.rox_scan.proofs.lookahead.scan_value.Goals as goal
+
+pub loop-end-init : goal.loop-end-init
+loop-end-init c =
+    let n = c.skip_set-end.ensures in
+    record { looked = value_near c.args.text.now c.args.quote c.args.at _ c.utf8.text c.requires.quote c.requires.cut n.onward n.within n.passes n.stops }
+
+pub after_char-next-requires-clause-cut : goal.after_char-next-requires-clause-cut
+after_char-next-requires-clause-cut c = c.loop-end.invariant.looked.cut
+
+pub loop-end-preserved : goal.loop-end-preserved
+loop-end-preserved c =
+    let src = c.args.text.now in
+    let j = c.loop-end.end in
+    let a = c.after_char-next.ensures in
+    let n = c.skip_set-end-in-loop-end.ensures in
+    let read = ap (λ (l : List ℕ). get_or l j 0) c.as_bytes-bytes.ensures.value in
+    let other = ne_eqb (get_or src j 0) c.args.quote (λ h. c.if-here-quote.false (read ∙ h)) in
+    let no_tag = ne_eqb (get_or src j 0) 60 (λ h. absurd (omega (arith, h, read, c.if-here-eq60.false))) in
+    let here : ends_value c.args.quote src j ≡ false = rw (other, no_tag) refl in
+    let some : j < c.after_char-next.result = omega (arith, a.onward, c.if-next-end.false) in
+    let changed : c.is_special.result ≡ is_special (get_or src j 0) = c.is_special.ensures ∙ ap is_special read in
+    record { looked = rw changed (value_on src c.args.quote c.args.at j _ _ c.loop-end.plain c.utf8.text c.requires.quote c.requires.cut c.loop-end.invariant.looked some a.cut a.chars a.wide here n.onward n.within n.passes n.stops) }
+
+pub returns-after-loop-end-clause-looked : goal.returns-after-loop-end-clause-looked
+returns-after-loop-end-clause-looked c = c.loop-end.invariant.looked
+
+pub returns-then-here-quote-clause-looked : goal.returns-then-here-quote-clause-looked
+returns-then-here-quote-clause-looked c = c.loop-end.invariant.looked
+
+pub returns-then-next-end-clause-looked : goal.returns-then-next-end-clause-looked
+returns-then-next-end-clause-looked c = c.loop-end.invariant.looked

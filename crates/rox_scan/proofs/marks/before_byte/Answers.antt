@@ -1,7 +1,0 @@
-use Rattle.std.proofs.Common.{sym, ◌∙◌}
-use Rattle.memchr.specs.Find.{is_byte}
-use Rattle.rox_scan.proofs.MarkLemmas.{first_byte_found}
-use Rattle.rox_scan.proofs.marks.before_byte.Goals as goal
-
-pub returns-clause-value : goal.returns-clause-value
-returns-clause-value c = c.unwrap_or.ensures ∙ sym (first_byte_found (is_byte c.args.byte) c.args.bytes.now c.memchr.result c.memchr.ensures)

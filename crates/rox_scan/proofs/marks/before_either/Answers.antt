@@ -1,7 +1,0 @@
-use Rattle.std.proofs.Common.{sym, ◌∙◌}
-use Rattle.memchr.specs.Find.{is_byte2}
-use Rattle.rox_scan.proofs.MarkLemmas.{first_byte_found}
-use Rattle.rox_scan.proofs.marks.before_either.Goals as goal
-
-pub returns-clause-value : goal.returns-clause-value
-returns-clause-value c = c.unwrap_or.ensures ∙ sym (first_byte_found (is_byte2 c.args.one c.args.other) c.args.bytes.now c.memchr2.result c.memchr2.ensures)

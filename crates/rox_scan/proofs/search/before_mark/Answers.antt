@@ -1,0 +1,28 @@
+use Rattle.std.proofs.Common.{◌≡◌, ◌==◌, ℕ, ◌<◌, length, drop, false, inl, inr, sym, ◌∙◌, arith}
+use Rattle.std.specs.List.{starts_with}
+use Rattle.std.proofs.lemmas.Bool.{cases_eq}
+use Rattle.rox_scan.proofs.MarkLemmas.{before_mark_is, none_below}
+use Rattle.rox_scan.proofs.search.before_mark.Goals as goal
+use Rattle.rox_scan.proofs.search.before_mark.Goals.{After-next_byte-next}
+
+none_before : (c : After-next_byte-next) → (j : ℕ) → j < c.next_byte-next.result → starts_with ◌==◌ (drop j c.args.bytes.now) c.args.mark.now ≡ false
+none_before c = none_below c.args.mark.now c.args.bytes.now c.loop-at.at c.next_byte-next.result c.requires c.loop-at.invariant.1 c.next_byte-next.ensures.before
+
+pub returns-then-starts_with-clause-value : goal.returns-then-starts_with-clause-value
+returns-then-starts_with-clause-value c =
+    let found = rw c.split_at.ensures.back at (sym c.starts_with.ensures.value ∙ c.if-starts_with.true) in
+    sym (before_mark_is c.args.mark.now c.args.bytes.now c.next_byte-next.result (omega arith) (none_before ((goal.at.returns-then-starts_with-clause-value c).After-next_byte-next)) (λ _. found))
+
+pub loop-at-preserved : goal.loop-at-preserved
+loop-at-preserved c =
+    let here = rw c.split_at.ensures.back at (sym c.starts_with.ensures.value ∙ c.if-starts_with.false) in
+    let low = none_before ((goal.at.loop-at-preserved c).After-next_byte-next) in
+    (omega arith, λ j lt. elim (cases_eq j c.next_byte-next.result) [ inl same ↦ rw same here | inr other ↦ low j (omega arith) ])
+
+pub returns-after-loop-at-clause-value : goal.returns-after-loop-at-clause-value
+returns-after-loop-at-clause-value c =
+    sym (before_mark_is c.args.mark.now c.args.bytes.now (length c.args.bytes.now) (omega arith) (λ j lt. c.loop-at.invariant.1 j (omega arith)) (λ more. absurd (omega arith)))
+
+pub returns-then-next-bytes-clause-value : goal.returns-then-next-bytes-clause-value
+returns-then-next-bytes-clause-value c =
+    sym (before_mark_is c.args.mark.now c.args.bytes.now (length c.args.bytes.now) (omega arith) (λ j lt. none_before ((goal.at.returns-then-next-bytes-clause-value c).After-next_byte-next) j (omega arith)) (λ more. absurd (omega arith)))

@@ -1,0 +1,28 @@
+-- Bytes that stand for themselves, whichever character they are of, for a first look. 239 is none of them, since it begins the
+-- two characters past ASCII that are no Chars.
+use Rattle.rox_grammar.specs.Chars.{is_part_char}
+use Rattle.std.specs.Prelude.{◌≡◌, ◌≤◌, ◌<◌, ℕ, Bool, true, not, ◌&&◌, ◌||◌, ◌==◌, nat_le, nat_lt, List, slice_index}
+
+-- a byte that begins no character but a Char, or goes on with one
+abbrev pub is_char_byte : ℕ → Bool
+is_char_byte b = ((nat_le 32 b && not (b == 239)) || b == 9) || (b == 10 || b == 13)
+
+-- no control, no quote, no `&` and no `<`
+unfoldable pub is_value_byte : ℕ → Bool
+is_value_byte b = (nat_le 32 b && not (b == 239)) && not ((b == 34 || b == 39) || (b == 38 || b == 60))
+
+-- no control but TAB and LF, no `&`, no `<` and no `]`
+unfoldable pub is_text_byte : ℕ → Bool
+is_text_byte b = (((b == 9 || b == 10) || nat_le 32 b) && not (b == 239)) && not ((b == 38 || b == 60) || b == 93)
+
+-- no control but TAB, LF and CR, and no `-`
+unfoldable pub is_comment_byte : ℕ → Bool
+is_comment_byte b = ((((b == 9 || b == 10) || b == 13) || nat_le 32 b) && not (b == 239)) && not (b == 45)
+
+-- ASCII, and in a part of a name
+unfoldable pub is_part_byte : ℕ → Bool
+is_part_byte b = nat_lt b 128 && is_part_char b
+
+-- each byte from i up to j passes
+abbrev pub AllPass : (ℕ → Bool) → List ℕ → ℕ → ℕ → Type 0
+AllPass p src i j = (k : ℕ) → i ≤ k → k < j → p (slice_index src k) ≡ true

@@ -1,0 +1,76 @@
+-- The parts of a document type declaration, without where they lie in memory, and how a resolver's answer begins.
+use Rattle.std.specs.Prelude.{◌≡◌, ℕ, ◌+◌, ◌≤◌, ◌==◌, ◌||◌, Bool, List, Option, Some, Result, Ok, Err, length, take, IsCharBoundary, slice_index, nat_lt, nat_le, if◌then◌else◌}
+use Rattle.rox_grammar.specs.declared.fault.Fault.{Fault}
+use Rattle.rox_grammar.specs.declared.fault.Fault.TheVariants as fault
+use Rattle.rox_grammar.specs.declared.fault.Due.TheVariants as due
+use Rattle.rox_grammar.specs.declared.fault.Word.TheVariants as word
+use Rattle.rox_grammar.specs.Search.{byte_from}
+use Rattle.rox_grammar.specs.Names.{spaces_end}
+use Rattle.rox_grammar.specs.Constructs.{at}
+use Rattle.rox_grammar.specs.Entities.{Replacement}
+use Rattle.rox_grammar.specs.Doctype.{Request}
+use Rattle.rox_reading.specs.Lexical.{Read, ◌>>=◌}
+use Rattle.rox_reading.specs.Markup.{xml_decl_at}
+use Rattle.rox_reading.specs.Refusals.{Refusal, there}
+use Rattle.rox_reading.specs.Doctype as reading
+use Rattle.rox_scan.specs.Views.{text_view}
+use Rattle.rox_scan.specs.declared.cursor.Cursor.{Cursor}
+use Rattle.rox_scan.specs.declared.doctype.ExternalId.{ExternalId}
+use Rattle.rox_scan.specs.declared.doctype.Definition.{Definition}
+use Rattle.rox_scan.specs.declared.doctype.Definition.TheVariants as definition
+use Rattle.rox_scan.specs.declared.doctype.EntityHead.{EntityHead}
+
+-- a replacement text begins at a place, and its source is cut off where it ends
+abbrev pub replacement_view : Cursor → Replacement
+replacement_view c = record { source = c.text.now; start = c.pos }
+
+abbrev pub request_view : ExternalId → Request
+request_view e = record { public_id = text_view e.public_id; uri = e.uri.now }
+
+abbrev pub definition_view : Definition → reading.Definition
+definition_view (definition.Inner text) = reading.inner (replacement_view text)
+definition_view (definition.Outer id) = reading.outer (request_view id)
+
+abbrev pub head_view : EntityHead → reading.EntityHead
+head_view h = record { parameter = h.parameter; name = h.name.now }
+
+-- two places between characters, in order
+pub record AreBoundaries (text : List ℕ) (start end : ℕ) : Type 0 where
+  pub ordered : start ≤ end
+  pub from : IsCharBoundary text start
+  pub until : IsCharBoundary text end
+
+-- a definition in quotes
+abbrev pub inner_at : List ℕ → ℕ → Read reading.Definition
+inner_at src i = reading.quoted_at src i >>= λ x. Ok (reading.inner (record { source = take (i + 1 + length x.0) src; start = i + 1 }), x.1)
+
+-- and one by an external identifier
+abbrev pub outer_at : (parameter : Bool) → List ℕ → ℕ → Read reading.Definition
+outer_at parameter src i = reading.external_id_at src i >>= λ x. reading.notation_at parameter src x.1 >>= λ y. Ok (reading.outer x.0, y.1)
+
+-- a declaration that is passed over
+abbrev pub is_skipped_declaration : List ℕ → ℕ → Bool
+is_skipped_declaration src i = at word.ElementStart src i || (at word.AttlistStart src i || at word.NotationStart src i)
+
+-- up to its `>`, in the document type declaration that begins at `start`
+abbrev pub skipped_declaration_at : (start : ℕ) → List ℕ → ℕ → Read (Unit {0})
+skipped_declaration_at start src i =
+    let e = byte_from (λ c. c == 62) src i in
+    if nat_lt e (length src) then Ok (tt, e + 1) else Err (fault.UnknownToken start)
+
+-- from the `]` of a subset
+abbrev pub subset_end_at : List ℕ → ℕ → Read (Unit {0})
+subset_end_at src i =
+    let e = spaces_end src (i + 1) in
+    if nat_le (length src) e then Err fault.UnexpectedEndOfStream
+    else if slice_index src e == 62 then Ok (tt, e + 1)
+    else Err (fault.InvalidChar2 due.End (slice_index src e) e)
+
+-- a declaration at the start of a text, if it stands there
+abbrev pub xml_decl_if : List ℕ → ℕ → Read (Unit {0})
+xml_decl_if src i = if at word.XmlDeclStart src i then xml_decl_at src i else Ok (tt, i)
+
+-- the replacement text of an answer, or its first fault, is what is read of it
+abbrev pub IsReplacement : (answer : List ℕ) → Result Cursor Fault → Result (Option Replacement) Refusal → Type 0
+IsReplacement answer (Ok text) read = read ≡ Ok (Some (replacement_view text))
+IsReplacement answer (Err f) read = read ≡ Err (there answer f)

@@ -1,0 +1,36 @@
+-- What a longer look tells of a stretch of a text.
+use Rattle.std.specs.Prelude.{◌≡◌, ◌≤◌, ◌<◌, ◌==◌, ◌||◌, ℕ, Bool, false, not, List, slice_index, slice_range}
+use Rattle.std.specs.List.{list_any}
+use Rattle.std.specs.Str.{IsCharBoundary}
+use Rattle.rox_grammar.specs.declared.fault.Word.TheVariants as word
+use Rattle.rox_grammar.specs.FixedTexts.{word_text}
+use Rattle.rox_grammar.specs.Search.{stands}
+use Rattle.rox_grammar.specs.Constructs.{AreChars, double_dash}
+
+-- from i up to j there are Chars alone, it ends at no place among them, and whether they stand for themselves
+pub record IsLookahead (ends : ℕ → Bool) (changes : ℕ → Bool) (src : List ℕ) (i j : ℕ) (plain : Bool) : Type 0 where
+  pub onward : i ≤ j
+  pub cut : IsCharBoundary src j
+  pub chars : AreChars src i j
+  pub apart : (k : ℕ) → i ≤ k → k < j → ends k ≡ false
+  pub plain_is : plain ≡ not (list_any changes (slice_range src i j))
+
+-- a value ends at its quote or a `<`; it is changed at each special byte
+abbrev pub ends_value : ℕ → List ℕ → ℕ → Bool
+ends_value quote src k = (slice_index src k == quote) || (slice_index src k == 60)
+
+-- a run ends at a `<` or a `]]>`
+abbrev pub ends_run : List ℕ → ℕ → Bool
+ends_run src k = (slice_index src k == 60) || stands (word_text word.CDataEnd) src k
+
+-- and is changed at a `&` and at a CR
+abbrev pub changes_run : ℕ → Bool
+changes_run b = (b == 38) || (b == 13)
+
+-- a comment ends at two dashes
+abbrev pub ends_comment : List ℕ → ℕ → Bool
+ends_comment src k = stands double_dash src k
+
+-- and is not changed
+abbrev pub changes_comment : ℕ → Bool
+changes_comment b = false

@@ -1,0 +1,44 @@
+-- What the scanner's values are without where they lie in memory.
+use Rattle.std.specs.Prelude.{◌≡◌, ◌≤◌, List, ℕ, Option, option_map, slice_range}
+use Rattle.std.specs.Borrow.{Bor}
+use Rattle.std.specs.Str.{IsCharBoundary}
+use Rattle.rox_grammar.specs.Content.{is_verbatim_value}
+use Rattle.rox_reading.specs.Markup as markup
+use Rattle.rox_grammar.specs.Failures.{name_view}
+use Rattle.rox_scan.specs.declared.markup.Instruction.{Instruction}
+use Rattle.rox_scan.specs.declared.markup.EndTag.{EndTag}
+use Rattle.rox_scan.specs.declared.markup.RawAttribute.{RawAttribute}
+use Rattle.rox_scan.specs.declared.markup.TagItem.{TagItem}
+use Rattle.rox_scan.specs.declared.markup.TagItem.TheVariants as turn
+
+abbrev pub text_view : Option (Bor (List ℕ)) → Option (List ℕ)
+text_view o = option_map (λ x. x.now) o
+
+abbrev pub instruction_view : Instruction → markup.Instruction
+instruction_view p = record { target = p.target.now; value = text_view p.value }
+
+abbrev pub end_tag_view : EndTag → markup.EndTag
+end_tag_view e = record { name = name_view e.name; name_end = e.name_end }
+
+abbrev pub attribute_view : RawAttribute → markup.RawAttribute
+attribute_view a = record { start = a.start; name = name_view a.name; name_end = a.name_end; value_start = a.value_start; value_end = a.value_end }
+
+abbrev pub tag_item_view : TagItem → markup.TagItem
+tag_item_view (turn.More a) = markup.more (attribute_view a)
+tag_item_view turn.Open = markup.opened
+tag_item_view turn.Empty = markup.closed
+
+-- the attribute's value is what stands between two places of the text
+pub record HasValue (text : List ℕ) (a : RawAttribute) : Type 0 where
+  pub ordered : a.value_start ≤ a.value_end
+  pub from : IsCharBoundary text a.value_start
+  pub until : IsCharBoundary text a.value_end
+  pub is : a.value.now ≡ slice_range text a.value_start a.value_end
+  -- it says whether it has nothing to change
+  pub plain : a.plain ≡ is_verbatim_value a.value.now
+
+-- the same of an attribute that a start tag holds next
+abbrev pub TagItemHasValue : List ℕ → TagItem → Type 0
+TagItemHasValue text (turn.More a) = HasValue text a
+TagItemHasValue text turn.Open = Unit {0}
+TagItemHasValue text turn.Empty = Unit {0}

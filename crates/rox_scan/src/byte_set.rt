@@ -1,0 +1,206 @@
+//! Runs of plain bytes, sixteen at a time: a first look at names, values, character data and comments.
+
+ghost use Rattle.std.specs.Prelude.{◌≡◌, ◌+◌, ◌<◌, ◌≤◌, ℕ, Bool, true, false, not, map, take, drop, length, slice_index};
+ghost use Rattle.std.specs.Str.{IsCharBoundary};
+ghost use Rattle.std.specs.Int.{w64, trailing_zeros};
+ghost use Rattle.std.specs.Simd.Lanes.{mask_l};
+ghost use Rattle.rox_grammar.specs.Chars as spec;
+ghost use Rattle.rox_grammar.specs.Runs.{run_end};
+ghost use Rattle.rox_scan.specs.ByteSets as near;
+ghost use Rattle.rox_scan.specs.ByteSets.{AllPass};
+
+use crate::chars;
+use crate::nibbles::classes;
+use crate::runs::{PartChar, run_end};
+use std::simd::prelude::*;
+
+/// A set of bytes, to find a run of them.
+pub trait ByteSet {
+    ghost test: { ℕ → Bool };
+
+    fn has(byte: u8) -> bool
+        ensures { result ≡ test byte };
+
+    /// A bit for each of these bytes that is not in the set, the lowest for the first.
+    fn others(block: u8x16) -> u64
+        ensures { result ≡ mask_l (map (λ b. not (test b)) block) };
+}
+
+/// The bytes of an attribute's value that stand for themselves.
+pub struct ValueByte;
+
+// Classes that a byte of the set has none of, and any other has one.
+const VALUE_LOW: [u8; 16] = [1, 1, 3, 1, 1, 1, 3, 3, 1, 1, 1, 1, 5, 1, 1, 9];
+
+const VALUE_HIGH: [u8; 16] = [1, 1, 2, 4, 0, 0, 0, 0, 0, 0, 0, 0, 0, 0, 8, 0];
+
+impl ByteSet for ValueByte {
+    ghost test = { near.is_value_byte };
+
+    #[inline(always)]
+    fn has(byte: u8) -> bool {
+        chars::is_value_byte(byte)
+    }
+
+    #[inline(always)]
+    fn others(block: u8x16) -> u64 {
+        classes(VALUE_LOW, VALUE_HIGH, block)
+            .simd_ne(u8x16::splat(0))
+            .to_bitmask()
+    }
+}
+
+/// The bytes of character data that stand for themselves.
+pub struct TextByte;
+
+// Classes that a byte of the set has none of, and any other has one.
+const TEXT_LOW: [u8; 16] = [3, 3, 3, 3, 3, 3, 7, 3, 3, 2, 2, 3, 11, 19, 3, 35];
+
+const TEXT_HIGH: [u8; 16] = [1, 2, 4, 8, 0, 16, 0, 0, 0, 0, 0, 0, 0, 0, 32, 0];
+
+impl ByteSet for TextByte {
+    ghost test = { near.is_text_byte };
+
+    #[inline(always)]
+    fn has(byte: u8) -> bool {
+        chars::is_text_byte(byte)
+    }
+
+    #[inline(always)]
+    fn others(block: u8x16) -> u64 {
+        classes(TEXT_LOW, TEXT_HIGH, block)
+            .simd_ne(u8x16::splat(0))
+            .to_bitmask()
+    }
+}
+
+/// The bytes of a comment that stand for themselves.
+pub struct CommentByte;
+
+// Classes that a byte of the set has none of, and any other has one.
+const COMMENT_LOW: [u8; 16] = [3, 3, 3, 3, 3, 3, 3, 3, 3, 2, 2, 3, 3, 6, 3, 11];
+
+const COMMENT_HIGH: [u8; 16] = [1, 2, 4, 0, 0, 0, 0, 0, 0, 0, 0, 0, 0, 0, 8, 0];
+
+impl ByteSet for CommentByte {
+    ghost test = { near.is_comment_byte };
+
+    #[inline(always)]
+    fn has(byte: u8) -> bool {
+        chars::is_comment_byte(byte)
+    }
+
+    #[inline(always)]
+    fn others(block: u8x16) -> u64 {
+        classes(COMMENT_LOW, COMMENT_HIGH, block)
+            .simd_ne(u8x16::splat(0))
+            .to_bitmask()
+    }
+}
+
+/// The ASCII bytes of a part of a name.
+pub struct PartByte;
+
+// Classes that each byte of the set has one of, and no other.
+const PART_LOW: [u8; 16] = [26, 30, 30, 30, 30, 30, 30, 30, 30, 30, 28, 4, 4, 5, 5, 12];
+
+const PART_HIGH: [u8; 16] = [0, 0, 1, 2, 4, 8, 4, 16, 0, 0, 0, 0, 0, 0, 0, 0];
+
+impl ByteSet for PartByte {
+    ghost test = { near.is_part_byte };
+
+    #[inline(always)]
+    fn has(byte: u8) -> bool {
+        byte < 128 && chars::is_part_byte(byte)
+    }
+
+    #[inline(always)]
+    fn others(block: u8x16) -> u64 {
+        classes(PART_LOW, PART_HIGH, block)
+            .simd_eq(u8x16::splat(0))
+            .to_bitmask()
+    }
+}
+
+/// A bit for each of the sixteen bytes from `at` on that is not in the set, the lowest for the first.
+#[inline(always)]
+fn others_at<C: ByteSet>(bytes: &[u8], at: usize) -> u64
+    requires { at + 16 ≤ length bytes.now }
+    ensures value { result ≡ mask_l (map (λ b. not (C.test b)) (take 16 (drop at bytes.now))) }
+    ensures none { result ≡ 0 → AllPass C.test bytes.now at (at + 16) }
+    ensures few { 0 < result → trailing_zeros w64 result < 16 }
+    ensures passes { 0 < result → AllPass C.test bytes.now at (at + trailing_zeros w64 result) }
+    ensures stops { 0 < result → C.test (slice_index bytes.now (at + trailing_zeros w64 result)) ≡ false }
+{
+    C::others(u8x16::from_slice(&bytes[at..]))
+}
+
+/// How many bytes come before the first that has a bit.
+#[inline(always)]
+fn before_first(others: u64) -> usize
+    ensures { result ≡ trailing_zeros w64 others }
+{
+    others.trailing_zeros() as usize
+}
+
+/// Where the bytes of the set from `at` on end.
+#[inline(always)]
+fn bytes_end<C: ByteSet>(bytes: &[u8], at: usize) -> usize
+    requires { at ≤ length bytes.now }
+    ensures onward { at ≤ result }
+    ensures within { result ≤ length bytes.now }
+    ensures passes { AllPass C.test bytes.now at result }
+    ensures stops { result < length bytes.now → C.test (slice_index bytes.now result) ≡ false }
+{
+    let mut block = at;
+    while bytes.len() - block >= 16 {
+        let others = others_at::<C>(bytes, block);
+        if others != 0 {
+            // The step is the same for each block, so that no block waits for the count of the one before.
+            return block + before_first(others);
+        }
+        block += 16;
+    }
+    let mut end = block;
+    while end < bytes.len() && C::has(bytes[end]) {
+        end += 1;
+    }
+    end
+}
+
+/// The same of a text.
+#[inline(always)]
+pub fn skip_set<C: ByteSet>(text: &str, at: usize) -> usize
+    requires { at ≤ length text.now }
+    ensures onward { at ≤ result }
+    ensures within { result ≤ length text.now }
+    ensures passes { AllPass C.test text.now at result }
+    ensures stops { result < length text.now → C.test (slice_index text.now result) ≡ false }
+{
+    bytes_end::<C>(text.as_bytes(), at)
+}
+
+/// Whether an ASCII byte stands at `at`, or nothing.
+#[inline(always)]
+fn is_ascii_at(text: &str, at: usize) -> bool
+    ensures ascii { result ≡ true → at < length text.now → slice_index text.now at < 128 }
+    ensures wide { result ≡ false → (at < length text.now) × (128 ≤ slice_index text.now at) }
+{
+    let bytes = text.as_bytes();
+    at >= bytes.len() || bytes[at] < 128
+}
+
+/// Where the part of a name that begins at `at` ends.
+#[inline(always)]
+pub fn part_end(text: &str, at: usize) -> usize
+    requires { IsCharBoundary text.now at }
+    ensures end { result ≡ run_end spec.is_part_char text.now at }
+    ensures onward { at ≤ result }
+    ensures cut { IsCharBoundary text.now result }
+{
+    let near = skip_set::<PartByte>(text, at);
+    if is_ascii_at(text, near) {
+        return near;
+    }
+    run_end::<PartChar>(text, near)
+}

@@ -1,0 +1,156 @@
+//! A longer look at a value, a run or a comment, where the first look stops at a byte that may be in order: a reference, white
+//! space, the other quote, a bracket, a dash, or a character that begins with 239.
+
+ghost use Rattle.std.specs.Prelude.{◌≡◌, ◌==◌, ◌||◌, ◌+◌, ◌<◌, ◌≤◌, ℕ, true, false, length, slice_index};
+ghost use Rattle.std.specs.Str.{IsCharBoundary};
+ghost use Rattle.rox_grammar.specs.Chars.{is_char};
+ghost use Rattle.rox_grammar.specs.Runs.{begins};
+ghost use Rattle.rox_grammar.specs.Constructs.{AreChars};
+ghost use Rattle.rox_grammar.specs.Search.{stands};
+ghost use Rattle.rox_grammar.specs.Content as content;
+ghost use Rattle.rox_reading.specs.Values as reading;
+ghost use Rattle.rox_scan.specs.Lookahead as longer;
+ghost use Rattle.rox_scan.specs.Lookahead.{IsLookahead};
+
+use crate::byte_set::{CommentByte, TextByte, ValueByte, skip_set};
+use crate::runs::{Class, XmlChar, char_at};
+
+/// What a longer look tells: up to `end` all is in order, and whether it stands for itself.
+#[derive(Clone, Copy)]
+pub struct Lookahead {
+    pub end: usize,
+    pub plain: bool,
+}
+
+/// The place behind the Char that begins at `at`, or `at` where a character begins that is none.
+#[inline(always)]
+fn after_char(text: &str, at: usize) -> usize
+    requires cut { IsCharBoundary text.now at }
+    requires within { at < length text.now }
+    ensures onward { at ≤ result }
+    ensures chars { AreChars text.now at result }
+    ensures cut { IsCharBoundary text.now result }
+    ensures wide { (k : ℕ) → at < k → k < result → 128 ≤ slice_index text.now k }
+    ensures stops { result ≡ at → begins is_char text.now at ≡ false }
+{
+    let here = text.as_bytes()[at];
+    if here < 128 {
+        return if XmlChar::has_byte(here) { at + 1 } else { at };
+    }
+    let c = char_at(text, at);
+    if XmlChar::has(c) {
+        at + c.len_utf8()
+    } else {
+        at
+    }
+}
+
+/// Whether the mark stands at `at`. Where its first byte does not, no other is looked at.
+#[inline(always)]
+#[tactic(auto, using(crate::proofs::LongerLemmas::apart_from), unfolding(rox_grammar::specs::Search::stands))]
+fn is_mark_at(text: &str, at: usize, mark: &[u8]) -> bool
+    requires within { at < length text.now }
+    requires some { 0 < length mark.now }
+    ensures { result ≡ stands mark.now text.now at }
+{
+    let bytes = text.as_bytes();
+    bytes[at] == mark[0] && bytes[at..].starts_with(mark)
+}
+
+/// `&`, or white space that is no space.
+#[inline(always)]
+pub fn is_special(byte: u8) -> bool
+    ensures { result ≡ reading.is_special byte }
+{
+    (byte == b'&') | ((byte == b'\t') | ((byte == b'\n') | (byte == b'\r')))
+}
+
+/// A value as far as it is in order, up to its quote, a `<` or a `&`: where there is one reference there are often many, and a search
+/// for the quote is quicker then.
+pub fn scan_value(text: &str, at: usize, quote: u8) -> Lookahead
+    requires cut { IsCharBoundary text.now at }
+    requires quote { (quote == 39 || quote == 34) ≡ true }
+    ensures looked { IsLookahead (longer.ends_value quote text.now) reading.is_special text.now at result.end result.plain }
+    ensures stops { result.end < length text.now → (longer.ends_value quote text.now result.end || slice_index text.now result.end == 38) ≡ false → begins is_char text.now result.end ≡ false }
+{
+    let bytes = text.as_bytes();
+    let mut plain = true;
+    let mut end = skip_set::<ValueByte>(text, at);
+    while end < bytes.len() {
+        let here = bytes[end];
+        if here == quote || here == b'<' || here == b'&' {
+            break;
+        }
+        let next = after_char(text, end);
+        if next == end {
+            break;
+        }
+        plain &= !is_special(here);
+        end = skip_set::<ValueByte>(text, next);
+    }
+    Lookahead { end, plain }
+}
+
+/// `&` or a carriage return.
+#[inline(always)]
+fn changes_run(byte: u8) -> bool
+    ensures { result ≡ longer.changes_run byte }
+{
+    (byte == b'&') | (byte == b'\r')
+}
+
+/// A run of character data as far as it is in order, up to a `<`, a `]]>` or the end.
+pub fn scan_character_data(text: &str, at: usize) -> Lookahead
+    requires { IsCharBoundary text.now at }
+    ensures looked { IsLookahead (longer.ends_run text.now) longer.changes_run text.now at result.end result.plain }
+    ensures stops { result.end < length text.now → longer.ends_run text.now result.end ≡ false → begins is_char text.now result.end ≡ false }
+{
+    let bytes = text.as_bytes();
+    let mut plain = true;
+    let mut end = skip_set::<TextByte>(text, at);
+    while end < bytes.len() {
+        let here = bytes[end];
+        if here == b'<' || is_mark_at(text, end, b"]]>") {
+            break;
+        }
+        let next = after_char(text, end);
+        if next == end {
+            break;
+        }
+        plain &= !changes_run(here);
+        end = skip_set::<TextByte>(text, next);
+    }
+    Lookahead { end, plain }
+}
+
+/// A comment as far as it is in order, up to two dashes or the end.
+pub fn comment_end(text: &str, at: usize) -> usize
+    requires { IsCharBoundary text.now at }
+    ensures looked { IsLookahead (longer.ends_comment text.now) longer.changes_comment text.now at result true }
+    ensures stops { result < length text.now → longer.ends_comment text.now result ≡ false → begins is_char text.now result ≡ false }
+{
+    let bytes = text.as_bytes();
+    let mut end = skip_set::<CommentByte>(text, at);
+    while end < bytes.len() {
+        if is_mark_at(text, end, b"--") {
+            break;
+        }
+        let next = after_char(text, end);
+        if next == end {
+            break;
+        }
+        end = skip_set::<CommentByte>(text, next);
+    }
+    end
+}
+
+/// Whether a value has no `&` and no white space but spaces.
+pub fn is_verbatim_value(bytes: &[u8]) -> bool
+    ensures { result ≡ content.is_verbatim_value bytes.now }
+{
+    let mut plain = true;
+    for byte in bytes {
+        plain &= !is_special(*byte);
+    }
+    plain
+}

@@ -1,0 +1,159 @@
+//! The first place of a byte or of a fixed text.
+ghost use Rattle.std.specs.Prelude.{◌≡◌, ◌≢◌, ℕ, ◌+◌, ◌<◌, ◌≤◌, ◌||◌, ◌==◌, length, slice_index, true};
+ghost use Rattle.std.specs.List.{position_or_len};
+ghost use Rattle.std.specs.Str.{IsCharBoundary};
+ghost use Rattle.std.proofs.Props.{props};
+ghost use Rattle.rox_grammar.specs.Search as spec;
+ghost use Rattle.rox_grammar.specs.Constructs.{has_mark};
+ghost use Rattle.rox_grammar.specs.FixedTexts.{word_text};
+ghost use Rattle.rox_grammar.specs.declared.fault.Word.TheVariants as word;
+
+use memchr::memmem::Finder;
+use memchr::{memchr, memchr2};
+use rox_grammar::fault::Word;
+
+/// A search for each text that ends a construct, made once for a source.
+#[derive(Drop)]
+pub struct Finders<'n> {
+    /// Of `-->`.
+    pub comment_end: Finder<'n>,
+    /// Of `?>`.
+    pub pi_end: Finder<'n>,
+    /// Of `]]>`.
+    pub cdata_end: Finder<'n>,
+    pub ghost comments: { comment_end ≡ word_text word.CommentEnd } by { Prim.hlevel props },
+    pub ghost instructions: { pi_end ≡ word_text word.PIEnd } by { Prim.hlevel props },
+    pub ghost sections: { cdata_end ≡ word_text word.CDataEnd } by { Prim.hlevel props },
+}
+
+impl<'n> Finders<'n> {
+    /// The searches, for any source.
+    pub fn new() -> Finders<'n> {
+        Finders {
+            comment_end: Finder::new(Word::CommentEnd.text()),
+            pi_end: Finder::new(Word::PIEnd.text()),
+            cdata_end: Finder::new(Word::CDataEnd.text()),
+        }
+    }
+}
+
+/// The first place from `at` on of the byte, or the end.
+#[inline]
+fn next_byte(bytes: &[u8], at: usize, byte: u8) -> usize
+    requires { at ≤ length bytes.now }
+    ensures onward { at ≤ result }
+    ensures within { result ≤ length bytes.now }
+    ensures before { (k : ℕ) → at ≤ k → k < result → slice_index bytes.now k ≢ byte }
+    ensures found { result < length bytes.now → slice_index bytes.now result ≡ byte }
+{
+    match memchr(byte, bytes.split_at(at).1) {
+        Some(count) => at + count,
+        None => bytes.len(),
+    }
+}
+
+/// How many bytes come before the first mark, or all. A mark is short, and its first byte is rare.
+#[inline]
+pub fn before_mark(bytes: &[u8], mark: &[u8]) -> usize
+    requires { 0 < length mark.now }
+    ensures value { result ≡ spec.before_mark mark.now bytes.now }
+    ensures within { result ≤ length bytes.now }
+    ensures found { result < length bytes.now → slice_index bytes.now result ≡ slice_index mark.now 0 }
+{
+    let mut at = 0;
+    while at < bytes.len() {
+        let next = next_byte(bytes, at, mark[0]);
+        if next >= bytes.len() {
+            break;
+        }
+        if bytes.split_at(next).1.starts_with(mark) {
+            return next;
+        }
+        at = next + 1;
+    }
+    bytes.len()
+}
+
+/// How many bytes come before the first of this byte, or all.
+#[inline]
+pub fn before_byte(bytes: &[u8], byte: u8) -> usize
+    ensures value { result ≡ position_or_len (λ c. c == byte) bytes.now }
+    ensures within { result ≤ length bytes.now }
+    ensures found { result < length bytes.now → slice_index bytes.now result ≡ byte }
+{
+    memchr(byte, bytes).unwrap_or(bytes.len())
+}
+
+/// How many bytes come before the first of either byte, or all.
+#[inline]
+pub fn before_either(bytes: &[u8], one: u8, other: u8) -> usize
+    ensures value { result ≡ position_or_len (λ c. c == one || c == other) bytes.now }
+    ensures within { result ≤ length bytes.now }
+    ensures found { result < length bytes.now
+        → (slice_index bytes.now result == one || slice_index bytes.now result == other) ≡ true }
+{
+    memchr2(one, other, bytes).unwrap_or(bytes.len())
+}
+
+/// Whether the mark stands somewhere in the bytes.
+#[inline]
+#[tactic(auto, using(std::proofs::lemmas::Bool::Decides::nat_tests))]
+pub fn has_mark(bytes: &[u8], mark: &[u8]) -> bool
+    requires { 0 < length mark.now }
+    ensures { result ≡ has_mark mark.now bytes.now }
+{
+    before_mark(bytes, mark) < bytes.len()
+}
+
+/// The first place from `at` on of the finder's text, or the end.
+#[inline]
+#[tactic(auto, unfolding(rox_grammar::specs::Search::mark_from))]
+pub fn mark_from(text: &str, at: usize, finder: &Finder<'_>) -> usize
+    requires cut { IsCharBoundary text.now at }
+    requires some { 0 < length finder.now }
+    requires ascii { slice_index finder.now 0 < 128 }
+    ensures place { result ≡ spec.mark_from finder.now text.now at }
+    ensures onward { at ≤ result }
+    ensures cut { IsCharBoundary text.now result }
+{
+    at + before_found(text[at..].as_bytes(), finder)
+}
+
+/// How many bytes come before the first of the finder's text, or all.
+#[inline]
+fn before_found(bytes: &[u8], finder: &Finder<'_>) -> usize
+    requires { 0 < length finder.now }
+    ensures value { result ≡ spec.before_mark finder.now bytes.now }
+    ensures within { result ≤ length bytes.now }
+    ensures found { result < length bytes.now → slice_index bytes.now result ≡ slice_index finder.now 0 }
+{
+    finder.find(bytes).unwrap_or(bytes.len())
+}
+
+/// The first place from `at` on of the byte, or the end.
+#[inline]
+#[tactic(auto, unfolding(rox_grammar::specs::Search::byte_from))]
+pub fn byte_from(text: &str, at: usize, byte: u8) -> usize
+    requires cut { IsCharBoundary text.now at }
+    requires ascii { byte < 128 }
+    ensures place { result ≡ spec.byte_from (λ c. c == byte) text.now at }
+    ensures onward { at ≤ result }
+    ensures cut { IsCharBoundary text.now result }
+    ensures after { result < length text.now → IsCharBoundary text.now (result + 1) }
+{
+    at + before_byte(text[at..].as_bytes(), byte)
+}
+
+/// The first place from `at` on of either byte, or the end.
+#[inline]
+#[tactic(auto, unfolding(rox_grammar::specs::Search::byte_from))]
+pub fn either_from(text: &str, at: usize, one: u8, other: u8) -> usize
+    requires cut { IsCharBoundary text.now at }
+    requires one { one < 128 }
+    requires other { other < 128 }
+    ensures place { result ≡ spec.byte_from (λ c. c == one || c == other) text.now at }
+    ensures onward { at ≤ result }
+    ensures cut { IsCharBoundary text.now result }
+{
+    at + before_either(text[at..].as_bytes(), one, other)
+}

@@ -1,0 +1,83 @@
+-- The place that each prefix, or the default, stands for in the innermost of some scopes, and what takes it back to those around it.
+use Rattle.std.specs.Prelude.{◌≡◌, ◌==◌, ◌&&◌, ℕ, ◌≤◌, ◌<◌, Bool, false, List, [], ◌∷◌, ◌++◌, Option, Some, None, length, drop, if◌then◌else◌}
+use Rattle.std.specs.Option.{option_map}
+use Rattle.std.specs.Borrow.{Bor}
+use Rattle.std.specs.BTreeMap.{BTreeMap, get_by}
+use Rattle.std.specs.Cmp.Lexicographic.{slice_cmp}
+use Rattle.std.specs.Ordering.{nat_cmp}
+use Rattle.rox_grammar.specs.Written.{NamespaceDecl}
+use Rattle.rox_grammar.specs.Tree.{same_prefix, uri_of}
+use Rattle.rox_tables.specs.Rows.{entry, scope_at, OptionWithin}
+use Rattle.rox_tables.specs.Scopes.{prefix_view, entries, others, ArePlaces}
+use Rattle.rox_tables.specs.declared.bindings.Binding.{Binding}
+use Rattle.rox_tables.specs.declared.bindings.PrefixBindings.{PrefixBindings}
+use Rattle.rox_tables.specs.declared.bindings.ShadowedBinding.{ShadowedBinding}
+use Rattle.rox_tables.specs.declared.bindings.ScopeFrame.{ScopeFrame}
+
+abbrev pub option_joined : Option (Option Binding) → Option Binding
+option_joined None = None
+option_joined (Some place) = place
+
+-- the place of a prefix, or of the default
+abbrev pub found_at : Option Binding → BTreeMap (Bor (List ℕ)) (Option Binding) → Option (List ℕ) → Option Binding
+found_at default prefixes None = default
+found_at default prefixes (Some prefix) = option_joined (get_by (λ k. slice_cmp nat_cmp prefix k.now) prefixes)
+
+abbrev pub place_in : PrefixBindings → Option (List ℕ) → Option Binding
+place_in x prefix = found_at x.default x.prefixes prefix
+
+-- its place in the table of namespaces
+abbrev pub namespace_at : Option Binding → Option ℕ
+namespace_at place = option_map (λ p. p.namespace) place
+
+abbrev pub bound_place : PrefixBindings → Option (List ℕ) → Option ℕ
+bound_place x prefix = namespace_at (place_in x prefix)
+
+-- the places before these were replaced, the first of them first
+abbrev pub restored : List ShadowedBinding → (Option (List ℕ) → Option ℕ) → Option (List ℕ) → Option ℕ
+restored [] places prefix = places prefix
+restored (r ∷ rs) places prefix = if same_prefix (prefix_view r.prefix) prefix then namespace_at r.before else restored rs places prefix
+
+-- these are the places of what is listed
+pub record IsBound (names : List NamespaceDecl) (places : Option (List ℕ) → Option ℕ) (listed : List NamespaceDecl) : Type 0 where
+  pub within : (prefix : Option (List ℕ)) → OptionWithin (length names) (places prefix)
+  pub uris : (prefix : Option (List ℕ)) → option_map (λ i. (entry names i).uri) (places prefix) ≡ uri_of listed prefix
+
+-- each of these scopes, the outermost first, has its places where what was replaced behind it is taken back
+abbrev pub Stacked : List NamespaceDecl → List (List NamespaceDecl) → List ShadowedBinding → (Option (List ℕ) → Option ℕ) → (least : ℕ) → List ScopeFrame → Type 0
+Stacked names lists replaced places least [] = Unit {0}
+Stacked names lists replaced places least (l ∷ ls) =
+    (least ≤ l.count) × (l.count ≤ length replaced) × (l.scope < length lists) × IsBound names (restored (drop l.count replaced) places) (scope_at lists l.scope)
+    × Stacked names lists replaced places l.count ls
+
+pub record AreBindingsOf (names : List NamespaceDecl) (lists : List (List NamespaceDecl)) (x : PrefixBindings) : Type 0 where
+  pub stacked : Stacked names lists x.replaced.items (bound_place x) 0 x.layers.items
+
+-- whether the innermost of these scopes is this one, and so many places were replaced up to it
+abbrev pub is_innermost : List ScopeFrame → (count scope : ℕ) → Bool
+is_innermost [] count scope = false
+is_innermost (l ∷ []) count scope = l.count == count && l.scope == scope
+is_innermost (l ∷ m ∷ ls) count scope = is_innermost (m ∷ ls) count scope
+
+-- A scope lists these of its own, and the others of what is listed above.
+pub record IsEntered (own : List NamespaceDecl) (xml : Bool) (above : List NamespaceDecl) (lists : List (List NamespaceDecl)) (scope : ℕ) : Type 0 where
+  pub within : scope < length lists
+  pub made : scope_at lists scope ≡ own ++ others own xml above
+
+-- the places that are listed, where they are few, without where they lie in memory
+abbrev pub places_view : Option (Bor (List ℕ)) → Option (List ℕ)
+places_view few = option_map (λ p. p.now) few
+
+-- what is looked up, among few places or else by the places of prefixes, is in a table of this length
+abbrev pub LooksWithin : ℕ → Option (List ℕ) → PrefixBindings → Type 0
+LooksWithin n (Some places) x = ArePlaces n places
+LooksWithin n None x = (prefix : Option (List ℕ)) → OptionWithin n (bound_place x prefix)
+
+-- the URI that is looked up for a prefix, or for the default
+abbrev pub looked_up : List NamespaceDecl → Option (List ℕ) → PrefixBindings → Option (List ℕ) → Option (List ℕ)
+looked_up names (Some places) x prefix = uri_of (entries names places) prefix
+looked_up names None x prefix = option_map (λ i. (entry names i).uri) (bound_place x prefix)
+
+-- it is the one that is listed
+pub record FindsBinding (names : List NamespaceDecl) (few : Option (List ℕ)) (x : PrefixBindings) (listed : List NamespaceDecl) : Type 0 where
+  pub uris : (prefix : Option (List ℕ)) → looked_up names few x prefix ≡ uri_of listed prefix

@@ -1,0 +1,43 @@
+-- Where pairs stand in a table, and in a map of them.
+use Rattle.std.specs.Prelude.{ℕ, suc, ◌+◌, List, [], ◌∷◌, drop, Option, Some, None, if◌then◌else◌}
+use Rattle.std.specs.Option.{option_map, option_cmp}
+use Rattle.std.specs.declared.cmp.Ordering.{Ordering}
+use Rattle.std.specs.Ordering.{ordering_then, nat_cmp}
+use Rattle.std.specs.Cmp.{IsTotalOrder, then_total, on_total, nat_cmp_total}
+use Rattle.std.specs.Cmp.Lexicographic.{slice_cmp, lists_total, options_total}
+use Rattle.std.specs.Map.{lookup}
+use Rattle.rox_grammar.specs.Written.{NamespaceDecl}
+use Rattle.rox_grammar.specs.Document.{same_pair}
+use Rattle.rox_tables.specs.Rows.{declaration}
+use Rattle.rox_tables.specs.declared.namespace_table.Key.{Key}
+
+-- by prefix, of which the default comes first, and then by URI
+abbrev pub pair_cmp : NamespaceDecl → NamespaceDecl → Ordering
+pair_cmp d e = ordering_then (option_cmp (slice_cmp nat_cmp) d.prefix e.prefix) (slice_cmp nat_cmp d.uri e.uri)
+
+pub pair_total : IsTotalOrder pair_cmp
+pair_total = then_total (on_total (λ d. d.prefix) (options_total (lists_total nat_cmp_total))) (on_total (λ d. d.uri) (lists_total nat_cmp_total))
+
+-- the order of keys
+abbrev pub key_cmp : Key → Key → Ordering
+key_cmp x y = pair_cmp (declaration x.namespace) (declaration y.namespace)
+
+pub key_total : IsTotalOrder key_cmp
+key_total = on_total (λ k. declaration k.namespace) pair_total
+
+-- the place of a pair in a table: that of the first that is the same
+abbrev pub place_of : List NamespaceDecl → NamespaceDecl → Option ℕ
+place_of [] d = None
+place_of (n ∷ names) d = if same_pair n d then Some 0 else option_map suc (place_of names d)
+
+-- how many pairs of a table are looked for one after another
+abbrev pub few_pairs : ℕ
+few_pairs = 16
+
+-- the place of a pair that stands behind these
+abbrev pub place_behind : List NamespaceDecl → NamespaceDecl → Option ℕ
+place_behind names d = option_map (λ i. few_pairs + i) (place_of (drop few_pairs names) d)
+
+-- the place that the entries of a map give a pair
+abbrev pub place_among : List (Key × ℕ) → NamespaceDecl → Option ℕ
+place_among es d = lookup (λ k. same_pair d (declaration k.namespace)) es

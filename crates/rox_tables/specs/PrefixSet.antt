@@ -1,0 +1,14 @@
+-- The prefixes that a tag declares, as a set, where it has many declarations.
+use Rattle.std.specs.Prelude.{◌≡◌, ℕ, ◌<◌, Bool, List, Option, length}
+use Rattle.std.specs.List.{list_any}
+use Rattle.std.specs.Borrow.{Bor}
+use Rattle.rox_grammar.specs.Written.{NamespaceDecl}
+use Rattle.rox_grammar.specs.Tree.{same_prefix, is_declared}
+use Rattle.rox_tables.specs.Scopes.{prefix_view, entries}
+
+abbrev pub has_prefix : Option (List ℕ) → List (Option (Bor (List ℕ))) → Bool
+has_prefix prefix keys = list_any (λ k. same_prefix (prefix_view k) prefix) keys
+
+-- the keys are the prefixes at these places, if they are many
+unfoldable pub IsPrefixSet : List NamespaceDecl → List ℕ → List (Option (Bor (List ℕ))) → Type 0
+IsPrefixSet names places keys = 16 < length places → (prefix : Option (List ℕ)) → has_prefix prefix keys ≡ is_declared prefix (entries names places)

@@ -1,0 +1,26 @@
+-- The names of a tag in a scope, one by one.
+use Rattle.std.specs.Prelude.{◌≡◌, ◌&&◌, ◌∷◌, ◌++◌, [], ℕ, Bool, List, Result, Ok, Err, bytes_eq}
+use Rattle.rox_grammar.specs.declared.fault.Fault.{Fault}
+use Rattle.rox_grammar.specs.Written.{Attribute, NamespaceDecl}
+use Rattle.rox_grammar.specs.Tree.{same_prefix}
+use Rattle.rox_reading.specs.Tags.{names_tested}
+use Rattle.rox_tables.specs.Rows.{AttributeRow, attribute_uri}
+use Rattle.rox_tables.specs.declared.unresolved_attribute.UnresolvedAttribute.{UnresolvedAttribute}
+use Rattle.rox_tables.specs.declared.tables.AttributeNamespace.{AttributeNamespace}
+use Rattle.rox_tables.specs.declared.tables.AttributeData.{AttributeData}
+
+-- the row of an attribute that was taken, in this namespace
+abbrev pub row_of_unresolved : UnresolvedAttribute → AttributeNamespace → AttributeRow
+row_of_unresolved t s = (
+  record { local = t.name.local; value = t.value; namespace = s },
+  record { start = t.start; name_end = t.name_end; value_start = t.value_start; end = t.end },
+)
+
+-- an attribute's row has this expanded name: the URI of this namespace, and this local name
+abbrev pub has_expanded : List NamespaceDecl → AttributeNamespace → List ℕ → AttributeData → Bool
+has_expanded names s local a = same_prefix (attribute_uri names a.namespace) (attribute_uri names s) && bytes_eq a.local.now local
+
+-- what a test of one name says of all: the rest is tested behind it, or this is the fault
+abbrev pub Tested : List NamespaceDecl → List Attribute → Attribute → List Attribute → Result AttributeNamespace Fault → Type 0
+Tested scope before a rest (Ok s) = names_tested scope before (a ∷ rest) ≡ names_tested scope (before ++ a ∷ []) rest
+Tested scope before a rest (Err f) = names_tested scope before (a ∷ rest) ≡ Err f

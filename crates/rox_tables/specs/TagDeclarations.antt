@@ -1,0 +1,45 @@
+-- What the tables hold of the declarations of a start tag, against what is read of it.
+use Rattle.std.specs.Prelude.{◌≡◌, ℕ, ◌≤◌, Bool, List, ◌++◌, length, Result, Ok, Err}
+use Rattle.std.specs.List.{list_any}
+use Rattle.rox_grammar.specs.declared.failure.Failure.{Failure}
+use Rattle.rox_grammar.specs.declared.fault.Fault.{Fault}
+use Rattle.rox_grammar.specs.Document.{listable_of, with_new, most_pairs}
+use Rattle.rox_grammar.specs.Failures.{Fails, name_view}
+use Rattle.rox_grammar.specs.WellNamed.{is_xml}
+use Rattle.rox_grammar.specs.Written.{Attribute, NamespaceDecl}
+use Rattle.rox_reading.specs.Tags.{TagSoFar}
+use Rattle.rox_tables.specs.Scopes.{entries, ArePlaces}
+use Rattle.rox_tables.specs.Storage.{storage_bytes, is_borrowed}
+use Rattle.rox_tables.specs.declared.unresolved_attribute.UnresolvedAttribute.{UnresolvedAttribute}
+
+-- `xml` is among the declared prefixes
+abbrev pub declares_xml : List NamespaceDecl → Bool
+declares_xml own = list_any (λ d. is_xml d.prefix) own
+
+-- an attribute of the tag that is being read, as written
+abbrev pub unresolved_view : UnresolvedAttribute → Attribute
+unresolved_view t = record {
+  start = t.start;
+  name_end = t.name_end;
+  value_start = t.value_start;
+  end = t.end;
+  name = name_view t.name;
+  value = storage_bytes t.value;
+  borrowed = is_borrowed t.value;
+}
+
+-- The table of pairs, the listed places and the flag for `xml` are those of these declarations, where the table was
+-- `known` and the places `before` when the tag began.
+pub record Declares (known : List NamespaceDecl) (before : List ℕ) (names : List NamespaceDecl) (listed : List ℕ) (xml : Bool) (own : List NamespaceDecl) : Type 0 where
+  pub names_are : names ≡ with_new known (listable_of own)
+  pub few : length names ≤ most_pairs
+  pub xml_is : xml ≡ declares_xml own
+  pub mine : List ℕ
+  pub listed_are : listed ≡ before ++ mine
+  pub places : ArePlaces (length names) mine
+  pub same : entries names mine ≡ listable_of own
+
+-- what a declaration makes of that
+abbrev pub Declared : (known : List NamespaceDecl) (before : List ℕ) (names : List NamespaceDecl) (listed : List ℕ) → Result Bool Failure → TagSoFar → Result TagSoFar Fault → Type 0
+Declared known before names listed (Ok xml) h read = (own : List NamespaceDecl) × (read ≡ Ok (record { own = own; attributes = h.attributes })) × Declares known before names listed xml own
+Declared known before names listed (Err e) h read = Fails e read

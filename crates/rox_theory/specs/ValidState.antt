@@ -1,0 +1,26 @@
+-- What holds of a state all along: its names and its limits.
+use Rattle.std.specs.Prelude.{ℕ, ◌≤◌, [], length}
+use Rattle.rox_grammar.specs.Forest.{Forest}
+use Rattle.rox_grammar.specs.Written.{Item}
+use Rattle.rox_grammar.specs.Tree.{listed}
+use Rattle.rox_grammar.specs.WellNamed.{IsWellNamed, AreWellNamed}
+use Rattle.rox_grammar.specs.Document.{distinct_pairs, most_attributes, most_pairs}
+use Rattle.rox_grammar.specs.State.{Open, root, inside, scope_of, nodes_so_far, attributes_so_far, pairs_so_far}
+use Rattle.rox_reading.specs.State.{State}
+
+-- the names of all that is read so far
+abbrev pub AreNamed : Open → Forest Item → Type 0
+AreNamed root done = AreWellNamed [] done
+AreNamed (inside start tag before up) done =
+    AreNamed up before × IsWellNamed (listed (scope_of up) tag.declarations) tag × AreWellNamed (listed (scope_of up) tag.declarations) done
+
+-- a state that the limits allow, and whose names are in order
+pub record IsValidState (limit : ℕ) (s : State) : Type 0 where
+  pub nodes : nodes_so_far s.stack s.done ≤ limit
+  pub attributes : attributes_so_far s.stack s.done ≤ most_attributes
+  pub pairs : length (distinct_pairs (pairs_so_far s.stack s.done)) ≤ most_pairs
+  pub named : AreNamed s.stack s.done
+
+-- a state of these parts
+abbrev pub state : ℕ → Forest Item → Open → ℕ → State
+state i done stack left = record { at = i; done = done; stack = stack; left = left }

@@ -1,0 +1,25 @@
+-- Documents without a document type declaration.
+use Rattle.std.specs.Prelude.{◌≡◌, ℕ, true, List, [], length}
+use Rattle.rox_grammar.specs.Forest.{Forest, join}
+use Rattle.rox_grammar.specs.Written.{Item}
+use Rattle.rox_grammar.specs.Content.{IsElement}
+use Rattle.rox_grammar.specs.WellNamed.{AreWellNamed}
+use Rattle.rox_grammar.specs.TextStart.{after_bom, MayHaveXmlDecl}
+use Rattle.rox_grammar.specs.Entities.{no_entities}
+use Rattle.rox_grammar.specs.Document.{Misc}
+
+-- a declaration, the root element, in which nothing is opened, and what stands around it
+pub record ParseWithout (src : List ℕ) (tree : Forest Item) : Type 0 where
+  pub declared_to : ℕ
+  pub declaration : MayHaveXmlDecl src (after_bom src) declared_to
+  pub start : ℕ
+  pub before : Forest Item
+  pub misc_before : Misc src declared_to start before
+  pub end : ℕ
+  pub left : ℕ
+  pub one : Forest Item
+  pub element : IsElement true no_entities src start end 255 left one
+  pub after : Forest Item
+  pub misc_after : Misc src end (length src) after
+  pub is_tree : tree ≡ join before (join one after)
+  pub well_named : AreWellNamed [] tree

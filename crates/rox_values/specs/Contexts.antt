@@ -1,0 +1,10 @@
+-- How the code reads a text, as reading says it.
+use Rattle.std.specs.Prelude.{ℕ, List}
+use Rattle.rox_grammar.specs.Entities.{Entity}
+use Rattle.rox_reading.specs.Machine as machine
+use Rattle.rox_reading.specs.Machine.{opener}
+use Rattle.rox_values.specs.DeclaredEntities.{values_in}
+use Rattle.rox_values.specs.declared.context.Context.{Context}
+
+abbrev pub context_of : ℕ → List Entity → Context → machine.Context
+context_of limit es how = record { limit = limit; values = values_in es how; base = how.base; opener = opener limit es how.deep how.main }

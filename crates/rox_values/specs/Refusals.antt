@@ -1,0 +1,34 @@
+-- Why reading stopped, against what is read.
+use Rattle.std.specs.Prelude.{◌≡◌, ℕ, List, Result, Err}
+use Rattle.std.specs.Borrow.{Bor}
+use Rattle.std.specs.String.{string_bytes}
+use Rattle.rox_grammar.specs.Doctype.{Request}
+use Rattle.rox_reading.specs.Refusals as refusal
+use Rattle.rox_reading.specs.Refusals.{Refusal}
+use Rattle.rox_grammar.specs.declared.failure.Failure.{Failure}
+use Rattle.rox_grammar.specs.declared.failure.Failure.TheVariants as failure
+use Rattle.rox_values.specs.declared.parse_error.ParseError.{ParseError}
+use Rattle.rox_values.specs.declared.parse_error.ParseError.TheVariants as refused
+
+-- nothing is said where memory ran out, and else what is read is this fault of the source
+abbrev pub IsFailure : {B : Type 0} → Failure → Result B Refusal → Type 0
+IsFailure failure.Memory read = Unit {0}
+IsFailure (failure.Fault f) read = read ≡ Err (refusal.here f)
+
+-- the same where entities may be opened
+abbrev pub IsRefusal : {B : Type 0} → ParseError → Result B Refusal → Type 0
+IsRefusal refused.Memory read = Unit {0}
+IsRefusal (refused.Fault f) read = read ≡ Err (refusal.here f)
+IsRefusal (refused.FaultIn source f) read = read ≡ Err (refusal.there source.now f)
+IsRefusal (refused.Resolver at message) read = (request : Request) × (read ≡ Err (refusal.refused request at (string_bytes message)))
+
+abbrev pub of_failure : Failure → ParseError
+of_failure failure.Memory = refused.Memory
+of_failure (failure.Fault f) = refused.Fault f
+
+-- the same, of a source that another one opened
+abbrev pub seen_from : Bor (List ℕ) → ParseError → ParseError
+seen_from source refused.Memory = refused.Memory
+seen_from source (refused.Fault f) = refused.FaultIn source f
+seen_from source (refused.FaultIn s f) = refused.FaultIn s f
+seen_from source (refused.Resolver at message) = refused.Resolver at message

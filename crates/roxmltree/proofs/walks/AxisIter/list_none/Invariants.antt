@@ -1,9 +1,0 @@
-use Rattle.std.proofs.Common.{◌≡◌}
-use Rattle.std.specs.List.{list_all}
-use Rattle.rox_grammar.specs.Exchange.{none_of}
-use Rattle.roxmltree.specs.Says.{node_at, listed_of}
-use Rattle.roxmltree.proofs.walks.AxisIter.list_none.Given as goal
-
-abbrev pub invariant-loop-node : goal.invariant-loop-node
-invariant-loop-node l =
-    list_all (λ s. none_of (listed_of (node_at s.0.tree s.1))) l.node-iterator ≡ list_all (λ s. none_of (listed_of (node_at s.0.tree s.1))) l.fn.nodes

@@ -1,0 +1,41 @@
+-- The tree that a document's tables hold.
+use Rattle.std.specs.Prelude.{ℕ, ◌+◌, ◌-◌, Bool, List, [], ◌∷◌, IsUtf8}
+use Rattle.rox_grammar.specs.Forest.{Forest}
+use Rattle.rox_grammar.specs.Tree.{Node}
+use Rattle.rox_grammar.specs.Doctype.{Asked}
+use Rattle.rox_grammar.specs.Document.{IsTreeOf}
+use Rattle.rox_tables.specs.Rows.{RowView, row_views, HoldsTree}
+use Rattle.rox_tables.specs.declared.tables.Tables.{Tables}
+use Rattle.roxmltree.specs.TreeCodes.{unflattened}
+use Rattle.roxmltree.specs.DocumentView.{DocumentView}
+use Rattle.roxmltree.specs.declared.tree.Document.TheInside.{Inside}
+
+-- of each row how many nodes are below it, and its node; the first row has this id
+abbrev pub nodes_from : ℕ → List RowView → List (ℕ × Node)
+nodes_from id [] = []
+nodes_from id (row ∷ rows) = (row.next - (id + 1), row.node) ∷ nodes_from (id + 1) rows
+
+-- the tree of the tables
+abbrev pub tree_in : Tables → Forest Node
+tree_in t = unflattened (nodes_from 0 (row_views t))
+
+-- the tables are those of the tree of this text, with what was answered for its external entities
+pub record HoldsDocument (text : List ℕ) (dtd : Bool) (t : Tables) : Type 0 where
+  pub tree : Forest Node
+  pub holds : HoldsTree t tree
+  pub asked : List Asked
+  pub parsed : IsTreeOf text dtd asked 4294967295 tree
+  pub utf8 : IsUtf8 text
+
+-- the tables hold the tree that they are read as, which is that of the text
+pub record IsWhole (text : List ℕ) (dtd : Bool) (t : Tables) : Type 0 where
+  pub holds : HoldsTree t (tree_in t)
+  pub asked : List Asked
+  pub parsed : IsTreeOf text dtd asked 4294967295 (tree_in t)
+  pub utf8 : IsUtf8 text
+
+abbrev pub document_view : Inside → DocumentView
+document_view d = record { tree = tree_in d.tables; text = d.text.now; key = d.key; dtd = d.dtd }
+
+abbrev pub IsDocumentOf : Inside → Type 0
+IsDocumentOf d = IsWhole d.text.now d.dtd d.tables

@@ -1,0 +1,48 @@
+-- What an element has, as callers and as the tables say it.
+use Rattle.std.specs.Prelude.{◌≡◌, ℕ, ◌<◌, ◌≤◌, List, map, length, slice_range}
+use Rattle.std.specs.Coded.{Coded, coded_list}
+use Rattle.std.specs.List.{AllByRecursion, zip}
+use Rattle.rox_grammar.specs.Written.{NamespaceDecl}
+use Rattle.rox_grammar.specs.Tree as tree
+use Rattle.rox_tables.specs.Rows.{attribute, declaration, entry, AreScopes, NamespaceWithin}
+use Rattle.rox_tables.specs.Scopes.{places_in, ArePlaces}
+use Rattle.roxmltree.specs.TreeCodes.{attribute_code, namespace_decl_code}
+use Rattle.roxmltree.specs.declared.elements.Attribute.{Attribute}
+use Rattle.roxmltree.specs.declared.elements.Attributes.TheInside as attributes
+use Rattle.roxmltree.specs.declared.elements.NamespaceIter.TheInside as namespaces
+
+abbrev pub attributes_code : Coded (List tree.Attribute)
+attributes_code = coded_list attribute_code
+
+abbrev pub namespace_decls_code : Coded (List NamespaceDecl)
+namespace_decls_code = coded_list namespace_decl_code
+
+-- an attribute as callers see it
+abbrev pub attribute_of : Attribute → tree.Attribute
+attribute_of a = attribute (map declaration a.names.now) (a.data.now, a.places.now)
+
+-- those that are left
+abbrev pub attributes_left : attributes.Inside → List tree.Attribute
+attributes_left a = map (attribute (map declaration a.names.now)) (slice_range (zip a.items.now a.places.now) a.from a.until)
+
+-- they are a stretch of two columns, and each of these has its namespace in the table
+pub record AttributesWithin (a : attributes.Inside) : Type 0 where
+  pub even : length a.places.now ≡ length a.items.now
+  pub ordered : a.from ≤ a.until
+  pub within : a.until ≤ length a.items.now
+  pub each : AllByRecursion (λ d. NamespaceWithin (length a.names.now) d.namespace) a.items.now
+
+-- the places that are left of those that the scope lists
+abbrev pub places_left : namespaces.Inside → List ℕ
+places_left n = slice_range (places_in n.listed.now n.scopes.now n.scope) n.from n.until
+
+abbrev pub namespaces_left : namespaces.Inside → List NamespaceDecl
+namespaces_left n = map (entry (map declaration n.names.now)) (places_left n)
+
+-- they are a stretch of these, and each place that is listed is in the table
+pub record NamespacesWithin (n : namespaces.Inside) : Type 0 where
+  pub ordered : n.from ≤ n.until
+  pub within : n.until ≤ length (places_in n.listed.now n.scopes.now n.scope)
+  pub is_row : n.from < n.until → n.scope < length n.scopes.now
+  pub scopes : AreScopes (length n.listed.now) n.scopes.now
+  pub each : ArePlaces (length n.names.now) n.listed.now

@@ -1,0 +1,60 @@
+-- What a caller is told of a text that is refused, in the words of reading.
+use Rattle.std.specs.Prelude.{◌≡◌, ◌++◌, ℕ, Bool, List, Ok, Err, String, string_bytes, length}
+use Rattle.std.specs.declared.alloc.Global.{Global}
+use Rattle.rox_grammar.specs.Spans.{NamesText}
+use Rattle.rox_grammar.specs.Doctype.{Request, Asked}
+use Rattle.rox_grammar.specs.Written.{Item}
+use Rattle.rox_grammar.specs.Forest.{Forest}
+use Rattle.rox_grammar.specs.Tree.{document_tree}
+use Rattle.rox_reading.specs.Refusals.{Refusal, here, there, refused}
+use Rattle.rox_reading.specs.Doctype.{Reply, replies_of, AreTextReplies}
+use Rattle.rox_reading.specs.Answering.{Stops}
+use Rattle.rox_reading.specs.WholeText.{has_doctype, reading}
+use Rattle.rox_resolver.specs.Requests.{AreAllowed}
+use Rattle.rox_error.specs.FaultErrors.{position_at, IsErrorOf}
+use Rattle.rox_error.specs.declared.error.Error.{Error}
+use Rattle.rox_error.specs.declared.error.Error.TheVariants as error
+use Rattle.rox_values.specs.declared.parse_error.ParseError.{ParseError}
+use Rattle.rox_values.specs.declared.parse_error.ParseError.TheVariants as why
+use Rattle.roxmltree.specs.DocumentView.{DocumentView}
+
+-- The error is what a caller is told of the refusal of this text: of a fault its kind, its names and its position in the source
+-- that it counts in, of the resolver's own its words, where the text makes the request.
+abbrev pub IsErrorOfRefusal : (text : List ℕ) → Refusal → Error → Type 0
+IsErrorOfRefusal text (here f) e = NamesText text f × IsErrorOf text f e
+IsErrorOfRefusal text (there source f) e = NamesText source f × IsErrorOf source f e
+IsErrorOfRefusal text (refused request at message) e = (words : String Global) × (string_bytes words ≡ message) × (e ≡ error.EntityResolver (position_at text at) words)
+
+-- the resolver's own is one that it may reply to that request
+abbrev pub MayRefuse : (allows : Request → Reply → Type 0) → Refusal → Type 0
+MayRefuse allows (here f) = Unit {0}
+MayRefuse allows (there source f) = Unit {0}
+MayRefuse allows (refused request at message) = allows request (Err message)
+
+-- The error is that of what stops reading from left to right, after these were asked and answered as is allowed, whatever would
+-- be replied next.
+pub record IsFirst (limit : ℕ) (allow : Bool) (allows : Request → Reply → Type 0) (text : List ℕ) (e : Error) : Type 0 where
+  pub asked : List Asked
+  pub allowed : AreAllowed allows asked
+  pub texts : AreTextReplies (replies_of asked)
+  pub refusal : Refusal
+  pub may : MayRefuse allows refusal
+  pub stops : Stops (λ replies. reading limit allow replies text) asked refusal
+  pub told : IsErrorOfRefusal text refusal e
+
+-- the document is what is read of the text, after these were asked
+pub record IsReadDocument (limit : ℕ) (allow : Bool) (allows : Request → Reply → Type 0) (text : List ℕ) (d : DocumentView) : Type 0 where
+  pub asked : List Asked
+  pub allowed : AreAllowed allows asked
+  pub texts : AreTextReplies (replies_of asked)
+  pub tops : Forest Item
+  pub read : (more : List Reply) → reading limit allow (replies_of asked ++ more) text ≡ (asked, Ok tops)
+  pub seen : d.dtd ≡ has_doctype limit text
+  pub shown : d.tree ≡ document_tree (length text) tops
+
+-- what the error says, by the reason that there are no tables
+abbrev pub IsErrorOfReason : (text : List ℕ) → ParseError → Error → Type 0
+IsErrorOfReason text why.Memory e = e ≡ error.OutOfMemory
+IsErrorOfReason text (why.Fault f) e = IsErrorOf text f e
+IsErrorOfReason text (why.FaultIn source f) e = IsErrorOf source.now f e
+IsErrorOfReason text (why.Resolver at words) e = e ≡ error.EntityResolver (position_at text at) words

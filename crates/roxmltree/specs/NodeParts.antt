@@ -1,0 +1,99 @@
+-- What a node says of itself.
+use Rattle.std.specs.Prelude.{ℕ, Bool, true, false, List, [], Option, None, Some, if◌then◌else◌}
+use Rattle.std.specs.Option.{option_map}
+use Rattle.rox_grammar.specs.Forest.{Forest}
+use Rattle.rox_grammar.specs.Written.{NamespaceDecl}
+use Rattle.rox_grammar.specs.Tree.{Node, Attribute, Root, Element, Text, Comment, PI}
+use Rattle.roxmltree.specs.Places.{place, first_child, next_sibling}
+
+-- the node of this id
+abbrev pub node_at : Forest Node → ℕ → Node
+node_at tree id = (place tree id).item
+
+abbrev pub is_root_node : Node → Bool
+is_root_node (Root end) = true
+is_root_node other = false
+
+abbrev pub is_element_node : Node → Bool
+is_element_node (Element start end namespace local listed attributes) = true
+is_element_node other = false
+
+abbrev pub is_text_node : Node → Bool
+is_text_node (Text start end value borrowed) = true
+is_text_node other = false
+
+abbrev pub is_comment_node : Node → Bool
+is_comment_node (Comment start end text) = true
+is_comment_node other = false
+
+abbrev pub is_pi_node : Node → Bool
+is_pi_node (PI start end target value) = true
+is_pi_node other = false
+
+-- where its range starts and ends, in bytes of its source
+abbrev pub start_of : Node → ℕ
+start_of (Root end) = 0
+start_of (Element start end namespace local listed attributes) = start
+start_of (Text start end value borrowed) = start
+start_of (Comment start end text) = start
+start_of (PI start end target value) = start
+
+abbrev pub end_of : Node → ℕ
+end_of (Root end) = end
+end_of (Element start end namespace local listed attributes) = end
+end_of (Text start end value borrowed) = end
+end_of (Comment start end text) = end
+end_of (PI start end target value) = end
+
+-- of an element, and nothing for other nodes
+abbrev pub local_of : Node → List ℕ
+local_of (Element start end namespace local listed attributes) = local
+local_of other = []
+
+abbrev pub namespace_of : Node → Option (List ℕ)
+namespace_of (Element start end namespace local listed attributes) = namespace
+namespace_of other = None
+
+abbrev pub listed_of : Node → List NamespaceDecl
+listed_of (Element start end namespace local listed attributes) = listed
+listed_of other = []
+
+abbrev pub attributes_of : Node → List Attribute
+attributes_of (Element start end namespace local listed attributes) = attributes
+attributes_of other = []
+
+-- of a processing instruction its target and its value
+abbrev pub pi_of : Node → Option (List ℕ × Option (List ℕ))
+pi_of (PI start end target value) = Some (target, value)
+pi_of other = None
+
+-- the text of a text node, and whether it is a slice of the input
+abbrev pub text_content : Node → Option (List ℕ × Bool)
+text_content (Text start end value borrowed) = Some (value, borrowed)
+text_content other = None
+
+-- that of a text node or a comment: a comment's is always a slice
+abbrev pub content_of : Node → Option (List ℕ × Bool)
+content_of (Text start end value borrowed) = Some (value, borrowed)
+content_of (Comment start end text) = Some (text, true)
+content_of other = None
+
+-- that of a node, if it is a text node
+abbrev pub stored_under : Forest Node → Option ℕ → Option (List ℕ × Bool)
+stored_under tree None = None
+stored_under tree (Some id) = text_content (node_at tree id)
+
+-- of an element that of its first child, if that is a text node, and of a text node or a comment its own
+abbrev pub stored_text : Forest Node → ℕ → Option (List ℕ × Bool)
+stored_text tree id = if is_element_node (node_at tree id) then stored_under tree (first_child tree id) else content_of (node_at tree id)
+
+-- of an element that of its next sibling, if that is a text node
+abbrev pub stored_tail : Forest Node → ℕ → Option (List ℕ × Bool)
+stored_tail tree id = if is_element_node (node_at tree id) then stored_under tree (next_sibling tree id) else None
+
+-- the texts alone
+abbrev pub text : Forest Node → ℕ → Option (List ℕ)
+text tree id = option_map (λ t. t.0) (stored_text tree id)
+
+abbrev pub tail : Forest Node → ℕ → Option (List ℕ)
+tail tree id = option_map (λ t. t.0) (stored_tail tree id)

@@ -1,0 +1,23 @@
+-- A node without what other tables say of it.
+use Rattle.std.specs.Prelude.{ℕ, [], None}
+use Rattle.std.specs.Option.{option_map}
+use Rattle.rox_grammar.specs.Tree.{Node, Root, Element, Text, Comment, PI}
+use Rattle.rox_tables.specs.Storage.{storage_bytes, is_borrowed}
+use Rattle.rox_tables.specs.declared.tables.NodeKind.{NodeKind}
+use Rattle.rox_tables.specs.declared.tables.NodeKind.TheVariants as kind
+
+-- all but the namespaces and the attributes
+abbrev pub stripped : Node → Node
+stripped (Root end) = Root end
+stripped (Element start end namespace local listed attributes) = Element start end None local [] []
+stripped (Text start end value borrowed) = Text start end value borrowed
+stripped (Comment start end text) = Comment start end text
+stripped (PI start end target value) = PI start end target value
+
+-- the node of a row, so far
+abbrev pub stripped_row : (start end : ℕ) → NodeKind → Node
+stripped_row start end kind.Root = Root end
+stripped_row start end (kind.Element e) = Element start end None e.local.now [] []
+stripped_row start end (kind.Text value) = Text start end (storage_bytes value) (is_borrowed value)
+stripped_row start end (kind.Comment text) = Comment start end (storage_bytes text)
+stripped_row start end (kind.PI pi) = PI start end pi.target.now (option_map (λ v. v.now) pi.value)

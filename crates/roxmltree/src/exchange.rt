@@ -1,0 +1,113 @@
+//! Elements that stand by themselves in the text: parsed alone, and put in the place of others.
+
+ghost use Rattle.std.specs.Prelude.{◌≡◌, ℕ, true, false, IfOk, IfErr};
+ghost use Rattle.rox_grammar.specs.Names.{slice};
+ghost use Rattle.roxmltree.specs.NodeParts.{listed_of};
+ghost use Rattle.rox_grammar.specs.Exchange.{none_of, start_at, end_at, IsReparse, IsExchange};
+ghost use Rattle.roxmltree.specs.SelfContained.{stands_alone};
+
+use crate::nodes::Node;
+use crate::tree::Document;
+use crate::iterators::AxisIter;
+use rox_error::error::Error;
+use std::alloc::{AllocError, Global};
+
+impl<'a, 'input> Node<'a, 'input> {
+    ghost use Rattle.std.specs.Prelude.{string_bytes};
+    ghost use Rattle.rox_grammar.specs.Exchange.{self_contained};
+    ghost use Rattle.roxmltree.specs.Places.{place};
+    ghost use Rattle.roxmltree.specs.NodeRef.{id_of, document_of, tree_of, item_of, node_refs};
+    ghost use Rattle.roxmltree.specs.Elements.{root_id};
+
+    /// Whether it is an element of a text without a document type declaration, and no node above it lists a namespace (Namespaces
+    /// in XML 1.0 section 6). Such an element's part of the text says by itself what all its names and references stand for, so
+    /// that it can be parsed alone and put elsewhere.
+    pub fn is_self_contained(&self) -> bool
+        ensures { result ≡ stands_alone (document_of self.now) (id_of self.now) }
+    {
+        !self.document.has_doctype() && self.is_contained()
+    }
+
+    /// The document of its part of the text: this element alone, with what is below it, all ranges counted from its start. Its
+    /// key is 0, and it has no document type declaration, so that its root element may be exchanged for others. It fails only for
+    /// want of memory.
+    pub fn reparse(&self, alloc: Global) -> Result<Document<'input>, Error<'static>>
+        requires { stands_alone (document_of self.now) (id_of self.now) ≡ true }
+        ensures node { IfOk result (λ d. IsReparse (tree_of self.now) (document_of self.now).text (id_of self.now) d.tree d.text) }
+        ensures key { IfOk result (λ d. d.key ≡ 0) }
+        ensures dtd { IfOk result (λ d. d.dtd ≡ false) }
+        ensures memory { IfErr result (λ e. e ≡ Error.OutOfMemory) }
+    {
+        self.document.whole();
+        Document::parse(alloc, self.own_text())
+    }
+
+    /// The text that this element is in, with the root element of the other document in its place. That text is a document: its
+    /// tree is this one with the other's root element exchanged for this element. So `Document::parse` answers it, but for want
+    /// of memory, if its nodes, attributes and namespaces are not too many.
+    pub fn exchange(&self, alloc: Global, other: &Document<'_>) -> Result<String, AllocError>
+        requires mine { stands_alone (document_of self.now) (id_of self.now) ≡ true }
+        requires others { stands_alone other.now (root_id other.now.tree) ≡ true }
+        ensures { IfOk result (λ text. IsExchange (tree_of self.now) (document_of self.now).text (id_of self.now) other.now.tree other.now.text (root_id other.now.tree) (string_bytes text)) }
+    {
+        self.document.whole();
+        other.whole();
+        let text = self.document.input_text();
+        let range = self.range();
+        let mut answer = String::from_str(alloc, &text[..range.start])?;
+        answer.push_str(other.root_element().own_text())?;
+        answer.push_str(&text[range.end..])?;
+        Ok(answer)
+    }
+
+    /// Whether it is an element, and no node above it lists a namespace.
+    fn is_contained(&self) -> bool
+        ensures { result ≡ self_contained (tree_of self.now) (id_of self.now) }
+    {
+        self.is_element() && AxisIter::list_none(self.above())
+    }
+
+    /// The nodes above it, nearest first.
+    fn above(&self) -> AxisIter<'a, 'input>
+        ensures { result ≡ node_refs (document_of self.now) (place (tree_of self.now) (id_of self.now)).above }
+    {
+        let mut nodes = self.ancestors();
+        nodes.next();
+        nodes
+    }
+
+    /// Whether it lists no namespace.
+    #[tactic(auto, using(crate::proofs::Contained::none_long))]
+    fn lists_none(&self) -> bool
+        ensures { result ≡ none_of (listed_of (item_of self.now)) }
+    {
+        self.namespaces().len() == 0
+    }
+
+    /// Its part of the text.
+    fn own_text(&self) -> &'input str
+        requires { stands_alone (document_of self.now) (id_of self.now) ≡ true }
+        ensures { result.now ≡ slice (document_of self.now).text (start_at (tree_of self.now) (id_of self.now)) (end_at (tree_of self.now) (id_of self.now)) }
+    {
+        self.document.whole();
+        let range = self.range();
+        &self.document.input_text()[range.start..range.end]
+    }
+}
+
+impl<'a, 'input> AxisIter<'a, 'input> {
+    ghost use Rattle.std.specs.List.{list_all};
+    ghost use Rattle.roxmltree.specs.NodeParts.{node_at};
+
+    /// Whether none of these nodes lists a namespace.
+    fn list_none(nodes: AxisIter<'a, 'input>) -> bool
+        ensures { result ≡ list_all (λ s. none_of (listed_of (node_at s.0.tree s.1))) nodes.entry }
+    {
+        for node in nodes {
+            if !node.lists_none() {
+                return false;
+            }
+        }
+        true
+    }
+}

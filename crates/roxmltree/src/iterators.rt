@@ -1,0 +1,308 @@
+//! Iterators over nodes, each of which answers None again after its end.
+
+ghost use Rattle.std.specs.Prelude.{◌≡◌, ◌∷◌, [], ◌++◌};
+
+use crate::nodes::{Node, NodeId};
+use crate::tree::Document;
+use std::fmt;
+use std::marker::Model;
+
+/// What to go along.
+#[derive(Clone, Copy, Debug)]
+pub(crate) enum Axis {
+    Ancestors,
+    PrevSiblings,
+    NextSiblings,
+    FirstChildren,
+    LastChildren,
+}
+
+/// A node, and those after it along an axis.
+#[derive(Clone, Debug, Drop)]
+pub struct AxisIter<'a, 'input> {
+    pub(crate) node: Option<Node<'a, 'input>>,
+    pub(crate) axis: Axis,
+}
+
+impl<'a, 'input> Model for AxisIter<'a, 'input> {
+    ghost use Rattle.std.specs.Prelude.{List, ℕ};
+    ghost use Rattle.roxmltree.specs.DocumentView.{DocumentView};
+    ghost use Rattle.roxmltree.specs.NodeRef.{node_refs_code};
+
+    ghost Value = { List (DocumentView × ℕ) };
+
+    ghost coded = { node_refs_code };
+
+    ghost use Rattle.roxmltree.specs.AxisNodes.{axis_nodes_left};
+
+    ghost view = { axis_nodes_left };
+}
+
+impl<'a, 'input> AxisIter<'a, 'input> {
+    ghost use Rattle.roxmltree.specs.AxisNodes.{axis_nodes_from};
+    ghost use Rattle.roxmltree.specs.NodeRef.{node_ref};
+
+    #[tactic(auto, using(crate::proofs::Preorder::parent_is, crate::proofs::Siblings::no_parent, crate::proofs::Siblings::prev_row, crate::proofs::Siblings::no_prev, crate::proofs::Siblings::next_row, crate::proofs::Siblings::no_next, crate::proofs::Siblings::first_children_step, crate::proofs::Siblings::no_first_child, crate::proofs::Siblings::last_children_step, crate::proofs::Siblings::no_last_child))]
+    fn step(axis: Axis, node: Node<'a, 'input>) -> Option<Node<'a, 'input>>
+        ensures { axis_nodes_from axis (Some node.entry) ≡ node_ref node.entry ∷ axis_nodes_from axis result }
+    {
+        match axis {
+            Axis::Ancestors => node.parent(),
+            Axis::PrevSiblings => node.prev_sibling(),
+            Axis::NextSiblings => node.next_sibling(),
+            Axis::FirstChildren => node.first_child(),
+            Axis::LastChildren => node.last_child(),
+        }
+    }
+}
+
+impl<'a, 'input> AxisIter<'a, 'input> {
+    ghost use Rattle.std.specs.Option.{option_map};
+    ghost use Rattle.roxmltree.specs.Elements.{nearest_element};
+    ghost use Rattle.roxmltree.specs.NodeRef.{node_ref};
+
+    /// The first element of these nodes.
+    pub(crate) fn first_element(nodes: AxisIter<'a, 'input>) -> Option<Node<'a, 'input>>
+        ensures { option_map node_ref result ≡ nearest_element nodes.entry }
+    {
+        for node in nodes {
+            if node.is_element() {
+                return Some(node);
+            }
+        }
+        None
+    }
+}
+
+impl<'a, 'input> Iterator for AxisIter<'a, 'input> {
+    type Item = Node<'a, 'input>;
+
+    ghost use Rattle.std.specs.Iterator.{YieldsFirstBy, item_count};
+    ghost use Rattle.roxmltree.specs.NodeRef.{node_ref};
+
+    ghost next_gives = { YieldsFirstBy node_ref (λ s. s) };
+
+    ghost remaining = { item_count (λ s. s) };
+
+    fn next(&mut self) -> Option<Node<'a, 'input>> {
+        match self.node {
+            None => None,
+            Some(node) => {
+                self.node = AxisIter::step(self.axis, node);
+                Some(node)
+            }
+        }
+    }
+}
+
+/// A node and those below it in document order, from both ends.
+#[derive(Clone, Drop)]
+pub struct Descendants<'a, 'input> {
+    pub(crate) document: &'a Document<'input>,
+    pub(crate) from: NodeId,
+    pub(crate) until: NodeId,
+}
+
+impl<'a, 'input> Model for Descendants<'a, 'input> {
+    ghost use Rattle.std.specs.Prelude.{List, ℕ};
+    ghost use Rattle.roxmltree.specs.DocumentView.{DocumentView};
+    ghost use Rattle.roxmltree.specs.NodeRef.{node_refs_code};
+
+    ghost Value = { List (DocumentView × ℕ) };
+
+    ghost coded = { node_refs_code };
+
+    ghost use Rattle.roxmltree.specs.DescendantsLeft.{in_range, IsRange};
+
+    ghost view = { in_range };
+
+    ghost invariant = { IsRange };
+}
+
+/// Prints the first and the last node that are left.
+impl fmt::Debug for Descendants<'_, '_> {
+    fn fmt<W: fmt::Write>(&self, f: &mut fmt::Formatter<W>) -> fmt::Result {
+        let front = self.clone()?.next();
+        let back = self.clone()?.next_back();
+        f.debug_struct("Descendants")
+            .field("front", &front)
+            .field("back", &back)
+            .finish()
+    }
+}
+
+impl<'a, 'input> Iterator for Descendants<'a, 'input> {
+    type Item = Node<'a, 'input>;
+
+    ghost use Rattle.std.specs.Prelude.{Some, IfSome, length};
+    ghost use Rattle.std.specs.Iterator.{YieldsFirstBy, item_count, UpTo};
+    ghost use Rattle.std.specs.Iterator.SizeHint.{IsWithinCount};
+    ghost use Rattle.roxmltree.specs.NodeRef.{node_ref};
+
+    ghost next_gives = { YieldsFirstBy node_ref (λ s. s) };
+
+    ghost remaining = { item_count (λ s. s) };
+
+    #[tactic(auto, using(crate::proofs::Ranges::spots_first))]
+    fn next(&mut self) -> Option<Node<'a, 'input>> {
+        if self.from == self.until {
+            return None;
+        }
+        let node = Node {
+            document: self.document,
+            id: self.from,
+        };
+        self.from = NodeId(self.from.0 + 1);
+        Some(node)
+    }
+
+    fn size_hint(&self) -> (usize, Option<usize>)
+        ensures lower { IsWithinCount result.0 (item_count (λ s. s) self.now) }
+        ensures upper { IfSome result.1 (UpTo (item_count (λ s. s) self.now)) }
+        ensures exact { result ≡ (length self.now, Some (length self.now)) }
+    {
+        let left = self.len();
+        (left, Some(left))
+    }
+}
+
+impl<'a, 'input> DoubleEndedIterator for Descendants<'a, 'input> {
+    ghost use Rattle.std.specs.Iterator.{YieldsLastBy};
+    ghost use Rattle.roxmltree.specs.NodeRef.{node_ref};
+
+    ghost next_back_gives = { YieldsLastBy node_ref (λ s. s) };
+
+    #[tactic(auto, using(crate::proofs::Ranges::spots_last, crate::proofs::Ranges::spots_length))]
+    fn next_back(&mut self) -> Option<Node<'a, 'input>> {
+        if self.from == self.until {
+            return None;
+        }
+        self.until = NodeId(self.until.0 - 1);
+        Some(Node {
+            document: self.document,
+            id: self.until,
+        })
+    }
+}
+
+/// Children of one node, from both ends: those from one on that end before an id, each with this many nodes above it.
+#[derive(Clone, Drop)]
+pub struct Children<'a, 'input> {
+    pub(crate) document: &'a Document<'input>,
+    pub(crate) from: NodeId,
+    pub(crate) until: NodeId,
+    pub(crate) depth: u32,
+}
+
+impl<'a, 'input> Model for Children<'a, 'input> {
+    ghost use Rattle.std.specs.Prelude.{List, ℕ};
+    ghost use Rattle.roxmltree.specs.DocumentView.{DocumentView};
+    ghost use Rattle.roxmltree.specs.NodeRef.{node_refs_code};
+
+    ghost Value = { List (DocumentView × ℕ) };
+
+    ghost coded = { node_refs_code };
+
+    ghost use Rattle.roxmltree.specs.ChildrenLeft.{left, IsChildrenStretch};
+
+    ghost view = { left };
+
+    ghost invariant = { IsChildrenStretch };
+}
+
+impl<'a, 'input> Children<'a, 'input> {
+    ghost use Rattle.std.specs.Prelude.{reverse};
+    ghost use Rattle.std.specs.Option.{option_map};
+    ghost use Rattle.roxmltree.specs.Elements.{nearest_element};
+    ghost use Rattle.roxmltree.specs.NodeRef.{node_ref};
+
+    /// The first element of these nodes.
+    pub(crate) fn first_element(nodes: Children<'a, 'input>) -> Option<Node<'a, 'input>>
+        ensures { option_map node_ref result ≡ nearest_element nodes.entry }
+    {
+        for node in nodes {
+            if node.is_element() {
+                return Some(node);
+            }
+        }
+        None
+    }
+
+    /// The last element of these nodes.
+    pub(crate) fn last_element(mut nodes: Children<'a, 'input>) -> Option<Node<'a, 'input>>
+        ensures { option_map node_ref result ≡ nearest_element (reverse nodes.entry) }
+    {
+        while let Some(node) = nodes.next_back() {
+            if node.is_element() {
+                return Some(node);
+            }
+        }
+        None
+    }
+}
+
+/// Prints the first and the last node that are left.
+impl fmt::Debug for Children<'_, '_> {
+    fn fmt<W: fmt::Write>(&self, f: &mut fmt::Formatter<W>) -> fmt::Result {
+        let front = self.clone()?.next();
+        let back = self.clone()?.next_back();
+        f.debug_struct("Children")
+            .field("front", &front)
+            .field("back", &back)
+            .finish()
+    }
+}
+
+impl<'a, 'input> Iterator for Children<'a, 'input> {
+    type Item = Node<'a, 'input>;
+
+    ghost use Rattle.std.specs.Iterator.{YieldsFirstBy, item_count};
+    ghost use Rattle.roxmltree.specs.NodeRef.{node_ref};
+
+    ghost next_gives = { YieldsFirstBy node_ref (λ s. s) };
+
+    ghost remaining = { item_count (λ s. s) };
+
+    #[tactic(auto, using(crate::proofs::Stretches::front_left, crate::proofs::Stretches::front_rest, crate::proofs::Stretches::front_none))]
+    fn next(&mut self) -> Option<Node<'a, 'input>> {
+        if self.from.0 >= self.until.0 {
+            return None;
+        }
+        let document = self.document;
+        let front = Node {
+            document,
+            id: self.from,
+        };
+        self.from = NodeId(document.row(front.id).next);
+        Some(front)
+    }
+}
+
+impl<'a, 'input> DoubleEndedIterator for Children<'a, 'input> {
+    ghost use Rattle.std.specs.Iterator.{YieldsLastBy};
+    ghost use Rattle.roxmltree.specs.NodeRef.{node_ref};
+
+    ghost next_back_gives = { YieldsLastBy node_ref (λ s. s) };
+
+    #[tactic(auto, using(crate::proofs::Stretches::back_left, crate::proofs::Stretches::back_rest, crate::proofs::Stretches::back_fewer, crate::proofs::Stretches::front_none))]
+    fn next_back(&mut self) -> Option<Node<'a, 'input>> {
+        if self.from.0 >= self.until.0 {
+            return None;
+        }
+        let document = self.document;
+        let below = Node {
+            document,
+            id: NodeId(self.until.0 - 1),
+        };
+        let back = below.climb(self.depth);
+        self.until = back.id;
+        Some(back)
+    }
+}
+
+impl ExactSizeIterator for Descendants<'_, '_> {
+    #[tactic(auto, using(crate::proofs::Ranges::spots_length))]
+    fn len(&self) -> usize {
+        (self.until.0 - self.from.0) as usize
+    }
+}

@@ -1,0 +1,191 @@
+//! What a node is, where it stands in the text, and its text.
+
+ghost use Rattle.std.specs.Prelude.{◌≡◌};
+ghost use Rattle.std.specs.Option.{option_map};
+ghost use Rattle.roxmltree.specs.NodeParts.{is_root_node, is_element_node, is_text_node, is_comment_node, is_pi_node, start_of, end_of, text, tail, stored_text, stored_tail, text_content, pi_of};
+ghost use Rattle.roxmltree.specs.Kinds.{type_of};
+ghost use Rattle.roxmltree.specs.StoredText.{stored, instruction};
+ghost use Rattle.roxmltree.specs.NodeRef.{id_of, tree_of, item_of};
+
+use crate::nodes::Node;
+use rox_tables::storage::StringStorage;
+use rox_tables::tables::{NodeKind, PI};
+use std::ops::Range;
+
+/// The kinds of node.
+#[derive(Clone, Copy, PartialEq, Eq, Debug)]
+pub enum NodeType {
+    /// The one node above all others.
+    Root,
+    Element,
+    PI,
+    Comment,
+    Text,
+}
+
+impl<'a, 'input> Node<'a, 'input> {
+    /// Its kind.
+    #[inline]
+    #[tactic(auto, using(crate::proofs::Bare::type_of_bare))]
+    pub fn node_type(&self) -> NodeType
+        ensures { result ≡ type_of (item_of self.now) }
+    {
+        match self.document.row(self.id).kind {
+            NodeKind::Root => NodeType::Root,
+            NodeKind::Element(_) => NodeType::Element,
+            NodeKind::Text(_) => NodeType::Text,
+            NodeKind::Comment(_) => NodeType::Comment,
+            NodeKind::PI(_) => NodeType::PI,
+        }
+    }
+
+    /// Whether it is the root node.
+    #[inline]
+    #[tactic(auto, using(crate::proofs::Bare::says_root_bare))]
+    pub fn is_root(&self) -> bool
+        ensures { result ≡ is_root_node (item_of self.now) }
+    {
+        match self.document.row(self.id).kind {
+            NodeKind::Root => true,
+            _ => false,
+        }
+    }
+
+    /// Whether it is an element.
+    #[inline]
+    #[tactic(auto, using(crate::proofs::Bare::says_element_bare))]
+    pub fn is_element(&self) -> bool
+        ensures { result ≡ is_element_node (item_of self.now) }
+    {
+        match self.document.row(self.id).kind {
+            NodeKind::Element(_) => true,
+            _ => false,
+        }
+    }
+
+    /// Whether it is a processing instruction.
+    #[inline]
+    #[tactic(auto, using(crate::proofs::Bare::says_pi_bare))]
+    pub fn is_pi(&self) -> bool
+        ensures { result ≡ is_pi_node (item_of self.now) }
+    {
+        match self.document.row(self.id).kind {
+            NodeKind::PI(_) => true,
+            _ => false,
+        }
+    }
+
+    /// Whether it is a comment.
+    #[inline]
+    #[tactic(auto, using(crate::proofs::Bare::says_comment_bare))]
+    pub fn is_comment(&self) -> bool
+        ensures { result ≡ is_comment_node (item_of self.now) }
+    {
+        match self.document.row(self.id).kind {
+            NodeKind::Comment(_) => true,
+            _ => false,
+        }
+    }
+
+    /// Whether it is a text node.
+    #[inline]
+    #[tactic(auto, using(crate::proofs::Bare::says_text_bare))]
+    pub fn is_text(&self) -> bool
+        ensures { result ≡ is_text_node (item_of self.now) }
+    {
+        match self.document.row(self.id).kind {
+            NodeKind::Text(_) => true,
+            _ => false,
+        }
+    }
+
+    /// Where it stands in its source, in bytes: an element from its `<` to the end of its end tag, and the root node the whole
+    /// text. A text node that was merged of several runs and CDATA sections has the range of the first of them alone.
+    #[inline]
+    #[tactic(auto, using(crate::proofs::Bare::start_of_bare, crate::proofs::Bare::end_of_bare))]
+    pub fn range(&self) -> Range<usize>
+        ensures start { result.start ≡ start_of (item_of self.now) }
+        ensures end { result.end ≡ end_of (item_of self.now) }
+    {
+        let row = self.document.row(self.id);
+        match row.kind {
+            NodeKind::Root => 0..row.end,
+            _ => row.start..row.end,
+        }
+    }
+
+    /// The target and the value of a processing instruction (XML 1.0 section 2.6). None for other nodes.
+    #[inline]
+    #[tactic(auto, using(crate::proofs::Bare::pi_of_bare))]
+    pub fn pi(&self) -> Option<PI<'input>>
+        ensures { option_map instruction result ≡ pi_of (item_of self.now) }
+    {
+        match self.document.row(self.id).kind {
+            NodeKind::PI(pi) => Some(pi),
+            _ => None,
+        }
+    }
+
+    /// The text of an element's first child if that is a text node, and of a comment or a text node its own.
+    #[inline]
+    pub fn text(&self) -> Option<&'a str>
+        ensures { option_map (λ s. s.now) result ≡ text (tree_of self.now) (id_of self.now) }
+    {
+        match self.text_storage() {
+            Some(text) => Some(text.as_str()),
+            None => None,
+        }
+    }
+
+    /// As `text`, with whether it is a slice of the input. A comment's always is.
+    #[tactic(auto, using(crate::proofs::Bare::says_element_bare))]
+    pub fn text_storage(&self) -> Option<&'a StringStorage<'input>>
+        ensures { option_map (λ s. stored s.now) result ≡ stored_text (tree_of self.now) (id_of self.now) }
+    {
+        match &self.document.row(self.id).kind {
+            NodeKind::Element(_) => match self.first_child() {
+                Some(child) => child.own_text_storage(),
+                None => None,
+            },
+            NodeKind::Text(text) => Some(text),
+            NodeKind::Comment(text) => Some(text),
+            _ => None,
+        }
+    }
+
+    /// The text of an element's next sibling if that is a text node.
+    #[inline]
+    pub fn tail(&self) -> Option<&'a str>
+        ensures { option_map (λ s. s.now) result ≡ tail (tree_of self.now) (id_of self.now) }
+    {
+        match self.tail_storage() {
+            Some(text) => Some(text.as_str()),
+            None => None,
+        }
+    }
+
+    /// As `tail`, with whether it is a slice of the input.
+    pub fn tail_storage(&self) -> Option<&'a StringStorage<'input>>
+        ensures { option_map (λ s. stored s.now) result ≡ stored_tail (tree_of self.now) (id_of self.now) }
+    {
+        if !self.is_element() {
+            return None;
+        }
+        match self.next_sibling() {
+            Some(next) => next.own_text_storage(),
+            None => None,
+        }
+    }
+
+    /// The text of a text node.
+    #[inline]
+    #[tactic(auto, using(crate::proofs::Bare::text_content_bare))]
+    fn own_text_storage(&self) -> Option<&'a StringStorage<'input>>
+        ensures { option_map (λ s. stored s.now) result ≡ text_content (item_of self.now) }
+    {
+        match &self.document.row(self.id).kind {
+            NodeKind::Text(text) => Some(text),
+            _ => None,
+        }
+    }
+}

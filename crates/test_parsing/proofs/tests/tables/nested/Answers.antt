@@ -1,0 +1,10 @@
+use Rattle.std.proofs.Common.{◌≤◌, ◌+◌, ◌∷◌, ap, ◌∙◌, [], length, length-append, arith}
+use Rattle.rox_tables.proofs.Ropes.{rows_push}
+use Rattle.test_parsing.proofs.tests.tables.nested.Goals as goal
+
+pub loop-from-init : goal.loop-from-init
+loop-from-init c =
+    let n = ap length c.in_ok-scope.ensures.items ∙ length-append c.args.scopes.now.items (_ ∷ []) in
+    let v = c.in_ok-scope.ensures.value in
+    let le : 0 ≤ 0 = omega arith in
+    (omega arith, rows_push _ _ _ c.in_ok-scope.ensures.items c.requires.rows le)
