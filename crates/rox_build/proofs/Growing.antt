@@ -5,8 +5,8 @@ use Rattle.std.proofs.lemmas.List.{length-map}
 use Rattle.rox_grammar.specs.Forest.{Forest}
 use Rattle.rox_grammar.specs.Written.{Item, NamespaceDecl}
 use Rattle.rox_grammar.specs.State.{Open}
-use Rattle.rox_tables.specs.Rows.{row_view, declaration, scope_at, NamespaceWithin, KindWithin, AttributeRow, attribute_rows}
-use Rattle.rox_tables.specs.Scopes.{Once}
+use Rattle.rox_tables.specs.Rows.{row_view, namespace_view, scope_at, NamespaceWithin, KindWithin, AttributeRow, attribute_rows}
+use Rattle.rox_tables.specs.Scopes.{PrefixesOnce}
 use Rattle.rox_tables.specs.TagScopes.{lists_in}
 use Rattle.rox_build.specs.BuilderState.{opened, opened_in, names_in, line_in, IsRowWithin, IsOpenWithin, AreSound, HasEmpty, Represents, Grown}
 use Rattle.rox_tables.specs.declared.tables.NodeData.{NodeData}
@@ -20,7 +20,7 @@ opened-append : (lists more : List (List NamespaceDecl)) (o : OpenElement) → o
 opened-append lists more o within = ap (λ (l : List NamespaceDecl). record (opened lists o) { scope = l }) (scope_at-append lists more o.scope within)
 
 names_count : (t : ElementTables) → length (names_in t) ≡ length t.namespaces.items.items
-names_count t = length-map t.namespaces.items.items declaration
+names_count t = length-map t.namespaces.items.items namespace_view
 
 lists_count : (t : ElementTables) → length (lists_in t) ≡ length t.scopes.items
 lists_count t = length-lists (names_in t) t.listed.items t.scopes.items
@@ -40,12 +40,12 @@ grown_elements old new os g h =
     let k = grown_counts old new g in
     all_weaker (IsOpenWithin old) (IsOpenWithin new) os (λ o x. one o x.0 x.1 k.2) h
   where
-    one : (o : OpenElement) → o.scope < length old.scopes.items → Once (scope_at (lists_in old) o.scope) → length old.scopes.items ≤ length new.scopes.items → IsOpenWithin new o
+    one : (o : OpenElement) → o.scope < length old.scopes.items → PrefixesOnce (scope_at (lists_in old) o.scope) → length old.scopes.items ≤ length new.scopes.items → IsOpenWithin new o
     one o a once b =
         let n = lists_count old in
         let within : o.scope < length (lists_in old) = omega arith in
         let same : scope_at (lists_in new) o.scope ≡ scope_at (lists_in old) o.scope = ap (λ ls. scope_at ls o.scope) g.lists ∙ scope_at-append (lists_in old) g.more_lists o.scope within in
-        (omega arith, subst Once (sym same) once)
+        (omega arith, subst PrefixesOnce (sym same) once)
 
 -- the first scope lists nothing still
 pub grown_empty : (old new : ElementTables) → Grown old new → HasEmpty old → HasEmpty new

@@ -25,7 +25,7 @@ use Rattle.rox_scan.specs.declared.cursor.Cursor.{Cursor}
 use Rattle.rox_grammar.specs.declared.failure.Failure.{Failure}
 use Rattle.rox_grammar.specs.declared.failure.Failure.TheVariants as failure
 use Rattle.rox_scan.specs.DoctypeViews.{is_skipped_declaration, skipped_declaration_at, subset_end_at}
-use Rattle.rox_build.specs.Asking.{AreGiven, AskOutcome, IsEntityRead, IsRead, IsSubsetSoFar, ItemOutcome}
+use Rattle.rox_build.specs.Asking.{AreGiven, AskOutcome, IsEntityRead, IsDoctypeRead, IsSubsetSoFar, ItemOutcome}
 use Rattle.rox_values.specs.DeclaredEntities.{AreDeclared}
 use Rattle.rox_values.specs.Refusals.{of_failure}
 use Rattle.rox_build.specs.BuilderState.{IsInState, ScansTo}
@@ -200,7 +200,7 @@ module _ (limit end i n m : ℕ) (src : List ℕ) (allows : Request → Reply �
             bracket : slice_index src s.at ≡ 93
             bracket = rw (same, place) at is
 
-            pub end_turn : (e : Cursor) → subset_end_at c.text.now c.pos ≡ Ok (tt, e.pos) → IsRead limit end run e b es going.asked
+            pub end_turn : (e : Cursor) → subset_end_at c.text.now c.pos ≡ Ok (tt, e.pos) → IsDoctypeRead limit end run e b es going.asked
             end_turn e h =
                 let stop = spaces_end src (s.at + 1) in
                 let k : subset_end_at src s.at ≡ Ok (tt, e.pos) = rw (same, place) at h in
@@ -239,7 +239,7 @@ none_yet limit end i n src allows d c b es all sees declared =
 module _ (limit end i n : ℕ) (src : List ℕ) (allows : Request → Reply → Type 0) (run : List Reply → Asks Dtd) (c : Cursor) (b : Builder) (es : Entities)
     (going : IsSubsetSoFar limit end i n src allows run c b es) where
   -- the text ends here
-  pub text_ends : (m : ℕ) → n ≡ suc m → length src ≤ c.pos → IsRead limit end run c b es going.asked
+  pub text_ends : (m : ℕ) → n ≡ suc m → length src ≤ c.pos → IsDoctypeRead limit end run c b es going.asked
   text_ends m one out = record {
     dtd = going.dtd;
     answered = turn.turn_out run going.asked limit i n m src going.dtd going.continues one (subst (λ (k : ℕ). length src ≤ k) going.sees.here out);
@@ -248,7 +248,7 @@ module _ (limit end i n : ℕ) (src : List ℕ) (allows : Request → Reply → 
   }
 
   -- there may be no more
-  pub turns_end : n ≡ 0 → IsRead limit end run c b es going.asked
+  pub turns_end : n ≡ 0 → IsDoctypeRead limit end run c b es going.asked
   turns_end none = record { dtd = going.dtd; answered = turn.turn_spent run going.asked limit i n src going.dtd going.continues none; sees = going.sees; declared = going.declared }
 
 -- ---- the declaration around its subset
@@ -261,8 +261,8 @@ stands_within src p b is some =
 -- with a subset, whose `[` stands at p
 pub with_subset : (limit end : ℕ) (src : List ℕ) (allows : Request → Reply → Type 0) (x : Dtd) (p : ℕ) (c : Cursor) (b : Builder) (es : Entities) (r : Result (Unit {0}) ParseError)
     → (is : doctype_head_at src x.state.at ≡ Ok (tt, p)) → (fits : p < length src) → slice_index src p ≡ 91
-    → AskOutcome allows (subset_run limit src x tt p is fits) (λ asked u. IsRead limit end (subset_run limit src x tt p is fits) c b es asked) r
-    → AskOutcome allows (step_run limit src x) (λ asked u. IsRead limit end (step_run limit src x) c b es asked) r
+    → AskOutcome allows (subset_run limit src x tt p is fits) (λ asked u. IsDoctypeRead limit end (subset_run limit src x tt p is fits) c b es asked) r
+    → AskOutcome allows (step_run limit src x) (λ asked u. IsDoctypeRead limit end (step_run limit src x) c b es asked) r
 with_subset limit end src allows x p c b es (Ok u) is fits opens k = (
   k.0,
   k.1,

@@ -12,14 +12,14 @@ use Rattle.rox_reading.specs.Tags.{tag_at}
 use Rattle.rox_grammar.specs.State.{inside, scope_of, pairs_so_far, attributes_so_far}
 use Rattle.rox_reading.specs.State.{State}
 use Rattle.rox_reading.specs.Refusals.{lifted}
-use Rattle.rox_reading.specs.Machine.{Context, tag_step, cut_off, opened_by, counted}
+use Rattle.rox_reading.specs.Machine.{Context, tag_step, cut_off_fault, opened_by, counted}
 use Rattle.rox_values.specs.Refusals.{IsRefusal}
 use Rattle.rox_values.specs.declared.parse_error.ParseError.{ParseError}
 use Rattle.rox_values.proofs.PartLemmas.{refuses_by}
 use Rattle.rox_scan.specs.declared.cursor.Cursor.{Cursor}
 use Rattle.rox_grammar.specs.declared.failure.Failure.{Failure}
-use Rattle.rox_tables.specs.Rows.{node, declaration, attribute, scope_at, NamespaceWithin, AttributeRow, attribute_rows}
-use Rattle.rox_tables.specs.Scopes.{Once}
+use Rattle.rox_tables.specs.Rows.{node, namespace_view, attribute, scope_at, NamespaceWithin, AttributeRow, attribute_rows}
+use Rattle.rox_tables.specs.Scopes.{PrefixesOnce}
 use Rattle.rox_tables.specs.TagScopes.{lists_in}
 use Rattle.rox_build.specs.ElementRow.{Tagged}
 use Rattle.rox_build.specs.BuilderState.{names_in, IsRowWithin, AreSound, IsOpenWithin, IsConsistent, Grown, IsNode, IsOpening, Adds, ScansTo}
@@ -50,7 +50,7 @@ grown_by old new t above tag h =
 pub sound_by : (old new : ElementTables) (t : StartTag) (above : List NamespaceDecl) (tag : Tag) → Tagged old new t above tag → AreSound old → AreSound new
 sound_by old new t above tag h s =
     let k = grown_counts old new (grown_by old new t above tag h) in
-    let n : length (names_in new) ≡ length new.namespaces.items.items = length-map new.namespaces.items.items declaration in
+    let n : length (names_in new) ≡ length new.namespaces.items.items = length-map new.namespaces.items.items namespace_view in
     let a = all_weaker (λ (a : AttributeRow). NamespaceWithin (length old.namespaces.items.items) a.0.namespace) (λ (a : AttributeRow). NamespaceWithin (length new.namespaces.items.items) a.0.namespace) (attribute_rows old.attributes)
     (λ a x. namespace_more (length old.namespaces.items.items) (length new.namespaces.items.items) a.0.namespace k.1 x) s.attributes in
     let m = subst (λ (n : ℕ). AllByRecursion (λ (a : AttributeRow). NamespaceWithin n a.0.namespace) h.element.attributes.more) n h.element.attributes.within in
@@ -122,22 +122,22 @@ attributes_by old new t above tag h =
 
 -- ---- one start tag, read and kept
 
-pub tag_fails : (how : Context) (src : List ℕ) (s : State) (i : ℕ) (cut : Fault) (above : List NamespaceDecl) (count : ℕ) (known : List NamespaceDecl) (e : ParseError) → i ≡ s.at → cut ≡ cut_off how.values.main s.stack → above ≡ scope_of s.stack
+pub tag_fails : (how : Context) (src : List ℕ) (s : State) (i : ℕ) (cut : Fault) (above : List NamespaceDecl) (count : ℕ) (known : List NamespaceDecl) (e : ParseError) → i ≡ s.at → cut ≡ cut_off_fault how.values.main s.stack → above ≡ scope_of s.stack
     → count ≡ attributes_so_far s.stack s.done → known ≡ distinct_pairs (pairs_so_far s.stack s.done) → IsRefusal e (tag_at how.values cut above count known src i s.left) → IsRefusal e (tag_step how src s)
 unfolding tag_step
 tag_fails how src s i cut above count known e here c a n k h =
     refuses_by e (tag_at how.values cut above count known src i s.left) (tag_step how src s)
     (λ r err.
-    let t : tag_at how.values (cut_off how.values.main s.stack) (scope_of s.stack) (attributes_so_far s.stack s.done) (distinct_pairs (pairs_so_far s.stack s.done)) src s.at s.left ≡ Err r = rw (← here, ← c, ← a, ← n, ← k) err in
+    let t : tag_at how.values (cut_off_fault how.values.main s.stack) (scope_of s.stack) (attributes_so_far s.stack s.done) (distinct_pairs (pairs_so_far s.stack s.done)) src s.at s.left ≡ Err r = rw (← here, ← c, ← a, ← n, ← k) err in
     rw t refl)
     h
 
-pub tag_is : (how : Context) (src : List ℕ) (s : State) (i : ℕ) (cut : Fault) (above : List NamespaceDecl) (count : ℕ) (known : List NamespaceDecl) (tag : Tag) (empty : Bool) (left j : ℕ) → i ≡ s.at → cut ≡ cut_off how.values.main s.stack
+pub tag_is : (how : Context) (src : List ℕ) (s : State) (i : ℕ) (cut : Fault) (above : List NamespaceDecl) (count : ℕ) (known : List NamespaceDecl) (tag : Tag) (empty : Bool) (left j : ℕ) → i ≡ s.at → cut ≡ cut_off_fault how.values.main s.stack
     → above ≡ scope_of s.stack → count ≡ attributes_so_far s.stack s.done → known ≡ distinct_pairs (pairs_so_far s.stack s.done)
     → tag_at how.values cut above count known src i s.left ≡ Ok (record { tag = tag; empty = empty; left = left }, j) → tag_step how src s ≡ lifted (opened_by how.limit s tag empty left j)
 unfolding tag_step
 tag_is how src s i cut above count known tag empty left j here c a n k h =
-    let t : tag_at how.values (cut_off how.values.main s.stack) (scope_of s.stack) (attributes_so_far s.stack s.done) (distinct_pairs (pairs_so_far s.stack s.done)) src s.at s.left ≡ Ok (record { tag = tag; empty = empty; left = left }, j) =
+    let t : tag_at how.values (cut_off_fault how.values.main s.stack) (scope_of s.stack) (attributes_so_far s.stack s.done) (distinct_pairs (pairs_so_far s.stack s.done)) src s.at s.left ≡ Ok (record { tag = tag; empty = empty; left = left }, j) =
     rw (← here, ← c, ← a, ← n, ← k) h in
     rw t refl
 
@@ -184,8 +184,8 @@ fine_kept r t os u f tables opens = always r (IsConsistent u.tables u.opened.ite
 
 pub fine_more : (r : Result (Unit {0}) Failure) (t : ElementTables) (os : List OpenElement) (u : Builder) (tag : StartTag) → IsConsistent t os → u.tables ≡ t
     → OnOk r ((x : OpenElement) × (u.opened.items ≡ os ++ x ∷ []) × (x.scope ≡ tag.element.scope))
-    → tag.element.scope < length t.scopes.items → Once (scope_at (lists_in t) tag.element.scope) → OnOk r (IsConsistent u.tables u.opened.items)
+    → tag.element.scope < length t.scopes.items → PrefixesOnce (scope_at (lists_in t) tag.element.scope) → OnOk r (IsConsistent u.tables u.opened.items)
 fine_more (Ok x) t os u tag f tables (o, is, scope) within once =
-    let w : IsOpenWithin t o = subst (λ (s : ℕ). (s < length t.scopes.items) × Once (scope_at (lists_in t) s)) (sym scope) (within, once) in
+    let w : IsOpenWithin t o = subst (λ (s : ℕ). (s < length t.scopes.items) × PrefixesOnce (scope_at (lists_in t) s)) (sym scope) (within, once) in
     subst (λ (t : ElementTables). IsConsistent t u.opened.items) (sym tables) (fine_opened t os u.opened.items o f is w)
 fine_more (Err e) t os u tag f tables h within once = tt

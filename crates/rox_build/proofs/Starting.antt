@@ -21,8 +21,8 @@ use Rattle.rox_values.proofs.PartLemmas.{refuses_by}
 use Rattle.rox_tables.specs.declared.tables.ElementTables.{ElementTables}
 use Rattle.rox_tables.specs.declared.unresolved_attribute.UnresolvedAttribute.{UnresolvedAttribute}
 use Rattle.rox_build.specs.declared.tag.StartTag.{StartTag}
-use Rattle.rox_tables.specs.Rows.{declaration, lists_of, AreScopes, attribute_rows}
-use Rattle.rox_tables.specs.Scopes.{ArePlaces, Once}
+use Rattle.rox_tables.specs.Rows.{namespace_view, lists_of, AreScopes, attribute_rows}
+use Rattle.rox_tables.specs.Scopes.{ArePlaces, PrefixesOnce}
 use Rattle.rox_tables.specs.TagDeclarations.{unresolved_view}
 use Rattle.rox_build.specs.TagState.{HoldsTag}
 use Rattle.rox_tables.specs.TagScopes.{HasBindings, lists_in}
@@ -96,29 +96,29 @@ tag_made how cut above count known src i left name n j h empty l is other read f
 
 pub tagged : (o a s e : ElementTables) (t : StartTag) (above : List NamespaceDecl) (name : Name) (n : ℕ) (h : TagSoFar) (xml : Bool) (taken : List UnresolvedAttribute) (scope : ℕ)
     → name_view t.name ≡ name → t.name_end ≡ n → a.attributes ≡ o.attributes
-    → HoldsTag (map declaration o.namespaces.items.items) o.listed.items (map declaration a.namespaces.items.items) a.listed.items xml taken h → length a.namespaces.items.items ≤ most_pairs
+    → HoldsTag (map namespace_view o.namespaces.items.items) o.listed.items (map namespace_view a.namespaces.items.items) a.listed.items xml taken h → length a.namespaces.items.items ≤ most_pairs
     → s.namespaces ≡ a.namespaces → s.attributes ≡ a.attributes → lists_in a ≡ lists_in o → (more : List (List NamespaceDecl)) × (lists_in s ≡ lists_in a ++ more) → ArePlaces (length s.namespaces.items.items) s.listed.items
     → AreScopes (length s.listed.items) s.scopes.items
     → scope_in_tables s scope ≡ listed above h.own → e.namespaces ≡ s.namespaces → e.listed ≡ s.listed → e.scopes ≡ s.scopes → IsElement s e t.element (scope_in_tables s scope) name (map unresolved_view taken)
-    → HasBindings s → e.present ≡ s.present → Once (scope_in_tables s scope) → Tagged o e t above (record { name = name; name_end = n; declarations = h.own; attributes = h.attributes })
+    → HasBindings s → e.present ≡ s.present → PrefixesOnce (scope_in_tables s scope) → Tagged o e t above (record { name = name; name_end = n; declarations = h.own; attributes = h.attributes })
 tagged o a s e t above name n h xml taken scope is ends same hold few names attributes before (more, lists_are) places stretches lists names' listed' scopes' k known present' once =
     let d = hold.is_namespace_decl in
     let kept = attributes ∙ same in
     let after : lists_in e ≡ lists_in s =
-    ap (λ v. lists_of (map declaration v.items.items) e.listed.items e.scopes.items) names'
-    ∙ ap (λ v. lists_of (map declaration s.namespaces.items.items) v.items e.scopes.items) listed'
-    ∙ ap (λ v. lists_of (map declaration s.namespaces.items.items) s.listed.items v.items) scopes' in
+    ap (λ v. lists_of (map namespace_view v.items.items) e.listed.items e.scopes.items) names'
+    ∙ ap (λ v. lists_of (map namespace_view s.namespaces.items.items) v.items e.scopes.items) listed'
+    ∙ ap (λ v. lists_of (map namespace_view s.namespaces.items.items) s.listed.items v.items) scopes' in
     record {
       name = is;
       name_end = ends;
-      names = ap (λ v. map declaration v.items.items) (names' ∙ names) ∙ d.names_are;
+      names = ap (λ v. map namespace_view v.items.items) (names' ∙ names) ∙ d.names_are;
       few = rw (ap (λ v. length v.items.items) (names' ∙ names)) few;
       more = more;
       lists_more = after ∙ lists_are ∙ ap (λ xs. xs ++ more) before;
       places = rw (names', listed') places;
       scopes = rw (listed', scopes') stretches;
       kept = rw (names', listed', scopes', present') known;
-      once = subst Once (sym k.lists) once;
+      once = subst PrefixesOnce (sym k.lists) once;
       element = record {
         attributes = record {
           more = k.attributes.more;

@@ -48,7 +48,7 @@ pub record IsEntityRead (run : List Reply → Asks Dtd) (d : Dtd) (c : Cursor) (
   pub declared : AreDeclared dtd.entities es
 
 -- a declaration was read, up to where the cursor, the builder and the entities stand
-pub record IsRead (limit end : ℕ) (run : List Reply → Asks Dtd) (c : Cursor) (b : Builder) (es : Entities) (asked : List Asked) : Type 0 where
+pub record IsDoctypeRead (limit end : ℕ) (run : List Reply → Asks Dtd) (c : Cursor) (b : Builder) (es : Entities) (asked : List Asked) : Type 0 where
   pub dtd : Dtd
   pub answered : Answered run asked dtd
   pub sees : IsInState limit end dtd.state c b
@@ -65,6 +65,6 @@ pub record IsSubsetSoFar (limit end i n : ℕ) (src : List ℕ) (allows : Reques
 
 -- how an item ended: the declaration is read, or goes on with one item less
 abbrev pub ItemOutcome : (limit end i n : ℕ) → List ℕ → (Request → Reply → Type 0) → (run : List Reply → Asks Dtd) → Cursor → Builder → Entities → Result Bool ParseError → Type 0
-ItemOutcome limit end i n src allows run c b es (Ok true) = (asked : List Asked) × AreGiven allows asked × IsRead limit end run c b es asked
+ItemOutcome limit end i n src allows run c b es (Ok true) = (asked : List Asked) × AreGiven allows asked × IsDoctypeRead limit end run c b es asked
 ItemOutcome limit end i n src allows run c b es (Ok false) = IsSubsetSoFar limit end i n src allows run c b es
 ItemOutcome limit end i n src allows run c b es (Err e) = (asked : List Asked) × AreGiven allows asked × StopsBy allows run asked e

@@ -14,13 +14,13 @@ use Rattle.rox_reading.proofs.Forests.{Clean, is_text}
 use Rattle.rox_grammar.specs.Failures.{Fails, name_view}
 use Rattle.rox_scan.specs.declared.cursor.Cursor.{Cursor}
 use Rattle.rox_grammar.specs.declared.failure.Failure.{Failure}
-use Rattle.rox_tables.specs.Rows.{RowView, row_view, node, declaration, scope_at, NamespaceWithin, KindWithin, AreScopes, AttributeRow, attribute_rows}
+use Rattle.rox_tables.specs.Rows.{RowView, row_view, node, namespace_view, scope_at, NamespaceWithin, KindWithin, AreScopes, AttributeRow, attribute_rows}
 use Rattle.rox_reading.specs.Values.{Next, part_text}
 use Rattle.rox_values.specs.Refusals.{IsFailure, IsRefusal}
 use Rattle.rox_values.specs.Values.{next_view}
 use Rattle.rox_values.specs.declared.parse_error.ParseError.{ParseError}
 use Rattle.rox_build.specs.OpenRows.{top, so_far}
-use Rattle.rox_tables.specs.Scopes.{Once}
+use Rattle.rox_tables.specs.Scopes.{PrefixesOnce}
 use Rattle.rox_tables.specs.TagScopes.{HasBindings, lists_in}
 use Rattle.rox_tables.specs.declared.tables.NodeKind.{NodeKind}
 use Rattle.rox_tables.specs.declared.tables.NodeData.{NodeData}
@@ -64,7 +64,7 @@ pending_text (pending.Slice start end text) joined = leaf (Text start end text.n
 pending_text (pending.Joined start end) joined = leaf (Text start end joined false)
 
 abbrev pub names_in : ElementTables → List NamespaceDecl
-names_in t = map declaration t.namespaces.items.items
+names_in t = map namespace_view t.namespaces.items.items
 
 abbrev pub line_in : ElementTables → NodeData → RowView
 line_in t row = row_view (attribute_rows t.attributes) (names_in t) (lists_in t) row
@@ -120,7 +120,7 @@ Adds end (Err e) b read = Fails e read
 
 -- the scope of an open element is in the table, and has each prefix once
 abbrev pub IsOpenWithin : ElementTables → OpenElement → Type 0
-IsOpenWithin t o = (o.scope < length t.scopes.items) × Once (scope_at (lists_in t) o.scope)
+IsOpenWithin t o = (o.scope < length t.scopes.items) × PrefixesOnce (scope_at (lists_in t) o.scope)
 
 -- the first scope lists nothing
 pub record HasEmpty (t : ElementTables) : Type 0 where

@@ -11,8 +11,8 @@ use Rattle.rox_grammar.specs.Failures.{name_view}
 use Rattle.rox_scan.specs.declared.cursor.Cursor.{Cursor}
 use Rattle.rox_values.specs.Refusals.{IsRefusal}
 use Rattle.rox_values.specs.declared.parse_error.ParseError.{ParseError}
-use Rattle.rox_tables.specs.Rows.{declaration, attribute, entry, scope_at, NamespaceWithin, OptionWithin, AreScopes, AttributeRow, attribute_rows}
-use Rattle.rox_tables.specs.Scopes.{ArePlaces, Once}
+use Rattle.rox_tables.specs.Rows.{namespace_view, attribute, namespace_at, scope_at, NamespaceWithin, OptionWithin, AreScopes, AttributeRow, attribute_rows}
+use Rattle.rox_tables.specs.Scopes.{ArePlaces, PrefixesOnce}
 use Rattle.rox_tables.specs.TagScopes.{lists_in, HasBindings}
 use Rattle.rox_tables.specs.declared.tables.ElementData.{ElementData}
 use Rattle.rox_tables.specs.declared.tables.ElementTables.{ElementTables}
@@ -27,12 +27,12 @@ pub record HasAttributes (old new : List AttributeRow) (names : List NamespaceDe
 
 -- An element of this name and with these attributes, which lists this scope.
 pub record IsElement (old new : ElementTables) (e : ElementData) (scope : List NamespaceDecl) (name : Name) (written : List Attribute) : Type 0 where
-  pub attributes : HasAttributes (attribute_rows old.attributes) (attribute_rows new.attributes) (map declaration new.namespaces.items.items) scope written
+  pub attributes : HasAttributes (attribute_rows old.attributes) (attribute_rows new.attributes) (map namespace_view new.namespaces.items.items) scope written
   pub attributes_from : e.attributes_from ≡ length (attribute_rows old.attributes)
   pub attributes_until : e.attributes_until ≡ length (attribute_rows new.attributes)
   pub few : length (attribute_rows new.attributes) ≤ most_attributes
   pub local : e.local.now ≡ name.local
-  pub namespace : option_map (λ i. (entry (map declaration new.namespaces.items.items) i).uri) e.namespace ≡ element_namespace scope name
+  pub namespace : option_map (λ i. (namespace_at (map namespace_view new.namespaces.items.items) i).uri) e.namespace ≡ element_namespace scope name
   pub namespace_within : OptionWithin (length new.namespaces.items.items) e.namespace
   pub scope_within : e.scope < length new.scopes.items
   pub lists : scope_at (lists_in new) e.scope ≡ scope
@@ -41,14 +41,14 @@ pub record IsElement (old new : ElementTables) (e : ElementData) (scope : List N
 pub record Tagged (old new : ElementTables) (t : StartTag) (above : List NamespaceDecl) (tag : Tag) : Type 0 where
   pub name : name_view t.name ≡ tag.name
   pub name_end : t.name_end ≡ tag.name_end
-  pub names : map declaration new.namespaces.items.items ≡ with_new (map declaration old.namespaces.items.items) (listable tag)
+  pub names : map namespace_view new.namespaces.items.items ≡ with_new (map namespace_view old.namespaces.items.items) (listable tag)
   pub few : length new.namespaces.items.items ≤ most_pairs
   pub more : List (List NamespaceDecl)
   pub lists_more : lists_in new ≡ lists_in old ++ more
   pub places : ArePlaces (length new.namespaces.items.items) new.listed.items
   pub scopes : AreScopes (length new.listed.items) new.scopes.items
   pub kept : HasBindings new
-  pub once : Once (scope_at (lists_in new) t.element.scope)
+  pub once : PrefixesOnce (scope_at (lists_in new) t.element.scope)
   pub element : IsElement old new t.element (listed above tag.declarations) tag.name tag.attributes
 
 -- a start tag was read, unless memory ran out

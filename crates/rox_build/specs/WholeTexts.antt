@@ -16,7 +16,7 @@ use Rattle.rox_reading.specs.Doctype.{Dtd}
 use Rattle.rox_reading.specs.Answering.{left_with, Yields}
 use Rattle.rox_reading.specs.WholeText.{misc, prolog, doctype, body, finished, has_doctype, reading}
 use Rattle.rox_scan.specs.declared.cursor.Cursor.{Cursor}
-use Rattle.rox_build.specs.Asking.{IsRead}
+use Rattle.rox_build.specs.Asking.{IsDoctypeRead}
 use Rattle.rox_values.specs.Refusals.{IsRefusal}
 use Rattle.rox_build.specs.BuilderState.{Represents}
 use Rattle.rox_build.specs.declared.builder.Builder.{Builder}
@@ -32,8 +32,8 @@ abbrev pub beginning : ℕ → List ℕ → Result State Fault
 beginning limit src = prolog src (after_bom src) >>= λ i. misc limit (length src) src (start_state i)
 
 -- it was read, with what follows it, or does not stand there
-pub record IsDoctypeRead (limit end : ℕ) (allow : Bool) (src : List ℕ) (d : Dtd) (c : Cursor) (b : Builder) (es : Entities) (asked : List Asked) (some : Bool) : Type 0 where
-  pub read : IsRead limit end (λ replies. doctype limit allow src (left_with replies d)) c b es asked
+pub record IsDoctypeReadTo (limit end : ℕ) (allow : Bool) (src : List ℕ) (d : Dtd) (c : Cursor) (b : Builder) (es : Entities) (asked : List Asked) (some : Bool) : Type 0 where
+  pub read : IsDoctypeRead limit end (λ replies. doctype limit allow src (left_with replies d)) c b es asked
   pub told : some ≡ at word.DoctypeStart src d.state.at
 
 -- the root element and what follows it

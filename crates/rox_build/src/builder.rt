@@ -129,7 +129,7 @@ impl<'input> Builder<'input> {
     ghost use Rattle.rox_values.specs.Values.{piece_view};
     ghost use Rattle.rox_build.specs.BuilderState.{Represents, RepresentsFlushed, IsNode, IsOpening, AreSound, Adds, IsConsistent, names_in, opened_in, last_row};
     ghost use Rattle.rox_tables.specs.Rows.{HoldsTree, attribute_rows};
-    ghost use Rattle.rox_tables.specs.Scopes.{Once};
+    ghost use Rattle.rox_tables.specs.Scopes.{PrefixesOnce};
     ghost use Rattle.rox_build.specs.ElementRow.{scope_in_tables};
     ghost use Rattle.rox_grammar.specs.Tree.{document_tree};
     ghost use Rattle.rox_build.specs.declared.builder.OpenElement.{OpenElement};
@@ -197,7 +197,7 @@ impl<'input> Builder<'input> {
         ensures value { IsConsistent self.now.tables self.now.opened.items → (end : ℕ) (stack : Open) (done : Forest Item) → Represents end stack done self.now
             → scope_in_tables self.now.tables result ≡ scope_of stack }
         ensures within { IsConsistent self.now.tables self.now.opened.items → result < length self.now.tables.scopes.items }
-        ensures once { IsConsistent self.now.tables self.now.opened.items → Once (scope_in_tables self.now.tables result) }
+        ensures once { IsConsistent self.now.tables self.now.opened.items → PrefixesOnce (scope_in_tables self.now.tables result) }
     {
         match self.opened.last() {
             Some(element) => element.scope,

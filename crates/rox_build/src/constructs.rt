@@ -121,8 +121,8 @@ fn comment_or_section<'input>(
 }
 
 /// The fault of a start tag that is cut off by the end of the text.
-fn cut_off(builder: &Builder<'_>, how: Context<'_, '_>) -> Fault
-    ensures { (end : ℕ) (stack : Open) (done : Forest Item) → Represents end stack done builder.now → result ≡ machine.cut_off how.entry.main stack }
+fn cut_off_fault(builder: &Builder<'_>, how: Context<'_, '_>) -> Fault
+    ensures { (end : ℕ) (stack : Open) (done : Forest Item) → Represents end stack done builder.now → result ≡ machine.cut_off_fault how.entry.main stack }
 {
     if !how.main {
         Fault::UnexpectedEndOfStream
@@ -149,7 +149,7 @@ pub fn element<'input>(
     ensures source { cursor.new.text ≡ cursor.old.text }
 {
     let start = cursor.pos;
-    let cut = cut_off(builder, how);
+    let cut = cut_off_fault(builder, how);
     let left = builder.left;
     let above = builder.scope();
     let tag = start_tag(

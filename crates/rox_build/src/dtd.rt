@@ -10,7 +10,7 @@ ghost use Rattle.rox_reading.specs.Doctype.{Asks, Dtd};
 ghost use Rattle.rox_reading.specs.Answering.{left_with};
 ghost use Rattle.rox_resolver.specs.Requests.{Reply, Allows, MayAsk};
 ghost use Rattle.rox_scan.specs.DoctypeViews.{definition_view, request_view};
-ghost use Rattle.rox_build.specs.Asking.{AskOutcome, IsDefined, IsEntityRead, IsSubsetSoFar, IsRead, ItemOutcome};
+ghost use Rattle.rox_build.specs.Asking.{AskOutcome, IsDefined, IsEntityRead, IsSubsetSoFar, IsDoctypeRead, ItemOutcome};
 ghost use Rattle.rox_values.specs.DeclaredEntities.{AreDeclared};
 ghost use Rattle.rox_build.specs.BuilderState.{IsConsistent, IsInState};
 
@@ -140,7 +140,7 @@ fn subset<'input, R: EntityResolver<'input>>(
     requires fine { IsConsistent builder.old.tables builder.old.opened.items }
     ensures value { (limit end : ℕ) (d : Dtd) → IsInState limit end d.state cursor.old builder.old → AreDeclared d.entities entities.old
         → AskOutcome (Allows R.allows resolver.now) (λ replies. reading.subset limit start (length cursor.old.text.now) cursor.old.text.now (left_with replies d))
-        (λ asked x. IsRead limit end (λ replies. reading.subset limit start (length cursor.old.text.now) cursor.old.text.now (left_with replies d)) cursor.new builder.new entities.new asked) result }
+        (λ asked x. IsDoctypeRead limit end (λ replies. reading.subset limit start (length cursor.old.text.now) cursor.old.text.now (left_with replies d)) cursor.new builder.new entities.new asked) result }
     ensures fine { OnOk result (IsConsistent builder.new.tables builder.new.opened.items) }
     ensures source { cursor.new.text ≡ cursor.old.text }
 {
@@ -168,7 +168,7 @@ pub fn document_type<'input, R: EntityResolver<'input>>(
     requires fine { IsConsistent builder.old.tables builder.old.opened.items }
     ensures value { (limit end : ℕ) (d : Dtd) → IsInState limit end d.state cursor.old builder.old → AreDeclared d.entities entities.old
         → AskOutcome (Allows R.allows resolver.now) (λ replies. reading.doctype_step limit cursor.old.text.now (left_with replies d))
-        (λ asked x. IsRead limit end (λ replies. reading.doctype_step limit cursor.old.text.now (left_with replies d)) cursor.new builder.new entities.new asked) result }
+        (λ asked x. IsDoctypeRead limit end (λ replies. reading.doctype_step limit cursor.old.text.now (left_with replies d)) cursor.new builder.new entities.new asked) result }
     ensures fine { OnOk result (IsConsistent builder.new.tables builder.new.opened.items) }
     ensures source { cursor.new.text ≡ cursor.old.text }
 {

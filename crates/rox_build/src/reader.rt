@@ -14,7 +14,7 @@ ghost use Rattle.rox_reading.specs.Answering.{left_with};
 ghost use Rattle.rox_resolver.specs.Requests.{Allows, MayAsk};
 ghost use Rattle.rox_build.specs.Asking.{AskOutcome};
 ghost use Rattle.rox_build.specs.Built.{Built, BuiltRefusal};
-ghost use Rattle.rox_build.specs.WholeTexts.{Finishes, IsDoctypeRead, IsWholeRead, beginning, root_read, start_state};
+ghost use Rattle.rox_build.specs.WholeTexts.{Finishes, IsDoctypeReadTo, IsWholeRead, beginning, root_read, start_state};
 
 use crate::builder::Builder;
 use crate::constructs::{comment, element, instruction};
@@ -89,7 +89,7 @@ fn body<'input>(
 }
 
 /// The XML declaration, if it stands here, and the comments, processing instructions and white space behind it.
-fn lead<'input>(
+fn prolog_start<'input>(
     alloc: Global,
     cursor: &mut Cursor<'input>,
     builder: &mut Builder<'input>,
@@ -118,7 +118,7 @@ fn doctype<'input, R: EntityResolver<'input>>(
     requires fine { IsConsistent builder.old.tables builder.old.opened.items }
     ensures value { (limit end : ℕ) (d : Dtd) → IsInState limit end d.state cursor.old builder.old → AreDeclared d.entities entities.old
         → AskOutcome (Allows R.allows resolver.now) (λ replies. whole.doctype limit allow cursor.old.text.now (left_with replies d))
-        (λ asked some. IsDoctypeRead limit end allow cursor.old.text.now d cursor.new builder.new entities.new asked some) result }
+        (λ asked some. IsDoctypeReadTo limit end allow cursor.old.text.now d cursor.new builder.new entities.new asked some) result }
     ensures fine { OnOk result (IsConsistent builder.new.tables builder.new.opened.items) }
     ensures source { cursor.new.text ≡ cursor.old.text }
 {
@@ -172,7 +172,7 @@ fn document<'input, R: EntityResolver<'input>>(
     ensures fine { OnOk result (IsConsistent builder.new.tables builder.new.opened.items) }
 {
     let mut entities: Entities<'input> = Entities::new(alloc);
-    lead(alloc, cursor, builder)?;
+    prolog_start(alloc, cursor, builder)?;
     let dtd = doctype(alloc, cursor, builder, &mut entities, allow, resolver)?;
     rest(alloc, cursor, builder, &entities)?;
     Ok(dtd)

@@ -12,8 +12,8 @@ ghost use Rattle.rox_grammar.specs.Entities.{Entity};
 ghost use Rattle.rox_values.specs.DeclaredEntities.{AreDeclared, values_in};
 ghost use Rattle.rox_values.specs.Values.{piece_view};
 ghost use Rattle.rox_tables.specs.Storage.{storage_bytes, is_borrowed};
-ghost use Rattle.rox_tables.specs.Rows.{declaration, scope_at, AreScopes, attribute_rows};
-ghost use Rattle.rox_tables.specs.Scopes.{ArePlaces, Once, entries};
+ghost use Rattle.rox_tables.specs.Rows.{namespace_view, scope_at, AreScopes, attribute_rows};
+ghost use Rattle.rox_tables.specs.Scopes.{ArePlaces, PrefixesOnce, entries};
 ghost use Rattle.rox_tables.specs.PrefixSet.{IsPrefixSet};
 ghost use Rattle.rox_tables.specs.TagDeclarations.{Declares, unresolved_view};
 ghost use Rattle.rox_build.specs.TagState.{HoldsTag, AddsAttribute, AddsAttributes, one_more};
@@ -87,7 +87,7 @@ pub fn stored<'input>(
 
 /// One attribute or declaration as written, which ends at `end`; `own` is where the listed places of the tag begin. Answers
 /// whether the tag declares `xml` now, and how many replacement texts may be opened behind it, where so many could before.
-fn take<'input>(
+fn add_attribute<'input>(
     alloc: Global,
     text: &'input str,
     raw: &RawAttribute<'input>,
@@ -105,22 +105,22 @@ fn take<'input>(
     requires places { ArePlaces (length elements.old.namespaces.items.items) elements.old.listed.items }
     requires own { own ≤ length elements.old.listed.items }
     requires few { length elements.old.namespaces.items.items ≤ most_pairs }
-    requires many { IsPrefixSet (map declaration elements.old.namespaces.items.items) (drop own elements.old.listed.items) buffers.old.many.keys }
-    requires once { Once (entries (map declaration elements.old.namespaces.items.items) (drop own elements.old.listed.items)) }
+    requires many { IsPrefixSet (map namespace_view elements.old.namespaces.items.items) (drop own elements.old.listed.items) buffers.old.many.keys }
+    requires once { PrefixesOnce (entries (map namespace_view elements.old.namespaces.items.items) (drop own elements.old.listed.items)) }
     requires scopes { AreScopes own elements.old.scopes.items }
     requires kept { HasBindings elements.old }
     ensures places { OnOk result (ArePlaces (length elements.new.namespaces.items.items) elements.new.listed.items) }
     ensures own { OnOk result (own ≤ length elements.new.listed.items) }
     ensures few { OnOk result (length elements.new.namespaces.items.items ≤ most_pairs) }
-    ensures many { OnOk result (IsPrefixSet (map declaration elements.new.namespaces.items.items) (drop own elements.new.listed.items) buffers.new.many.keys) }
-    ensures once { OnOk result (Once (entries (map declaration elements.new.namespaces.items.items) (drop own elements.new.listed.items))) }
+    ensures many { OnOk result (IsPrefixSet (map namespace_view elements.new.namespaces.items.items) (drop own elements.new.listed.items) buffers.new.many.keys) }
+    ensures once { OnOk result (PrefixesOnce (entries (map namespace_view elements.new.namespaces.items.items) (drop own elements.new.listed.items))) }
     ensures kept { OnOk result (HasBindings elements.new) }
     ensures scopes { elements.new.scopes ≡ elements.old.scopes }
     ensures lists { OnOk result (lists_in elements.new ≡ lists_in elements.old) }
     ensures attributes { elements.new.attributes ≡ elements.old.attributes }
     ensures took { (es : List Entity) (known : List NamespaceDecl) (before : List ℕ) (h : TagSoFar) → AreDeclared es how.entry.entities.now → own ≡ length before
-        → HoldsTag known before (map declaration elements.old.namespaces.items.items) elements.old.listed.items xml buffers.old.taken.items h
-        → AddsAttribute known before (map declaration elements.new.namespaces.items.items) elements.new.listed.items buffers.new.taken.items result (one_more (values_in es how.entry) known text.now (attribute_view raw.now) left h) }
+        → HoldsTag known before (map namespace_view elements.old.namespaces.items.items) elements.old.listed.items xml buffers.old.taken.items h
+        → AddsAttribute known before (map namespace_view elements.new.namespaces.items.items) elements.new.listed.items buffers.new.taken.items result (one_more (values_in es how.entry) known text.now (attribute_view raw.now) left h) }
 {
     let (piece, left) = value(text, raw, how, left, &mut buffers.scratch)?;
     let value = stored(alloc, piece, buffers.scratch.as_str())?;
@@ -175,23 +175,23 @@ fn attributes<'input>(
     requires places { ArePlaces (length elements.old.namespaces.items.items) elements.old.listed.items }
     requires own { own ≤ length elements.old.listed.items }
     requires few { length elements.old.namespaces.items.items ≤ most_pairs }
-    requires many { IsPrefixSet (map declaration elements.old.namespaces.items.items) (drop own elements.old.listed.items) buffers.old.many.keys }
-    requires once { Once (entries (map declaration elements.old.namespaces.items.items) (drop own elements.old.listed.items)) }
+    requires many { IsPrefixSet (map namespace_view elements.old.namespaces.items.items) (drop own elements.old.listed.items) buffers.old.many.keys }
+    requires once { PrefixesOnce (entries (map namespace_view elements.old.namespaces.items.items) (drop own elements.old.listed.items)) }
     requires scopes { AreScopes own elements.old.scopes.items }
     requires kept { HasBindings elements.old }
     ensures places { OnOk result (ArePlaces (length elements.new.namespaces.items.items) elements.new.listed.items) }
     ensures own { OnOk result (own ≤ length elements.new.listed.items) }
     ensures few { OnOk result (length elements.new.namespaces.items.items ≤ most_pairs) }
-    ensures many { OnOk result (IsPrefixSet (map declaration elements.new.namespaces.items.items) (drop own elements.new.listed.items) buffers.new.many.keys) }
-    ensures once { OnOk result (Once (entries (map declaration elements.new.namespaces.items.items) (drop own elements.new.listed.items))) }
+    ensures many { OnOk result (IsPrefixSet (map namespace_view elements.new.namespaces.items.items) (drop own elements.new.listed.items) buffers.new.many.keys) }
+    ensures once { OnOk result (PrefixesOnce (entries (map namespace_view elements.new.namespaces.items.items) (drop own elements.new.listed.items))) }
     ensures kept { OnOk result (HasBindings elements.new) }
     ensures scopes { elements.new.scopes ≡ elements.old.scopes }
     ensures lists { OnOk result (lists_in elements.new ≡ lists_in elements.old) }
     ensures attributes { elements.new.attributes ≡ elements.old.attributes }
     ensures source { cursor.new.text ≡ cursor.old.text }
     ensures took { (es : List Entity) (known : List NamespaceDecl) (before : List ℕ) (h : TagSoFar) → AreDeclared es how.entry.entities.now → own ≡ length before
-        → HoldsTag known before (map declaration elements.old.namespaces.items.items) elements.old.listed.items false buffers.old.taken.items h
-        → AddsAttributes known before (map declaration elements.new.namespaces.items.items) elements.new.listed.items buffers.new.taken.items cursor.new result
+        → HoldsTag known before (map namespace_view elements.old.namespaces.items.items) elements.old.listed.items false buffers.old.taken.items h
+        → AddsAttributes known before (map namespace_view elements.new.namespaces.items.items) elements.new.listed.items buffers.new.taken.items cursor.new result
         (attributes_at (length cursor.old.text.now) (values_in es how.entry) cut known cursor.old.text.now cursor.old.pos left h) }
 {
     let mut xml = false;
@@ -200,9 +200,9 @@ fn attributes<'input>(
         if cursor.is_at_end() {
             return Err(ParseError::Fault(cut));
         }
-        match cursor.turn()? {
+        match cursor.tag_item()? {
             TagItem::More(raw) => {
-                (xml, left) = take(
+                (xml, left) = add_attribute(
                     alloc,
                     cursor.text,
                     &raw,
@@ -299,12 +299,12 @@ pub fn start_tag<'input>(
     requires few_attributes { length (attribute_rows elements.old.attributes) ≤ most_attributes }
     requires scopes { AreScopes (length elements.old.listed.items) elements.old.scopes.items }
     requires above { above < length elements.old.scopes.items }
-    requires once { Once (scope_in_tables elements.old above) }
+    requires once { PrefixesOnce (scope_in_tables elements.old above) }
     requires kept { HasBindings elements.old }
     ensures source { cursor.new.text ≡ cursor.old.text }
     ensures starts { IfOk result (λ t. t.name_start ≡ cursor.old.pos + 1) }
     ensures value { (es : List Entity) → AreDeclared es how.entry.entities.now → GivesTag elements.old elements.new cursor.new result (scope_in_tables elements.old above)
-        (tag_at (values_in es how.entry) cut (scope_in_tables elements.old above) (length (attribute_rows elements.old.attributes)) (map declaration elements.old.namespaces.items.items) cursor.old.text.now cursor.old.pos left) }
+        (tag_at (values_in es how.entry) cut (scope_in_tables elements.old above) (length (attribute_rows elements.old.attributes)) (map namespace_view elements.old.namespaces.items.items) cursor.old.text.now cursor.old.pos left) }
 {
     let small = byte_count(cursor.text);
     cursor.advance();

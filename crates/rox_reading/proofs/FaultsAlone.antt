@@ -18,7 +18,7 @@ use Rattle.rox_reading.specs.State.{State, depth_of}
 use Rattle.rox_reading.specs.Markup.{TagItem, more, opened, closed, tag_item_at}
 use Rattle.rox_reading.specs.Values.{Bit, bytes_of, opens, Next, at_end, opening, data_part, part_text, raw_character_data_at, value_bit_at, ValueInclusion, after_value_bit, value_text, value_at}
 use Rattle.rox_reading.specs.Tags.{TagSoFar, Values, TagRest, after_tag_item, attributes_at, taken, attribute_with, tag_tested, tag_at}
-use Rattle.rox_reading.specs.Machine.{Context, with_piece, after_part, data_parts, character_data_step, cut_off, tag_step, step, drive, text_ends, drive_text, budget, value_opener, values_of, opener, main_text}
+use Rattle.rox_reading.specs.Machine.{Context, with_piece, after_part, data_parts, character_data_step, cut_off_fault, tag_step, step, drive, text_ends, drive_text, budget, value_opener, values_of, opener, main_text}
 use Rattle.rox_reading.specs.WholeText.{misc, body}
 
 -- it is no refusal of the resolver
@@ -122,7 +122,7 @@ module _ (how : Context) (values_alone : (t : Replacement) (j l : ℕ) → Alone
   tag_step_alone : (src : List ℕ) (s : State) → Alone State (tag_step how src s)
   unfolding tag_step
   tag_step_alone src s =
-      alone_bind _ _ (tag_alone how.values values_alone (cut_off how.values.main s.stack) (scope_of s.stack) (attributes_so_far s.stack s.done) (distinct_pairs (pairs_so_far s.stack s.done)) src s.at s.left) (λ x. alone_lifted _)
+      alone_bind _ _ (tag_alone how.values values_alone (cut_off_fault how.values.main s.stack) (scope_of s.stack) (attributes_so_far s.stack s.done) (distinct_pairs (pairs_so_far s.stack s.done)) src s.at s.left) (λ x. alone_lifted _)
 
   step_alone : (src : List ℕ) (s : State) → Alone State (step how src s)
   unfolding step

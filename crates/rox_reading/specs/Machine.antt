@@ -74,10 +74,10 @@ character_data_step how src s =
     if is_verbatim x.0 then lifted (with_item how.limit s x.1 (Text s.at x.1 x.0 true)) else data_parts how (length src) src s.at x.1 s
 
 -- a tag that is cut off by the end of the text right behind its name or an attribute
-abbrev pub cut_off : (main : Bool) → Open → Fault
-cut_off true root = fault.NoRootNode
-cut_off true (inside start tag before up) = fault.UnclosedRootNode
-cut_off false stack = fault.UnexpectedEndOfStream
+abbrev pub cut_off_fault : (main : Bool) → Open → Fault
+cut_off_fault true root = fault.NoRootNode
+cut_off_fault true (inside start tag before up) = fault.UnclosedRootNode
+cut_off_fault false stack = fault.UnexpectedEndOfStream
 
 abbrev pub opened_by : ℕ → State → Tag → Bool → ℕ → ℕ → Result State Fault
 opened_by limit s t true left j = with_item limit (record { at = s.at; done = s.done; stack = s.stack; left = left }) j (Element s.at j t)
@@ -85,7 +85,7 @@ opened_by limit s t false left j = counted limit (record { at = j; done = Nil; s
 
 unfoldable pub tag_step : Context → List ℕ → State → Result State Refusal
 tag_step how src s =
-    tag_at how.values (cut_off how.values.main s.stack) (scope_of s.stack) (attributes_so_far s.stack s.done) (distinct_pairs (pairs_so_far s.stack s.done)) src s.at s.left
+    tag_at how.values (cut_off_fault how.values.main s.stack) (scope_of s.stack) (attributes_so_far s.stack s.done) (distinct_pairs (pairs_so_far s.stack s.done)) src s.at s.left
     >>= λ x. lifted (opened_by how.limit s x.0.tag x.0.empty x.0.left x.1)
 
 -- where a name is written that ends at n, in a tag whose name may begin at i: without the colon if there is no prefix

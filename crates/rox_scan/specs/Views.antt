@@ -9,7 +9,7 @@ use Rattle.rox_scan.specs.declared.markup.Instruction.{Instruction}
 use Rattle.rox_scan.specs.declared.markup.EndTag.{EndTag}
 use Rattle.rox_scan.specs.declared.markup.RawAttribute.{RawAttribute}
 use Rattle.rox_scan.specs.declared.markup.TagItem.{TagItem}
-use Rattle.rox_scan.specs.declared.markup.TagItem.TheVariants as turn
+use Rattle.rox_scan.specs.declared.markup.TagItem.TheVariants as item
 
 abbrev pub text_view : Option (Bor (List ℕ)) → Option (List ℕ)
 text_view o = option_map (λ x. x.now) o
@@ -24,9 +24,9 @@ abbrev pub attribute_view : RawAttribute → markup.RawAttribute
 attribute_view a = record { start = a.start; name = name_view a.name; name_end = a.name_end; value_start = a.value_start; value_end = a.value_end }
 
 abbrev pub tag_item_view : TagItem → markup.TagItem
-tag_item_view (turn.More a) = markup.more (attribute_view a)
-tag_item_view turn.Open = markup.opened
-tag_item_view turn.Empty = markup.closed
+tag_item_view (item.More a) = markup.more (attribute_view a)
+tag_item_view item.Open = markup.opened
+tag_item_view item.Empty = markup.closed
 
 -- the attribute's value is what stands between two places of the text
 pub record HasValue (text : List ℕ) (a : RawAttribute) : Type 0 where
@@ -39,6 +39,6 @@ pub record HasValue (text : List ℕ) (a : RawAttribute) : Type 0 where
 
 -- the same of an attribute that a start tag holds next
 abbrev pub TagItemHasValue : List ℕ → TagItem → Type 0
-TagItemHasValue text (turn.More a) = HasValue text a
-TagItemHasValue text turn.Open = Unit {0}
-TagItemHasValue text turn.Empty = Unit {0}
+TagItemHasValue text (item.More a) = HasValue text a
+TagItemHasValue text item.Open = Unit {0}
+TagItemHasValue text item.Empty = Unit {0}

@@ -284,7 +284,7 @@ impl<'input> Cursor<'input> {
     /// without white space before it is a fault.
     #[inline]
     #[tactic(auto, unfolding(rox_reading::specs::Markup::tag_item_at))]
-    pub fn turn(&mut self) -> Result<TagItem<'input>, Fault>
+    pub fn tag_item(&mut self) -> Result<TagItem<'input>, Fault>
         ensures value { Reads tag_item_view self.new result (spec.tag_item_at self.old.text.now self.old.pos) }
         ensures source { self.new.text ≡ self.old.text }
         ensures onward { self.old.pos ≤ self.new.pos }

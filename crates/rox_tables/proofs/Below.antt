@@ -15,12 +15,12 @@ use Rattle.rox_tables.specs.declared.tables.Scope.TheVariants as scope
 use Rattle.rox_tables.specs.declared.tables.Stretch.{Stretch}
 use Rattle.rox_tables.specs.declared.tables.ElementTables.{ElementTables}
 use Rattle.rox_tables.specs.declared.bindings.PrefixBindings.{PrefixBindings}
-use Rattle.rox_tables.specs.Rows.{declaration, entry, lists_of, scope_at, AreRows, AreScopes}
-use Rattle.rox_tables.specs.Scopes.{entries, places_in, ArePlaces, Once, others, unlisted, is_few_at}
+use Rattle.rox_tables.specs.Rows.{namespace_view, namespace_at, lists_of, scope_at, AreRows, AreScopes}
+use Rattle.rox_tables.specs.Scopes.{entries, places_in, ArePlaces, PrefixesOnce, others, unlisted, is_few_at}
 use Rattle.rox_tables.specs.Ropes.{IsRope, IsListed}
 use Rattle.rox_tables.specs.Bindings.{AreBindingsOf, IsBound, IsEntered, bound_place}
 use Rattle.rox_tables.specs.TagScopes.{HasScope, HasBindings, HasBindingsOf, lists_in}
-use Rattle.rox_tables.proofs.Pairs.{place_at, entry-get, declared_none}
+use Rattle.rox_tables.proofs.Pairs.{place_at, namespace_at-get, declared_none}
 use Rattle.rox_reading.proofs.Stretches.{slice-more, slice-rest}
 use Rattle.rox_tables.proofs.Presenting.{keeps_grown}
 use Rattle.rox_tables.proofs.Hiding.{others_more, others_none, others_xml, absent_others, once_both}
@@ -41,21 +41,21 @@ hides_none names listed scopes i own h lt =
     same_listed names listed scopes i (others (entries names (slice_range listed own own)) false ds) h lt (sym (ap (λ xs. others (entries names xs) false ds) nothing ∙ others_none ds))
 
 pub hides_more : (rows : List Namespace) (listed : List ℕ) (old mid new : List Scope) (own turn place left next : ℕ) (item : Namespace) (p : Option (List ℕ)) (ds : List NamespaceDecl)
-    → own ≤ turn → turn < length listed → ArePlaces (length rows) listed → place ≡ get_or listed turn 0 → p ≡ (declaration (get_or rows place item)).prefix
-    → IsListed (map declaration rows) listed old listed mid left (others (entries (map declaration rows) (slice_range listed own turn)) false ds)
-    → IsListed (map declaration rows) listed mid listed new next (unlisted p (entries (map declaration rows) (places_in listed mid left)))
-    → IsListed (map declaration rows) listed old listed new next (others (entries (map declaration rows) (slice_range listed own (turn + 1))) false ds)
+    → own ≤ turn → turn < length listed → ArePlaces (length rows) listed → place ≡ get_or listed turn 0 → p ≡ (namespace_view (get_or rows place item)).prefix
+    → IsListed (map namespace_view rows) listed old listed mid left (others (entries (map namespace_view rows) (slice_range listed own turn)) false ds)
+    → IsListed (map namespace_view rows) listed mid listed new next (unlisted p (entries (map namespace_view rows) (places_in listed mid left)))
+    → IsListed (map namespace_view rows) listed old listed new next (others (entries (map namespace_view rows) (slice_range listed own (turn + 1))) false ds)
 hides_more rows listed old mid new own turn place left next item p ds le lt ok same is x y =
-    let names = map declaration rows in
+    let names = map namespace_view rows in
     let seen = slice_range listed own turn in
     let last = get_or listed turn 0 in
     let here : place < length rows = subst (λ i. i < length rows) (sym same) (place_at (length rows) listed turn 0 ok lt) in
-    let prefix : p ≡ (entry names last).prefix = is ∙ ap (λ (d : NamespaceDecl). d.prefix) (sym (entry-get rows place item here)) ∙ ap (λ i. (entry names i).prefix) same in
-    let more : entries names (slice_range listed own (turn + 1)) ≡ entries names seen ++ entry names last ∷ [] =
-    ap (entries names) (slice-more listed own turn 0 le lt) ∙ map-append (entry names) seen (last ∷ []) in
+    let prefix : p ≡ (namespace_at names last).prefix = is ∙ ap (λ (d : NamespaceDecl). d.prefix) (sym (namespace_at-get rows place item here)) ∙ ap (λ i. (namespace_at names i).prefix) same in
+    let more : entries names (slice_range listed own (turn + 1)) ≡ entries names seen ++ namespace_at names last ∷ [] =
+    ap (entries names) (slice-more listed own turn 0 le lt) ∙ map-append (namespace_at names) seen (last ∷ []) in
     listed_is names listed listed old new next (unlisted p (entries names (places_in listed mid left))) (others (entries names (slice_range listed own (turn + 1))) false ds)
     (listed_then names listed old mid new left next (others (entries names seen) false ds) (unlisted p (entries names (places_in listed mid left))) x y)
-    (ap (unlisted p) x.lists ∙ ap (λ q. unlisted q (others (entries names seen) false ds)) prefix ∙ others_more (entries names seen) (entry names last) ds ∙ ap (λ xs. others xs false ds) (sym more))
+    (ap (unlisted p) x.lists ∙ ap (λ q. unlisted q (others (entries names seen) false ds)) prefix ∙ others_more (entries names seen) (namespace_at names last) ds ∙ ap (λ xs. others xs false ds) (sym more))
 
 pub hides_all : (listed : List ℕ) (own turn : ℕ) → length listed ≤ turn → slice_range listed own turn ≡ drop own listed
 hides_all listed own turn le = take_all (turn - own) (drop own listed) (rw length-drop (omega arith))
@@ -82,7 +82,7 @@ hides_own names listed old mid own turn left xml ds le off x =
 pub absent_bound : (names : List NamespaceDecl) (f : Option (List ℕ) → Option ℕ) (own ds left : List NamespaceDecl) (xml : Bool) (p : Option (List ℕ)) → IsBound names f ds → left ≡ others own xml ds → f p ≡ None
     → is_declared p left ≡ false
 absent_bound names f own ds left xml p h e none =
-    ap (is_declared p) e ∙ absent_others own xml p ds (declared_none ds p (sym (h.uris p) ∙ ap (option_map (λ i. (entry names i).uri)) none))
+    ap (is_declared p) e ∙ absent_others own xml p ds (declared_none ds p (sym (h.uris p) ∙ ap (option_map (λ i. (namespace_at names i).uri)) none))
 
 -- ---- rows of both
 
@@ -103,7 +103,7 @@ joined_listed names listed after old mid next new rest first i os ds x y z =
       rows_grown = z.grown ∙ ap (λ xs. xs ++ z.more) y.rows_grown ∙ append_assoc mid y.more_rows z.more ∙ ap (λ xs. xs ++ (y.more_rows ++ z.more)) x.rows_grown ∙ append_assoc old x.more_rows (y.more_rows ++ z.more);
       scopes_are = record { rows = z.rows; within = z.ends (length after) y.scopes_are.within };
       within = z.within;
-      lists = ap (entries names) (z.lists after y.scopes_are) ∙ map-append (entry names) (places_in after next first) (places_in after next rest)
+      lists = ap (entries names) (z.lists after y.scopes_are) ∙ map-append (namespace_at names) (places_in after next first) (places_in after next rest)
           ∙ ap (λ xs. xs ++ entries names (places_in after next rest)) y.lists ∙ ap (λ xs. ds ++ xs) kept;
     }
 
@@ -136,17 +136,17 @@ few_lists names ls scopes i s rows lt e = sym (scope_places names ls scopes i �
 
 -- it has become the innermost
 pub stood_in : (names seen : List Namespace) (ls seen_ls : List ℕ) (scopes seen_scopes : List Scope) (x y : PrefixBindings) (i : ℕ) → seen ≡ names → seen_ls ≡ ls → seen_scopes ≡ scopes
-    → (AreBindingsOf (map declaration seen) (lists_of (map declaration seen) seen_ls seen_scopes) x
-    → AreBindingsOf (map declaration seen) (lists_of (map declaration seen) seen_ls seen_scopes) y × IsBound (map declaration seen) (bound_place y) (scope_at (lists_of (map declaration seen) seen_ls seen_scopes) i))
-    → AreBindingsOf (map declaration names) (lists_of (map declaration names) ls scopes) x
-    → AreBindingsOf (map declaration names) (lists_of (map declaration names) ls scopes) y × IsBound (map declaration names) (bound_place y) (scope_at (lists_of (map declaration names) ls scopes) i)
+    → (AreBindingsOf (map namespace_view seen) (lists_of (map namespace_view seen) seen_ls seen_scopes) x
+    → AreBindingsOf (map namespace_view seen) (lists_of (map namespace_view seen) seen_ls seen_scopes) y × IsBound (map namespace_view seen) (bound_place y) (scope_at (lists_of (map namespace_view seen) seen_ls seen_scopes) i))
+    → AreBindingsOf (map namespace_view names) (lists_of (map namespace_view names) ls scopes) x
+    → AreBindingsOf (map namespace_view names) (lists_of (map namespace_view names) ls scopes) y × IsBound (map namespace_view names) (bound_place y) (scope_at (lists_of (map namespace_view names) ls scopes) i)
 stood_in names seen ls seen_ls scopes seen_scopes x y i n l s f = rw (sym n, sym l, sym s) f
 
 pub entered_in : (names seen : List Namespace) (ls seen_ls : List ℕ) (x y : PrefixBindings) (from until i : ℕ) (xml : Bool) → seen ≡ names → seen_ls ≡ ls
-    → ((lists : List (List NamespaceDecl)) (above : List NamespaceDecl) → AreBindingsOf (map declaration seen) lists x → IsBound (map declaration seen) (bound_place x) above
-    → IsEntered (entries (map declaration seen) (reverse (slice_range seen_ls from until))) xml above lists i → AreBindingsOf (map declaration seen) lists y × IsBound (map declaration seen) (bound_place y) (scope_at lists i))
-    → (lists : List (List NamespaceDecl)) (above : List NamespaceDecl) → AreBindingsOf (map declaration names) lists x → IsBound (map declaration names) (bound_place x) above
-    → IsEntered (entries (map declaration names) (reverse (slice_range ls from until))) xml above lists i → AreBindingsOf (map declaration names) lists y × IsBound (map declaration names) (bound_place y) (scope_at lists i)
+    → ((lists : List (List NamespaceDecl)) (above : List NamespaceDecl) → AreBindingsOf (map namespace_view seen) lists x → IsBound (map namespace_view seen) (bound_place x) above
+    → IsEntered (entries (map namespace_view seen) (reverse (slice_range seen_ls from until))) xml above lists i → AreBindingsOf (map namespace_view seen) lists y × IsBound (map namespace_view seen) (bound_place y) (scope_at lists i))
+    → (lists : List (List NamespaceDecl)) (above : List NamespaceDecl) → AreBindingsOf (map namespace_view names) lists x → IsBound (map namespace_view names) (bound_place x) above
+    → IsEntered (entries (map namespace_view names) (reverse (slice_range ls from until))) xml above lists i → AreBindingsOf (map namespace_view names) lists y × IsBound (map namespace_view names) (bound_place y) (scope_at lists i)
 entered_in names seen ls seen_ls x y from until i xml n l f = rw (sym n, sym l) f
 
 pub entered : (names : List NamespaceDecl) (listed after : List ℕ) (scopes rows : List Scope) (i own from until : ℕ) (xml : Bool) (above : List NamespaceDecl) → after ≡ listed ++ reverse (drop own listed) → from ≡ length listed → until ≡ length after
@@ -167,15 +167,15 @@ entered names listed after scopes rows i own from until xml above grown begins e
 
 -- what the scope lists that has this place
 pub has_scope : (o n : ElementTables) (above own i : ℕ) (xml : Bool) → n.namespaces ≡ o.namespaces → ArePlaces (length o.namespaces.items.items) o.listed.items → AreScopes own o.scopes.items → own ≤ length o.listed.items
-    → Once (scope_at (lists_in o) above) → Once (entries (map declaration o.namespaces.items.items) (drop own o.listed.items)) → HasBindings n → HasBindingsOf n i
-    → IsListed (map declaration o.namespaces.items.items) o.listed.items o.scopes.items n.listed.items n.scopes.items i
-    (entries (map declaration o.namespaces.items.items) (drop own o.listed.items) ++ others (entries (map declaration o.namespaces.items.items) (drop own o.listed.items)) xml (scope_at (lists_in o) above))
+    → PrefixesOnce (scope_at (lists_in o) above) → PrefixesOnce (entries (map namespace_view o.namespaces.items.items) (drop own o.listed.items)) → HasBindings n → HasBindingsOf n i
+    → IsListed (map namespace_view o.namespaces.items.items) o.listed.items o.scopes.items n.listed.items n.scopes.items i
+    (entries (map namespace_view o.namespaces.items.items) (drop own o.listed.items) ++ others (entries (map namespace_view o.namespaces.items.items) (drop own o.listed.items)) xml (scope_at (lists_in o) above))
     → HasScope o n above own xml i
 has_scope o n above own i xml same ok scopes le once own_once kept present x =
-    let names = map declaration o.namespaces.items.items in
+    let names = map namespace_view o.namespaces.items.items in
     let mine = entries names (drop own o.listed.items) in
-    let names_are = ap (λ v. map declaration v.items.items) same in
-    let m = length-map o.namespaces.items.items declaration in
+    let names_are = ap (λ v. map namespace_view v.items.items) same in
+    let m = length-map o.namespaces.items.items namespace_view in
     let h = scopes_more own (length o.listed.items) o.scopes.items le scopes in
     let l = lists_then names o.listed.items n.listed.items o.scopes.items n.scopes.items i (mine ++ others mine xml (scope_at (lists_in o) above)) h x in
     let lists : scope_at (lists_in n) i ≡ mine ++ others mine xml (scope_at (lists_in o) above) =
@@ -187,7 +187,7 @@ has_scope o n above own i xml same ok scopes le once own_once kept present x =
       scopes = x.scopes_are;
       within = x.within;
       lists = lists;
-      once = subst Once (sym lists) (once_both mine xml (scope_at (lists_in o) above) own_once once);
+      once = subst PrefixesOnce (sym lists) (once_both mine xml (scope_at (lists_in o) above) own_once once);
       kept = kept;
       present = present;
     }

@@ -16,9 +16,9 @@ use Rattle.rox_grammar.specs.Failures.{Fails}
 use Rattle.rox_grammar.specs.declared.failure.Failure.{Failure}
 use Rattle.rox_grammar.specs.declared.failure.Failure.TheVariants as failure
 use Rattle.rox_tables.specs.declared.tables.Namespace.{Namespace}
-use Rattle.rox_tables.specs.Rows.{declaration, entry, lists_of, AreScopes}
+use Rattle.rox_tables.specs.Rows.{namespace_view, namespace_at, lists_of, AreScopes}
 use Rattle.rox_tables.specs.PrefixSet.{IsPrefixSet}
-use Rattle.rox_tables.specs.Scopes.{entries, others, ArePlaces, Once}
+use Rattle.rox_tables.specs.Scopes.{entries, others, ArePlaces, PrefixesOnce}
 use Rattle.rox_tables.specs.TagDeclarations.{declares_xml, Declares, Declared}
 use Rattle.rox_tables.specs.declared.tables.Scope.{Scope}
 use Rattle.rox_tables.specs.declared.tables.ElementTables.{ElementTables}
@@ -30,7 +30,7 @@ use Rattle.rox_tables.proofs.Remembering.{Key, remembers_same}
 use Rattle.rox_tables.proofs.Listing.{with_new-append, with_new-more, with_new-front, declares_nothing, listed-none, listed-others}
 use Rattle.rox_tables.proofs.Hiding.{once_more}
 use Rattle.rox_reading.proofs.Stretches.{slice-rest}
-use Rattle.rox_tables.proofs.Stable.{all_append, all_drop, all_weaker, map_same, entry-append}
+use Rattle.rox_tables.proofs.Stable.{all_append, all_drop, all_weaker, map_same, namespace_at-append}
 use Rattle.rox_tables.proofs.Ropes.{lists-append, scopes_more}
 
 -- the URI is refused
@@ -104,7 +104,7 @@ declares_prefix_xml known before names listed xml a h d uri new is =
 -- another one, whose place is pushed onto the listed places
 pub declares_other : (known : List NamespaceDecl) (before : List ℕ) (names next : List NamespaceDecl) (listed after : List ℕ) (xml : Bool) (a : Attribute) (h : TagSoFar) (place : ℕ)
     → Declares known before names listed xml h.own → uri_tested a ≡ Ok tt → is_declared (namespace_decl_of a).prefix h.own ≡ false → is_xml (namespace_decl_of a).prefix ≡ false
-    → next ≡ with_new names (namespace_decl_of a ∷ []) → length next ≤ most_pairs → place < length next → entry next place ≡ namespace_decl_of a → after ≡ listed ++ place ∷ []
+    → next ≡ with_new names (namespace_decl_of a ∷ []) → length next ≤ most_pairs → place < length next → namespace_at next place ≡ namespace_decl_of a → after ≡ listed ++ place ∷ []
     → Declared known before next after (Ok xml) h (declared known a h)
 declares_other known before names next listed after xml a h place d uri new is grown few here at push =
     let one = namespace_decl_of a in
@@ -115,7 +115,7 @@ declares_other known before names next listed after xml a h place d uri new is g
     let next_is : next ≡ names ++ front.0 = grown ∙ front.1 in
     let long : length next ≡ length names + length front.0 = ap length next_is ∙ length-append names front.0 in
     let stays : entries next d.mine ≡ entries names d.mine =
-    ap (λ ns. entries ns d.mine) next_is ∙ map_same (entry (names ++ front.0)) (entry names) (λ i. i < length names) d.mine (entry-append names front.0) d.places in (
+    ap (λ ns. entries ns d.mine) next_is ∙ map_same (namespace_at (names ++ front.0)) (namespace_at names) (λ i. i < length names) d.mine (namespace_at-append names front.0) d.places in (
       h.own ++ one ∷ [],
       declared_new known a h uri new (rw pairs few),
       record {
@@ -125,13 +125,13 @@ declares_other known before names next listed after xml a h place d uri new is g
         mine = d.mine ++ place ∷ [];
         listed_are = push ∙ ap (λ xs. xs ++ place ∷ []) d.listed_are ∙ append_assoc before d.mine (place ∷ []);
         places = all_append (λ i. i < length next) d.mine (place ∷ []) (all_weaker (λ i. i < length names) (λ i. i < length next) d.mine (λ i h. omega arith) d.places) (here, tt);
-        same = entries-push next d.mine place ∙ ap (λ xs. xs ++ entry next place ∷ []) (stays ∙ d.same) ∙ ap (λ x. listable_of h.own ++ x ∷ []) at ∙ sym more;
+        same = entries-push next d.mine place ∙ ap (λ xs. xs ++ namespace_at next place ∷ []) (stays ∙ d.same) ∙ ap (λ x. listable_of h.own ++ x ∷ []) at ∙ sym more;
       },
     )
   where
-    entries-push : (names : List NamespaceDecl) (places : List ℕ) (p : ℕ) → entries names (places ++ p ∷ []) ≡ entries names places ++ entry names p ∷ []
+    entries-push : (names : List NamespaceDecl) (places : List ℕ) (p : ℕ) → entries names (places ++ p ∷ []) ≡ entries names places ++ namespace_at names p ∷ []
     entries-push names [] p = refl
-    entries-push names (x ∷ xs) p = ap (λ ys. entry names x ∷ ys) (entries-push names xs p)
+    entries-push names (x ∷ xs) p = ap (λ ys. namespace_at names x ∷ ys) (entries-push names xs p)
 
 -- what is listed from where the tag began
 pub own_places : (before listed mine : List ℕ) (own : ℕ) → own ≡ length before → listed ≡ before ++ mine → drop own listed ≡ mine
@@ -188,71 +188,71 @@ scope_declared known before names old xml ds above lists own o d is =
     ∙ sym (listed-others above ds)
 
 -- the listed places with one more, where the table has a pair more or is as before
-pub places_after : (old rows : List Namespace) (listed after : List ℕ) (d : NamespaceDecl) (place : ℕ) → map declaration rows ≡ with_new (map declaration old) (d ∷ []) → place < length rows
+pub places_after : (old rows : List Namespace) (listed after : List ℕ) (d : NamespaceDecl) (place : ℕ) → map namespace_view rows ≡ with_new (map namespace_view old) (d ∷ []) → place < length rows
     → after ≡ listed ++ place ∷ [] → ArePlaces (length old) listed → ArePlaces (length rows) after
 places_after old rows listed after d place grown here push ok =
-    let long = length-map rows declaration in
-    let was = length-map old declaration in
-    let more : length old ≤ length rows = omega (arith, with_new-more (map declaration old) (d ∷ []), ap length grown) in
+    let long = length-map rows namespace_view in
+    let was = length-map old namespace_view in
+    let more : length old ≤ length rows = omega (arith, with_new-more (map namespace_view old) (d ∷ []), ap length grown) in
     rw push (all_append (λ i. i < length rows) listed (place ∷ []) (all_weaker (λ i. i < length old) (λ i. i < length rows) listed (λ i h. omega arith) ok) (here, tt))
 
 -- the set of prefixes, where the table has a pair more
-pub remembers_after : (old rows : List Namespace) (listed : List ℕ) (d : NamespaceDecl) (own : ℕ) (keys : List Key) → map declaration rows ≡ with_new (map declaration old) (d ∷ [])
-    → ArePlaces (length old) listed → IsPrefixSet (map declaration old) (drop own listed) keys → IsPrefixSet (map declaration rows) (drop own listed) keys
+pub remembers_after : (old rows : List Namespace) (listed : List ℕ) (d : NamespaceDecl) (own : ℕ) (keys : List Key) → map namespace_view rows ≡ with_new (map namespace_view old) (d ∷ [])
+    → ArePlaces (length old) listed → IsPrefixSet (map namespace_view old) (drop own listed) keys → IsPrefixSet (map namespace_view rows) (drop own listed) keys
 remembers_after old rows listed d own keys grown ok h =
-    let names = map declaration old in
+    let names = map namespace_view old in
     let front = with_new-front names (d ∷ []) in
-    let was = length-map old declaration in
+    let was = length-map old namespace_view in
     let mine : ArePlaces (length names) (drop own listed) = rw was (all_drop (λ i. i < length old) own listed ok) in
-    let stays : entries (map declaration rows) (drop own listed) ≡ entries names (drop own listed) =
-    ap (λ ns. entries ns (drop own listed)) (grown ∙ front.1) ∙ map_same (entry (names ++ front.0)) (entry names) (λ i. i < length names) (drop own listed) (entry-append names front.0) mine in
-    remembers_same names (map declaration rows) (drop own listed) keys stays h
+    let stays : entries (map namespace_view rows) (drop own listed) ≡ entries names (drop own listed) =
+    ap (λ ns. entries ns (drop own listed)) (grown ∙ front.1) ∙ map_same (namespace_at (names ++ front.0)) (namespace_at names) (λ i. i < length names) (drop own listed) (namespace_at-append names front.0) mine in
+    remembers_same names (map namespace_view rows) (drop own listed) keys stays h
 
 -- each prefix is listed once, where one more is listed
-pub once_after : (old rows : List Namespace) (listed after : List ℕ) (d : NamespaceDecl) (place own : ℕ) → map declaration rows ≡ with_new (map declaration old) (d ∷ [])
-    → after ≡ listed ++ place ∷ [] → own ≤ length listed → ArePlaces (length old) listed → entry (map declaration rows) place ≡ d
-    → is_declared d.prefix (entries (map declaration old) (drop own listed)) ≡ false → Once (entries (map declaration old) (drop own listed)) → Once (entries (map declaration rows) (drop own after))
+pub once_after : (old rows : List Namespace) (listed after : List ℕ) (d : NamespaceDecl) (place own : ℕ) → map namespace_view rows ≡ with_new (map namespace_view old) (d ∷ [])
+    → after ≡ listed ++ place ∷ [] → own ≤ length listed → ArePlaces (length old) listed → namespace_at (map namespace_view rows) place ≡ d
+    → is_declared d.prefix (entries (map namespace_view old) (drop own listed)) ≡ false → PrefixesOnce (entries (map namespace_view old) (drop own listed)) → PrefixesOnce (entries (map namespace_view rows) (drop own after))
 once_after old rows listed after d place own grown push own_in ok is absent once =
-    let names = map declaration old in
+    let names = map namespace_view old in
     let front = with_new-front names (d ∷ []) in
-    let was = length-map old declaration in
+    let was = length-map old namespace_view in
     let mine : ArePlaces (length names) (drop own listed) = rw was (all_drop (λ i. i < length old) own listed ok) in
-    let stays : entries (map declaration rows) (drop own listed) ≡ entries names (drop own listed) =
-    ap (λ ns. entries ns (drop own listed)) (grown ∙ front.1) ∙ map_same (entry (names ++ front.0)) (entry names) (λ i. i < length names) (drop own listed) (entry-append names front.0) mine in
-    let whole : entries (map declaration rows) (drop own after) ≡ entries names (drop own listed) ++ d ∷ [] =
-    ap (λ xs. entries (map declaration rows) (drop own xs)) push ∙ ap (entries (map declaration rows)) (drop-append-le own listed (place ∷ []) own_in)
-    ∙ map-append (entry (map declaration rows)) (drop own listed) (place ∷ [])
-    ∙ ap (λ x. entries (map declaration rows) (drop own listed) ++ x ∷ []) is ∙ ap (λ xs. xs ++ d ∷ []) stays in
-    subst Once (sym whole) (once_more (entries names (drop own listed)) d once absent)
+    let stays : entries (map namespace_view rows) (drop own listed) ≡ entries names (drop own listed) =
+    ap (λ ns. entries ns (drop own listed)) (grown ∙ front.1) ∙ map_same (namespace_at (names ++ front.0)) (namespace_at names) (λ i. i < length names) (drop own listed) (namespace_at-append names front.0) mine in
+    let whole : entries (map namespace_view rows) (drop own after) ≡ entries names (drop own listed) ++ d ∷ [] =
+    ap (λ xs. entries (map namespace_view rows) (drop own xs)) push ∙ ap (entries (map namespace_view rows)) (drop-append-le own listed (place ∷ []) own_in)
+    ∙ map-append (namespace_at (map namespace_view rows)) (drop own listed) (place ∷ [])
+    ∙ ap (λ x. entries (map namespace_view rows) (drop own listed) ++ x ∷ []) is ∙ ap (λ xs. xs ++ d ∷ []) stays in
+    subst PrefixesOnce (sym whole) (once_more (entries names (drop own listed)) d once absent)
 
 -- nothing is listed yet
-pub once_none : (names : List NamespaceDecl) (listed : List ℕ) (own : ℕ) → own ≡ length listed → Once (entries names (drop own listed))
-once_none names listed own e = subst (λ n. Once (entries names (drop n listed))) (sym e) (all listed)
+pub once_none : (names : List NamespaceDecl) (listed : List ℕ) (own : ℕ) → own ≡ length listed → PrefixesOnce (entries names (drop own listed))
+once_none names listed own e = subst (λ n. PrefixesOnce (entries names (drop n listed))) (sym e) (all listed)
   where
-    all : (xs : List ℕ) → Once (entries names (drop (length xs) xs))
+    all : (xs : List ℕ) → PrefixesOnce (entries names (drop (length xs) xs))
     all [] = tt
     all (x ∷ xs) = all xs
 
 -- the places of prefixes, where the table has a pair more
-pub kept_after : (old rows : List Namespace) (lists : List (List NamespaceDecl)) (d : NamespaceDecl) (x : PrefixBindings) → map declaration rows ≡ with_new (map declaration old) (d ∷ [])
-    → AreBindingsOf (map declaration old) lists x → AreBindingsOf (map declaration rows) lists x
+pub kept_after : (old rows : List Namespace) (lists : List (List NamespaceDecl)) (d : NamespaceDecl) (x : PrefixBindings) → map namespace_view rows ≡ with_new (map namespace_view old) (d ∷ [])
+    → AreBindingsOf (map namespace_view old) lists x → AreBindingsOf (map namespace_view rows) lists x
 kept_after old rows lists d x grown h =
-    let front = with_new-front (map declaration old) (d ∷ []) in
-    keeps_grown (map declaration old) (map declaration rows) lists lists x front.0 [] (grown ∙ front.1) (sym (append-nil lists)) h
+    let front = with_new-front (map namespace_view old) (d ∷ []) in
+    keeps_grown (map namespace_view old) (map namespace_view rows) lists lists x front.0 [] (grown ∙ front.1) (sym (append-nil lists)) h
 
 -- what scopes list, where the table has a pair more and one more is listed
-pub lists_after : (old rows : List Namespace) (listed after : List ℕ) (d : NamespaceDecl) (place own : ℕ) (scopes : List Scope) → map declaration rows ≡ with_new (map declaration old) (d ∷ [])
+pub lists_after : (old rows : List Namespace) (listed after : List ℕ) (d : NamespaceDecl) (place own : ℕ) (scopes : List Scope) → map namespace_view rows ≡ with_new (map namespace_view old) (d ∷ [])
     → after ≡ listed ++ place ∷ [] → own ≤ length listed → ArePlaces (length old) listed → AreScopes own scopes
-    → lists_of (map declaration rows) after scopes ≡ lists_of (map declaration old) listed scopes
+    → lists_of (map namespace_view rows) after scopes ≡ lists_of (map namespace_view old) listed scopes
 lists_after old rows listed after d place own scopes grown push here ok h =
-    let front = with_new-front (map declaration old) (d ∷ []) in
-    ap (λ ns. lists_of ns after scopes) (grown ∙ front.1) ∙ ap (λ ls. lists_of (map declaration old ++ front.0) ls scopes) push
-    ∙ lists-append (map declaration old) front.0 listed (place ∷ []) scopes (rw (length-map old declaration) ok) (scopes_more own (length listed) scopes here h)
+    let front = with_new-front (map namespace_view old) (d ∷ []) in
+    ap (λ ns. lists_of ns after scopes) (grown ∙ front.1) ∙ ap (λ ls. lists_of (map namespace_view old ++ front.0) ls scopes) push
+    ∙ lists-append (map namespace_view old) front.0 listed (place ∷ []) scopes (rw (length-map old namespace_view) ok) (scopes_more own (length listed) scopes here h)
 
 -- the places of prefixes, where a scope is more
 pub kept_listed : (a b : ElementTables) → b.namespaces ≡ a.namespaces → b.present ≡ a.present → (more : List (List NamespaceDecl)) × (lists_in b ≡ lists_in a ++ more) → HasBindings a → HasBindings b
 kept_listed a b n p (more, l) h =
-    let names = map declaration a.namespaces.items.items in
-    let next = map declaration b.namespaces.items.items in
-    let same : next ≡ names ++ [] = ap (λ v. map declaration v.items.items) n ∙ sym (append-nil names) in
+    let names = map namespace_view a.namespaces.items.items in
+    let next = map namespace_view b.namespaces.items.items in
+    let same : next ≡ names ++ [] = ap (λ v. map namespace_view v.items.items) n ∙ sym (append-nil names) in
     keeps_grown names next (lists_in a) (lists_in b) b.present [] more same l (subst (AreBindingsOf names (lists_in a)) (sym p) h)

@@ -8,7 +8,7 @@ use Rattle.rox_tables.specs.declared.tables.ElementTables.{ElementTables}
 use Rattle.rox_tables.specs.declared.tables.Scope.{Scope}
 use Rattle.rox_tables.specs.declared.tables.Scope.TheVariants as scope
 use Rattle.rox_tables.specs.declared.tables.Stretch.{Stretch}
-use Rattle.rox_tables.specs.Rows.{declaration, scope_at, OptionWithin}
+use Rattle.rox_tables.specs.Rows.{namespace_view, scope_at, OptionWithin}
 use Rattle.rox_tables.specs.Scopes.{entries, places_in, is_few_at, ArePlaces}
 use Rattle.rox_tables.specs.Bindings.{bound_place, IsBound, FindsBinding, LooksWithin, places_view}
 use Rattle.rox_tables.specs.TagScopes.{HasBindingsOf, lists_in}
@@ -36,7 +36,7 @@ pub present_few : (t : ElementTables) (scope : ℕ) → is_few_at t.scopes.items
 unfolding HasBindingsOf
 present_few t scope few = λ many. cc (few, many)
 
-pub present_by : (t : ElementTables) (scope : ℕ) → IsBound (map declaration t.namespaces.items.items) (bound_place t.present) (scope_at (lists_in t) scope) → HasBindingsOf t scope
+pub present_by : (t : ElementTables) (scope : ℕ) → IsBound (map namespace_view t.namespaces.items.items) (bound_place t.present) (scope_at (lists_in t) scope) → HasBindingsOf t scope
 unfolding HasBindingsOf
 present_by t scope h = λ many. h
 
@@ -45,17 +45,17 @@ pub looks_in : (t : ElementTables) (few : Option (Bor (List ℕ))) (scope : ℕ)
     → IfSome few (λ p. p.now ≡ places_in t.listed.items t.scopes.items scope) → IfNone few (is_few_at t.scopes.items scope ≡ false) → HasBindingsOf t scope
     → LooksWithin (length t.namespaces.items.items) (places_view few) t.present
 unfolding HasBindingsOf
-looks_in t None scope all few many h = λ p. subst (λ n. OptionWithin n (bound_place t.present p)) (length-map t.namespaces.items.items declaration) ((h many).within p)
+looks_in t None scope all few many h = λ p. subst (λ n. OptionWithin n (bound_place t.present p)) (length-map t.namespaces.items.items namespace_view) ((h many).within p)
 looks_in t (Some ps) scope all few many h = subst (ArePlaces (length t.namespaces.items.items)) (sym few) (all_places (length t.namespaces.items.items) t.listed.items t.scopes.items scope all)
 
 -- and is what the scope lists
 pub finds_in : (t : ElementTables) (few : Option (Bor (List ℕ))) (scope : ℕ)
     → IfSome few (λ p. p.now ≡ places_in t.listed.items t.scopes.items scope) → IfNone few (is_few_at t.scopes.items scope ≡ false) → HasBindingsOf t scope
-    → FindsBinding (map declaration t.namespaces.items.items) (places_view few) t.present (scope_at (lists_in t) scope)
+    → FindsBinding (map namespace_view t.namespaces.items.items) (places_view few) t.present (scope_at (lists_in t) scope)
 unfolding HasBindingsOf
-finds_in t None scope few many h = finds_bound (map declaration t.namespaces.items.items) t.present (scope_at (lists_in t) scope) (h many)
+finds_in t None scope few many h = finds_bound (map namespace_view t.namespaces.items.items) t.present (scope_at (lists_in t) scope) (h many)
 finds_in t (Some ps) scope few many h =
-    let names = map declaration t.namespaces.items.items in
+    let names = map namespace_view t.namespaces.items.items in
     finds_few names ps.now t.present (scope_at (lists_in t) scope) (scope_places names t.listed.items t.scopes.items scope ∙ ap (entries names) (sym few))
 
 -- ---- as the slices of the tables say it
@@ -70,12 +70,12 @@ looks_for t scopes listed few scope s l all =
 
 pub found_for : (t : ElementTables) (scopes : List Scope) (listed : List ℕ) (few : Option (Bor (List ℕ))) (scope : ℕ) → scopes ≡ t.scopes.items → listed ≡ t.listed.items
     → IfSome few (λ p. p.now ≡ places_in listed scopes scope) → IfNone few (is_few_at scopes scope ≡ false) → HasBindingsOf t scope
-    → FindsBinding (map declaration t.namespaces.items.items) (places_view few) t.present (scope_at (lists_in t) scope)
+    → FindsBinding (map namespace_view t.namespaces.items.items) (places_view few) t.present (scope_at (lists_in t) scope)
 found_for t scopes listed few scope s l =
-    subst (λ xs. IfSome few (λ p. p.now ≡ places_in listed xs scope) → IfNone few (is_few_at xs scope ≡ false) → HasBindingsOf t scope → FindsBinding (map declaration t.namespaces.items.items) (places_view few) t.present (scope_at (lists_in t) scope)) (sym s)
-    (subst (λ xs. IfSome few (λ p. p.now ≡ places_in xs t.scopes.items scope) → IfNone few (is_few_at t.scopes.items scope ≡ false) → HasBindingsOf t scope → FindsBinding (map declaration t.namespaces.items.items) (places_view few) t.present (scope_at (lists_in t) scope)) (sym l)
+    subst (λ xs. IfSome few (λ p. p.now ≡ places_in listed xs scope) → IfNone few (is_few_at xs scope ≡ false) → HasBindingsOf t scope → FindsBinding (map namespace_view t.namespaces.items.items) (places_view few) t.present (scope_at (lists_in t) scope)) (sym s)
+    (subst (λ xs. IfSome few (λ p. p.now ≡ places_in xs t.scopes.items scope) → IfNone few (is_few_at t.scopes.items scope ≡ false) → HasBindingsOf t scope → FindsBinding (map namespace_view t.namespaces.items.items) (places_view few) t.present (scope_at (lists_in t) scope)) (sym l)
     (finds_in t few scope))
 
 pub seen_by : (t : ElementTables) (names : List Namespace) (few : Option (List ℕ)) (ds : List NamespaceDecl) → names ≡ t.namespaces.items.items
-    → FindsBinding (map declaration t.namespaces.items.items) few t.present ds → FindsBinding (map declaration names) few t.present ds
-seen_by t names few ds n h = subst (λ ns. FindsBinding (map declaration ns) few t.present ds) (sym n) h
+    → FindsBinding (map namespace_view t.namespaces.items.items) few t.present ds → FindsBinding (map namespace_view names) few t.present ds
+seen_by t names few ds n h = subst (λ ns. FindsBinding (map namespace_view ns) few t.present ds) (sym n) h

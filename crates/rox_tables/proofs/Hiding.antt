@@ -6,8 +6,8 @@ use Rattle.rox_grammar.specs.Tree.{same_prefix, is_declared}
 use Rattle.rox_grammar.specs.WellNamed.{is_xml}
 use Rattle.rox_grammar.specs.FixedTexts.{word_text}
 use Rattle.rox_grammar.specs.declared.fault.Word.TheVariants.{Xml}
-use Rattle.rox_tables.specs.Rows.{entry}
-use Rattle.rox_tables.specs.Scopes.{entries, others, Once, unlisted}
+use Rattle.rox_tables.specs.Rows.{namespace_at}
+use Rattle.rox_tables.specs.Scopes.{entries, others, PrefixesOnce, unlisted}
 use Rattle.rox_tables.proofs.Leaves.{cut}
 use Rattle.rox_tables.proofs.Listing.{same_prefix-sym}
 use Rattle.rox_tables.proofs.Pairs.{same_prefix-true, same_prefix-refl}
@@ -32,35 +32,35 @@ filtered_none f p (d ∷ ds) h =
     one true r = rw (or_parts (same_prefix d.prefix p) (is_declared p ds) h).0 r
     one false r = r
 
-pub once_filtered : (f : NamespaceDecl → Bool) (ds : List NamespaceDecl) → Once ds → Once (filter f ds)
+pub once_filtered : (f : NamespaceDecl → Bool) (ds : List NamespaceDecl) → PrefixesOnce ds → PrefixesOnce (filter f ds)
 once_filtered f [] h = tt
 once_filtered f (d ∷ ds) (n, h) = one (f d) (filtered_none f d.prefix ds n) (once_filtered f ds h)
   where
-    one : (b : Bool) → is_declared d.prefix (filter f ds) ≡ false → Once (filter f ds) → Once (if b then d ∷ filter f ds else filter f ds)
+    one : (b : Bool) → is_declared d.prefix (filter f ds) ≡ false → PrefixesOnce (filter f ds) → PrefixesOnce (if b then d ∷ filter f ds else filter f ds)
     one true m r = (m, r)
     one false m r = r
 
 -- the one with this prefix is left out alone
-pub unlisted_one : (names : List NamespaceDecl) (places : List ℕ) (i : ℕ) (p : Option (List ℕ)) → Once (entries names places) → i < length places → same_prefix (entry names (get_or places i 0)).prefix p ≡ true
+pub unlisted_one : (names : List NamespaceDecl) (places : List ℕ) (i : ℕ) (p : Option (List ℕ)) → PrefixesOnce (entries names places) → i < length places → same_prefix (namespace_at names (get_or places i 0)).prefix p ≡ true
     → entries names (cut i places) ≡ unlisted p (entries names places)
 unlisted_one names [] i p h lt s = absurd (omega arith)
 unlisted_one names (x ∷ xs) zero p (n, h) lt s =
-    let same : (entry names x).prefix ≡ p = same_prefix-true _ _ s in
+    let same : (namespace_at names x).prefix ≡ p = same_prefix-true _ _ s in
     rw s (sym (unlisted_none p (entries names xs) (ap (λ q. is_declared q (entries names xs)) (sym same) ∙ n)))
 unlisted_one names (x ∷ xs) (suc i) p (n, h) lt s =
-    let other : same_prefix (entry names x).prefix p ≡ false = apart xs i n (omega arith) s in
+    let other : same_prefix (namespace_at names x).prefix p ≡ false = apart xs i n (omega arith) s in
     let next : suc i + 1 ≡ suc (i + 1) = omega arith in
-    rw (other, next) (ap (λ ys. entry names x ∷ ys) (unlisted_one names xs i p h (omega arith) s))
+    rw (other, next) (ap (λ ys. namespace_at names x ∷ ys) (unlisted_one names xs i p h (omega arith) s))
   where
-    apart : (xs : List ℕ) (i : ℕ) → is_declared (entry names x).prefix (entries names xs) ≡ false → i < length xs → same_prefix (entry names (get_or xs i 0)).prefix p ≡ true → same_prefix (entry names x).prefix p ≡ false
+    apart : (xs : List ℕ) (i : ℕ) → is_declared (namespace_at names x).prefix (entries names xs) ≡ false → i < length xs → same_prefix (namespace_at names (get_or xs i 0)).prefix p ≡ true → same_prefix (namespace_at names x).prefix p ≡ false
     apart [] i n lt s = absurd (omega arith)
     apart (y ∷ ys) zero n lt s =
-        let same : (entry names y).prefix ≡ p = same_prefix-true _ _ s in
-        ap (same_prefix (entry names x).prefix) (sym same) ∙ same_prefix-sym (entry names x).prefix (entry names y).prefix ∙ (or_parts _ _ n).0
+        let same : (namespace_at names y).prefix ≡ p = same_prefix-true _ _ s in
+        ap (same_prefix (namespace_at names x).prefix) (sym same) ∙ same_prefix-sym (namespace_at names x).prefix (namespace_at names y).prefix ∙ (or_parts _ _ n).0
     apart (y ∷ ys) (suc i) n lt s = apart ys i (or_parts _ _ n).1 (omega arith) s
 
 -- one more that is not declared yet
-pub once_more : (ds : List NamespaceDecl) (d : NamespaceDecl) → Once ds → is_declared d.prefix ds ≡ false → Once (ds ++ d ∷ [])
+pub once_more : (ds : List NamespaceDecl) (d : NamespaceDecl) → PrefixesOnce ds → is_declared d.prefix ds ≡ false → PrefixesOnce (ds ++ d ∷ [])
 once_more [] d h n = (refl, tt)
 once_more (e ∷ ds) d (m, h) n =
     let o = or_parts (same_prefix e.prefix d.prefix) (is_declared d.prefix ds) n in
@@ -108,7 +108,7 @@ others_none [] = refl
 others_none (d ∷ ds) = ap (λ xs. d ∷ xs) (others_none ds)
 
 -- what is left has each prefix once, and not one that was not declared
-pub once_others : (own : List NamespaceDecl) (xml : Bool) (ds : List NamespaceDecl) → Once ds → Once (others own xml ds)
+pub once_others : (own : List NamespaceDecl) (xml : Bool) (ds : List NamespaceDecl) → PrefixesOnce ds → PrefixesOnce (others own xml ds)
 once_others own xml ds h = once_filtered (λ d. not (is_declared d.prefix own || (xml && is_xml d.prefix))) ds h
 
 pub absent_others : (own : List NamespaceDecl) (xml : Bool) (p : Option (List ℕ)) (ds : List NamespaceDecl) → is_declared p ds ≡ false → is_declared p (others own xml ds) ≡ false
@@ -135,7 +135,7 @@ others_own own xml p (d ∷ ds) h = one (is_declared d.prefix own || (xml && is_
         let other : same_prefix d.prefix p ≡ false = apart (same_prefix d.prefix p) refl (or_parts (is_declared d.prefix own) (xml && is_xml d.prefix) e).0 in
         rw other r
 
-once_append : (xs ys : List NamespaceDecl) → Once xs → Once ys → ((p : Option (List ℕ)) → is_declared p xs ≡ true → is_declared p ys ≡ false) → Once (xs ++ ys)
+once_append : (xs ys : List NamespaceDecl) → PrefixesOnce xs → PrefixesOnce ys → ((p : Option (List ℕ)) → is_declared p xs ≡ true → is_declared p ys ≡ false) → PrefixesOnce (xs ++ ys)
 once_append [] ys h k apart = k
 once_append (x ∷ xs) ys (n, h) k apart =
     let here : is_declared x.prefix ys ≡ false = apart x.prefix (rw (same_prefix-refl x.prefix) refl) in (
@@ -148,5 +148,5 @@ once_append (x ∷ xs) ys (n, h) k apart =
     either false b e = e
 
 -- what an element lists that declares each prefix once
-pub once_both : (own : List NamespaceDecl) (xml : Bool) (ds : List NamespaceDecl) → Once own → Once ds → Once (own ++ others own xml ds)
+pub once_both : (own : List NamespaceDecl) (xml : Bool) (ds : List NamespaceDecl) → PrefixesOnce own → PrefixesOnce ds → PrefixesOnce (own ++ others own xml ds)
 once_both own xml ds h k = once_append own (others own xml ds) h (once_others own xml ds k) (λ p s. others_own own xml p ds s)

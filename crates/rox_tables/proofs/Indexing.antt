@@ -17,7 +17,7 @@ use Rattle.rox_grammar.specs.Tree.{same_prefix}
 use Rattle.rox_grammar.specs.Document.{same_pair, has_pair}
 use Rattle.rox_tables.specs.declared.namespace_table.Key.{Key}
 use Rattle.rox_tables.specs.declared.tables.Namespace.{Namespace}
-use Rattle.rox_tables.specs.Rows.{declaration, entry}
+use Rattle.rox_tables.specs.Rows.{namespace_view, namespace_at}
 use Rattle.rox_tables.specs.PairIndex.{pair_cmp, key_cmp, few_pairs, place_of, place_behind, place_among}
 use Rattle.rox_tables.proofs.Pairs.{same_pair-true}
 
@@ -42,12 +42,12 @@ neither : (a b : Bool) → (a || b) ≡ false → (a ≡ false) × (b ≡ false)
 neither false b h = (refl, h)
 neither true b h = cc h
 
-placed : (names : List NamespaceDecl) (d : NamespaceDecl) → IfSome (place_of names d) (λ i. (i < length names) × (entry names i ≡ d) × (has_pair names d ≡ true))
+placed : (names : List NamespaceDecl) (d : NamespaceDecl) → IfSome (place_of names d) (λ i. (i < length names) × (namespace_at names i ≡ d) × (has_pair names d ≡ true))
 placed [] d = tt
 placed (n ∷ names) d = by (same_pair n d) refl (place_of names d) (placed names d)
   where
-    by : (b : Bool) → same_pair n d ≡ b → (o : Option ℕ) → IfSome o (λ i. (i < length names) × (entry names i ≡ d) × (has_pair names d ≡ true))
-        → IfSome (cond b (Some 0) (option_map suc o)) (λ i. (i < suc (length names)) × (entry (n ∷ names) i ≡ d) × (has_pair (n ∷ names) d ≡ true))
+    by : (b : Bool) → same_pair n d ≡ b → (o : Option ℕ) → IfSome o (λ i. (i < length names) × (namespace_at names i ≡ d) × (has_pair names d ≡ true))
+        → IfSome (cond b (Some 0) (option_map suc o)) (λ i. (i < suc (length names)) × (namespace_at (n ∷ names) i ≡ d) × (has_pair (n ∷ names) d ≡ true))
     by true e o h = (omega arith, same_pair-true n d e, rw e refl)
     by false e None h = tt
     by false e (Some i) (lt, is, has) = (omega arith, is, or_right (same_pair n d) _ has)
@@ -61,17 +61,17 @@ unplaced (n ∷ names) d = by (same_pair n d) refl (place_of names d) (unplaced 
     by false e None h = rw (e, h) refl
     by false e (Some i) h = tt
 
-pub placed_row : (rows : List Namespace) (d : NamespaceDecl) (i : ℕ) → Some i ≡ place_of (map declaration rows) d
-    → (i < length rows) × (entry (map declaration rows) i ≡ d) × (has_pair (map declaration rows) d ≡ true)
+pub placed_row : (rows : List Namespace) (d : NamespaceDecl) (i : ℕ) → Some i ≡ place_of (map namespace_view rows) d
+    → (i < length rows) × (namespace_at (map namespace_view rows) i ≡ d) × (has_pair (map namespace_view rows) d ≡ true)
 placed_row rows d i e =
-    let names = map declaration rows in
-    let p = subst (λ (o : Option ℕ). IfSome o (λ i. (i < length names) × (entry names i ≡ d) × (has_pair names d ≡ true))) (sym e) (placed names d) in
-    let l = length-map rows declaration in
+    let names = map namespace_view rows in
+    let p = subst (λ (o : Option ℕ). IfSome o (λ i. (i < length names) × (namespace_at names i ≡ d) × (has_pair names d ≡ true))) (sym e) (placed names d) in
+    let l = length-map rows namespace_view in
     let lt = p.0 in
     (omega arith, p.1, p.2)
 
-pub unplaced_row : (rows : List Namespace) (d : NamespaceDecl) → None ≡ place_of (map declaration rows) d → has_pair (map declaration rows) d ≡ false
-unplaced_row rows d e = subst (λ (o : Option ℕ). IfNone o (has_pair (map declaration rows) d ≡ false)) (sym e) (unplaced (map declaration rows) d)
+pub unplaced_row : (rows : List Namespace) (d : NamespaceDecl) → None ≡ place_of (map namespace_view rows) d → has_pair (map namespace_view rows) d ≡ false
+unplaced_row rows d e = subst (λ (o : Option ℕ). IfNone o (has_pair (map namespace_view rows) d ≡ false)) (sym e) (unplaced (map namespace_view rows) d)
 
 absent_place : (names : List NamespaceDecl) (d : NamespaceDecl) → has_pair names d ≡ false → place_of names d ≡ None
 absent_place [] d h = refl
@@ -84,7 +84,7 @@ inner_none None h = refl
 inner_none (Some i) h = cc h
 
 -- the first that is the same
-pub place_here : (names : List NamespaceDecl) (k : ℕ) (d : NamespaceDecl) → k < length names → place_of (take k names) d ≡ None → same_pair (entry names k) d ≡ true → place_of names d ≡ Some k
+pub place_here : (names : List NamespaceDecl) (k : ℕ) (d : NamespaceDecl) → k < length names → place_of (take k names) d ≡ None → same_pair (namespace_at names k) d ≡ true → place_of names d ≡ Some k
 place_here [] k d lt none same = absurd (omega arith)
 place_here (n ∷ names) zero d lt none same = rw same refl
 place_here (n ∷ names) (suc k) d lt none same = by (same_pair n d) refl (λ inner. place_here names k d (omega arith) inner same)
@@ -94,7 +94,7 @@ place_here (n ∷ names) (suc k) d lt none same = by (same_pair n d) refl (λ in
     by false e more = rw (e, more (inner_none (place_of (take k names) d) (rw e at none))) refl
 
 -- one more that is another
-pub place_on : (names : List NamespaceDecl) (k : ℕ) (d : NamespaceDecl) → k < length names → place_of (take k names) d ≡ None → same_pair (entry names k) d ≡ false → place_of (take (suc k) names) d ≡ None
+pub place_on : (names : List NamespaceDecl) (k : ℕ) (d : NamespaceDecl) → k < length names → place_of (take k names) d ≡ None → same_pair (namespace_at names k) d ≡ false → place_of (take (suc k) names) d ≡ None
 place_on [] k d lt none other = absurd (omega arith)
 place_on (n ∷ names) zero d lt none other = rw other refl
 place_on (n ∷ names) (suc k) d lt none other = by (same_pair n d) refl (λ inner. place_on names k d (omega arith) inner other)
@@ -148,35 +148,35 @@ none_behind names d few = ap (λ ds. option_map (λ i. few_pairs + i) (place_of 
 
 -- where few are looked for one after another, and the others behind them
 
-pub row_in : (rows : List Namespace) (d : NamespaceDecl) (i k : ℕ) → Some i ≡ place_of (map declaration (take k rows)) d
-    → (i < length rows) × (entry (map declaration rows) i ≡ d) × (has_pair (map declaration rows) d ≡ true)
-row_in rows d i k e = placed_row rows d i (sym (place_front k (map declaration rows) d i (ap (λ ds. place_of ds d) (take-map declaration k rows) ∙ sym e)))
+pub row_in : (rows : List Namespace) (d : NamespaceDecl) (i k : ℕ) → Some i ≡ place_of (map namespace_view (take k rows)) d
+    → (i < length rows) × (namespace_at (map namespace_view rows) i ≡ d) × (has_pair (map namespace_view rows) d ≡ true)
+row_in rows d i k e = placed_row rows d i (sym (place_front k (map namespace_view rows) d i (ap (λ ds. place_of ds d) (take-map namespace_view k rows) ∙ sym e)))
 
-not_in : (rows : List Namespace) (d : NamespaceDecl) (k : ℕ) → k ≤ few_pairs → (k < few_pairs → length rows ≤ k) → None ≡ place_of (map declaration (take k rows)) d
-    → place_of (map declaration rows) d ≡ place_behind (map declaration rows) d
+not_in : (rows : List Namespace) (d : NamespaceDecl) (k : ℕ) → k ≤ few_pairs → (k < few_pairs → length rows ≤ k) → None ≡ place_of (map namespace_view (take k rows)) d
+    → place_of (map namespace_view rows) d ≡ place_behind (map namespace_view rows) d
 not_in rows d k few all none = by (cases_lt k few_pairs)
   where
     names : List NamespaceDecl
-    names = map declaration rows
+    names = map namespace_view rows
 
     front : place_of (take k names) d ≡ None
-    front = ap (λ ds. place_of ds d) (take-map declaration k rows) ∙ sym none
+    front = ap (λ ds. place_of ds d) (take-map namespace_view k rows) ∙ sym none
 
     by : (k < few_pairs) ⊎ (few_pairs ≤ k) → place_of names d ≡ place_behind names d
     by (inl lt) =
-        let l = length-map rows declaration in
+        let l = length-map rows namespace_view in
         let short = all lt in
         place_back k names d front ∙ ap (λ ds. option_map (λ i. k + i) (place_of ds d)) (drop_all k names (omega arith)) ∙ sym (none_behind names d (omega arith))
     by (inr ge) = let same : k ≡ few_pairs = omega arith in subst (λ n. place_of names d ≡ option_map (λ i. n + i) (place_of (drop n names) d)) same (place_back k names d front)
 
-pub row_behind : (rows : List Namespace) (d : NamespaceDecl) (k : ℕ) (o : Option ℕ) → k ≤ few_pairs → (k < few_pairs → length rows ≤ k) → None ≡ place_of (map declaration (take k rows)) d
-    → o ≡ place_behind (map declaration rows) d
-    → IfSome o (λ i. (i < length rows) × (entry (map declaration rows) i ≡ d) × (has_pair (map declaration rows) d ≡ true))
+pub row_behind : (rows : List Namespace) (d : NamespaceDecl) (k : ℕ) (o : Option ℕ) → k ≤ few_pairs → (k < few_pairs → length rows ≤ k) → None ≡ place_of (map namespace_view (take k rows)) d
+    → o ≡ place_behind (map namespace_view rows) d
+    → IfSome o (λ i. (i < length rows) × (namespace_at (map namespace_view rows) i ≡ d) × (has_pair (map namespace_view rows) d ≡ true))
 row_behind rows d k None few all none is = tt
 row_behind rows d k (Some i) few all none is = placed_row rows d i (is ∙ sym (not_in rows d k few all none))
 
-pub row_nowhere : (rows : List Namespace) (d : NamespaceDecl) (k : ℕ) (o : Option ℕ) → k ≤ few_pairs → (k < few_pairs → length rows ≤ k) → None ≡ place_of (map declaration (take k rows)) d
-    → o ≡ place_behind (map declaration rows) d → IfNone o (has_pair (map declaration rows) d ≡ false)
+pub row_nowhere : (rows : List Namespace) (d : NamespaceDecl) (k : ℕ) (o : Option ℕ) → k ≤ few_pairs → (k < few_pairs → length rows ≤ k) → None ≡ place_of (map namespace_view (take k rows)) d
+    → o ≡ place_behind (map namespace_view rows) d → IfNone o (has_pair (map namespace_view rows) d ≡ false)
 row_nowhere rows d k None few all none is = unplaced_row rows d (is ∙ sym (not_in rows d k few all none))
 row_nowhere rows d k (Some i) few all none is = tt
 
@@ -201,19 +201,19 @@ lookup_same f g [] h = refl
 lookup_same f g (e ∷ es) h = rw (h e.0, lookup_same f g es h) refl
 
 -- what a look-up in the map says
-pub looked : (k : Key) (es : List (Key × ℕ)) → lookup (is_at (key_cmp k)) es ≡ place_among es (declaration k.namespace)
-looked k es = lookup_same (is_at (key_cmp k)) (λ x. same_pair (declaration k.namespace) (declaration x.namespace)) es (λ x. sym (pair_ties (declaration k.namespace) (declaration x.namespace)))
+pub looked : (k : Key) (es : List (Key × ℕ)) → lookup (is_at (key_cmp k)) es ≡ place_among es (namespace_view k.namespace)
+looked k es = lookup_same (is_at (key_cmp k)) (λ x. same_pair (namespace_view k.namespace) (namespace_view x.namespace)) es (λ x. sym (pair_ties (namespace_view k.namespace) (namespace_view x.namespace)))
 
-among_inserted : (k : Key) (v : ℕ) (d : NamespaceDecl) (es : List (Key × ℕ)) → place_among es (declaration k.namespace) ≡ None
-    → place_among (insert_entry key_cmp es k v) d ≡ cond (same_pair d (declaration k.namespace)) (Some v) (place_among es d)
+among_inserted : (k : Key) (v : ℕ) (d : NamespaceDecl) (es : List (Key × ℕ)) → place_among es (namespace_view k.namespace) ≡ None
+    → place_among (insert_entry key_cmp es k v) d ≡ cond (same_pair d (namespace_view k.namespace)) (Some v) (place_among es d)
 among_inserted k v d [] h = refl
-among_inserted k v d (e ∷ es) h = at_first (same_pair (declaration k.namespace) (declaration e.0.namespace)) refl (key_cmp k e.0) refl (among_inserted k v d es)
+among_inserted k v d (e ∷ es) h = at_first (same_pair (namespace_view k.namespace) (namespace_view e.0.namespace)) refl (key_cmp k e.0) refl (among_inserted k v d es)
   where
     mine : NamespaceDecl
-    mine = declaration k.namespace
+    mine = namespace_view k.namespace
 
     its : NamespaceDecl
-    its = declaration e.0.namespace
+    its = namespace_view e.0.namespace
 
     rest_none : same_pair mine its ≡ false → place_among es mine ≡ None
     rest_none x = rw x at h
@@ -244,14 +244,14 @@ absent_behind (suc k) [] d h = refl
 absent_behind (suc k) (n ∷ names) d h = absent_behind k names d (neither (same_pair n d) (has_pair names d) h).1
 
 -- the map of a table with one more behind the first few
-pub found_more : (rows : List Namespace) (row : Namespace) (es : List (Key × ℕ)) (k : Key) → few_pairs ≤ length rows → ((d : NamespaceDecl) → place_among es d ≡ place_behind (map declaration rows) d)
-    → has_pair (map declaration rows) (declaration k.namespace) ≡ false → declaration row ≡ declaration k.namespace
-    → (d : NamespaceDecl) → place_among (insert_entry key_cmp es k (length rows)) d ≡ place_behind (map declaration (rows ++ row ∷ [])) d
+pub found_more : (rows : List Namespace) (row : Namespace) (es : List (Key × ℕ)) (k : Key) → few_pairs ≤ length rows → ((d : NamespaceDecl) → place_among es d ≡ place_behind (map namespace_view rows) d)
+    → has_pair (map namespace_view rows) (namespace_view k.namespace) ≡ false → namespace_view row ≡ namespace_view k.namespace
+    → (d : NamespaceDecl) → place_among (insert_entry key_cmp es k (length rows)) d ≡ place_behind (map namespace_view (rows ++ row ∷ [])) d
 found_more rows row es k many h absent same d =
-    let names = map declaration rows in
-    let mine = declaration k.namespace in
+    let names = map namespace_view rows in
+    let mine = namespace_view k.namespace in
     let behind = drop few_pairs names in
-    let l = length-map rows declaration in
+    let l = length-map rows namespace_view in
     let gone = absent_behind few_pairs names mine absent in
     let none : place_among es mine ≡ None = h mine ∙ ap (option_map (λ i. few_pairs + i)) (absent_place behind mine gone) in
     let rest : few_pairs + length behind ≡ length rows = let r = length-drop few_pairs names in omega arith in
@@ -260,7 +260,7 @@ found_more rows row es k many h absent same d =
     ∙ rw (same_pair-sym d mine, sym rest) (inside (same_pair mine d) (length behind) (place_of behind d))
     ∙ sym (ap (option_map (λ i. few_pairs + i)) (place_push behind mine d gone))
     ∙ ap (λ ds. option_map (λ i. few_pairs + i) (place_of ds d)) (sym (drop-append-le few_pairs names (mine ∷ []) (omega arith)))
-    ∙ ap (λ ds. place_behind ds d) (sym (map-append declaration rows (row ∷ []) ∙ ap (λ x. names ++ x ∷ []) same))
+    ∙ ap (λ ds. place_behind ds d) (sym (map-append namespace_view rows (row ∷ []) ∙ ap (λ x. names ++ x ∷ []) same))
   where
     inside : (b : Bool) (i : ℕ) (o : Option ℕ) → cond b (Some (few_pairs + i)) (option_map (λ j. few_pairs + j) o) ≡ option_map (λ j. few_pairs + j) (cond b (Some i) o)
     inside true i o = refl
@@ -276,15 +276,15 @@ found_more rows row es k many h absent same d =
         by false p true q = let e = same_pair-true y x q in let again : same_pair x y ≡ true = subst (λ (w : NamespaceDecl). same_pair w y ≡ true) e (subst (λ (w : NamespaceDecl). same_pair y w ≡ true) (sym e) q) in cc (p, again)
 
 -- the row that was put at the end, where memory did not run out
-pub row_last : {E : Type 0} (r : Result ℕ E) (rows new : List Namespace) (d : NamespaceDecl) → OnOk r (map declaration new ≡ map declaration rows ++ d ∷ []) → IfOk r (λ i. i ≡ length rows)
-    → IfOk r (λ i. (i < length new) × (entry (map declaration new) i ≡ d))
+pub row_last : {E : Type 0} (r : Result ℕ E) (rows new : List Namespace) (d : NamespaceDecl) → OnOk r (map namespace_view new ≡ map namespace_view rows ++ d ∷ []) → IfOk r (λ i. i ≡ length rows)
+    → IfOk r (λ i. (i < length new) × (namespace_at (map namespace_view new) i ≡ d))
 row_last (Err e) rows new d more last = tt
 row_last (Ok i) rows new d more last =
-    let l = length-map rows declaration in
-    let m = length-map new declaration in
-    let n = ap length more ∙ length-append (map declaration rows) (d ∷ []) in
-    (omega arith, rw (more, last, ← l) (entry-last (map declaration rows) d))
+    let l = length-map rows namespace_view in
+    let m = length-map new namespace_view in
+    let n = ap length more ∙ length-append (map namespace_view rows) (d ∷ []) in
+    (omega arith, rw (more, last, ← l) (namespace_at-last (map namespace_view rows) d))
   where
-    entry-last : (names : List NamespaceDecl) (d : NamespaceDecl) → entry (names ++ d ∷ []) (length names) ≡ d
-    entry-last [] d = refl
-    entry-last (n ∷ names) d = entry-last names d
+    namespace_at-last : (names : List NamespaceDecl) (d : NamespaceDecl) → namespace_at (names ++ d ∷ []) (length names) ≡ d
+    namespace_at-last [] d = refl
+    namespace_at-last (n ∷ names) d = namespace_at-last names d

@@ -8,17 +8,17 @@ use Rattle.rox_grammar.specs.Tree.{is_declared}
 use Rattle.rox_grammar.specs.WellNamed.{is_xml}
 use Rattle.rox_reading.proofs.Stretches.{slice-more, slice-rest}
 use Rattle.rox_tables.specs.declared.tables.Namespace.{Namespace}
-use Rattle.rox_tables.specs.Rows.{declaration, entry}
+use Rattle.rox_tables.specs.Rows.{namespace_view, namespace_at}
 use Rattle.rox_tables.specs.Scopes.{entries, ArePlaces, others}
 use Rattle.rox_tables.proofs.Stable.{slice-append, all_append}
-use Rattle.rox_tables.proofs.Pairs.{place_at, entry-get}
+use Rattle.rox_tables.proofs.Pairs.{place_at, namespace_at-get}
 
 pub record Inherited (rows : List Namespace) (old : List ℕ) (own : ℕ) (xml : Bool) (from turn end : ℕ) (now : List ℕ) : Type 0 where
   pub end_is : end ≡ length old
   pub more : List ℕ
   pub now_is : now ≡ old ++ more
   pub places : ArePlaces (length rows) more
-  pub same : entries (map declaration rows) more ≡ others (entries (map declaration rows) (drop own old)) xml (entries (map declaration rows) (slice_range old from turn))
+  pub same : entries (map namespace_view rows) more ≡ others (entries (map namespace_view rows) (drop own old)) xml (entries (map namespace_view rows) (slice_range old from turn))
 
 pub get_or-front : {A : Type 0} (xs ys : List A) (k : ℕ) (d : A) → k < length xs → get_or (xs ++ ys) k d ≡ get_or xs k d
 get_or-front [] ys k d h = absurd (omega arith)
@@ -32,46 +32,46 @@ begins rows old own xml from end e =
 
 -- one more of the parent's
 step : (rows : List Namespace) (old : List ℕ) (own : ℕ) (xml : Bool) (from turn : ℕ) → from ≤ turn → turn < length old
-    → others (entries (map declaration rows) (drop own old)) xml (entries (map declaration rows) (slice_range old from (turn + 1)))
-    ≡ others (entries (map declaration rows) (drop own old)) xml (entries (map declaration rows) (slice_range old from turn))
-    ++ others (entries (map declaration rows) (drop own old)) xml (entry (map declaration rows) (get_or old turn 0) ∷ [])
+    → others (entries (map namespace_view rows) (drop own old)) xml (entries (map namespace_view rows) (slice_range old from (turn + 1)))
+    ≡ others (entries (map namespace_view rows) (drop own old)) xml (entries (map namespace_view rows) (slice_range old from turn))
+    ++ others (entries (map namespace_view rows) (drop own old)) xml (namespace_at (map namespace_view rows) (get_or old turn 0) ∷ [])
 step rows old own xml from turn le lt =
-    let names = map declaration rows in
+    let names = map namespace_view rows in
     let mine = entries names (drop own old) in
     ap (λ xs. others mine xml (entries names xs)) (slice-more old from turn 0 le lt)
-    ∙ ap (others mine xml) (map-append (entry names) (slice_range old from turn) (get_or old turn 0 ∷ []))
-    ∙ filter-append (λ d. not (is_declared d.prefix mine || (xml && is_xml d.prefix))) (entries names (slice_range old from turn)) (entry names (get_or old turn 0) ∷ [])
+    ∙ ap (others mine xml) (map-append (namespace_at names) (slice_range old from turn) (get_or old turn 0 ∷ []))
+    ∙ filter-append (λ d. not (is_declared d.prefix mine || (xml && is_xml d.prefix))) (entries names (slice_range old from turn)) (namespace_at names (get_or old turn 0) ∷ [])
 
 -- it is not declared, and is listed
 pub lists : (rows : List Namespace) (old : List ℕ) (own : ℕ) (xml : Bool) (from turn end place : ℕ) (now next : List ℕ) → Inherited rows old own xml from turn end now
     → ArePlaces (length rows) old → from ≤ turn → turn < length old → place ≡ get_or old turn 0
-    → (is_declared (entry (map declaration rows) place).prefix (entries (map declaration rows) (drop own old)) || (xml && is_xml (entry (map declaration rows) place).prefix)) ≡ false
+    → (is_declared (namespace_at (map namespace_view rows) place).prefix (entries (map namespace_view rows) (drop own old)) || (xml && is_xml (namespace_at (map namespace_view rows) place).prefix)) ≡ false
     → next ≡ now ++ place ∷ [] → Inherited rows old own xml from (turn + 1) end next
 lists rows old own xml from turn end place now next h ok le lt is other push =
-    let names = map declaration rows in
+    let names = map namespace_view rows in
     let mine = entries names (drop own old) in
     let here : place < length rows = rw is (place_at (length rows) old turn 0 ok lt) in
-    let one : others mine xml (entry names (get_or old turn 0) ∷ []) ≡ entry names place ∷ [] =
-    ap (λ p. others mine xml (entry names p ∷ [])) (sym is) ∙ rw other refl in
+    let one : others mine xml (namespace_at names (get_or old turn 0) ∷ []) ≡ namespace_at names place ∷ [] =
+    ap (λ p. others mine xml (namespace_at names p ∷ [])) (sym is) ∙ rw other refl in
     record {
       end_is = h.end_is;
       more = h.more ++ place ∷ [];
       now_is = push ∙ ap (λ xs. xs ++ place ∷ []) h.now_is ∙ append_assoc old h.more (place ∷ []);
       places = all_append (λ i. i < length rows) h.more (place ∷ []) h.places (here, tt);
-      same = map-append (entry names) h.more (place ∷ []) ∙ ap (λ xs. xs ++ entry names place ∷ []) h.same
+      same = map-append (namespace_at names) h.more (place ∷ []) ∙ ap (λ xs. xs ++ namespace_at names place ∷ []) h.same
           ∙ ap (λ xs. others mine xml (entries names (slice_range old from turn)) ++ xs) (sym one) ∙ sym (step rows old own xml from turn le lt);
     }
 
 -- it is declared, and is not listed
 pub skips : (rows : List Namespace) (old : List ℕ) (own : ℕ) (xml : Bool) (from turn end place : ℕ) (now : List ℕ) → Inherited rows old own xml from turn end now
     → from ≤ turn → turn < length old → place ≡ get_or old turn 0
-    → (is_declared (entry (map declaration rows) place).prefix (entries (map declaration rows) (drop own old)) || (xml && is_xml (entry (map declaration rows) place).prefix)) ≡ true
+    → (is_declared (namespace_at (map namespace_view rows) place).prefix (entries (map namespace_view rows) (drop own old)) || (xml && is_xml (namespace_at (map namespace_view rows) place).prefix)) ≡ true
     → Inherited rows old own xml from (turn + 1) end now
 skips rows old own xml from turn end place now h le lt is mine' =
-    let names = map declaration rows in
+    let names = map namespace_view rows in
     let mine = entries names (drop own old) in
-    let none : others mine xml (entry names (get_or old turn 0) ∷ []) ≡ [] =
-    ap (λ p. others mine xml (entry names p ∷ [])) (sym is) ∙ rw mine' refl in
+    let none : others mine xml (namespace_at names (get_or old turn 0) ∷ []) ≡ [] =
+    ap (λ p. others mine xml (namespace_at names p ∷ [])) (sym is) ∙ rw mine' refl in
     record {
       end_is = h.end_is;
       more = h.more;
@@ -88,18 +88,18 @@ get_or-any (x ∷ xs) (suc k) d e h = get_or-any xs k d e (omega arith)
 -- what a turn of the loop looks at, and what its test says
 pub looked : (rows : List Namespace) (old : List ℕ) (own : ℕ) (xml : Bool) (from turn end place : ℕ) (now seen : List ℕ) (item : Namespace) (r : Bool)
     → Inherited rows old own xml from turn end now → ArePlaces (length rows) old → own ≤ length old → turn < length old → seen ≡ now → place ≡ get_or now turn place
-    → r ≡ (is_declared (declaration (get_or rows place item)).prefix (entries (map declaration rows) (slice_range seen own end)) || (xml && is_xml (declaration (get_or rows place item)).prefix))
+    → r ≡ (is_declared (namespace_view (get_or rows place item)).prefix (entries (map namespace_view rows) (slice_range seen own end)) || (xml && is_xml (namespace_view (get_or rows place item)).prefix))
     → (place ≡ get_or old turn 0)
-    × (r ≡ (is_declared (entry (map declaration rows) place).prefix (entries (map declaration rows) (drop own old)) || (xml && is_xml (entry (map declaration rows) place).prefix)))
+    × (r ≡ (is_declared (namespace_at (map namespace_view rows) place).prefix (entries (map namespace_view rows) (drop own old)) || (xml && is_xml (namespace_at (map namespace_view rows) place).prefix)))
 looked rows old own xml from turn end place now seen item r h ok within lt same is test =
-    let names = map declaration rows in
+    let names = map namespace_view rows in
     let p : place ≡ get_or old turn 0 = is ∙ ap (λ xs. get_or xs turn place) h.now_is ∙ get_or-front old h.more turn place lt ∙ get_or-any old turn place 0 lt in
     let here : place < length rows = rw p (place_at (length rows) old turn 0 ok lt) in
-    let e : entry names place ≡ declaration (get_or rows place item) = entry-get rows place item here in
+    let e : namespace_at names place ≡ namespace_view (get_or rows place item) = namespace_at-get rows place item here in
     let mine : slice_range seen own end ≡ drop own old =
     ap (λ xs. slice_range xs own end) (same ∙ h.now_is) ∙ ap (slice_range (old ++ h.more) own) h.end_is
     ∙ slice-append old h.more own (length old) within (omega arith) ∙ slice-rest old own in (
       p,
-      test ∙ ap (λ xs. is_declared (declaration (get_or rows place item)).prefix (entries names xs) || (xml && is_xml (declaration (get_or rows place item)).prefix)) mine
+      test ∙ ap (λ xs. is_declared (namespace_view (get_or rows place item)).prefix (entries names xs) || (xml && is_xml (namespace_view (get_or rows place item)).prefix)) mine
           ∙ ap (λ (d : NamespaceDecl). is_declared d.prefix (entries names (drop own old)) || (xml && is_xml d.prefix)) (sym e),
     )

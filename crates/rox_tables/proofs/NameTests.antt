@@ -11,7 +11,7 @@ use Rattle.rox_grammar.specs.Tree.{same_prefix, is_declared, uri_of, none_if_emp
 use Rattle.rox_grammar.specs.WellNamed.{is_known, same_expanded, may_name}
 use Rattle.rox_reading.specs.Tags.{names_tested}
 use Rattle.rox_tables.specs.declared.tables.AttributeNamespace.{AttributeNamespace}
-use Rattle.rox_tables.specs.Rows.{attribute, entry, attribute_uri, AttributeRow}
+use Rattle.rox_tables.specs.Rows.{attribute, namespace_at, attribute_uri, AttributeRow}
 use Rattle.rox_tables.specs.ResolvedNames.{has_expanded}
 use Rattle.rox_tables.proofs.Pairs.{declared_some, declared_none}
 
@@ -45,10 +45,10 @@ pub known_none : (scope : List NamespaceDecl) (n : Name) → bytes_eq n.prefix [
 known_none scope n e x h = let d = declared_none scope (Some n.prefix) h in rw (e, x, d) refl
 
 -- an element whose prefix has a URI may have its name, and is in that namespace
-pub element_some : (names scope : List NamespaceDecl) (n : Name) (place : ℕ) → bytes_eq n.prefix [] ≡ false → uri_of scope (Some n.prefix) ≡ Some (entry names place).uri
-    → (Some (entry names place).uri ≡ element_namespace scope n) × (may_name scope n ≡ true)
+pub element_some : (names scope : List NamespaceDecl) (n : Name) (place : ℕ) → bytes_eq n.prefix [] ≡ false → uri_of scope (Some n.prefix) ≡ Some (namespace_at names place).uri
+    → (Some (namespace_at names place).uri ≡ element_namespace scope n) × (may_name scope n ≡ true)
 element_some names scope n place e h =
-    let d = declared_some scope (Some n.prefix) (entry names place).uri h in
+    let d = declared_some scope (Some n.prefix) (namespace_at names place).uri h in
     (sym h ∙ ap (uri_of scope) (sym (some_if n.prefix e)), rw (e, d) refl)
 
 -- and one whose prefix has none may not

@@ -7,7 +7,7 @@ use Rattle.rox_grammar.specs.Written.{NamespaceDecl}
 use Rattle.rox_grammar.specs.Tree.{same_prefix, is_declared, uri_of}
 use Rattle.rox_grammar.specs.Document.{same_pair}
 use Rattle.rox_tables.specs.declared.tables.Namespace.{Namespace}
-use Rattle.rox_tables.specs.Rows.{declaration, entry}
+use Rattle.rox_tables.specs.Rows.{namespace_view, namespace_at}
 use Rattle.rox_tables.specs.Scopes.{entries, ArePlaces}
 
 chosen : {X P : Type 0} (b : Bool) (x y z : X) → cond b x y ≡ z → (b ≡ true → x ≡ z → P) → (b ≡ false → y ≡ z → P) → P
@@ -32,10 +32,10 @@ same_pair-true d e h =
     ap (λ (p : Option (List ℕ)). let x : NamespaceDecl = record { prefix = p; uri = d.uri } in x) p ∙ ap (λ (u : List ℕ). let x : NamespaceDecl = record { prefix = e.prefix; uri = u } in x) u
 
 -- the entry of a row of the table
-pub entry-get : (rows : List Namespace) (i : ℕ) (d : Namespace) → i < length rows → entry (map declaration rows) i ≡ declaration (get_or rows i d)
-entry-get [] i d h = absurd (omega arith)
-entry-get (r ∷ rows) zero d h = refl
-entry-get (r ∷ rows) (suc i) d h = entry-get rows i d (omega arith)
+pub namespace_at-get : (rows : List Namespace) (i : ℕ) (d : Namespace) → i < length rows → namespace_at (map namespace_view rows) i ≡ namespace_view (get_or rows i d)
+namespace_at-get [] i d h = absurd (omega arith)
+namespace_at-get (r ∷ rows) zero d h = refl
+namespace_at-get (r ∷ rows) (suc i) d h = namespace_at-get rows i d (omega arith)
 
 -- ---- look-ups in a scope
 
@@ -50,21 +50,21 @@ uri_of-append (x ∷ xs) ys p h = chosen (same_prefix x.prefix p) _ _ _ h (λ t 
 
 -- the first of those from i on, where those before have another prefix
 pub uri_here : (names : List NamespaceDecl) (places : List ℕ) (i d : ℕ) (p : Option (List ℕ)) → i < length places → uri_of (entries names (take i places)) p ≡ None
-    → same_prefix (entry names (get_or places i d)).prefix p ≡ true → uri_of (entries names places) p ≡ Some (entry names (get_or places i d)).uri
+    → same_prefix (namespace_at names (get_or places i d)).prefix p ≡ true → uri_of (entries names places) p ≡ Some (namespace_at names (get_or places i d)).uri
 uri_here names places i d p lt none same =
     let parts : places ≡ take i places ++ get_or places i d ∷ drop (i + 1) places =
     sym (take-append-drop i places) ∙ ap (λ xs. take i places ++ xs) (rw (add-one, drop-cons places i d) refl) in
-    let m : entries names places ≡ entries names (take i places) ++ (entry names (get_or places i d) ∷ entries names (drop (i + 1) places)) =
-    ap (entries names) parts ∙ map-append (entry names) (take i places) (get_or places i d ∷ drop (i + 1) places) in
-    ap (λ xs. uri_of xs p) m ∙ uri_of-append (entries names (take i places)) (entry names (get_or places i d) ∷ entries names (drop (i + 1) places)) p none
+    let m : entries names places ≡ entries names (take i places) ++ (namespace_at names (get_or places i d) ∷ entries names (drop (i + 1) places)) =
+    ap (entries names) parts ∙ map-append (namespace_at names) (take i places) (get_or places i d ∷ drop (i + 1) places) in
+    ap (λ xs. uri_of xs p) m ∙ uri_of-append (entries names (take i places)) (namespace_at names (get_or places i d) ∷ entries names (drop (i + 1) places)) p none
     ∙ rw same refl
 
 pub uri_none_more : (names : List NamespaceDecl) (places : List ℕ) (i d : ℕ) (p : Option (List ℕ)) → i < length places → uri_of (entries names (take i places)) p ≡ None
-    → same_prefix (entry names (get_or places i d)).prefix p ≡ false → uri_of (entries names (take (i + 1) places)) p ≡ None
+    → same_prefix (namespace_at names (get_or places i d)).prefix p ≡ false → uri_of (entries names (take (i + 1) places)) p ≡ None
 uri_none_more names places i d p lt none other =
-    let m : entries names (take (i + 1) places) ≡ entries names (take i places) ++ entry names (get_or places i d) ∷ [] =
-    ap (entries names) (take_more places i d lt) ∙ map-append (entry names) (take i places) (get_or places i d ∷ []) in
-    ap (λ xs. uri_of xs p) m ∙ uri_of-append (entries names (take i places)) (entry names (get_or places i d) ∷ []) p none ∙ rw other refl
+    let m : entries names (take (i + 1) places) ≡ entries names (take i places) ++ namespace_at names (get_or places i d) ∷ [] =
+    ap (entries names) (take_more places i d lt) ∙ map-append (namespace_at names) (take i places) (get_or places i d ∷ []) in
+    ap (λ xs. uri_of xs p) m ∙ uri_of-append (entries names (take i places)) (namespace_at names (get_or places i d) ∷ []) p none ∙ rw other refl
 
 -- a prefix is declared exactly where it has a URI
 pub declared-uri : (ds : List NamespaceDecl) (p : Option (List ℕ)) → is_declared p ds ≡ is_some (uri_of ds p)
@@ -82,6 +82,6 @@ pub declared_none : (ds : List NamespaceDecl) (p : Option (List ℕ)) → uri_of
 declared_none ds p h = declared-uri ds p ∙ ap is_some h
 
 -- the entry of a row that was put at the end
-pub entry-push : (rows : List Namespace) (r : Namespace) → entry (map declaration (rows ++ r ∷ [])) (length rows) ≡ declaration r
-entry-push [] r = refl
-entry-push (x ∷ rows) r = entry-push rows r
+pub namespace_at-push : (rows : List Namespace) (r : Namespace) → namespace_at (map namespace_view (rows ++ r ∷ [])) (length rows) ≡ namespace_view r
+namespace_at-push [] r = refl
+namespace_at-push (x ∷ rows) r = namespace_at-push rows r

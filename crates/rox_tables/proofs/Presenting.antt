@@ -8,7 +8,7 @@ use Rattle.std.proofs.Math.ListN.{drop_of_length-le}
 use Rattle.rox_grammar.specs.Written.{NamespaceDecl}
 use Rattle.rox_grammar.specs.Tree.{same_prefix, is_declared, uri_of}
 use Rattle.rox_tables.specs.declared.tables.Namespace.{Namespace}
-use Rattle.rox_tables.specs.Rows.{declaration, entry, scope_at, OptionWithin}
+use Rattle.rox_tables.specs.Rows.{namespace_view, namespace_at, scope_at, OptionWithin}
 use Rattle.rox_tables.specs.Scopes.{prefix_view, entries, ArePlaces, others}
 use Rattle.std.specs.BTreeMap.{BTreeMap, get_by}
 use Rattle.std.specs.Cmp.Lexicographic.{slice_cmp}
@@ -22,9 +22,9 @@ use Rattle.rox_grammar.specs.declared.fault.Word.TheVariants.{Xml}
 use Rattle.rox_grammar.specs.FixedTexts.{word_text}
 use Rattle.rox_grammar.specs.WellNamed.{is_xml}
 use Rattle.rox_tables.proofs.Listing.{same_prefix-sym}
-use Rattle.rox_tables.proofs.Stable.{entry-append, scope_at-append}
+use Rattle.rox_tables.proofs.Stable.{namespace_at-append, scope_at-append}
 use Rattle.rox_reading.proofs.Stretches.{slice-more}
-use Rattle.rox_tables.proofs.Pairs.{same_prefix-true, declared_none, place_at, entry-get}
+use Rattle.rox_tables.proofs.Pairs.{same_prefix-true, declared_none, place_at, namespace_at-get}
 
 abbrev pub Places : Type 0
 Places = Option (List ℕ) → Option ℕ
@@ -40,7 +40,7 @@ restored-same (x ∷ rs) f g p h = ap (λ (v : Option ℕ). cond (same_prefix (p
 bound-same : (names : List NamespaceDecl) (f g : Places) (ds : List NamespaceDecl) → ((p : Option (List ℕ)) → f p ≡ g p) → IsBound names f ds → IsBound names g ds
 bound-same names f g ds same h = record {
   within = λ p. subst (OptionWithin (length names)) (same p) (h.within p);
-  uris = λ p. ap (option_map (λ i. (entry names i).uri)) (sym (same p)) ∙ h.uris p;
+  uris = λ p. ap (option_map (λ i. (namespace_at names i).uri)) (sym (same p)) ∙ h.uris p;
 }
 
 -- ---- one more is replaced
@@ -213,7 +213,7 @@ pub bound_hidden : (names ds : List NamespaceDecl) (f g : Places) → ((p : Opti
     → IsBound names g (filter (λ d. not (true && is_xml d.prefix)) ds)
 bound_hidden names ds f g is h = record {
   within = λ p. subst (OptionWithin (length names)) (sym (is p)) (hidden (same_prefix (Some (word_text Xml)) p) (f p) (h.within p));
-  uris = λ p. ap (option_map (λ i. (entry names i).uri)) (is p) ∙ mapped (same_prefix (Some (word_text Xml)) p) (f p)
+  uris = λ p. ap (option_map (λ i. (namespace_at names i).uri)) (is p) ∙ mapped (same_prefix (Some (word_text Xml)) p) (f p)
       ∙ ap (λ u. cond (same_prefix (Some (word_text Xml)) p) None u) (h.uris p) ∙ ap (λ b. cond b None (uri_of ds p)) (same_prefix-sym (Some (word_text Xml)) p)
       ∙ sym (uri_filter (λ q. true && is_xml q) ds p);
 }
@@ -222,7 +222,7 @@ bound_hidden names ds f g is h = record {
     hidden true o h = tt
     hidden false o h = h
 
-    mapped : (b : Bool) (o : Option ℕ) → option_map (λ i. (entry names i).uri) (cond b None o) ≡ cond b None (option_map (λ i. (entry names i).uri) o)
+    mapped : (b : Bool) (o : Option ℕ) → option_map (λ i. (namespace_at names i).uri) (cond b None o) ≡ cond b None (option_map (λ i. (namespace_at names i).uri) o)
     mapped true o = refl
     mapped false o = refl
 
@@ -243,19 +243,19 @@ bound_others names own ds xml f h = bound_uris names f _ _ same h
     same p = uri_first own _ p ∙ rest p (uri_of own p) refl ∙ sym (uri_first own _ p)
 
 -- one more in front
-pub bound_more : (names ds : List NamespaceDecl) (f g : Places) (place : ℕ) → place < length names → ((p : Option (List ℕ)) → g p ≡ cond (same_prefix (entry names place).prefix p) (Some place) (f p))
-    → IsBound names f ds → IsBound names g (entry names place ∷ ds)
+pub bound_more : (names ds : List NamespaceDecl) (f g : Places) (place : ℕ) → place < length names → ((p : Option (List ℕ)) → g p ≡ cond (same_prefix (namespace_at names place).prefix p) (Some place) (f p))
+    → IsBound names f ds → IsBound names g (namespace_at names place ∷ ds)
 bound_more names ds f g place here is h = record {
-  within = λ p. subst (OptionWithin (length names)) (sym (is p)) (inside (same_prefix (entry names place).prefix p) (f p) (h.within p));
-  uris = λ p. ap (option_map (λ i. (entry names i).uri)) (is p) ∙ mapped (same_prefix (entry names place).prefix p) (f p)
-      ∙ ap (λ u. cond (same_prefix (entry names place).prefix p) (Some (entry names place).uri) u) (h.uris p);
+  within = λ p. subst (OptionWithin (length names)) (sym (is p)) (inside (same_prefix (namespace_at names place).prefix p) (f p) (h.within p));
+  uris = λ p. ap (option_map (λ i. (namespace_at names i).uri)) (is p) ∙ mapped (same_prefix (namespace_at names place).prefix p) (f p)
+      ∙ ap (λ u. cond (same_prefix (namespace_at names place).prefix p) (Some (namespace_at names place).uri) u) (h.uris p);
 }
   where
     inside : (b : Bool) (o : Option ℕ) → OptionWithin (length names) o → OptionWithin (length names) (cond b (Some place) o)
     inside true o h = here
     inside false o h = h
 
-    mapped : (b : Bool) (o : Option ℕ) → option_map (λ i. (entry names i).uri) (cond b (Some place) o) ≡ cond b (Some (entry names place).uri) (option_map (λ i. (entry names i).uri) o)
+    mapped : (b : Bool) (o : Option ℕ) → option_map (λ i. (namespace_at names i).uri) (cond b (Some place) o) ≡ cond b (Some (namespace_at names place).uri) (option_map (λ i. (namespace_at names i).uri) o)
     mapped true o = refl
     mapped false o = refl
 
@@ -265,14 +265,14 @@ drop_one xs i d lt = rw (add-one, drop-cons xs i d) refl
 
 -- what is listed at this position in front
 pub bound_here : (rows : List Namespace) (listed : List ℕ) (i : ℕ) (item : Namespace) (ds : List NamespaceDecl) (f g : Places) → ArePlaces (length rows) listed → i < length listed
-    → ((p : Option (List ℕ)) → g p ≡ cond (same_prefix (declaration (get_or rows (get_or listed i 0) item)).prefix p) (Some (get_or listed i 0)) (f p))
-    → IsBound (map declaration rows) f ds → IsBound (map declaration rows) g (entry (map declaration rows) (get_or listed i 0) ∷ ds)
+    → ((p : Option (List ℕ)) → g p ≡ cond (same_prefix (namespace_view (get_or rows (get_or listed i 0) item)).prefix p) (Some (get_or listed i 0)) (f p))
+    → IsBound (map namespace_view rows) f ds → IsBound (map namespace_view rows) g (namespace_at (map namespace_view rows) (get_or listed i 0) ∷ ds)
 bound_here rows listed i item ds f g ok inside is h =
-    let names = map declaration rows in
+    let names = map namespace_view rows in
     let place = get_or listed i 0 in
     let here : place < length rows = place_at (length rows) listed i 0 ok inside in
-    let here2 : place < length names = rw (length-map rows declaration) here in
-    let e : declaration (get_or rows place item) ≡ entry names place = sym (entry-get rows place item here) in
+    let here2 : place < length names = rw (length-map rows namespace_view) here in
+    let e : namespace_view (get_or rows place item) ≡ namespace_at names place = sym (namespace_at-get rows place item here) in
     bound_more names _ f g place here2 (λ p. is p ∙ ap (λ (d : NamespaceDecl). cond (same_prefix d.prefix p) (Some place) (f p)) e) h
 
 -- from the back of these places on: none, one more, all
@@ -282,15 +282,15 @@ bound_none names places f h =
     subst (λ xs. IsBound names f (entries names xs)) (sym none) h
 
 pub bound_from : (names : List NamespaceDecl) (places : List ℕ) (turn : ℕ) (g : Places) (place : ℕ) → turn < length places → place ≡ get_or places (length places - 1 - turn) 0
-    → IsBound names g (entry names place ∷ entries names (drop (length places - turn) places)) → IsBound names g (entries names (drop (length places - (turn + 1)) places))
+    → IsBound names g (namespace_at names place ∷ entries names (drop (length places - turn) places)) → IsBound names g (entries names (drop (length places - (turn + 1)) places))
 bound_from names places turn g place lt at h =
     let i = length places - 1 - turn in
     let inside : i < length places = omega arith in
     let first : length places - (turn + 1) ≡ i = omega arith in
     let then : length places - turn ≡ i + 1 = omega arith in
-    let all : entries names (drop (length places - (turn + 1)) places) ≡ entry names place ∷ entries names (drop (length places - turn) places) =
-    ap (λ k. entries names (drop k places)) first ∙ ap (entries names) (drop_one places i 0 inside) ∙ ap (λ p. entry names p ∷ entries names (drop (i + 1) places)) (sym at)
-    ∙ ap (λ k. entry names place ∷ entries names (drop k places)) (sym then) in
+    let all : entries names (drop (length places - (turn + 1)) places) ≡ namespace_at names place ∷ entries names (drop (length places - turn) places) =
+    ap (λ k. entries names (drop k places)) first ∙ ap (entries names) (drop_one places i 0 inside) ∙ ap (λ p. namespace_at names p ∷ entries names (drop (i + 1) places)) (sym at)
+    ∙ ap (λ k. namespace_at names place ∷ entries names (drop k places)) (sym then) in
     subst (IsBound names g) (sym all) h
 
 pub bound_all : (names : List NamespaceDecl) (places : List ℕ) (turn : ℕ) (f : Places) → length places ≤ turn → IsBound names f (entries names (drop (length places - turn) places)) → IsBound names f (entries names places)
@@ -317,9 +317,9 @@ bound_grown names more f ds h = record {
     inside None w = tt
     inside (Some i) w = let n = length-append names more in omega arith
 
-    same : (o : Option ℕ) → OptionWithin (length names) o → option_map (λ i. (entry (names ++ more) i).uri) o ≡ option_map (λ i. (entry names i).uri) o
+    same : (o : Option ℕ) → OptionWithin (length names) o → option_map (λ i. (namespace_at (names ++ more) i).uri) o ≡ option_map (λ i. (namespace_at names i).uri) o
     same None w = refl
-    same (Some i) w = ap (λ (d : NamespaceDecl). Some d.uri) (entry-append names more i w)
+    same (Some i) w = ap (λ (d : NamespaceDecl). Some d.uri) (namespace_at-append names more i w)
 
 stacked_grown : (names more : List NamespaceDecl) (lists more-lists : List (List NamespaceDecl)) (es : List ShadowedBinding) (f : Places) (least : ℕ) (ls : List ScopeFrame)
     → Stacked names lists es f least ls → Stacked (names ++ more) (lists ++ more-lists) es f least ls
@@ -346,9 +346,9 @@ keeps_grown names next lists after x more more-lists n l h = record {
 
 -- among few places
 pub looked_few : (rows : List Namespace) (places : List ℕ) (p : Option (List ℕ)) (o : Option ℕ)
-    → IfSome o (λ i. (i < length rows) × (uri_of (entries (map declaration rows) places) p ≡ Some (entry (map declaration rows) i).uri))
-    → IfNone o (uri_of (entries (map declaration rows) places) p ≡ None)
-    → OptionWithin (length rows) o × (option_map (λ i. (entry (map declaration rows) i).uri) o ≡ uri_of (entries (map declaration rows) places) p)
+    → IfSome o (λ i. (i < length rows) × (uri_of (entries (map namespace_view rows) places) p ≡ Some (namespace_at (map namespace_view rows) i).uri))
+    → IfNone o (uri_of (entries (map namespace_view rows) places) p ≡ None)
+    → OptionWithin (length rows) o × (option_map (λ i. (namespace_at (map namespace_view rows) i).uri) o ≡ uri_of (entries (map namespace_view rows) places) p)
 looked_few rows places p None there absent = (tt, sym absent)
 looked_few rows places p (Some i) there absent = (there.0, sym there.1)
 

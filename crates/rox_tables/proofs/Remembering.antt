@@ -13,11 +13,11 @@ use Rattle.std.proofs.lemmas.List.Folds.{list_any-append}
 use Rattle.rox_grammar.specs.Written.{NamespaceDecl}
 use Rattle.rox_grammar.specs.Tree.{same_prefix, is_declared}
 use Rattle.rox_tables.specs.declared.tables.Namespace.{Namespace}
-use Rattle.rox_tables.specs.Rows.{declaration, entry}
+use Rattle.rox_tables.specs.Rows.{namespace_view, namespace_at}
 use Rattle.rox_tables.specs.Scopes.{prefix_view, entries, ArePlaces}
 use Rattle.rox_tables.specs.PrefixSet.{has_prefix, IsPrefixSet}
 use Rattle.rox_tables.proofs.Listing.{same_prefix-sym}
-use Rattle.rox_tables.proofs.Pairs.{same_prefix-true, entry-get, place_at}
+use Rattle.rox_tables.proofs.Pairs.{same_prefix-true, namespace_at-get, place_at}
 
 abbrev pub Key : Type 0
 Key = Option (Bor (List ℕ))
@@ -86,10 +86,10 @@ remembers_same names more places keys e h = λ many p. h many p ∙ ap (is_decla
 
 -- one more place
 pub declared_push : (names : List NamespaceDecl) (places : List ℕ) (place : ℕ) (p : Option (List ℕ))
-    → is_declared p (entries names (places ++ place ∷ [])) ≡ (is_declared p (entries names places) || same_prefix (entry names place).prefix p)
+    → is_declared p (entries names (places ++ place ∷ [])) ≡ (is_declared p (entries names places) || same_prefix (namespace_at names place).prefix p)
 declared_push names places place p =
-    ap (is_declared p) (map-append (entry names) places (place ∷ [])) ∙ list_any-append (λ d. same_prefix d.prefix p) (entries names places) (entry names place ∷ [])
-    ∙ ap (λ b. is_declared p (entries names places) || b) (or_last (same_prefix (entry names place).prefix p))
+    ap (is_declared p) (map-append (namespace_at names) places (place ∷ [])) ∙ list_any-append (λ d. same_prefix d.prefix p) (entries names places) (namespace_at names place ∷ [])
+    ∙ ap (λ b. is_declared p (entries names places) || b) (or_last (same_prefix (namespace_at names place).prefix p))
   where
     or_last : (b : Bool) → (b || false) ≡ b
     or_last true = refl
@@ -97,14 +97,14 @@ declared_push names places place p =
 
 -- the places up to this one, and this one
 pub declared_next : (rows : List Namespace) (places : List ℕ) (i : ℕ) (item : Namespace) (p : Option (List ℕ)) (old now next : Bool) → ArePlaces (length rows) places → i < length places
-    → now ≡ (old || is_declared p (entries (map declaration rows) (take i places)))
-    → next ≡ (now || same_prefix (declaration (get_or rows (get_or places i 0) item)).prefix p)
-    → next ≡ (old || is_declared p (entries (map declaration rows) (take (i + 1) places)))
+    → now ≡ (old || is_declared p (entries (map namespace_view rows) (take i places)))
+    → next ≡ (now || same_prefix (namespace_view (get_or rows (get_or places i 0) item)).prefix p)
+    → next ≡ (old || is_declared p (entries (map namespace_view rows) (take (i + 1) places)))
 declared_next rows places i item p old now next ok lt before more =
     let place = get_or places i 0 in
-    let names = map declaration rows in
-    let one = same_prefix (declaration (get_or rows place item)).prefix p in
-    let e : entry names place ≡ declaration (get_or rows place item) = entry-get rows place item (place_at (length rows) places i 0 ok lt) in
+    let names = map namespace_view rows in
+    let one = same_prefix (namespace_view (get_or rows place item)).prefix p in
+    let e : namespace_at names place ≡ namespace_view (get_or rows place item) = namespace_at-get rows place item (place_at (length rows) places i 0 ok lt) in
     let all : is_declared p (entries names (take (i + 1) places)) ≡ (is_declared p (entries names (take i places)) || one) =
     ap (λ xs. is_declared p (entries names xs)) (take_more places i 0 lt) ∙ declared_push names (take i places) place p
     ∙ ap (λ (d : NamespaceDecl). is_declared p (entries names (take i places)) || same_prefix d.prefix p) e in
@@ -118,7 +118,7 @@ remembers_all names places empty keys e h = λ many p. h p ∙ ap (λ ks. has_pr
 
 -- a set with one more of many
 pub remembers_more : (names : List NamespaceDecl) (before own : List ℕ) (place : ℕ) (prefix : Option (List ℕ)) (old keys : List Key)
-    → own ≡ before ++ place ∷ [] → (entry names place).prefix ≡ prefix → 17 < length own → IsPrefixSet names before old
+    → own ≡ before ++ place ∷ [] → (namespace_at names place).prefix ≡ prefix → 17 < length own → IsPrefixSet names before old
     → ((p : Option (List ℕ)) → has_prefix p keys ≡ (has_prefix p old || same_prefix prefix p)) → IsPrefixSet names own keys
 unfolding IsPrefixSet
 remembers_more names before own place prefix old keys is at long h more = λ many p.

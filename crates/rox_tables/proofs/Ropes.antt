@@ -11,12 +11,12 @@ use Rattle.rox_grammar.specs.declared.failure.Failure.{Failure}
 use Rattle.rox_tables.specs.declared.tables.Concat.{Concat}
 use Rattle.rox_tables.specs.declared.tables.Scope.{Scope}
 use Rattle.rox_tables.specs.declared.tables.Scope.TheVariants as scope
-use Rattle.rox_tables.specs.Rows.{entry, listed_at, made, places_on, places_of, lists_of, scope_at, count_of, count_at, IsRow, AreRows, EndsWithin, AreScopes}
+use Rattle.rox_tables.specs.Rows.{namespace_at, listed_at, made, places_on, places_of, lists_of, scope_at, count_of, count_at, IsRow, AreRows, EndsWithin, AreScopes}
 use Rattle.rox_tables.specs.Scopes.{entries, places_in, ArePlaces}
 use Rattle.rox_tables.specs.Ropes.{IsRope}
 use Rattle.rox_tables.specs.declared.tables.Stretch.{Stretch}
 use Rattle.rox_tables.proofs.Leaves.{range_get, back_get}
-use Rattle.rox_tables.proofs.Stable.{all_append, all_slice, all_weaker, map_same, entry-append}
+use Rattle.rox_tables.proofs.Stable.{all_append, all_slice, all_weaker, map_same, namespace_at-append}
 
 -- ---- lists of places
 
@@ -52,12 +52,12 @@ length-places listed scopes = let f = places_front listed [] scopes in ap length
 
 -- how many there are
 pub length-lists : (names : List NamespaceDecl) (ls : List ℕ) (scopes : List Scope) → length (lists_of names ls scopes) ≡ length scopes
-length-lists names ls scopes = length-map (places_of ls scopes) (map (entry names)) ∙ length-places ls scopes
+length-lists names ls scopes = length-map (places_of ls scopes) (map (namespace_at names)) ∙ length-places ls scopes
 
 pub lists-grown : (names : List NamespaceDecl) (ls : List ℕ) (scopes more : List Scope) → (rest : List (List NamespaceDecl)) × (lists_of names ls (scopes ++ more) ≡ lists_of names ls scopes ++ rest)
 lists-grown names ls scopes more =
     let g = places-grown ls scopes more in
-    (map (map (entry names)) g.0, ap (map (map (entry names))) g.1 ∙ map-append (map (entry names)) (places_of ls scopes) g.0)
+    (map (map (namespace_at names)) g.0, ap (map (map (namespace_at names))) g.1 ∙ map-append (map (namespace_at names)) (places_of ls scopes) g.0)
 
 pub places_in-grown : (ls : List ℕ) (scopes more : List Scope) (i : ℕ) → i < length scopes → places_in ls (scopes ++ more) i ≡ places_in ls scopes i
 places_in-grown ls scopes more i h =
@@ -69,7 +69,7 @@ places_in-grown ls scopes more i h =
 pub scope_places : (names : List NamespaceDecl) (ls : List ℕ) (scopes : List Scope) (i : ℕ) → scope_at (lists_of names ls scopes) i ≡ entries names (places_in ls scopes i)
 scope_places names ls scopes i = each (places_of ls scopes) i
   where
-    each : (ps : List (List ℕ)) (i : ℕ) → scope_at (map (map (entry names)) ps) i ≡ entries names (listed_at ps i)
+    each : (ps : List (List ℕ)) (i : ℕ) → scope_at (map (map (namespace_at names)) ps) i ≡ entries names (listed_at ps i)
     each [] i = refl
     each (p ∷ ps) zero = refl
     each (p ∷ ps) (suc i) = each ps i
@@ -242,7 +242,7 @@ pub places_in-listed : (ls more : List ℕ) (scopes : List Scope) (i : ℕ) → 
 places_in-listed ls more scopes i h = ap (λ xs. listed_at xs i) (places-listed ls more [] scopes h.within)
 
 pub lists-listed : (names : List NamespaceDecl) (ls more : List ℕ) (scopes : List Scope) → AreScopes (length ls) scopes → lists_of names (ls ++ more) scopes ≡ lists_of names ls scopes
-lists-listed names ls more scopes h = ap (map (map (entry names))) (places-listed ls more [] scopes h.within)
+lists-listed names ls more scopes h = ap (map (map (namespace_at names))) (places-listed ls more [] scopes h.within)
 
 pub all_reverse : (n : ℕ) (xs : List ℕ) → ArePlaces n xs → ArePlaces n (reverse xs)
 all_reverse n [] h = tt
@@ -269,8 +269,8 @@ all_places n ls scopes i h = all_at n (places_of ls scopes) i (places_on_places 
 -- what scopes list stays as the table of namespaces grows
 lists-names : (names more : List NamespaceDecl) (ls : List ℕ) (scopes : List Scope) → ArePlaces (length names) ls → lists_of (names ++ more) ls scopes ≡ lists_of names ls scopes
 lists-names names more ls scopes h =
-    map_same (map (entry (names ++ more))) (map (entry names)) (ArePlaces (length names)) (places_of ls scopes)
-    (λ xs a. map_same (entry (names ++ more)) (entry names) (λ i. i < length names) xs (entry-append names more) a) (places_on_places (length names) ls [] scopes h tt)
+    map_same (map (namespace_at (names ++ more))) (map (namespace_at names)) (ArePlaces (length names)) (places_of ls scopes)
+    (λ xs a. map_same (namespace_at (names ++ more)) (namespace_at names) (λ i. i < length names) xs (namespace_at-append names more) a) (places_on_places (length names) ls [] scopes h tt)
 
 pub lists-append : (names more : List NamespaceDecl) (ls moreL : List ℕ) (scopes : List Scope) → ArePlaces (length names) ls → AreScopes (length ls) scopes
     → lists_of (names ++ more) (ls ++ moreL) scopes ≡ lists_of names ls scopes

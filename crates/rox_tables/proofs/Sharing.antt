@@ -7,7 +7,7 @@ use Rattle.rox_grammar.specs.Written.{NamespaceDecl}
 use Rattle.rox_tables.specs.declared.tables.Scope.{Scope}
 use Rattle.rox_tables.specs.declared.tables.Scope.TheVariants as scope
 use Rattle.rox_tables.specs.declared.tables.Stretch.{Stretch}
-use Rattle.rox_tables.specs.Rows.{entry, AreScopes}
+use Rattle.rox_tables.specs.Rows.{namespace_at, AreScopes}
 use Rattle.rox_tables.specs.Scopes.{entries, places_in, ArePlaces}
 use Rattle.rox_tables.specs.Ropes.{IsRope, IsListed}
 use Rattle.rox_tables.proofs.Stable.{all_append, all_drop}
@@ -112,7 +112,7 @@ inherits_listed names old mid new more scopes after i own ds le grown places is 
   rows_grown = x.rows_grown;
   scopes_are = x.scopes_are;
   within = x.within;
-  lists = x.lists ∙ ap (λ xs. entries names (drop own xs)) grown ∙ ap (entries names) (drop-append-le own old more le) ∙ map-append (entry names) (drop own old) more
+  lists = x.lists ∙ ap (λ xs. entries names (drop own xs)) grown ∙ ap (entries names) (drop-append-le own old more le) ∙ map-append (namespace_at names) (drop own old) more
       ∙ ap (λ xs. entries names (drop own old) ++ xs) is;
 }
 

@@ -11,7 +11,7 @@ use Rattle.rox_tables.specs.declared.tables.AttributeNamespace.TheVariants as sp
 use Rattle.rox_tables.specs.declared.tables.NodeKind.{NodeKind}
 use Rattle.rox_tables.specs.declared.tables.NodeKind.TheVariants as kind
 use Rattle.rox_tables.specs.declared.tables.NodeData.{NodeData}
-use Rattle.rox_tables.specs.Rows.{RowView, row_view, node, attribute, entry, scope_at, attribute_uri, NamespaceWithin, OptionWithin, KindWithin, AttributeRow}
+use Rattle.rox_tables.specs.Rows.{RowView, row_view, node, attribute, namespace_at, scope_at, attribute_uri, NamespaceWithin, OptionWithin, KindWithin, AttributeRow}
 
 -- ---- lists
 
@@ -52,15 +52,15 @@ slice-append xs ys i j ordered within =
 
 -- ---- entries
 
-pub entry-append : (names more : List NamespaceDecl) (i : ℕ) → i < length names → entry (names ++ more) i ≡ entry names i
-entry-append [] more i h = absurd (omega arith)
-entry-append (d ∷ ds) more zero h = refl
-entry-append (d ∷ ds) more (suc i) h = entry-append ds more i (omega arith)
+pub namespace_at-append : (names more : List NamespaceDecl) (i : ℕ) → i < length names → namespace_at (names ++ more) i ≡ namespace_at names i
+namespace_at-append [] more i h = absurd (omega arith)
+namespace_at-append (d ∷ ds) more zero h = refl
+namespace_at-append (d ∷ ds) more (suc i) h = namespace_at-append ds more i (omega arith)
 
 pub attribute_uri-append : (names more : List NamespaceDecl) (a : AttributeNamespace) → NamespaceWithin (length names) a → attribute_uri (names ++ more) a ≡ attribute_uri names a
 attribute_uri-append names more space.None h = refl
 attribute_uri-append names more space.Xml h = refl
-attribute_uri-append names more (space.Listed i) h = ap (λ (d : NamespaceDecl). Some d.uri) (entry-append names more i h)
+attribute_uri-append names more (space.Listed i) h = ap (λ (d : NamespaceDecl). Some d.uri) (namespace_at-append names more i h)
 
 pub attribute-append : (names more : List NamespaceDecl) (a : AttributeRow) → NamespaceWithin (length names) a.0.namespace → attribute (names ++ more) a ≡ attribute names a
 attribute-append names more a h = ap (λ (o : Option (List ℕ)).
@@ -68,9 +68,9 @@ attribute-append names more a h = ap (λ (o : Option (List ℕ)).
     (attribute_uri-append names more a.0.namespace h)
 
 uri-append : (names more : List NamespaceDecl) (o : Option ℕ) → OptionWithin (length names) o
-    → option_map (λ i. (entry (names ++ more) i).uri) o ≡ option_map (λ i. (entry names i).uri) o
+    → option_map (λ i. (namespace_at (names ++ more) i).uri) o ≡ option_map (λ i. (namespace_at names i).uri) o
 uri-append names more None h = refl
-uri-append names more (Some i) h = ap (λ (d : NamespaceDecl). Some d.uri) (entry-append names more i h)
+uri-append names more (Some i) h = ap (λ (d : NamespaceDecl). Some d.uri) (namespace_at-append names more i h)
 
 -- ---- scopes
 
@@ -93,8 +93,8 @@ node-append as' moreA names moreN ls moreL start end (kind.Element e) ha (a, b, 
     (all_slice (λ a. NamespaceWithin (length names) a.0.namespace) as' e.attributes_from e.attributes_until ha) in
     let o = uri-append names moreN e.namespace n in
     ap (λ (u : Option (List ℕ)). tree.Element start end u e.local.now (scope_at (ls ++ moreL) e.scope) (map (attribute (names ++ moreN)) (slice_range (as' ++ moreA) e.attributes_from e.attributes_until))) o
-    ∙ ap (λ (l : List NamespaceDecl). tree.Element start end (option_map (λ i. (entry names i).uri) e.namespace) e.local.now l (map (attribute (names ++ moreN)) (slice_range (as' ++ moreA) e.attributes_from e.attributes_until))) listed_is
-    ∙ ap (λ (l : List tree.Attribute). tree.Element start end (option_map (λ i. (entry names i).uri) e.namespace) e.local.now (scope_at ls e.scope) l) attributes_are
+    ∙ ap (λ (l : List NamespaceDecl). tree.Element start end (option_map (λ i. (namespace_at names i).uri) e.namespace) e.local.now l (map (attribute (names ++ moreN)) (slice_range (as' ++ moreA) e.attributes_from e.attributes_until))) listed_is
+    ∙ ap (λ (l : List tree.Attribute). tree.Element start end (option_map (λ i. (namespace_at names i).uri) e.namespace) e.local.now (scope_at ls e.scope) l) attributes_are
 node-append as' moreA names moreN ls moreL start end (kind.Text v) ha h = refl
 node-append as' moreA names moreN ls moreL start end (kind.Comment t) ha h = refl
 node-append as' moreA names moreN ls moreL start end (kind.PI p) ha h = refl

@@ -7,7 +7,7 @@ use Rattle.std.specs.Cmp.Lexicographic.{slice_cmp}
 use Rattle.std.specs.Ordering.{nat_cmp}
 use Rattle.rox_grammar.specs.Written.{NamespaceDecl}
 use Rattle.rox_grammar.specs.Tree.{same_prefix, uri_of}
-use Rattle.rox_tables.specs.Rows.{entry, scope_at, OptionWithin}
+use Rattle.rox_tables.specs.Rows.{namespace_at, scope_at, OptionWithin}
 use Rattle.rox_tables.specs.Scopes.{prefix_view, entries, others, ArePlaces}
 use Rattle.rox_tables.specs.declared.bindings.Binding.{Binding}
 use Rattle.rox_tables.specs.declared.bindings.PrefixBindings.{PrefixBindings}
@@ -41,7 +41,7 @@ restored (r ∷ rs) places prefix = if same_prefix (prefix_view r.prefix) prefix
 -- these are the places of what is listed
 pub record IsBound (names : List NamespaceDecl) (places : Option (List ℕ) → Option ℕ) (listed : List NamespaceDecl) : Type 0 where
   pub within : (prefix : Option (List ℕ)) → OptionWithin (length names) (places prefix)
-  pub uris : (prefix : Option (List ℕ)) → option_map (λ i. (entry names i).uri) (places prefix) ≡ uri_of listed prefix
+  pub uris : (prefix : Option (List ℕ)) → option_map (λ i. (namespace_at names i).uri) (places prefix) ≡ uri_of listed prefix
 
 -- each of these scopes, the outermost first, has its places where what was replaced behind it is taken back
 abbrev pub Stacked : List NamespaceDecl → List (List NamespaceDecl) → List ShadowedBinding → (Option (List ℕ) → Option ℕ) → (least : ℕ) → List ScopeFrame → Type 0
@@ -76,7 +76,7 @@ LooksWithin n None x = (prefix : Option (List ℕ)) → OptionWithin n (bound_pl
 -- the URI that is looked up for a prefix, or for the default
 abbrev pub looked_up : List NamespaceDecl → Option (List ℕ) → PrefixBindings → Option (List ℕ) → Option (List ℕ)
 looked_up names (Some places) x prefix = uri_of (entries names places) prefix
-looked_up names None x prefix = option_map (λ i. (entry names i).uri) (bound_place x prefix)
+looked_up names None x prefix = option_map (λ i. (namespace_at names i).uri) (bound_place x prefix)
 
 -- it is the one that is listed
 pub record FindsBinding (names : List NamespaceDecl) (few : Option (List ℕ)) (x : PrefixBindings) (listed : List NamespaceDecl) : Type 0 where

@@ -8,7 +8,7 @@ use Rattle.std.specs.Cmp.Lexicographic.{slice_cmp, lists_total, options_total}
 use Rattle.std.specs.Map.{lookup}
 use Rattle.rox_grammar.specs.Written.{NamespaceDecl}
 use Rattle.rox_grammar.specs.Document.{same_pair}
-use Rattle.rox_tables.specs.Rows.{declaration}
+use Rattle.rox_tables.specs.Rows.{namespace_view}
 use Rattle.rox_tables.specs.declared.namespace_table.Key.{Key}
 
 -- by prefix, of which the default comes first, and then by URI
@@ -20,10 +20,10 @@ pair_total = then_total (on_total (λ d. d.prefix) (options_total (lists_total n
 
 -- the order of keys
 abbrev pub key_cmp : Key → Key → Ordering
-key_cmp x y = pair_cmp (declaration x.namespace) (declaration y.namespace)
+key_cmp x y = pair_cmp (namespace_view x.namespace) (namespace_view y.namespace)
 
 pub key_total : IsTotalOrder key_cmp
-key_total = on_total (λ k. declaration k.namespace) pair_total
+key_total = on_total (λ k. namespace_view k.namespace) pair_total
 
 -- the place of a pair in a table: that of the first that is the same
 abbrev pub place_of : List NamespaceDecl → NamespaceDecl → Option ℕ
@@ -40,4 +40,4 @@ place_behind names d = option_map (λ i. few_pairs + i) (place_of (drop few_pair
 
 -- the place that the entries of a map give a pair
 abbrev pub place_among : List (Key × ℕ) → NamespaceDecl → Option ℕ
-place_among es d = lookup (λ k. same_pair d (declaration k.namespace)) es
+place_among es d = lookup (λ k. same_pair d (namespace_view k.namespace)) es

@@ -34,19 +34,19 @@ preorder_rows parent depth at (Cons node children rest) =
     record { parent = parent; next = at + 1 + size children; depth = depth; node = node }
     ∷ (preorder_rows at (depth + 1) (at + 1) children ++ preorder_rows parent depth (at + 1 + size children) rest)
 
-abbrev pub declaration : Namespace → NamespaceDecl
-declaration n = record { prefix = option_map (λ p. p.now) n.name; uri = storage_bytes n.uri }
+abbrev pub namespace_view : Namespace → NamespaceDecl
+namespace_view n = record { prefix = option_map (λ p. p.now) n.name; uri = storage_bytes n.uri }
 
 -- the one at this place of a table
-abbrev pub entry : List NamespaceDecl → ℕ → NamespaceDecl
-entry [] i = record { prefix = None; uri = [] }
-entry (d ∷ ds) Prim.Native.Nat.zero = d
-entry (d ∷ ds) (Prim.Native.Nat.suc i) = entry ds i
+abbrev pub namespace_at : List NamespaceDecl → ℕ → NamespaceDecl
+namespace_at [] i = record { prefix = None; uri = [] }
+namespace_at (d ∷ ds) Prim.Native.Nat.zero = d
+namespace_at (d ∷ ds) (Prim.Native.Nat.suc i) = namespace_at ds i
 
 abbrev pub attribute_uri : List NamespaceDecl → AttributeNamespace → Option (List ℕ)
 attribute_uri names space.None = None
 attribute_uri names space.Xml = Some xml_uri
-attribute_uri names (space.Listed i) = Some (entry names i).uri
+attribute_uri names (space.Listed i) = Some (namespace_at names i).uri
 
 -- an attribute's row: what it is, and where it stands
 abbrev pub AttributeRow : Type 0
@@ -89,7 +89,7 @@ places_of listed scopes = places_on listed [] scopes
 
 -- what each scope lists
 abbrev pub lists_of : List NamespaceDecl → List ℕ → List Scope → List (List NamespaceDecl)
-lists_of names listed scopes = map (map (entry names)) (places_of listed scopes)
+lists_of names listed scopes = map (map (namespace_at names)) (places_of listed scopes)
 
 -- what the scope at this place lists
 abbrev pub scope_at : List (List NamespaceDecl) → ℕ → List NamespaceDecl
@@ -101,7 +101,7 @@ scope_at (l ∷ ls) (Prim.Native.Nat.suc i) = scope_at ls i
 abbrev pub node : List AttributeRow → List NamespaceDecl → List (List NamespaceDecl) → (start end : ℕ) → NodeKind → Node
 node attributes names lists start end kind.Root = tree.Root end
 node attributes names lists start end (kind.Element e) =
-    tree.Element start end (option_map (λ i. (entry names i).uri) e.namespace) e.local.now (scope_at lists e.scope)
+    tree.Element start end (option_map (λ i. (namespace_at names i).uri) e.namespace) e.local.now (scope_at lists e.scope)
     (map (attribute names) (slice_range attributes e.attributes_from e.attributes_until))
 node attributes names lists start end (kind.Text value) = tree.Text start end (storage_bytes value) (is_borrowed value)
 node attributes names lists start end (kind.Comment text) = tree.Comment start end (storage_bytes text)
@@ -169,7 +169,7 @@ pub record Sound (t : Tables) : Type 0 where
   pub scopes : AreScopes (length t.listed.items) t.scopes.items
 
 abbrev pub names_of : Tables → List NamespaceDecl
-names_of t = map declaration t.namespaces.items
+names_of t = map namespace_view t.namespaces.items
 
 abbrev pub scopes_of : Tables → List (List NamespaceDecl)
 scopes_of t = lists_of (names_of t) t.listed.items t.scopes.items

@@ -6,7 +6,7 @@ use Rattle.std.specs.List.{AllByRecursion}
 use Rattle.rox_grammar.specs.Written.{NamespaceDecl}
 use Rattle.rox_grammar.specs.Tree.{same_prefix, is_declared}
 use Rattle.rox_grammar.specs.WellNamed.{is_xml}
-use Rattle.rox_tables.specs.Rows.{entry, listed_at, places_of}
+use Rattle.rox_tables.specs.Rows.{namespace_at, listed_at, places_of}
 use Rattle.rox_tables.specs.declared.tables.Scope.{Scope}
 use Rattle.rox_tables.specs.declared.tables.Scope.TheVariants as scope
 
@@ -19,7 +19,7 @@ pair prefix uri = record { prefix = prefix; uri = uri }
 
 -- the declarations at these places of a table
 abbrev pub entries : List NamespaceDecl → List ℕ → List NamespaceDecl
-entries names places = map (entry names) places
+entries names places = map (namespace_at names) places
 
 -- the places that the scope at this place lists
 abbrev pub places_in : List ℕ → List Scope → ℕ → List ℕ
@@ -45,9 +45,9 @@ abbrev pub others : List NamespaceDecl → Bool → List NamespaceDecl → List 
 others own xml above = filter (λ d. not (is_declared d.prefix own || (xml && is_xml d.prefix))) above
 
 -- each prefix is declared once
-abbrev pub Once : List NamespaceDecl → Type 0
-Once [] = Unit {0}
-Once (d ∷ ds) = (is_declared d.prefix ds ≡ false) × Once ds
+abbrev pub PrefixesOnce : List NamespaceDecl → Type 0
+PrefixesOnce [] = Unit {0}
+PrefixesOnce (d ∷ ds) = (is_declared d.prefix ds ≡ false) × PrefixesOnce ds
 
 -- those of another prefix
 abbrev pub unlisted : Option (List ℕ) → List NamespaceDecl → List NamespaceDecl

@@ -1,22 +1,22 @@
 -- The scope of an element, in the tables.
 use Rattle.std.specs.Prelude.{◌≡◌, ℕ, ◌<◌, Bool, false, List, ◌++◌, length, map, drop}
 use Rattle.rox_grammar.specs.Written.{NamespaceDecl}
-use Rattle.rox_tables.specs.Rows.{declaration, lists_of, scope_at, AreScopes}
+use Rattle.rox_tables.specs.Rows.{namespace_view, lists_of, scope_at, AreScopes}
 use Rattle.rox_tables.specs.Bindings.{AreBindingsOf, IsBound, bound_place}
-use Rattle.rox_tables.specs.Scopes.{entries, ArePlaces, Once, others, is_few_at}
+use Rattle.rox_tables.specs.Scopes.{entries, ArePlaces, PrefixesOnce, others, is_few_at}
 use Rattle.rox_tables.specs.declared.tables.ElementTables.{ElementTables}
 
 -- what each scope lists
 abbrev pub lists_in : ElementTables → List (List NamespaceDecl)
-lists_in t = lists_of (map declaration t.namespaces.items.items) t.listed.items t.scopes.items
+lists_in t = lists_of (map namespace_view t.namespaces.items.items) t.listed.items t.scopes.items
 
 -- the places of prefixes are those of scopes in these tables
 abbrev pub HasBindings : ElementTables → Type 0
-HasBindings t = AreBindingsOf (map declaration t.namespaces.items.items) (lists_in t) t.present
+HasBindings t = AreBindingsOf (map namespace_view t.namespaces.items.items) (lists_in t) t.present
 
 -- the places of prefixes are those of what this scope lists, unless it lists few
 unfoldable pub HasBindingsOf : ElementTables → ℕ → Type 0
-HasBindingsOf t scope = is_few_at t.scopes.items scope ≡ false → IsBound (map declaration t.namespaces.items.items) (bound_place t.present) (scope_at (lists_in t) scope)
+HasBindingsOf t scope = is_few_at t.scopes.items scope ≡ false → IsBound (map namespace_view t.namespaces.items.items) (bound_place t.present) (scope_at (lists_in t) scope)
 
 -- The scope at this place is that of an element below one of the scope `above`, whose own declarations are those listed from `own`
 -- on, and `xml` if the flag says so.
@@ -27,8 +27,8 @@ pub record HasScope (old new : ElementTables) (above own : ℕ) (xml : Bool) (sc
   pub scopes : AreScopes (length new.listed.items) new.scopes.items
   pub within : scope < length new.scopes.items
   pub lists : scope_at (lists_in new) scope
-      ≡ entries (map declaration old.namespaces.items.items) (drop own old.listed.items)
-      ++ others (entries (map declaration old.namespaces.items.items) (drop own old.listed.items)) xml (scope_at (lists_in old) above)
-  pub once : Once (scope_at (lists_in new) scope)
+      ≡ entries (map namespace_view old.namespaces.items.items) (drop own old.listed.items)
+      ++ others (entries (map namespace_view old.namespaces.items.items) (drop own old.listed.items)) xml (scope_at (lists_in old) above)
+  pub once : PrefixesOnce (scope_at (lists_in new) scope)
   pub kept : HasBindings new
   pub present : HasBindingsOf new scope

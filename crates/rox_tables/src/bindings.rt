@@ -4,7 +4,7 @@
 ghost use Rattle.std.specs.Prelude.{◌≡◌, ◌<◌, ◌≤◌, ◌+◌, ◌-◌, ◌++◌, ◌⊎◌, ℕ, List, Option, Some, None, Bool, true, length, map, take, reverse, slice_index, slice_range, OnOk, IfErr, if◌then◌else◌};
 ghost use Rattle.rox_grammar.specs.Tree.{same_prefix};
 ghost use Rattle.rox_grammar.specs.Written.{NamespaceDecl};
-ghost use Rattle.rox_tables.specs.Rows.{declaration, entry, lists_of, scope_at, AreScopes};
+ghost use Rattle.rox_tables.specs.Rows.{namespace_view, namespace_at, lists_of, scope_at, AreScopes};
 ghost use Rattle.rox_tables.specs.Scopes.{prefix_view, entries, places_in, ArePlaces, others};
 
 use crate::growth::push;
@@ -199,8 +199,8 @@ impl<'input> PrefixBindings<'input> {
     ) -> Result<(), Failure>
         requires places { ArePlaces (length names.now) listed.now }
         requires within { position < length listed.now }
-        ensures bound { OnOk result ((ds : List NamespaceDecl) → IsBound (map declaration names.now) (bound_place self.old) ds
-            → IsBound (map declaration names.now) (bound_place self.new) (entry (map declaration names.now) (slice_index listed.now position) ∷ ds)) }
+        ensures bound { OnOk result ((ds : List NamespaceDecl) → IsBound (map namespace_view names.now) (bound_place self.old) ds
+            → IsBound (map namespace_view names.now) (bound_place self.new) (namespace_at (map namespace_view names.now) (slice_index listed.now position) ∷ ds)) }
         ensures keeps { OnOk result ((names : List NamespaceDecl) (lists : List (List NamespaceDecl)) → AreBindingsOf names lists self.old → AreBindingsOf names lists self.new) }
         ensures layers { self.new.layers ≡ self.old.layers }
         ensures err { IfErr result (λ e. e ≡ Failure.Memory) }
@@ -224,8 +224,8 @@ impl<'input> PrefixBindings<'input> {
     ) -> Result<(), Failure>
         requires places { ArePlaces (length names.now) listed.now }
         requires stretch { (from ≤ until) × (until ≤ length listed.now) }
-        ensures bound { OnOk result ((ds : List NamespaceDecl) → IsBound (map declaration names.now) (bound_place self.old) ds
-            → IsBound (map declaration names.now) (bound_place self.new) (entries (map declaration names.now) (reverse (slice_range listed.now from until)) ++ ds)) }
+        ensures bound { OnOk result ((ds : List NamespaceDecl) → IsBound (map namespace_view names.now) (bound_place self.old) ds
+            → IsBound (map namespace_view names.now) (bound_place self.new) (entries (map namespace_view names.now) (reverse (slice_range listed.now from until)) ++ ds)) }
         ensures keeps { OnOk result ((names : List NamespaceDecl) (lists : List (List NamespaceDecl)) → AreBindingsOf names lists self.old → AreBindingsOf names lists self.new) }
         ensures layers { self.new.layers ≡ self.old.layers }
         ensures err { IfErr result (λ e. e ≡ Failure.Memory) }
@@ -247,8 +247,8 @@ impl<'input> PrefixBindings<'input> {
         requires places { ArePlaces (length names.now) listed.now }
         requires scopes { AreScopes (length listed.now) scopes.now }
         requires within { scope < length scopes.now }
-        ensures bound { OnOk result (IsBound (map declaration names.now) (bound_place self.old) []
-            → IsBound (map declaration names.now) (bound_place self.new) (entries (map declaration names.now) (places_in listed.now scopes.now scope))) }
+        ensures bound { OnOk result (IsBound (map namespace_view names.now) (bound_place self.old) []
+            → IsBound (map namespace_view names.now) (bound_place self.new) (entries (map namespace_view names.now) (places_in listed.now scopes.now scope))) }
         ensures keeps { OnOk result ((names : List NamespaceDecl) (lists : List (List NamespaceDecl)) → AreBindingsOf names lists self.old → AreBindingsOf names lists self.new) }
         ensures layers { self.new.layers ≡ self.old.layers }
         ensures err { IfErr result (λ e. e ≡ Failure.Memory) }
@@ -284,9 +284,9 @@ impl<'input> PrefixBindings<'input> {
         requires places { ArePlaces (length names.now) listed.now }
         requires scopes { AreScopes (length listed.now) scopes.now }
         requires within { scope < length scopes.now }
-        ensures value { OnOk result (AreBindingsOf (map declaration names.now) (lists_of (map declaration names.now) listed.now scopes.now) self.old
-            → AreBindingsOf (map declaration names.now) (lists_of (map declaration names.now) listed.now scopes.now) self.new
-            × IsBound (map declaration names.now) (bound_place self.new) (scope_at (lists_of (map declaration names.now) listed.now scopes.now) scope)) }
+        ensures value { OnOk result (AreBindingsOf (map namespace_view names.now) (lists_of (map namespace_view names.now) listed.now scopes.now) self.old
+            → AreBindingsOf (map namespace_view names.now) (lists_of (map namespace_view names.now) listed.now scopes.now) self.new
+            × IsBound (map namespace_view names.now) (bound_place self.new) (scope_at (lists_of (map namespace_view names.now) listed.now scopes.now) scope)) }
         ensures same { is_innermost self.old.layers.items (length self.old.replaced.items) scope ≡ true → self.new ≡ self.old }
         ensures err { IfErr result (λ e. e ≡ Failure.Memory) }
     {
@@ -314,9 +314,9 @@ impl<'input> PrefixBindings<'input> {
     ) -> Result<(), Failure>
         requires places { ArePlaces (length names.now) listed.now }
         requires stretch { (from ≤ until) × (until ≤ length listed.now) }
-        ensures value { OnOk result ((lists : List (List NamespaceDecl)) (above : List NamespaceDecl) → AreBindingsOf (map declaration names.now) lists self.old → IsBound (map declaration names.now) (bound_place self.old) above
-            → IsEntered (entries (map declaration names.now) (reverse (slice_range listed.now from until))) xml above lists scope
-            → AreBindingsOf (map declaration names.now) lists self.new × IsBound (map declaration names.now) (bound_place self.new) (scope_at lists scope)) }
+        ensures value { OnOk result ((lists : List (List NamespaceDecl)) (above : List NamespaceDecl) → AreBindingsOf (map namespace_view names.now) lists self.old → IsBound (map namespace_view names.now) (bound_place self.old) above
+            → IsEntered (entries (map namespace_view names.now) (reverse (slice_range listed.now from until))) xml above lists scope
+            → AreBindingsOf (map namespace_view names.now) lists self.new × IsBound (map namespace_view names.now) (bound_place self.new) (scope_at lists scope)) }
         ensures err { IfErr result (λ e. e ≡ Failure.Memory) }
     {
         self.hide_xml(xml)?;

@@ -6,8 +6,8 @@ ghost use Rattle.rox_grammar.specs.Written.{Attribute, NamespaceDecl, Name, is_n
 ghost use Rattle.rox_grammar.specs.Document.{listable_of, most_pairs};
 ghost use Rattle.rox_reading.specs.Tags as spec;
 ghost use Rattle.rox_grammar.specs.Failures.{name_view};
-ghost use Rattle.rox_tables.specs.Rows.{declaration, lists_of, AreScopes};
-ghost use Rattle.rox_tables.specs.Scopes.{ArePlaces, Once, entries, prefix_view};
+ghost use Rattle.rox_tables.specs.Rows.{namespace_view, lists_of, AreScopes};
+ghost use Rattle.rox_tables.specs.Scopes.{ArePlaces, PrefixesOnce, entries, prefix_view};
 ghost use Rattle.rox_tables.specs.PrefixSet.{IsPrefixSet};
 ghost use Rattle.rox_tables.specs.Bindings.{AreBindingsOf};
 ghost use Rattle.rox_tables.specs.declared.bindings.PrefixBindings.{PrefixBindings};
@@ -133,10 +133,10 @@ fn is_again<'a>(
     prefix: Option<&'a str>,
 ) -> bool
     requires places { ArePlaces (length names.now) own.now }
-    requires many { IsPrefixSet (map declaration names.now) own.now many.now.keys }
-    ensures value { (ds : List NamespaceDecl) → xml ≡ declares_xml ds → entries (map declaration names.now) own.now ≡ listable_of ds
+    requires many { IsPrefixSet (map namespace_view names.now) own.now many.now.keys }
+    ensures value { (ds : List NamespaceDecl) → xml ≡ declares_xml ds → entries (map namespace_view names.now) own.now ≡ listable_of ds
         → result ≡ is_declared (prefix_view prefix.entry) ds }
-    ensures absent { result ≡ false → is_declared (prefix_view prefix.entry) (entries (map declaration names.now) own.now) ≡ false }
+    ensures absent { result ≡ false → is_declared (prefix_view prefix.entry) (entries (map namespace_view names.now) own.now) ≡ false }
 {
     is_own(names, own, many, xml, prefix)
 }
@@ -154,19 +154,19 @@ pub fn declare_namespace<'input>(
     requires places { ArePlaces (length names.old.items.items) listed.old.items }
     requires own { own ≤ length listed.old.items }
     requires few { length names.old.items.items ≤ most_pairs }
-    requires many { IsPrefixSet (map declaration names.old.items.items) (drop own listed.old.items) many.old.keys }
-    requires once { Once (entries (map declaration names.old.items.items) (drop own listed.old.items)) }
+    requires many { IsPrefixSet (map namespace_view names.old.items.items) (drop own listed.old.items) many.old.keys }
+    requires once { PrefixesOnce (entries (map namespace_view names.old.items.items) (drop own listed.old.items)) }
     ensures places { OnOk result (ArePlaces (length names.new.items.items) listed.new.items) }
     ensures own { OnOk result (own ≤ length listed.new.items) }
     ensures few { OnOk result (length names.new.items.items ≤ most_pairs) }
     ensures lists { OnOk result ((scopes : List Scope) → AreScopes own scopes
-        → lists_of (map declaration names.new.items.items) listed.new.items scopes ≡ lists_of (map declaration names.old.items.items) listed.old.items scopes) }
-    ensures grown { OnOk result ((lists : List (List NamespaceDecl)) (x : PrefixBindings) → AreBindingsOf (map declaration names.old.items.items) lists x → AreBindingsOf (map declaration names.new.items.items) lists x) }
-    ensures many { OnOk result (IsPrefixSet (map declaration names.new.items.items) (drop own listed.new.items) many.new.keys) }
-    ensures once { OnOk result (Once (entries (map declaration names.new.items.items) (drop own listed.new.items))) }
+        → lists_of (map namespace_view names.new.items.items) listed.new.items scopes ≡ lists_of (map namespace_view names.old.items.items) listed.old.items scopes) }
+    ensures grown { OnOk result ((lists : List (List NamespaceDecl)) (x : PrefixBindings) → AreBindingsOf (map namespace_view names.old.items.items) lists x → AreBindingsOf (map namespace_view names.new.items.items) lists x) }
+    ensures many { OnOk result (IsPrefixSet (map namespace_view names.new.items.items) (drop own listed.new.items) many.new.keys) }
+    ensures once { OnOk result (PrefixesOnce (entries (map namespace_view names.new.items.items) (drop own listed.new.items))) }
     ensures value { (known : List NamespaceDecl) (before : List ℕ) (h : TagSoFar) → own ≡ length before
-        → Declares known before (map declaration names.old.items.items) listed.old.items xml h.own
-        → Declared known before (map declaration names.new.items.items) listed.new.items result h (spec.declared known (unresolved_view taken.entry) h) }
+        → Declares known before (map namespace_view names.old.items.items) listed.old.items xml h.own
+        → Declared known before (map namespace_view names.new.items.items) listed.new.items result h (spec.declared known (unresolved_view taken.entry) h) }
 {
     taken.test_uri()?;
     let prefix = taken.declared_prefix();

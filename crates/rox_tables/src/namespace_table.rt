@@ -6,7 +6,7 @@ ghost use Rattle.rox_grammar.specs.Written.{NamespaceDecl};
 ghost use Rattle.rox_grammar.specs.Document.{has_pair, with_new, most_pairs};
 ghost use Rattle.rox_grammar.specs.declared.fault.Fault.{Fault};
 ghost use Rattle.rox_tables.specs.Storage.{storage_bytes};
-ghost use Rattle.rox_tables.specs.Rows.{declaration, entry};
+ghost use Rattle.rox_tables.specs.Rows.{namespace_view, namespace_at};
 ghost use Rattle.rox_tables.specs.Scopes.{prefix_view, pair};
 ghost use Rattle.rox_tables.specs.PairIndex.{pair_cmp, key_cmp, key_total, few_pairs, place_among, place_behind, place_of};
 
@@ -26,7 +26,7 @@ const FEW: usize = 16;
 
 /// How two pairs stand to each other: by prefix, of which the default comes first, and then by URI.
 fn compare(one: &Namespace<'_>, other: &Namespace<'_>) -> Ordering
-    ensures { result ≡ pair_cmp (declaration one.now) (declaration other.now) }
+    ensures { result ≡ pair_cmp (namespace_view one.now) (namespace_view other.now) }
 {
     match one.name.cmp(&other.name) {
         Ordering::Equal => one.uri.as_str().cmp(other.uri.as_str()),
@@ -93,7 +93,7 @@ impl PartialOrd for Key<'_> {
 /// The place of a pair among these, which are few.
 fn place_in(items: &[Namespace<'_>], pair: &Namespace<'_>) -> Option<u16>
     requires few { length items.now ≤ few_pairs }
-    ensures value { result ≡ place_of (map declaration items.now) (declaration pair.now) }
+    ensures value { result ≡ place_of (map namespace_view items.now) (namespace_view pair.now) }
 {
     for (place, item) in items.iter().enumerate() {
         if item == pair {
@@ -110,7 +110,7 @@ pub struct NamespaceTable<'input> {
     pub items: Vec<Namespace<'input>>,
     /// The place of each behind the first few.
     pub places: BTreeMap<Key<'input>, u16>,
-    pub ghost found: { (d : NamespaceDecl) → place_among places.entries d ≡ place_behind (map declaration items.items) d },
+    pub ghost found: { (d : NamespaceDecl) → place_among places.entries d ≡ place_behind (map namespace_view items.items) d },
 }
 
 impl<'input> NamespaceTable<'input> {
@@ -134,7 +134,7 @@ impl<'input> NamespaceTable<'input> {
 
     /// The place of a pair behind the first few.
     fn find_behind(&self, key: &Key<'input>) -> Option<u16>
-        ensures { result ≡ place_behind (map declaration self.now.items.items) (declaration key.now.namespace) }
+        ensures { result ≡ place_behind (map namespace_view self.now.items.items) (namespace_view key.now.namespace) }
     {
         match self.places.get(key) {
             Some(place) => Some(*place),
@@ -145,9 +145,9 @@ impl<'input> NamespaceTable<'input> {
     /// The place of a pair.
     fn find(&self, key: &Key<'input>) -> Option<u16>
         ensures there { IfSome result (λ i. (i < length self.now.items.items)
-            × (entry (map declaration self.now.items.items) i ≡ declaration key.now.namespace)
-            × (has_pair (map declaration self.now.items.items) (declaration key.now.namespace) ≡ true)) }
-        ensures absent { IfNone result (has_pair (map declaration self.now.items.items) (declaration key.now.namespace) ≡ false) }
+            × (namespace_at (map namespace_view self.now.items.items) i ≡ namespace_view key.now.namespace)
+            × (has_pair (map namespace_view self.now.items.items) (namespace_view key.now.namespace) ≡ true)) }
+        ensures absent { IfNone result (has_pair (map namespace_view self.now.items.items) (namespace_view key.now.namespace) ≡ false) }
     {
         let few = self.items.len().min(FEW);
         match place_in(&self.items[..few], &key.namespace) {
@@ -159,8 +159,8 @@ impl<'input> NamespaceTable<'input> {
     /// Puts a new pair at the end of the table. The only error is want of memory.
     fn add(&mut self, key: Key<'input>) -> Result<u16, Failure>
         requires few { length self.old.items.items < most_pairs }
-        requires absent { has_pair (map declaration self.old.items.items) (declaration key.namespace) ≡ false }
-        ensures items { OnOk result (map declaration self.new.items.items ≡ map declaration self.old.items.items ++ declaration key.entry.namespace ∷ []) }
+        requires absent { has_pair (map namespace_view self.old.items.items) (namespace_view key.namespace) ≡ false }
+        ensures items { OnOk result (map namespace_view self.new.items.items ≡ map namespace_view self.old.items.items ++ namespace_view key.entry.namespace ∷ []) }
         ensures place { IfOk result (λ i. i ≡ length self.old.items.items) }
         ensures err { IfErr result (λ e. e ≡ Failure.Memory) }
     {
@@ -185,11 +185,11 @@ impl<'input> NamespaceTable<'input> {
         uri: StringStorage<'input>,
     ) -> Result<u16, Failure>
         requires { length self.old.items.items ≤ most_pairs }
-        ensures there { IfOk result (λ i. (i < length self.new.items.items) × (entry (map declaration self.new.items.items) i ≡ pair (prefix_view prefix.entry) (storage_bytes uri.entry))) }
-        ensures table { OnOk result (map declaration self.new.items.items ≡ with_new (map declaration self.old.items.items) (pair (prefix_view prefix.entry) (storage_bytes uri.entry) ∷ [])) }
+        ensures there { IfOk result (λ i. (i < length self.new.items.items) × (namespace_at (map namespace_view self.new.items.items) i ≡ pair (prefix_view prefix.entry) (storage_bytes uri.entry))) }
+        ensures table { OnOk result (map namespace_view self.new.items.items ≡ with_new (map namespace_view self.old.items.items) (pair (prefix_view prefix.entry) (storage_bytes uri.entry) ∷ [])) }
         ensures few { OnOk result (length self.new.items.items ≤ most_pairs) }
         ensures fault { (f : Fault) → result ≡ Err (Failure.Fault f) → (f ≡ Fault.NamespacesLimitReached)
-            × (most_pairs < length (with_new (map declaration self.old.items.items) (pair (prefix_view prefix.entry) (storage_bytes uri.entry) ∷ []))) }
+            × (most_pairs < length (with_new (map namespace_view self.old.items.items) (pair (prefix_view prefix.entry) (storage_bytes uri.entry) ∷ []))) }
     {
         let namespace = Namespace { name: prefix, uri };
         let key = Key { namespace };

@@ -2,7 +2,7 @@
 
 ghost use Rattle.std.specs.Prelude.{◌≡◌, ◌<◌, ◌++◌, ◌∷◌, ◌||◌, [], ℕ, List, Option, length, map, OnOk, IfErr};
 ghost use Rattle.rox_grammar.specs.Tree.{same_prefix, is_declared};
-ghost use Rattle.rox_tables.specs.Rows.{declaration, entry};
+ghost use Rattle.rox_tables.specs.Rows.{namespace_view, namespace_at};
 ghost use Rattle.rox_tables.specs.Scopes.{prefix_view, entries, ArePlaces};
 ghost use Rattle.rox_tables.specs.PrefixSet.{has_prefix, IsPrefixSet};
 
@@ -38,7 +38,7 @@ fn add_all<'a>(
     places: &[u16],
 ) -> Result<(), Failure>
     requires { ArePlaces (length names.now) places.now }
-    ensures more { OnOk result ((p : Option (List ℕ)) → has_prefix p prefixes.new.keys ≡ (has_prefix p prefixes.old.keys || is_declared p (entries (map declaration names.now) places.now))) }
+    ensures more { OnOk result ((p : Option (List ℕ)) → has_prefix p prefixes.new.keys ≡ (has_prefix p prefixes.old.keys || is_declared p (entries (map namespace_view names.now) places.now))) }
     ensures err { IfErr result (λ e. e ≡ Failure.Memory) }
 {
     for place in places {
@@ -55,8 +55,8 @@ pub fn add_prefix<'a>(
     prefix: Option<&'a str>,
 ) -> Result<(), Failure>
     requires { ArePlaces (length names.now) own.now }
-    ensures value { OnOk result ((before : List ℕ) (place : ℕ) → own.now ≡ before ++ place ∷ [] → (entry (map declaration names.now) place).prefix ≡ prefix_view prefix.entry
-        → IsPrefixSet (map declaration names.now) before prefixes.old.keys → IsPrefixSet (map declaration names.now) own.now prefixes.new.keys) }
+    ensures value { OnOk result ((before : List ℕ) (place : ℕ) → own.now ≡ before ++ place ∷ [] → (namespace_at (map namespace_view names.now) place).prefix ≡ prefix_view prefix.entry
+        → IsPrefixSet (map namespace_view names.now) before prefixes.old.keys → IsPrefixSet (map namespace_view names.now) own.now prefixes.new.keys) }
     ensures err { IfErr result (λ e. e ≡ Failure.Memory) }
 {
     if own.len() <= FEW {

@@ -11,7 +11,7 @@ ghost use Rattle.rox_grammar.specs.Tree.{attribute_in};
 ghost use Rattle.rox_grammar.specs.WellNamed.{is_known, may_name};
 ghost use Rattle.rox_reading.specs.Tags.{names_tested};
 ghost use Rattle.rox_grammar.specs.Failures.{Fails, name_view};
-ghost use Rattle.rox_tables.specs.Rows.{AttributeRow, declaration, entry, attribute, attribute_rows, attribute_uri, NamespaceWithin, OptionWithin};
+ghost use Rattle.rox_tables.specs.Rows.{AttributeRow, namespace_view, namespace_at, attribute, attribute_rows, attribute_uri, NamespaceWithin, OptionWithin};
 ghost use Rattle.rox_tables.specs.Scopes.{prefix_view};
 ghost use Rattle.rox_tables.specs.Bindings.{FindsBinding, LooksWithin, places_view};
 ghost use Rattle.rox_tables.specs.TagDeclarations.{unresolved_view};
@@ -47,10 +47,10 @@ fn attribute_namespace(
 ) -> Option<AttributeNamespace>
     requires within { LooksWithin (length names.now) (places_view few) present.now }
     ensures within { IfSome result (λ s. NamespaceWithin (length names.now) s) }
-    ensures there { (ds : List NamespaceDecl) → FindsBinding (map declaration names.now) (places_view few.entry) present.now ds
-        → IfSome result (λ s. attribute_uri (map declaration names.now) s ≡ tree.attribute_namespace ds (name_view name.entry)) }
-    ensures known { (ds : List NamespaceDecl) → FindsBinding (map declaration names.now) (places_view few.entry) present.now ds → IfSome result (λ _. is_known ds (name_view name.entry) ≡ true) }
-    ensures unknown { (ds : List NamespaceDecl) → FindsBinding (map declaration names.now) (places_view few.entry) present.now ds → IfNone result (is_known ds (name_view name.entry) ≡ false) }
+    ensures there { (ds : List NamespaceDecl) → FindsBinding (map namespace_view names.now) (places_view few.entry) present.now ds
+        → IfSome result (λ s. attribute_uri (map namespace_view names.now) s ≡ tree.attribute_namespace ds (name_view name.entry)) }
+    ensures known { (ds : List NamespaceDecl) → FindsBinding (map namespace_view names.now) (places_view few.entry) present.now ds → IfSome result (λ _. is_known ds (name_view name.entry) ≡ true) }
+    ensures unknown { (ds : List NamespaceDecl) → FindsBinding (map namespace_view names.now) (places_view few.entry) present.now ds → IfNone result (is_known ds (name_view name.entry) ≡ false) }
 {
     if name.prefix.is_empty() {
         return Some(AttributeNamespace::None);
@@ -68,7 +68,7 @@ fn attribute_namespace(
 #[inline]
 fn namespace_uri<'a>(names: &'a [Namespace<'_>], namespace: AttributeNamespace) -> Option<&'a str>
     requires { NamespaceWithin (length names.now) namespace }
-    ensures { prefix_view result ≡ attribute_uri (map declaration names.now) namespace }
+    ensures { prefix_view result ≡ attribute_uri (map namespace_view names.now) namespace }
 {
     match namespace {
         AttributeNamespace::None => None,
@@ -87,7 +87,7 @@ fn has_expanded(
 ) -> bool
     requires one { NamespaceWithin (length names.now) attribute.now.namespace }
     requires other { NamespaceWithin (length names.now) namespace }
-    ensures { result ≡ has_expanded (map declaration names.now) namespace local.now attribute.now }
+    ensures { result ≡ has_expanded (map namespace_view names.now) namespace local.now attribute.now }
 {
     same_text(attribute.local, local)
         && same_prefix(
@@ -105,7 +105,7 @@ fn is_repeated(
 ) -> bool
     requires done { AllByRecursion (λ a. NamespaceWithin (length names.now) a.namespace) done.now }
     requires other { NamespaceWithin (length names.now) namespace }
-    ensures { result ≡ list_any (has_expanded (map declaration names.now) namespace local.now) done.now }
+    ensures { result ≡ list_any (has_expanded (map namespace_view names.now) namespace local.now) done.now }
 {
     for attribute in done {
         if has_expanded(names, attribute, namespace, local) {
@@ -127,10 +127,10 @@ fn tested_namespace(
     requires within { LooksWithin (length names.now) (places_view few) present.now }
     requires done { AllByRecursion (λ a. NamespaceWithin (length names.now) a.namespace) done.now }
     ensures within { IfOk result (λ s. NamespaceWithin (length names.now) s) }
-    ensures there { (ds : List NamespaceDecl) → FindsBinding (map declaration names.now) (places_view few.entry) present.now ds
-        → IfOk result (λ s. attribute_uri (map declaration names.now) s ≡ tree.attribute_namespace ds (name_view taken.now.name)) }
-    ensures tested { (ds : List NamespaceDecl) (rows : List AttributeRow) (before rest : List Attribute) → FindsBinding (map declaration names.now) (places_view few.entry) present.now ds
-        → map (λ r. r.0) rows ≡ done.now → map (attribute (map declaration names.now)) rows ≡ map (attribute_in ds) before → Tested ds before (unresolved_view taken.now) rest result }
+    ensures there { (ds : List NamespaceDecl) → FindsBinding (map namespace_view names.now) (places_view few.entry) present.now ds
+        → IfOk result (λ s. attribute_uri (map namespace_view names.now) s ≡ tree.attribute_namespace ds (name_view taken.now.name)) }
+    ensures tested { (ds : List NamespaceDecl) (rows : List AttributeRow) (before rest : List Attribute) → FindsBinding (map namespace_view names.now) (places_view few.entry) present.now ds
+        → map (λ r. r.0) rows ≡ done.now → map (attribute (map namespace_view names.now)) rows ≡ map (attribute_in ds) before → Tested ds before (unresolved_view taken.now) rest result }
 {
     let name = taken.name;
     let Some(namespace) = attribute_namespace(names, few, present, name) else {
@@ -152,13 +152,13 @@ fn seen_namespace<'a>(
 ) -> Result<AttributeNamespace, Failure>
     requires within { LooksWithin (length names.now) (places_view few) present.now }
     ensures within { IfOk result (λ s. NamespaceWithin (length names.now) s) }
-    ensures there { (ds : List NamespaceDecl) → FindsBinding (map declaration names.now) (places_view few.entry) present.now ds
-        → IfOk result (λ s. attribute_uri (map declaration names.now) s ≡ tree.attribute_namespace ds (name_view taken.now.name)) }
-    ensures tested { (ds : List NamespaceDecl) (rows : List AttributeRow) (before rest : List Attribute) → FindsBinding (map declaration names.now) (places_view few.entry) present.now ds
-        → HasExpandedNames (map declaration names.now) seen.old.keys (map (λ r. r.0) rows) → map (attribute (map declaration names.now)) rows ≡ map (attribute_in ds) before
+    ensures there { (ds : List NamespaceDecl) → FindsBinding (map namespace_view names.now) (places_view few.entry) present.now ds
+        → IfOk result (λ s. attribute_uri (map namespace_view names.now) s ≡ tree.attribute_namespace ds (name_view taken.now.name)) }
+    ensures tested { (ds : List NamespaceDecl) (rows : List AttributeRow) (before rest : List Attribute) → FindsBinding (map namespace_view names.now) (places_view few.entry) present.now ds
+        → HasExpandedNames (map namespace_view names.now) seen.old.keys (map (λ r. r.0) rows) → map (attribute (map namespace_view names.now)) rows ≡ map (attribute_in ds) before
         → TestedOr ds before (unresolved_view taken.now) rest result }
-    ensures more { IfOk result (λ s. (done : List AttributeData) (a : AttributeData) → HasExpandedNames (map declaration names.now) seen.old.keys done → a.namespace ≡ s → a.local ≡ taken.now.name.local
-        → HasExpandedNames (map declaration names.now) seen.new.keys (done ++ a ∷ [])) }
+    ensures more { IfOk result (λ s. (done : List AttributeData) (a : AttributeData) → HasExpandedNames (map namespace_view names.now) seen.old.keys done → a.namespace ≡ s → a.local ≡ taken.now.name.local
+        → HasExpandedNames (map namespace_view names.now) seen.new.keys (done ++ a ∷ [])) }
 {
     let name = taken.name;
     let Some(namespace) = attribute_namespace(names, few, present, name) else {
@@ -211,12 +211,12 @@ fn resolve_many<'input>(
     attributes: &mut AttributeTable<'input>,
 ) -> Result<(), Failure>
     requires within { LooksWithin (length names.now) (places_view few) present.now }
-    ensures ok { (ds : List NamespaceDecl) → FindsBinding (map declaration names.now) (places_view few.entry) present.now ds
+    ensures ok { (ds : List NamespaceDecl) → FindsBinding (map namespace_view names.now) (places_view few.entry) present.now ds
         → OnOk result ((names_tested ds [] (map unresolved_view taken.old.items) ≡ Ok tt)
         × ((more : List AttributeRow) × (attribute_rows attributes.new ≡ attribute_rows attributes.old ++ more)
-        × (map (attribute (map declaration names.now)) more ≡ map (attribute_in ds) (map unresolved_view taken.old.items))
+        × (map (attribute (map namespace_view names.now)) more ≡ map (attribute_in ds) (map unresolved_view taken.old.items))
         × AllByRecursion (λ a. NamespaceWithin (length names.now) a.0.namespace) more)) }
-    ensures err { (ds : List NamespaceDecl) → FindsBinding (map declaration names.now) (places_view few.entry) present.now ds
+    ensures err { (ds : List NamespaceDecl) → FindsBinding (map namespace_view names.now) (places_view few.entry) present.now ds
         → IfErr result (λ e. Fails e (names_tested ds [] (map unresolved_view taken.old.items))) }
 {
     let mut seen = BTreeSet::new(alloc);
@@ -240,12 +240,12 @@ pub fn resolve<'input>(
     attributes: &mut AttributeTable<'input>,
 ) -> Result<(), Failure>
     requires within { LooksWithin (length names.now) (places_view few) present.now }
-    ensures ok { (ds : List NamespaceDecl) → FindsBinding (map declaration names.now) (places_view few.entry) present.now ds
+    ensures ok { (ds : List NamespaceDecl) → FindsBinding (map namespace_view names.now) (places_view few.entry) present.now ds
         → OnOk result ((names_tested ds [] (map unresolved_view taken.old.items) ≡ Ok tt)
         × ((more : List AttributeRow) × (attribute_rows attributes.new ≡ attribute_rows attributes.old ++ more)
-        × (map (attribute (map declaration names.now)) more ≡ map (attribute_in ds) (map unresolved_view taken.old.items))
+        × (map (attribute (map namespace_view names.now)) more ≡ map (attribute_in ds) (map unresolved_view taken.old.items))
         × AllByRecursion (λ a. NamespaceWithin (length names.now) a.0.namespace) more)) }
-    ensures err { (ds : List NamespaceDecl) → FindsBinding (map declaration names.now) (places_view few.entry) present.now ds
+    ensures err { (ds : List NamespaceDecl) → FindsBinding (map namespace_view names.now) (places_view few.entry) present.now ds
         → IfErr result (λ e. Fails e (names_tested ds [] (map unresolved_view taken.old.items))) }
 {
     if taken.len() > FEW {
@@ -279,9 +279,9 @@ pub fn element_namespace(
     requires within { LooksWithin (length names.now) (places_view few) present.now }
     requires small { at < 2 ^ 63 }
     ensures within { IfOk result (λ o. OptionWithin (length names.now) o) }
-    ensures ok { (ds : List NamespaceDecl) → FindsBinding (map declaration names.now) (places_view few.entry) present.now ds
-        → IfOk result (λ o. (option_map (λ i. (entry (map declaration names.now) i).uri) o ≡ tree.element_namespace ds (name_view name.entry)) × (may_name ds (name_view name.entry) ≡ true)) }
-    ensures err { (ds : List NamespaceDecl) → FindsBinding (map declaration names.now) (places_view few.entry) present.now ds
+    ensures ok { (ds : List NamespaceDecl) → FindsBinding (map namespace_view names.now) (places_view few.entry) present.now ds
+        → IfOk result (λ o. (option_map (λ i. (namespace_at (map namespace_view names.now) i).uri) o ≡ tree.element_namespace ds (name_view name.entry)) × (may_name ds (name_view name.entry) ≡ true)) }
+    ensures err { (ds : List NamespaceDecl) → FindsBinding (map namespace_view names.now) (places_view few.entry) present.now ds
         → IfErr result (λ f. (f ≡ fault.UnknownNamespace (prefix_span (name_view name.entry) at) at) × (may_name ds (name_view name.entry) ≡ false)) }
 {
     if name.prefix.is_empty() {

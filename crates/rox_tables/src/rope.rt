@@ -4,7 +4,7 @@
 ghost use Rattle.std.specs.Prelude.{◌≡◌, ◌<◌, ◌≤◌, ◌+◌, ◌-◌, ◌++◌, ◌∷◌, [], true, false, ℕ, List, length, map, take, drop, reverse, slice_index, slice_range, OnOk, IfOk, IfErr, IfSome, IfNone};
 ghost use Rattle.rox_grammar.specs.Tree.{same_prefix, is_declared};
 ghost use Rattle.std.specs.List.{AllByRecursion};
-ghost use Rattle.rox_tables.specs.Rows.{declaration, entry, count_at, AreRows, AreScopes, EndsWithin};
+ghost use Rattle.rox_tables.specs.Rows.{namespace_view, namespace_at, count_at, AreRows, AreScopes, EndsWithin};
 ghost use Rattle.rox_tables.specs.Scopes.{prefix_view, entries, places_in, ArePlaces};
 ghost use Rattle.rox_tables.specs.Ropes.{IsRope};
 
@@ -355,8 +355,8 @@ fn first_of(
     requires scopes { AreScopes (length listed.now) scopes.now }
     requires within { scope < length scopes.now }
     ensures there { IfSome result (λ i. (i < length (places_in listed.now scopes.now scope))
-        × (same_prefix (entry (map declaration names.now) (slice_index (places_in listed.now scopes.now scope) i)).prefix (prefix_view prefix.entry) ≡ true)) }
-    ensures absent { IfNone result (is_declared (prefix_view prefix.entry) (entries (map declaration names.now) (places_in listed.now scopes.now scope)) ≡ false) }
+        × (same_prefix (namespace_at (map namespace_view names.now) (slice_index (places_in listed.now scopes.now scope) i)).prefix (prefix_view prefix.entry) ≡ true)) }
+    ensures absent { IfNone result (is_declared (prefix_view prefix.entry) (entries (map namespace_view names.now) (places_in listed.now scopes.now scope)) ≡ false) }
 {
     for index in 0..count(scopes, scope) {
         let place = place_at(scopes, listed, scope, index);
@@ -381,8 +381,8 @@ pub fn index_of(
     requires scopes { AreScopes (length listed.now) scopes.now }
     requires within { scope < length scopes.now }
     ensures there { IfSome result (λ i. (i < length (places_in listed.now scopes.now scope))
-        × (same_prefix (entry (map declaration names.now) (slice_index (places_in listed.now scopes.now scope) i)).prefix (prefix_view prefix.entry) ≡ true)) }
-    ensures absent { IfNone result (is_declared (prefix_view prefix.entry) (entries (map declaration names.now) (places_in listed.now scopes.now scope)) ≡ false) }
+        × (same_prefix (namespace_at (map namespace_view names.now) (slice_index (places_in listed.now scopes.now scope) i)).prefix (prefix_view prefix.entry) ≡ true)) }
+    ensures absent { IfNone result (is_declared (prefix_view prefix.entry) (entries (map namespace_view names.now) (places_in listed.now scopes.now scope)) ≡ false) }
 {
     if let Some(index) = find(scopes, scope, guess) {
         let place = place_at(scopes, listed, scope, index);

@@ -5,7 +5,7 @@ ghost use Rattle.std.specs.Prelude.{◌≡◌, ◌<◌, ◌≤◌, ◌++◌, ℕ
 ghost use Rattle.std.specs.Option.{option_map};
 ghost use Rattle.rox_grammar.specs.Tree.{same_prefix, is_declared, uri_of};
 ghost use Rattle.rox_grammar.specs.WellNamed.{is_xml};
-ghost use Rattle.rox_tables.specs.Rows.{declaration, entry, OptionWithin, AreScopes};
+ghost use Rattle.rox_tables.specs.Rows.{namespace_view, namespace_at, OptionWithin, AreScopes};
 ghost use Rattle.rox_tables.specs.Scopes.{prefix_view, entries, places_in, is_few_at, ArePlaces, others};
 ghost use Rattle.rox_tables.specs.PrefixSet.{IsPrefixSet};
 ghost use Rattle.rox_tables.specs.Bindings.{LooksWithin, looked_up, places_view};
@@ -39,8 +39,8 @@ pub fn same_prefix(one: Option<&str>, other: Option<&str>) -> bool
 pub fn place_of(names: &[Namespace<'_>], places: &[u16], prefix: Option<&str>) -> Option<u16>
     requires { ArePlaces (length names.now) places.now }
     ensures there { IfSome result (λ i. (i < length names.now)
-        × (uri_of (entries (map declaration names.now) places.now) (prefix_view prefix.entry) ≡ Some (entry (map declaration names.now) i).uri)) }
-    ensures absent { IfNone result (uri_of (entries (map declaration names.now) places.now) (prefix_view prefix.entry) ≡ None) }
+        × (uri_of (entries (map namespace_view names.now) places.now) (prefix_view prefix.entry) ≡ Some (namespace_at (map namespace_view names.now) i).uri)) }
+    ensures absent { IfNone result (uri_of (entries (map namespace_view names.now) places.now) (prefix_view prefix.entry) ≡ None) }
 {
     for place in places {
         if same_prefix(names[*place as usize].name, prefix) {
@@ -55,8 +55,8 @@ pub fn place_of(names: &[Namespace<'_>], places: &[u16], prefix: Option<&str>) -
 pub fn default_place(names: &[Namespace<'_>], places: &[u16]) -> Option<u16>
     requires { ArePlaces (length names.now) places.now }
     ensures there { IfSome result (λ i. (i < length names.now)
-        × (uri_of (entries (map declaration names.now) places.now) None ≡ Some (entry (map declaration names.now) i).uri)) }
-    ensures absent { IfNone result (uri_of (entries (map declaration names.now) places.now) None ≡ None) }
+        × (uri_of (entries (map namespace_view names.now) places.now) None ≡ Some (namespace_at (map namespace_view names.now) i).uri)) }
+    ensures absent { IfNone result (uri_of (entries (map namespace_view names.now) places.now) None ≡ None) }
 {
     for place in places {
         if same_prefix(names[*place as usize].name, None) {
@@ -90,7 +90,7 @@ pub fn find(
 ) -> Option<u16>
     requires { LooksWithin (length names.now) (places_view few) present.now }
     ensures within { OptionWithin (length names.now) result }
-    ensures value { option_map (λ i. (entry (map declaration names.now) i).uri) result ≡ looked_up (map declaration names.now) (places_view few.entry) present.now (prefix_view prefix.entry) }
+    ensures value { option_map (λ i. (namespace_at (map namespace_view names.now) i).uri) result ≡ looked_up (map namespace_view names.now) (places_view few.entry) present.now (prefix_view prefix.entry) }
 {
     match few {
         Some(places) => place_of(names, places, prefix),
@@ -110,7 +110,7 @@ pub fn find_default(
 ) -> Option<u16>
     requires { LooksWithin (length names.now) (places_view few) present.now }
     ensures within { OptionWithin (length names.now) result }
-    ensures value { option_map (λ i. (entry (map declaration names.now) i).uri) result ≡ looked_up (map declaration names.now) (places_view few.entry) present.now None }
+    ensures value { option_map (λ i. (namespace_at (map namespace_view names.now) i).uri) result ≡ looked_up (map namespace_view names.now) (places_view few.entry) present.now None }
 {
     match few {
         Some(places) => default_place(names, places),
@@ -125,7 +125,7 @@ pub fn find_default(
 #[tactic(auto, using(crate::proofs::Pairs::declared_some, crate::proofs::Pairs::declared_none))]
 pub fn is_declared(names: &[Namespace<'_>], places: &[u16], prefix: Option<&str>) -> bool
     requires { ArePlaces (length names.now) places.now }
-    ensures { result ≡ is_declared (prefix_view prefix.entry) (entries (map declaration names.now) places.now) }
+    ensures { result ≡ is_declared (prefix_view prefix.entry) (entries (map namespace_view names.now) places.now) }
 {
     match place_of(names, places, prefix) {
         Some(_) => true,
@@ -153,8 +153,8 @@ fn is_among<'a>(
     prefix: Option<&'a str>,
 ) -> bool
     requires places { ArePlaces (length names.now) own.now }
-    requires many { IsPrefixSet (map declaration names.now) own.now many.now.keys }
-    ensures { result ≡ is_declared (prefix_view prefix.entry) (entries (map declaration names.now) own.now) }
+    requires many { IsPrefixSet (map namespace_view names.now) own.now many.now.keys }
+    ensures { result ≡ is_declared (prefix_view prefix.entry) (entries (map namespace_view names.now) own.now) }
 {
     if own.len() > FEW {
         return has_prefix(many, prefix);
@@ -173,8 +173,8 @@ pub fn is_own<'a>(
     prefix: Option<&'a str>,
 ) -> bool
     requires places { ArePlaces (length names.now) own.now }
-    requires many { IsPrefixSet (map declaration names.now) own.now many.now.keys }
-    ensures { result ≡ (is_declared (prefix_view prefix.entry) (entries (map declaration names.now) own.now) || (xml && is_xml (prefix_view prefix.entry))) }
+    requires many { IsPrefixSet (map namespace_view names.now) own.now many.now.keys }
+    ensures { result ≡ (is_declared (prefix_view prefix.entry) (entries (map namespace_view names.now) own.now) || (xml && is_xml (prefix_view prefix.entry))) }
 {
     is_among(names, own, many, prefix) || (xml && is_xml(prefix))
 }
@@ -191,11 +191,11 @@ pub fn inherit<'a>(
 ) -> Result<(), Failure>
     requires places { ArePlaces (length names.now) listed.old.items }
     requires own { own ≤ length listed.old.items }
-    requires many { IsPrefixSet (map declaration names.now) (drop own listed.old.items) many.now.keys }
+    requires many { IsPrefixSet (map namespace_view names.now) (drop own listed.old.items) many.now.keys }
     requires parent { (from ≤ until) × (until ≤ own) }
     ensures ok { OnOk result ((more : List ℕ) × (listed.new.items ≡ listed.old.items ++ more) × ArePlaces (length names.now) more
-        × (entries (map declaration names.now) more
-        ≡ others (entries (map declaration names.now) (drop own listed.old.items)) xml (entries (map declaration names.now) (slice_range listed.old.items from until)))) }
+        × (entries (map namespace_view names.now) more
+        ≡ others (entries (map namespace_view names.now) (drop own listed.old.items)) xml (entries (map namespace_view names.now) (slice_range listed.old.items from until)))) }
     ensures err { IfErr result (λ e. e ≡ Failure.Memory) }
 {
     let end = listed.len();

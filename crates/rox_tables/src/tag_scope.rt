@@ -4,8 +4,8 @@
 ghost use Rattle.std.specs.Prelude.{◌≡◌, ◌<◌, ◌≤◌, ◌++◌, Bool, false, ℕ, List, None, length, map, drop, reverse, slice_range, slice_index_or, IfOk, IfErr, OnOk};
 ghost use Rattle.rox_grammar.specs.Written.{NamespaceDecl};
 ghost use Rattle.rox_grammar.specs.Tree.{is_declared};
-ghost use Rattle.rox_tables.specs.Rows.{declaration, scope_at, AreScopes};
-ghost use Rattle.rox_tables.specs.Scopes.{prefix_view, entries, places_in, ArePlaces, Once, others, unlisted};
+ghost use Rattle.rox_tables.specs.Rows.{namespace_view, scope_at, AreScopes};
+ghost use Rattle.rox_tables.specs.Scopes.{prefix_view, entries, places_in, ArePlaces, PrefixesOnce, others, unlisted};
 ghost use Rattle.rox_tables.specs.PrefixSet.{IsPrefixSet};
 ghost use Rattle.rox_tables.specs.Bindings.{IsBound, bound_place};
 ghost use Rattle.rox_tables.specs.Ropes.{IsListed};
@@ -67,11 +67,11 @@ pub fn listed_below_few<'input>(
     requires places { ArePlaces (length names.now) listed.old.items }
     requires scopes { AreScopes (length listed.old.items) scopes.old.items }
     requires own { own ≤ length listed.old.items }
-    requires many { IsPrefixSet (map declaration names.now) (drop own listed.old.items) many.now.keys }
+    requires many { IsPrefixSet (map namespace_view names.now) (drop own listed.old.items) many.now.keys }
     requires above { (above.from ≤ above.until) × (above.until ≤ own) }
-    ensures value { IfOk result (λ s. IsListed (map declaration names.now) listed.old.items scopes.old.items listed.new.items scopes.new.items s
-        (entries (map declaration names.now) (drop own listed.old.items)
-        ++ others (entries (map declaration names.now) (drop own listed.old.items)) xml (entries (map declaration names.now) (slice_range listed.old.items above.from above.until)))) }
+    ensures value { IfOk result (λ s. IsListed (map namespace_view names.now) listed.old.items scopes.old.items listed.new.items scopes.new.items s
+        (entries (map namespace_view names.now) (drop own listed.old.items)
+        ++ others (entries (map namespace_view names.now) (drop own listed.old.items)) xml (entries (map namespace_view names.now) (slice_range listed.old.items above.from above.until)))) }
     ensures err { IfErr result (λ e. e ≡ Failure.Memory) }
 {
     let from = above.from as usize;
@@ -93,11 +93,11 @@ fn hide<'input>(
     requires places { ArePlaces (length names.now) listed.now }
     requires scopes { AreScopes (length listed.now) scopes.old.items }
     requires within { scope < length scopes.old.items }
-    requires once { Once (entries (map declaration names.now) (places_in listed.now scopes.old.items scope)) }
+    requires once { PrefixesOnce (entries (map namespace_view names.now) (places_in listed.now scopes.old.items scope)) }
     requires absent { bound_place present.now (prefix_view prefix) ≡ None
-        → is_declared (prefix_view prefix) (entries (map declaration names.now) (places_in listed.now scopes.old.items scope)) ≡ false }
-    ensures value { IfOk result (λ s. IsListed (map declaration names.now) listed.now scopes.old.items listed.now scopes.new.items s
-        (unlisted (prefix_view prefix.entry) (entries (map declaration names.now) (places_in listed.now scopes.old.items scope)))) }
+        → is_declared (prefix_view prefix) (entries (map namespace_view names.now) (places_in listed.now scopes.old.items scope)) ≡ false }
+    ensures value { IfOk result (λ s. IsListed (map namespace_view names.now) listed.now scopes.old.items listed.now scopes.new.items s
+        (unlisted (prefix_view prefix.entry) (entries (map namespace_view names.now) (places_in listed.now scopes.old.items scope)))) }
     ensures err { IfErr result (λ e. e ≡ Failure.Memory) }
 {
     let Some(place) = present.get(prefix) else {
@@ -125,10 +125,10 @@ fn hide_own<'input>(
     requires scopes { AreScopes (length listed.now) scopes.old.items }
     requires within { scope < length scopes.old.items }
     requires own { own ≤ length listed.now }
-    requires once { Once (entries (map declaration names.now) (places_in listed.now scopes.old.items scope)) }
-    requires bound { IsBound (map declaration names.now) (bound_place present.now) (entries (map declaration names.now) (places_in listed.now scopes.old.items scope)) }
-    ensures value { IfOk result (λ s. IsListed (map declaration names.now) listed.now scopes.old.items listed.now scopes.new.items s
-        (others (entries (map declaration names.now) (drop own listed.now)) xml (entries (map declaration names.now) (places_in listed.now scopes.old.items scope)))) }
+    requires once { PrefixesOnce (entries (map namespace_view names.now) (places_in listed.now scopes.old.items scope)) }
+    requires bound { IsBound (map namespace_view names.now) (bound_place present.now) (entries (map namespace_view names.now) (places_in listed.now scopes.old.items scope)) }
+    ensures value { IfOk result (λ s. IsListed (map namespace_view names.now) listed.now scopes.old.items listed.now scopes.new.items s
+        (others (entries (map namespace_view names.now) (drop own listed.now)) xml (entries (map namespace_view names.now) (places_in listed.now scopes.old.items scope)))) }
     ensures err { IfErr result (λ e. e ≡ Failure.Memory) }
 {
     let mut left = scope;
@@ -158,11 +158,11 @@ pub fn listed_below_many<'input>(
     requires scopes { AreScopes (length listed.old.items) scopes.old.items }
     requires above { above < length scopes.old.items }
     requires own { own ≤ length listed.old.items }
-    requires once { Once (entries (map declaration names.now) (places_in listed.old.items scopes.old.items above)) }
-    requires bound { IsBound (map declaration names.now) (bound_place present.now) (entries (map declaration names.now) (places_in listed.old.items scopes.old.items above)) }
-    ensures value { IfOk result (λ s. IsListed (map declaration names.now) listed.old.items scopes.old.items listed.new.items scopes.new.items s
-        (entries (map declaration names.now) (drop own listed.old.items)
-        ++ others (entries (map declaration names.now) (drop own listed.old.items)) xml (entries (map declaration names.now) (places_in listed.old.items scopes.old.items above)))) }
+    requires once { PrefixesOnce (entries (map namespace_view names.now) (places_in listed.old.items scopes.old.items above)) }
+    requires bound { IsBound (map namespace_view names.now) (bound_place present.now) (entries (map namespace_view names.now) (places_in listed.old.items scopes.old.items above)) }
+    ensures value { IfOk result (λ s. IsListed (map namespace_view names.now) listed.old.items scopes.old.items listed.new.items scopes.new.items s
+        (entries (map namespace_view names.now) (drop own listed.old.items)
+        ++ others (entries (map namespace_view names.now) (drop own listed.old.items)) xml (entries (map namespace_view names.now) (places_in listed.old.items scopes.old.items above)))) }
     ensures own { OnOk result (listed.new.items ≡ listed.old.items ++ reverse (drop own listed.old.items)) }
     ensures err { IfErr result (λ e. e ≡ Failure.Memory) }
 {
@@ -183,12 +183,12 @@ fn scope_below_few<'input>(
 ) -> Result<u32, Failure>
     requires places { ArePlaces (length elements.old.namespaces.items.items) elements.old.listed.items }
     requires own { own ≤ length elements.old.listed.items }
-    requires many { IsPrefixSet (map declaration elements.old.namespaces.items.items) (drop own elements.old.listed.items) many.now.keys }
+    requires many { IsPrefixSet (map namespace_view elements.old.namespaces.items.items) (drop own elements.old.listed.items) many.now.keys }
     requires scopes { AreScopes own elements.old.scopes.items }
     requires above { above < length elements.old.scopes.items }
     requires few { Scope.Few stretch ≡ slice_index_or elements.old.scopes.items above (Scope.Few stretch) }
-    requires once { Once (scope_at (lists_in elements.old) above) }
-    requires own_once { Once (entries (map declaration elements.old.namespaces.items.items) (drop own elements.old.listed.items)) }
+    requires once { PrefixesOnce (scope_at (lists_in elements.old) above) }
+    requires own_once { PrefixesOnce (entries (map namespace_view elements.old.namespaces.items.items) (drop own elements.old.listed.items)) }
     requires kept { HasBindings elements.old }
     ensures names { elements.new.namespaces ≡ elements.old.namespaces }
     ensures attributes { elements.new.attributes ≡ elements.old.attributes }
@@ -227,8 +227,8 @@ fn scope_below_many<'input>(
     requires own { own ≤ length elements.old.listed.items }
     requires scopes { AreScopes own elements.old.scopes.items }
     requires above { above < length elements.old.scopes.items }
-    requires once { Once (scope_at (lists_in elements.old) above) }
-    requires own_once { Once (entries (map declaration elements.old.namespaces.items.items) (drop own elements.old.listed.items)) }
+    requires once { PrefixesOnce (scope_at (lists_in elements.old) above) }
+    requires own_once { PrefixesOnce (entries (map namespace_view elements.old.namespaces.items.items) (drop own elements.old.listed.items)) }
     requires kept { HasBindings elements.old }
     ensures names { elements.new.namespaces ≡ elements.old.namespaces }
     ensures attributes { elements.new.attributes ≡ elements.old.attributes }
@@ -277,11 +277,11 @@ fn scope_below<'input>(
 ) -> Result<u32, Failure>
     requires places { ArePlaces (length elements.old.namespaces.items.items) elements.old.listed.items }
     requires own { own ≤ length elements.old.listed.items }
-    requires many { IsPrefixSet (map declaration elements.old.namespaces.items.items) (drop own elements.old.listed.items) many.now.keys }
+    requires many { IsPrefixSet (map namespace_view elements.old.namespaces.items.items) (drop own elements.old.listed.items) many.now.keys }
     requires scopes { AreScopes own elements.old.scopes.items }
     requires above { above < length elements.old.scopes.items }
-    requires once { Once (scope_at (lists_in elements.old) above) }
-    requires own_once { Once (entries (map declaration elements.old.namespaces.items.items) (drop own elements.old.listed.items)) }
+    requires once { PrefixesOnce (scope_at (lists_in elements.old) above) }
+    requires own_once { PrefixesOnce (entries (map namespace_view elements.old.namespaces.items.items) (drop own elements.old.listed.items)) }
     requires kept { HasBindings elements.old }
     ensures names { elements.new.namespaces ≡ elements.old.namespaces }
     ensures attributes { elements.new.attributes ≡ elements.old.attributes }
@@ -307,11 +307,11 @@ pub fn scope_of_tag<'input>(
 ) -> Result<u32, Failure>
     requires places { ArePlaces (length elements.old.namespaces.items.items) elements.old.listed.items }
     requires own { own ≤ length elements.old.listed.items }
-    requires many { IsPrefixSet (map declaration elements.old.namespaces.items.items) (drop own elements.old.listed.items) many.now.keys }
+    requires many { IsPrefixSet (map namespace_view elements.old.namespaces.items.items) (drop own elements.old.listed.items) many.now.keys }
     requires scopes { AreScopes own elements.old.scopes.items }
     requires above { above < length elements.old.scopes.items }
-    requires once { Once (scope_at (lists_in elements.old) above) }
-    requires own_once { Once (entries (map declaration elements.old.namespaces.items.items) (drop own elements.old.listed.items)) }
+    requires once { PrefixesOnce (scope_at (lists_in elements.old) above) }
+    requires own_once { PrefixesOnce (entries (map namespace_view elements.old.namespaces.items.items) (drop own elements.old.listed.items)) }
     requires kept { HasBindings elements.old }
     ensures names { elements.new.namespaces ≡ elements.old.namespaces }
     ensures attributes { elements.new.attributes ≡ elements.old.attributes }

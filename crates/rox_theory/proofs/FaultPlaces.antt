@@ -199,7 +199,7 @@ module _ (opens : ℕ → Inclusion) (es : List Entity) (limit : ℕ) (text : Li
     tag_fails s e begins opens' fine place h =
         let fits = fits_at s fine in
         let few = fits.namespaces in
-        let cut = machine.cut_off (is_main k) s.stack in
+        let cut = machine.cut_off_fault (is_main k) s.stack in
         bind_err (tag_at (tag_values es d k) cut (scope_of s.stack) (attributes_so_far s.stack s.done) (distinct_pairs (pairs_so_far s.stack s.done)) src s.at s.left) _ e h
         (λ bad. by_kind (tag_at_fails opens es values texts d k deep src utf8 (place_of s) s.left few e opens' bad))
         (λ x read h.

@@ -29,7 +29,7 @@ use Rattle.rox_reading.specs.Lexical.{byte_at, space_at, quote_at, name_at, stri
 use Rattle.rox_reading.specs.Markup.{comment_at, Instruction, instruction_at, cdata_at, EndTag, end_tag_at, pair_at, gap_at, pair_if, xml_decl_at}
 use Rattle.rox_reading.specs.Values.{Next, at_end, opening, data_part, part_text, raw_character_data_at, ReadText, value_at}
 use Rattle.rox_reading.specs.Tags.{TagRead, tag_at}
-use Rattle.rox_reading.specs.Machine.{Context, counted, with_item, comment_step, instruction_step, cdata_step, with_piece, at_place, after_part, data_parts, character_data_step, cut_off, opened_by, tag_step, name_span, same_qname, closed_by, end_step, step, drive, text_ends, drive_text, budget, values_of, opener, main_text}
+use Rattle.rox_reading.specs.Machine.{Context, counted, with_item, comment_step, instruction_step, cdata_step, with_piece, at_place, after_part, data_parts, character_data_step, cut_off_fault, opened_by, tag_step, name_span, same_qname, closed_by, end_step, step, drive, text_ends, drive_text, budget, values_of, opener, main_text}
 use Rattle.rox_reading.specs.Doctype.{Reply, AreTextReplies, Asks, asks_nothing, ◌>>>◌, quoted_at, system_at, public_at, external_id_at, name_or_end_at, notation_at, Definition, inner as text_inside, outer, definition_at, EntityHead, kind_at, entity_head_at, answer_text, Dtd, next_reply, replied, defined, entity_step, skipped_declaration, with_state, subset_end, subset, external_id_if, doctype_head_at, doctype_step}
 use Rattle.rox_reading.specs.WholeText.{misc, body, finished, prolog, doctype, reading}
 use Rattle.rox_theory.specs.ValidState.{IsValidState, state}
@@ -313,7 +313,7 @@ module _ (src : List ℕ) (bottom : Open) where
       (λ h. record { holds = named }))
 
   -- a tag that is cut off
-  cut_off_spans : (main : Bool) (stack : Open) → NamesText src (cut_off main stack)
+  cut_off_spans : (main : Bool) (stack : Open) → NamesText src (cut_off_fault main stack)
   cut_off_spans true root = tt
   cut_off_spans true (inside start tag before up) = tt
   cut_off_spans false stack = tt
@@ -409,7 +409,7 @@ module _ (src : List ℕ) (bottom : Open) where
     tag_step_told : (s : State) → byte src s.at ≡ 60 → StateNamed s → Told State src StateNamed (tag_step how src s)
     unfolding tag_step
     tag_step_told s opens' named =
-        let cut = cut_off how.values.main s.stack in
+        let cut = cut_off_fault how.values.main s.stack in
         let known = distinct_pairs (pairs_so_far s.stack s.done) in
         told_bind src (λ (x : TagRead × ℕ). IsTextSpan src (name_span x.0.tag.name (s.at + 1) x.0.tag.name_end)) _
         (tag_at how.values cut (scope_of s.stack) (attributes_so_far s.stack s.done) known src s.at s.left) _

@@ -17,7 +17,7 @@ use Rattle.rox_reading.specs.Markup.{comment_at, Instruction, instruction_at, cd
 use Rattle.rox_reading.specs.Tags.{tag_at}
 use Rattle.rox_grammar.specs.State.{Open, root, inside, scope_of, attributes_so_far, pairs_so_far}
 use Rattle.rox_reading.specs.State.{State, depth_of}
-use Rattle.rox_reading.specs.Machine.{Context, comment_step, cdata_step, instruction_step, end_step, tag_step, opened_by, closed_by, cut_off, same_qname, step}
+use Rattle.rox_reading.specs.Machine.{Context, comment_step, cdata_step, instruction_step, end_step, tag_step, opened_by, closed_by, cut_off_fault, same_qname, step}
 use Rattle.rox_theory.specs.Openers.{AgreesValue}
 use Rattle.rox_theory.proofs.Basics.{ok_same, bind_ok, bind_lifted_only, chosen, within}
 use Rattle.rox_theory.proofs.NameLemmas.{qname_le}
@@ -66,8 +66,8 @@ module _ (how : Context) (O : Inclusion) (values : AgreesValue how.values.entiti
   pub tag_read : (most : ℕ) (s t : State) → how.limit ≤ most → byte src s.at ≡ 60 → IsValidState most s → tag_step how src s ≡ Ok t → Tags s t × IsValidState most t
   unfolding tag_step
   tag_read most s t limits here fine h =
-      bind_ok (tag_at how.values (cut_off how.values.main s.stack) (scope_of s.stack) (attributes_so_far s.stack s.done) (distinct_pairs (pairs_so_far s.stack s.done)) src s.at s.left) _ _ h (λ x read h.
-      let sound = tags.tag_sound how.values O values src utf8 (cut_off how.values.main s.stack) (scope_of s.stack) (attributes_so_far s.stack s.done) (distinct_pairs (pairs_so_far s.stack s.done)) s.at x.1 s.left x.0 here fine.pairs read in
+      bind_ok (tag_at how.values (cut_off_fault how.values.main s.stack) (scope_of s.stack) (attributes_so_far s.stack s.done) (distinct_pairs (pairs_so_far s.stack s.done)) src s.at s.left) _ _ h (λ x read h.
+      let sound = tags.tag_sound how.values O values src utf8 (cut_off_fault how.values.main s.stack) (scope_of s.stack) (attributes_so_far s.stack s.done) (distinct_pairs (pairs_so_far s.stack s.done)) s.at x.1 s.left x.0 here fine.pairs read in
       let stands = sound.0 in
       let adds : Adds s (Element s.at x.1 x.0.tag) = record { attributes = stands.attributes; pairs = stands.pairs; named = stands.well_named } in
       bind_lifted_only (opened_by how.limit s x.0.tag x.0.empty x.0.left x.1) t h (λ h.
@@ -188,7 +188,7 @@ module _ (how : Context) (O : Inclusion) (values : AgreesValue how.values.entiti
       let found = opened_found s j c tag empty fine in
       let adds = found.0 in
       let opened = found.1 in
-      let read = tags.tag_complete how.values O values src utf8 (cut_off how.values.main s.stack) (scope_of s.stack) (attributes_so_far s.stack s.done) (distinct_pairs (pairs_so_far s.stack s.done)) s.at j s.left c tag empty is adds.named adds.attributes adds.pairs in
+      let read = tags.tag_complete how.values O values src utf8 (cut_off_fault how.values.main s.stack) (scope_of s.stack) (attributes_so_far s.stack s.done) (distinct_pairs (pairs_so_far s.stack s.done)) s.at j s.left c tag empty is adds.named adds.attributes adds.pairs in
       rw (read, opened) refl
 
   tag_found : (s : State) (j c : ℕ) (tag : Tag) (empty : Bool) → IsTag how.values.main O src s.at j s.left c empty tag → IsValidState how.limit (after s j tag empty c) → step how src s ≡ Ok (after s j tag empty c)

@@ -1,19 +1,19 @@
 -- Rows of namespaces and of attributes, and what they name.
 use Rattle.std.proofs.Common.{◌≡◌, ℕ, zero, suc, ◌<◌, ◌≤◌, List, [], ◌∷◌, length, get_or, map, ap, arith}
 use Rattle.rox_tables.specs.Storage.{storage_bytes}
-use Rattle.rox_tables.specs.Rows.{declaration, entry, NamespaceWithin}
+use Rattle.rox_tables.specs.Rows.{namespace_view, namespace_at, NamespaceWithin}
 use Rattle.rox_tables.specs.declared.tables.Namespace.{Namespace}
 use Rattle.rox_tables.specs.declared.tables.AttributeNamespace.{AttributeNamespace}
 use Rattle.rox_tables.specs.declared.tables.AttributeNamespace.TheVariants as space
 use Rattle.roxmltree.specs.NamespaceBound.{namespace_bound}
 
 -- a namespace's row is the entry of its place
-pub entry_is : (ns : List Namespace) (i : ℕ) (x : Namespace) → i < length ns → x ≡ get_or ns i x → declaration x ≡ entry (map declaration ns) i
+pub entry_is : (ns : List Namespace) (i : ℕ) (x : Namespace) → i < length ns → x ≡ get_or ns i x → namespace_view x ≡ namespace_at (map namespace_view ns) i
 entry_is [] i x l e = absurd (omega arith)
-entry_is (n ∷ ns) zero x l e = ap declaration e
+entry_is (n ∷ ns) zero x l e = ap namespace_view e
 entry_is (n ∷ ns) (suc i) x l e = entry_is ns i x (omega arith) e
 
-pub entry_uri : (ns : List Namespace) (i : ℕ) (x : Namespace) → i < length ns → x ≡ get_or ns i x → storage_bytes x.uri ≡ (entry (map declaration ns) i).uri
+pub entry_uri : (ns : List Namespace) (i : ℕ) (x : Namespace) → i < length ns → x ≡ get_or ns i x → storage_bytes x.uri ≡ (namespace_at (map namespace_view ns) i).uri
 entry_uri ns i x l e = ap (λ d. d.uri) (entry_is ns i x l e)
 
 -- what is named in a table is within its length

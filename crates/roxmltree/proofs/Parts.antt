@@ -4,7 +4,7 @@ use Rattle.std.specs.Option.{option_map}
 use Rattle.rox_grammar.specs.Forest.{Forest, size}
 use Rattle.rox_grammar.specs.Tree.{Node}
 use Rattle.rox_grammar.specs.Written.{NamespaceDecl}
-use Rattle.rox_tables.specs.Rows.{HoldsTree, KindWithin, node, names_of, scopes_of, attribute, entry, attribute_rows, AttributeRow}
+use Rattle.rox_tables.specs.Rows.{HoldsTree, KindWithin, node, names_of, scopes_of, attribute, namespace_at, attribute_rows, AttributeRow}
 use Rattle.rox_tables.specs.Scopes.{places_in}
 use Rattle.rox_tables.specs.declared.tables.NodeKind.{NodeKind}
 use Rattle.rox_tables.specs.declared.tables.NodeKind.TheVariants as kind
@@ -22,7 +22,7 @@ row_node : (t : Tables) (f : Forest Node) (i : ℕ) (x : NodeData) → HoldsTree
 row_node t f i x h l e = ap (λ r. r.node) (row_line t f i x h (in_rows t f i h l) e)
 
 -- an element's row
-pub row_namespace : (t : Tables) (f : Forest Node) (i : ℕ) (x : NodeData) (e : ElementData) → HoldsTree t f → i < size f → x ≡ get_or t.nodes.items i x → x.kind ≡ kind.Element e → option_map (λ p. (entry (names_of t) p).uri) e.namespace ≡ namespace_of (place f i).item
+pub row_namespace : (t : Tables) (f : Forest Node) (i : ℕ) (x : NodeData) (e : ElementData) → HoldsTree t f → i < size f → x ≡ get_or t.nodes.items i x → x.kind ≡ kind.Element e → option_map (λ p. (namespace_at (names_of t) p).uri) e.namespace ≡ namespace_of (place f i).item
 row_namespace t f i x e h l r k =
     ap (λ v. namespace_of (node (attribute_rows t.attributes) (names_of t) (scopes_of t) x.start x.end v)) (sym k) ∙ ap namespace_of (row_node t f i x h l r)
 
@@ -35,7 +35,7 @@ element_within t f i x e h l r k =
     subst (λ v. KindWithin (length (attribute_rows t.attributes)) (length t.namespaces.items) (length t.scopes.items) v) k (row_within t f i x h l r)
 
 -- its namespaces
-pub row_listed : (t : Tables) (f : Forest Node) (i : ℕ) (x : NodeData) (e : ElementData) → HoldsTree t f → i < size f → x ≡ get_or t.nodes.items i x → x.kind ≡ kind.Element e → map (entry (names_of t)) (places_in t.listed.items t.scopes.items e.scope) ≡ listed_of (place f i).item
+pub row_listed : (t : Tables) (f : Forest Node) (i : ℕ) (x : NodeData) (e : ElementData) → HoldsTree t f → i < size f → x ≡ get_or t.nodes.items i x → x.kind ≡ kind.Element e → map (namespace_at (names_of t)) (places_in t.listed.items t.scopes.items e.scope) ≡ listed_of (place f i).item
 row_listed t f i x e h l r k =
     sym (scope_places (names_of t) t.listed.items t.scopes.items e.scope)
     ∙ ap (λ v. listed_of (node (attribute_rows t.attributes) (names_of t) (scopes_of t) x.start x.end v)) (sym k) ∙ ap listed_of (row_node t f i x h l r)

@@ -4,7 +4,7 @@ use Rattle.std.specs.Coded.{Coded, coded_list}
 use Rattle.std.specs.List.{AllByRecursion, zip}
 use Rattle.rox_grammar.specs.Written.{NamespaceDecl}
 use Rattle.rox_grammar.specs.Tree as tree
-use Rattle.rox_tables.specs.Rows.{attribute, declaration, entry, AreScopes, NamespaceWithin}
+use Rattle.rox_tables.specs.Rows.{attribute, namespace_view, namespace_at, AreScopes, NamespaceWithin}
 use Rattle.rox_tables.specs.Scopes.{places_in, ArePlaces}
 use Rattle.roxmltree.specs.TreeCodes.{attribute_code, namespace_decl_code}
 use Rattle.roxmltree.specs.declared.elements.Attribute.{Attribute}
@@ -19,11 +19,11 @@ namespace_decls_code = coded_list namespace_decl_code
 
 -- an attribute as callers see it
 abbrev pub attribute_of : Attribute → tree.Attribute
-attribute_of a = attribute (map declaration a.names.now) (a.data.now, a.places.now)
+attribute_of a = attribute (map namespace_view a.names.now) (a.data.now, a.places.now)
 
 -- those that are left
 abbrev pub attributes_left : attributes.Inside → List tree.Attribute
-attributes_left a = map (attribute (map declaration a.names.now)) (slice_range (zip a.items.now a.places.now) a.from a.until)
+attributes_left a = map (attribute (map namespace_view a.names.now)) (slice_range (zip a.items.now a.places.now) a.from a.until)
 
 -- they are a stretch of two columns, and each of these has its namespace in the table
 pub record AttributesWithin (a : attributes.Inside) : Type 0 where
@@ -37,7 +37,7 @@ abbrev pub places_left : namespaces.Inside → List ℕ
 places_left n = slice_range (places_in n.listed.now n.scopes.now n.scope) n.from n.until
 
 abbrev pub namespaces_left : namespaces.Inside → List NamespaceDecl
-namespaces_left n = map (entry (map declaration n.names.now)) (places_left n)
+namespaces_left n = map (namespace_at (map namespace_view n.names.now)) (places_left n)
 
 -- they are a stretch of these, and each place that is listed is in the table
 pub record NamespacesWithin (n : namespaces.Inside) : Type 0 where

@@ -2,7 +2,7 @@
 
 ghost use Rattle.std.specs.Prelude.{◌≡◌, ◌≤◌, ◌-◌, length, bytes_eq};
 ghost use Rattle.std.specs.Option.{option_map, option_eq};
-ghost use Rattle.rox_tables.specs.Rows.{declaration};
+ghost use Rattle.rox_tables.specs.Rows.{namespace_view};
 ghost use Rattle.roxmltree.specs.NamespaceBound.{namespace_bound};
 
 use crate::names::{ExpandedName, NS_XML_URI};
@@ -177,7 +177,7 @@ impl<'a, 'input> Attributes<'a, 'input> {
         requires ordered { from ≤ until }
         requires within { until ≤ length items.now }
         requires named { AllByRecursion (λ a. NamespaceWithin (length names.now) a.namespace) items.now }
-        ensures { result ≡ map (attribute (map declaration names.now)) (slice_range (zip items.now places.now) from until) }
+        ensures { result ≡ map (attribute (map namespace_view names.now)) (slice_range (zip items.now places.now) from until) }
     {
         Attributes {
             items,
@@ -287,7 +287,7 @@ impl<'a, 'input> Model for NamespaceIter<'a, 'input> {
 
 impl<'a, 'input> NamespaceIter<'a, 'input> {
     ghost use Rattle.std.specs.Prelude.{[], map, ◌<◌, ◌^◌};
-    ghost use Rattle.rox_tables.specs.Rows.{entry, AreScopes};
+    ghost use Rattle.rox_tables.specs.Rows.{namespace_at, AreScopes};
     ghost use Rattle.rox_tables.specs.Scopes.{places_in, ArePlaces};
 
     /// All that a scope lists of these places, in this table of namespaces.
@@ -302,7 +302,7 @@ impl<'a, 'input> NamespaceIter<'a, 'input> {
         requires is_row { scope < length scopes.now }
         requires scopes { AreScopes (length listed.now) scopes.now }
         requires named { ArePlaces (length names.now) listed.now }
-        ensures value { result ≡ map (entry (map declaration names.now)) (places_in listed.now scopes.now scope) }
+        ensures value { result ≡ map (namespace_at (map namespace_view names.now)) (places_in listed.now scopes.now scope) }
         ensures few { length result < 2 ^ 64 }
     {
         NamespaceIter {
@@ -346,7 +346,7 @@ impl<'a, 'input> Iterator for NamespaceIter<'a, 'input> {
     ghost use Rattle.std.specs.Iterator.{YieldsFirstBy, item_count, UpTo};
     ghost use Rattle.std.specs.Iterator.SizeHint.{IsWithinCount};
 
-    ghost next_gives = { YieldsFirstBy (λ n. declaration n.now) (λ s. s) };
+    ghost next_gives = { YieldsFirstBy (λ n. namespace_view n.now) (λ s. s) };
 
     ghost remaining = { item_count (λ s. s) };
 
@@ -374,7 +374,7 @@ impl<'a, 'input> Iterator for NamespaceIter<'a, 'input> {
 impl<'a, 'input> DoubleEndedIterator for NamespaceIter<'a, 'input> {
     ghost use Rattle.std.specs.Iterator.{YieldsLastBy};
 
-    ghost next_back_gives = { YieldsLastBy (λ n. declaration n.now) (λ s. s) };
+    ghost next_back_gives = { YieldsLastBy (λ n. namespace_view n.now) (λ s. s) };
 
     #[tactic(auto, using(crate::proofs::Ends::length_stretch))]
     fn next_back(&mut self) -> Option<&'a Namespace<'input>> {

@@ -25,7 +25,7 @@ start_tag-requires-clause-once c = c.scope-above.ensures.once c.requires.fine
 pub returns-in_err-tag-clause-value : goal.returns-in_err-tag-clause-value
 returns-in_err-tag-clause-value c = λ limit end es s declared h.
     let p = err_from_is_err_and c.from_residual.result c.from_residual.ensures.1 in
-    rw (p.1, p.2) (tag_fails (context_of limit es c.args.how) c.args.cursor.now.text.now s c.args.cursor.now.pos _ _ _ _ c.in_err-tag.field-0.0 h.here (c.cut_off-cut.ensures end s.stack s.done h.shows)
+    rw (p.1, p.2) (tag_fails (context_of limit es c.args.how) c.args.cursor.now.text.now s c.args.cursor.now.pos _ _ _ _ c.in_err-tag.field-0.0 h.here (c.cut_off_fault-cut.ensures end s.stack s.done h.shows)
     (c.scope-above.ensures.value c.requires.fine end s.stack s.done h.shows) h.attributes h.names (rw h.left_is at (c.in_err-tag.ensures.value es declared)))
 
 pub returns-then-tag-clause-value : goal.returns-then-tag-clause-value
@@ -43,7 +43,7 @@ returns-then-tag-clause-value c = λ limit end es s declared h.
     let node : IsNode new (scope_of s.stack) pos d.pos (kind.Element t.element) (Element s.at d.pos v.0) =
     subst (λ (n : ℕ). IsNode new (scope_of s.stack) pos d.pos (kind.Element t.element) (Element n d.pos v.0)) h.here (is_node old new t (scope_of s.stack) v.0 pos d.pos tg) in
     let adds = c.leaf.ensures.value end d.pos (with_left t.left s) (Element s.at d.pos v.0) shows node in
-    rw (tag_is (context_of limit es c.args.how) c.args.cursor.now.text.now s pos _ _ _ _ v.0 t.empty t.left d.pos h.here (c.cut_off-cut.ensures end s.stack s.done h.shows) sc h.attributes h.names v.1
+    rw (tag_is (context_of limit es c.args.how) c.args.cursor.now.text.now s pos _ _ _ _ v.0 t.empty t.left d.pos h.here (c.cut_off_fault-cut.ensures end s.stack s.done h.shows) sc h.attributes h.names v.1
     ∙ ap (λ (e : Bool). lifted (opened_by limit s v.0 e t.left d.pos)) c.if-tag.true)
     (subst (λ r. ScansTo limit end r d c.leaf.new.self (lifted (opened_by limit s v.0 true t.left d.pos))) c.in_ok-leaf.was
     (empty_stepped limit end t.left s d old new b.nodes_limit c.leaf.new.self c.leaf.result t (scope_of s.stack) v.0 tg h.names h.attributes h.limit_is c.leaf.ensures.left c.leaf.ensures.tables c.leaf.ensures.limit adds))
@@ -67,7 +67,7 @@ returns-in_err-leaf-clause-value c = λ limit end es s declared h.
     rw (
       p.1,
       p.2,
-      tag_is (context_of limit es c.args.how) c.args.cursor.now.text.now s pos _ _ _ _ v.0 t.empty t.left d.pos h.here (c.cut_off-cut.ensures end s.stack s.done h.shows) sc h.attributes h.names v.1
+      tag_is (context_of limit es c.args.how) c.args.cursor.now.text.now s pos _ _ _ _ v.0 t.empty t.left d.pos h.here (c.cut_off_fault-cut.ensures end s.stack s.done h.shows) sc h.attributes h.names v.1
           ∙ ap (λ (e : Bool). lifted (opened_by limit s v.0 e t.left d.pos)) c.if-tag.true,
     )
     (refused_too c.in_err-leaf.field-0.0 (lifted (opened_by limit s v.0 true t.left d.pos)) (subst (λ r. ScansTo limit end r d c.leaf.new.self (lifted (opened_by limit s v.0 true t.left d.pos))) c.in_err-leaf.was
@@ -86,7 +86,7 @@ returns-clause-value c = λ limit end es s declared h.
     let tg : Tagged old new t (scope_of s.stack) v.0 = subst (λ (a : List NamespaceDecl). Tagged old new t a v.0) sc v.2 in
     let shows = grown_shows end s.stack s.done b _ h.shows c.requires.fine.sound c.requires.fine.elements (grown_by old new t (scope_of s.stack) v.0 tg) refl refl refl refl in
     let adds = c.open_element.ensures.value end d.pos t.left s v.0 shows (sym h.here) (is_opening old new t (scope_of s.stack) v.0 pos tg c.in_ok-tag.ensures.starts) in
-    rw (tag_is (context_of limit es c.args.how) c.args.cursor.now.text.now s pos _ _ _ _ v.0 t.empty t.left d.pos h.here (c.cut_off-cut.ensures end s.stack s.done h.shows) sc h.attributes h.names v.1
+    rw (tag_is (context_of limit es c.args.how) c.args.cursor.now.text.now s pos _ _ _ _ v.0 t.empty t.left d.pos h.here (c.cut_off_fault-cut.ensures end s.stack s.done h.shows) sc h.attributes h.names v.1
     ∙ ap (λ (e : Bool). lifted (opened_by limit s v.0 e t.left d.pos)) c.if-tag.false)
     (subst (λ r. ScansTo limit end r d c.open_element.new.self (lifted (opened_by limit s v.0 false t.left d.pos))) c.in_ok-open_element.was
     (open_stepped limit end t.left s d old new b.nodes_limit c.open_element.new.self c.open_element.result t (scope_of s.stack) v.0 tg h.names h.attributes h.limit_is c.open_element.ensures.left c.open_element.ensures.tables c.open_element.ensures.limit adds))
@@ -108,7 +108,7 @@ returns-in_err-open_element-clause-value c = λ limit end es s declared h.
     rw (
       p.1,
       p.2,
-      tag_is (context_of limit es c.args.how) c.args.cursor.now.text.now s pos _ _ _ _ v.0 t.empty t.left d.pos h.here (c.cut_off-cut.ensures end s.stack s.done h.shows) sc h.attributes h.names v.1
+      tag_is (context_of limit es c.args.how) c.args.cursor.now.text.now s pos _ _ _ _ v.0 t.empty t.left d.pos h.here (c.cut_off_fault-cut.ensures end s.stack s.done h.shows) sc h.attributes h.names v.1
           ∙ ap (λ (e : Bool). lifted (opened_by limit s v.0 e t.left d.pos)) c.if-tag.false,
     )
     (refused_too c.in_err-open_element.field-0.0 (lifted (opened_by limit s v.0 false t.left d.pos)) (subst (λ r. ScansTo limit end r d c.open_element.new.self (lifted (opened_by limit s v.0 false t.left d.pos))) c.in_err-open_element.was

@@ -25,19 +25,19 @@ top : (limit : ℕ) (allow : Bool) (src : List ℕ) (i : ℕ) (s : State) (asked
 top limit allow src i s asked d before read =
     doctype_open limit allow src (left_with (replies_of asked ++ []) (undeclared s)) (left_with [] d) root (misc_open limit (length src) src (start_state i) s before) (ap (λ p. p.1) (read []))
 
-pub returns-in_err-lead-clause-value : goal.returns-in_err-lead-clause-value
-returns-in_err-lead-clause-value g c = λ limit end here sees.
+pub returns-in_err-prolog_start-clause-value : goal.returns-in_err-prolog_start-clause-value
+returns-in_err-prolog_start-clause-value g c = λ limit end here sees.
     let allows = Allows g.R.EntityResolver.allows c.args.resolver.now in
     let q = err_from_is_err_and c.from_residual.result c.from_residual.ensures.1 in
-    ([], none_given allows, rw (q.1, q.2) (beginning_fails allows limit c.args.allow c.args.cursor.now.text.now c.in_err-lead.field-0.0 (c.in_err-lead.ensures.value limit end here sees)))
+    ([], none_given allows, rw (q.1, q.2) (beginning_fails allows limit c.args.allow c.args.cursor.now.text.now c.in_err-prolog_start.field-0.0 (c.in_err-prolog_start.ensures.value limit end here sees)))
 
 pub returns-in_err-dtd-clause-value : goal.returns-in_err-dtd-clause-value
 returns-in_err-dtd-clause-value g c = λ limit end here sees.
     let allows = Allows g.R.EntityResolver.allows c.args.resolver.now in
     let q = err_from_is_err_and c.from_residual-in_err-dtd.result c.from_residual-in_err-dtd.ensures.1 in
     let src = c.args.cursor.now.text.now in
-    let l = c.in_ok-lead.ensures.value limit end here sees in
-    let same = ap (λ t. t.now) c.in_ok-lead.ensures.source in
+    let l = c.in_ok-prolog_start.ensures.value limit end here sees in
+    let same = ap (λ t. t.now) c.in_ok-prolog_start.ensures.source in
     let x = rw same at (c.in_err-dtd.ensures.value limit end (undeclared l.0) l.2 c.new-entities.ensures) in
     beginning_parts limit src l.0 (lifted_ok (beginning limit src) l.0 l.1) (λ i is before. (
       x.0,
@@ -52,8 +52,8 @@ returns-in_err-rest-clause-value g c = λ limit end here sees.
     let allows = Allows g.R.EntityResolver.allows c.args.resolver.now in
     let q = err_from_is_err_and c.from_residual-in_err-rest.result c.from_residual-in_err-rest.ensures.1 in
     let src = c.args.cursor.now.text.now in
-    let l = c.in_ok-lead.ensures.value limit end here sees in
-    let same = ap (λ t. t.now) c.in_ok-lead.ensures.source in
+    let l = c.in_ok-prolog_start.ensures.value limit end here sees in
+    let same = ap (λ t. t.now) c.in_ok-prolog_start.ensures.source in
     let x = rw same at (c.in_ok-dtd.ensures.value limit end (undeclared l.0) l.2 c.new-entities.ensures) in
     let d = x.2.read.dtd in
     let text = ap (λ t. t.now) c.in_ok-dtd.ensures.source ∙ same in
@@ -65,8 +65,8 @@ returns-in_err-rest-clause-value g c = λ limit end here sees.
 pub returns-clause-value : goal.returns-clause-value
 returns-clause-value g c = λ limit end here sees.
     let src = c.args.cursor.now.text.now in
-    let l = c.in_ok-lead.ensures.value limit end here sees in
-    let same = ap (λ t. t.now) c.in_ok-lead.ensures.source in
+    let l = c.in_ok-prolog_start.ensures.value limit end here sees in
+    let same = ap (λ t. t.now) c.in_ok-prolog_start.ensures.source in
     let x = rw same at (c.in_ok-dtd.ensures.value limit end (undeclared l.0) l.2 c.new-entities.ensures) in
     let d = x.2.read.dtd in
     let text = ap (λ t. t.now) c.in_ok-dtd.ensures.source ∙ same in

@@ -3,7 +3,7 @@ use Rattle.std.proofs.lemmas.Result.{err_from_is_err_and}
 use Rattle.std.proofs.lemmas.Bool.{leb-true, leb-false}
 use Rattle.rox_reading.specs.Markup.{tag_item_at, more}
 use Rattle.rox_scan.specs.Views.{attribute_view, tag_item_view}
-use Rattle.rox_scan.specs.declared.markup.TagItem.{TagItem as CodeTurn}
+use Rattle.rox_scan.specs.declared.markup.TagItem.{TagItem as CodeTagItem}
 use Rattle.rox_values.specs.Refusals.{IsRefusal}
 use Rattle.rox_values.specs.DeclaredEntities.{values_in}
 use Rattle.rox_build.specs.TagState.{one_more}
@@ -30,26 +30,26 @@ returns-in_err-raw-clause-took c = λ es known before h declared o hold.
     let one : n ≡ suc (n - 1) = omega arith in
     rw (p.1, p.2) (going_fails (values_in es c.args.how) known before c.args.cut src _ n (n - 1) c.attributes.cursor.pos c.attributes.left _ _ _ _ c.in_err-raw.field-0.0 g one inside is)
 
-pub take-requires-clause-placed : goal.take-requires-clause-placed
-take-requires-clause-placed c =
+pub add_attribute-requires-clause-placed : goal.take-requires-clause-placed
+add_attribute-requires-clause-placed c =
     let src = c.args.cursor.now.text.now in
     let s = ap (λ t. t.now) c.attributes.invariant.source in
-    let is : tag_item_at c.attributes.cursor.text.now c.attributes.cursor.pos ≡ Ok (more (attribute_view c.in-More.raw), c.turn.new.self.pos) =
-    c.in_ok-raw.ensures.value ∙ ap (λ (t : CodeTurn). Ok (tag_item_view t, c.turn.new.self.pos)) c.in-More.is in
-    let k = turn_gives c.attributes.cursor.text.now c.attributes.cursor.pos (attribute_view c.in-More.raw) c.turn.new.self.pos is in
+    let is : tag_item_at c.attributes.cursor.text.now c.attributes.cursor.pos ≡ Ok (more (attribute_view c.in-More.raw), c.tag_item.new.self.pos) =
+    c.in_ok-raw.ensures.value ∙ ap (λ (t : CodeTagItem). Ok (tag_item_view t, c.tag_item.new.self.pos)) c.in-More.is in
+    let k = turn_gives c.attributes.cursor.text.now c.attributes.cursor.pos (attribute_view c.in-More.raw) c.tag_item.new.self.pos is in
     let w = k.within in
     let small = c.byte_count-count.ensures.small in
     let l : length c.attributes.cursor.text.now ≡ length src = ap length s in
     omega arith
 
-pub take-requires-clause-end : goal.take-requires-clause-end
-take-requires-clause-end c =
-    let is : tag_item_at c.attributes.cursor.text.now c.attributes.cursor.pos ≡ Ok (more (attribute_view c.in-More.raw), c.turn.new.self.pos) =
-    c.in_ok-raw.ensures.value ∙ ap (λ (t : CodeTurn). Ok (tag_item_view t, c.turn.new.self.pos)) c.in-More.is in
-    (turn_gives c.attributes.cursor.text.now c.attributes.cursor.pos (attribute_view c.in-More.raw) c.turn.new.self.pos is).end
+pub add_attribute-requires-clause-end : goal.take-requires-clause-end
+add_attribute-requires-clause-end c =
+    let is : tag_item_at c.attributes.cursor.text.now c.attributes.cursor.pos ≡ Ok (more (attribute_view c.in-More.raw), c.tag_item.new.self.pos) =
+    c.in_ok-raw.ensures.value ∙ ap (λ (t : CodeTagItem). Ok (tag_item_view t, c.tag_item.new.self.pos)) c.in-More.is in
+    (turn_gives c.attributes.cursor.text.now c.attributes.cursor.pos (attribute_view c.in-More.raw) c.tag_item.new.self.pos is).end
 
-pub take-requires-clause-scopes : goal.take-requires-clause-scopes
-take-requires-clause-scopes c = rw c.attributes.invariant.scopes c.requires.scopes
+pub add_attribute-requires-clause-scopes : goal.take-requires-clause-scopes
+add_attribute-requires-clause-scopes c = rw c.attributes.invariant.scopes c.requires.scopes
 
 pub returns-in_err-xml-in-More-clause-took : goal.returns-in_err-xml-in-More-clause-took
 returns-in_err-xml-in-More-clause-took c = λ es known before h declared o hold.
@@ -58,14 +58,14 @@ returns-in_err-xml-in-More-clause-took c = λ es known before h declared o hold.
     let s = ap (λ t. t.now) c.attributes.invariant.source in
     let g = c.attributes.invariant.reads es known before h declared o hold in
     let inside : c.attributes.cursor.pos < length src = rw s at (leb-false _ _ (sym c.is_at_end.ensures ∙ c.if-is_at_end.false)) in
-    let is0 : tag_item_at c.attributes.cursor.text.now c.attributes.cursor.pos ≡ Ok (more (attribute_view c.in-More.raw), c.turn.new.self.pos) =
-    c.in_ok-raw.ensures.value ∙ ap (λ (t : CodeTurn). Ok (tag_item_view t, c.turn.new.self.pos)) c.in-More.is in
+    let is0 : tag_item_at c.attributes.cursor.text.now c.attributes.cursor.pos ≡ Ok (more (attribute_view c.in-More.raw), c.tag_item.new.self.pos) =
+    c.in_ok-raw.ensures.value ∙ ap (λ (t : CodeTagItem). Ok (tag_item_view t, c.tag_item.new.self.pos)) c.in-More.is in
     let is = rw s at is0 in
     let p = err_from_is_err_and c.from_residual-in_err-xml-in-More.result c.from_residual-in_err-xml-in-More.ensures.1 in
     let one : n ≡ suc (n - 1) = omega arith in
-    let after = ap (λ t. t.now) c.turn.ensures.source ∙ s in
+    let after = ap (λ t. t.now) c.tag_item.ensures.source ∙ s in
     let took : IsRefusal c.in_err-xml-in-More.field-0.0 (one_more (values_in es c.args.how) known src (attribute_view c.in-More.raw) c.attributes.left g.h) = rw after at (c.in_err-xml-in-More.ensures.took es known before g.h declared o g.holding) in
-    let fails = going_stops (values_in es c.args.how) known before c.args.cut src _ n (n - 1) c.attributes.cursor.pos c.turn.new.self.pos c.attributes.left _ _ _ _ (attribute_view c.in-More.raw) c.in_err-xml-in-More.field-0.0 g one inside is took in
+    let fails = going_stops (values_in es c.args.how) known before c.args.cut src _ n (n - 1) c.attributes.cursor.pos c.tag_item.new.self.pos c.attributes.left _ _ _ _ (attribute_view c.in-More.raw) c.in_err-xml-in-More.field-0.0 g one inside is took in
     rw (p.1, p.2) fails
 
 pub returns-in-Open-clause-took : goal.returns-in-Open-clause-took
@@ -77,7 +77,7 @@ returns-in-Open-clause-took c = λ es known before h declared o hold.
     let inside : c.attributes.cursor.pos < length src = rw s at (leb-false _ _ (sym c.is_at_end.ensures ∙ c.if-is_at_end.false)) in
     let is = rw s at c.in_ok-raw.ensures.value in
     let one : n ≡ suc (n - 1) = omega arith in
-    going_ends (values_in es c.args.how) known before c.args.cut src _ n (n - 1) c.attributes.cursor.pos c.turn.new.self.pos c.attributes.left _ _ _ false _ (tag_item_view c.in_ok-raw.field-0) g one inside is (ap tag_item_view c.in-Open.is)
+    going_ends (values_in es c.args.how) known before c.args.cut src _ n (n - 1) c.attributes.cursor.pos c.tag_item.new.self.pos c.attributes.left _ _ _ false _ (tag_item_view c.in_ok-raw.field-0) g one inside is (ap tag_item_view c.in-Open.is)
 
 pub returns-in-Empty-clause-took : goal.returns-in-Empty-clause-took
 returns-in-Empty-clause-took c = λ es known before h declared o hold.
@@ -88,11 +88,11 @@ returns-in-Empty-clause-took c = λ es known before h declared o hold.
     let inside : c.attributes.cursor.pos < length src = rw s at (leb-false _ _ (sym c.is_at_end.ensures ∙ c.if-is_at_end.false)) in
     let is = rw s at c.in_ok-raw.ensures.value in
     let one : n ≡ suc (n - 1) = omega arith in
-    going_ends (values_in es c.args.how) known before c.args.cut src _ n (n - 1) c.attributes.cursor.pos c.turn.new.self.pos c.attributes.left _ _ _ true _ (tag_item_view c.in_ok-raw.field-0) g one inside is (ap tag_item_view c.in-Empty.is)
+    going_ends (values_in es c.args.how) known before c.args.cut src _ n (n - 1) c.attributes.cursor.pos c.tag_item.new.self.pos c.attributes.left _ _ _ true _ (tag_item_view c.in_ok-raw.field-0) g one inside is (ap tag_item_view c.in-Empty.is)
 
 pub attributes-preserved : goal.attributes-preserved
 attributes-preserved c = record {
-  source = c.turn.ensures.source ∙ c.attributes.invariant.source;
+  source = c.tag_item.ensures.source ∙ c.attributes.invariant.source;
   attributes = c.in_ok-xml-in-More.ensures.attributes ∙ c.attributes.invariant.attributes;
   places = c.in_ok-xml-in-More.ensures.places;
   own = c.in_ok-xml-in-More.ensures.own;
@@ -108,13 +108,13 @@ attributes-preserved c = record {
       let s = ap (λ t. t.now) c.attributes.invariant.source in
       let g = c.attributes.invariant.reads es known before h declared o hold in
       let inside : c.attributes.cursor.pos < length src = rw s at (leb-false _ _ (sym c.is_at_end.ensures ∙ c.if-is_at_end.false)) in
-      let is0 : tag_item_at c.attributes.cursor.text.now c.attributes.cursor.pos ≡ Ok (more (attribute_view c.in-More.raw), c.turn.new.self.pos) =
-      c.in_ok-raw.ensures.value ∙ ap (λ (t : CodeTurn). Ok (tag_item_view t, c.turn.new.self.pos)) c.in-More.is in
+      let is0 : tag_item_at c.attributes.cursor.text.now c.attributes.cursor.pos ≡ Ok (more (attribute_view c.in-More.raw), c.tag_item.new.self.pos) =
+      c.in_ok-raw.ensures.value ∙ ap (λ (t : CodeTagItem). Ok (tag_item_view t, c.tag_item.new.self.pos)) c.in-More.is in
       let is = rw s at is0 in
       let one : n ≡ suc (length src - (c.attributes._turn + 1)) = omega arith in
-      let after = ap (λ t. t.now) c.turn.ensures.source ∙ s in
+      let after = ap (λ t. t.now) c.tag_item.ensures.source ∙ s in
       let took = rw after at (c.in_ok-xml-in-More.ensures.took es known before g.h declared o g.holding) in
-      going_on (values_in es c.args.how) known before c.args.cut src _ n (length src - (c.attributes._turn + 1)) c.attributes.cursor.pos c.turn.new.self.pos c.attributes.left _ _ _ _ _ _ _ _ _ (attribute_view c.in-More.raw) g one inside is took;
+      going_on (values_in es c.args.how) known before c.args.cut src _ n (length src - (c.attributes._turn + 1)) c.attributes.cursor.pos c.tag_item.new.self.pos c.attributes.left _ _ _ _ _ _ _ _ _ (attribute_view c.in-More.raw) g one inside is took;
 }
 
 pub returns-clause-took : goal.returns-clause-took

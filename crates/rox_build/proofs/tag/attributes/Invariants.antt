@@ -2,10 +2,10 @@ use Rattle.std.proofs.Common.{◌≡◌, ◌≤◌, ◌-◌, ℕ, List, length, 
 use Rattle.rox_grammar.specs.Written.{NamespaceDecl}
 use Rattle.rox_grammar.specs.Document.{most_pairs}
 use Rattle.rox_reading.specs.Tags.{TagSoFar, attributes_at}
-use Rattle.rox_tables.specs.Rows.{declaration}
+use Rattle.rox_tables.specs.Rows.{namespace_view}
 use Rattle.rox_grammar.specs.Entities.{Entity}
 use Rattle.rox_values.specs.DeclaredEntities.{AreDeclared, values_in}
-use Rattle.rox_tables.specs.Scopes.{ArePlaces, Once, entries}
+use Rattle.rox_tables.specs.Scopes.{ArePlaces, PrefixesOnce, entries}
 use Rattle.rox_tables.specs.PrefixSet.{IsPrefixSet}
 use Rattle.rox_tables.specs.TagScopes.{HasBindings, lists_in}
 use Rattle.rox_build.specs.TagState.{HoldsTag}
@@ -22,10 +22,10 @@ invariant-attributes l = record {
   kept : HasBindings l.elements;
   scopes : l.elements.scopes ≡ l.fn.elements.scopes;
   lists : lists_in l.elements ≡ lists_in l.fn.elements;
-  many : IsPrefixSet (map declaration l.elements.namespaces.items.items) (drop l.own l.elements.listed.items) l.buffers.many.keys;
-  once : Once (entries (map declaration l.elements.namespaces.items.items) (drop l.own l.elements.listed.items));
+  many : IsPrefixSet (map namespace_view l.elements.namespaces.items.items) (drop l.own l.elements.listed.items) l.buffers.many.keys;
+  once : PrefixesOnce (entries (map namespace_view l.elements.namespaces.items.items) (drop l.own l.elements.listed.items));
   reads : (es : List Entity) (known : List NamespaceDecl) (before : List ℕ) (h : TagSoFar) → AreDeclared es l.how.entities.now → l.own ≡ length before
-      → HoldsTag known before (map declaration l.fn.elements.namespaces.items.items) l.fn.elements.listed.items false l.fn.buffers.taken.items h
+      → HoldsTag known before (map namespace_view l.fn.elements.namespaces.items.items) l.fn.elements.listed.items false l.fn.buffers.taken.items h
       → Going (values_in es l.how) known before l.cut l.fn.cursor.text.now (attributes_at (length l.fn.cursor.text.now) (values_in es l.how) l.cut known l.fn.cursor.text.now l.fn.cursor.pos l.fn.left h)
-      (length l.fn.cursor.text.now - l._turn) l.cursor.pos l.left (map declaration l.elements.namespaces.items.items) l.elements.listed.items l.xml l.buffers.taken.items;
+      (length l.fn.cursor.text.now - l._turn) l.cursor.pos l.left (map namespace_view l.elements.namespaces.items.items) l.elements.listed.items l.xml l.buffers.taken.items;
 }

@@ -9,8 +9,8 @@ use Rattle.rox_reading.specs.Lexical.{qname_at}
 use Rattle.rox_reading.specs.Tags.{TagSoFar, attributes_at, tag_tested}
 use Rattle.rox_grammar.specs.Failures.{Fails, name_view}
 use Rattle.rox_values.specs.DeclaredEntities.{values_in}
-use Rattle.rox_tables.specs.Rows.{declaration, scope_at, AreScopes, attribute_rows}
-use Rattle.rox_tables.specs.Scopes.{Once}
+use Rattle.rox_tables.specs.Rows.{namespace_view, scope_at, AreScopes, attribute_rows}
+use Rattle.rox_tables.specs.Scopes.{PrefixesOnce}
 use Rattle.rox_build.specs.ElementRow.{scope_in_tables}
 use Rattle.rox_tables.proofs.Declaring.{scope_declared, once_none}
 use Rattle.rox_tables.proofs.Remembering.{remembers_none}
@@ -22,7 +22,7 @@ attributes-requires-clause-many c =
     let listed = c.args.elements.now.listed.items in
     let k = c.args.elements.now.listed.ok.0 in
     let own : c.len-own.result ≡ length listed = omega arith in
-    remembers_none (map declaration c.args.elements.now.namespaces.items.items) listed c.len-own.result c.args.buffers.now.many.keys own
+    remembers_none (map namespace_view c.args.elements.now.namespaces.items.items) listed c.len-own.result c.args.buffers.now.many.keys own
 
 pub attributes-requires-clause-scopes : goal.attributes-requires-clause-scopes
 attributes-requires-clause-scopes c =
@@ -36,10 +36,10 @@ attributes-requires-clause-once c =
     let old = c.args.elements.now in
     let k = old.listed.ok.0 in
     let own : c.len-own.result ≡ length old.listed.items = omega arith in
-    once_none (map declaration old.namespaces.items.items) old.listed.items c.len-own.result own
+    once_none (map namespace_view old.namespaces.items.items) old.listed.items c.len-own.result own
 
 pub scope_of_tag-requires-clause-once : goal.scope_of_tag-requires-clause-once
-scope_of_tag-requires-clause-once c = subst (λ ls. Once (scope_at ls c.args.above)) (sym c.in_ok-xml.ensures.lists) c.requires.once
+scope_of_tag-requires-clause-once c = subst (λ ls. PrefixesOnce (scope_at ls c.args.above)) (sym c.in_ok-xml.ensures.lists) c.requires.once
 
 pub scope_of_tag-requires-clause-scopes : goal.scope_of_tag-requires-clause-scopes
 scope_of_tag-requires-clause-scopes c =
@@ -53,7 +53,7 @@ returns-in_err-xml-clause-value c = λ es declared.
     let old = c.args.elements.now in
     let src = c.args.cursor.now.text.now in
     let i = c.args.cursor.now.pos in
-    let known = map declaration old.namespaces.items.items in
+    let known = map namespace_view old.namespaces.items.items in
     let above = scope_in_tables old c.args.above in
     let s = ap (λ t. t.now) c.advance.ensures.source in
     let s2 = ap (λ t. t.now) c.qname.ensures.source ∙ s in
@@ -63,7 +63,7 @@ returns-in_err-xml-clause-value c = λ es declared.
     let other : bytes_eq name.prefix (word_text Xmlns) ≡ false = sym c.same_text.ensures ∙ c.if-same_text.false in
     let k = old.listed.ok.0 in
     let own : c.len-own.result ≡ length old.listed.items = omega arith in
-    let few : length known ≤ most_pairs = rw (length-map old.namespaces.items.items declaration) c.requires.few in
+    let few : length known ≤ most_pairs = rw (length-map old.namespaces.items.items namespace_view) c.requires.few in
     let start : TagSoFar = record { own = []; attributes = [] } in
     let nothing = holds_nothing known old.listed.items _ few c.clear.ensures.items in
     let took = c.in_err-xml.ensures.took es known old.listed.items start declared own nothing in
@@ -75,7 +75,7 @@ returns-in_err-element-clause-value c = λ es declared.
     let old = c.args.elements.now in
     let src = c.args.cursor.now.text.now in
     let i = c.args.cursor.now.pos in
-    let known = map declaration old.namespaces.items.items in
+    let known = map namespace_view old.namespaces.items.items in
     let above = scope_in_tables old c.args.above in
     let s = ap (λ t. t.now) c.advance.ensures.source in
     let s2 = ap (λ t. t.now) c.qname.ensures.source ∙ s in
@@ -85,14 +85,14 @@ returns-in_err-element-clause-value c = λ es declared.
     let other : bytes_eq name.prefix (word_text Xmlns) ≡ false = sym c.same_text.ensures ∙ c.if-same_text.false in
     let k = old.listed.ok.0 in
     let own : c.len-own.result ≡ length old.listed.items = omega arith in
-    let few : length known ≤ most_pairs = rw (length-map old.namespaces.items.items declaration) c.requires.few in
+    let few : length known ≤ most_pairs = rw (length-map old.namespaces.items.items namespace_view) c.requires.few in
     let start : TagSoFar = record { own = []; attributes = [] } in
     let nothing = holds_nothing known old.listed.items _ few c.clear.ensures.items in
     let took = c.in_ok-xml.ensures.took es known old.listed.items start declared own nothing in
     let h = took.0 in
     let read : attributes_at (length src) (values_in es c.args.how) c.args.cut known src n c.args.left start ≡ Ok (record { held = h; empty = c.in_ok-xml.empty; left = c.in_ok-xml.left }, c.attributes.new.cursor.pos) = rw s2 at took.1 in
     let scopes : scope_in_tables c.scope_of_tag.new.elements c.in_ok-scope.scope ≡ listed above h.own =
-    scope_declared known old.listed.items (map declaration c.attributes.new.elements.namespaces.items.items) c.attributes.new.elements.listed.items c.in_ok-xml.xml h.own
+    scope_declared known old.listed.items (map namespace_view c.attributes.new.elements.namespaces.items.items) c.attributes.new.elements.listed.items c.in_ok-xml.xml h.own
     (scope_in_tables c.attributes.new.elements c.args.above) (scope_in_tables c.scope_of_tag.new.elements c.in_ok-scope.scope) c.len-own.result own took.2.is_namespace_decl c.in_ok-scope.ensures.value.lists
     ∙ ap (λ xs. listed xs h.own) (ap (λ ls. scope_at ls c.args.above) c.in_ok-xml.ensures.lists) in
     let written = took.2.attributes in
@@ -108,7 +108,7 @@ returns-clause-value c = λ es declared.
     let old = c.args.elements.now in
     let src = c.args.cursor.now.text.now in
     let i = c.args.cursor.now.pos in
-    let known = map declaration old.namespaces.items.items in
+    let known = map namespace_view old.namespaces.items.items in
     let above = scope_in_tables old c.args.above in
     let s = ap (λ t. t.now) c.advance.ensures.source in
     let s2 = ap (λ t. t.now) c.qname.ensures.source ∙ s in
@@ -118,14 +118,14 @@ returns-clause-value c = λ es declared.
     let other : bytes_eq name.prefix (word_text Xmlns) ≡ false = sym c.same_text.ensures ∙ c.if-same_text.false in
     let k = old.listed.ok.0 in
     let own : c.len-own.result ≡ length old.listed.items = omega arith in
-    let few : length known ≤ most_pairs = rw (length-map old.namespaces.items.items declaration) c.requires.few in
+    let few : length known ≤ most_pairs = rw (length-map old.namespaces.items.items namespace_view) c.requires.few in
     let start : TagSoFar = record { own = []; attributes = [] } in
     let nothing = holds_nothing known old.listed.items _ few c.clear.ensures.items in
     let took = c.in_ok-xml.ensures.took es known old.listed.items start declared own nothing in
     let h = took.0 in
     let read : attributes_at (length src) (values_in es c.args.how) c.args.cut known src n c.args.left start ≡ Ok (record { held = h; empty = c.in_ok-xml.empty; left = c.in_ok-xml.left }, c.attributes.new.cursor.pos) = rw s2 at took.1 in
     let scopes : scope_in_tables c.scope_of_tag.new.elements c.in_ok-scope.scope ≡ listed above h.own =
-    scope_declared known old.listed.items (map declaration c.attributes.new.elements.namespaces.items.items) c.attributes.new.elements.listed.items c.in_ok-xml.xml h.own
+    scope_declared known old.listed.items (map namespace_view c.attributes.new.elements.namespaces.items.items) c.attributes.new.elements.listed.items c.in_ok-xml.xml h.own
     (scope_in_tables c.attributes.new.elements c.args.above) (scope_in_tables c.scope_of_tag.new.elements c.in_ok-scope.scope) c.len-own.result own took.2.is_namespace_decl c.in_ok-scope.ensures.value.lists
     ∙ ap (λ xs. listed xs h.own) (ap (λ ls. scope_at ls c.args.above) c.in_ok-xml.ensures.lists) in
     let written = took.2.attributes in

@@ -1,8 +1,8 @@
 use Rattle.std.proofs.Common.{◌<◌, Some, length, map, sym, ap, ◌∙◌, subst}
 use Rattle.rox_grammar.specs.Written.{NamespaceDecl}
 use Rattle.rox_tables.specs.declared.tables.AttributeNamespace.{AttributeNamespace}
-use Rattle.rox_tables.specs.Rows.{declaration, attribute_uri, NamespaceWithin}
-use Rattle.rox_tables.proofs.Pairs.{entry-get}
+use Rattle.rox_tables.specs.Rows.{namespace_view, attribute_uri, NamespaceWithin}
+use Rattle.rox_tables.proofs.Pairs.{namespace_at-get}
 use Rattle.rox_tables.proofs.resolve.namespace_uri.Goals as goal
 
 pub returns-in-Listed : goal.returns-in-Listed
@@ -10,5 +10,5 @@ returns-in-Listed c =
     let rows = c.args.names.now in
     let place = c.in-Listed.place in
     let lt : place < length rows = subst (λ (s : AttributeNamespace). NamespaceWithin (length rows) s) c.in-Listed.is c.requires in
-    ap Some (c.as_str.ensures ∙ ap (λ (d : NamespaceDecl). d.uri) (sym (entry-get rows place c.index-names-place.result lt)))
-    ∙ ap (attribute_uri (map declaration rows)) (sym c.in-Listed.is)
+    ap Some (c.as_str.ensures ∙ ap (λ (d : NamespaceDecl). d.uri) (sym (namespace_at-get rows place c.index-names-place.result lt)))
+    ∙ ap (attribute_uri (map namespace_view rows)) (sym c.in-Listed.is)

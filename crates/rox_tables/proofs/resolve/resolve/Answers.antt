@@ -1,6 +1,6 @@
 use Rattle.std.proofs.Common.{◌≡◌, ◌<◌, ◌≤◌, length, map, drop, arith}
 use Rattle.std.proofs.lemmas.Result.{err_from_is_err_and}
-use Rattle.rox_tables.specs.Rows.{declaration, attribute_rows, NamespaceWithin}
+use Rattle.rox_tables.specs.Rows.{namespace_view, attribute_rows, NamespaceWithin}
 use Rattle.rox_tables.proofs.Columns.{data_behind, old_within, all_behind}
 use Rattle.rox_tables.proofs.Resolving.{ends, refuses, moves, resolves, starts, resolves_first}
 use Rattle.rox_tables.proofs.resolve.resolve.Goals as goal
@@ -35,7 +35,7 @@ tested_namespace-requires-clause-done c =
 pub loop-turn-init : goal.loop-turn-init
 loop-turn-init c = record {
   moving = starts (length c.args.names.now) c.args.taken.now.items (attribute_rows c.args.attributes.now);
-  resolving = λ ds h. resolves_first (map declaration c.args.names.now) ds c.args.taken.now.items (attribute_rows c.args.attributes.now);
+  resolving = λ ds h. resolves_first (map namespace_view c.args.names.now) ds c.args.taken.now.items (attribute_rows c.args.attributes.now);
 }
 
 pub returns-in_err-namespace-clause-err : goal.returns-in_err-namespace-clause-err
@@ -45,7 +45,7 @@ returns-in_err-namespace-clause-err c = λ ds h.
     let behind = data_behind l.attributes c.deref.result.now (attribute_rows c.args.attributes.now) c.len-from.result c.deref.ensures.value from in
     let here : l.turn < length l.taken.items = omega arith in
     let p = err_from_is_err_and c.from_residual.result c.from_residual.ensures.1 in
-    rw (p.1, p.2) (refuses (length c.args.names.now) (map declaration c.args.names.now) ds c.args.taken.now.items (attribute_rows c.args.attributes.now) l.turn l.taken.items (attribute_rows l.attributes)
+    rw (p.1, p.2) (refuses (length c.args.names.now) (map namespace_view c.args.names.now) ds c.args.taken.now.items (attribute_rows c.args.attributes.now) l.turn l.taken.items (attribute_rows l.attributes)
     c.index.result.now c.in_err-namespace.field-0.0 l.invariant.moving (l.invariant.resolving ds h) here c.index.ensures
     (λ before rest shown. c.in_err-namespace.ensures.tested ds (drop (length (attribute_rows c.args.attributes.now)) (attribute_rows l.attributes)) before rest h behind shown))
 
@@ -61,7 +61,7 @@ loop-turn-preserved c =
     record {
       moving = moves n initial old l.turn l.taken.items (attribute_rows l.attributes) c.index.result.now c.index_mut.result.now c.move_row-row.new.taken c.in_ok-namespace.namespace c.move_row-row.result (attribute_rows c.push.new.self)
           l.invariant.moving here c.index.ensures c.in_ok-namespace.ensures.within c.move_row-row.ensures c.in_ok-push.ensures.rows;
-      resolving = λ ds h. resolves n (map declaration c.args.names.now) ds initial old l.turn l.taken.items (attribute_rows l.attributes)
+      resolving = λ ds h. resolves n (map namespace_view c.args.names.now) ds initial old l.turn l.taken.items (attribute_rows l.attributes)
           c.index.result.now c.index_mut.result.now c.in_ok-namespace.namespace c.move_row-row.result (attribute_rows c.push.new.self)
           l.invariant.moving (l.invariant.resolving ds h) here c.index.ensures
           (λ before rest shown. c.in_ok-namespace.ensures.tested ds (drop (length old) (attribute_rows l.attributes)) before rest h behind shown)
@@ -71,5 +71,5 @@ loop-turn-preserved c =
 pub returns-clause-ok : goal.returns-clause-ok
 returns-clause-ok c = λ ds h.
     let l = c.loop-turn in
-    ends (length c.args.names.now) (map declaration c.args.names.now) ds c.args.taken.now.items (attribute_rows c.args.attributes.now) l.turn l.taken.items (attribute_rows l.attributes)
+    ends (length c.args.names.now) (map namespace_view c.args.names.now) ds c.args.taken.now.items (attribute_rows c.args.attributes.now) l.turn l.taken.items (attribute_rows l.attributes)
     l.invariant.moving (l.invariant.resolving ds h) (omega arith)

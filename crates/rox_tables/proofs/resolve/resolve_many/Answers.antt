@@ -1,6 +1,6 @@
 use Rattle.std.proofs.Common.{◌<◌, length, map, drop, ap, ◌∙◌, arith}
 use Rattle.std.proofs.lemmas.Result.{err_from_is_err_and}
-use Rattle.rox_tables.specs.Rows.{declaration, attribute_rows, AttributeRow}
+use Rattle.rox_tables.specs.Rows.{namespace_view, attribute_rows, AttributeRow}
 use Rattle.rox_tables.specs.declared.unresolved_attribute.UnresolvedAttribute.{UnresolvedAttribute}
 use Rattle.rox_tables.proofs.Resolving.{ends, refuses_or, moves, resolves, starts, resolves_first, read_again}
 use Rattle.rox_tables.proofs.Seeing.{sees_start, sees_next}
@@ -9,8 +9,8 @@ use Rattle.rox_tables.proofs.resolve.resolve_many.Goals as goal
 pub loop-turn-init : goal.loop-turn-init
 loop-turn-init c = record {
   moving = starts (length c.args.names.now) c.args.taken.now.items (attribute_rows c.args.attributes.now);
-  resolving = λ ds h. resolves_first (map declaration c.args.names.now) ds c.args.taken.now.items (attribute_rows c.args.attributes.now);
-  sees = sees_start (map declaration c.args.names.now) c.new-seen.result.keys (attribute_rows c.args.attributes.now) c.new-seen.ensures.empty;
+  resolving = λ ds h. resolves_first (map namespace_view c.args.names.now) ds c.args.taken.now.items (attribute_rows c.args.attributes.now);
+  sees = sees_start (map namespace_view c.args.names.now) c.new-seen.result.keys (attribute_rows c.args.attributes.now) c.new-seen.ensures.empty;
 }
 
 pub returns-in_err-namespace-clause-err : goal.returns-in_err-namespace-clause-err
@@ -19,7 +19,7 @@ returns-in_err-namespace-clause-err c = λ ds h.
     let old = attribute_rows c.args.attributes.now in
     let here : l.turn < length l.taken.items = omega arith in
     let p = err_from_is_err_and c.from_residual.result c.from_residual.ensures.1 in
-    rw (p.1, p.2) (refuses_or (length c.args.names.now) (map declaration c.args.names.now) ds c.args.taken.now.items old l.turn l.taken.items (attribute_rows l.attributes)
+    rw (p.1, p.2) (refuses_or (length c.args.names.now) (map namespace_view c.args.names.now) ds c.args.taken.now.items old l.turn l.taken.items (attribute_rows l.attributes)
     c.index.result.now c.in_err-namespace.field-0.0 l.invariant.moving (l.invariant.resolving ds h) here c.index.ensures
     (λ before rest shown. c.in_err-namespace.ensures.tested ds (drop (length old) (attribute_rows l.attributes)) before rest h l.invariant.sees shown))
 
@@ -27,7 +27,7 @@ pub loop-turn-preserved : goal.loop-turn-preserved
 loop-turn-preserved c =
     let l = c.loop-turn in
     let n = length c.args.names.now in
-    let names = map declaration c.args.names.now in
+    let names = map namespace_view c.args.names.now in
     let initial = c.args.taken.now.items in
     let old = attribute_rows c.args.attributes.now in
     let here : l.turn < length l.taken.items = omega arith in
@@ -49,5 +49,5 @@ loop-turn-preserved c =
 pub returns-clause-ok : goal.returns-clause-ok
 returns-clause-ok c = λ ds h.
     let l = c.loop-turn in
-    ends (length c.args.names.now) (map declaration c.args.names.now) ds c.args.taken.now.items (attribute_rows c.args.attributes.now) l.turn l.taken.items (attribute_rows l.attributes)
+    ends (length c.args.names.now) (map namespace_view c.args.names.now) ds c.args.taken.now.items (attribute_rows c.args.attributes.now) l.turn l.taken.items (attribute_rows l.attributes)
     l.invariant.moving (l.invariant.resolving ds h) (omega arith)

@@ -1,7 +1,7 @@
 use Rattle.std.proofs.Common.{Err, map, refl, sym, ap, ◌∙◌}
 use Rattle.rox_grammar.specs.declared.fault.Span.{Span}
 use Rattle.rox_grammar.specs.declared.fault.Fault.TheVariants as fault
-use Rattle.rox_tables.specs.Rows.{declaration}
+use Rattle.rox_tables.specs.Rows.{namespace_view}
 use Rattle.rox_tables.specs.TagDeclarations.{unresolved_view}
 use Rattle.rox_tables.proofs.NameTests.{repeated_is, tested_unknown, tested_again, tested_on}
 use Rattle.rox_tables.proofs.Seeing.{sees_is, sees_more}
@@ -15,7 +15,7 @@ returns-in_default-clause-tested c = λ ds rows before rest h seen shown.
 
 pub returns-then-branch-clause-tested : goal.returns-then-branch-clause-tested
 returns-then-branch-clause-tested c = λ ds rows before rest h seen shown.
-    let names = map declaration c.args.names.now in
+    let names = map namespace_view c.args.names.now in
     let a = unresolved_view c.args.taken.now in
     let again = sym (repeated_is names ds c.in-Some.namespace a.name rows before (c.in-Some.ensures.there ds h) shown)
     ∙ sym (sees_is names c.args.seen.now.keys _ c.in-Some.namespace a.name.local _ seen c.namespace_uri.ensures) ∙ sym c.in_ok-is_repeated_name.ensures.value ∙ c.if-branch.true in
@@ -24,7 +24,7 @@ returns-then-branch-clause-tested c = λ ds rows before rest h seen shown.
 
 pub returns-clause-tested : goal.returns-clause-tested
 returns-clause-tested c = λ ds rows before rest h seen shown.
-    let names = map declaration c.args.names.now in
+    let names = map namespace_view c.args.names.now in
     let a = unresolved_view c.args.taken.now in
     let first = sym (repeated_is names ds c.in-Some.namespace a.name rows before (c.in-Some.ensures.there ds h) shown)
     ∙ sym (sees_is names c.args.seen.now.keys _ c.in-Some.namespace a.name.local _ seen c.namespace_uri.ensures) ∙ sym c.in_ok-is_repeated_name.ensures.value ∙ c.if-branch.false in
@@ -32,7 +32,7 @@ returns-clause-tested c = λ ds rows before rest h seen shown.
 
 pub returns-clause-more : goal.returns-clause-more
 returns-clause-more c = λ done a seen space local.
-    let names = map declaration c.args.names.now in
+    let names = map namespace_view c.args.names.now in
     sees_more names c.args.seen.now.keys c.is_repeated_name.new.seen.keys done a (c.args.taken.now.name.local, c.namespace_uri.result) seen
     (c.in_ok-is_repeated_name.ensures.more c.if-branch.false)
     (c.namespace_uri.ensures ∙ ap (Rattle.rox_tables.specs.Rows.namespace_of names) (sym space))

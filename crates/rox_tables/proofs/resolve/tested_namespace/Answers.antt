@@ -2,7 +2,7 @@ use Rattle.std.proofs.Common.{Err, map, refl, sym, ap, ◌∙◌}
 use Rattle.std.specs.List.{list_any}
 use Rattle.rox_grammar.specs.declared.fault.Span.{Span}
 use Rattle.rox_grammar.specs.declared.fault.Fault.TheVariants as fault
-use Rattle.rox_tables.specs.Rows.{declaration}
+use Rattle.rox_tables.specs.Rows.{namespace_view}
 use Rattle.rox_tables.specs.TagDeclarations.{unresolved_view}
 use Rattle.rox_tables.specs.ResolvedNames.{has_expanded}
 use Rattle.rox_tables.proofs.NameTests.{repeated_is, tested_unknown, tested_again, tested_on}
@@ -16,7 +16,7 @@ returns-in_default-clause-tested c = λ ds rows before rest h column shown.
 
 pub returns-then-is_repeated-clause-tested : goal.returns-then-is_repeated-clause-tested
 returns-then-is_repeated-clause-tested c = λ ds rows before rest h column shown.
-    let names = map declaration c.args.names.now in
+    let names = map namespace_view c.args.names.now in
     let a = unresolved_view c.args.taken.now in
     let again = sym (repeated_is names ds c.in-Some.namespace a.name rows before (c.in-Some.ensures.there ds h) shown)
     ∙ ap (list_any (has_expanded names c.in-Some.namespace a.name.local)) column ∙ sym c.is_repeated.ensures ∙ c.if-is_repeated.true in
@@ -25,7 +25,7 @@ returns-then-is_repeated-clause-tested c = λ ds rows before rest h column shown
 
 pub returns-clause-tested : goal.returns-clause-tested
 returns-clause-tested c = λ ds rows before rest h column shown.
-    let names = map declaration c.args.names.now in
+    let names = map namespace_view c.args.names.now in
     let a = unresolved_view c.args.taken.now in
     let first = sym (repeated_is names ds c.in-Some.namespace a.name rows before (c.in-Some.ensures.there ds h) shown)
     ∙ ap (list_any (has_expanded names c.in-Some.namespace a.name.local)) column ∙ sym c.is_repeated.ensures ∙ c.if-is_repeated.false in

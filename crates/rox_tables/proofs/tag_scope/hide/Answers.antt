@@ -1,6 +1,6 @@
 use Rattle.std.proofs.Common.{◌≡◌, ◌<◌, true, false, length, map, get_or, sym, ap, subst, arith}
 use Rattle.rox_grammar.specs.Tree.{same_prefix, is_declared}
-use Rattle.rox_tables.specs.Rows.{declaration, entry}
+use Rattle.rox_tables.specs.Rows.{namespace_view, namespace_at}
 use Rattle.rox_tables.specs.Scopes.{prefix_view, entries, places_in}
 use Rattle.rox_tables.specs.Bindings.{namespace_at}
 use Rattle.rox_tables.proofs.Hiding.{unlisted_none, unlisted_one}
@@ -11,7 +11,7 @@ use Rattle.rox_tables.proofs.tag_scope.hide.Goals as goal
 
 pub returns-in_default-clause-value : goal.returns-in_default-clause-value
 returns-in_default-clause-value c =
-    let names = map declaration c.args.names.now in
+    let names = map namespace_view c.args.names.now in
     let ds = entries names (places_in c.args.listed.now c.args.scopes.now.items c.args.scope) in
     let p = prefix_view c.args.prefix in
     same_listed names c.args.listed.now c.args.scopes.now.items c.args.scope _ c.requires.scopes c.requires.within
@@ -19,7 +19,7 @@ returns-in_default-clause-value c =
 
 pub returns-in_default-index_of-clause-value : goal.returns-in_default-index_of-clause-value
 returns-in_default-index_of-clause-value c =
-    let names = map declaration c.args.names.now in
+    let names = map namespace_view c.args.names.now in
     let ds = entries names (places_in c.args.listed.now c.args.scopes.now.items c.args.scope) in
     let p = prefix_view c.args.prefix in
     let absent : is_declared p ds ≡ false =
@@ -35,13 +35,13 @@ without-requires-clause-index c =
 
 pub returns-clause-value : goal.returns-clause-value
 returns-clause-value c =
-    let names = map declaration c.args.names.now in
+    let names = map namespace_view c.args.names.now in
     let old = c.args.scopes.now.items in
     let index = c.in-Some-index_of.index in
     let p = prefix_view c.args.prefix in
     let places = places_in c.args.listed.now old c.args.scope in
     let less : index < length places = subst (λ ss. index < length (places_in c.args.listed.now ss c.args.scope)) c.deref.ensures.value c.in-Some-index_of.ensures.there.0 in
-    let same : same_prefix (entry names (get_or places index 0)).prefix p ≡ true =
-    subst (λ ss. same_prefix (entry names (get_or (places_in c.args.listed.now ss c.args.scope) index 0)).prefix p ≡ true) c.deref.ensures.value c.in-Some-index_of.ensures.there.1 in
+    let same : same_prefix (namespace_at names (get_or places index 0)).prefix p ≡ true =
+    subst (λ ss. same_prefix (namespace_at names (get_or (places_in c.args.listed.now ss c.args.scope) index 0)).prefix p ≡ true) c.deref.ensures.value c.in-Some-index_of.ensures.there.1 in
     rope_listed names c.args.listed.now old c.without.new.scopes.items c.in_ok-left.left (λ l. cut index (places_in l old c.args.scope)) _ c.requires.scopes c.in_ok-left.ensures.value
     (unlisted_one names places index p c.requires.once less same)

@@ -1,5 +1,5 @@
 use Rattle.std.proofs.Common.{map, drop, subst}
-use Rattle.rox_tables.specs.Rows.{declaration}
+use Rattle.rox_tables.specs.Rows.{namespace_view}
 use Rattle.rox_tables.specs.Scopes.{entries, places_in, others}
 use Rattle.rox_tables.specs.Ropes.{IsListed}
 use Rattle.rox_tables.proofs.Below.{joined_listed}
@@ -7,7 +7,7 @@ use Rattle.rox_tables.proofs.tag_scope.listed_below_many.Goals as goal
 
 pub returns-clause-value : goal.returns-clause-value
 returns-clause-value c =
-    let names = map declaration c.args.names.now in
+    let names = map namespace_view c.args.names.now in
     let listed = c.args.listed.now.items in
     let old = c.args.scopes.now.items in
     let mid = c.hide_own.new.scopes.items in

@@ -1,7 +1,7 @@
 use Rattle.std.proofs.Common.{◌++◌, length, map, drop, refl, sym, ap, subst, ◌∙◌}
 use Rattle.std.specs.List.{slice_range}
 use Rattle.rox_tables.specs.declared.tables.ElementTables.{ElementTables}
-use Rattle.rox_tables.specs.Rows.{declaration, scope_at}
+use Rattle.rox_tables.specs.Rows.{namespace_view, scope_at}
 use Rattle.rox_tables.specs.Scopes.{entries, others}
 use Rattle.rox_tables.specs.Ropes.{IsListed}
 use Rattle.rox_tables.specs.TagScopes.{lists_in}
@@ -16,7 +16,7 @@ listed_below_few-requires-clause-scopes c = scopes_more c.args.own (length c.arg
 pub returns-in-Few-clause-value : goal.returns-in-Few-clause-value
 returns-in-Few-clause-value c =
     let o = c.args.elements.now in
-    let names = map declaration o.namespaces.items.items in
+    let names = map namespace_view o.namespaces.items.items in
     let listed = o.listed.items in
     let after = c.listed_below_few.new.listed.items in
     let rows = c.listed_below_few.new.scopes.items in
@@ -26,8 +26,8 @@ returns-in-Few-clause-value c =
     let above = scope_at (lists_in o) c.args.above in
     let h = scopes_more c.args.own (length listed) o.scopes.items c.requires.own c.requires.scopes in
     let x : IsListed names listed o.scopes.items after rows i (mine ++ others mine c.args.xml (entries names (slice_range listed s.from s.until))) =
-    subst (λ v. IsListed (map declaration v) listed o.scopes.items after rows i (entries (map declaration v) (drop c.args.own listed)
-    ++ others (entries (map declaration v) (drop c.args.own listed)) c.args.xml (entries (map declaration v) (slice_range listed s.from s.until)))) c.as_slice.ensures.value c.in_ok-scope.ensures.value in
+    subst (λ v. IsListed (map namespace_view v) listed o.scopes.items after rows i (entries (map namespace_view v) (drop c.args.own listed)
+    ++ others (entries (map namespace_view v) (drop c.args.own listed)) c.args.xml (entries (map namespace_view v) (slice_range listed s.from s.until)))) c.as_slice.ensures.value c.in_ok-scope.ensures.value in
     let y : IsListed names listed o.scopes.items after rows i (mine ++ others mine c.args.xml above) =
     listed_is names listed after o.scopes.items rows i _ _ x (ap (λ ds. mine ++ others mine c.args.xml ds) (few_lists names listed o.scopes.items c.args.above s c.requires.scopes.rows c.requires.above c.requires.few)) in
     let t : ElementTables = record { attributes = o.attributes; namespaces = o.namespaces; listed = c.listed_below_few.new.listed; scopes = c.listed_below_few.new.scopes; present = o.present } in
@@ -38,7 +38,7 @@ returns-in-Few-clause-value c =
 pub returns : goal.returns
 returns c =
     let o = c.args.elements.now in
-    let names = map declaration o.namespaces.items.items in
+    let names = map namespace_view o.namespaces.items.items in
     let listed = o.listed.items in
     let after = c.listed_below_few.new.listed.items in
     let rows = c.listed_below_few.new.scopes.items in
@@ -48,8 +48,8 @@ returns c =
     let above = scope_at (lists_in o) c.args.above in
     let h = scopes_more c.args.own (length listed) o.scopes.items c.requires.own c.requires.scopes in
     let x : IsListed names listed o.scopes.items after rows i (mine ++ others mine c.args.xml (entries names (slice_range listed s.from s.until))) =
-    subst (λ v. IsListed (map declaration v) listed o.scopes.items after rows i (entries (map declaration v) (drop c.args.own listed)
-    ++ others (entries (map declaration v) (drop c.args.own listed)) c.args.xml (entries (map declaration v) (slice_range listed s.from s.until)))) c.as_slice.ensures.value c.in_ok-scope.ensures.value in
+    subst (λ v. IsListed (map namespace_view v) listed o.scopes.items after rows i (entries (map namespace_view v) (drop c.args.own listed)
+    ++ others (entries (map namespace_view v) (drop c.args.own listed)) c.args.xml (entries (map namespace_view v) (slice_range listed s.from s.until)))) c.as_slice.ensures.value c.in_ok-scope.ensures.value in
     let y : IsListed names listed o.scopes.items after rows i (mine ++ others mine c.args.xml above) =
     listed_is names listed after o.scopes.items rows i _ _ x (ap (λ ds. mine ++ others mine c.args.xml ds) (few_lists names listed o.scopes.items c.args.above s c.requires.scopes.rows c.requires.above c.requires.few)) in
     let t : ElementTables = record { attributes = o.attributes; namespaces = o.namespaces; listed = c.listed_below_few.new.listed; scopes = c.listed_below_few.new.scopes; present = c.make_innermost.new.self } in

@@ -1,7 +1,7 @@
 use Rattle.std.proofs.Common.{◌≡◌, ◌-◌, ◌++◌, ◌∷◌, [], List, length, take, refl, sym, ap, subst, ◌∙◌, arith, slice_get, None, inl, inr}
 use Rattle.std.proofs.lemmas.Option.{slice_get_cases}
 use Rattle.std.specs.List.{AllByRecursion}
-use Rattle.rox_tables.specs.Scopes.{Once}
+use Rattle.rox_tables.specs.Scopes.{PrefixesOnce}
 use Rattle.rox_build.specs.BuilderState.{IsOpenWithin, opened_in}
 use Rattle.rox_build.specs.declared.builder.OpenElement.{OpenElement}
 use Rattle.rox_build.proofs.Showing.{last_split}
@@ -52,4 +52,4 @@ returns-in-Some-clause-once c = λ fine.
     (all_last (IsOpenWithin b.tables) (take (length os - 1) os) x (subst (AllByRecursion (IsOpenWithin b.tables)) split fine.elements)).1
 
 pub returns-in-None-clause-once : goal.returns-in-None-clause-once
-returns-in-None-clause-once c = λ fine. subst Once (sym fine.empty.none) tt
+returns-in-None-clause-once c = λ fine. subst PrefixesOnce (sym fine.empty.none) tt

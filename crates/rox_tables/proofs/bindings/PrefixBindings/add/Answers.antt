@@ -1,5 +1,5 @@
 use Rattle.std.proofs.Common.{◌<◌, ◌≤◌, ◌++◌, map, length, refl, sym, subst, ◌∙◌, arith}
-use Rattle.rox_tables.specs.Rows.{declaration}
+use Rattle.rox_tables.specs.Rows.{namespace_view}
 use Rattle.rox_tables.specs.Scopes.{entries}
 use Rattle.rox_tables.specs.Bindings.{bound_place, IsBound}
 use Rattle.rox_tables.proofs.Presenting.{reverse_none, reverse_more}
@@ -8,7 +8,7 @@ use Rattle.rox_tables.proofs.bindings.PrefixBindings.add.Goals as goal
 pub loop-position-init : goal.loop-position-init
 loop-position-init c = record {
   bound = λ ds h.
-      subst (λ xs. IsBound (map declaration c.args.names.now) (bound_place c.args.self.now) (entries (map declaration c.args.names.now) xs ++ ds)) (sym (reverse_none c.args.listed.now c.args.from)) h;
+      subst (λ xs. IsBound (map namespace_view c.args.names.now) (bound_place c.args.self.now) (entries (map namespace_view c.args.names.now) xs ++ ds)) (sym (reverse_none c.args.listed.now c.args.from)) h;
   keeps = λ names lists h. h;
   layers = refl;
 }
@@ -20,7 +20,7 @@ loop-position-preserved c =
     let lt : l.position < length c.args.listed.now = omega arith in
     record {
       bound = λ ds h.
-          subst (λ xs. IsBound (map declaration c.args.names.now) (bound_place c.bind.new.self) (entries (map declaration c.args.names.now) xs ++ ds)) (sym (reverse_more c.args.listed.now c.args.from l.position low lt))
+          subst (λ xs. IsBound (map namespace_view c.args.names.now) (bound_place c.bind.new.self) (entries (map namespace_view c.args.names.now) xs ++ ds)) (sym (reverse_more c.args.listed.now c.args.from l.position low lt))
           (c.in_ok-bind.ensures.bound _ (l.invariant.bound ds h));
       keeps = λ names lists h. c.in_ok-bind.ensures.keeps names lists (l.invariant.keeps names lists h);
       layers = c.in_ok-bind.ensures.layers ∙ l.invariant.layers;

@@ -1,5 +1,5 @@
 use Rattle.std.proofs.Common.{◌≡◌, ◌≤◌, ◌++◌, ◌∷◌, [], map, length, subst, sym, refl, arith}
-use Rattle.rox_tables.specs.Rows.{declaration, scope_at}
+use Rattle.rox_tables.specs.Rows.{namespace_view, scope_at}
 use Rattle.rox_tables.specs.Bindings.{bound_place, IsBound}
 use Rattle.rox_tables.specs.declared.bindings.ScopeFrame.{ScopeFrame}
 use Rattle.rox_tables.proofs.Presenting.{stacked_push, keeps_by, bound_others}
@@ -7,7 +7,7 @@ use Rattle.rox_tables.proofs.bindings.PrefixBindings.enter.Goals as goal
 
 pub returns-clause-value : goal.returns-clause-value
 returns-clause-value c = λ lists above h around s.
-    let names = map declaration c.args.names.now in
+    let names = map namespace_view c.args.names.now in
     let x = c.add.new.self in
     let bound = bound_others names _ above c.args.xml (bound_place x) (c.in_ok-add.ensures.bound _ (c.in_ok-hide_xml.ensures.bound names above around)) in
     let here : IsBound names (bound_place x) (scope_at lists c.args.scope) = subst (IsBound names (bound_place x)) (sym s.made) bound in

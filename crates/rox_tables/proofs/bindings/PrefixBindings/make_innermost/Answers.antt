@@ -1,5 +1,5 @@
 use Rattle.std.proofs.Common.{◌≡◌, ◌≤◌, ◌<◌, ◌++◌, ◌∷◌, [], map, length, subst, sym, refl, arith}
-use Rattle.rox_tables.specs.Rows.{declaration, lists_of, scope_at}
+use Rattle.rox_tables.specs.Rows.{namespace_view, lists_of, scope_at}
 use Rattle.rox_tables.specs.Bindings.{bound_place, IsBound}
 use Rattle.rox_tables.specs.declared.bindings.ScopeFrame.{ScopeFrame}
 use Rattle.rox_tables.proofs.Ropes.{scope_places, length-lists}
@@ -8,14 +8,14 @@ use Rattle.rox_tables.proofs.bindings.PrefixBindings.make_innermost.Goals as goa
 
 pub returns-then-is_in-clause-value : goal.returns-then-is_in-clause-value
 returns-then-is_in-clause-value c = λ h.
-    let names = map declaration c.args.names.now in
+    let names = map namespace_view c.args.names.now in
     let lists = lists_of names c.args.listed.now c.args.scopes.now in
     let left = c.in_ok-leave_inner.ensures.keeps names lists h in
     (left, c.is_in.ensures.bound c.if-is_in.true names lists left)
 
 pub returns-clause-value : goal.returns-clause-value
 returns-clause-value c = λ h.
-    let names = map declaration c.args.names.now in
+    let names = map namespace_view c.args.names.now in
     let lists = lists_of names c.args.listed.now c.args.scopes.now in
     let x = c.add_all.new.self in
     let bound = c.in_ok-add_all.ensures.bound (c.clear.ensures.bound names) in

@@ -1,5 +1,5 @@
 use Rattle.std.proofs.Common.{length, map, ap, ◌∙◌, sym}
-use Rattle.rox_tables.specs.Rows.{declaration}
+use Rattle.rox_tables.specs.Rows.{namespace_view}
 use Rattle.roxmltree.proofs.Columns.{length_left}
 use Rattle.roxmltree.proofs.elements.AttributesExactSizeIterator.len.Goals as goal
 
@@ -7,4 +7,4 @@ pub returns-clause-value : goal.returns-clause-value
 returns-clause-value c =
     let d = c.self.inside in
     let v = c.self.invariant in
-    sym (length_left (map declaration d.names.now) d.items.now d.places.now d.from d.until v.even v.ordered v.within) ∙ ap length c.self.view_is
+    sym (length_left (map namespace_view d.names.now) d.items.now d.places.now d.from d.until v.even v.ordered v.within) ∙ ap length c.self.view_is

@@ -1,6 +1,6 @@
 use Rattle.std.proofs.Common.{◌<◌, ◌+◌, ◌∷◌, length, map, ap, sym, ◌∙◌, arith}
 use Rattle.std.specs.List.{slice_range}
-use Rattle.rox_tables.specs.Rows.{declaration, entry}
+use Rattle.rox_tables.specs.Rows.{namespace_view, namespace_at}
 use Rattle.rox_tables.specs.Scopes.{places_in}
 use Rattle.roxmltree.proofs.Entries.{entry_is}
 use Rattle.roxmltree.proofs.Ends.{first_of}
@@ -15,7 +15,7 @@ returns-clause-steps c =
     let v = c.self.invariant in
     let names = d.names.now in
     let places = places_in d.listed.now d.scopes.now d.scope in
-    let f = entry (map declaration names) in
+    let f = namespace_at (map namespace_view names) in
     let place = c.place_at-place.result in
     let l : place < length names = c.place_at-place.ensures.place _ v.each in
     sym c.self.view_is

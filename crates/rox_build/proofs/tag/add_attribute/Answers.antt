@@ -3,13 +3,13 @@ use Rattle.rox_scan.specs.Views.{attribute_view}
 use Rattle.std.proofs.lemmas.Result.{err_from_is_err_and}
 use Rattle.rox_values.specs.DeclaredEntities.{values_in}
 use Rattle.rox_values.specs.Values.{piece_view}
-use Rattle.rox_tables.specs.Rows.{declaration}
+use Rattle.rox_tables.specs.Rows.{namespace_view}
 use Rattle.rox_tables.specs.Bindings.{AreBindingsOf}
 use Rattle.rox_tables.specs.TagScopes.{lists_in}
 use Rattle.rox_tables.specs.TagDeclarations.{unresolved_view}
 use Rattle.rox_tables.specs.declared.unresolved_attribute.UnresolvedAttribute.{UnresolvedAttribute}
 use Rattle.rox_build.proofs.Taking.{view_is, took_declaration, refused_declaration, refused_value, took_attribute}
-use Rattle.rox_build.proofs.tag.take.Goals as goal
+use Rattle.rox_build.proofs.tag.add_attribute.Goals as goal
 
 pub returns-then-is_namespace_decl-clause-lists : goal.returns-then-is_namespace_decl-clause-lists
 returns-then-is_namespace_decl-clause-lists c = c.in_ok-xml.ensures.lists c.args.elements.now.scopes.items c.requires.scopes
@@ -17,7 +17,7 @@ returns-then-is_namespace_decl-clause-lists c = c.in_ok-xml.ensures.lists c.args
 pub returns-then-is_namespace_decl-clause-kept : goal.returns-then-is_namespace_decl-clause-kept
 returns-then-is_namespace_decl-clause-kept c =
     let old = c.args.elements.now in
-    let names = map declaration c.declare_namespace.new.names.items.items in
+    let names = map namespace_view c.declare_namespace.new.names.items.items in
     subst (λ ls. AreBindingsOf names ls old.present) (sym (c.in_ok-xml.ensures.lists old.scopes.items c.requires.scopes)) (c.in_ok-xml.ensures.grown (lists_in old) old.present c.requires.kept)
 
 pub returns-in_err-piece-clause-took : goal.returns-in_err-piece-clause-took
@@ -34,7 +34,7 @@ returns-then-is_namespace_decl-clause-took c = λ es known before h declared o h
     let view = view_is raw v t refl refl refl c.requires.end refl
     (c.in_ok-value.ensures.bytes ∙ ap (λ (b : List ℕ). (piece_view c.in_ok-piece.piece b).value) buffer)
     (c.in_ok-value.ensures.kind ∙ ap (λ (b : List ℕ). (piece_view c.in_ok-piece.piece b).plain) buffer) in
-    took_declaration (values_in es c.args.how) known before (map declaration c.declare_namespace.new.names.items.items) c.declare_namespace.new.listed.items c.in_ok-xml.xml c.args.buffers.now.taken.items
+    took_declaration (values_in es c.args.how) known before (map namespace_view c.declare_namespace.new.names.items.items) c.declare_namespace.new.listed.items c.in_ok-xml.xml c.args.buffers.now.taken.items
     c.args.text.now (attribute_view raw) c.args.left c.in_ok-piece.left h v (unresolved_view t) (c.in_ok-piece.ensures es declared) view (sym c.is_namespace_decl.ensures ∙ c.if-is_namespace_decl.true) hold.attributes
     (c.in_ok-xml.ensures.value known before h o hold.is_namespace_decl)
 
@@ -56,7 +56,7 @@ returns-clause-took c = λ es known before h declared o hold.
     let raw = c.args.raw.now in
     let v = piece_view c.in_ok-piece.piece (string_bytes c.value.new.scratch) in
     let buffer : c.as_str.result.now ≡ string_bytes c.value.new.scratch = c.as_str.ensures.value in
-    took_attribute (values_in es c.args.how) known before (map declaration c.args.elements.now.namespaces.items.items) c.args.elements.now.listed.items c.args.xml c.args.buffers.now.taken.items c.push.new.to.items
+    took_attribute (values_in es c.args.how) known before (map namespace_view c.args.elements.now.namespaces.items.items) c.args.elements.now.listed.items c.args.xml c.args.buffers.now.taken.items c.push.new.to.items
     c.args.text.now raw c.args.left c.in_ok-piece.left h v _ c.in_ok-push.ensures.items (c.in_ok-piece.ensures es declared) refl refl refl c.requires.end refl
     (c.in_ok-value.ensures.bytes ∙ ap (λ (b : List ℕ). (piece_view c.in_ok-piece.piece b).value) buffer)
     (c.in_ok-value.ensures.kind ∙ ap (λ (b : List ℕ). (piece_view c.in_ok-piece.piece b).plain) buffer)

@@ -5,7 +5,7 @@ use Rattle.rox_scan.specs.DoctypeViews.{xml_decl_if}
 use Rattle.rox_build.specs.WholeTexts.{start_state}
 use Rattle.rox_build.proofs.Documents.{declaration_fails, declaration_read}
 use Rattle.rox_build.proofs.Items.{sees_at}
-use Rattle.rox_build.proofs.reader.lead.Goals as goal
+use Rattle.rox_build.proofs.reader.prolog_start.Goals as goal
 
 pub returns-in_err-xml_decl_if-clause-value : goal.returns-in_err-xml_decl_if-clause-value
 returns-in_err-xml_decl_if-clause-value c = λ limit end here sees.
