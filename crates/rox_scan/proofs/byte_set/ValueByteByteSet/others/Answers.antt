@@ -5,7 +5,7 @@ use Rattle.rox_scan.specs.ByteSets.{is_value_byte}
 use Rattle.rox_scan.specs.declared.byte_set.TheConstants.{VALUE_LOW, VALUE_HIGH}
 use Rattle.rox_scan.proofs.TableLemmas.{agree_below}
 use Rattle.rox_scan.proofs.LaneLemmas.{masked, against, differs}
-use Rattle.rox_scan.proofs.byte_set.ValueByteNear.others.Goals as goal
+use Rattle.rox_scan.proofs.byte_set.ValueByteByteSet.others.Goals as goal
 
 pub returns : goal.returns
 unfolding agree_below is_value_byte

@@ -6,7 +6,7 @@ use Rattle.rox_scan.specs.ByteSets.{is_part_byte}
 use Rattle.rox_scan.specs.declared.byte_set.TheConstants.{PART_LOW, PART_HIGH}
 use Rattle.rox_scan.proofs.TableLemmas.{agree_below}
 use Rattle.rox_scan.proofs.LaneLemmas.{masked, against, equals}
-use Rattle.rox_scan.proofs.byte_set.PartByteNear.others.Goals as goal
+use Rattle.rox_scan.proofs.byte_set.PartByteByteSet.others.Goals as goal
 
 pub returns : goal.returns
 unfolding agree_below is_part_byte is_part_char is_name_char is_name_start

@@ -1,7 +1,7 @@
 use Rattle.std.proofs.Common.{arith}
 use Rattle.std.proofs.lemmas.Bool.Decides.{nat_tests}
 use Rattle.rox_scan.specs.ByteSets.{is_part_byte}
-use Rattle.rox_scan.proofs.byte_set.PartByteNear.has.Goals as goal
+use Rattle.rox_scan.proofs.byte_set.PartByteByteSet.has.Goals as goal
 
 pub returns-then-byte-lt128 : goal.returns-then-byte-lt128
 unfolding is_part_byte

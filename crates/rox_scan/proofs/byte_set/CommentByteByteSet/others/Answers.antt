@@ -5,7 +5,7 @@ use Rattle.rox_scan.specs.ByteSets.{is_comment_byte}
 use Rattle.rox_scan.specs.declared.byte_set.TheConstants.{COMMENT_LOW, COMMENT_HIGH}
 use Rattle.rox_scan.proofs.TableLemmas.{agree_below}
 use Rattle.rox_scan.proofs.LaneLemmas.{masked, against, differs}
-use Rattle.rox_scan.proofs.byte_set.CommentByteNear.others.Goals as goal
+use Rattle.rox_scan.proofs.byte_set.CommentByteByteSet.others.Goals as goal
 
 pub returns : goal.returns
 unfolding agree_below is_comment_byte
