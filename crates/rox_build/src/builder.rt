@@ -13,10 +13,10 @@ use rox_grammar::fault::Fault;
 use rox_grammar::name::QName;
 use rox_scan::search::Finders;
 use rox_tables::attributes::AttributeTable;
+use rox_tables::bindings::PrefixBindings;
 use rox_tables::growth::{push, reserve, trim};
 use rox_tables::namespace_table::NamespaceTable;
 use rox_tables::node_rows;
-use rox_tables::bindings::PrefixBindings;
 use rox_tables::recent_texts::Recent;
 use rox_tables::storage::StringStorage;
 use rox_tables::tables::{ElementTables, NodeData, NodeKind, Scope, Stretch, Tables};
@@ -364,7 +364,12 @@ impl<'input> Builder<'input> {
     /// A piece of text: a slice of the source where it is one, else what the buffer for values holds. The only fault is that
     /// there are too many nodes.
     #[inline(always)]
-    pub fn piece(&mut self, start: usize, end: usize, piece: TextValue<'input>) -> Result<(), Failure>
+    pub fn piece(
+        &mut self,
+        start: usize,
+        end: usize,
+        piece: TextValue<'input>,
+    ) -> Result<(), Failure>
         ensures value { (total at : ℕ) (s : State) → Represents total s.stack s.done self.old
             → let text = piece_view piece.entry (string_bytes self.old.buffers.scratch) in
             Adds total result self.new (with_item self.old.nodes_limit s at (Text start end text.value text.plain)) }

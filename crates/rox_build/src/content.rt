@@ -20,13 +20,13 @@ use crate::constructs::{end_tag, markup};
 use crate::tag::Buffers;
 use rox_grammar::failure::Failure;
 use rox_grammar::fault::Fault;
-use rox_scan::cursor::Cursor;
-use rox_scan::search::either_from;
 use rox_scan::byte_set::{TextByte, skip_set};
+use rox_scan::cursor::Cursor;
 use rox_scan::runs::{after_byte, is_at};
+use rox_scan::search::either_from;
 use rox_values::context::Context;
 use rox_values::parse_error::ParseError;
-use rox_values::value::{ends_character_data, line_feeds, raw_character_data, data_part};
+use rox_values::value::{data_part, ends_character_data, line_feeds, raw_character_data};
 use std::alloc::Global;
 
 /// Whether a run is a line end, a CR and a LF, and then bytes that stand for themselves.
@@ -252,7 +252,10 @@ fn content_text<'input>(
 }
 
 /// The end of a replacement text: no element may be open that it opened.
-fn text_end<'input>(builder: &Builder<'input>, how: Context<'_, 'input>) -> Result<(), ParseError<'input>>
+fn text_end<'input>(
+    builder: &Builder<'input>,
+    how: Context<'_, 'input>,
+) -> Result<(), ParseError<'input>>
     ensures { (limit end : ℕ) (es : List Entity) (s : State) → HoldsState limit end s builder.now → ParsesToHeld limit end result builder.now (machine.text_ends (context_of limit es how.entry) s) }
 {
     if builder.opened.len() == how.base {

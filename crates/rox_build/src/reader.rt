@@ -26,8 +26,8 @@ use rox_resolver::resolver::EntityResolver;
 use rox_scan::cursor::Cursor;
 use rox_scan::doctype::start_of;
 use rox_tables::tables::Tables;
-use rox_values::entities::Entities;
 use rox_values::context::Context;
+use rox_values::entities::Entities;
 use rox_values::parse_error::ParseError;
 use std::alloc::Global;
 

@@ -25,7 +25,7 @@ use rox_grammar::name::QName;
 use rox_scan::cursor::Cursor;
 use rox_scan::markup::{RawAttribute, TagItem};
 use rox_tables::compare::same_text;
-use rox_tables::declaration::{is_namespace_decl, declare_namespace};
+use rox_tables::declaration::{declare_namespace, is_namespace_decl};
 use rox_tables::growth::push;
 use rox_tables::resolve::{element_namespace, resolve};
 use rox_tables::scope::few_places;

@@ -2,5 +2,5 @@
 #![tactic(auto)]
 
 pub mod error;
-pub mod position;
 mod from_fault;
+pub mod position;

@@ -4,8 +4,8 @@ ghost use Rattle.std.specs.Prelude.{◌≡◌, ◌==◌, ◌||◌, IfOk, ◌+◌
 ghost use Rattle.std.specs.Str.{IsCharBoundary, IsUtf8};
 ghost use Rattle.std.proofs.Props.{props};
 
-use crate::chars::is_space;
 use crate::byte_set::part_end;
+use crate::chars::is_space;
 use crate::runs::{
     NameChar, NameStart, after_byte, begins, char_at, chars_end, is_at, run_end, space_end,
 };

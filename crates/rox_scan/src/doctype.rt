@@ -11,8 +11,8 @@ ghost use Rattle.rox_scan.specs.ScanResults.{Reads};
 ghost use Rattle.rox_scan.specs.DoctypeViews.{AreBoundaries, IsReplacement, xml_decl_if, definition_view, head_view, inner_at, is_skipped_declaration, outer_at, skipped_declaration_at, request_view, subset_end_at};
 
 use crate::cursor::Cursor;
-use crate::search::byte_from;
 use crate::runs::{after_byte, is_at};
+use crate::search::byte_from;
 use rox_grammar::fault::{Due, Fault, Word};
 
 /// What an external entity is known by: its public identifier, if it has one, and its system identifier, as they are written

@@ -2,12 +2,12 @@
 //! of a source. Each gives what stands there, or the first fault, and moves the place past it.
 #![tactic(auto)]
 
+pub mod byte_set;
 pub mod chars;
 pub mod cursor;
 pub mod doctype;
-pub mod nibbles;
 pub mod lookahead;
-pub mod search;
 pub mod markup;
-pub mod byte_set;
+pub mod nibbles;
 pub mod runs;
+pub mod search;

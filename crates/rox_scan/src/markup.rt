@@ -11,12 +11,12 @@ ghost use Rattle.rox_reading.specs.Markup as spec;
 ghost use Rattle.rox_scan.specs.ScanResults.{Reads};
 ghost use Rattle.rox_scan.specs.Views.{HasValue, TagItemHasValue, attribute_view, end_tag_view, instruction_view, text_view, tag_item_view};
 
+use crate::byte_set::{ValueByte, skip_set};
 use crate::chars::is_space;
 use crate::cursor::Cursor;
 use crate::lookahead::{comment_end, is_verbatim_value, scan_value};
-use crate::search::{Finders, either_from, has_mark, mark_from};
-use crate::byte_set::{ValueByte, skip_set};
 use crate::runs::is_at;
+use crate::search::{Finders, either_from, has_mark, mark_from};
 use memchr::memmem::Finder;
 use rox_grammar::fault::{Due, Fault, Word};
 use rox_grammar::name::QName;

@@ -18,12 +18,12 @@ ghost use Rattle.rox_tables.specs.TagDeclarations.{unresolved_view};
 ghost use Rattle.rox_tables.specs.ResolvedNames.{row_of_unresolved, has_expanded, Tested};
 ghost use Rattle.rox_tables.specs.ExpandedNames.{HasExpandedNames, TestedOr};
 
-use crate::compare::same_text;
 use crate::attributes::AttributeTable;
-use crate::declaration::{local_span, prefix_span};
 use crate::bindings::PrefixBindings;
-use crate::scope::{XML_URI, find, find_default, same_prefix};
+use crate::compare::same_text;
+use crate::declaration::{local_span, prefix_span};
 use crate::expanded_names::is_repeated_name;
+use crate::scope::{XML_URI, find, find_default, same_prefix};
 use crate::storage::StringStorage;
 use crate::tables::{AttributeData, AttributeNamespace, AttributePlaces, Namespace};
 use crate::unresolved_attribute::UnresolvedAttribute;

@@ -10,9 +10,9 @@ ghost use Rattle.rox_tables.specs.Scopes.{prefix_view, entries, places_in, is_fe
 ghost use Rattle.rox_tables.specs.PrefixSet.{IsPrefixSet};
 ghost use Rattle.rox_tables.specs.Bindings.{LooksWithin, looked_up, places_view};
 
+use crate::bindings::PrefixBindings;
 use crate::compare::same_text;
 use crate::prefix_set::{FEW, has_prefix};
-use crate::bindings::PrefixBindings;
 use crate::tables::{Namespace, Scope};
 use rox_grammar::failure::Failure;
 use std::collections::BTreeSet;

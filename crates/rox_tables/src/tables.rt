@@ -1,8 +1,8 @@
 //! The tables of a document: a row for each node in document order, and beside them attributes and namespaces.
 
 use crate::attributes::AttributeTable;
-use crate::namespace_table::NamespaceTable;
 use crate::bindings::PrefixBindings;
+use crate::namespace_table::NamespaceTable;
 use crate::storage::StringStorage;
 
 /// A processing instruction: its target, and its value where it has one (XML 1.0 section 2.6).

@@ -11,8 +11,8 @@ ghost use Rattle.rox_tables.specs.Bindings.{IsBound, bound_place};
 ghost use Rattle.rox_tables.specs.Ropes.{IsListed};
 ghost use Rattle.rox_tables.specs.TagScopes.{HasScope, HasBindings, lists_in};
 
-use crate::prefix_set::FEW;
 use crate::bindings::PrefixBindings;
+use crate::prefix_set::FEW;
 use crate::rope::{add, both, index_of, stretch, without};
 use crate::scope::inherit;
 use crate::tables::{ElementTables, Namespace, Scope, Stretch};

@@ -20,16 +20,16 @@ ghost use Rattle.rox_values.specs.DeclaredEntities.{AreDeclared};
 ghost use Rattle.rox_values.specs.Values.{Appends, AppendsBit, AppendsCharacter, AppendsPart, AppendsValue, FindsEntity, GivesValue, behind, ends_stretch, piece_view, section_rest, section_text};
 
 use crate::context::Context;
-use crate::reference::{Reference, read_reference};
 use crate::parse_error::ParseError;
+use crate::reference::{Reference, read_reference};
 use rox_grammar::failure::Failure;
 use rox_grammar::fault::{Fault, Span};
+use rox_scan::byte_set::{ValueByte, skip_set};
 use rox_scan::cursor::Cursor;
 use rox_scan::lookahead::{is_special, scan_character_data};
-use rox_scan::search::{before_byte, before_either, byte_from, either_from, has_mark};
 use rox_scan::markup::RawAttribute;
-use rox_scan::byte_set::{ValueByte, skip_set};
 use rox_scan::runs::{after_byte, is_at};
+use rox_scan::search::{before_byte, before_either, byte_from, either_from, has_mark};
 use std::alloc::AllocError;
 
 /// A text: a slice of the source, or what the caller's buffer holds.
@@ -466,7 +466,9 @@ pub struct RawCharacterData<'input> {
 
 /// A run of character data, up to the next `<` or the end (XML 1.0 section 2.4), as it stands: of Chars, and without `]]>`,
 /// which is a fault at its end.
-pub fn raw_character_data<'input>(cursor: &mut Cursor<'input>) -> Result<RawCharacterData<'input>, Fault>
+pub fn raw_character_data<'input>(
+    cursor: &mut Cursor<'input>,
+) -> Result<RawCharacterData<'input>, Fault>
     ensures value { Reads (λ raw. raw.text.now) cursor.new result (spec.raw_character_data_at cursor.old.text.now cursor.old.pos) }
     ensures plain { IfOk result (λ raw. raw.plain ≡ content.is_verbatim raw.text.now) }
     ensures source { cursor.new.text ≡ cursor.old.text }
@@ -489,7 +491,9 @@ pub fn raw_character_data<'input>(cursor: &mut Cursor<'input>) -> Result<RawChar
 #[cold]
 #[inline(never)]
 #[tactic(auto, unfolding(rox_reading::specs::Values::raw_character_data_at))]
-fn faulty_character_data<'input>(cursor: &mut Cursor<'input>) -> Result<RawCharacterData<'input>, Fault>
+fn faulty_character_data<'input>(
+    cursor: &mut Cursor<'input>,
+) -> Result<RawCharacterData<'input>, Fault>
     ensures value { Reads (λ raw. raw.text.now) cursor.new result (spec.raw_character_data_at cursor.old.text.now cursor.old.pos) }
     ensures plain { IfOk result (λ raw. raw.plain ≡ content.is_verbatim raw.text.now) }
     ensures source { cursor.new.text ≡ cursor.old.text }
@@ -535,7 +539,10 @@ pub fn value<'input>(
 /// The text of a CDATA section (XML 1.0 sections 2.7 and 2.11): a slice of the source where it has no CR, and else with a LF
 /// for each line end, in `scratch`, which is cleared first. The only error is want of memory.
 #[inline]
-pub fn cdata_text<'input>(raw: &'input str, scratch: &mut String) -> Result<TextValue<'input>, Failure>
+pub fn cdata_text<'input>(
+    raw: &'input str,
+    scratch: &mut String,
+) -> Result<TextValue<'input>, Failure>
     ensures { Gives (λ p. piece_view p (string_bytes scratch.new)) result (Ok (section_text raw.now)) }
 {
     let bytes = raw.as_bytes();

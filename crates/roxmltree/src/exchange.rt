@@ -6,9 +6,9 @@ ghost use Rattle.roxmltree.specs.NodeParts.{listed_of};
 ghost use Rattle.rox_grammar.specs.Exchange.{none_of, start_at, end_at, IsReparse, IsExchange};
 ghost use Rattle.roxmltree.specs.SelfContained.{stands_alone};
 
+use crate::iterators::AxisIter;
 use crate::nodes::Node;
 use crate::tree::Document;
-use crate::iterators::AxisIter;
 use rox_error::error::Error;
 use std::alloc::{AllocError, Global};
 

@@ -1,28 +1,28 @@
 //! A read-only tree of an XML document, in document order.
 #![tactic(auto)]
 
-mod node_content;
 mod debug;
 mod elements;
+mod exchange;
+mod iterators;
 pub mod laws;
 mod lookups;
 mod names;
+mod node_content;
 mod nodes;
 mod options;
 mod order;
 mod parse;
 mod positions;
-mod exchange;
 mod tree;
-mod iterators;
 
-pub use crate::node_content::NodeType;
 pub use crate::elements::{Attribute, Attributes, NamespaceIter};
+pub use crate::iterators::{AxisIter, Children, Descendants};
 pub use crate::names::{ExpandedName, NS_XML_URI, NS_XMLNS_URI};
+pub use crate::node_content::NodeType;
 pub use crate::nodes::{Node, NodeId, NodeIdTooLarge};
 pub use crate::options::ParsingOptions;
 pub use crate::tree::Document;
-pub use crate::iterators::{AxisIter, Children, Descendants};
 pub use rox_error::position::TextPos;
 pub use rox_resolver::resolver::{EntityResolver, NoResolver, ResolveWith};
 pub use rox_tables::storage::StringStorage;

@@ -5,8 +5,8 @@ ghost use Rattle.std.specs.Option.{option_map};
 ghost use Rattle.rox_grammar.specs.Forest.{size};
 ghost use Rattle.roxmltree.specs.Places.{place, parent, children, first_child, last_child, next_sibling, prev_sibling, up_to};
 
-use crate::tree::Document;
 use crate::iterators::{Axis, AxisIter, Children, Descendants};
+use crate::tree::Document;
 use std::fmt;
 
 /// The place of a node in document order: the root node has 0.
