@@ -28,9 +28,9 @@ use Rattle.rox_grammar.specs.Faults as rows
 use Rattle.rox_theory.proofs.Basics.{within}
 use Rattle.rox_theory.proofs.Constructions.{comment_bytes, instruction_bytes, end_bytes}
 use Rattle.rox_theory.proofs.DeclarationLemmas.{stands_reads, stands_fits}
-use Rattle.rox_theory.proofs.FaultApart.{declaration_bytes}
+use Rattle.rox_faults.proofs.FaultApart.{declaration_bytes}
 use Rattle.rox_theory.proofs.LiteralLemmas.{from_bound, literal_closes, quote_ascii}
-use Rattle.rox_theory.proofs.NameSpans.{run_cut, cut_behind}
+use Rattle.rox_faults.proofs.NameSpans.{run_cut, cut_behind}
 use Rattle.rox_theory.proofs.PartLemmas.{encode_some}
 use Rattle.rox_theory.proofs.Places.{begins_within}
 use Rattle.rox_laws.proofs.Counted.{IsPlaced}

@@ -12,7 +12,7 @@ use Rattle.rox_reading.specs.Refusals.{here}
 use Rattle.rox_reading.specs.Values.{ValueInclusion, value_text}
 use Rattle.rox_theory.specs.Openers.{AreTexts, AgreesValue}
 use Rattle.rox_theory.proofs.ValueLemmas.{value_text_sound, value_text_chars, value_text_complete}
-use Rattle.rox_theory.proofs.FaultBasics.{ok_one}
+use Rattle.rox_theory.proofs.FailedReadings.{ok_one}
 use Rattle.rox_theory.proofs.Openers.{no_stop}
 use Rattle.rox_theory.proofs.PartOnce.{OpensOnce}
 use Rattle.rox_theory.proofs.Once.{text_once, same_text}

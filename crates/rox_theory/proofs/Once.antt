@@ -23,7 +23,7 @@ use Rattle.rox_theory.proofs.Leaves.{with_leaf}
 use Rattle.rox_theory.proofs.Steps.{after, closed}
 use Rattle.rox_theory.proofs.Flat.{StepsOver, takes_run, takes_cdata, takes_misc, takes_empty, takes_start, takes_end, Chain, arrives, goes, text_complete}
 use Rattle.rox_theory.proofs.Constructions.{Kind, a_run, a_comment, a_cdata, an_instruction, an_end, a_tag, nothing, kind_at, name_byte, run_within, run_kind, comment_kind, cdata_kind, instruction_kind, end_kind, tag_kind, comment_bytes, cdata_bytes, instruction_bytes, end_bytes}
-use Rattle.rox_theory.proofs.FaultBasics.{ok_one}
+use Rattle.rox_theory.proofs.FailedReadings.{ok_one}
 use Rattle.rox_theory.proofs.PartOnce.{OpensOnce, parts_once}
 use Rattle.rox_theory.proofs.TagOnce.{tag_once}
 use Rattle.rox_theory.proofs.Chains as chains

@@ -23,7 +23,7 @@ use Rattle.rox_reading.specs.WholeText as whole
 use Rattle.rox_reading.proofs.Forests.{pairs-join, attribute_count-join, named-left, named-right}
 use Rattle.rox_theory.specs.ValidState.{IsValidState, state}
 use Rattle.rox_theory.proofs.Basics.{ok_same}
-use Rattle.rox_theory.proofs.FaultBasics.{ok_one}
+use Rattle.rox_theory.proofs.FailedReadings.{ok_one}
 use Rattle.rox_theory.proofs.Whole.{asks_nothing_there}
 use Rattle.rox_theory.proofs.Once.{element_once}
 use Rattle.rox_theory.proofs.Around.{Stops, DoctypesAgree, none_agree, element_stops, end_stops, begins_stop, dtd_begins, misc_complete, prolog_complete}

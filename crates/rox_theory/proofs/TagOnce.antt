@@ -9,7 +9,7 @@ use Rattle.rox_reading.specs.Values.{ReadText, value_at}
 use Rattle.rox_reading.specs.Tags.{Values, attribute_with}
 use Rattle.rox_reading.specs.Lexical.{qname_at}
 use Rattle.rox_theory.specs.Openers.{AgreesValue}
-use Rattle.rox_theory.proofs.FaultBasics.{ok_one}
+use Rattle.rox_theory.proofs.FailedReadings.{ok_one}
 use Rattle.rox_theory.proofs.NameLemmas.{qname_complete}
 use Rattle.rox_theory.proofs.AttributeLemmas.{AttributeReads, attribute_complete, more_complete, end_complete}
 

@@ -4,6 +4,5 @@
 pub mod doctype;
 pub mod document;
 pub mod expansion;
-pub mod faults;
 pub mod items;
 pub mod laws;

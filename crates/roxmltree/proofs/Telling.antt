@@ -18,9 +18,9 @@ use Rattle.rox_reading.specs.Answering.{with_refusal, Stops}
 use Rattle.rox_reading.specs.WholeText.{reading}
 use Rattle.rox_theory.proofs.Answering.{has_asked, asks_next}
 use Rattle.rox_theory.proofs.DoctypeAgreement.{doctypes_agree}
-use Rattle.rox_theory.proofs.FaultRefused.{refusal_here, refusal_there}
-use Rattle.rox_theory.proofs.FaultSpans.{names_here, names_there}
-use Rattle.rox_theory.proofs.FaultWhole.{reading_faults}
+use Rattle.rox_faults.proofs.FaultRefused.{refusal_here, refusal_there}
+use Rattle.rox_faults.proofs.FaultSpans.{names_here, names_there}
+use Rattle.rox_faults.proofs.FaultWhole.{reading_faults}
 use Rattle.rox_theory.proofs.Whole.{refused_has_none}
 use Rattle.rox_resolver.specs.Requests.{AreAllowed}
 use Rattle.rox_error.specs.FaultErrors.{position_at, IsErrorOf}

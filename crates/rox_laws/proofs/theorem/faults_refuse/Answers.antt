@@ -1,5 +1,5 @@
 use Rattle.std.proofs.Common.{[]}
-use Rattle.rox_theory.proofs.FaultNever.{no_false_faults}
+use Rattle.rox_faults.proofs.FaultNever.{no_false_faults}
 use Rattle.rox_laws.proofs.theorem.faults_refuse.Goals as goal
 
 pub returns : goal.returns

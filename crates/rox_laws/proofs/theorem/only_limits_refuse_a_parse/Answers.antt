@@ -4,8 +4,8 @@ use Rattle.rox_error.specs.FaultErrors.{IsErrorOf}
 use Rattle.rox_error.specs.declared.error.Error.{Error}
 use Rattle.rox_error.specs.declared.error.Error.TheVariants as error
 use Rattle.rox_theory.specs.Limits.{IsLimit}
-use Rattle.rox_theory.proofs.FaultNever.{fault_over}
-use Rattle.rox_theory.proofs.FaultRefusing.{refused_over}
+use Rattle.rox_faults.proofs.FaultNever.{fault_over}
+use Rattle.rox_faults.proofs.FaultRefusing.{refused_over}
 use Rattle.rox_laws.proofs.theorem.only_limits_refuse_a_parse.Goals as goal
 
 -- the error of the fault of a limit

@@ -1,4 +1,4 @@
-use Rattle.rox_theory.proofs.FaultRefusing.{refused_never}
+use Rattle.rox_faults.proofs.FaultRefusing.{refused_never}
 use Rattle.rox_laws.proofs.theorem.refusals_refuse.Goals as goal
 
 pub returns : goal.returns

@@ -1,0 +1,334 @@
+-- At a place on the way of a parse no fault stands but those of the limits, and where it is within the limits none; nor does one
+-- stand in a value of a start tag there.
+use Rattle.std.proofs.Common.{◌≡◌, ◌≢◌, ℕ, zero, suc, ◌+◌, ◌-◌, ◌<◌, ◌≤◌, ◌⊎◌, ◌==◌, Bool, true, false, List, [], ◌∷◌, length, Some, Ok, refl, sym, ap, ◌∙◌, subst, arith, inl, inr}
+use Rattle.std.specs.Str.{IsUtf8, IsCharBoundary}
+use Rattle.std.proofs.lemmas.Str.{IsCharBoundary-before_ascii, IsCharBoundary-end}
+use Rattle.std.proofs.lemmas.Bool.{true≢false, cases_Bool, lt-leb, le-leb, eq-eqb, eqb-true, ne_eqb}
+use Rattle.rox_grammar.specs.declared.fault.Fault.{Fault}
+use Rattle.rox_grammar.specs.declared.fault.Word.TheVariants as word
+use Rattle.rox_grammar.specs.FixedTexts.{word_text}
+use Rattle.rox_grammar.specs.Search.{byte_from}
+use Rattle.rox_grammar.specs.Forest.{Forest, Nil, join}
+use Rattle.rox_grammar.specs.Written.{Name, Attribute, Tag, Item, Element}
+use Rattle.rox_grammar.specs.Tree.{listed}
+use Rattle.rox_grammar.specs.Names.{byte, slice, spaces_end, IsQName}
+use Rattle.rox_grammar.specs.Constructs.{at, first, has_mark, AreChars, IsEq, IsLiteral, IsEnd}
+use Rattle.rox_grammar.specs.Content.{Inclusion, IsMisc, Value}
+use Rattle.rox_grammar.specs.Entities.{Replacement, Entity, text_of, most_deep}
+use Rattle.rox_grammar.specs.State as grammar
+use Rattle.rox_grammar.specs.WellNamed.{IsWellNamed}
+use Rattle.rox_grammar.specs.State.{Open, root, inside, is_root, depth_of, scope_of}
+use Rattle.rox_grammar.specs.Due.{DueItem, IsMissing, no_qname, ends_before, DueInCData}
+use Rattle.rox_grammar.specs.Due as due
+use Rattle.rox_grammar.specs.ContentPoints.{is_main, is_content, TagBegins, of_root, in_content, IsSpent, MayOpen, ValuePart, itself, opened, TagTo}
+use Rattle.rox_grammar.specs.Faults.{InMisc, InRun, no_char, end_mark, in_reference, too_many, InValue, less, less_by_reference, InEnd, lacks, other_name, none_open, Stands, in_run, in_section, in_misc, in_tag, in_end, unknown, unclosed, unclosed_in_replacement, too_many_nodes, too_many_pieces}
+use Rattle.rox_grammar.specs.Faults as faults
+use Rattle.rox_reading.specs.State.{State}
+use Rattle.rox_reading.specs.Markup.{EndTag, end_tag_at}
+use Rattle.rox_reading.specs.Machine.{value_opener}
+use Rattle.rox_reading.proofs.Forests.{join_assoc}
+use Rattle.rox_theory.specs.ValidState.{AreNamed, IsValidState, state}
+use Rattle.rox_theory.proofs.Basics.{within}
+use Rattle.rox_theory.proofs.CharTexts.{cut_behind}
+use Rattle.rox_theory.proofs.LiteralLemmas.{from_here, quote_ascii}
+use Rattle.rox_theory.proofs.MarkupLemmas as markup
+use Rattle.rox_theory.proofs.Constructions.{a_comment, a_cdata, an_instruction, an_end, a_tag, nothing, kind_at, comment_kind, cdata_kind, instruction_kind, end_kind, comment_bytes, cdata_bytes, instruction_bytes, end_bytes}
+use Rattle.rox_theory.proofs.Standing.{item-named}
+use Rattle.rox_theory.proofs.Leaves.{Adds, fine_before}
+use Rattle.rox_theory.proofs.StepLemmas as steps
+use Rattle.rox_theory.proofs.Steps.{after, fine_leaf, fine_opened}
+use Rattle.rox_faults.proofs.PartFronts.{SpendsOnce, value_front}
+use Rattle.rox_theory.proofs.FailedReadings.{ok_one, chars_refuse}
+use Rattle.rox_faults.proofs.FaultLimits.{IsOver, nodes_over}
+use Rattle.rox_faults.proofs.FaultRows.{mark_cut, behind, run_stops_cut}
+use Rattle.rox_faults.proofs.FaultPoints.{how_at}
+use Rattle.rox_faults.proofs.FaultPlaces.{Tagged}
+use Rattle.rox_faults.proofs.FaultApart.{byte_stands, word_stands, chars_stand, misc_begins, misc_apart}
+use Rattle.rox_faults.proofs.FaultPairs.{one_qname}
+use Rattle.rox_faults.proofs.FaultReferences.{run_reference_apart, value_reference_apart, value_gives_less, value_no_less}
+use Rattle.rox_faults.proofs.FaultInTags.{tag_apart, value_there}
+use Rattle.rox_faults.proofs.FaultWay.{state_of, OpensAt, may_deep, may_once, same_text, Trail, stays, follows, Ends, Reached, step_there, there_by, one_step, place_within, takes_there, run_there, opened_there}
+
+-- where a text may be opened the openings are not spent
+spent_apart : (k b r : ℕ) → MayOpen k b r → IsSpent k b → ⊥
+spent_apart zero b r may spent = spent
+spent_apart (suc k) b r (before, more) (inl none) = absurd (omega arith)
+spent_apart (suc k) b r (before, more) (inr most) = absurd (omega arith)
+
+-- where a start tag begins in content, one is read
+tag_here : (src : List ℕ) (i : ℕ) (x : Bool) → TagBegins src i x → x ≡ true → kind_at src i ≡ a_tag
+tag_here src i x (of_root opens) inner = cc inner
+tag_here src i x (in_content opens inside' no_mark no_question no_slash) inner =
+    rw (eq-eqb _ _ opens, lt-leb (length src) (i + 1) inside', ne_eqb _ _ no_mark, ne_eqb _ _ no_question, ne_eqb _ _ no_slash) refl
+
+tag_less : (src : List ℕ) (i : ℕ) (x : Bool) → TagBegins src i x → byte src i ≡ 60
+tag_less src i x (of_root opens) = opens
+tag_less src i x (in_content opens inside' no_mark no_question no_slash) = opens
+
+-- the tag of the innermost open element
+tag_of : Tag → Open → Tag
+tag_of tag root = tag
+tag_of tag (inside start t before up) = t
+
+-- a name and a place are those of the end tag
+end_one : (src : List ℕ) (i j k m n : ℕ) (x y : Name) → IsEnd src i x m j → IsEnd src i y n k → (x ≡ y) × (m ≡ n)
+end_one src i j k m n x y a b =
+    let e = ok_one (record { name = x; name_end = m }, j) (record { name = y; name_end = n }, k) (end_tag_at src i) (markup.end_complete src i j m x a) (markup.end_complete src i k n y b) in
+    (ap (λ (t : EndTag × ℕ). t.0.name) e, ap (λ (t : EndTag × ℕ). t.0.name_end) e)
+
+-- where no replacement text is open and content ends, no element is open
+ends_main : (k base : ℕ) (src : List ℕ) (e : State) → is_main k ≡ true → Ends k base src e → is_root e.stack ≡ true
+ends_main zero base src e main ends = ends
+ends_main (suc k) base src e main ends = cc main
+
+ends_inner : (k base : ℕ) (src : List ℕ) (e : State) → is_main k ≡ false → Ends k base src e → depth_of e.stack ≡ base
+ends_inner zero base src e main ends = cc main
+ends_inner (suc k) base src e main ends = ends.1
+
+module _ (opens : ℕ → Inclusion) (es : List Entity) (all : OpensAt opens es) (limit : ℕ) (W : Type 0) where
+  abbrev There : (k base : ℕ) → List ℕ → State → Type 0
+  There k base src s = Reached opens es all limit W k base src s
+
+  -- a declared entity has a text
+  content_declared : (k : ℕ) (name : List ℕ) (b c : ℕ) (items : Forest Item) → (opens k).content name b items c → (t : Replacement) × (text_of es name ≡ Some t)
+  content_declared k name b c items h = let x = all.content k b c name items h in (x.0, x.3)
+
+  value_declared : (k : ℕ) (name : List ℕ) (b c : ℕ) (v : List ℕ) → (opens k).value name b v c → (t : Replacement) × (text_of es name ≡ Some t)
+  value_declared k name b c v h = let x = all.value k b c name v h in (x.0, x.3)
+
+  -- ---- places
+
+  module _ (k base b : ℕ) (src : List ℕ) (s : grammar.State) (r : There k base src (state_of s b)) where
+    abbrev here : State
+    here = state_of s b
+
+    -- in a run
+    run_apart : (f : Fault) → s.at < length src → byte src s.at ≢ 60 → InRun es k (opens k) src s.at b f → ⊥
+    run_apart f below other (faults.InRun.no_char _ lack) =
+        let run = run_there opens es all limit W k base b src s r below other in
+        chars_stand src r.utf8 s.at (byte_from (λ c. c == 60) src s.at) f r.cut (run_stops_cut src s.at below) (subst (λ (e : ℕ). AreChars src s.at e) run.1.end run.1.chars) lack
+    run_apart f below other (end_mark e is chars marked) =
+        let run = run_there opens es all limit W k base b src s r below other in
+        let same : e ≡ run.0 = is ∙ sym run.1.end in
+        let none : has_mark (word_text word.CDataEnd) (slice src s.at e) ≡ false = ap (λ (j : ℕ). has_mark (word_text word.CDataEnd) (slice src s.at j)) same ∙ run.1.no_end_mark in
+        true≢false (sym marked ∙ none)
+    run_apart f below other (faults.InRun.in_reference e q _ is chars unmarked from inside' ill) =
+        let run = run_there opens es all limit W k base b src s r below other in
+        let below' : q < run.0 = subst (λ (j : ℕ). q < j) (is ∙ sym run.1.end) inside' in
+        run_reference_apart es (is_main k) (opens k) src r.utf8 (content_declared k) s.at run.0 b run.2.left q run.2.items f run.2.parts from below' ill
+    run_apart f below other (faults.InRun.too_many stop q j c front t is to inside' refers spent) =
+        let found = (opened_there opens es all limit W k base b src s r stop q c j front t is to inside' refers).1 in
+        let x = all.content k c found.left (slice src (q + 1) refers.n) found.opened found.opens in
+        spent_apart k c x.1 x.4 spent
+
+    -- in a CDATA section
+    section_apart : (q : ℕ) (t : DueItem) (f : Fault) → DueInCData src s.at q t → IsMissing src q t f → ⊥
+    section_apart q t f (due.DueInCData.its_text opens') lack =
+        let below : s.at < length src = let two = (cdata_bytes src s.at opens').0 in omega arith in
+        let is = (there_by opens es all limit W k base src here r a_cdata below (cdata_kind src s.at opens')).2 in
+        let eight : s.at + 8 + 1 ≡ s.at + 9 = omega arith in
+        let cut = subst (IsCharBoundary src) eight (behind word.CDataStart src s.at 8 91 r.utf8 opens' (omega arith) refl (omega arith) (omega arith)) in
+        chars_stand src r.utf8 (s.at + 9) (first word.CDataEnd src (s.at + 9)) f cut (mark_cut (word_text word.CDataEnd) 93 (93 ∷ 62 ∷ []) src (s.at + 9) refl (omega arith) cut.0)
+        (subst (λ (e : ℕ). AreChars src (s.at + 9) e) is.end is.chars) lack
+    section_apart q t f (due.DueInCData.its_end opens' chars) lack =
+        let below : s.at < length src = let two = (cdata_bytes src s.at opens').0 in omega arith in
+        let is = (there_by opens es all limit W k base src here r a_cdata below (cdata_kind src s.at opens')).2 in
+        word_stands src word.CDataEnd (first word.CDataEnd src (s.at + 9)) f (subst (λ (e : ℕ). at word.CDataEnd src e ≡ true) is.end is.closes) lack
+
+    -- in a comment or an instruction
+    item_there : (at word.CommentStart src s.at ≡ true) ⊎ (at word.PIStart src s.at ≡ true) → (j : ℕ) × (item : Item) × IsMisc src s.at j item
+    item_there (inl c) = there_by opens es all limit W k base src here r a_comment (let two = (comment_bytes src s.at c).0 in omega arith) (comment_kind src s.at c)
+    item_there (inr p) = there_by opens es all limit W k base src here r an_instruction (let two = (instruction_bytes src s.at p).0 in omega arith) (instruction_kind src s.at p)
+
+    item_apart : (f : Fault) → InMisc src s.at f → ⊥
+    item_apart f ill = let item = item_there (misc_begins src r.utf8 s.at f ill) in misc_apart src r.utf8 s.at item.0 item.1 f item.2 ill
+
+    -- the end tag that stands there closes the innermost open tag of its text
+    end_there : at word.EndTagStart src s.at ≡ true
+        → (start : ℕ) × (tag : Tag) × (before : Forest Item) × (up : Open) × (n : ℕ) × (j : ℕ) × (s.stack ≡ inside start tag before up) × (base < depth_of up + 1) × IsEnd src s.at tag.name n j
+    end_there is = there_by opens es all limit W k base src here r an_end (let two = (end_bytes src s.at is).0 in omega arith) (end_kind src s.at is)
+
+    end_apart : (f : Fault) → InEnd base src s f → ⊥
+    unfolding tag_of
+    end_apart f (lacks q t _ (due.DueInEnd.its_name opens') (no_qname none)) = let there = end_there opens' in none there.1.name there.4 there.8.is_name
+    end_apart f (lacks q t _ (due.DueInEnd.its_name opens') (ends_before _ byte' past)) = cc byte'
+    end_apart f (lacks q t _ (due.DueInEnd.its_end name n opens' is_name) lack) =
+        let there = end_there opens' in
+        let same = (one_qname src (s.at + 2) n there.4 name there.1.name is_name there.8.is_name).1 in
+        let closes : byte src (spaces_end src n) ≡ 62 = ap (λ (n : ℕ). byte src (spaces_end src n)) same ∙ there.8.closes in
+        byte_stands src 62 (spaces_end src n) f (omega arith) closes lack
+    end_apart f (other_name n j start name tag before up expected actual stack deep is apart holds holds') =
+        let there = end_there is.opens in
+        let same = end_one src s.at there.5 j there.4 n there.1.name name there.8 is in
+        let one : tag ≡ there.1 = ap (tag_of tag) (sym stack ∙ there.6) in
+        absurd (apart (ap (λ (t : Tag). t.name) one ∙ same.0))
+    end_apart f (none_open n j name none is) =
+        let there = end_there is.opens in
+        let depth : depth_of s.stack ≡ depth_of there.3 + 1 = ap depth_of there.6 in
+        let deep = there.7 in
+        absurd (omega arith)
+
+    -- the start tag that stands there
+    tag_there : TagBegins src s.at (is_content k s.stack) → (t : State) × Tagged (is_main k) (opens k) src base here t × (W → IsValidState limit t) × AreNamed t.stack t.done
+    tag_there begins =
+        let less' = tag_less src s.at (is_content k s.stack) begins in
+        let below : s.at < length src = within src s.at (λ z. omega arith) in
+        let kind : kind_at src s.at ≡ a_tag = elim (cases_Bool (is_content k s.stack)) as (λ x. kind_at src s.at ≡ a_tag) [ inl inner ↦ tag_here src s.at (is_content k s.stack) begins inner | inr top ↦ (r.first top).1 ] in
+        let there = step_there opens es all limit W k base src here r below in
+        (there.to, there_by opens es all limit W k base src here r a_tag below kind, there.fine, there.named)
+
+    -- what it adds
+    tag_adds : (j c : ℕ) (x : Tag) (empty : Bool) → IsValidState limit (after here j x empty c) → Adds here (Element s.at j x)
+    tag_adds j c x true fine =
+        let adds = (fine_leaf limit (state_of s c) j (Element s.at j x) fine).1 in
+        record { attributes = adds.attributes; pairs = adds.pairs; named = adds.named }
+    tag_adds j c x false fine = (fine_opened limit here j x j c fine).1
+
+    -- and that it is well named
+    tag_named : (j c : ℕ) (x : Tag) (empty : Bool) → AreNamed (after here j x empty c).stack (after here j x empty c).done → IsWellNamed (listed (scope_of s.stack) x.declarations) x
+    tag_named j c x true named = (item-named s.stack s.done (Element s.at j x) Nil named).1
+    tag_named j c x false named = named.1
+
+    -- holds no fault
+    read_tag_apart : (t : State) (f : Fault) → Tagged (is_main k) (opens k) src base here t → (W → IsValidState limit t) → AreNamed t.stack t.done → faults.InTag (is_main k) (opens k) src s b f → IsOver W f
+    read_tag_apart t f (j, c, x, empty, is, leads) fine named ill =
+        let adds : W → Adds here (Element s.at j x) = λ w. tag_adds j c x empty (subst (IsValidState limit) leads (fine w)) in
+        let well_named = tag_named j c x empty (subst (λ (u : State). AreNamed u.stack u.done) leads named) in
+        tag_apart (how_at limit es r.d k base).values (opens k) (all.values r.d k r.deep) src r.utf8 s j b c empty x is well_named W (λ w. (adds w).attributes) (λ w. (adds w).pairs) f ill
+
+    -- past the end nothing stands
+    trail_past : (t u : State) → Trail (is_main k) (opens k) src base t u → length src ≤ t.at → t ≡ u
+    trail_past t u (stays _) past = refl
+    trail_past t u (follows _ v _ takes rest) past =
+        let moves = (steps.step_moves (how_at limit es r.d k base) (opens k) (all.values r.d k r.deep) (all.contents limit r.d k r.deep) src r.utf8 t v takes).0 in absurd (omega arith)
+
+    -- so no fault stands at the place but those of the limits
+    pub stands_apart : (f : Fault) → Stands limit es k base (opens k) src s b f → IsOver W f
+    stands_apart f (in_run _ inner below other ill) = absurd (run_apart f below other ill)
+    stands_apart f (in_section q t _ inner due' lack) = absurd (section_apart q t f due' lack)
+    stands_apart f (in_misc _ inner ill) = absurd (item_apart f ill)
+    stands_apart f (in_tag _ begins ill) = let there = tag_there begins in read_tag_apart there.0 f there.1 there.2 there.3 ill
+    stands_apart f (in_end _ inner ill) = absurd (end_apart f ill)
+    stands_apart f (unknown inner less' (inl last)) =
+        let same = eq-eqb _ _ less' in
+        let past = le-leb (length src) (s.at + 1) (omega arith) in
+        let is : kind_at src s.at ≡ nothing = rw (same, past) refl in
+        absurd (there_by opens es all limit W k base src here r nothing (omega arith) is)
+    stands_apart f (unknown inner less' (inr (mark, no_comment, no_section))) =
+        let same = eq-eqb _ _ less' in
+        let inside' = within src (s.at + 1) (λ z. omega arith) in
+        let more = lt-leb (length src) (s.at + 1) inside' in
+        let bang = eq-eqb _ _ mark in
+        let is : kind_at src s.at ≡ nothing = rw (same, more, bang, no_comment, no_section) refl in
+        absurd (there_by opens es all limit W k base src here r nothing (omega arith) is)
+    stands_apart f (unclosed start tag before up stack past main) =
+        let same = trail_past here r.end r.trail past in
+        let at_root : is_root s.stack ≡ true = ap (λ (s : State). is_root s.stack) same ∙ ends_main k base src r.end main r.ends in
+        absurd (true≢false (sym at_root ∙ ap is_root stack))
+    stands_apart f (unclosed_in_replacement deep past inner) =
+        let same = trail_past here r.end r.trail past in
+        let depth : depth_of s.stack ≡ base = ap (λ (s : State). depth_of s.stack) same ∙ ends_inner k base src r.end inner r.ends in
+        absurd (omega arith)
+    stands_apart f (too_many_nodes c t takes few few' over) =
+        let below = place_within k (opens k) src r.utf8 s t b c takes in
+        let there = step_there opens es all limit W k base src here r below in
+        nodes_over W (λ w.
+        (let fine = subst (IsValidState limit) (one_step opens es all limit W k base src here r (state_of t c) (takes_there opens es all limit W k base b src s r t c takes) below) (there.fine w) in
+        let nodes = fine.nodes in
+        omega arith))
+    stands_apart f (too_many_pieces stop q j c front t inner is to named below refers few few' over) =
+        let there = opened_there opens es all limit W k base b src s r stop q c j front t is to below refers in
+        let run = there.0 in let found = there.1 in
+        let split : join s.done run.items ≡ join (join s.done front) (join found.opened found.rest) = ap (join s.done) found.all ∙ sym (join_assoc s.done front (join found.opened found.rest)) in
+        nodes_over W (λ w.
+        (let fine : IsValidState limit (state stop (join (join s.done front) (join found.opened found.rest)) s.stack run.left) = subst (λ (f : Forest Item). IsValidState limit (state stop f s.stack run.left)) split (run.fine w) in
+        let nodes = (fine_before limit q stop c run.left (join s.done front) (join found.opened found.rest) s.stack fine).nodes in
+        omega arith))
+
+  -- ---- values
+
+  -- a part of a value is read to its end
+  record PartRead (l : ℕ) (part : List ℕ) (i stop d : ℕ) : Type 0 where
+    depth : ℕ
+    deep : depth + l ≡ most_deep
+    utf8 : IsUtf8 part
+    cut : IsCharBoundary part i
+    end_cut : IsCharBoundary part stop
+    left : ℕ
+    bytes : List ℕ
+    value : Value (is_main l) (opens l) part stop i d left bytes
+    chars : AreChars part i stop
+
+  -- what a reference opens it opens in one way
+  spends_once : (d l : ℕ) → d + l ≡ most_deep → SpendsOnce (opens l)
+  spends_once d l deep name b c e v w h h' =
+      let agrees = all.values d l deep in
+      let x = agrees.complete name 0 b c v h in
+      let y = agrees.complete name 0 b e w h' in
+      let text = same_text es name y.0 x.0 y.1 x.1 in
+      let same = ok_one (v, c) (w, e) (value_opener es d (is_main l) x.0 0 b) x.2 (subst (λ (t : Replacement). value_opener es d (is_main l) t 0 b ≡ Ok (w, e)) text y.2) in
+      ap (λ (p : List ℕ × ℕ). p.1) same
+
+  part_read : (k : ℕ) (src : List ℕ) (start end b l : ℕ) (part : List ℕ) (i stop d : ℕ) → PartRead k src start end b → ValuePart opens es k src start end b l part i stop d → PartRead l part i stop d
+  part_read k src start end b l part i stop d whole itself = whole
+  part_read k src start end b l part i stop d whole (opened m i' stop' d' c _ p j part' t within' to below refers may) =
+      let outer = part_read k src start end b m part' i' stop' d' whole within' in
+      let name = slice part' (p + 1) refers.n in
+      let there = value_front (is_main m) (opens m) (spends_once outer.depth m outer.deep) part' stop' i' p refers.n j d' c outer.left outer.bytes to outer.value below refers.is_reference refers.no_character in
+      let x = all.value m c there.1 name there.0 there.2 in
+      let text = all.texts name t refers.found in
+      let text_is : x.0 ≡ t = same_text es name x.0 t x.3 refers.found in
+      let left_is : x.1 ≡ d = may_once m c x.1 d x.4 may in
+      let value : Value false (opens (suc m)) t.source (length t.source) t.start d x.2 there.0 =
+      subst (λ (r : ℕ). Value false (opens (suc m)) t.source (length t.source) t.start r x.2 there.0) left_is
+      (subst (λ (t : Replacement). Value false (opens (suc m)) t.source (length t.source) t.start x.1 x.2 there.0) text_is x.6) in
+      record {
+        depth = most_deep - suc m;
+        deep = let more = may_deep m c d may in omega arith;
+        utf8 = text.0;
+        cut = text.1;
+        end_cut = IsCharBoundary-end t.source;
+        left = x.2;
+        bytes = there.0;
+        value = value;
+        chars = subst (λ (t : Replacement). AreChars t.source t.start (length t.source)) text_is x.5;
+      }
+
+  -- no fault stands in it
+  part_apart : (l : ℕ) (part : List ℕ) (i stop d : ℕ) (f : Fault) → PartRead l part i stop d → InValue es l (opens l) part i stop d f → ⊥
+  part_apart l part i stop d f r (faults.InValue.in_reference q _ from below ill) = value_reference_apart es (is_main l) (opens l) part r.utf8 (value_declared l) i stop d r.left q r.bytes f r.value from below ill
+  part_apart l part i stop d f r (faults.InValue.too_many q j c t to below refers spent) =
+      let there = value_front (is_main l) (opens l) (spends_once r.depth l r.deep) part stop i q refers.n j d c r.left r.bytes to r.value below refers.is_reference refers.no_character in
+      let x = all.value l c there.1 (slice part (q + 1) refers.n) there.0 there.2 in
+      spent_apart l c x.1 x.4 spent
+  part_apart l part i stop d f r (less q inner from below here) = value_no_less es (is_main l) (opens l) part r.utf8 stop i q d r.left r.bytes r.value from below here
+  part_apart l part i stop d f r (less_by_reference q j inner from below is) = value_gives_less es (is_main l) (opens l) part r.utf8 (value_declared l) i stop d r.left q j r.bytes r.value inner from below is
+  part_apart l part i stop d f r (faults.InValue.no_char q c inner from below stands ill) = chars_refuse part i stop q c r.utf8 r.cut r.end_cut from below r.chars stands ill
+
+  -- nor in a value of a start tag at a place
+  pub value_apart : (k base b p c n v e j l i stop d : ℕ) (src part : List ℕ) (s : grammar.State) (as' : List Attribute) (name : Name) (f : Fault) → There k base src (state_of s b) → TagBegins src s.at (is_content k s.stack)
+      → TagTo (is_main k) (opens k) src s p b c as' → IsQName src (spaces_end src p) name n → IsEq src n v → IsLiteral src v e j → ValuePart opens es k src (v + 1) e c l part i stop d → InValue es l (opens l) part i stop d f → ⊥
+  value_apart k base b p c n v e j l i stop d src part s as' name f r begins to named eq literal is ill =
+      let there = tag_there k base b src s r begins in
+      part_apart l part i stop d f (part_read k src (v + 1) e c l part i stop d (literal_read there.0 there.1 there.2 there.3) is) ill
+    where
+      literal_read : (t : State) → Tagged (is_main k) (opens k) src base (state_of s b) t → (W → IsValidState limit t) → AreNamed t.stack t.done → PartRead k src (v + 1) e c
+      literal_read t (j', c', x, empty, is', leads) fine named' =
+          let adds : W → Adds (state_of s b) (Element s.at j' x) = λ w. tag_adds k base b src s r j' c' x empty (subst (IsValidState limit) leads (fine w)) in
+          let well_named = tag_named k base b src s r j' c' x empty (subst (λ (u : State). AreNamed u.stack u.done) leads named') in
+          let value = value_there (how_at limit es r.d k base).values (opens k) (all.values r.d k r.deep) src r.utf8 s j' b c' empty x is' well_named W (λ w. (adds w).attributes) (λ w. (adds w).pairs) p c n v e j as' name to named eq literal in
+          let low = quote_ascii (byte src v) literal.quote in
+          let end = literal.end in let closes = literal.closes in
+          let h = from_here (λ c. c == byte src v) src (v + 1) (rw (← end) closes) in
+          let same : byte src e ≡ byte src v = eqb-true _ _ (rw (← end) at h) in
+          record {
+            depth = r.d;
+            deep = r.deep;
+            utf8 = r.utf8;
+            cut = cut_behind src v (byte src v) (v + 1) r.utf8 refl (omega arith) (omega arith) refl;
+            end_cut = IsCharBoundary-before_ascii src e closes (omega arith);
+            left = value.0;
+            bytes = value.1;
+            value = value.2;
+            chars = literal.chars;
+          }

@@ -1,0 +1,292 @@
+-- The same for start tags: where one stands that is well named, no fault of it does but those of the limits, and where it is within
+-- the limits, none.
+use Rattle.std.proofs.Common.{◌≡◌, ◌≢◌, ℕ, ◌+◌, ◌<◌, ◌≤◌, ◌⊎◌, Bool, true, false, cond, not, List, [], ◌∷◌, ◌++◌, length, refl, sym, ap, ◌∙◌, subst, arith, inl, inr, append_assoc}
+use Rattle.std.specs.Prelude.{Ok, map, filter, bytes_eq}
+use Rattle.std.specs.List.{list_any}
+use Rattle.std.specs.Str.{IsUtf8, IsCharBoundary}
+use Rattle.std.proofs.lemmas.Bool.{true≢false, and_parts}
+use Rattle.std.proofs.lemmas.List.{append-nil, map-append}
+use Rattle.std.proofs.lemmas.List.Elements.{filter-append}
+use Rattle.std.proofs.lemmas.Slice.Eq.{bytes_eq-Decides}
+use Rattle.rox_grammar.specs.declared.fault.Fault.{Fault}
+use Rattle.rox_grammar.specs.declared.fault.Word.TheVariants as word
+use Rattle.rox_grammar.specs.FixedTexts.{word_text}
+use Rattle.rox_grammar.specs.Chars.{is_space, is_name_start}
+use Rattle.rox_grammar.specs.Runs.{begins}
+use Rattle.rox_grammar.specs.Written.{Name, Attribute, NamespaceDecl, Tag, is_namespace_decl, namespace_decl_of, namespace_decls_of, plain_attributes_of}
+use Rattle.rox_grammar.specs.Tree.{xml_uri, xmlns_uri, is_declared, listed}
+use Rattle.rox_grammar.specs.Names.{byte, spaces_end, IsQName, unprefixed, prefixed, colon_first}
+use Rattle.rox_grammar.specs.Constructs.{IsEq, IsLiteral}
+use Rattle.rox_grammar.specs.Content.{Inclusion, Value, IsAttribute, Attributes, no_more, one_more, TagEnds, opened, closed, IsTag}
+use Rattle.rox_grammar.specs.WellNamed.{is_xml, may_declare, AreDeclarable, is_known, same_expanded, AreDistinct, IsWellNamed}
+use Rattle.rox_grammar.specs.Document.{listable_of, with_new, distinct_pairs, most_attributes, most_pairs}
+use Rattle.rox_grammar.specs.State.{State, scope_of, attributes_so_far, pairs_so_far}
+use Rattle.rox_grammar.specs.Due.{DueItem, a_byte, a_space, IsMissing, ends_before, DueInPair}
+use Rattle.rox_grammar.specs.ContentPoints.{TagTo}
+use Rattle.rox_grammar.specs.Faults.{IllDeclared, other_uri, uri_of_xml, uri_of_xmlns, again, IllNamed, unknown_attribute, twice, unknown_element, InTag, no_name, xmlns_prefix, cut, cut_in_replacement, no_rest, not_closed, in_pair, ill_declared, too_many_pairs, too_many_attributes, ill_named}
+use Rattle.rox_grammar.specs.Faults as faults
+use Rattle.rox_reading.specs.Markup as markup
+use Rattle.rox_reading.specs.Markup.{TagItem, tag_item_at}
+use Rattle.rox_reading.specs.Tags.{Values}
+use Rattle.rox_theory.specs.Openers.{AgreesValue}
+use Rattle.rox_theory.proofs.Basics.{within, run_end_le}
+use Rattle.rox_theory.proofs.NameLemmas.{begins_here}
+use Rattle.rox_faults.proofs.NameSpans.{cut_behind, qname_text}
+use Rattle.rox_theory.proofs.LiteralLemmas.{literal_complete}
+use Rattle.rox_theory.proofs.AttributeLemmas.{end_complete}
+use Rattle.rox_theory.proofs.DeclaredLemmas.{pairs_more}
+use Rattle.rox_theory.proofs.Constructions.{name_byte}
+use Rattle.rox_theory.proofs.FailedReadings.{ok_one}
+use Rattle.rox_faults.proofs.FaultLimits.{IsOver, pairs_over, attributes_over}
+use Rattle.rox_theory.proofs.TagOnce.{apart, same_more, Reads, turn_is, one_attribute, one_tag}
+use Rattle.rox_faults.proofs.FaultTags.{attribute_cut}
+use Rattle.rox_faults.proofs.FaultApart.{qname_stands, byte_stands, space_stands}
+use Rattle.rox_faults.proofs.FaultPairs.{one_qname, eq_one, pair_apart}
+
+-- ---- names
+
+-- of a row of declarations each may be declared, and none before it has its prefix
+declarable_at : (before xs ys : List NamespaceDecl) (d : NamespaceDecl) → AreDeclarable before (xs ++ d ∷ ys) → (may_declare d ≡ true) × (is_declared d.prefix (before ++ xs) ≡ false)
+declarable_at before [] ys d h = (h.0, subst (λ (ds : List NamespaceDecl). is_declared d.prefix ds ≡ false) (sym (append-nil before)) h.1)
+declarable_at before (x ∷ xs) ys d h =
+    let r = declarable_at (before ++ x ∷ []) xs ys d h.2 in
+    (r.0, subst (λ (ds : List NamespaceDecl). is_declared d.prefix ds ≡ false) (append_assoc before (x ∷ []) xs) r.1)
+
+-- of a row of attributes each is known, and none before it has its name
+distinct_at : (scope : List NamespaceDecl) (before xs ys : List Attribute) (a : Attribute) → AreDistinct scope before (xs ++ a ∷ ys)
+    → (is_known scope a.name ≡ true) × (list_any (λ e. same_expanded scope e.name a.name) (before ++ xs) ≡ false)
+distinct_at scope before [] ys a h = (h.0, subst (λ (as' : List Attribute). list_any (λ e. same_expanded scope e.name a.name) as' ≡ false) (sym (append-nil before)) h.1)
+distinct_at scope before (x ∷ xs) ys a h =
+    let r = distinct_at scope (before ++ x ∷ []) xs ys a h.2 in
+    (r.0, subst (λ (as' : List Attribute). list_any (λ e. same_expanded scope e.name a.name) as' ≡ false) (append_assoc before (x ∷ []) xs) r.1)
+
+-- what two rows of attributes declare
+declared_both : (xs ys : List Attribute) → namespace_decls_of (xs ++ ys) ≡ namespace_decls_of xs ++ namespace_decls_of ys
+declared_both xs ys =
+    ap (map namespace_decl_of) (filter-append (λ a. is_namespace_decl a.name) xs ys) ∙ map-append namespace_decl_of (filter (λ a. is_namespace_decl a.name) xs) (filter (λ a. is_namespace_decl a.name) ys)
+
+-- a declaration that may be: rows 1, 2, 3 and 5
+declared_apart : (src : List ℕ) (before : List NamespaceDecl) (a : Attribute) (f : Fault) → may_declare (namespace_decl_of a) ≡ true → is_declared (namespace_decl_of a).prefix before ≡ false → IllDeclared src before a f → ⊥
+declared_apart src before a f may once (other_uri prefix local other reserved) =
+    let both = and_parts (not (bytes_eq a.value xmlns_uri)) (cond (is_xml (namespace_decl_of a).prefix) (bytes_eq a.value xml_uri) (not (bytes_eq a.value xml_uri))) may in
+    let p : bytes_eq a.name.prefix (word_text word.Xmlns) ≡ true = (bytes_eq-Decides a.name.prefix (word_text word.Xmlns)).1 prefix in
+    let l : bytes_eq a.name.local (word_text word.Xml) ≡ true = (bytes_eq-Decides a.name.local (word_text word.Xml)).1 local in
+    let u : bytes_eq a.value xml_uri ≡ true = rw (p, l) at both.1 in
+    other ((bytes_eq-Decides a.value xml_uri).0 u)
+declared_apart src before a f may once (uri_of_xml no_xml uri) =
+    let both = and_parts (not (bytes_eq a.value xmlns_uri)) (cond (is_xml (namespace_decl_of a).prefix) (bytes_eq a.value xml_uri) (not (bytes_eq a.value xml_uri))) may in
+    let u : bytes_eq a.value xml_uri ≡ true = (bytes_eq-Decides a.value xml_uri).1 uri in
+    let w : cond (is_xml (namespace_decl_of a).prefix) true (not true) ≡ true = subst (λ (b : Bool). cond (is_xml (namespace_decl_of a).prefix) b (not b) ≡ true) u both.1 in
+    let z : cond false true (not true) ≡ true = subst (λ (b : Bool). cond b true (not true) ≡ true) no_xml w in
+    cc z
+declared_apart src before a f may once (uri_of_xmlns uri) =
+    let both = and_parts (not (bytes_eq a.value xmlns_uri)) (cond (is_xml (namespace_decl_of a).prefix) (bytes_eq a.value xml_uri) (not (bytes_eq a.value xml_uri))) may in
+    let u : bytes_eq a.value xmlns_uri ≡ true = (bytes_eq-Decides a.value xmlns_uri).1 uri in
+    let z : not true ≡ true = subst (λ (b : Bool). not b ≡ true) u both.0 in
+    cc z
+declared_apart src before a f may once (again name may' twice' holds) = true≢false (sym twice' ∙ once)
+
+-- no name begins with `>`
+no_greater : is_name_start 62 ≡ false
+unfolding is_name_start
+no_greater = refl
+
+-- where one begins, it does not stand
+starts_no_greater : (src : List ℕ) (i : ℕ) → begins is_name_start src i ≡ true → byte src i ≢ 62
+starts_no_greater src i starts is =
+    let b = begins_here is_name_start src i (within src i (λ z. omega arith)) (omega arith) in
+    let f : begins is_name_start src i ≡ false = b ∙ rw is no_greater in
+    true≢false (sym starts ∙ f)
+
+-- nor at a qualified name
+name_no_greater : (src : List ℕ) (i : ℕ) (name : Name) (n : ℕ) → IsQName src i name n → byte src i ≢ 62
+name_no_greater src i name n (unprefixed _ _ nc no_colon) is = starts_no_greater src i nc.starts is
+name_no_greater src i name n (prefixed _ k _ nc colon local no_colon) is = starts_no_greater src i nc.starts is
+name_no_greater src i name n (colon_first _ _ colon nc no_colon) is = absurd (omega arith)
+
+-- ---- the front of a tag
+
+-- what follows in a tag, where so many texts may be opened: its end, or an attribute
+data Next (main : Bool) (O : Inclusion) (src : List ℕ) (p : ℕ) (empty : Bool) (j b : ℕ) : List Attribute → Type 0 where
+  it_ends : TagEnds src p empty j → Next main O src p empty j b []
+  it_goes : (q c : ℕ) (a : Attribute) (rest : List Attribute) → p < spaces_end src p → IsAttribute main O src (spaces_end src p) q b c a → Next main O src p empty j b (a ∷ rest)
+
+next_at : (main : Bool) (O : Inclusion) (src : List ℕ) (p last b c j : ℕ) (empty : Bool) (rest : List Attribute) → Attributes main O src p last b c rest → TagEnds src last empty j → Next main O src p empty j b rest
+next_at main O src p last b c j empty rest (no_more _ _) ends = it_ends ends
+next_at main O src p last b c j empty rest (one_more _ q _ _ d _ a more spaces is others) ends = it_goes q d a more spaces is
+
+-- the byte at the end of a tag
+end_byte : (src : List ℕ) (p j : ℕ) (empty : Bool) → TagEnds src p empty j → (byte src (spaces_end src p) ≡ 62) ⊎ (byte src (spaces_end src p) ≡ 47)
+end_byte src p j empty (opened _ close) = inl close
+end_byte src p j empty (closed _ slash close) = inr slash
+
+module _ (how : Values) (O : Inclusion) (agrees : AgreesValue how.entities O how.opener) (src : List ℕ) (utf8 : IsUtf8 src) where
+  -- a turn of a tag that is an attribute
+  turn : (i j b c : ℕ) (a : Attribute) → IsAttribute how.main O src (spaces_end src i) j b c a → (spaces : i < spaces_end src i)
+      → (r : Reads how O agrees src utf8 (spaces_end src i) j b c a) × (tag_item_at src i ≡ Ok (markup.more r.0, j))
+  turn i j b c a is spaces = turn_is how O agrees src utf8 i j b c a is spaces
+
+  -- two that stand there are one
+  one_turn : (i j k b c d : ℕ) (a e : Attribute) → IsAttribute how.main O src (spaces_end src i) j b c a → IsAttribute how.main O src (spaces_end src i) k b d e → i < spaces_end src i → (a ≡ e) × (c ≡ d) × (j ≡ k)
+  one_turn i j k b c d a e is is' spaces =
+      let x = turn i j b c a is spaces in
+      let y = turn i k b d e is' spaces in
+      let same = ok_one (markup.more x.0.0, j) (markup.more y.0.0, k) (tag_item_at src i) x.1 y.1 in
+      let one = one_attribute how O agrees src utf8 j k (spaces_end src i) b c d a e x.0 y.0 (same_more x.0.0 y.0.0 (ap (λ (p : TagItem × ℕ). p.0) same)) in
+      (one.0, one.1, ap (λ (p : TagItem × ℕ). p.1) same)
+
+  -- attributes that stand there are a front of all of them
+  front : (i p last b c e j : ℕ) (empty : Bool) (as' bs : List Attribute) → Attributes how.main O src i p b c as' → Attributes how.main O src i last b e bs → TagEnds src last empty j
+      → (rest : List Attribute) × (bs ≡ as' ++ rest) × Next how.main O src p empty j c rest
+  front i p last b c e j empty as' bs (no_more _ _) all ends = (bs, refl, next_at how.main O src i last b e j empty bs all ends)
+  front i p last b c e j empty as' bs (one_more _ k _ _ g _ a rest spaces is others) (no_more _ _) ends =
+      let one = turn i k b g a is spaces in
+      let same = ok_one (markup.more one.0.0, k) (cond empty markup.closed markup.opened, j) (tag_item_at src i) one.1 (end_complete src i empty j ends) in
+      absurd (apart one.0.0 empty (ap (λ (p : TagItem × ℕ). p.0) same))
+  front i p last b c e j empty as' bs (one_more _ k _ _ g _ a rest spaces is others) (one_more _ o _ _ h _ a' rest' spaces' is' others') ends =
+      let one = one_turn i k o b g h a a' is is' spaces in
+      let others'' : Attributes how.main O src k last g e rest' = subst (λ (o : ℕ). Attributes how.main O src o last g e rest') (sym one.2) (subst (λ (h : ℕ). Attributes how.main O src o last h e rest') (sym one.1) others') in
+      let next = front k p last g c e j empty rest rest' others others'' ends in
+      (next.0, ap (λ (x : Attribute). x ∷ rest') (sym one.0) ∙ ap (λ (xs : List Attribute). a ∷ xs) next.1, next.2)
+
+  -- a character begins behind attributes
+  attributes_cut : (i p b c : ℕ) (as' : List Attribute) → IsCharBoundary src i → Attributes how.main O src i p b c as' → IsCharBoundary src p
+  attributes_cut i p b c as' cut' (no_more _ _) = cut'
+  attributes_cut i p b c as' cut' (one_more _ k _ _ d _ a rest spaces is others) = attributes_cut k p d c rest (attribute_cut how.main O src utf8 (spaces_end src i) k b d a is) others
+
+  -- what follows begins within the source
+  next_within : (p j b : ℕ) (empty : Bool) (rest : List Attribute) → Next how.main O src p empty j b rest → spaces_end src p < length src
+  next_within p j b empty rest (it_ends ends) = elim (end_byte src p j empty ends) as (λ s. spaces_end src p < length src) [ inl is ↦ within src (spaces_end src p) (λ z. omega arith) | inr is ↦ within src (spaces_end src p) (λ z. omega arith) ]
+  next_within p j b empty rest (it_goes q c a more spaces is) = (name_byte src (spaces_end src p) a.name a.name_end is.is_name).within
+
+  -- a tag that goes on with a name does not end
+  name_follows : (p j b n : ℕ) (empty : Bool) (rest : List Attribute) (name : Name) → Next how.main O src p empty j b rest → IsQName src (spaces_end src p) name n
+      → (q : ℕ) × (c : ℕ) × (a : Attribute) × (more : List Attribute) × (rest ≡ a ∷ more) × IsAttribute how.main O src (spaces_end src p) q b c a
+  name_follows p j b n empty rest name (it_ends ends) is =
+      elim (end_byte src p j empty ends) as (λ s. (q : ℕ) × (c : ℕ) × (a : Attribute) × (more : List Attribute) × (rest ≡ a ∷ more) × IsAttribute how.main O src (spaces_end src p) q b c a) [
+        | inl close ↦ absurd (name_no_greater src (spaces_end src p) name n is close)
+        | inr slash ↦ absurd ((name_byte src (spaces_end src p) name n is).no_slash slash)
+      ]
+  name_follows p j b n empty rest name (it_goes q c a more spaces is') is = (q, c, a, more, refl, is')
+
+  -- `/` without `>`
+  slash_apart : (p j b : ℕ) (empty : Bool) (rest : List Attribute) (f : Fault) → Next how.main O src p empty j b rest → byte src (spaces_end src p) ≡ 47 → IsMissing src (spaces_end src p + 1) (a_byte 62) f → ⊥
+  slash_apart p j b empty rest f (it_ends (opened _ close)) slash lack = absurd (omega arith)
+  slash_apart p j b empty rest f (it_ends (closed _ slash' close)) slash lack = byte_stands src 62 (spaces_end src p + 1) f (omega arith) close lack
+  slash_apart p j b empty rest f (it_goes q c a more spaces is) slash lack = (name_byte src (spaces_end src p) a.name a.name_end is.is_name).no_slash slash
+
+  module _ (s : State) (j b e : ℕ) (empty : Bool) (tag : Tag) (is : IsTag how.main O src s.at j b e empty tag) (well_named : IsWellNamed (listed (scope_of s.stack) tag.declarations) tag)
+      (W : Type 0) (few : W → attributes_so_far s.stack s.done + length tag.attributes ≤ most_attributes) (few_pairs : W → length (with_new (distinct_pairs (pairs_so_far s.stack s.done)) (listable_of tag.declarations)) ≤ most_pairs) where
+    -- what is read of it is a front of it
+    tag_front : (p c : ℕ) (as' : List Attribute) → TagTo how.main O src s p b c as' → (rest : List Attribute) × (is.written ≡ as' ++ rest) × Next how.main O src p empty j c rest
+    tag_front p c as' to =
+        let same : to.name_end ≡ tag.name_end = (one_qname src (s.at + 1) to.name_end tag.name_end to.name tag.name to.is_name is.is_name).1 in
+        front tag.name_end p is.last b c e j empty as' is.written (subst (λ (n : ℕ). Attributes how.main O src n p b c as') same to.attributes) is.attributes is.ends
+
+    -- a character begins behind it
+    to_cut : (p c : ℕ) (as' : List Attribute) → TagTo how.main O src s p b c as' → IsCharBoundary src p
+    to_cut p c as' to =
+        let cut' : IsCharBoundary src (s.at + 1) = cut_behind src s.at 60 utf8 is.begins (omega arith) (omega arith) in
+        attributes_cut to.name_end p b c as' (qname_text src (s.at + 1) to.name to.name_end utf8 cut' to.is_name).3 to.attributes
+
+    -- what it declares in front, and then
+    all_declared : (as' rest : List Attribute) → is.written ≡ as' ++ rest → tag.declarations ≡ namespace_decls_of as' ++ namespace_decls_of rest
+    all_declared as' rest same = is.is_namespace_decl ∙ ap namespace_decls_of same ∙ declared_both as' rest
+
+    -- a name with no white space in front
+    space_apart : (p c : ℕ) (rest : List Attribute) (f : Fault) → IsCharBoundary src p → Next how.main O src p empty j c rest → byte src p ≢ 47 → byte src p ≢ 62 → IsMissing src p a_space f → ⊥
+    space_apart p c rest f cut' (it_ends ends) no_slash no_close lack =
+        let le = run_end_le is_space src p in
+        let apart' : spaces_end src p ≢ p = λ same.
+        elim (end_byte src p j empty ends) as (λ s. ⊥) [ inl close ↦ no_close (ap (byte src) (sym same) ∙ close) | inr slash ↦ no_slash (ap (byte src) (sym same) ∙ slash) ] in
+        space_stands src utf8 p f cut' (omega arith) lack
+    space_apart p c rest f cut' (it_goes q d a more spaces is') no_slash no_close lack = space_stands src utf8 p f cut' spaces lack
+
+    -- nor an attribute that lacks something
+    pair_in : (p q c : ℕ) (rest : List Attribute) (t : DueItem) (f : Fault) → Next how.main O src p empty j c rest → byte src (spaces_end src p) ≢ 47 → byte src (spaces_end src p) ≢ 62 → DueInPair src (spaces_end src p) q t → IsMissing src q t f → ⊥
+    pair_in p q c rest t f (it_ends ends) no_slash no_close due lack = elim (end_byte src p j empty ends) as (λ s. ⊥) [ inl close ↦ no_close close | inr slash ↦ no_slash slash ]
+    pair_in p q c rest t f (it_goes k d a more spaces is') no_slash no_close due lack = pair_apart src utf8 (spaces_end src p) a.name_end is'.v is'.e k q a.name t f is'.is_name is'.eq is'.literal due lack
+
+    -- the value of an attribute that stands behind
+    value_in : (p n v e k c : ℕ) (rest : List Attribute) (name : Name) → Next how.main O src p empty j c rest → IsQName src (spaces_end src p) name n → IsEq src n v → IsLiteral src v e k
+        → (d : ℕ) × (w : List ℕ) × Value how.main O src e (v + 1) c d w
+    value_in p n v e k c rest name next named eq literal =
+        let x = name_follows p j c n empty rest name next named in
+        let a = x.2 in let is' = x.5 in
+        let same : v ≡ is'.v = eq_one src n a.name_end v is'.v (one_qname src (spaces_end src p) n a.name_end name a.name named is'.is_name).1 eq is'.eq in
+        let literal' : IsLiteral src is'.v e k = subst (λ (v : ℕ). IsLiteral src v e k) same literal in
+        let end : is'.e ≡ e = sym (literal_complete src is'.v is'.e x.0 is'.literal) ∙ literal_complete src is'.v e k literal' in
+        let value : Value how.main O src e (is'.v + 1) c x.1 a.value = subst (λ (e : ℕ). Value how.main O src e (is'.v + 1) c x.1 a.value) end is'.value in
+        (x.1, a.value, subst (λ (v : ℕ). Value how.main O src e (v + 1) c x.1 a.value) (sym same) value)
+
+    -- a declaration that stands behind these is one of the tag
+    declared_there : (p k c d : ℕ) (as' rest : List Attribute) (a : Attribute) → is.written ≡ as' ++ rest → Next how.main O src p empty j c rest → p < spaces_end src p → IsAttribute how.main O src (spaces_end src p) k c d a
+        → is_namespace_decl a.name ≡ true → (more : List NamespaceDecl) × (tag.declarations ≡ namespace_decls_of as' ++ namespace_decl_of a ∷ more)
+    declared_there p k c d as' rest a same next spaces is' declares' =
+        let x = name_follows p j c a.name_end empty rest a.name next is'.is_name in
+        let is_a : a ≡ x.2 = (one_turn p k x.0 c d x.1 a x.2 is' x.5 spaces).0 in
+        let whole : is.written ≡ as' ++ a ∷ x.3 = same ∙ ap (λ (xs : List Attribute). as' ++ xs) (x.4 ∙ ap (λ (a : Attribute). a ∷ x.3) (sym is_a)) in
+        let first : namespace_decls_of (a ∷ x.3) ≡ namespace_decl_of a ∷ namespace_decls_of x.3 = rw declares' refl in
+        (namespace_decls_of x.3, all_declared as' (a ∷ x.3) whole ∙ ap (λ (ds : List NamespaceDecl). namespace_decls_of as' ++ ds) first)
+
+    -- nor one that may not be declared
+    declared_in : (p k c d : ℕ) (as' rest : List Attribute) (a : Attribute) (f : Fault) → is.written ≡ as' ++ rest → Next how.main O src p empty j c rest → p < spaces_end src p → IsAttribute how.main O src (spaces_end src p) k c d a
+        → is_namespace_decl a.name ≡ true → IllDeclared src (namespace_decls_of as') a f → ⊥
+    declared_in p k c d as' rest a f same next spaces is' declares' ill =
+        let there = declared_there p k c d as' rest a same next spaces is' declares' in
+        let may = declarable_at [] (namespace_decls_of as') there.0 (namespace_decl_of a) (subst (AreDeclarable []) there.1 well_named.declarations) in
+        declared_apart src (namespace_decls_of as') a f may.0 may.1 ill
+
+    -- nor a name that is unknown, or stands twice
+    named_in : (f : Fault) → IllNamed src s.at (listed (scope_of s.stack) tag.declarations) tag.name tag.attributes f → ⊥
+    named_in f (unknown_attribute before after a name split distinct unknown holds) =
+        let d = distinct_at (listed (scope_of s.stack) tag.declarations) [] before after a (subst (AreDistinct (listed (scope_of s.stack) tag.declarations) []) split well_named.attributes) in
+        true≢false (sym d.0 ∙ unknown)
+    named_in f (twice before after a name split distinct known again' holds) =
+        let d = distinct_at (listed (scope_of s.stack) tag.declarations) [] before after a (subst (AreDistinct (listed (scope_of s.stack) tag.declarations) []) split well_named.attributes) in
+        true≢false (sym again' ∙ d.1)
+    named_in f (unknown_element name distinct unknown holds) = true≢false (sym well_named.element ∙ unknown)
+
+    -- it is the tag that stands there
+    same_tag : (p k c : ℕ) (x : Bool) (as' : List Attribute) (to : TagTo how.main O src s p b c as') → TagEnds src p x k
+        → ◌≡◌ {A = Tag} (record { name = to.name; name_end = to.name_end; declarations = namespace_decls_of as'; attributes = plain_attributes_of as' }) tag
+    same_tag p k c x as' to ends =
+        let t : Tag = record { name = to.name; name_end = to.name_end; declarations = namespace_decls_of as'; attributes = plain_attributes_of as' } in
+        let is' : IsTag how.main O src s.at k b c x t = record { begins = is.begins; is_name = to.is_name; written = as'; last = p; attributes = to.attributes; ends = ends; is_namespace_decl = refl; has = refl } in
+        (one_tag how O agrees src utf8 s.at k j b c e t tag x empty is' is).1
+
+    -- so no fault of a start tag stands in it but those of the limits: rows 1 to 6, 9, 10, 13 to 15, 19 to 24, 31
+    pub tag_apart : (f : Fault) → InTag how.main O src s b f → IsOver W f
+    tag_apart f (no_name _ lack) = absurd (qname_stands src (s.at + 1) tag.name_end tag.name f is.is_name lack)
+    tag_apart f (xmlns_prefix name n named prefix) =
+        let same : name ≡ tag.name = (one_qname src (s.at + 1) n tag.name_end name tag.name named is.is_name).0 in
+        let prefix' : tag.name.prefix ≡ word_text word.Xmlns = ap (λ (n : Name). n.prefix) (sym same) ∙ prefix in
+        absurd (true≢false (sym ((bytes_eq-Decides tag.name.prefix (word_text word.Xmlns)).1 prefix') ∙ well_named.no_xmlns))
+    tag_apart f (cut p c as' to past main') =
+        let x = tag_front p c as' to in let l = next_within p j c empty x.0 x.2 in absurd (omega (arith, run_end_le is_space src p))
+    tag_apart f (cut_in_replacement p c as' to past main') =
+        let x = tag_front p c as' to in let l = next_within p j c empty x.0 x.2 in absurd (omega (arith, run_end_le is_space src p))
+    tag_apart f (no_rest p c as' _ to below (ends_before _ byte' past)) = let x = tag_front p c as' to in let l = next_within p j c empty x.0 x.2 in absurd (omega arith)
+    tag_apart f (faults.InTag.no_space p c as' _ to below no_slash no_close lack) = let x = tag_front p c as' to in absurd (space_apart p c x.0 f (to_cut p c as' to) x.2 no_slash no_close lack)
+    tag_apart f (not_closed p c as' _ to slash lack) = let x = tag_front p c as' to in absurd (slash_apart p j c empty x.0 f x.2 slash lack)
+    tag_apart f (in_pair p c q as' t _ to spaces inside no_slash no_close due lack) = let x = tag_front p c as' to in absurd (pair_in p q c x.0 t f x.2 no_slash no_close due lack)
+    tag_apart f (ill_declared p c d k as' a _ to spaces is' declares' ill) = let x = tag_front p c as' to in absurd (declared_in p k c d as' x.0 a f x.1 x.2 spaces is' declares' ill)
+    tag_apart f (too_many_pairs p c d k as' a to spaces is' declares' may once over) =
+        let x = tag_front p c as' to in
+        let known = distinct_pairs (pairs_so_far s.stack s.done) in
+        let there = declared_there p k c d as' x.0 a x.1 x.2 spaces is' declares' in
+        let split : tag.declarations ≡ namespace_decls_of as' ++ namespace_decl_of a ∷ [] ++ there.0 = there.1 ∙ sym (append_assoc (namespace_decls_of as') (namespace_decl_of a ∷ []) there.0) in
+        let more' = pairs_more known (namespace_decls_of as' ++ namespace_decl_of a ∷ []) there.0 in
+        pairs_over W (λ w.
+        (let all : length (with_new known (listable_of (namespace_decls_of as' ++ namespace_decl_of a ∷ [] ++ there.0))) ≤ most_pairs = subst (λ (ds : List NamespaceDecl). length (with_new known (listable_of ds)) ≤ most_pairs) split (few_pairs w) in
+        omega arith))
+    tag_apart f (too_many_attributes p c k x as' to ends over) =
+        let same : length (plain_attributes_of as') ≡ length tag.attributes = ap (λ (t : Tag). length t.attributes) (same_tag p k c x as' to ends) in
+        attributes_over W (λ w. (let all = few w in omega arith))
+    tag_apart f (ill_named p c k x as' _ to ends few' ill) =
+        absurd (named_in f (subst (λ (t : Tag). IllNamed src s.at (listed (scope_of s.stack) t.declarations) t.name t.attributes f) (same_tag p k c x as' to ends) ill))
+
+    -- and a value in it is read
+    pub value_there : (p c n v e' k : ℕ) (as' : List Attribute) (name : Name) → TagTo how.main O src s p b c as' → IsQName src (spaces_end src p) name n → IsEq src n v → IsLiteral src v e' k
+        → (d : ℕ) × (w : List ℕ) × Value how.main O src e' (v + 1) c d w
+    value_there p c n v e' k as' name to named eq literal = let x = tag_front p c as' to in value_in p n v e' k c x.0 name x.2 named eq literal

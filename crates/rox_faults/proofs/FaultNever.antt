@@ -1,0 +1,258 @@
+-- A fault that stands in a text refuses it: the text has no parse within the limits, and none at all if the fault is not that of a
+-- limit.
+use Rattle.std.proofs.Common.{◌≡◌, ℕ, ◌+◌, ◌<◌, ◌≤◌, Bool, true, false, List, [], length, refl, sym, ap, ◌∙◌, subst, arith}
+use Rattle.std.specs.Str.{IsUtf8}
+use Rattle.std.proofs.lemmas.Str.{IsCharBoundary-before_ascii}
+use Rattle.std.proofs.lemmas.Bool.{true≢false}
+use Rattle.rox_grammar.specs.declared.fault.Fault.{Fault}
+use Rattle.rox_grammar.specs.declared.fault.Word.TheVariants as word
+use Rattle.rox_grammar.specs.Forest.{Forest, Nil, join, size}
+use Rattle.rox_grammar.specs.Written.{Item, merge, leaf}
+use Rattle.rox_grammar.specs.Names.{byte}
+use Rattle.rox_grammar.specs.Constructs.{at}
+use Rattle.rox_grammar.specs.Content.{Inclusion, IsElement}
+use Rattle.rox_grammar.specs.TextStart.{after_bom, MayHaveXmlDecl, declared, not_declared}
+use Rattle.rox_grammar.specs.Entities.{Entity, no_entities, most_deep}
+use Rattle.rox_grammar.specs.Doctype.{Asked}
+use Rattle.rox_grammar.specs.Document.{Misc, no_misc, an_item, no_doctype, ParseOf, IsWithinLimits}
+use Rattle.rox_grammar.specs.State as grammar
+use Rattle.rox_grammar.specs.State.{root, nodes_so_far, FitsLimits}
+use Rattle.rox_grammar.specs.ContentPoints.{is_main, PrologTo, RootBegins, Behind, ContentPoint}
+use Rattle.rox_grammar.specs.Faults.{without, FaultFrom, in_declaration, in_misc_ahead, too_many_ahead, doctype, no_root, unknown_ahead, at_place, in_value, in_misc_behind, too_many_behind, unknown_behind, FaultOf}
+use Rattle.rox_reading.specs.State.{State}
+use Rattle.rox_reading.specs.Machine.{value_opener, opener}
+use Rattle.rox_reading.specs.WholeText.{prolog}
+use Rattle.rox_reading.proofs.Forests.{join-nil, join_assoc, merge-more}
+use Rattle.rox_theory.specs.Openers.{AgreesValue}
+use Rattle.rox_theory.specs.ValidState.{AreNamed, IsValidState, state}
+use Rattle.rox_theory.specs.WithoutDoctype.{ParseWithout}
+use Rattle.rox_theory.proofs.Without.{parse_without}
+use Rattle.rox_theory.proofs.Basics.{within}
+use Rattle.rox_theory.proofs.Constructions.{a_tag, kind_at, tag_kind, name_byte}
+use Rattle.rox_theory.proofs.Leaves.{fine_before, named_before}
+use Rattle.rox_theory.proofs.StepLemmas as steps
+use Rattle.rox_theory.proofs.Steps.{after}
+use Rattle.rox_theory.proofs.Flat.{StepsOver}
+use Rattle.rox_theory.proofs.Chains.{root_drives}
+use Rattle.rox_theory.proofs.Once.{one_element}
+use Rattle.rox_theory.proofs.Tops.{tops_merged}
+use Rattle.rox_theory.proofs.NoEntities.{no_values, no_contents}
+use Rattle.rox_theory.proofs.Around.{Stops, no_spaces, element_stops, end_stops, prolog_complete}
+use Rattle.rox_theory.proofs.FailedReadings.{ok_one}
+use Rattle.rox_faults.proofs.FaultLimits.{IsOver, nodes_over}
+use Rattle.rox_faults.proofs.FaultPoints.{how_at}
+use Rattle.rox_faults.proofs.FaultPlaces.{tagged_takes}
+use Rattle.rox_faults.proofs.FaultWhole.{ahead_on}
+use Rattle.rox_faults.proofs.FaultPairs.{declaration_apart}
+use Rattle.rox_faults.proofs.FaultMisc.{misc_front, misc_at, doctype_at, other_at, before_end, last_at, stopped}
+use Rattle.rox_faults.proofs.FaultWay.{state_of, OpensAt, Trail, stays, follows, drives_trail, Reached, place_reached}
+use Rattle.rox_faults.proofs.FaultAtPlaces.{stands_apart, value_apart}
+
+-- What a parse is made of, which is within the limits if W is so: what stands before the root element, which is known of each point before it, the root
+-- element, and what stands behind it.
+pub record Parsed (opens : ℕ → Inclusion) (limit : ℕ) (W : Type 0) (text : List ℕ) (Front : ℕ → Forest Item → Type 0) : Type 0 where
+  pub start : ℕ
+  pub before : Forest Item
+  pub ahead : (p : ℕ) (items : Forest Item) → Front p items → (rest : Forest Item) × Misc text p start rest × (before ≡ join items rest)
+  pub on : (p q : ℕ) (items more : Forest Item) → Front p items → Misc text p q more → Front q (join items more)
+  pub end : ℕ
+  pub left : ℕ
+  pub one : Forest Item
+  pub element : IsElement true (opens 0) text start end 255 left one
+  pub after : Forest Item
+  pub misc_after : Misc text end (length text) after
+  pub fine : W → IsValidState limit (state (length text) (join (join before one) after) root left)
+  pub named : AreNamed root (join (join before one) after)
+
+module _ (opens : ℕ → Inclusion) (es : List Entity) (all : OpensAt opens es) (limit : ℕ) (W : Type 0) (text : List ℕ) (utf8 : IsUtf8 text) where
+  abbrev agrees : AgreesValue es (opens 0) (value_opener es most_deep true)
+  agrees = all.values most_deep 0 (omega arith)
+
+  -- a construct of the main text moves forward
+  main_moves : (s t : State) → StepsOver true (opens 0) text 0 s t → (s.at < length text) × (s.at < t.at) × (t.at ≤ length text)
+  main_moves s t takes = steps.step_moves (how_at limit es most_deep 0 0) (opens 0) agrees (all.contents limit most_deep 0 (omega arith)) text utf8 s t takes
+
+  trail_le : (s u : State) → Trail true (opens 0) text 0 s u → s.at ≤ u.at
+  trail_le s u (stays _) = omega arith
+  trail_le s u (follows _ t _ takes rest) = omega (arith, main_moves s t takes, trail_le t u rest)
+
+  module _ (Front : ℕ → Forest Item → Type 0) (p : Parsed opens limit W text Front) where
+    -- up to the end of the root element all is within the limits if the whole is
+    end_fine : W → IsValidState limit (state p.end (join p.before p.one) root p.left)
+    end_fine w = fine_before limit p.end (length text) p.left p.left (join p.before p.one) p.after root (p.fine w)
+
+    -- and up to its beginning
+    start_fine : W → IsValidState limit (state p.start p.before root 255)
+    start_fine w = fine_before limit p.start p.end 255 p.left p.before p.one root (end_fine w)
+
+    -- where the root element begins
+    root_at : (byte text p.start ≡ 60) × (at word.DoctypeStart text p.start ≡ false) × Stops text p.start
+    root_at = element_stops true (opens 0) text p.start p.end 255 p.left p.one p.element
+
+    -- the way begins there
+    root_reached : Reached opens es all limit W 0 0 text (state p.start p.before root 255)
+    root_reached =
+        let x = root_drives (opens 0) text p.start p.end 255 p.left p.one p.before p.element in
+        let start = state p.start p.before root 255 in
+        let end = state p.end (join p.before p.one) root p.left in
+        let next = after start x.0 x.2 x.3 x.1 in
+        let takes = tagged_takes true (opens 0) text 0 start next (x.0, x.1, x.2, x.3, x.4, refl) in
+        let rest = drives_trail (opens 0) text next end x.5 in
+        let less = root_at.0 in
+        let kind : kind_at text p.start ≡ a_tag = tag_kind text p.start less (name_byte text (p.start + 1) x.2.name x.2.name_end x.4.is_name) in
+        record {
+          d = most_deep;
+          deep = omega arith;
+          utf8 = utf8;
+          cut = IsCharBoundary-before_ascii text p.start (within text p.start (λ z. omega arith)) (omega arith);
+          end = end;
+          trail = follows start next end takes rest;
+          ends = refl;
+          fine = end_fine;
+          named = named_before root (join p.before p.one) p.after p.named;
+          first = λ top. (omega (arith, (main_moves start next takes).1, trail_le next end rest), kind);
+        }
+
+    -- what stops before the root element is there
+    start_there : (i : ℕ) (items : Forest Item) → Front i items → Stops text i → (p.start ≡ i) × (p.before ≡ items)
+    start_there i items front stops =
+        let r = p.ahead i items front in
+        let none = stopped text utf8 i p.start r.0 r.1 stops in
+        (sym none.0, r.2 ∙ ap (join items) none.1 ∙ join-nil items)
+
+    at_root : (kind : Bool) (i : ℕ) (items : Forest Item) → Front i items × RootBegins kind text i → Reached opens es all limit W 0 0 text (state i items root 255)
+    at_root kind i items (front, begins) =
+        let stops : Stops text i = record { no_space = no_spaces text i begins.opens; no_comment = begins.no_comment; no_instruction = begins.no_instruction } in
+        let same = start_there i items front stops in
+        subst (λ (i : ℕ). Reached opens es all limit W 0 0 text (state i items root 255)) same.0
+        (subst (λ (f : Forest Item). Reached opens es all limit W 0 0 text (state p.start f root 255)) same.1 root_reached)
+
+    -- each place lies on it
+    place_there : (kind : Bool) (k base b : ℕ) (src : List ℕ) (s : grammar.State) → ContentPoint opens es text (λ i items. Front i items × RootBegins kind text i) k base src b s → Reached opens es all limit W k base src (state_of s b)
+    place_there kind k base b src s place = place_reached opens es all limit W text (λ i items. Front i items × RootBegins kind text i) (at_root kind) k base b src s place
+
+    -- what is left up to the end of the text
+    record Rest (q : ℕ) (items : Forest Item) : Type 0 where
+      rest : Forest Item
+      misc : Misc text q (length text) rest
+      whole : join (join p.before p.one) p.after ≡ join items rest
+
+    behind_rest : (q : ℕ) (items : Forest Item) → Behind opens text Front q items → Rest q items
+    behind_rest q items behind =
+        let there = element_stops true (opens 0) text behind.start behind.end 255 behind.left behind.one behind.element in
+        let same = start_there behind.start behind.before behind.ahead there.2 in
+        let element : IsElement true (opens 0) text p.start behind.end 255 behind.left behind.one = subst (λ (i : ℕ). IsElement true (opens 0) text i behind.end 255 behind.left behind.one) (sym same.0) behind.element in
+        let one = one_element es most_deep (opens 0) agrees (all.once 0) text utf8 p.start behind.end p.end 255 behind.left p.left behind.one p.one element p.element in
+        let misc : Misc text p.end q behind.after = subst (λ (e : ℕ). Misc text e q behind.after) one.0 behind.misc in
+        let r = misc_front text utf8 p.end q (length text) behind.after p.after misc p.misc_after (end_stops text) in
+        let front_is : items ≡ join (join p.before p.one) behind.after =
+        behind.all ∙ ap (λ (b : Forest Item). join (join b behind.one) behind.after) (sym same.1) ∙ ap (λ (o : Forest Item). join (join p.before o) behind.after) one.1 in
+        record {
+          rest = r.0;
+          misc = r.1;
+          whole = ap (join (join p.before p.one)) r.2 ∙ sym (join_assoc (join p.before p.one) behind.after r.0) ∙ ap (λ (i : Forest Item). join i r.0) (sym front_is);
+        }
+
+    -- no fault stands in the text but those of the limits
+    pub never : (kind : Bool) (source : List ℕ) (f : Fault) → FaultFrom opens es limit text kind Front source f → IsOver W f
+    never kind source f (in_misc_ahead q items _ front fits ill) = let r = p.ahead q items front in absurd (misc_at text utf8 q p.start r.0 f r.1 root_at.2 ill)
+    never kind source f (too_many_ahead q k items item front fits is over) =
+        let all' = join items (leaf item) in
+        let r = p.ahead k all' (p.on q k items (leaf item) front (an_item q k k item Nil is (no_misc k))) in
+        nodes_over W (λ w.
+        (let fine : IsValidState limit (state p.start (join all' r.0) root 255) = subst (λ (b : Forest Item). IsValidState limit (state p.start b root 255)) r.2 (start_fine w) in
+        let nodes = fine.nodes in let less = merge-more all' r.0 in omega arith))
+    never kind source f (no_root items front fits) = let r = p.ahead (length text) items front in let l = before_end text utf8 (length text) p.start r.0 r.1 root_at.0 in absurd (omega arith)
+    never kind source f (unknown_ahead q items front fits below no_space no_less) = let r = p.ahead q items front in absurd (other_at text utf8 q p.start r.0 r.1 root_at.0 no_space no_less)
+    never kind source f (at_place k base b _ s _ place fits stands) = stands_apart opens es all limit W k base b source s (place_there kind k base b source s place) f stands
+    never kind source f (in_value k base b q c n v e j l i stop d src _ s as' name _ place fits begins to spaces named eq literal part ill) =
+        absurd (value_apart opens es all limit W k base b q c n v e j l i stop d src source s as' name f (place_there kind k base b src s place) begins to named eq literal part ill)
+    never kind source f (in_misc_behind q items _ behind fits ill) = let r = behind_rest q items behind in absurd (misc_at text utf8 q (length text) r.rest f r.misc (end_stops text) ill)
+    never kind source f (too_many_behind q k items item behind fits is over) =
+        let r = behind_rest q items behind in
+        let s = misc_front text utf8 q k (length text) (leaf item) r.rest (an_item q k k item Nil is (no_misc k)) r.misc (end_stops text) in
+        let whole : join (join p.before p.one) p.after ≡ join (join items (leaf item)) s.0 = r.whole ∙ ap (join items) s.2 ∙ sym (join_assoc items (leaf item) s.0) in
+        nodes_over W (λ w.
+        (let fine : IsValidState limit (state (length text) (join (join items (leaf item)) s.0) root p.left) = subst (λ (b : Forest Item). IsValidState limit (state (length text) b root p.left)) whole (p.fine w) in
+        let nodes = fine.nodes in let less = merge-more (join items (leaf item)) s.0 in omega arith))
+    never kind source f (unknown_behind q items behind fits below no_space no_comment no_instruction) =
+        let r = behind_rest q items behind in absurd (last_at text utf8 q (length text) r.rest r.misc refl below no_space no_comment no_instruction)
+
+-- ---- without a document type declaration
+
+-- nothing is opened
+plain_opens : OpensAt (λ k. no_entities) []
+plain_opens = record {
+  texts = λ name t found. cc found;
+  values = λ d k deep. no_values (value_opener [] d (is_main k));
+  contents = λ limit d k deep. no_contents limit (opener limit [] d (is_main k));
+  once = λ k name b c e items more h h'. absurd h;
+  content = λ k b c name items h. absurd h;
+  value = λ k b c name v h. absurd h;
+}
+
+module _ (src : List ℕ) (utf8 : IsUtf8 src) (limit : ℕ) (tree : Forest Item) (p : ParseWithout src tree) where
+  -- the whole as a state has it
+  same_whole : tree ≡ join (join p.before p.one) p.after
+  same_whole = p.is_tree ∙ sym (join_assoc p.before p.one p.after)
+
+  -- which is within the limits where the parse is
+  whole_fine : IsWithinLimits limit tree → IsValidState limit (state (length src) (join (join p.before p.one) p.after) root p.left)
+  whole_fine few =
+      let merged : merge tree ≡ tree =
+      ap merge p.is_tree ∙ tops_merged true no_entities src p.declared_to p.start p.start p.end (length src) 255 p.left false p.before Nil p.one p.after [] [] p.misc_before (no_doctype p.start) p.element p.misc_after ∙ sym p.is_tree in
+      let counted : 1 + size (merge tree) ≤ limit = rw merged (omega (arith, few.nodes)) in
+      let whole : IsValidState limit (state (length src) tree root p.left) = record { nodes = counted; attributes = few.attributes; pairs = few.namespaces; named = p.well_named } in
+      subst (λ (f : Forest Item). IsValidState limit (state (length src) f root p.left)) same_whole whole
+
+  -- a declaration has one end
+  one_declaration : (d : ℕ) → MayHaveXmlDecl src (after_bom src) d → d ≡ p.declared_to
+  one_declaration d may = ok_one d p.declared_to (prolog src (after_bom src)) (prolog_complete src utf8 (after_bom src) d may) (prolog_complete src utf8 (after_bom src) p.declared_to p.declaration)
+
+  -- what is left up to the root element
+  ahead_rest : (q : ℕ) (items : Forest Item) → PrologTo src q items → (rest : Forest Item) × Misc src q p.start rest × (p.before ≡ join items rest)
+  ahead_rest q items ahead =
+      let there = element_stops true no_entities src p.start p.end 255 p.left p.one p.element in
+      misc_front src utf8 p.declared_to q p.start items p.before (subst (λ (d : ℕ). Misc src d q items) (one_declaration ahead.declared_to ahead.declaration) ahead.misc) p.misc_before there.2
+
+  plain_parsed : Parsed (λ k. no_entities) limit (IsWithinLimits limit tree) src (PrologTo src)
+  plain_parsed =
+      record {
+        start = p.start;
+        before = p.before;
+        ahead = ahead_rest;
+        on = ahead_on src utf8;
+        end = p.end;
+        left = p.left;
+        one = p.one;
+        element = p.element;
+        after = p.after;
+        misc_after = p.misc_after;
+        fine = whole_fine;
+        named = subst (λ (f : Forest Item). AreNamed root f) same_whole p.well_named;
+      }
+
+  -- nor does a document type declaration stand before it
+  doctype_apart : (i : ℕ) (before : Forest Item) → PrologTo src i before → at word.DoctypeStart src i ≡ true → ⊥
+  doctype_apart i before ahead here =
+      let r = ahead_rest i before ahead in
+      doctype_at src utf8 i p.start r.0 r.1 (element_stops true no_entities src p.start p.end 255 p.left p.one p.element).1 here
+
+-- a fault that stands in a text that has a parse is that of a limit, and the parse is not within the limits
+pub fault_over : (limit : ℕ) (src : List ℕ) (f : Fault) (asked : List Asked) (tree : Forest Item) → IsUtf8 src → FaultOf limit src f → ParseOf src false asked tree → IsOver (IsWithinLimits limit tree) f
+fault_over limit src f asked tree utf8 (without _ stands) parse =
+    never (λ k. no_entities) [] plain_opens limit (IsWithinLimits limit tree) src utf8 (PrologTo src) (plain_parsed src utf8 limit tree (parse_without src asked tree parse).1) false src f stands
+fault_over limit src f asked tree utf8 (doctype q items ahead fits here) parse = absurd (doctype_apart src utf8 limit tree (parse_without src asked tree parse).1 q items ahead here)
+fault_over limit src f asked tree utf8 (in_declaration q t _ here due lack) parse = let p = (parse_without src asked tree parse).1 in absurd (declared_apart p.declared_to p.declaration)
+  where
+    declared_apart : (d : ℕ) → MayHaveXmlDecl src (after_bom src) d → ⊥
+    declared_apart d (declared _ _ is) = declaration_apart src utf8 (after_bom src) d q t f is due lack
+    declared_apart d (not_declared _ none) = true≢false (sym here ∙ none)
+
+-- so a fault that stands is a fault: the text has no parse within the limits
+pub no_false_faults : (limit : ℕ) (src : List ℕ) (f : Fault) (asked : List Asked) (tree : Forest Item) → IsUtf8 src → FaultOf limit src f → ParseOf src false asked tree → IsWithinLimits limit tree → ⊥
+no_false_faults limit src f asked tree utf8 stands parse few = (fault_over limit src f asked tree utf8 stands parse).1 few
+
+-- nor a document type declaration before which such items stand
+pub no_doctype_there : (limit : ℕ) (src : List ℕ) (asked : List Asked) (tree : Forest Item) (i : ℕ) (before : Forest Item) → IsUtf8 src → PrologTo src i before → at word.DoctypeStart src i ≡ true → ParseOf src false asked tree → ⊥
+no_doctype_there limit src asked tree i before utf8 ahead here parse = doctype_apart src utf8 limit tree (parse_without src asked tree parse).1 i before ahead here

@@ -1,0 +1,130 @@
+-- The same for a name, Eq and a literal, and for the declaration.
+use Rattle.std.proofs.Common.{◌≡◌, ℕ, ◌+◌, ◌⊎◌, Bool, true, List, refl, sym, ap, ◌∙◌, subst, arith, inl, inr}
+use Rattle.std.specs.Str.{IsUtf8, IsCharBoundary}
+use Rattle.std.proofs.lemmas.Bool.{true≢false}
+use Rattle.rox_grammar.specs.declared.fault.Fault.{Fault}
+use Rattle.rox_grammar.specs.declared.fault.Word.{Word}
+use Rattle.rox_grammar.specs.declared.fault.Word.TheVariants as word
+use Rattle.rox_grammar.specs.Chars.{is_space}
+use Rattle.rox_grammar.specs.Written.{Name}
+use Rattle.rox_grammar.specs.Names.{byte, spaces_end, IsQName}
+use Rattle.rox_grammar.specs.Constructs.{at, AreChars, IsEq, IsLiteral, IsPair, IsGap, some_space, MayBePair, is_pair, no_pair, MayEndPair, is_last, no_last, IsXmlDecl}
+use Rattle.rox_grammar.specs.Constructs as constructs
+use Rattle.rox_grammar.specs.Due.{DueItem, a_byte, a_quote, a_gap, a_word, chars_to, IsMissing, no_quote, no_gap, ends_before, DueInPair, its_name, equals, opening, its_value, closing, value_end, PairBegins, version, encoding, standalone, DueInXmlDecl, its_version, in_pair, behind_pair}
+use Rattle.rox_grammar.specs.Due as due
+use Rattle.rox_reading.specs.Lexical.{qname_at}
+use Rattle.rox_reading.specs.Markup.{pair_at, pair_if}
+use Rattle.rox_theory.proofs.Basics.{within}
+use Rattle.rox_theory.proofs.NameLemmas.{qname_complete}
+use Rattle.rox_faults.proofs.NameSpans.{cut_behind}
+use Rattle.rox_theory.proofs.CharLemmas.{begins_byte, some_run}
+use Rattle.rox_theory.proofs.Places.{space_ascii}
+use Rattle.rox_theory.proofs.LiteralLemmas.{quote_ascii, literal_closes, literal_complete}
+use Rattle.rox_theory.proofs.DeclarationLemmas.{pair_complete, pair_cut, pair_if_complete}
+use Rattle.rox_theory.proofs.FailedReadings.{ok_one}
+use Rattle.rox_faults.proofs.FaultTags.{value_cut}
+use Rattle.rox_faults.proofs.FaultApart.{qname_stands, byte_stands, word_stands, chars_stand}
+
+-- a qualified name is read in one way
+pub one_qname : (src : List ℕ) (i m n : ℕ) (x y : Name) → IsQName src i x m → IsQName src i y n → (x ≡ y) × (m ≡ n)
+one_qname src i m n x y a b =
+    let e = ok_one (x, m) (y, n) (qname_at src i) (qname_complete src i x m a) (qname_complete src i y n b) in
+    (ap (λ (p : Name × ℕ). p.0) e, ap (λ (p : Name × ℕ). p.1) e)
+
+-- a quote that is due and stands there
+quote_stands : (src : List ℕ) (q : ℕ) (f : Fault) → (byte src q ≡ 39) ⊎ (byte src q ≡ 34) → IsMissing src q a_quote f → ⊥
+quote_stands src q f (inl is) (no_quote inside no_one no_two) = no_one is
+quote_stands src q f (inr is) (no_quote inside no_one no_two) = no_two is
+quote_stands src q f (inl is) (ends_before _ byte' past) = let l = within src q (λ z. omega arith) in absurd (omega arith)
+quote_stands src q f (inr is) (ends_before _ byte' past) = let l = within src q (λ z. omega arith) in absurd (omega arith)
+
+-- where the value begins
+pub eq_one : (src : List ℕ) (m n v w : ℕ) → m ≡ n → IsEq src m v → IsEq src n w → v ≡ w
+eq_one src m n v w same a b = a.next ∙ ap (λ (k : ℕ). spaces_end src (spaces_end src k + 1)) same ∙ sym b.next
+
+module _ (src : List ℕ) (utf8 : IsUtf8 src) where
+  -- in a name, Eq and a literal
+  pub pair_apart : (i n v e j q : ℕ) (name : Name) (t : DueItem) (f : Fault) → IsQName src i name n → IsEq src n v → IsLiteral src v e j → DueInPair src i q t → IsMissing src q t f → ⊥
+  pair_apart i n v e j q name t f named eq literal its_name lack = qname_stands src i n name f named lack
+  pair_apart i n v e j q name t f named eq literal (equals name' m is) lack =
+      let same : m ≡ n = (one_qname src i m n name' name is named).1 in
+      byte_stands src 61 (spaces_end src n) f (omega arith) eq.equals (subst (λ (m : ℕ). IsMissing src (spaces_end src m) (a_byte 61) f) same lack)
+  pair_apart i n v e j q name t f named eq literal (opening name' m w is eq') lack =
+      let same : w ≡ v = eq_one src m n w v (one_qname src i m n name' name is named).1 eq' eq in
+      quote_stands src v f literal.quote (subst (λ (w : ℕ). IsMissing src w a_quote f) same lack)
+  pair_apart i n v e j q name t f named eq literal (its_value name' m w is eq' quote) lack =
+      let same : w ≡ v = eq_one src m n w v (one_qname src i m n name' name is named).1 eq' eq in
+      let ascii = quote_ascii (byte src v) literal.quote in
+      let cut : IsCharBoundary src (v + 1) = cut_behind src v (byte src v) utf8 refl (omega arith) (omega arith) in
+      let to_end : value_end src v ≡ e = literal_complete src v e j literal in
+      chars_stand src utf8 (v + 1) (value_end src v) f cut (value_cut src utf8 v (within src v (λ z. omega arith)) literal.quote)
+      (subst (λ (e : ℕ). AreChars src (v + 1) e) (sym to_end) literal.chars)
+      (subst (λ (w : ℕ). IsMissing src (w + 1) (chars_to (value_end src w)) f) same lack)
+  pair_apart i n v e j q name t f named eq literal (closing name' m w is eq' quote chars) lack =
+      let same : w ≡ v = eq_one src m n w v (one_qname src i m n name' name is named).1 eq' eq in
+      let ascii = quote_ascii (byte src v) literal.quote in
+      let to_end : value_end src v ≡ e = literal_complete src v e j literal in
+      byte_stands src (byte src v) (value_end src v) f (omega arith) (ap (byte src) to_end ∙ literal_closes src v e j literal)
+      (subst (λ (w : ℕ). IsMissing src (value_end src w) (a_byte (byte src w)) f) same lack)
+
+  -- a pair ends in one place
+  one_pair : (i j k : ℕ) → IsPair src i j → IsPair src i k → j ≡ k
+  one_pair i j k a b = ap (λ (p : Unit {0} × ℕ). p.1) (ok_one (tt, j) (tt, k) (pair_at src i) (pair_complete src i j a) (pair_complete src i k b))
+
+  -- and so does one with a gap
+  one_may : (w : Word) (i j k : ℕ) → MayBePair w src i j → MayBePair w src i k → j ≡ k
+  one_may w i j k a b = ap (λ (p : Unit {0} × ℕ). p.1) (ok_one (tt, j) (tt, k) (pair_if w src i) (pair_if_complete w src i j utf8 a) (pair_if_complete w src i k utf8 b))
+
+  -- and the last one
+  one_last : (w : Word) (i j k : ℕ) → MayEndPair w src i j → MayEndPair w src i k → j ≡ k
+  one_last w i j k (is_last _ _ here p) (is_last _ _ here' p') = one_pair i j k p p'
+  one_last w i j k (is_last _ _ here p) (no_last _ none) = absurd (true≢false (sym here ∙ none))
+  one_last w i j k (no_last _ none) (is_last _ _ here p) = absurd (true≢false (sym here ∙ none))
+  one_last w i j k (no_last _ none) (no_last _ none') = refl
+
+  -- a gap that is due and stands there
+  gap_stands : (i j : ℕ) (f : Fault) → IsCharBoundary src i → IsGap src i j → IsMissing src i a_gap f → ⊥
+  gap_stands i j f cut (some_space _ some) (no_gap inside no_space no_end) =
+      true≢false (sym (begins_byte is_space (λ c h. space_ascii c h) src i utf8 cut (some_run is_space src i some)) ∙ no_space)
+  gap_stands i j f cut (constructs.IsGap.no_space _ (inl end)) (no_gap inside no_space no_end) = absurd (omega arith)
+  gap_stands i j f cut (constructs.IsGap.no_space _ (inr here)) (no_gap inside no_space no_end) = true≢false (sym here ∙ no_end)
+  gap_stands i j f cut gap (ends_before _ byte' past) = cc byte'
+
+  -- a pair that may stand does, with its gap, where its word does
+  may_is : (w : Word) (i k : ℕ) → at w src i ≡ true → MayBePair w src i k → (j : ℕ) × IsPair src i j × IsGap src j k
+  may_is w i k here (is_pair _ j _ here' p gap) = (j, p, gap)
+  may_is w i k here (no_pair _ none) = absurd (true≢false (sym here ∙ none))
+
+  -- likewise the last one
+  last_is : (w : Word) (i k : ℕ) → at w src i ≡ true → MayEndPair w src i k → IsPair src i k
+  last_is w i k here (is_last _ _ here' p) = p
+  last_is w i k here (no_last _ none) = absurd (true≢false (sym here ∙ none))
+
+  -- the pair that stands where one begins
+  pair_there : (i j p : ℕ) (gap : Bool) → IsXmlDecl src i j → PairBegins src i gap p → (k : ℕ) × IsPair src p k × (gap ≡ true → (l : ℕ) × IsGap src k l)
+  pair_there i j p gap is (version here) = let m = may_is word.Version (spaces_end src (i + 5)) is.v here is.first_pair in (m.0, m.1, λ g. (is.v, m.2))
+  pair_there i j p gap is (encoding _ first may here) =
+      let same : is.v ≡ p = one_may word.Version (spaces_end src (i + 5)) is.v p is.first_pair may in
+      let m = may_is word.Encoding p is.e here (subst (λ (v : ℕ). MayBePair word.Encoding src v is.e) same is.encoding) in (m.0, m.1, λ g. (is.e, m.2))
+  pair_there i j p gap is (standalone v _ first may may' here) =
+      let same : is.v ≡ v = one_may word.Version (spaces_end src (i + 5)) is.v v is.first_pair may in
+      let same' : is.e ≡ p = one_may word.Encoding v is.e p (subst (λ (v : ℕ). MayBePair word.Encoding src v is.e) same is.encoding) may' in
+      (is.s, last_is word.Standalone p is.s here (subst (λ (e : ℕ). MayEndPair word.Standalone src e is.s) same' is.standalone), λ g. cc g)
+
+  -- in the declaration: rows 21 to 25
+  pub declaration_apart : (i j q : ℕ) (t : DueItem) (f : Fault) → IsXmlDecl src i j → DueInXmlDecl src i q t → IsMissing src q t f → ⊥
+  declaration_apart i j q t f is its_version lack = word_stands src word.Version (spaces_end src (i + 5)) f is.version lack
+  declaration_apart i j q t f is (in_pair gap p _ _ begins due') lack =
+      let there = pair_there i j p gap is begins in
+      let x = there.1 in
+      pair_apart p x.n x.v x.e there.0 q x.name t f x.is_name x.eq x.literal due' lack
+  declaration_apart i j q t f is (behind_pair p _ begins pair) lack =
+      let there = pair_there i j p true is begins in
+      let same : there.0 ≡ q = one_pair p there.0 q there.1 pair in
+      let gap = there.2 refl in
+      gap_stands q gap.0 f (pair_cut src p q utf8 pair) (subst (λ (k : ℕ). IsGap src k gap.0) same gap.1) lack
+  declaration_apart i j q t f is (due.DueInXmlDecl.its_end v e s here may may' last) lack =
+      let first : is.v ≡ v = one_may word.Version (spaces_end src (i + 5)) is.v v is.first_pair may in
+      let second : is.e ≡ e = one_may word.Encoding v is.e e (subst (λ (v : ℕ). MayBePair word.Encoding src v is.e) first is.encoding) may' in
+      let third : is.s ≡ s = one_last word.Standalone e is.s s (subst (λ (e : ℕ). MayEndPair word.Standalone src e is.s) second is.standalone) last in
+      word_stands src word.PIEnd (spaces_end src is.s) f is.closes (subst (λ (s : ℕ). IsMissing src (spaces_end src s) (a_word word.PIEnd) f) (sym third) lack)

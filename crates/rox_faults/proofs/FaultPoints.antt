@@ -1,0 +1,142 @@
+-- Where reading stands, content has come to from the left: places of reading as the grammar sees them, and one node too many there.
+use Rattle.std.proofs.Common.{◌≡◌, ℕ, zero, suc, ◌+◌, ◌<◌, ◌≤◌, max, Bool, false, nat_le, List, [], ◌++◌, length, refl, sym, ap, ◌∙◌, subst, arith, inl, inr}
+use Rattle.std.specs.Prelude.{Result, Ok, Err, Some}
+use Rattle.std.proofs.lemmas.List.{append-nil}
+use Rattle.std.proofs.lemmas.Bool.{leb-false}
+use Rattle.rox_grammar.specs.declared.fault.Fault.{Fault}
+use Rattle.rox_grammar.specs.declared.fault.Fault.TheVariants as fault
+use Rattle.rox_grammar.specs.Forest.{Forest, Nil, join}
+use Rattle.rox_grammar.specs.Written.{NamespaceDecl, Tag, Item, leaf}
+use Rattle.rox_grammar.specs.Tree.{listed}
+use Rattle.rox_grammar.specs.Content.{Inclusion}
+use Rattle.rox_grammar.specs.Entities.{Replacement, Entity, text_of, most_deep}
+use Rattle.rox_grammar.specs.Document.{listable, own_pairs, own_attributes, with_new, distinct_pairs, most_attributes, most_pairs}
+use Rattle.rox_grammar.specs.WellNamed.{AreWellNamed}
+use Rattle.rox_grammar.specs.State as grammar
+use Rattle.rox_grammar.specs.State.{Open, root, inside, scope_of, nodes_so_far, attributes_so_far, pairs_so_far, FitsLimits}
+use Rattle.rox_grammar.specs.ContentPoints.{is_main, MayOpen, IsSpent, RootBegins, StepsOver, ContentPoint}
+use Rattle.rox_grammar.specs.Faults.{Stands, too_many_nodes, FaultFrom, at_place}
+use Rattle.rox_reading.specs.Refusals.{Refusal, here, there, refused, elsewhere}
+use Rattle.rox_reading.specs.Lexical.{◌>>=◌}
+use Rattle.rox_reading.specs.State.{State}
+use Rattle.rox_reading.specs.Machine.{Context, counted, values_of, budget, opener}
+use Rattle.rox_reading.proofs.Forests.{named-right}
+use Rattle.rox_theory.proofs.Basics.{chosen}
+use Rattle.rox_theory.proofs.Standing.{AreNamed, IsValidState, distinct-append, attributes-item, pairs-item}
+use Rattle.rox_theory.proofs.Steps.{after}
+use Rattle.rox_theory.proofs.FailedReadings.{no_fault}
+
+-- ---- refusals
+
+-- some entity is declared
+abbrev pub Declares : List Entity → Type 0
+Declares es = (name : List ℕ) × (t : Replacement) × (text_of es name ≡ Some t)
+
+-- the refusal is by a fault of which this holds in its source; in another source it stands only where an entity is declared
+abbrev pub Refuses : List Entity → (List ℕ → Fault → Type 0) → List ℕ → Refusal → Type 0
+Refuses es P src (here f) = P src f
+Refuses es P src (there source f) = P source f × Declares es
+Refuses es P src (refused request p message) = ⊥
+
+-- of which another thing holds too
+pub refuses_by : {P Q : List ℕ → Fault → Type 0} (es : List Entity) (src : List ℕ) (e : Refusal) → ((source : List ℕ) (f : Fault) → P source f → Q source f) → Refuses es P src e → Refuses es Q src e
+refuses_by es src (here f) go p = go src f p
+refuses_by es src (there source f) go p = (go source f p.0, p.1)
+refuses_by es src (refused request at message) go p = absurd p
+
+-- by a fault of this source
+pub refuses_here : (es : List Entity) (P : List ℕ → Fault → Type 0) (src : List ℕ) (f : Fault) (e : Refusal) → here f ≡ e → P src f → Refuses es P src e
+refuses_here es P src f e is p = subst (Refuses es P src) is p
+
+-- what fails in another source
+pub elsewhere_err : {A B X : Type 0} (es : List Entity) (source : List ℕ) (r : Result A Refusal) (f : A → Result B Refusal) (e : Refusal) → (elsewhere source r >>= f) ≡ Err e
+    → ((d : Refusal) → r ≡ Err d → ((P : List ℕ → Fault → Type 0) (src : List ℕ) → Declares es → Refuses es P source d → Refuses es P src e) → X) → ((x : A) → r ≡ Ok x → f x ≡ Err e → X) → X
+elsewhere_err es source (Ok x) f e h now later = later x refl h
+elsewhere_err es source (Err (here c)) f e h now later = now (here c) refl (λ P src some p. let is : there source c ≡ e = cc in subst (Refuses es P src) is (p, some))
+elsewhere_err es source (Err (there s c)) f e h now later = now (there s c) refl (λ P src some p. let is : there s c ≡ e = cc in subst (Refuses es P src) is p)
+elsewhere_err es source (Err (refused request at message)) f e h now later = now (refused request at message) refl (λ P src some p. absurd p)
+
+-- ---- states
+
+-- a state of reading, as the grammar sees it
+abbrev pub place_of : State → grammar.State
+place_of s = record { at = s.at; done = s.done; stack = s.stack }
+
+-- how a text is read where k replacement texts are open, and d more may be
+abbrev pub how_at : ℕ → List Entity → (d k base : ℕ) → Context
+how_at limit es d k base = record { limit = limit; values = values_of es d (is_main k); base = base; opener = opener limit es d (is_main k) }
+
+-- the names of what is read last
+pub named_last : (stack : Open) (done items : Forest Item) → AreNamed stack (join done items) → AreWellNamed (scope_of stack) items
+named_last root done items named = named-right [] done items named
+named_last (inside start tag before up) done items named = named-right (listed (scope_of up) tag.declarations) done items named.2
+
+-- a fine state is within the limits
+pub fine_fits : (limit most : ℕ) (s : State) → most ≤ max limit 1 → IsValidState most s → FitsLimits limit s.stack s.done
+fine_fits limit most s least fine = record { nodes = omega (arith, fine.nodes); attributes = fine.attributes; namespaces = fine.pairs }
+
+-- ---- one node too many
+
+-- the attributes and the pairs are within their limits
+abbrev pub AreFew : Open → Forest Item → Type 0
+AreFew stack done = (attributes_so_far stack done ≤ most_attributes) × (length (distinct_pairs (pairs_so_far stack done)) ≤ most_pairs)
+
+-- with one more item
+pub item_few : (s : State) (item : Item) → attributes_so_far s.stack s.done + own_attributes item ≤ most_attributes → length (with_new (distinct_pairs (pairs_so_far s.stack s.done)) (own_pairs item)) ≤ most_pairs
+    → AreFew s.stack (join s.done (leaf item))
+item_few s item attributes few =
+    let e : pairs_so_far s.stack (join s.done (leaf item)) ≡ pairs_so_far s.stack s.done ++ own_pairs item =
+    pairs-item s.stack s.done item Nil ∙ ap (λ (ds : List NamespaceDecl). pairs_so_far s.stack s.done ++ ds) (append-nil (own_pairs item)) in
+    (omega (arith, attributes-item s.stack s.done item Nil), rw (e, distinct-append) few)
+
+-- with an open tag
+pub opened_few : (s : State) (j left : ℕ) (tag : Tag) → attributes_so_far s.stack s.done + length tag.attributes ≤ most_attributes → length (with_new (distinct_pairs (pairs_so_far s.stack s.done)) (listable tag)) ≤ most_pairs
+    → AreFew (after s j tag false left).stack (after s j tag false left).done
+opened_few s j left tag attributes few = (omega arith, rw (append-nil (listable tag), distinct-append) few)
+
+-- of an item that neither declares anything nor has attributes
+pub plain_few : (limit : ℕ) (s : State) (item : Item) → own_attributes item ≡ 0 → own_pairs item ≡ [] → FitsLimits limit s.stack s.done → AreFew s.stack (join s.done (leaf item))
+plain_few limit s item no_attributes no_pairs fits = item_few s item (omega (arith, fits.attributes)) (rw no_pairs fits.namespaces)
+
+-- ---- openings
+
+-- what is left where none may be opened
+pub spent_here : (l after left : ℕ) (f : Fault) → budget (is_main l) after left ≡ Err f → IsSpent l left × (fault.EntityReferenceLoop after ≡ f)
+spent_here zero after left f h = no_fault _ f h
+spent_here (suc l) after zero f h = (inl refl, cc h)
+spent_here (suc l) after (suc r) f h = no_fault _ f h
+
+-- and where one may
+pub may_open : (l after left r : ℕ) → l < most_deep → budget (is_main l) after left ≡ Ok r → MayOpen l left r
+may_open zero after left r fewer h = let e : 255 ≡ r = cc in sym e
+may_open (suc l) after zero r fewer h = cc h
+may_open (suc l) after (suc n) r fewer h = let e : n ≡ r = cc in (omega arith, fewer)
+
+-- the deepest
+pub deepest : (l left : ℕ) → zero + l ≡ most_deep → IsSpent l left
+deepest zero left h = absurd (omega arith)
+deepest (suc l) left h = inr (omega arith)
+
+-- ---- places
+
+module _ (opens : ℕ → Inclusion) (es : List Entity) (limit : ℕ) (text : List ℕ) (declared : Bool) (Front : ℕ → Forest Item → Type 0) where
+  -- the faults from there on
+  abbrev pub From : List ℕ → Fault → Type 0
+  From src f = FaultFrom opens es limit text declared Front src f
+
+  -- a place where the state is
+  abbrev pub At : (k base : ℕ) → List ℕ → State → Type 0
+  At k base src s = ContentPoint opens es text (λ p items. Front p items × RootBegins declared text p) k base src s.left (place_of s)
+
+  -- a fault at a place
+  pub stand : (k base : ℕ) (src : List ℕ) (s : State) (f : Fault) → At k base src s → FitsLimits limit s.stack s.done → Stands limit es k base (opens k) src (place_of s) s.left f → From src f
+  stand k base src s f place fits stands = at_place k base s.left src (place_of s) f place fits stands
+
+  -- more nodes than the limit
+  pub over : (k base : ℕ) (src : List ℕ) (s t : State) (f : Fault) → At k base src s → FitsLimits limit s.stack s.done → StepsOver k (opens k) src (place_of s) s.left (place_of t) t.left → AreFew t.stack t.done → counted limit t ≡ Err f
+      → From src f
+  over k base src s t f place fits takes few h =
+      chosen (nat_le (nodes_so_far t.stack t.done) limit) _ _ _ h (λ fewer h. no_fault t f h)
+      (λ more h.
+      let is : fault.NodesLimitReached ≡ f = cc in
+      subst (From src) is (stand k base src s fault.NodesLimitReached place fits (too_many_nodes t.left (place_of t) takes few.0 few.1 (leb-false _ _ more))))

@@ -1,0 +1,283 @@
+-- A refusal that stands in a text refuses its parses within the limits, where the answers are the same as far as both go; and all of
+-- its parses if it is not that of a limit.
+use Rattle.std.proofs.Common.{◌≡◌, ℕ, zero, suc, ◌+◌, ◌-◌, ◌<◌, ◌≤◌, Bool, true, false, List, [], length, Some, refl, sym, ap, ◌∙◌, subst, arith}
+use Rattle.std.specs.Str.{IsUtf8}
+use Rattle.std.proofs.lemmas.Bool.{true≢false}
+use Rattle.rox_grammar.specs.declared.fault.Fault.{Fault}
+use Rattle.rox_grammar.specs.declared.fault.Word.TheVariants as word
+use Rattle.rox_grammar.specs.TextStart.{after_bom, MayHaveXmlDecl, declared, not_declared}
+use Rattle.rox_grammar.specs.Due.{DueItem, IsMissing, DueInXmlDecl}
+use Rattle.rox_grammar.specs.Forest.{Forest, Nil, join, size}
+use Rattle.rox_grammar.specs.Written.{Item, merge, leaf}
+use Rattle.rox_grammar.specs.Names.{byte}
+use Rattle.rox_grammar.specs.Constructs.{at, AreChars}
+use Rattle.rox_grammar.specs.Content.{Inclusion, Value, Content}
+use Rattle.rox_grammar.specs.Entities.{Replacement, Entity, text_of, Spends, no_entities, Includes, most_deep, included_in_main}
+use Rattle.rox_grammar.specs.Doctype.{Asked, IsDoctype}
+use Rattle.rox_grammar.specs.Document.{Misc, no_misc, an_item, MayHaveDoctype, doctype, no_doctype, ParseOf, IsWithinLimits, Permits}
+use Rattle.rox_grammar.specs.State as grammar
+use Rattle.rox_grammar.specs.State.{root}
+use Rattle.rox_grammar.specs.ContentPoints.{is_main, PrologTo, PrologWithDoctype, Behind, MayOpen, RootBegins, ContentPoint, begins, goes, enters}
+use Rattle.rox_grammar.specs.Faults.{FaultFrom, in_misc_ahead, too_many_ahead, no_root, unknown_ahead, at_place, in_value, in_misc_behind, too_many_behind, unknown_behind}
+use Rattle.rox_grammar.specs.Faults as faults
+use Rattle.rox_grammar.specs.FaultsWithDoctype.{InDoctype, opens_at, RefusalOf, in_declaration, without, not_allowed, in_doctype, behind}
+use Rattle.rox_reading.specs.WholeText.{prolog}
+use Rattle.rox_reading.proofs.Forests.{join_assoc, merge-more}
+use Rattle.rox_theory.specs.Answers.{SameAnswers}
+use Rattle.rox_theory.specs.Openers.{AreTexts}
+use Rattle.rox_theory.specs.ValidState.{AreNamed, IsValidState, state}
+use Rattle.rox_theory.proofs.Constructions.{doctype_bytes}
+use Rattle.rox_theory.proofs.Tops.{tops_merged}
+use Rattle.rox_theory.proofs.Once.{opens_once}
+use Rattle.rox_theory.proofs.Around.{Stops, no_spaces, element_stops, doctype_stops, prolog_complete, doctype_opens}
+use Rattle.rox_theory.proofs.DoctypeAgreement.{texts_agree}
+use Rattle.rox_theory.proofs.FailedReadings.{ok_one}
+use Rattle.rox_faults.proofs.FaultLimits.{IsOver, nodes_over}
+use Rattle.rox_faults.proofs.FaultWhole.{ahead_on}
+use Rattle.rox_faults.proofs.FaultRefused.{values_at, contents_at, declared_on}
+use Rattle.rox_faults.proofs.FaultPairs.{declaration_apart}
+use Rattle.rox_faults.proofs.SubsetFronts.{doctypes_once}
+use Rattle.rox_faults.proofs.FaultInDoctype.{in_doctype_apart}
+use Rattle.rox_faults.proofs.FaultMisc.{misc_front, misc_at, before_end, other_at, one_misc}
+use Rattle.rox_faults.proofs.FaultWay.{OpensAt}
+use Rattle.rox_faults.proofs.FaultNever.{Parsed, never, fault_over, no_doctype_there}
+
+-- what stands before a place
+place_front : (opens : ℕ → Inclusion) (es : List Entity) (text : List ℕ) (Root : ℕ → Forest Item → Type 0) (k base b : ℕ) (src : List ℕ) (s : grammar.State) → ContentPoint opens es text Root k base src b s → (p : ℕ) × (items : Forest Item) × Root p items
+place_front opens es text Root k base b src s (begins p items is) = (p, items, is)
+place_front opens es text Root k base b src s (goes _ _ d _ _ r _ place takes content deep) = place_front opens es text Root k base d src r place
+place_front opens es text Root k base b src s (enters l other d c r stop q j source t front text' place inner run to named below refers may) = place_front opens es text Root l other d source t place
+
+-- and before a fault
+front_of : (opens : ℕ → Inclusion) (es : List Entity) (limit : ℕ) (text : List ℕ) (behind_dtd : Bool) (Front : ℕ → Forest Item → Type 0) (source : List ℕ) (f : Fault) → FaultFrom opens es limit text behind_dtd Front source f
+    → (p : ℕ) × (items : Forest Item) × Front p items
+front_of opens es limit text behind_dtd Front source f (in_misc_ahead p items _ front fits ill) = (p, items, front)
+front_of opens es limit text behind_dtd Front source f (too_many_ahead p j items item front fits is over) = (p, items, front)
+front_of opens es limit text behind_dtd Front source f (no_root items front fits) = (length text, items, front)
+front_of opens es limit text behind_dtd Front source f (unknown_ahead p items front fits below no_space no_less) = (p, items, front)
+front_of opens es limit text behind_dtd Front source f (at_place k base b _ s _ place fits stands) =
+    let r = place_front opens es text (λ p items. Front p items × RootBegins behind_dtd text p) k base b source s place in (r.0, r.1, r.2.0)
+front_of opens es limit text behind_dtd Front source f (in_value k base b p c n v e j l i stop d src part s as' name _ place fits begins' to spaces named eq literal is ill) =
+    let r = place_front opens es text (λ p items. Front p items × RootBegins behind_dtd text p) k base b src s place in (r.0, r.1, r.2.0)
+front_of opens es limit text behind_dtd Front source f (in_misc_behind p items _ back fits ill) = (back.start, back.before, back.ahead)
+front_of opens es limit text behind_dtd Front source f (too_many_behind p j items item back fits is over) = (back.start, back.before, back.ahead)
+front_of opens es limit text behind_dtd Front source f (unknown_behind p items back fits below a b c) = (back.start, back.before, back.ahead)
+
+-- a document type declaration begins where it stands
+begins_there : (src : List ℕ) (i p : ℕ) (dtd : Bool) (nodes : Forest Item) (asked : List Asked) (es : List Entity) → dtd ≡ true → MayHaveDoctype src i p dtd nodes asked es → at word.DoctypeStart src i ≡ true
+begins_there src i p dtd nodes asked es is (doctype _ j _ items more _ _ one rest) = doctype_opens src i j items asked es one
+begins_there src i p dtd nodes asked es is (no_doctype _) = cc is
+
+-- no refusal stands in a text that has a parse without one, but those of the limits
+plain_over : (limit : ℕ) (allow : Bool) (src source : List ℕ) (asked given : List Asked) (f : Fault) (tree : Forest Item) → IsUtf8 src → RefusalOf limit allow src asked source f → ParseOf src false given tree → IsOver (IsWithinLimits limit tree) f
+plain_over limit allow src source asked given f tree utf8 (in_declaration p t _ is due lack) parse = fault_over limit src f given tree utf8 (faults.FaultOf.in_declaration p t f is due lack) parse
+plain_over limit allow src source asked given f tree utf8 (without _ ill) parse = fault_over limit src f given tree utf8 (faults.FaultOf.without f ill) parse
+plain_over limit allow src source asked given f tree utf8 (not_allowed i before _ ahead fits is) parse = absurd (no_doctype_there limit src given tree i before utf8 ahead is parse)
+plain_over limit allow src source asked given f tree utf8 (in_doctype i before _ _ _ may ahead fits is ill) parse = absurd (no_doctype_there limit src given tree i before utf8 ahead is parse)
+plain_over limit allow src source asked given f tree utf8 (behind _ es _ _ may ill) parse =
+    let front = front_of _ es limit src true (PrologWithDoctype src asked es) source f ill in
+    let a = front.2 in
+    absurd (no_doctype_there limit src given tree a.begun a.before utf8 a.ahead (begins_there src a.begun front.0 true a.nodes asked es refl a.doctype) parse)
+
+-- ---- before a document type declaration
+
+module _ (limit : ℕ) (src : List ℕ) (utf8 : IsUtf8 src) (given : List Asked) (tree : Forest Item) (p : ParseOf src true given tree) where
+  -- it begins where it stands
+  begins_here : at word.DoctypeStart src p.begun ≡ true
+  begins_here = begins_there src p.begun p.start true p.nodes given p.entities refl p.doctype
+
+  -- a declaration has one end
+  one_declaration : (d : ℕ) → MayHaveXmlDecl src (after_bom src) d → d ≡ p.declared_to
+  one_declaration d may = ok_one d p.declared_to (prolog src (after_bom src)) (prolog_complete src utf8 (after_bom src) d may) (prolog_complete src utf8 (after_bom src) p.declared_to p.declaration)
+
+  -- what is left up to there
+  ahead_rest : (q : ℕ) (items : Forest Item) → PrologTo src q items → (rest : Forest Item) × Misc src q p.begun rest × (p.before ≡ join items rest)
+  ahead_rest q items ahead =
+      misc_front src utf8 p.declared_to q p.begun items p.before (subst (λ (d : ℕ). Misc src d q items) (one_declaration ahead.declared_to ahead.declaration) ahead.misc) p.misc_before (doctype_stops src p.begun begins_here)
+
+  -- the root element does not begin before it
+  no_root_here : (q : ℕ) (items : Forest Item) → PrologTo src q items → Stops src q → at word.DoctypeStart src q ≡ false → ⊥
+  no_root_here q items ahead stops none =
+      let same = one_misc src utf8 ahead.declared_to p.declared_to q p.begun items p.before (one_declaration ahead.declared_to ahead.declaration) ahead.misc stops p.misc_before (doctype_stops src p.begun begins_here) in
+      true≢false (sym begins_here ∙ ap (at word.DoctypeStart src) (sym same.0) ∙ none)
+
+  no_root_begins : (q : ℕ) (items : Forest Item) → PrologTo src q items → RootBegins false src q → ⊥
+  no_root_begins q items ahead root_begins =
+      no_root_here q items ahead (record { no_space = no_spaces src q root_begins.opens; no_comment = root_begins.no_comment; no_instruction = root_begins.no_instruction }) (root_begins.no_doctype refl)
+
+  no_root_behind : (q : ℕ) (items : Forest Item) → Behind (λ k. no_entities) src (PrologTo src) q items → ⊥
+  no_root_behind q items back =
+      let there = element_stops true no_entities src back.start back.end 255 back.left back.one back.element in
+      no_root_here back.start back.before back.ahead there.2 there.1
+
+  -- where the parse is within the limits all nodes are
+  few_nodes : IsWithinLimits limit tree → 1 + size (merge tree) ≤ limit
+  few_nodes few =
+      let merged : merge tree ≡ tree =
+      ap merge p.is_tree ∙ tops_merged true (included_in_main p.entities) src p.declared_to p.begun p.start p.end (length src) 255 p.left true p.before p.nodes p.one p.after given p.entities p.misc_before p.doctype p.element p.misc_after ∙ sym p.is_tree in
+      rw merged (omega (arith, few.nodes))
+
+  -- no fault stands before it but those of the limits
+  ahead_over : (source : List ℕ) (f : Fault) → FaultFrom (λ k. no_entities) [] limit src false (PrologTo src) source f → IsOver (IsWithinLimits limit tree) f
+  ahead_over source f (in_misc_ahead q items _ ahead fits ill) = let r = ahead_rest q items ahead in absurd (misc_at src utf8 q p.begun r.0 f r.1 (doctype_stops src p.begun begins_here) ill)
+  ahead_over source f (too_many_ahead q j items item ahead fits is over) =
+      let all = join items (leaf item) in
+      let r = ahead_rest j all (ahead_on src utf8 q j items (leaf item) ahead (an_item q j j item Nil is (no_misc j))) in
+      let rest = join p.nodes (join p.one p.after) in
+      let whole : tree ≡ join all (join r.0 rest) = p.is_tree ∙ ap (λ (f : Forest Item). join f rest) r.2 ∙ join_assoc all r.0 rest in
+      let less = merge-more all (join r.0 rest) in
+      nodes_over (IsWithinLimits limit tree) (λ few.
+      (let nodes : 1 + size (merge (join all (join r.0 rest))) ≤ limit = subst (λ (f : Forest Item). 1 + size (merge f) ≤ limit) whole (few_nodes few) in omega arith))
+  ahead_over source f (no_root items ahead fits) =
+      let r = ahead_rest (length src) items ahead in let l = before_end src utf8 (length src) p.begun r.0 r.1 (doctype_bytes src p.begun begins_here).1 in absurd (omega arith)
+  ahead_over source f (unknown_ahead q items ahead fits below no_space no_less) =
+      let r = ahead_rest q items ahead in absurd (other_at src utf8 q p.begun r.0 r.1 (doctype_bytes src p.begun begins_here).1 no_space no_less)
+  ahead_over source f (at_place k base b _ s _ place fits stands) =
+      let r = place_front (λ k. no_entities) [] src (λ p items. PrologTo src p items × RootBegins false src p) k base b source s place in absurd (no_root_begins r.0 r.1 r.2.0 r.2.1)
+  ahead_over source f (in_value k base b q c n v e j l i stop d other part s as' name _ place fits begins' to spaces named eq literal is ill) =
+      let r = place_front (λ k. no_entities) [] src (λ p items. PrologTo src p items × RootBegins false src p) k base b other s place in absurd (no_root_begins r.0 r.1 r.2.0 r.2.1)
+  ahead_over source f (in_misc_behind q items _ back fits ill) = absurd (no_root_behind q items back)
+  ahead_over source f (too_many_behind q j items item back fits is over) = absurd (no_root_behind q items back)
+  ahead_over source f (unknown_behind q items back fits below a b c) = absurd (no_root_behind q items back)
+
+  -- nor in the declaration
+  declaration_never : (q : ℕ) (t : DueItem) (f : Fault) → at word.XmlDeclStart src (after_bom src) ≡ true → DueInXmlDecl src (after_bom src) q t → IsMissing src q t f → ⊥
+  declaration_never q t f here' due lack = declared_apart p.declared_to p.declaration
+    where
+      declared_apart : (d : ℕ) → MayHaveXmlDecl src (after_bom src) d → ⊥
+      declared_apart d (declared _ _ is) = declaration_apart src utf8 (after_bom src) d q t f is due lack
+      declared_apart d (not_declared _ none) = true≢false (sym here' ∙ none)
+
+  -- nor a fault in it, met after the same answers, but those of the limits
+  inside_over : (i : ℕ) (before : Forest Item) (asked : List Asked) (source : List ℕ) (f : Fault) → PrologTo src i before → at word.DoctypeStart src i ≡ true → SameAnswers asked given → InDoctype limit src i before asked source f → IsOver (IsWithinLimits limit tree) f
+  inside_over i before asked source f ahead is same ill =
+      let there = one_misc src utf8 ahead.declared_to p.declared_to i p.begun before p.before (one_declaration ahead.declared_to ahead.declaration) ahead.misc (doctype_stops src i is) p.misc_before (doctype_stops src p.begun begins_here) in
+      let ill' : InDoctype limit src p.begun p.before asked source f = subst (λ (i : ℕ). InDoctype limit src i p.before asked source f) there.0 (subst (λ (b : Forest Item). InDoctype limit src i b asked source f) (sym there.1) ill) in
+      by_doctype p.start true p.nodes given p.entities refl p.doctype (λ few. subst (λ (t : Forest Item). 1 + size (merge t) ≤ limit) p.is_tree (few_nodes few)) same ill'
+    where
+      by_doctype : (k : ℕ) (dtd : Bool) (nodes : Forest Item) (given : List Asked) (es : List Entity) → dtd ≡ true → MayHaveDoctype src p.begun k dtd nodes given es
+          → (IsWithinLimits limit tree → 1 + size (merge (join p.before (join nodes (join p.one p.after)))) ≤ limit) → SameAnswers asked given → InDoctype limit src p.begun p.before asked source f
+          → IsOver (IsWithinLimits limit tree) f
+      by_doctype k dtd nodes given es has (doctype _ j _ items more _ _ one rest) nodes_few same ill =
+          let all : IsWithinLimits limit tree → 1 + size (merge (join p.before (join items (join more (join p.one p.after))))) ≤ limit =
+          λ few. subst (λ (t : Forest Item). 1 + size (merge (join p.before t)) ≤ limit) (join_assoc items more (join p.one p.after)) (nodes_few few) in
+          in_doctype_apart src utf8 (IsWithinLimits limit tree) limit p.begun j p.before items (join more (join p.one p.after)) asked given es source f one all same ill
+      by_doctype k dtd nodes given es has (no_doctype _) nodes_few same ill = cc has
+
+-- ---- behind one
+
+-- what is spent may be opened
+may_by : (k b r l c : ℕ) → k < most_deep → Spends (is_main k) b r l c → MayOpen k b r
+may_by zero b r l c more (fresh, same) = fresh
+may_by (suc k) b r l c more (before, same) = (before, more)
+
+-- what references open, by the entities that are declared
+opened_at : (es : List Entity) (n k b c : ℕ) (name : List ℕ) (items : Forest Item) → n ≡ most_deep - k → (Includes es n (is_main k)).content name b items c
+    → (t : Replacement) × (r : ℕ) × (l : ℕ) × (text_of es name ≡ Some t) × MayOpen k b r × Content false (opens_at es (suc k)) t.source t.start (length t.source) r l items
+opened_at es zero k b c name items deep h = absurd h
+opened_at es (suc n) k b c name items deep (t, r, l, found, spends, content) =
+    let less : n ≡ most_deep - suc k = omega arith in
+    (t, r, l, found, may_by k b r l c (omega arith) spends, subst (λ (n : ℕ). Content false (Includes es n false) t.source t.start (length t.source) r l items) less content)
+
+given_at : (es : List Entity) (n k b c : ℕ) (name : List ℕ) (v : List ℕ) → n ≡ most_deep - k → (Includes es n (is_main k)).value name b v c
+    → (t : Replacement) × (r : ℕ) × (l : ℕ) × (text_of es name ≡ Some t) × MayOpen k b r × AreChars t.source t.start (length t.source) × Value false (opens_at es (suc k)) t.source (length t.source) t.start r l v
+given_at es zero k b c name v deep h = absurd h
+given_at es (suc n) k b c name v deep (t, r, l, found, spends, chars, value) =
+    let less : n ≡ most_deep - suc k = omega arith in
+    (t, r, l, found, may_by k b r l c (omega arith) spends, chars, subst (λ (n : ℕ). Value false (Includes es n false) t.source (length t.source) t.start r l v) less value)
+
+declared_opens : (es : List Entity) → AreTexts es → OpensAt (opens_at es) es
+declared_opens es texts = record {
+  texts = texts;
+  values = values_at es texts;
+  contents = λ limit. contents_at limit es texts;
+  once = λ k. opens_once es texts (most_deep - k) (is_main k);
+  content = λ k b c name items h. opened_at es (most_deep - k) k b c name items refl h;
+  value = λ k b c name v h. given_at es (most_deep - k) k b c name v refl h;
+}
+
+module _ (src : List ℕ) (utf8 : IsUtf8 src) where
+  -- of two ways to read a document type declaration and what follows it, with the same answers, one is a front of the other
+  doctype_front : (h i p q : ℕ) (d e : Bool) (xs ys : Forest Item) (a b : List Asked) (es fs : List Entity) → d ≡ true → e ≡ true → h ≡ i → SameAnswers a b → MayHaveDoctype src h p d xs a es → MayHaveDoctype src i q e ys b fs → Stops src q
+      → (rest : Forest Item) × Misc src p q rest × (ys ≡ join xs rest) × (es ≡ fs)
+  doctype_front h i p q d e xs ys a b es fs has has' begin same (no_doctype _) other stops = cc has
+  doctype_front h i p q d e xs ys a b es fs has has' begin same one (no_doctype _) stops = cc has'
+  doctype_front h i p q d e xs ys a b es fs has has' begin same (doctype _ j _ items more _ _ one rest) (doctype _ k _ items' more' _ _ one' rest') stops =
+      let both = doctypes_once src utf8 i j k items items' a b es fs (subst (λ (i : ℕ). IsDoctype src i j items a es) begin one) one' same in
+      let r = misc_front src utf8 k p q more more' (subst (λ (j : ℕ). Misc src j p more) both.0 rest) rest' stops in
+      (r.0, r.1, ap (join items') r.2 ∙ ap (λ (f : Forest Item). join f (join more r.0)) (sym both.1) ∙ sym (join_assoc items more r.0), both.3)
+
+module _ (limit : ℕ) (src : List ℕ) (utf8 : IsUtf8 src) (given : List Asked) (tree : Forest Item) (p : ParseOf src true given tree) where
+  -- what stands before the root element
+  abbrev before_root : Forest Item
+  before_root = join p.before p.nodes
+
+  root_stops : (byte src p.start ≡ 60) × (at word.DoctypeStart src p.start ≡ false) × Stops src p.start
+  root_stops = element_stops true (included_in_main p.entities) src p.start p.end 255 p.left p.one p.element
+
+  -- the whole as a state has it
+  same_whole : tree ≡ join (join before_root p.one) p.after
+  same_whole = p.is_tree ∙ sym (join_assoc p.before p.nodes (join p.one p.after)) ∙ sym (join_assoc before_root p.one p.after)
+
+  -- which is within the limits where the parse is
+  all_fine : IsWithinLimits limit tree → IsValidState limit (state (length src) (join (join before_root p.one) p.after) root p.left)
+  all_fine few =
+      let whole : IsValidState limit (state (length src) tree root p.left) =
+      record { nodes = few_nodes limit src utf8 given tree p few; attributes = few.attributes; pairs = few.namespaces; named = p.well_named } in
+      subst (λ (f : Forest Item). IsValidState limit (state (length src) f root p.left)) same_whole whole
+
+  -- the entities are text
+  entities_texts : AreTexts p.entities
+  entities_texts = texts_agree src utf8 p.begun p.start true p.nodes given p.entities p.doctype
+
+  module _ (asked : List Asked) (same : SameAnswers asked given) where
+    -- what is left up to the root element, and the entities are those of the parse
+    declared_rest : (es : List Entity) (q : ℕ) (items : Forest Item) → PrologWithDoctype src asked es q items → ((rest : Forest Item) × Misc src q p.start rest × (before_root ≡ join items rest)) × (es ≡ p.entities)
+    declared_rest es q items a =
+        let begun = one_misc src utf8 a.ahead.declared_to p.declared_to a.begun p.begun a.before p.before (one_declaration limit src utf8 given tree p a.ahead.declared_to a.ahead.declaration) a.ahead.misc
+        (doctype_stops src a.begun (begins_there src a.begun q true a.nodes asked es refl a.doctype)) p.misc_before (doctype_stops src p.begun (begins_here limit src utf8 given tree p)) in
+        let r = doctype_front src utf8 a.begun p.begun q p.start true true a.nodes p.nodes asked given es p.entities refl refl begun.0 same a.doctype p.doctype root_stops.2 in
+        let whole : before_root ≡ join items r.0 =
+        ap (λ (b : Forest Item). join b p.nodes) begun.1 ∙ ap (join a.before) r.2 ∙ sym (join_assoc a.before a.nodes r.0) ∙ ap (λ (f : Forest Item). join f r.0) (sym a.all) in
+        ((r.0, r.1, whole), r.3)
+
+    declared_parsed : Parsed (opens_at p.entities) limit (IsWithinLimits limit tree) src (PrologWithDoctype src asked p.entities)
+    declared_parsed =
+        record {
+          start = p.start;
+          before = before_root;
+          ahead = λ q items a. (declared_rest p.entities q items a).0;
+          on = declared_on src utf8 asked p.entities;
+          end = p.end;
+          left = p.left;
+          one = p.one;
+          element = p.element;
+          after = p.after;
+          misc_after = p.misc_after;
+          fine = all_fine;
+          named = subst (λ (f : Forest Item). AreNamed root f) same_whole p.well_named;
+        }
+
+    -- so no fault stands behind it but those of the limits
+    behind_over : (es : List Entity) (source : List ℕ) (f : Fault) → FaultFrom (opens_at es) es limit src true (PrologWithDoctype src asked es) source f → IsOver (IsWithinLimits limit tree) f
+    behind_over es source f ill =
+        let front = front_of (opens_at es) es limit src true (PrologWithDoctype src asked es) source f ill in
+        let entities_are : es ≡ p.entities = (declared_rest es front.0 front.1 front.2).1 in
+        never (opens_at p.entities) p.entities (declared_opens p.entities entities_texts) limit (IsWithinLimits limit tree) src utf8 (PrologWithDoctype src asked p.entities) declared_parsed true source f
+        (subst (λ (es : List Entity). FaultFrom (opens_at es) es limit src true (PrologWithDoctype src asked es) source f) entities_are ill)
+
+-- a refusal that stands in a text that has a parse is that of a limit, and the parse is not within the limits, where what was asked
+-- until then had the answers that the parse has
+pub refused_over : (limit : ℕ) (allow dtd : Bool) (src source : List ℕ) (asked given : List Asked) (f : Fault) (tree : Forest Item) → IsUtf8 src → RefusalOf limit allow src asked source f → ParseOf src dtd given tree
+    → Permits allow dtd → SameAnswers asked given → IsOver (IsWithinLimits limit tree) f
+refused_over limit allow false src source asked given f tree utf8 ill parse permits same = plain_over limit allow src source asked given f tree utf8 ill parse
+refused_over limit allow true src source asked given f tree utf8 (in_declaration q t _ is due lack) parse permits same = absurd (declaration_never limit src utf8 given tree parse q t f is due lack)
+refused_over limit allow true src source asked given f tree utf8 (without _ ill) parse permits same = ahead_over limit src utf8 given tree parse src f ill
+refused_over limit allow true src source asked given f tree utf8 (not_allowed i before none ahead fits is) parse permits same = absurd (true≢false (sym (permits refl) ∙ none))
+refused_over limit allow true src source asked given f tree utf8 (in_doctype i before _ _ _ may ahead fits is ill) parse permits same = inside_over limit src utf8 given tree parse i before asked source f ahead is same ill
+refused_over limit allow true src source asked given f tree utf8 (behind _ es _ _ may ill) parse permits same = behind_over limit src utf8 given tree parse asked same es source f ill
+
+-- so no refusal stands in a text that has a parse within the limits
+pub refused_never : (limit : ℕ) (allow dtd : Bool) (src source : List ℕ) (asked given : List Asked) (f : Fault) (tree : Forest Item) → IsUtf8 src → RefusalOf limit allow src asked source f → ParseOf src dtd given tree
+    → IsWithinLimits limit tree → Permits allow dtd → SameAnswers asked given → ⊥
+refused_never limit allow dtd src source asked given f tree utf8 ill parse few permits same = (refused_over limit allow dtd src source asked given f tree utf8 ill parse permits same).1 few

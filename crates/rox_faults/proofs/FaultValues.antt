@@ -1,0 +1,190 @@
+-- Values that fail: in what they hold, or in a replacement text that is opened in them.
+use Rattle.std.proofs.Common.{◌≡◌, ◌≢◌, ℕ, zero, suc, ◌+◌, ◌-◌, ◌<◌, ◌≤◌, ◌⊎◌, Bool, true, false, eqb, ltb, List, length, take, refl, sym, ◌∙◌, subst, arith, inl, inr}
+use Rattle.std.specs.Prelude.{Result, Err, Some}
+use Rattle.std.specs.Str.{IsUtf8, IsCharBoundary}
+use Rattle.std.proofs.lemmas.List.{get_or-take, get_or_past, length-take-le}
+use Rattle.std.proofs.lemmas.Bool.{cases_lt, eqb-true, ltb-true, false≢true}
+use Rattle.rox_grammar.specs.declared.fault.Fault.{Fault}
+use Rattle.rox_grammar.specs.declared.fault.Fault.TheVariants as fault
+use Rattle.rox_grammar.specs.Chars.{is_char}
+use Rattle.rox_grammar.specs.Runs.{StandsAt}
+use Rattle.rox_grammar.specs.Names.{byte, slice}
+use Rattle.rox_grammar.specs.References.{IsCharacter}
+use Rattle.rox_grammar.specs.Content.{Inclusion, is_verbatim_value}
+use Rattle.rox_grammar.specs.Entities.{Replacement, Entity, text_of, most_deep}
+use Rattle.rox_grammar.specs.Due.{IsMissing, no_char, ends_before, chars_to}
+use Rattle.rox_grammar.specs.ContentPoints.{is_main, RefersTo, MayOpen, IsSpent, ValueTo, to_here, a_byte, a_character, an_entity, ValuePart, opened}
+use Rattle.rox_grammar.specs.Faults.{InReferences, InValue, in_reference, too_many, less, less_by_reference}
+use Rattle.rox_grammar.specs.Faults as faults
+use Rattle.rox_reading.specs.Lexical.{chars_up_to}
+use Rattle.rox_reading.specs.Refusals.{Refusal}
+use Rattle.rox_reading.specs.Values.{Reference, reference_at, Bit, reference_bit, is_special, tested_bit, value_reference_at, stretch_at, value_bit_at, after_value_bit, value_text, value_at}
+use Rattle.rox_reading.specs.Machine.{budget, value_opener}
+use Rattle.rox_theory.specs.Openers.{IsStop, AreTexts, AgreesValue}
+use Rattle.rox_theory.proofs.Basics.{chosen, run_end_le}
+use Rattle.rox_theory.proofs.LiteralLemmas.{from_le}
+use Rattle.rox_theory.proofs.StretchLemmas.{next_at, next_bound}
+use Rattle.rox_theory.proofs.ReferenceLemmas.{IsRead, is_character, is_entity, reference_sound, reference_opens}
+use Rattle.rox_theory.proofs.ValueLemmas.{stops, stops_ascii, ValueBit, bit_line_end, bit_white, bit_stretch, bit_character, bit_entity, next_cut, bit_moves, bit_cut, value_bit_sound}
+use Rattle.rox_theory.proofs.FailedReadings.{bind_err, lifted_err, no_fault, chars_fails}
+use Rattle.rox_faults.proofs.FaultRows.{reference_fails, unknown_fails}
+use Rattle.rox_faults.proofs.FaultPoints.{Refuses, refuses_here, elsewhere_err, spent_here, may_open, deepest}
+
+-- bytes of no reference
+passes : (O : Inclusion) (src : List ℕ) (n i j p b c : ℕ) → i + n ≡ j → ((k : ℕ) → i ≤ k → k < j → byte src k ≢ 38) → ValueTo O src j p b c → ValueTo O src i p b c
+passes O src zero i j p b c to none rest = let e : j ≡ i = omega arith in subst (λ (m : ℕ). ValueTo O src m p b c) e rest
+passes O src (suc n) i j p b c to none rest = a_byte i p b c (none i (omega arith) (omega arith)) (passes O src n (i + 1) j p b c (omega arith) (λ k from below. none k (omega arith) below) rest)
+
+module _ (src : List ℕ) (utf8 : IsUtf8 src) (es : List Entity) (stop : ℕ) (long : stop ≤ length src) (closes : stop < length src → IsStop (byte src stop)) where
+  -- what is wrong with one bit: rows 9, 10, 12 and 22
+  pub data IllBit (main : Bool) (p : ℕ) : Fault → Type 0 where
+    ill_reference : (f : Fault) → InReferences es src p f → IllBit main p f
+    gives_less : (j : ℕ) → main ≡ false → IsCharacter src p 60 j → IllBit main p (fault.InvalidAttributeValue p)
+    is_less : (q : ℕ) → main ≡ false → p ≤ q → q < stop → byte src q ≡ 60 → IllBit main p (fault.InvalidAttributeValue q)
+    ill_char : (q c : ℕ) → main ≡ false → p ≤ q → q < stop → StandsAt c src q → is_char c ≡ false → IllBit main p (fault.NonXmlChar c q)
+
+  -- a reference
+  tested_fails : (main : Bool) (p j : ℕ) (r : Reference) (f : Fault) → IsRead src p r j → tested_bit main p r (reference_bit es src p r) ≡ Err f → IllBit main p f
+  tested_fails true p j r f read h = ill_reference f (unknown_fails src utf8 es p j r f read h)
+  tested_fails false p j r f (is_character c _ stands) h =
+      chosen (eqb c 60) _ _ _ h
+      (λ same h. let is : fault.InvalidAttributeValue p ≡ f = cc in
+      subst (IllBit false p) is (gives_less j refl (subst (λ (c : ℕ). IsCharacter src p c j) (eqb-true _ _ same) stands)))
+      (λ other h. no_fault _ f h)
+  tested_fails false p j r f (is_entity n _ stands none) h = ill_reference f (unknown_fails src utf8 es p j r f (is_entity n j stands none) h)
+
+  value_reference_fails : (main : Bool) (p : ℕ) (f : Fault) → byte src p ≡ 38 → value_reference_at main es src p ≡ Err f → IllBit main p f
+  unfolding value_reference_at
+  value_reference_fails main p f amp h =
+      bind_err (reference_at src p) _ f h (λ bad. ill_reference f (reference_fails src utf8 es p f amp bad))
+      (λ r read h. bind_err (tested_bit main p r.0 (reference_bit es src p r.0)) _ f h (λ bad. tested_fails main p r.1 r.0 f (reference_sound src p r amp read) bad) (λ bit ok h. no_fault _ f h))
+
+  -- Chars up to a place
+  chars_ill : (p e : ℕ) (f : Fault) → e ≤ stop → IsMissing src p (chars_to e) f → IllBit false p f
+  chars_ill p e f to (no_char _ q c is before stands ill) =
+      let le = run_end_le is_char (take e src) p in
+      ill_char q c refl (omega arith) (omega arith) stands ill
+  chars_ill p e f to (ends_before _ takes past) = absurd (false≢true takes)
+
+  -- a stretch
+  stretch_fails : (main : Bool) (p : ℕ) (f : Fault) → p < stop → IsCharBoundary src p → stretch_at main src stop p ≡ Err f → IllBit main p f
+  stretch_fails true p f below cut h = no_fault _ f h
+  stretch_fails false p f below cut h =
+      let j = next_at src stop stops p in
+      let le = from_le stops (take stop src) p in
+      bind_err (chars_up_to j src p) _ f h
+      (λ bad. chars_ill p j f (next_bound src stop long stops p (omega arith)) (chars_fails src p j f utf8 cut (next_cut es src utf8 stop long closes stops stops_ascii p (omega arith)) le bad))
+      (λ raw read h. chosen (eqb (byte (take stop src) j) 60) _ _ _ h
+      (λ tag h.
+      let at' : byte (take stop src) j ≡ 60 = eqb-true _ _ tag in
+      let below' : j < stop = elim (cases_lt j stop) as (λ s. j < stop) [
+        | inl l ↦ l
+        | inr g ↦ absurd (let z : byte (take stop src) j ≡ 0 = get_or_past (take stop src) j 0 (omega (arith, length-take-le stop src long)) in omega arith)
+      ] in
+      let is : fault.InvalidAttributeValue j ≡ f = cc in
+      subst (IllBit false p) is (is_less j refl le below' (sym (get_or-take stop src j 0 below') ∙ at')))
+      (λ none h. no_fault _ f h))
+
+  -- a bit
+  bit_fails : (main : Bool) (p : ℕ) (f : Fault) → p < stop → IsCharBoundary src p → value_bit_at main es src stop p ≡ Err f → IllBit main p f
+  unfolding value_bit_at
+  bit_fails main p f below cut h =
+      chosen (eqb (byte src p) 38) _ _ _ h
+      (λ amp h. value_reference_fails main p f (eqb-true _ _ amp) h)
+      (λ none h. chosen (is_special (byte src p)) _ _ _ h
+      (λ special h. chosen (eqb (byte src p) 13) _ _ _ h (λ cr h. chosen (eqb (byte (take stop src) (p + 1)) 10) _ _ _ h (λ lf h. no_fault _ f h) (λ other h. no_fault _ f h)) (λ other h. no_fault _ f h))
+      (λ plain h. stretch_fails main p f below cut h))
+
+module _ (opens : ℕ → Inclusion) (es : List Entity) (k : ℕ) (whole : List ℕ) (start end b : ℕ) where
+  -- a fault that stands in a part of the value
+  pub data InPart (part : List ℕ) (f : Fault) : Type 0 where
+    in_part : (l i stop d : ℕ) → ValuePart opens es k whole start end b l part i stop d → InValue es l (opens l) part i stop d f → InPart part f
+
+  -- what is opened behind a reference that ends at j fails
+  abbrev pub ValueOpenerFails : (d l : ℕ) → Type 0
+  ValueOpenerFails d l =
+      (src : List ℕ) (j left : ℕ) (t : Replacement) (name : List ℕ) (e : Refusal) → text_of es name ≡ Some t → (IsSpent l left → InPart src (fault.EntityReferenceLoop j))
+      → ((r : ℕ) → MayOpen l left r → ValuePart opens es k whole start end b (suc l) t.source t.start (length t.source) r) → value_opener es d (is_main l) t j left ≡ Err e → Refuses es InPart src e
+
+  module _ (d l : ℕ) (agrees : AgreesValue es (opens l) (value_opener es d (is_main l))) (opener_fails : ValueOpenerFails d l)
+      (src : List ℕ) (utf8 : IsUtf8 src) (i stop c0 : ℕ) (long : stop ≤ length src) (closes : stop < length src → IsStop (byte src stop)) (no_tag : is_main l ≡ true → (q : ℕ) → i ≤ q → q < stop → byte src q ≢ 60)
+      (part : ValuePart opens es k whole start end b l src i stop c0) where
+    -- a fault of a bit is one of the part
+    bit_stands : (p : ℕ) (f : Fault) → i ≤ p → p < stop → IllBit src utf8 es stop long closes (is_main l) p f → InPart src f
+    bit_stands p f from below (ill_reference _ ill) = in_part l i stop c0 part (in_reference p f from below ill)
+    bit_stands p f from below (gives_less j within is) = in_part l i stop c0 part (less_by_reference p j within from below is)
+    bit_stands p f from below (is_less q within from' below' is) = in_part l i stop c0 part (less q within (omega arith) below' is)
+    bit_stands p f from below (ill_char q c within from' below' stands ill) = in_part l i stop c0 part (faults.InValue.no_char q c within (omega arith) below' stands ill)
+
+    -- the value is read up to here
+    abbrev To : ℕ → ℕ → Type 0
+    To p left = (q c : ℕ) → ValueTo (opens l) src p q left c → ValueTo (opens l) src i q c0 c
+
+    -- behind a bit
+    bit_goes : (p left : ℕ) (bit : Bit) (j : ℕ) (e : Refusal) (next : ℕ → ℕ → Result (List ℕ × ℕ) Refusal) → To p left → ValueBit (is_main l) es src stop p bit j
+        → ((c : ℕ) → To j c → next j c ≡ Err e → Refuses es InPart src e) → after_value_bit (value_opener es d (is_main l)) next left bit j ≡ Err e → Refuses es InPart src e
+    bit_goes p left bit j e next to (bit_line_end _ more cr lf) go h =
+        bind_err (next (p + 1) left) _ e h (go left (λ q c rest. to q c (a_byte p q left c (λ amp. absurd (omega arith)) rest))) (λ x ok h. no_fault _ e h)
+    bit_goes p left bit j e next to (bit_white _ here' is) go h =
+        bind_err (next (p + 1) left) _ e h (go left (λ q c rest. to q c (a_byte p q left c (white_no_amp is) rest))) (λ x ok h. no_fault _ e h)
+      where
+        white_no_amp : (byte src p ≡ 9) ⊎ ((byte src p ≡ 10) ⊎ ((byte src p ≡ 13) × ((stop ≡ p + 1) ⊎ (byte src (p + 1) ≢ 10)))) → byte src p ≢ 38
+        white_no_amp (inl is) amp = absurd (omega arith)
+        white_no_amp (inr (inl is)) amp = absurd (omega arith)
+        white_no_amp (inr (inr (is, more))) amp = absurd (omega arith)
+    bit_goes p left bit j e next to (bit_stretch _ _ some to' cut plain chars) go h =
+        bind_err (next j left) _ e h (go left (λ q c rest. to q c (passes (opens l) src (j - p) p j q left c (omega arith) (λ m from below. (plain m from below).0.0) rest))) (λ x ok h. no_fault _ e h)
+    bit_goes p left bit j e next to (bit_character _ x _ r to' any) go h =
+        bind_err (next j left) _ e h (go left (λ q c rest. to q c (a_character p j x q left c r rest))) (λ x ok h. no_fault _ e h)
+    bit_goes p left bit j e next to (bit_entity _ n _ t r none to' found) go h =
+        let name = slice src (p + 1) n in
+        let moves = reference_opens src p n j r in
+        let refers : RefersTo es src p j t = record { n = n; is_reference = r; no_character = none; found = found } in
+        let so_far = to p left (to_here p left) in
+        bind_err (value_opener es d (is_main l) t j left) _ e h
+        (λ bad. opener_fails src j left t name e found (λ spent. in_part l i stop c0 part (too_many p j left t so_far (omega (arith, moves.2)) refers spent))
+        (λ r' may. opened l i stop c0 left r' p j src t part so_far (omega (arith, moves.2)) refers may) bad)
+        (λ x read h. bind_err (next j x.1) _ e h
+        (go x.1 (λ q c rest. to q c (an_entity p n j q left x.1 c x.0 r none (agrees.sound name t j left x.1 x.0 found read) rest))) (λ y ok h. no_fault _ e h))
+
+    pub value_text_fails : (n p left : ℕ) (e : Refusal) → i ≤ p → IsCharBoundary src p → To p left → value_text (is_main l) es (value_opener es d (is_main l)) n src stop p left ≡ Err e → Refuses es InPart src e
+    unfolding value_text
+    value_text_fails zero p left e from cut to h = no_fault _ e h
+    value_text_fails (suc n) p left e from cut to h =
+        chosen (ltb p stop) _ _ _ h
+        (λ lt h.
+        let below = ltb-true _ _ lt in
+        lifted_err (value_bit_at (is_main l) es src stop p) _ e h
+        (λ f bad is. refuses_here es InPart src f e is (bit_stands p f from below (bit_fails src utf8 es stop long closes (is_main l) p f below cut bad)))
+        (λ x read h.
+        let bit = value_bit_sound es src utf8 stop long closes (is_main l) p x below (λ main q from' below'. no_tag main q (omega arith) below') read in
+        let moves = bit_moves es src utf8 stop long closes (is_main l) p x.0 x.1 bit in
+        bit_goes p left x.0 x.1 e (λ j c. value_text (is_main l) es (value_opener es d (is_main l)) n src stop j c) to bit
+        (λ c to' h. value_text_fails n x.1 c e (omega (arith, moves.0)) (bit_cut es src utf8 stop long closes (is_main l) p x.0 x.1 bit) to' h) h))
+        (λ past h. no_fault _ e h)
+
+  module _ (agrees : (d l : ℕ) → d + l ≡ most_deep → AgreesValue es (opens l) (value_opener es d (is_main l))) (texts : AreTexts es) where
+    pub value_opener_fails : (d l : ℕ) → d + l ≡ most_deep → ValueOpenerFails d l
+    unfolding value_opener
+    value_opener_fails zero l deep src j left t name e found spent part h = refuses_here es InPart src (fault.EntityReferenceLoop j) e (cc h) (spent (deepest l left deep))
+    value_opener_fails (suc d) l deep src j left t name e found spent part h =
+        let text = texts name t found in
+        lifted_err (budget (is_main l) j left) _ e h
+        (λ f bad is. let w = spent_here l j left f bad in refuses_here es InPart src f e is (subst (InPart src) w.1 (spent w.0)))
+        (λ r may h.
+        elsewhere_err es t.source (value_text false es (value_opener es d false) (length t.source) t.source (length t.source) t.start r) _ e h
+        (λ c bad back.
+        back InPart src (name, t, found)
+        (value_text_fails d (suc l) (agrees d (suc l) (omega arith)) (value_opener_fails d (suc l) (omega arith)) t.source text.0 t.start (length t.source) r (omega arith) (λ past. absurd (omega arith)) (λ main. absurd (false≢true main))
+        (part r (may_open l j left r (omega arith) may)) (length t.source) t.start r c (omega arith) text.1 (λ q c rest. rest) bad))
+        (λ x ok h. no_fault _ e h))
+
+    -- a value
+    pub value_fails : (d : ℕ) (e : Refusal) → d + k ≡ most_deep → IsUtf8 whole → end ≤ length whole → (end < length whole → IsStop (byte whole end)) → ((q : ℕ) → start ≤ q → q < end → byte whole q ≢ 60) → IsCharBoundary whole start
+        → value_at (is_main k) es (value_opener es d (is_main k)) whole start end b ≡ Err e → Refuses es InPart whole e
+    unfolding value_at
+    value_fails d e deep utf8 long closes no_tag cut h =
+        chosen (is_verbatim_value (slice whole start end)) _ _ _ h (λ plain h. no_fault _ e h)
+        (λ marked h. bind_err (value_text (is_main k) es (value_opener es d (is_main k)) (end - start) whole end start b) _ e h
+        (λ bad. value_text_fails d k (agrees d k deep) (value_opener_fails d k deep) whole utf8 start end b long closes (λ main. no_tag) ValuePart.itself (end - start) start b e (omega arith) cut (λ q c rest. rest) bad)
+        (λ value read h. no_fault _ e h))

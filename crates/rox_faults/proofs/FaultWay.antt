@@ -1,0 +1,315 @@
+-- The way of a parse: the constructs of the main text, and of each replacement text that is opened in its content. Each
+-- place that content reaches from the left lies on it.
+use Rattle.std.proofs.Common.{◌≡◌, ◌≢◌, ℕ, zero, suc, ◌+◌, ◌-◌, ◌<◌, ◌≤◌, Bool, true, false, List, length, Some, refl, sym, ap, ◌∙◌, subst, arith, inl, inr}
+use Rattle.std.specs.Str.{IsUtf8, IsCharBoundary}
+use Rattle.std.proofs.lemmas.Bool.{true≢false, cases_Bool}
+use Rattle.rox_grammar.specs.Forest.{Forest, join}
+use Rattle.rox_grammar.specs.Written.{Tag, Item, Element, merge}
+use Rattle.rox_grammar.specs.Tree.{listed}
+use Rattle.rox_grammar.specs.Names.{byte, slice}
+use Rattle.rox_grammar.specs.Constructs.{at, AreChars, IsCData, IsEnd}
+use Rattle.rox_grammar.specs.Content.{Inclusion, Parts, IsCharacterData, IsMisc, comment, instruction, Value, Content}
+use Rattle.rox_grammar.specs.Entities.{Replacement, Entity, text_of, most_deep}
+use Rattle.rox_grammar.specs.State as grammar
+use Rattle.rox_grammar.specs.State.{Open, root, inside, is_root, depth_of, scope_of}
+use Rattle.rox_grammar.specs.ContentPoints.{is_main, is_content, StepsOver, a_run as takes_run, a_section, a_misc, an_empty_tag, a_start_tag, an_end_tag, PartsTo, RefersTo, MayOpen, ContentPoint, begins, goes, enters}
+use Rattle.rox_reading.specs.State.{State}
+use Rattle.rox_reading.specs.Machine.{value_opener, opener}
+use Rattle.rox_reading.proofs.Forests.{join_assoc, merge-named}
+use Rattle.rox_theory.specs.Openers.{AreTexts, AgreesValue, AgreesContent}
+use Rattle.rox_theory.specs.ValidState.{AreNamed, IsValidState, state}
+use Rattle.rox_theory.proofs.Basics.{within}
+use Rattle.rox_theory.proofs.Constructions.{Kind, a_run, a_comment, a_cdata, an_instruction, an_end, a_tag, nothing, kind_at, run_within, run_kind, comment_kind, cdata_kind, instruction_kind, end_kind, tag_kind, name_byte, cdata_bytes, end_bytes}
+use Rattle.rox_theory.proofs.Standing.{item-named}
+use Rattle.rox_theory.proofs.Leaves.{fine_before, named_before}
+use Rattle.rox_theory.proofs.StepLemmas as steps
+use Rattle.rox_theory.proofs.Flat as flat
+use Rattle.rox_theory.proofs.Chains.{Drives}
+use Rattle.rox_theory.proofs.Chains as chains
+use Rattle.rox_theory.proofs.Around.{misc_within}
+use Rattle.rox_theory.proofs.PartOnce.{OpensOnce}
+use Rattle.rox_faults.proofs.PartFronts.{OpenedThere, parts_front}
+use Rattle.rox_theory.proofs.Once.{takes_once}
+use Rattle.rox_faults.proofs.FaultPoints.{how_at}
+use Rattle.rox_faults.proofs.FaultPlaces.{Tagged, takes_cut}
+
+-- a state of the grammar, where so many texts may be opened
+abbrev pub state_of : grammar.State → ℕ → State
+state_of s b = state s.at s.done s.stack b
+
+-- what references open, by how many texts are open: in one way, and a text that is read in the same way
+pub record OpensAt (opens : ℕ → Inclusion) (es : List Entity) : Type 0 where
+  pub texts : AreTexts es
+  pub values : (d k : ℕ) → d + k ≡ most_deep → AgreesValue es (opens k) (value_opener es d (is_main k))
+  pub contents : (limit d k : ℕ) → d + k ≡ most_deep → AgreesContent es limit (opens k) (opener limit es d (is_main k))
+  pub once : (k : ℕ) → OpensOnce (opens k)
+  pub content : (k b c : ℕ) (name : List ℕ) (items : Forest Item) → (opens k).content name b items c
+      → (t : Replacement) × (r : ℕ) × (l : ℕ) × (text_of es name ≡ Some t) × MayOpen k b r × Content false (opens (suc k)) t.source t.start (length t.source) r l items
+  pub value : (k b c : ℕ) (name : List ℕ) (v : List ℕ) → (opens k).value name b v c
+      → (t : Replacement) × (r : ℕ) × (l : ℕ) × (text_of es name ≡ Some t) × MayOpen k b r × AreChars t.source t.start (length t.source)
+      × Value false (opens (suc k)) t.source (length t.source) t.start r l v
+
+-- one more text may be open
+pub may_deep : (k b r : ℕ) → MayOpen k b r → suc k ≤ most_deep
+may_deep zero b r may = omega arith
+may_deep (suc k) b r (before, more) = omega arith
+
+-- and then so many are left in it
+pub may_once : (k b r q : ℕ) → MayOpen k b r → MayOpen k b q → r ≡ q
+may_once zero b r q may may' = may ∙ sym may'
+may_once (suc k) b r q (before, more) (before', more') = omega (arith, before, before')
+
+-- a replacement text is what its name says
+pub same_text : (es : List Entity) (name : List ℕ) (t u : Replacement) → text_of es name ≡ Some t → text_of es name ≡ Some u → t ≡ u
+same_text es name t u found found' = cc (sym found ∙ found')
+
+-- ---- one construct after the other
+
+module _ (main : Bool) (O : Inclusion) (src : List ℕ) (base : ℕ) where
+  pub data Trail : State → State → Type 0 where
+    stays : (s : State) → Trail s s
+    follows : (s t u : State) → flat.StepsOver main O src base s t → Trail t u → Trail s u
+
+  -- a replacement text
+  pub chain_trail : (s u : State) → flat.Chain main O src base s u → Trail s u
+  chain_trail s u (flat.Chain.arrives _ at deep) = stays s
+  chain_trail s u (flat.Chain.goes _ t _ takes rest) = follows s t u takes (chain_trail t u rest)
+
+  -- names that are in order behind a construct were so before it
+  pub takes_named : (s t : State) → flat.StepsOver main O src base s t → AreNamed t.stack t.done → AreNamed s.stack s.done
+  takes_named s t (flat.StepsOver.takes_run i j b c items done stack is parts) named = named_before stack done items named
+  takes_named s t (flat.StepsOver.takes_cdata i e j b done stack is) named = named_before stack done _ named
+  takes_named s t (flat.StepsOver.takes_misc i j b item done stack is) named = named_before stack done _ named
+  takes_named s t (flat.StepsOver.takes_empty i j b c tag done stack is) named = named_before stack done _ named
+  takes_named s t (flat.StepsOver.takes_start i j b c tag done stack is) named = named.0
+  takes_named s t (flat.StepsOver.takes_end i p j b start tag done before up deep end) named =
+      let before_end = item-named up before (Element start j tag) (merge done) named in
+      (before_end.0, before_end.1, merge-named (listed (scope_of up) tag.declarations) done before_end.2)
+
+  -- the construct that stands where the way does not end
+  trail_step : (s u : State) → Trail s u → (s ≡ u → ⊥) → (t : State) × flat.StepsOver main O src base s t × Trail t u
+  trail_step s u (stays _) apart = absurd (apart refl)
+  trail_step s u (follows _ t _ takes rest) apart = (t, takes, rest)
+
+  -- what stands where a construct of a kind is taken
+  abbrev pub By : Kind → State → State → Type 0
+  By a_run s t = (j : ℕ) × (items : Forest Item) × IsCharacterData src s.at j × Parts main O src s.at j s.at s.left t.left items × (t ≡ state j (join s.done items) s.stack t.left)
+  By a_comment s t = (j : ℕ) × (item : Item) × IsMisc src s.at j item
+  By a_cdata s t = (e : ℕ) × (j : ℕ) × IsCData src s.at e j
+  By an_instruction s t = (j : ℕ) × (item : Item) × IsMisc src s.at j item
+  By an_end s t = (start : ℕ) × (tag : Tag) × (before : Forest Item) × (up : Open) × (n : ℕ) × (j : ℕ) × (s.stack ≡ inside start tag before up) × (base < depth_of up + 1) × IsEnd src s.at tag.name n j
+  By a_tag s t = Tagged main O src base s t
+  By nothing s t = ⊥
+
+  -- each construct is of the kind that stands there
+  pub takes_by : (s t : State) → flat.StepsOver main O src base s t → By (kind_at src s.at) s t
+  takes_by s t (flat.StepsOver.takes_run i j b c items done stack is parts) =
+      subst (λ (k : Kind). By k (state i done stack b) (state j (join done items) stack c)) (sym (run_kind src i (run_within src i j is).1)) (j, items, is, parts, refl)
+  takes_by s t (flat.StepsOver.takes_cdata i e j b done stack is) = subst (λ (k : Kind). By k (state i done stack b) t) (sym (cdata_kind src i is.opens)) (e, j, is)
+  takes_by s t (flat.StepsOver.takes_misc i j b item done stack is) = by_item item is
+    where
+      by_item : (item : Item) → IsMisc src i j item → By (kind_at src i) (state i done stack b) t
+      by_item item (comment _ e _ is) = subst (λ (k : Kind). By k (state i done stack b) t) (sym (comment_kind src i is.opens)) (j, item, comment i e j is)
+      by_item item (instruction _ n e _ is) = subst (λ (k : Kind). By k (state i done stack b) t) (sym (instruction_kind src i is.opens)) (j, item, instruction i n e j is)
+  takes_by s t (flat.StepsOver.takes_empty i j b c tag done stack is) =
+      subst (λ (k : Kind). By k (state i done stack b) t) (sym (tag_kind src i is.begins (name_byte src (i + 1) tag.name tag.name_end is.is_name))) (j, c, tag, true, is, refl)
+  takes_by s t (flat.StepsOver.takes_start i j b c tag done stack is) =
+      subst (λ (k : Kind). By k (state i done stack b) t) (sym (tag_kind src i is.begins (name_byte src (i + 1) tag.name tag.name_end is.is_name))) (j, c, tag, false, is, refl)
+  takes_by s t (flat.StepsOver.takes_end i p j b start tag done before up deep end) =
+      subst (λ (k : Kind). By k (state i done (inside start tag before up) b) t) (sym (end_kind src i end.opens)) (start, tag, before, up, p, j, refl, deep, end)
+
+-- the main text from its root element on
+pub drives_trail : (O : Inclusion) (src : List ℕ) (s u : State) → Drives O src s u → Trail true O src 0 s u
+drives_trail O src s u (chains.arrives _ at_root) = stays s
+drives_trail O src s u (chains.goes _ t _ inner takes rest) = follows s t u takes (drives_trail O src t u rest)
+
+-- a construct of a place stands within the source
+pub place_within : (k : ℕ) (O : Inclusion) (src : List ℕ) (utf8 : IsUtf8 src) (s t : grammar.State) (b c : ℕ) → StepsOver k O src s b t c → s.at < length src
+place_within k O src utf8 s t b c (takes_run j _ _ items inner is parts named) = (run_within src s.at j is).0
+place_within k O src utf8 s t b c (a_section e j _ inner is) = let two = (cdata_bytes src s.at is.opens).0 in omega arith
+place_within k O src utf8 s t b c (a_misc j _ item inner is) = misc_within src utf8 s.at j item is
+place_within k O src utf8 s t b c (an_empty_tag j _ _ x is named) = let begins = is.begins in within src s.at (λ z. omega arith)
+place_within k O src utf8 s t b c (a_start_tag j _ _ x is named) = let begins = is.begins in within src s.at (λ z. omega arith)
+place_within k O src utf8 s t b c (an_end_tag n j _ start x before up stack is) = let two = (end_bytes src s.at is.opens).0 in omega arith
+
+-- the elements that are open around the innermost one
+up_of : Open → Open → Open
+up_of none root = none
+up_of none (inside start tag before up) = up
+
+-- at the root no element is open
+inner_apart : (o p : Open) → is_content 0 o ≡ true → is_root p ≡ true → o ≡ p → ⊥
+inner_apart root p inner at_root same = cc inner
+inner_apart (inside start tag before up) p inner at_root same = let z : is_root (inside start tag before up) ≡ true = ap is_root same ∙ at_root in cc z
+
+-- ---- the way
+
+-- where it ends
+abbrev pub Ends : (k base : ℕ) → List ℕ → State → Type 0
+Ends zero base src e = is_root e.stack ≡ true
+Ends (suc k) base src e = (e.at ≡ length src) × (depth_of e.stack ≡ base)
+
+module _ (opens : ℕ → Inclusion) (es : List Entity) (all : OpensAt opens es) (limit : ℕ) (W : Type 0) where
+  -- A state lies on the way of a text, where k replacement texts are open: up to its end, which is well named, and within the limits if
+  -- the parse is, which is what W says. Where no content stands the root element begins.
+  pub record Reached (k base : ℕ) (src : List ℕ) (s : State) : Type 0 where
+    pub d : ℕ
+    pub deep : d + k ≡ most_deep
+    pub utf8 : IsUtf8 src
+    pub cut : IsCharBoundary src s.at
+    pub end : State
+    pub trail : Trail (is_main k) (opens k) src base s end
+    pub ends : Ends k base src end
+    pub fine : W → IsValidState limit end
+    pub named : AreNamed end.stack end.done
+    pub first : is_content k s.stack ≡ false → (s.at < end.at) × (kind_at src s.at ≡ a_tag)
+
+  not_end : (k base : ℕ) (src : List ℕ) (s e : State) → Ends k base src e → (is_content k s.stack ≡ false → s.at < e.at) → s.at < length src → s ≡ e → ⊥
+  not_end zero base src s e ends first below same =
+      elim (cases_Bool (is_content 0 s.stack)) as (λ x. ⊥) [
+        | inl inner ↦ inner_apart s.stack e.stack inner ends (ap (λ (s : State). s.stack) same)
+        | inr top ↦ (let l = first top in let at : s.at ≡ e.at = ap (λ (s : State). s.at) same in absurd (omega arith))
+      ]
+  not_end (suc k) base src s e ends first below same = let at : s.at ≡ e.at = ap (λ (s : State). s.at) same in let past = ends.0 in absurd (omega arith)
+
+  module _ (k base : ℕ) (src : List ℕ) (s : State) (r : Reached k base src s) where
+    abbrev One : State → State → Type 0
+    One s t = flat.StepsOver (is_main k) (opens k) src base s t
+
+    -- a state on the way is within the limits if its end is
+    trail_fine : (t u : State) → Trail (is_main k) (opens k) src base t u → IsValidState limit u → IsValidState limit t
+    trail_fine t u (stays _) fine = fine
+    trail_fine t u (follows _ v _ takes rest) fine =
+        steps.step_back (how_at limit es r.d k base) (opens k) (all.values r.d k r.deep) (all.contents limit r.d k r.deep) src r.utf8 t v takes (trail_fine v u rest fine)
+
+    -- and its names are in order
+    trail_named : (t u : State) → Trail (is_main k) (opens k) src base t u → AreNamed u.stack u.done → AreNamed t.stack t.done
+    trail_named t u (stays _) named = named
+    trail_named t u (follows _ v _ takes rest) named = takes_named (is_main k) (opens k) src base t v takes (trail_named v u rest named)
+
+    -- the construct that stands there
+    pub record Step : Type 0 where
+      pub to : State
+      pub takes : flat.StepsOver (is_main k) (opens k) src base s to
+      pub fine : W → IsValidState limit to
+      pub named : AreNamed to.stack to.done
+      pub rest : Trail (is_main k) (opens k) src base to r.end
+
+    pub step_there : s.at < length src → Step
+    step_there below =
+        let x = trail_step (is_main k) (opens k) src base s r.end r.trail (not_end k base src s r.end r.ends (λ top. (r.first top).0) below) in
+        record { to = x.0; takes = x.1; fine = λ w. trail_fine x.0 r.end x.2 (r.fine w); named = trail_named x.0 r.end x.2 r.named; rest = x.2 }
+
+    -- of this kind
+    pub there_by : (kind : Kind) → (below : s.at < length src) → kind_at src s.at ≡ kind → By (is_main k) (opens k) src base kind s (step_there below).to
+    there_by kind below is =
+        let there = step_there below in
+        subst (λ (kind : Kind). By (is_main k) (opens k) src base kind s there.to) is (takes_by (is_main k) (opens k) src base s there.to there.takes)
+
+    -- any construct that stands there is the one on the way
+    pub one_step : (t : State) → flat.StepsOver (is_main k) (opens k) src base s t → (below : s.at < length src) → (step_there below).to ≡ t
+    one_step t takes below =
+        let there = step_there below in
+        takes_once (how_at limit es r.d k base).values (opens k) (all.values r.d k r.deep) (all.once k) src r.utf8 base s there.to t there.takes takes
+
+  -- ---- places
+
+  module _ (k base b : ℕ) (src : List ℕ) (s : grammar.State) (r : Reached k base src (state_of s b)) where
+    -- what is taken at a place on the way is a construct of its state
+    pub takes_there : (t : grammar.State) (c : ℕ) → StepsOver k (opens k) src s b t c → flat.StepsOver (is_main k) (opens k) src base (state_of s b) (state_of t c)
+    unfolding up_of
+    takes_there t c (takes_run j _ _ items inner is parts named) = flat.StepsOver.takes_run s.at j b c items s.done s.stack is parts
+    takes_there t c (a_section e j _ inner is) = flat.StepsOver.takes_cdata s.at e j b s.done s.stack is
+    takes_there t c (a_misc j _ item inner is) = flat.StepsOver.takes_misc s.at j b item s.done s.stack is
+    takes_there t c (an_empty_tag j _ _ x is named) = flat.StepsOver.takes_empty s.at j b c x s.done s.stack is
+    takes_there t c (a_start_tag j _ _ x is named) = flat.StepsOver.takes_start s.at j b c x s.done s.stack is
+    takes_there t c (an_end_tag n j _ start x before up stack is) =
+        let below : s.at < length src = let two = (end_bytes src s.at is.opens).0 in omega arith in
+        let there = there_by k base src (state_of s b) r an_end below (end_kind src s.at is.opens) in
+        let same : there.3 ≡ up = ap (up_of root) (sym there.6 ∙ stack) in
+        let deep : base < depth_of up + 1 = subst (λ (up : Open). base < depth_of up + 1) same there.7 in
+        subst (λ (o : Open). flat.StepsOver (is_main k) (opens k) src base (state s.at s.done o b) (state_of t b)) (sym stack) (flat.StepsOver.takes_end s.at n j b start x s.done before up deep is)
+
+    -- and leads on along the way
+    goes_reached : (t : grammar.State) (c : ℕ) → StepsOver k (opens k) src s b t c → is_content k t.stack ≡ true → Reached k base src (state_of t c)
+    goes_reached t c takes inner =
+        let takes' = takes_there t c takes in
+        let below = place_within k (opens k) src r.utf8 s t b c takes in
+        let there = step_there k base src (state_of s b) r below in
+        let same = one_step k base src (state_of s b) r (state_of t c) takes' below in
+        record {
+          d = r.d;
+          deep = r.deep;
+          utf8 = r.utf8;
+          cut = takes_cut (is_main k) (opens k) src base r.utf8 (state_of s b) (state_of t c) takes';
+          end = r.end;
+          trail = subst (λ (t : State). Trail (is_main k) (opens k) src base t r.end) same there.rest;
+          ends = r.ends;
+          fine = r.fine;
+          named = r.named;
+          first = λ top. absurd (true≢false (sym inner ∙ top));
+        }
+
+    -- the run that stands there
+    pub record RunThere (stop : ℕ) : Type 0 where
+      pub left : ℕ
+      pub items : Forest Item
+      pub parts : Parts (is_main k) (opens k) src s.at stop s.at b left items
+      pub fine : W → IsValidState limit (state stop (join s.done items) s.stack left)
+      pub named : AreNamed s.stack (join s.done items)
+
+    pub run_there : s.at < length src → byte src s.at ≢ 60 → (stop : ℕ) × IsCharacterData src s.at stop × RunThere stop
+    run_there below other =
+        let there = step_there k base src (state_of s b) r below in
+        let run = there_by k base src (state_of s b) r a_run below (run_kind src s.at other) in
+        (run.0, run.2, record { left = there.to.left; items = run.1; parts = run.3; fine = λ w. subst (IsValidState limit) run.4 (there.fine w); named = subst (λ (u : State). AreNamed u.stack u.done) run.4 there.named })
+
+    -- where it is read up to a reference, that opens a text there
+    pub opened_there : (stop p c j : ℕ) (front : Forest Item) (t : Replacement) → IsCharacterData src s.at stop → PartsTo (is_main k) (opens k) src s.at stop s.at p b c front → p < stop → (refers : RefersTo es src p j t)
+        → (run : RunThere stop) × OpenedThere (is_main k) (opens k) (all.once k) src s.at stop p refers.n j c run.left front run.items
+    opened_there stop p c j front t is to below refers =
+        let inside = run_within src s.at stop is in
+        let there = run_there inside.0 inside.1 in
+        let run : RunThere stop = subst RunThere (there.1.end ∙ sym is.end) there.2 in
+        (run, parts_front (is_main k) (opens k) (all.once k) src s.at stop s.at p refers.n j b c run.left front run.items to run.parts below refers.is_reference refers.no_character)
+
+    -- so the way leads into that text
+    enters_reached : (stop p c j q : ℕ) (front : Forest Item) (t : Replacement) → IsCharacterData src s.at stop → PartsTo (is_main k) (opens k) src s.at stop s.at p b c front → p < stop → RefersTo es src p j t → MayOpen k c q
+        → Reached (suc k) (depth_of s.stack) t.source (state t.start (join s.done front) s.stack q)
+    enters_reached stop p c j q front t is to below refers may =
+        let there = opened_there stop p c j front t is to below refers in
+        let run = there.0 in let found = there.1 in
+        let x = all.content k c found.left (slice src (p + 1) refers.n) found.opened found.opens in
+        let text = all.texts (slice src (p + 1) refers.n) t refers.found in
+        let text_is : x.0 ≡ t = same_text es (slice src (p + 1) refers.n) x.0 t x.3 refers.found in
+        let left_is : x.1 ≡ q = may_once k c x.1 q x.4 may in
+        let content : Content false (opens (suc k)) t.source t.start (length t.source) q x.2 found.opened =
+        subst (λ (q : ℕ). Content false (opens (suc k)) t.source t.start (length t.source) q x.2 found.opened) left_is
+        (subst (λ (t : Replacement). Content false (opens (suc k)) t.source t.start (length t.source) x.1 x.2 found.opened) text_is x.5) in
+        let done = join s.done front in
+        let end : State = state (length t.source) (join done found.opened) s.stack x.2 in
+        let split : join s.done run.items ≡ join (join done found.opened) found.rest =
+        ap (join s.done) found.all ∙ sym (join_assoc s.done front (join found.opened found.rest)) ∙ sym (join_assoc done found.opened found.rest) in
+        let fine : W → IsValidState limit (state stop (join (join done found.opened) found.rest) s.stack run.left) = λ w. subst (λ (f : Forest Item). IsValidState limit (state stop f s.stack run.left)) split (run.fine w) in
+        let named : AreNamed s.stack (join (join done found.opened) found.rest) = subst (λ (f : Forest Item). AreNamed s.stack f) split run.named in
+        let chain = flat.text_complete (opens (suc k)) t.source t.start q x.2 done found.opened s.stack content in
+        record {
+          d = most_deep - suc k;
+          deep = let more = may_deep k c q may in omega arith;
+          utf8 = text.0;
+          cut = text.1;
+          end = end;
+          trail = chain_trail false (opens (suc k)) t.source (depth_of s.stack) (state t.start done s.stack q) end chain;
+          ends = (refl, refl);
+          fine = λ w. fine_before limit (length t.source) stop x.2 run.left (join done found.opened) found.rest s.stack (fine w);
+          named = named_before s.stack (join done found.opened) found.rest named;
+          first = λ top. cc top;
+        }
+
+  -- each place lies on the way
+  pub place_reached : (text : List ℕ) (Root : ℕ → Forest Item → Type 0) → ((p : ℕ) (items : Forest Item) → Root p items → Reached 0 0 text (state p items root 255))
+      → (k base b : ℕ) (src : List ℕ) (s : grammar.State) → ContentPoint opens es text Root k base src b s → Reached k base src (state_of s b)
+  place_reached text Root at_root k base b src s (begins p items is) = at_root p items is
+  place_reached text Root at_root k base b src s (goes _ _ c _ _ r _ place takes inner deep) = goes_reached k base c src r (place_reached text Root at_root k base c src r place) s b takes inner
+  place_reached text Root at_root k base b src s (enters l other c e _ stop p j source r front t place inner is to named below refers may) =
+      enters_reached l other c source r (place_reached text Root at_root l other c source r place) stop p e j b front t is to below refers may

@@ -1,5 +1,0 @@
-use Rattle.rox_theory.proofs.FaultSpans.{plain_names}
-use Rattle.rox_theory.proofs.faults.names_are_text.Goals as goal
-
-pub returns : goal.returns
-returns c = plain_names

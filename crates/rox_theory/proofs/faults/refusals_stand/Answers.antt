@@ -1,5 +1,0 @@
-use Rattle.rox_theory.proofs.FaultRefused.{refusal_here, refusal_there}
-use Rattle.rox_theory.proofs.faults.refusals_stand.Goals as goal
-
-pub returns : goal.returns
-returns c = record { own = refusal_here; other = refusal_there }
