@@ -74,7 +74,7 @@ beginning_parts limit src s h go = bind_ok (prolog src (after_bom src)) _ s h go
 beginning_stops : (limit : ℕ) (allow : Bool) (src : List ℕ) (f : Fault) → beginning limit src ≡ Err f → Stops (whole_run limit allow src) [] (here f)
 beginning_stops limit allow src f h = bind_err (prolog src (after_bom src)) _ f h (λ e. prolog_stops limit allow src f e) (λ i is e. misc_stops limit allow src i is f e)
 
-pub beginning_fails : (allows : Request → Reply → Type 0) (limit : ℕ) (allow : Bool) (src : List ℕ) (e : Failure) → refusing.Stops e (lifted (beginning limit src))
+pub beginning_fails : (allows : Request → Reply → Type 0) (limit : ℕ) (allow : Bool) (src : List ℕ) (e : Failure) → refusing.IsFailure e (lifted (beginning limit src))
     → StopsBy allows (whole_run limit allow src) [] (of_failure e)
 beginning_fails allows limit allow src failure.Memory h = tt
 beginning_fails allows limit allow src (failure.Fault f) h = beginning_stops limit allow src f (lifted_err (beginning limit src) f h)
@@ -87,7 +87,7 @@ told limit src s h = ap (begins_doctype src) h
 
 -- what follows the declaration has a fault
 pub behind_fails : (allows : Request → Reply → Type 0) (limit : ℕ) (allow : Bool) (src : List ℕ) (d e : Dtd) (asked : List Asked) (g : Failure) → at word.DoctypeStart src d.state.at ≡ true → allow ≡ true
-    → Answered (step_run limit src d) asked e → refusing.Stops g (lifted (misc limit (length src) src e.state)) → StopsBy allows (doctype_run limit allow src d) asked (of_failure g)
+    → Answered (step_run limit src d) asked e → refusing.IsFailure g (lifted (misc limit (length src) src e.state)) → StopsBy allows (doctype_run limit allow src d) asked (of_failure g)
 behind_fails allows limit allow src d e asked failure.Memory is may read h = tt
 behind_fails allows limit allow src d e asked (failure.Fault f) is may read h = behind_stops limit allow src d is may asked e f read (lifted_err (misc limit (length src) src e.state) f h)
 

@@ -13,7 +13,7 @@ use Rattle.rox_tables.specs.Scopes.{prefix_view, entries, ArePlaces, others}
 use Rattle.std.specs.BTreeMap.{BTreeMap, get_by}
 use Rattle.std.specs.Cmp.Lexicographic.{slice_cmp}
 use Rattle.std.specs.Ordering.{nat_cmp}
-use Rattle.rox_tables.specs.Bindings.{option_joined, found_at, bound_place, place_in, namespace_at, restored, IsBound, Stacked, AreBindingsOf, FindsBinding, is_innermost}
+use Rattle.rox_tables.specs.Bindings.{option_joined, found_at, bound_place, place_in, bound_namespace, restored, IsBound, Stacked, AreBindingsOf, FindsBinding, is_innermost}
 use Rattle.rox_tables.specs.declared.bindings.Binding.{Binding}
 use Rattle.rox_tables.specs.declared.bindings.ShadowedBinding.{ShadowedBinding}
 use Rattle.rox_tables.specs.declared.bindings.ScopeFrame.{ScopeFrame}
@@ -31,11 +31,11 @@ Places = Option (List ℕ) → Option ℕ
 
 restored-append : (rs : List ShadowedBinding) (r : ShadowedBinding) (f : Places) (p : Option (List ℕ)) → restored (rs ++ r ∷ []) f p ≡ restored rs (restored (r ∷ []) f) p
 restored-append [] r f p = refl
-restored-append (x ∷ rs) r f p = ap (λ (v : Option ℕ). cond (same_prefix (prefix_view x.prefix) p) (namespace_at x.before) v) (restored-append rs r f p)
+restored-append (x ∷ rs) r f p = ap (λ (v : Option ℕ). cond (same_prefix (prefix_view x.prefix) p) (bound_namespace x.before) v) (restored-append rs r f p)
 
 restored-same : (rs : List ShadowedBinding) (f g : Places) (p : Option (List ℕ)) → f p ≡ g p → restored rs f p ≡ restored rs g p
 restored-same [] f g p h = h
-restored-same (x ∷ rs) f g p h = ap (λ (v : Option ℕ). cond (same_prefix (prefix_view x.prefix) p) (namespace_at x.before) v) (restored-same rs f g p h)
+restored-same (x ∷ rs) f g p h = ap (λ (v : Option ℕ). cond (same_prefix (prefix_view x.prefix) p) (bound_namespace x.before) v) (restored-same rs f g p h)
 
 bound-same : (names : List NamespaceDecl) (f g : Places) (ds : List NamespaceDecl) → ((p : Option (List ℕ)) → f p ≡ g p) → IsBound names f ds → IsBound names g ds
 bound-same names f g ds same h = record {
@@ -45,7 +45,7 @@ bound-same names f g ds same h = record {
 
 -- ---- one more is replaced
 
-replaced_one : (r : ShadowedBinding) (f g : Places) (place : Option ℕ) (p : Option (List ℕ)) → namespace_at r.before ≡ f (prefix_view r.prefix)
+replaced_one : (r : ShadowedBinding) (f g : Places) (place : Option ℕ) (p : Option (List ℕ)) → bound_namespace r.before ≡ f (prefix_view r.prefix)
     → g p ≡ cond (same_prefix (prefix_view r.prefix) p) place (f p) → restored (r ∷ []) g p ≡ f p
 replaced_one r f g place p before is = by_cases (same_prefix (prefix_view r.prefix) p) refl
   where
@@ -54,7 +54,7 @@ replaced_one r f g place p before is = by_cases (same_prefix (prefix_view r.pref
     by_cases false e = rw e (rw e at is)
 
 pub stacked_put : (names : List NamespaceDecl) (lists : List (List NamespaceDecl)) (es : List ShadowedBinding) (r : ShadowedBinding) (f g : Places) (place : Option ℕ) (least : ℕ) (ls : List ScopeFrame)
-    → namespace_at r.before ≡ f (prefix_view r.prefix) → ((p : Option (List ℕ)) → g p ≡ cond (same_prefix (prefix_view r.prefix) p) place (f p))
+    → bound_namespace r.before ≡ f (prefix_view r.prefix) → ((p : Option (List ℕ)) → g p ≡ cond (same_prefix (prefix_view r.prefix) p) place (f p))
     → Stacked names lists es f least ls → Stacked names lists (es ++ r ∷ []) g least ls
 stacked_put names lists es r f g place least [] before is h = tt
 stacked_put names lists es r f g place least (l ∷ ls) before is (low, high, within, bound, rest) =
@@ -67,7 +67,7 @@ stacked_put names lists es r f g place least (l ∷ ls) before is (low, high, wi
 -- ---- the last one is taken back
 
 pub stacked_back : (names : List NamespaceDecl) (lists : List (List NamespaceDecl)) (es : List ShadowedBinding) (r : ShadowedBinding) (f g : Places) (least : ℕ) (ls : List ScopeFrame)
-    → ((p : Option (List ℕ)) → g p ≡ cond (same_prefix (prefix_view r.prefix) p) (namespace_at r.before) (f p)) → AllByRecursion (λ l. l.count ≤ length es) ls
+    → ((p : Option (List ℕ)) → g p ≡ cond (same_prefix (prefix_view r.prefix) p) (bound_namespace r.before) (f p)) → AllByRecursion (λ l. l.count ≤ length es) ls
     → Stacked names lists (es ++ r ∷ []) f least ls → Stacked names lists es g least ls
 stacked_back names lists es r f g least [] is few h = tt
 stacked_back names lists es r f g least (l ∷ ls) is (here, few) (low, high, within, bound, rest) =
@@ -127,14 +127,14 @@ pub found_set : (default place : Option Binding) (old new : BTreeMap (Bor (List 
 found_set default place old new prefix None h = refl
 found_set default place old new prefix (Some q) h = ap option_joined (h q) ∙ chosen (bytes_eq prefix q) place (get_by (λ k. slice_cmp nat_cmp q k.now) old)
 
-pub namespace_chosen : (b : Bool) (place o : Option Binding) → namespace_at (cond b place o) ≡ cond b (namespace_at place) (namespace_at o)
+pub namespace_chosen : (b : Bool) (place o : Option Binding) → bound_namespace (cond b place o) ≡ cond b (bound_namespace place) (bound_namespace o)
 namespace_chosen true place o = refl
 namespace_chosen false place o = refl
 
 -- so the namespaces of others stay
 pub found_put : (old new : PrefixBindings) (prefix : Option (List ℕ)) (place : Option Binding) → ((p : Option (List ℕ)) → place_in new p ≡ cond (same_prefix prefix p) place (place_in old p))
-    → (p : Option (List ℕ)) → bound_place new p ≡ cond (same_prefix prefix p) (namespace_at place) (bound_place old p)
-found_put old new prefix place h p = ap namespace_at (h p) ∙ namespace_chosen (same_prefix prefix p) place (place_in old p)
+    → (p : Option (List ℕ)) → bound_place new p ≡ cond (same_prefix prefix p) (bound_namespace place) (bound_place old p)
+found_put old new prefix place h p = ap bound_namespace (h p) ∙ namespace_chosen (same_prefix prefix p) place (place_in old p)
 
 -- the last of some
 pub last_split : (xs : List ScopeFrame) (x : ScopeFrame) → 0 < length xs → x ≡ get_or xs (length xs - 1) x → xs ≡ take (length xs - 1) xs ++ x ∷ []

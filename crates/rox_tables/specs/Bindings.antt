@@ -27,16 +27,16 @@ abbrev pub place_in : PrefixBindings → Option (List ℕ) → Option Binding
 place_in x prefix = found_at x.default x.prefixes prefix
 
 -- its place in the table of namespaces
-abbrev pub namespace_at : Option Binding → Option ℕ
-namespace_at place = option_map (λ p. p.namespace) place
+abbrev pub bound_namespace : Option Binding → Option ℕ
+bound_namespace place = option_map (λ p. p.namespace) place
 
 abbrev pub bound_place : PrefixBindings → Option (List ℕ) → Option ℕ
-bound_place x prefix = namespace_at (place_in x prefix)
+bound_place x prefix = bound_namespace (place_in x prefix)
 
 -- the places before these were replaced, the first of them first
 abbrev pub restored : List ShadowedBinding → (Option (List ℕ) → Option ℕ) → Option (List ℕ) → Option ℕ
 restored [] places prefix = places prefix
-restored (r ∷ rs) places prefix = if same_prefix (prefix_view r.prefix) prefix then namespace_at r.before else restored rs places prefix
+restored (r ∷ rs) places prefix = if same_prefix (prefix_view r.prefix) prefix then bound_namespace r.before else restored rs places prefix
 
 -- these are the places of what is listed
 pub record IsBound (names : List NamespaceDecl) (places : Option (List ℕ) → Option ℕ) (listed : List NamespaceDecl) : Type 0 where

@@ -49,7 +49,7 @@ fn found<'input>(
     span: Span,
     start: usize,
 ) -> Result<Cursor<'input>, Fault>
-    ensures { (es : List Entity) → AreDeclared es how.entry.entities.now → FindsEntity result (spec.found (text_of es name.now) start span) }
+    ensures { (es : List Entity) → AreDeclared es how.entry.entities.now → FindsEntity result (spec.entity_bit (text_of es name.now) start span) }
 {
     match how.entities.get(name) {
         Some(text) => Ok(text),

@@ -35,5 +35,5 @@ returns-clause-more c = λ done a seen space local.
     let names = map namespace_view c.args.names.now in
     sees_more names c.args.seen.now.keys c.is_repeated_name.new.seen.keys done a (c.args.taken.now.name.local, c.namespace_uri.result) seen
     (c.in_ok-is_repeated_name.ensures.more c.if-branch.false)
-    (c.namespace_uri.ensures ∙ ap (Rattle.rox_tables.specs.Rows.namespace_of names) (sym space))
+    (c.namespace_uri.ensures ∙ ap (Rattle.rox_tables.specs.Rows.attribute_uri names) (sym space))
     (ap (λ (p : Rattle.std.proofs.Common.Bor (Rattle.std.proofs.Common.List Rattle.std.proofs.Common.ℕ)). p.now) (sym local))

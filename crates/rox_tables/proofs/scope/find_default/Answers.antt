@@ -1,6 +1,6 @@
 use Rattle.std.proofs.Common.{Option, None, length, sym, ◌∙◌, subst}
 use Rattle.rox_tables.specs.Rows.{OptionWithin}
-use Rattle.rox_tables.specs.Bindings.{LooksWithin, namespace_at, places_view}
+use Rattle.rox_tables.specs.Bindings.{LooksWithin, bound_namespace, places_view}
 use Rattle.rox_tables.specs.declared.bindings.Binding.{Binding}
 use Rattle.rox_tables.proofs.scope.find_default.Goals as goal
 
@@ -8,4 +8,4 @@ pub returns-in-Some-get-clause-within : goal.returns-in-Some-get-clause-within
 returns-in-Some-get-clause-within c =
     let n = length c.args.names.now in
     let all = subst (λ o. LooksWithin n (places_view o) c.args.present.now) c.in-None.is c.requires in
-    subst (λ (o : Option Binding). OptionWithin n (namespace_at o)) (sym c.get.ensures ∙ c.in-Some-get.is) (all None)
+    subst (λ (o : Option Binding). OptionWithin n (bound_namespace o)) (sym c.get.ensures ∙ c.in-Some-get.is) (all None)

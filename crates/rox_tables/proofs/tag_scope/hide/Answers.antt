@@ -2,7 +2,7 @@ use Rattle.std.proofs.Common.{◌≡◌, ◌<◌, true, false, length, map, get_
 use Rattle.rox_grammar.specs.Tree.{same_prefix, is_declared}
 use Rattle.rox_tables.specs.Rows.{namespace_view, namespace_at}
 use Rattle.rox_tables.specs.Scopes.{prefix_view, entries, places_in}
-use Rattle.rox_tables.specs.Bindings.{namespace_at}
+use Rattle.rox_tables.specs.Bindings.{bound_namespace}
 use Rattle.rox_tables.proofs.Hiding.{unlisted_none, unlisted_one}
 use Rattle.rox_tables.proofs.Leaves.{cut}
 use Rattle.rox_tables.proofs.Ropes.{count_places}
@@ -15,7 +15,7 @@ returns-in_default-clause-value c =
     let ds = entries names (places_in c.args.listed.now c.args.scopes.now.items c.args.scope) in
     let p = prefix_view c.args.prefix in
     same_listed names c.args.listed.now c.args.scopes.now.items c.args.scope _ c.requires.scopes c.requires.within
-    (sym (unlisted_none p ds (c.requires.absent (ap namespace_at (sym c.in_default.ensures)))))
+    (sym (unlisted_none p ds (c.requires.absent (ap bound_namespace (sym c.in_default.ensures)))))
 
 pub returns-in_default-index_of-clause-value : goal.returns-in_default-index_of-clause-value
 returns-in_default-index_of-clause-value c =

@@ -1,5 +1,5 @@
 use Rattle.std.proofs.Common.{◌≡◌, ◌++◌, ◌∷◌, [], ap, ◌∙◌}
-use Rattle.rox_tables.specs.Bindings.{bound_place, namespace_at}
+use Rattle.rox_tables.specs.Bindings.{bound_place, bound_namespace}
 use Rattle.rox_tables.specs.declared.bindings.ShadowedBinding.{ShadowedBinding}
 use Rattle.rox_tables.proofs.Presenting.{stacked_put, keeps_by, found_put}
 use Rattle.rox_tables.proofs.bindings.PrefixBindings.put.Goals as goal
@@ -12,4 +12,4 @@ returns-clause-keeps c = λ names lists h.
     let entries : new.replaced.items ≡ old.replaced.items ++ r ∷ [] = ap (λ v. v.items) c.in_ok-set.ensures.replaced ∙ c.in_ok-push.ensures.items in
     let layers : new.layers.items ≡ old.layers.items = ap (λ v. v.items) c.in_ok-set.ensures.layers in
     keeps_by names lists new (old.replaced.items ++ r ∷ []) old.layers.items entries layers
-    (stacked_put names lists old.replaced.items r (bound_place old) (bound_place new) (namespace_at c.args.place) 0 old.layers.items (ap namespace_at c.get-before.ensures) (found_put old new _ c.args.place c.in_ok-set.ensures.present) h.stacked)
+    (stacked_put names lists old.replaced.items r (bound_place old) (bound_place new) (bound_namespace c.args.place) 0 old.layers.items (ap bound_namespace c.get-before.ensures) (found_put old new _ c.args.place c.in_ok-set.ensures.present) h.stacked)
