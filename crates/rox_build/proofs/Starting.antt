@@ -32,7 +32,7 @@ use Rattle.rox_build.specs.ElementRow.{IsElement, Tagged, scope_in_tables}
 pub holds_nothing : (names : List NamespaceDecl) (listed : List ℕ) (taken : List UnresolvedAttribute) → length names ≤ most_pairs → taken ≡ []
     → HoldsTag names listed names listed false taken (record { own = []; attributes = [] })
 holds_nothing names listed taken few none = record {
-  is_namespace_decl = record { names_are = refl; few = few; xml_is = refl; mine = []; listed_are = sym (append-nil listed); places = tt; same = refl };
+  declares = record { names_are = refl; few = few; xml_is = refl; mine = []; listed_are = sym (append-nil listed); places = tt; same = refl };
   attributes = ap (map unresolved_view) none;
 }
 
@@ -102,7 +102,7 @@ pub tagged : (o a s e : ElementTables) (t : StartTag) (above : List NamespaceDec
     → scope_in_tables s scope ≡ listed above h.own → e.namespaces ≡ s.namespaces → e.listed ≡ s.listed → e.scopes ≡ s.scopes → IsElement s e t.element (scope_in_tables s scope) name (map unresolved_view taken)
     → HasBindings s → e.present ≡ s.present → PrefixesOnce (scope_in_tables s scope) → Tagged o e t above (record { name = name; name_end = n; declarations = h.own; attributes = h.attributes })
 tagged o a s e t above name n h xml taken scope is ends same hold few names attributes before (more, lists_are) places stretches lists names' listed' scopes' k known present' once =
-    let d = hold.is_namespace_decl in
+    let d = hold.declares in
     let kept = attributes ∙ same in
     let after : lists_in e ≡ lists_in s =
     ap (λ v. lists_of (map namespace_view v.items.items) e.listed.items e.scopes.items) names'

@@ -47,7 +47,7 @@ pub took_declaration : (how : Values) (known : List NamespaceDecl) (before : Lis
     (v : ReadText) (a : Attribute) → value_at how.main how.entities how.opener src raw.value_start raw.value_end left ≡ Ok (v, l) → attribute_with raw v ≡ a → is_namespace_decl a.name ≡ true → map unresolved_view taken ≡ h.attributes
     → Declared known before names listed (Ok xml) h (declared known a h) → AddsAttribute known before names listed taken (Ok (xml, l)) (one_more how known src raw left h)
 took_declaration how known before names listed xml taken src raw left l h v a is view dec same (own, read, d) =
-    (record { own = own; attributes = h.attributes }, one_is how known src raw left l h v a is view ∙ rw dec (ap (kept_left l) read), record { is_namespace_decl = d; attributes = same })
+    (record { own = own; attributes = h.attributes }, one_is how known src raw left l h v a is view ∙ rw dec (ap (kept_left l) read), record { declares = d; attributes = same })
 
 pub refused_declaration : (how : Values) (known : List NamespaceDecl) (src : List ℕ) (raw : RawAttribute) (left l : ℕ) (h : TagSoFar) (v : ReadText) (a : Attribute) (e : Failure)
     → value_at how.main how.entities how.opener src raw.value_start raw.value_end left ≡ Ok (v, l) → attribute_with raw v ≡ a → is_namespace_decl a.name ≡ true
@@ -71,7 +71,7 @@ took_attribute how known before names listed xml taken kept src raw left l h v t
     let other : is_namespace_decl (unresolved_view t).name ≡ false = ap (λ n. is_namespace_decl (name_view n)) n ∙ dec in (
       record { own = h.own; attributes = h.attributes ++ unresolved_view t ∷ [] },
       one_is how known src (attribute_view raw) left l h v (unresolved_view t) is view ∙ rw other refl,
-      record { is_namespace_decl = hold.is_namespace_decl; attributes = ap (map unresolved_view) push ∙ map-append unresolved_view taken (t ∷ []) ∙ ap (λ xs. xs ++ unresolved_view t ∷ []) hold.attributes },
+      record { declares = hold.declares; attributes = ap (map unresolved_view) push ∙ map-append unresolved_view taken (t ∷ []) ∙ ap (λ xs. xs ++ unresolved_view t ∷ []) hold.attributes },
     )
 
 -- ---- what a turn gives

@@ -14,7 +14,7 @@ use Rattle.rox_values.specs.declared.parse_error.ParseError.{ParseError}
 
 -- what is held of the whole tag so far: its declarations are in the tables, and its attributes wait in a buffer
 pub record HoldsTag (known : List NamespaceDecl) (before : List ℕ) (names : List NamespaceDecl) (listed : List ℕ) (xml : Bool) (taken : List UnresolvedAttribute) (h : TagSoFar) : Type 0 where
-  pub is_namespace_decl : Declares known before names listed xml h.own
+  pub declares : Declares known before names listed xml h.own
   pub attributes : map unresolved_view taken ≡ h.attributes
 
 -- what one more attribute or declaration makes of that, and how many replacement texts may be opened behind it

@@ -132,6 +132,6 @@ module _ (src to : List ℕ) (m : ℕ) (f : Fronts src to m) where
         last = is.last;
         attributes = a.0;
         ends = tag_ends_cut is.last is_empty j a.1 fits is.ends;
-        is_namespace_decl = is.is_namespace_decl;
+        declares = is.declares;
         has = is.has;
       }

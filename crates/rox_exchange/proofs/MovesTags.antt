@@ -143,6 +143,6 @@ module _ (m : Move) (src to : List ℕ) where
         last = moved m is.last;
         attributes = attributes_go main Includes t.name_end (moved m t.name_end) is.last b c is.written g is.attributes;
         ends = tag_ends_move is.last (moved m is.last) is_empty j h is.ends;
-        is_namespace_decl = is.is_namespace_decl ∙ sym (declarations_move m is.written);
+        declares = is.declares ∙ sym (declarations_move m is.written);
         has = ap (map (moved_written m)) is.has ∙ sym (attributes_move m is.written);
       }

@@ -191,7 +191,7 @@ module _ (how : Values) (O : Inclusion) (agrees : AgreesValue how.entities O how
 
     -- what it declares in front, and then
     all_declared : (as' rest : List Attribute) → is.written ≡ as' ++ rest → tag.declarations ≡ namespace_decls_of as' ++ namespace_decls_of rest
-    all_declared as' rest same = is.is_namespace_decl ∙ ap namespace_decls_of same ∙ declared_both as' rest
+    all_declared as' rest same = is.declares ∙ ap namespace_decls_of same ∙ declared_both as' rest
 
     -- a name with no white space in front
     space_apart : (p c : ℕ) (rest : List Attribute) (f : Fault) → IsCharBoundary src p → Next how.main O src p empty j c rest → byte src p ≢ 47 → byte src p ≢ 62 → IsMissing src p a_space f → ⊥
@@ -252,7 +252,7 @@ module _ (how : Values) (O : Inclusion) (agrees : AgreesValue how.entities O how
         → ◌≡◌ {A = Tag} (record { name = to.name; name_end = to.name_end; declarations = namespace_decls_of as'; attributes = plain_attributes_of as' }) tag
     same_tag p k c x as' to ends =
         let t : Tag = record { name = to.name; name_end = to.name_end; declarations = namespace_decls_of as'; attributes = plain_attributes_of as' } in
-        let is' : IsTag how.main O src s.at k b c x t = record { begins = is.begins; is_name = to.is_name; written = as'; last = p; attributes = to.attributes; ends = ends; is_namespace_decl = refl; has = refl } in
+        let is' : IsTag how.main O src s.at k b c x t = record { begins = is.begins; is_name = to.is_name; written = as'; last = p; attributes = to.attributes; ends = ends; declares = refl; has = refl } in
         (one_tag how O agrees src utf8 s.at k j b c e t tag x empty is' is).1
 
     -- so no fault of a start tag stands in it but those of the limits: rows 1 to 6, 9, 10, 13 to 15, 19 to 24, 31

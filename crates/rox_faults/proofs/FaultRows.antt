@@ -136,7 +136,7 @@ module _ (src : List ℕ) (utf8 : IsUtf8 src) where
   unfolding instruction_at name_at
   instruction_fails i f opens h =
       chosen (at word.XmlDeclStart src i) _ _ _ h
-      (λ is_namespace_decl h. let is : fault.UnexpectedDeclaration i ≡ f = cc in subst (InMisc src i) is (a_declaration is_namespace_decl))
+      (λ declares h. let is : fault.UnexpectedDeclaration i ≡ f = cc in subst (InMisc src i) is (a_declaration declares))
       (λ none h. bind_err (name_at src (i + 2)) _ f h
       (λ bad. instruction_lacks (i + 2) a_name f none (due.DueInPI.its_target opens) (name_fails (i + 2) f bad))
       (λ name read h.

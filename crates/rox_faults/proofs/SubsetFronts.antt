@@ -173,7 +173,7 @@ module _ (src : List ℕ) where
         let one = definition_once x.parameter x.d x.e y.e a b c d x.text y.text x.definition other same in (
           one.0,
           x.next ∙ ap (λ (e : ℕ). spaces_end src e + 1) end ∙ sym y.next,
-          x.is_namespace_decl ∙ ap (λ (n : ℕ). entry (slice src n x.m) x.text) at.1 ∙ ap (λ (m : ℕ). entry (slice src y.n m) x.text) at.2 ∙ ap (entry (slice src y.n y.m)) one.1 ∙ sym y.is_namespace_decl,
+          x.declares ∙ ap (λ (n : ℕ). entry (slice src n x.m) x.text) at.1 ∙ ap (λ (m : ℕ). entry (slice src y.n m) x.text) at.2 ∙ ap (entry (slice src y.n y.m)) one.1 ∙ sym y.declares,
           one.2,
         )
 

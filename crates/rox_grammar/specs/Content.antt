@@ -139,7 +139,7 @@ pub record IsTag (main : Bool) (Includes : Inclusion) (src : List ℕ) (i j b c 
   pub last : ℕ
   pub attributes : Attributes main Includes src t.name_end last b c written
   pub ends : TagEnds src last empty j
-  pub is_namespace_decl : t.declarations ≡ namespace_decls_of written
+  pub declares : t.declarations ≡ namespace_decls_of written
   pub has : t.attributes ≡ plain_attributes_of written
 
 -- a comment or a processing instruction, as an item. Unlike in 2.11 its carriage returns are kept.

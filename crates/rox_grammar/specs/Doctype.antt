@@ -98,7 +98,7 @@ pub record IsEntityDeclaration (src : List ℕ) (i j : ℕ) (asked : List Asked)
   pub e : ℕ
   pub text : Option Replacement
   pub definition : IsDefinition src parameter d e asked text
-  pub is_namespace_decl : declared ≡ entry (slice src n m) text
+  pub declares : declared ≡ entry (slice src n m) text
   pub closes : byte src (spaces_end src e) ≡ 62
   pub next : j ≡ spaces_end src e + 1
 

@@ -59,7 +59,7 @@ subset_lies text i j items asked es (doctype.Subset.space _ _ _ _ _ is more) nam
 subset_lies text i j items asked es (doctype.Subset.an_item _ k _ item rest _ _ is more) name t found = subset_lies text k j rest asked es more name t found
 subset_lies text i j items asked es (doctype.Subset.skipped_declaration _ k _ _ _ _ is more) name t found = subset_lies text k j items asked es more name t found
 subset_lies text i j items asked es (doctype.Subset.an_entity _ k _ _ first later one others is more) name t found =
-    let found' : text_of (entry (slice text is.n is.m) is.text ++ others) name ≡ Some t = subst (λ (own : List Entity). text_of (own ++ others) name ≡ Some t) is.is_namespace_decl found in
+    let found' : text_of (entry (slice text is.n is.m) is.text ++ others) name ≡ Some t = subst (λ (own : List Entity). text_of (own ++ others) name ≡ Some t) is.declares found in
     elim (of_first (slice text is.n is.m) is.text others name t found') as (λ q. Lies text (first ++ later) t.source) [
       | inl here ↦ lies_among text first (first ++ later) t.source (λ x. Contains-append_left first later x) (definition_lies text is.parameter is.d is.e first is.text t is.definition here)
       | inr behind ↦ lies_among text later (first ++ later) t.source (λ x. Contains-append_right first later x) (subset_lies text k j items later others more name t behind)

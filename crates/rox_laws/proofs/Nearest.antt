@@ -124,7 +124,7 @@ module _ (rows : List (List NamespaceDecl)) (p : Option (List ℕ)) where
     pub farther : List ℕ
     pub way : ids ≡ nearer ++ declarer ∷ farther
     pub none_nearer : All Silent nearer
-    pub is_namespace_decl : Contains (row rows declarer) (record { prefix = p; uri = u })
+    pub declares : Contains (row rows declarer) (record { prefix = p; uri = u })
 
   first_found : (u : List ℕ) (ids : List ℕ) → nearest p (map (row rows) ids) ≡ Some u → First u ids
   first_found u [] e = cc e
@@ -137,7 +137,7 @@ module _ (rows : List (List NamespaceDecl)) (p : Option (List ℕ)) where
         farther = h.farther;
         way = ap (λ ids. i ∷ ids) h.way;
         none_nearer = All-cons Silent i h.nearer n h.none_nearer;
-        is_namespace_decl = h.is_namespace_decl;
+        declares = h.declares;
       }
 
       by_test : (nearest p (map (row rows) ids) ≡ Some u → First u ids) → (x : Bool) → is_declared p (row rows i) ≡ x → First u (i ∷ ids)
@@ -147,7 +147,7 @@ module _ (rows : List (List NamespaceDecl)) (p : Option (List ℕ)) where
         farther = ids;
         way = refl;
         none_nearer = All-nil Silent;
-        is_namespace_decl = says_declared p u (row rows i) (rw s at e);
+        declares = says_declared p u (row rows i) (rw s at e);
       }
       by_test rest false s = later s (rest (rw s at e))
 
@@ -181,8 +181,8 @@ found_in n tops w id p u e x =
     let all : All (AreDeclarable []) rows = All-cons (AreDeclarable []) [] (declared_in tops) tt (rows_declarable [] tops w) in
     let agree = follows n tops id e p x in (
       (λ found. let h = first_found rows p u (upwards tree id) (sym agree ∙ found) in
-          record { nearer = h.nearer; declarer = h.declarer; farther = h.farther; way = h.way; none_nearer = h.none_nearer; is_namespace_decl = h.is_namespace_decl }),
-      (λ h. agree ∙ (ap (λ (ids : List ℕ). nearest p (map (row rows) ids)) h.way ∙ first_is rows p all u h.nearer h.declarer h.farther h.none_nearer h.is_namespace_decl)),
+          record { nearer = h.nearer; declarer = h.declarer; farther = h.farther; way = h.way; none_nearer = h.none_nearer; declares = h.declares }),
+      (λ h. agree ∙ (ap (λ (ids : List ℕ). nearest p (map (row rows) ids)) h.way ∙ first_is rows p all u h.nearer h.declarer h.farther h.none_nearer h.declares)),
     )
 
 -- and it lists none where none is declared

@@ -253,10 +253,10 @@ module _ (src : List ℕ) (utf8 : IsUtf8 src) where
   tag_placed main O s b f le (rows.InTag.no_space p c as' _ to before no_slash no_end lacks) = lacks_placed src p a_space f tt lacks
   tag_placed main O s b f le (rows.InTag.not_closed p c as' _ to slash lacks) = lacks_placed src (spaces_end src p + 1) (a_byte 62) f tt lacks
   tag_placed main O s b f le (rows.InTag.in_pair p c q as' t _ to space before no_slash no_end is lacks) = lacks_placed src q t f (pair_fits (spaces_end src p) q t (omega arith) is) lacks
-  tag_placed main O s b f le (rows.InTag.ill_declared p c d j as' a _ to space is is_namespace_decl ill) =
+  tag_placed main O s b f le (rows.InTag.ill_declared p c d j as' a _ to space is declares ill) =
       let there = qname_within src (spaces_end src p) a.name a.name_end is.is_name in
       declared_placed _ a f (omega (arith, is.starts)) ill
-  tag_placed main O s b f le (rows.InTag.too_many_pairs p c d j as' a to space is is_namespace_decl may first over) = tt
+  tag_placed main O s b f le (rows.InTag.too_many_pairs p c d j as' a to space is declares may first over) = tt
   tag_placed main O s b f le (rows.InTag.too_many_attributes p c j empty as' to ends over) = tt
   tag_placed main O s b f le (rows.InTag.ill_named p c j empty as' _ to ends few ill) =
       named_placed s.at _ to.name (plain_attributes_of as') f (omega arith) (attributes_start as' (written_start main O to.name_end p b c as' to.attributes)) ill

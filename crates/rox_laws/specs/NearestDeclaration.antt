@@ -38,7 +38,7 @@ pub record IsNearest (tops : Forest Item) (tree : Forest Node) (id : ℕ) (prefi
   pub farther : List ℕ
   pub way : upwards tree id ≡ nearer ++ declarer ∷ farther
   pub none_nearer : NoneDeclares tops prefix nearer
-  pub is_namespace_decl : Contains (declared_by tops declarer) (record { prefix = prefix; uri = uri })
+  pub declares : Contains (declared_by tops declarer) (record { prefix = prefix; uri = uri })
 
 abbrev pub IsElementAt : Forest Node → ℕ → Type 0
 IsElementAt tree id = IsTrue (is_element_node (node_at tree id))

@@ -61,13 +61,13 @@ quiet_both (Err e) f alone quiet = (refl, record { is = λ e' same. alone.is e' 
 
 module _ (src : List ℕ) (utf8 : IsUtf8 src) (allow : Bool) where
   -- ---- behind what comes before the document type declaration
-  module _ (i begun : ℕ) (before : Forest Item) (is_namespace_decl : MayHaveXmlDecl src (after_bom src) i) (ahead : Misc src i begun before) where
+  module _ (i begun : ℕ) (before : Forest Item) (declares : MayHaveXmlDecl src (after_bom src) i) (ahead : Misc src i begun before) where
     later_next : (o : Opened src begun) (asked : List Asked) (request : Request) (p : ℕ) → Later src (o.s + 1) asked request p → AsksNext src asked request p
     later_next o asked request p l =
         let a = l.asks in
         record {
           declared_to = i;
-          declaration = is_namespace_decl;
+          declaration = declares;
           begun = begun;
           before = before;
           misc_before = ahead;

@@ -173,7 +173,7 @@ module _ (main : Bool) (O : Inclusion) (opens : OpensChars O) (src : List ℕ) (
       let others : All WrittenChars (plain_attributes_of tag.written) = All-filter (λ (a : Attribute). not (is_namespace_decl a.name)) WrittenChars tag.written all in
       record {
         local = name.0;
-        declarations = subst (λ (ds : List NamespaceDecl). All NamespaceDeclChars ds) (sym tag.is_namespace_decl) declared;
+        declarations = subst (λ (ds : List NamespaceDecl). All NamespaceDeclChars ds) (sym tag.declares) declared;
         attributes = subst (λ (as' : List Attribute). All WrittenChars as') (sym tag.has) others;
       }
 

@@ -80,7 +80,7 @@ module _ (src : List ℕ) (utf8 : IsUtf8 src) where
       ((rest, IsCharBoundary-start _ rest), tt)
 
   declared_text : (i j : ℕ) (asked : List Asked) (es : List Entity) → IsEntityDeclaration src i j asked es → EachIsText es
-  declared_text i j asked es b = let is_namespace_decl = b.is_namespace_decl in rw is_namespace_decl (by_definition b.text asked b.definition)
+  declared_text i j asked es b = let declares = b.declares in rw declares (by_definition b.text asked b.definition)
     where
       by_definition : (text : Option Replacement) (asked : List Asked) → IsDefinition src b.parameter b.d b.e asked text → EachIsText (entry (slice src b.n b.m) text)
       by_definition text asked (internal _ e _ q) = (quoted_text b.d e b.e q, tt)

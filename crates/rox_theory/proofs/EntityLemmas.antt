@@ -136,7 +136,7 @@ module _ (src : List ℕ) (utf8 : IsUtf8 src) where
               e = p;
               text = text;
               definition = definition;
-              is_namespace_decl = ap (λ (name : List ℕ). entry name text) begun.3;
+              declares = ap (λ (name : List ℕ). entry name text) begun.3;
               closes = closes;
               next = next;
             };
@@ -233,8 +233,8 @@ module _ (src : List ℕ) (utf8 : IsUtf8 src) where
   pub entity_complete : (d : Dtd) (j : ℕ) (asked : List Asked) (es : List Entity) → IsEntityDeclaration src d.state.at j asked es
       → Answered (entity_run src d) asked (record { state = at_place j d.state; entities = d.entities ++ es; replies = d.replies })
   entity_complete d j asked es b =
-      let is_namespace_decl = b.is_namespace_decl in let next = b.next in
-      rw (is_namespace_decl, next) (by_definition b.text asked b.definition)
+      let declares = b.declares in let next = b.next in
+      rw (declares, next) (by_definition b.text asked b.definition)
     where
       head : EntityHead × ℕ
       head = (record { parameter = b.parameter; name = slice src b.n b.m }, b.d)

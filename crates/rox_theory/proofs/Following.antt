@@ -66,7 +66,7 @@ module _ (main : Bool) (O P : Inclusion) (follows : Follows O P) (src : List ℕ
           last = is.last;
           attributes = x.1;
           ends = is.ends;
-          is_namespace_decl = is.is_namespace_decl;
+          declares = is.declares;
           has = is.has;
         },
         x.2,
@@ -176,6 +176,6 @@ tag_free main src i j b c is_empty t is d =
       last = is.last;
       attributes = attributes_free main src t.name_end is.last b c is.written is.attributes d;
       ends = is.ends;
-      is_namespace_decl = is.is_namespace_decl;
+      declares = is.declares;
       has = is.has;
     }

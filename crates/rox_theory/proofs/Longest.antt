@@ -41,7 +41,7 @@ module _ (src : List ℕ) (most : ℕ) where
 
   declaration_short : (i j : ℕ) (asked : List Asked) (declared : List Entity) → IsEntityDeclaration src i j asked declared → AreShort most asked → longest declared ≤ max (length src) most
   declaration_short i j asked declared is h =
-      subst (λ (es : List Entity). longest es ≤ max (length src) most) (sym is.is_namespace_decl)
+      subst (λ (es : List Entity). longest es ≤ max (length src) most) (sym is.declares)
       (entry_short (slice src is.n is.m) is.text (definition_short is.parameter is.d is.e asked is.text is.definition h))
 
   subset_short : (i j : ℕ) (items : Forest Item) (asked : List Asked) (es : List Entity) → Subset src i j items asked es → AreShort most asked → longest es ≤ max (length src) most

@@ -118,14 +118,14 @@ module _ (src : List ℕ) (utf8 : IsUtf8 src) where
         let before = one_misc p.declared_to q.declared_to p.begun q.begun p.before q.before declared p.misc_before (begins_stop src p.begun p.start d p.nodes a p.entities p.doctype stops.2)
         q.misc_before (begins_stop src q.begun q.start e q.nodes b q.entities q.doctype stops'.2) in
         let kind : d ≡ e = sym (dtd_begins src p.begun p.start d p.nodes a p.entities p.doctype stops.1) ∙ ap (at word.DoctypeStart src) before.0 ∙ dtd_begins src q.begun q.start e q.nodes b q.entities q.doctype stops'.1 in
-        let is_namespace_decl = one_doctype p.begun q.begun p.start q.start d e p.nodes q.nodes a b p.entities q.entities before.0 answers (named_there d a t p) (named_there e b u q)
+        let declares = one_doctype p.begun q.begun p.start q.start d e p.nodes q.nodes a b p.entities q.entities before.0 answers (named_there d a t p) (named_there e b u q)
         p.doctype stops.2 stops.1 permits q.doctype stops'.2 stops'.1 permits' in
         let texts = doctypes.texts p.begun p.start d p.nodes a p.entities p.doctype permits in
         let other : IsElement true (included_in_main p.entities) src p.start q.end 255 q.left q.one =
-        subst (λ (es : List Entity). IsElement true (included_in_main es) src p.start q.end 255 q.left q.one) (sym is_namespace_decl.3) (subst (λ (i : ℕ). IsElement true (included_in_main q.entities) src i q.end 255 q.left q.one) (sym is_namespace_decl.1) q.element) in
+        subst (λ (es : List Entity). IsElement true (included_in_main es) src p.start q.end 255 q.left q.one) (sym declares.3) (subst (λ (i : ℕ). IsElement true (included_in_main q.entities) src i q.end 255 q.left q.one) (sym declares.1) q.element) in
         let element = element_once p.entities texts src utf8 p.start p.end q.end 255 p.left q.left p.one q.one p.element other in
         let after = one_misc p.end q.end (length src) (length src) p.after q.after element.0 p.misc_after (end_stops src) q.misc_after (end_stops src) in
-        (kind, is_namespace_decl.0, p.is_tree ∙ rw (before.1, is_namespace_decl.2, element.1, after.1) refl ∙ sym q.is_tree)
+        (kind, declares.0, p.is_tree ∙ rw (before.1, declares.2, element.1, after.1) refl ∙ sym q.is_tree)
 
     -- and its readers see one tree
     pub one_tree : (limit most : ℕ) (d e : Bool) (a b : List Asked) (t u : Forest Node) → IsTreeOf src d a limit t → IsTreeOf src e b most u → Permits allow d → Permits allow e → replies_of a ≡ replies_of b

@@ -157,7 +157,7 @@ module _ (how : Values) (O : Inclusion) (agrees : AgreesValue how.entities O how
       let ends_le = ends_inside src r.1 x.0.empty x.1 r.3 in
       subst (λ (z : TagRead × ℕ). TagStands above count known i z.1 b z.0 × (i < z.1)) (ok_same _ _ h) (
         record {
-          is_tag = record { begins = begins; is_name = name; written = r.0; last = r.1; attributes = r.2; ends = r.3; is_namespace_decl = all.own; has = all.attributes };
+          is_tag = record { begins = begins; is_name = name; written = r.0; last = r.1; attributes = r.2; ends = r.3; declares = all.own; has = all.attributes };
           well_named = record { no_xmlns = free; declarations = declarable; attributes = fine.1; element = fine.2 };
           attributes = fine.0;
           pairs = pairs;
@@ -173,7 +173,7 @@ module _ (how : Values) (O : Inclusion) (agrees : AgreesValue how.entities O how
   tag_complete cut above count known i j b c t empty tag well few pairs =
       let name = qname_complete src (i + 1) t.name t.name_end tag.is_name in
       let free = well.no_xmlns in
-      let own = tag.is_namespace_decl in
+      let own = tag.declares in
       let has = tag.has in
       let all = taken_complete known tag.written none_yet (rw own at well.declarations) (rw own at pairs) in
       let all' : all_taken known tag.written none_yet ≡ Ok (record { own = t.declarations; attributes = t.attributes }) = rw (← own, ← has) at all in

@@ -88,7 +88,7 @@ module _ (how : Values) (O : Inclusion) (agrees : AgreesValue how.entities O how
       let name : s.name ≡ t.name = ap (λ (n : Name × ℕ). n.0) named in
       let at : s.name_end ≡ t.name_end = ap (λ (n : Name × ℕ). n.1) named in
       let list = one_list t.name_end p.last q.last j k b c d p.written q.written x y (subst (λ (n : ℕ). Attributes how.main O src n p.last b c p.written) at p.attributes) q.attributes p.ends q.ends in
-      let declarations : s.declarations ≡ t.declarations = p.is_namespace_decl ∙ ap namespace_decls_of list.0 ∙ sym q.is_namespace_decl in
+      let declarations : s.declarations ≡ t.declarations = p.declares ∙ ap namespace_decls_of list.0 ∙ sym q.declares in
       let attributes : s.attributes ≡ t.attributes = p.has ∙ ap plain_attributes_of list.0 ∙ sym q.has in
       (list.1, list.3, list.2, rw (name, at, declarations, attributes) refl)
 

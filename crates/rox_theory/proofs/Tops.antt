@@ -57,10 +57,10 @@ no_text_merge (Cons (PI x y t o) c r) (a, h) = ap (Cons (PI x y t o) c) (no_text
 -- nor of what stands at the top
 pub tops_merged : (main : Bool) (O : Inclusion) (src : List ℕ) (h i j k l b c : ℕ) (is : Bool) (before nodes one after : Forest Item) (asked : List Asked) (es : List Entity) → Misc src h i before
     → MayHaveDoctype src i j is nodes asked es → IsElement main O src j k b c one → Misc src k l after → merge (join before (join nodes (join one after))) ≡ join before (join nodes (join one after))
-tops_merged main O src h i j k l b c is before nodes one after asked es first is_namespace_decl element last =
+tops_merged main O src h i j k l b c is before nodes one after asked es first declares element last =
     no_text_merge _
     (no_text-join before (join nodes (join one after)) (all_misc_no_text src h i before first)
-    (no_text-join nodes (join one after) (doctype_no_text src i j is nodes asked es is_namespace_decl)
+    (no_text-join nodes (join one after) (doctype_no_text src i j is nodes asked es declares)
     (no_text-join one after (element_no_text main O src j k b c one element) (all_misc_no_text src k l after last))))
 
 -- merging changes nothing of a parse

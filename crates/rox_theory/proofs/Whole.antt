@@ -132,7 +132,7 @@ module _ (src : List ℕ) (utf8 : IsUtf8 src) where
         let start_dtd : State → Dtd = λ s. record { state = s; entities = []; replies = replies } in
         nothing_lifted_ok (prolog src (after_bom src)) _ _ _ h (λ i declared h.
         nothing_lifted_ok (misc limit (length src) src (state i Nil root 255)) _ _ _ h (λ s first h.
-        asking_ok (doctype limit allow src (start_dtd s)) _ asked t (λ d. asks_none (body limit d.entities src d.state) _ (λ x. refl)) h (λ d is_namespace_decl h.
+        asking_ok (doctype limit allow src (start_dtd s)) _ asked t (λ d. asks_none (body limit d.entities src d.state) _ (λ x. refl)) h (λ d declares h.
         nothing_ok (body limit d.entities src d.state) _ _ _ h (λ x main last.
         let may = prolog_sound src utf8 (after_bom src) i declared in
         let cut = prolog_cut src utf8 (after_bom src) i (bom_cut src utf8) may in
@@ -141,7 +141,7 @@ module _ (src : List ℕ) (utf8 : IsUtf8 src) where
         let s_is : s ≡ state s.at ahead.0 root 255 = ahead.2 in
         let begins = body_begins limit d.entities d.state x t main (ok_lifted (finished src x) [] t last) in
         let dtd = doctypes.sound limit most s.at ahead.0 replies asked d (omega arith) texts (subst (IsValidState most) s_is ahead.3)
-        (subst (λ (s : State). doctype limit allow src (start_dtd s) ≡ (asked, Ok d)) s_is is_namespace_decl) (within src d.state.at (λ z. omega arith)) in
+        (subst (λ (s : State). doctype limit allow src (start_dtd s) ≡ (asked, Ok d)) s_is declares) (within src d.state.at (λ z. omega arith)) in
         let d_is : d.state ≡ state d.state.at (join ahead.0 dtd.1) root 255 = dtd.4 in
         let found = body_sound limit most d.entities d.state.at (join ahead.0 dtd.1) t x (omega arith) (doctypes.texts s.at d.state.at dtd.0 dtd.1 asked d.entities dtd.2 dtd.3) (subst (IsValidState most) d_is dtd.5)
         (subst (λ (s : State). body limit d.entities src s ≡ Ok x) d_is main) (ok_lifted (finished src x) [] t last) in

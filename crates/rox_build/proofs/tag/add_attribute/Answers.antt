@@ -36,7 +36,7 @@ returns-then-is_namespace_decl-clause-took c = λ es known before h declared o h
     (c.in_ok-value.ensures.kind ∙ ap (λ (b : List ℕ). (piece_view c.in_ok-piece.piece b).plain) buffer) in
     took_declaration (values_in es c.args.how) known before (map namespace_view c.declare_namespace.new.names.items.items) c.declare_namespace.new.listed.items c.in_ok-xml.xml c.args.buffers.now.taken.items
     c.args.text.now (attribute_view raw) c.args.left c.in_ok-piece.left h v (unresolved_view t) (c.in_ok-piece.ensures es declared) view (sym c.is_namespace_decl.ensures ∙ c.if-is_namespace_decl.true) hold.attributes
-    (c.in_ok-xml.ensures.value known before h o hold.is_namespace_decl)
+    (c.in_ok-xml.ensures.value known before h o hold.declares)
 
 pub returns-in_err-xml-clause-took : goal.returns-in_err-xml-clause-took
 returns-in_err-xml-clause-took c = λ es known before h declared o hold.
@@ -49,7 +49,7 @@ returns-in_err-xml-clause-took c = λ es known before h declared o hold.
     (c.in_ok-value.ensures.bytes ∙ ap (λ (b : List ℕ). (piece_view c.in_ok-piece.piece b).value) buffer)
     (c.in_ok-value.ensures.kind ∙ ap (λ (b : List ℕ). (piece_view c.in_ok-piece.piece b).plain) buffer) in
     rw (p.1, p.2) (refused_declaration (values_in es c.args.how) known c.args.text.now (attribute_view raw) c.args.left c.in_ok-piece.left h v (unresolved_view t) c.in_err-xml.field-0.0 (c.in_ok-piece.ensures es declared) view
-    (sym c.is_namespace_decl.ensures ∙ c.if-is_namespace_decl.true) (c.in_err-xml.ensures.value known before h o hold.is_namespace_decl))
+    (sym c.is_namespace_decl.ensures ∙ c.if-is_namespace_decl.true) (c.in_err-xml.ensures.value known before h o hold.declares))
 
 pub returns-clause-took : goal.returns-clause-took
 returns-clause-took c = λ es known before h declared o hold.

@@ -93,7 +93,7 @@ returns-in_err-element-clause-value c = λ es declared.
     let read : attributes_at (length src) (values_in es c.args.how) c.args.cut known src n c.args.left start ≡ Ok (record { held = h; empty = c.in_ok-xml.empty; left = c.in_ok-xml.left }, c.attributes.new.cursor.pos) = rw s2 at took.1 in
     let scopes : scope_in_tables c.scope_of_tag.new.elements c.in_ok-scope.scope ≡ listed above h.own =
     scope_declared known old.listed.items (map namespace_view c.attributes.new.elements.namespaces.items.items) c.attributes.new.elements.listed.items c.in_ok-xml.xml h.own
-    (scope_in_tables c.attributes.new.elements c.args.above) (scope_in_tables c.scope_of_tag.new.elements c.in_ok-scope.scope) c.len-own.result own took.2.is_namespace_decl c.in_ok-scope.ensures.value.lists
+    (scope_in_tables c.attributes.new.elements c.args.above) (scope_in_tables c.scope_of_tag.new.elements c.in_ok-scope.scope) c.len-own.result own took.2.declares c.in_ok-scope.ensures.value.lists
     ∙ ap (λ xs. listed xs h.own) (ap (λ ls. scope_at ls c.args.above) c.in_ok-xml.ensures.lists) in
     let written = took.2.attributes in
     let count : length (attribute_rows c.scope_of_tag.new.elements.attributes) ≡ length (attribute_rows old.attributes) =
@@ -126,7 +126,7 @@ returns-clause-value c = λ es declared.
     let read : attributes_at (length src) (values_in es c.args.how) c.args.cut known src n c.args.left start ≡ Ok (record { held = h; empty = c.in_ok-xml.empty; left = c.in_ok-xml.left }, c.attributes.new.cursor.pos) = rw s2 at took.1 in
     let scopes : scope_in_tables c.scope_of_tag.new.elements c.in_ok-scope.scope ≡ listed above h.own =
     scope_declared known old.listed.items (map namespace_view c.attributes.new.elements.namespaces.items.items) c.attributes.new.elements.listed.items c.in_ok-xml.xml h.own
-    (scope_in_tables c.attributes.new.elements c.args.above) (scope_in_tables c.scope_of_tag.new.elements c.in_ok-scope.scope) c.len-own.result own took.2.is_namespace_decl c.in_ok-scope.ensures.value.lists
+    (scope_in_tables c.attributes.new.elements c.args.above) (scope_in_tables c.scope_of_tag.new.elements c.in_ok-scope.scope) c.len-own.result own took.2.declares c.in_ok-scope.ensures.value.lists
     ∙ ap (λ xs. listed xs h.own) (ap (λ ls. scope_at ls c.args.above) c.in_ok-xml.ensures.lists) in
     let written = took.2.attributes in
     let count : length (attribute_rows c.scope_of_tag.new.elements.attributes) ≡ length (attribute_rows old.attributes) =
