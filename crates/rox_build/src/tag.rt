@@ -33,9 +33,10 @@ use rox_tables::storage::StringStorage;
 use rox_tables::tables::{ElementData, ElementTables};
 use rox_tables::tag_scope::scope_of_tag;
 use rox_tables::unresolved_attribute::UnresolvedAttribute;
+use rox_values::attribute_value::value;
 use rox_values::context::Context;
 use rox_values::parse_error::ParseError;
-use rox_values::value::{TextValue, value};
+use rox_values::text_value::TextValue;
 use std::alloc::Global;
 use std::collections::BTreeSet;
 

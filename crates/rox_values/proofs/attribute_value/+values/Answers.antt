@@ -5,8 +5,8 @@ use Rattle.rox_reading.specs.Machine.{value_opener}
 use Rattle.rox_scan.specs.DoctypeViews.{replacement_view}
 use Rattle.rox_values.proofs.PartLemmas.{value_more, value_opens, value_fails, value_opens_fails, value_done, value_out}
 use Rattle.rox_values.proofs.ValueOpening.{opens_err, opens_reads, opens_refuses}
-use Rattle.rox_values.proofs.value.+values.Goals as goal
-use Rattle.rox_values.proofs.value.+values.Goals.{value_text-in-Some+in_ok-left, value_text-in_default}
+use Rattle.rox_values.proofs.attribute_value.+values.Goals as goal
+use Rattle.rox_values.proofs.attribute_value.+values.Goals.{value_text-in-Some+in_ok-left, value_text-in_default}
 
 pub open_value-returns-in_err-within : goal.open_value-returns-in_err-within
 open_value-returns-in_err-within t c = λ es declared.

@@ -1,6 +1,6 @@
 use Rattle.std.proofs.Common.{Ok, sym, ap, ◌∙◌}
 use Rattle.rox_values.proofs.SectionLemmas.{section_plain}
-use Rattle.rox_values.proofs.value.cdata_text.Goals as goal
+use Rattle.rox_values.proofs.text_value.cdata_text.Goals as goal
 
 pub returns-then-before_byte-bytes : goal.returns-then-before_byte-bytes
 returns-then-before_byte-bytes c =

@@ -2,7 +2,7 @@ use Rattle.std.proofs.Common.{◌≡◌, ◌++◌, ◌-◌, length}
 use Rattle.std.specs.String.{string_bytes}
 use Rattle.std.specs.Str.{IsCharBoundary}
 use Rattle.rox_values.specs.Values.{section_rest}
-use Rattle.rox_values.proofs.value.line_feeds.Given as goal
+use Rattle.rox_values.proofs.line_ends.line_feeds.Given as goal
 
 abbrev pub invariant-loop-at : goal.invariant-loop-at
 invariant-loop-at l = record {

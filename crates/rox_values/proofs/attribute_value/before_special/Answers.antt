@@ -1,7 +1,7 @@
 use Rattle.std.proofs.Common.{length, sym, ◌∙◌, arith}
 use Rattle.std.proofs.lemmas.List.Sums.{position_or_len_is}
 use Rattle.rox_reading.specs.Values.{is_special}
-use Rattle.rox_values.proofs.value.before_special.Goals as goal
+use Rattle.rox_values.proofs.attribute_value.before_special.Goals as goal
 
 pub returns-then-is_special-clause-value : goal.returns-then-is_special-clause-value
 returns-then-is_special-clause-value c =

@@ -1,6 +1,6 @@
 use Rattle.std.proofs.Common.{get_or, ap, ◌∙◌}
 use Rattle.rox_values.proofs.SectionLemmas.{stretch_moves}
-use Rattle.rox_values.proofs.value.section_part.Goals as goal
+use Rattle.rox_values.proofs.line_ends.section_part.Goals as goal
 
 pub returns-then-as_bytes-at-ne13-clause-moves : goal.returns-then-as_bytes-at-ne13-clause-moves
 returns-then-as_bytes-at-ne13-clause-moves c =

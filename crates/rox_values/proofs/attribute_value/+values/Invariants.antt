@@ -5,7 +5,7 @@ use Rattle.rox_reading.specs.Machine.{value_opener}
 use Rattle.rox_reading.specs.Values.{value_text}
 use Rattle.rox_values.specs.DeclaredEntities.{AreDeclared}
 use Rattle.rox_values.specs.Values.{text_behind}
-use Rattle.rox_values.proofs.value.+values.Given as goal
+use Rattle.rox_values.proofs.attribute_value.+values.Given as goal
 
 abbrev pub decreases-value_text : goal.decreases-value_text
 decreases-value_text l = 2 * l.how.deep + 1
