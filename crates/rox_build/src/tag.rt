@@ -23,7 +23,7 @@ use rox_grammar::failure::Failure;
 use rox_grammar::fault::Fault;
 use rox_grammar::name::QName;
 use rox_scan::cursor::Cursor;
-use rox_scan::markup::{RawAttribute, TagItem};
+use rox_scan::tag::{RawAttribute, TagItem};
 use rox_tables::compare::same_text;
 use rox_tables::declaration::{declare_namespace, is_namespace_decl};
 use rox_tables::growth::push;

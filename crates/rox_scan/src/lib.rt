@@ -11,3 +11,6 @@ pub mod markup;
 pub mod nibbles;
 pub mod runs;
 pub mod search;
+pub mod source;
+pub mod tag;
+pub mod xml_decl;

@@ -24,9 +24,9 @@ use rox_grammar::fault::Fault;
 use rox_scan::byte_set::{ValueByte, skip_set};
 use rox_scan::cursor::Cursor;
 use rox_scan::lookahead::is_special;
-use rox_scan::markup::RawAttribute;
 use rox_scan::runs::is_at;
 use rox_scan::search::byte_from;
+use rox_scan::tag::RawAttribute;
 
 /// How many bytes come before the first special one, or all.
 fn before_special(bytes: &[u8]) -> usize
