@@ -3,6 +3,7 @@
 #![tactic(auto)]
 
 pub mod byte_set;
+pub mod character_data;
 pub mod chars;
 pub mod cursor;
 pub mod doctype;

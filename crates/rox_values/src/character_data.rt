@@ -1,12 +1,9 @@
-//! Character data: a run of it as it stands, and what its parts stand for, with references and line ends (XML 1.0 sections 2.4,
-//! 2.11 and 4.1).
+//! What the parts of character data stand for, with references and line ends (XML 1.0 sections 2.4, 2.11 and 4.1).
 
-ghost use Rattle.std.specs.Prelude.{◌≡◌, ◌≢◌, ◌-◌, List, IfOk, OnOk, false, ◌≤◌, ◌<◌, ◌||◌, ◌==◌, length, slice_index, true};
+ghost use Rattle.std.specs.Prelude.{◌≡◌, ◌≢◌, ◌-◌, List, false, ◌<◌, slice_index, true};
 ghost use Rattle.std.specs.String.{string_bytes};
 ghost use Rattle.std.specs.Str.{IsCharBoundary};
-ghost use Rattle.rox_grammar.specs.Content as content;
 ghost use Rattle.rox_reading.specs.Values as spec;
-ghost use Rattle.rox_scan.specs.ScanResults.{Reads};
 ghost use Rattle.rox_grammar.specs.Entities.{Entity};
 ghost use Rattle.rox_values.specs.DeclaredEntities.{AreDeclared};
 ghost use Rattle.rox_values.specs.Values.{Appends, AppendsBit, AppendsPart};
@@ -15,10 +12,8 @@ use crate::context::Context;
 use crate::line_ends::line_end;
 use crate::reference::{Reference, found, read_reference};
 use rox_grammar::failure::Failure;
-use rox_grammar::fault::Fault;
 use rox_scan::cursor::Cursor;
-use rox_scan::lookahead::scan_character_data;
-use rox_scan::search::{before_either, byte_from, either_from, has_mark};
+use rox_scan::search::{byte_from, either_from};
 
 /// Appends the character of the reference that stands here, in a run; or answers the replacement text that it names.
 #[inline(always)]
@@ -44,14 +39,6 @@ fn expand<'input>(
             Ok(Some(text))
         }
     }
-}
-
-/// Whether the bytes are a run's text as they stand: they have no `&` and no CR.
-#[inline]
-fn is_verbatim(bytes: &[u8]) -> bool
-    ensures { result ≡ content.is_verbatim bytes.now }
-{
-    before_either(bytes, b'&', b'\r') == bytes.len()
 }
 
 /// Appends all of a run up to the next `&` or CR.
@@ -142,66 +129,4 @@ pub fn data_part<'input>(
         }
     }
     Ok(None)
-}
-
-/// Whether a run ends at `at`: a `<` stands there, or the text ends.
-#[inline(always)]
-pub fn ends_character_data(text: &str, at: usize) -> bool
-    requires { at ≤ length text.now }
-    ensures { result ≡ (at == length text.now || slice_index text.now at == 60) }
-{
-    at == text.len() || text.as_bytes()[at] == b'<'
-}
-
-/// A run of character data as it stands. `plain` says that it has no reference and no carriage return.
-#[derive(Clone, Copy)]
-pub struct RawCharacterData<'input> {
-    pub text: &'input str,
-    pub plain: bool,
-}
-
-/// A run of character data, up to the next `<` or the end (XML 1.0 section 2.4), as it stands: of Chars, and without `]]>`,
-/// which is a fault at its end.
-pub fn raw_character_data<'input>(
-    cursor: &mut Cursor<'input>,
-) -> Result<RawCharacterData<'input>, Fault>
-    ensures value { Reads (λ raw. raw.text.now) cursor.new result (spec.raw_character_data_at cursor.old.text.now cursor.old.pos) }
-    ensures plain { IfOk result (λ raw. raw.plain ≡ content.is_verbatim raw.text.now) }
-    ensures source { cursor.new.text ≡ cursor.old.text }
-    ensures cut { OnOk result (IsCharBoundary cursor.old.text.now cursor.new.pos) }
-{
-    let start = cursor.pos;
-    let text = cursor.text;
-    let look = scan_character_data(text, start);
-    if ends_character_data(text, look.end) {
-        cursor.pos = look.end;
-        return Ok(RawCharacterData {
-            text: &text[start..look.end],
-            plain: look.plain,
-        });
-    }
-    faulty_character_data(cursor)
-}
-
-/// The same of a run that is not in order.
-#[cold]
-#[inline(never)]
-#[tactic(auto, unfolding(rox_reading::specs::Values::raw_character_data_at))]
-fn faulty_character_data<'input>(
-    cursor: &mut Cursor<'input>,
-) -> Result<RawCharacterData<'input>, Fault>
-    ensures value { Reads (λ raw. raw.text.now) cursor.new result (spec.raw_character_data_at cursor.old.text.now cursor.old.pos) }
-    ensures plain { IfOk result (λ raw. raw.plain ≡ content.is_verbatim raw.text.now) }
-    ensures source { cursor.new.text ≡ cursor.old.text }
-    ensures cut { OnOk result (IsCharBoundary cursor.old.text.now cursor.new.pos) }
-{
-    let end = byte_from(cursor.text, cursor.pos, b'<');
-    let raw = cursor.chars_up_to(end)?;
-    if has_mark(raw.as_bytes(), b"]]>") {
-        return Err(Fault::InvalidCharacterData(end));
-    }
-    Ok(RawCharacterData {
-        text: raw,
-        plain: is_verbatim(raw.as_bytes()),
-    })
 }

@@ -2,7 +2,7 @@ use Rattle.std.proofs.Common.{◌≡◌, ◌<◌, ℕ, List, false, get_or, refl
 use Rattle.std.proofs.lemmas.Bool.{ne_eqb}
 use Rattle.rox_scan.specs.Lookahead.{ends_run, changes_run}
 use Rattle.rox_scan.proofs.LongerLemmas.{run_near, run_on}
-use Rattle.rox_scan.proofs.lookahead.scan_character_data.Goals as goal
+use Rattle.rox_scan.proofs.character_data.scan_character_data.Goals as goal
 
 pub loop-end-init : goal.loop-end-init
 loop-end-init c =

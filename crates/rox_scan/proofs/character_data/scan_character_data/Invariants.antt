@@ -1,6 +1,6 @@
 use Rattle.std.proofs.Common.{◌-◌, length}
 use Rattle.rox_scan.specs.Lookahead.{IsLookahead, ends_run, changes_run}
-use Rattle.rox_scan.proofs.lookahead.scan_character_data.Given as goal
+use Rattle.rox_scan.proofs.character_data.scan_character_data.Given as goal
 
 abbrev pub invariant-loop-end : goal.invariant-loop-end
 invariant-loop-end l = record {

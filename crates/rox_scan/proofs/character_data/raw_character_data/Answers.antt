@@ -1,6 +1,6 @@
 use Rattle.std.proofs.Common.{sym, ◌∙◌}
-use Rattle.rox_values.proofs.ShortLemmas.{longer_run}
-use Rattle.rox_values.proofs.character_data.raw_character_data.Goals as goal
+use Rattle.rox_scan.proofs.ShortLemmas.{longer_run}
+use Rattle.rox_scan.proofs.character_data.raw_character_data.Goals as goal
 
 pub returns-then-ends_character_data-clause-value : goal.returns-then-ends_character_data-clause-value
 returns-then-ends_character_data-clause-value c =

@@ -2,10 +2,10 @@
 use Rattle.std.proofs.Common.{not, refl, arith}
 use Rattle.rox_scan.specs.Nibbles.{class_of}
 use Rattle.rox_scan.specs.ByteSets.{is_text_byte}
-use Rattle.rox_scan.specs.declared.byte_set.TheConstants.{TEXT_LOW, TEXT_HIGH}
+use Rattle.rox_scan.specs.declared.character_data.TheConstants.{TEXT_LOW, TEXT_HIGH}
 use Rattle.rox_scan.proofs.TableLemmas.{agree_below}
 use Rattle.rox_scan.proofs.LaneLemmas.{masked, against, differs}
-use Rattle.rox_scan.proofs.byte_set.TextByteByteSet.others.Goals as goal
+use Rattle.rox_scan.proofs.character_data.TextByteByteSet.others.Goals as goal
 
 pub returns : goal.returns
 unfolding agree_below is_text_byte
