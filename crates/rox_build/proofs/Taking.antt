@@ -15,7 +15,7 @@ use Rattle.rox_grammar.specs.Failures.{Fails, name_view}
 use Rattle.rox_scan.specs.Views.{attribute_view}
 use Rattle.rox_grammar.specs.declared.failure.Failure.{Failure}
 use Rattle.rox_grammar.specs.declared.failure.Failure.TheVariants as failure
-use Rattle.rox_scan.specs.declared.markup.RawAttribute.{RawAttribute as CodeRaw}
+use Rattle.rox_scan.specs.declared.tag.RawAttribute.{RawAttribute as CodeRaw}
 use Rattle.rox_values.specs.Refusals.{IsRefusal, of_failure}
 use Rattle.rox_values.specs.declared.parse_error.ParseError.{ParseError}
 use Rattle.rox_values.proofs.PartLemmas.{refuses_by}

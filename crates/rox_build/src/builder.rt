@@ -21,7 +21,7 @@ use rox_tables::recent_texts::Recent;
 use rox_tables::storage::StringStorage;
 use rox_tables::tables::{ElementTables, NodeData, NodeKind, Scope, Stretch, Tables};
 use rox_values::context::MOST_WITHIN;
-use rox_values::value::TextValue;
+use rox_values::text_value::TextValue;
 use std::alloc::Global;
 use std::collections::BTreeSet;
 use std::mem;

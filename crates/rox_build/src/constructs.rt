@@ -28,7 +28,7 @@ use rox_tables::storage::StringStorage;
 use rox_tables::tables::{NodeKind, PI};
 use rox_values::context::Context;
 use rox_values::parse_error::ParseError;
-use rox_values::value::cdata_text;
+use rox_values::text_value::cdata_text;
 use std::alloc::Global;
 
 /// A comment, from `<!--`.

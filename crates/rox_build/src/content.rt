@@ -20,13 +20,15 @@ use crate::constructs::{end_tag, markup};
 use crate::tag::Buffers;
 use rox_grammar::failure::Failure;
 use rox_grammar::fault::Fault;
-use rox_scan::byte_set::{TextByte, skip_set};
+use rox_scan::byte_set::skip_set;
+use rox_scan::character_data::{TextByte, ends_character_data, raw_character_data};
 use rox_scan::cursor::Cursor;
 use rox_scan::runs::{after_byte, is_at};
 use rox_scan::search::either_from;
+use rox_values::character_data::data_part;
 use rox_values::context::Context;
+use rox_values::line_ends::line_feeds;
 use rox_values::parse_error::ParseError;
-use rox_values::value::{data_part, ends_character_data, line_feeds, raw_character_data};
 use std::alloc::Global;
 
 /// Whether a run is a line end, a CR and a LF, and then bytes that stand for themselves.

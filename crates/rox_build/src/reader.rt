@@ -24,7 +24,7 @@ use rox_grammar::failure::Failure;
 use rox_grammar::fault::{Fault, Word};
 use rox_resolver::resolver::EntityResolver;
 use rox_scan::cursor::Cursor;
-use rox_scan::doctype::start_of;
+use rox_scan::source::start_of;
 use rox_tables::tables::Tables;
 use rox_values::context::Context;
 use rox_values::entities::Entities;

@@ -8,3 +8,5 @@ pub mod Marking
 pub mod QuoteLemmas
 pub mod CharLemmas
 pub mod LongerLemmas
+pub mod ShortLemmas
+pub mod VerbatimLemmas

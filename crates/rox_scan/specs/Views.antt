@@ -6,10 +6,10 @@ use Rattle.rox_grammar.specs.Content.{is_verbatim_value}
 use Rattle.rox_reading.specs.Markup as markup
 use Rattle.rox_grammar.specs.Failures.{name_view}
 use Rattle.rox_scan.specs.declared.markup.Instruction.{Instruction}
-use Rattle.rox_scan.specs.declared.markup.EndTag.{EndTag}
-use Rattle.rox_scan.specs.declared.markup.RawAttribute.{RawAttribute}
-use Rattle.rox_scan.specs.declared.markup.TagItem.{TagItem}
-use Rattle.rox_scan.specs.declared.markup.TagItem.TheVariants as item
+use Rattle.rox_scan.specs.declared.tag.EndTag.{EndTag}
+use Rattle.rox_scan.specs.declared.tag.RawAttribute.{RawAttribute}
+use Rattle.rox_scan.specs.declared.tag.TagItem.{TagItem}
+use Rattle.rox_scan.specs.declared.tag.TagItem.TheVariants as item
 
 abbrev pub text_view : Option (Bor (List ℕ)) → Option (List ℕ)
 text_view o = option_map (λ x. x.now) o

@@ -50,30 +50,6 @@ impl ByteSet for ValueByte {
     }
 }
 
-/// The bytes of character data that stand for themselves.
-pub struct TextByte;
-
-// Classes that a byte of the set has none of, and any other has one.
-const TEXT_LOW: [u8; 16] = [3, 3, 3, 3, 3, 3, 7, 3, 3, 2, 2, 3, 11, 19, 3, 35];
-
-const TEXT_HIGH: [u8; 16] = [1, 2, 4, 8, 0, 16, 0, 0, 0, 0, 0, 0, 0, 0, 32, 0];
-
-impl ByteSet for TextByte {
-    ghost test = { near.is_text_byte };
-
-    #[inline(always)]
-    fn has(byte: u8) -> bool {
-        chars::is_text_byte(byte)
-    }
-
-    #[inline(always)]
-    fn others(block: u8x16) -> u64 {
-        classes(TEXT_LOW, TEXT_HIGH, block)
-            .simd_ne(u8x16::splat(0))
-            .to_bitmask()
-    }
-}
-
 /// The bytes of a comment that stand for themselves.
 pub struct CommentByte;
 

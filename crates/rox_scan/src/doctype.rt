@@ -1,14 +1,12 @@
-//! The parts of a document type declaration (XML 1.0 sections 2.8, 4.2, 4.3.1, 4.7), and where a resolver's answer begins.
+//! The parts of a document type declaration (XML 1.0 sections 2.8, 4.2 and 4.7).
 
-ghost use Rattle.std.specs.Prelude.{◌≡◌, ◌==◌, ◌≤◌, ◌+◌, IfOk, Some, IsUtf8, slice_index, slice_range, true};
-ghost use Rattle.std.specs.List.{starts_with};
-ghost use Rattle.rox_grammar.specs.TextStart.{after_bom, bom};
+ghost use Rattle.std.specs.Prelude.{◌≡◌, ◌≤◌, ◌+◌, IfOk, slice_index, slice_range, true};
 ghost use Rattle.rox_grammar.specs.Search.{stands};
 ghost use Rattle.rox_grammar.specs.FixedTexts.{word_text};
 ghost use Rattle.rox_grammar.specs.declared.fault.Word.TheVariants as word;
 ghost use Rattle.rox_reading.specs.Doctype as spec;
 ghost use Rattle.rox_scan.specs.ScanResults.{Reads};
-ghost use Rattle.rox_scan.specs.DoctypeViews.{AreBoundaries, IsReplacement, xml_decl_if, definition_view, head_view, inner_at, is_skipped_declaration, outer_at, skipped_declaration_at, request_view, subset_end_at};
+ghost use Rattle.rox_scan.specs.DoctypeViews.{AreBoundaries, definition_view, head_view, inner_at, is_skipped_declaration, outer_at, skipped_declaration_at, request_view, subset_end_at};
 
 use crate::cursor::Cursor;
 use crate::runs::{after_byte, is_at};
@@ -302,47 +300,4 @@ impl<'input> Cursor<'input> {
         self.advance();
         Ok(())
     }
-
-    /// The declaration that a text begins with, if it does (XML 1.0 [23] XMLDecl, [77] TextDecl).
-    pub fn xml_decl_if(&mut self) -> Result<(), Fault>
-        ensures value { Reads (λ x. x) self.new result (xml_decl_if self.old.text.now self.old.pos) }
-        ensures source { self.new.text ≡ self.old.text }
-        ensures onward { self.old.pos ≤ self.new.pos }
-    {
-        if self.starts(Word::XmlDeclStart) {
-            return self.declaration();
-        }
-        Ok(())
-    }
-}
-
-/// Whether a byte order mark stands at the start (XML 1.0 section 4.3.3).
-fn has_byte_order_mark(text: &str) -> bool
-    ensures { result ≡ starts_with ◌==◌ text.now bom }
-{
-    text.as_bytes().starts_with(b"\xEF\xBB\xBF")
-}
-
-/// The start of a text, behind its byte order mark if it has one.
-pub fn start_of(text: &str) -> Cursor<'_>
-    ensures place { result.pos ≡ after_bom text.entry.now }
-    ensures source { result.text ≡ text.entry }
-{
-    if has_byte_order_mark(text) {
-        Cursor::at(text, 3)
-    } else {
-        Cursor::new(text)
-    }
-}
-
-/// The replacement text that a resolver's answer gives: what follows its byte order mark and its declaration (XML 1.0 section
-/// 4.3.1). It counts its places from its own start.
-#[tactic(auto, unfolding(rox_reading::specs::Doctype::answer_text))]
-pub fn replacement_in<'input>(answer: &'input str) -> Result<Cursor<'input>, Fault>
-    ensures value { IsReplacement answer.entry.now result (spec.answer_text (Some answer.entry.now)) }
-    ensures text { IsUtf8 answer.entry.now }
-{
-    let mut cursor = start_of(answer);
-    cursor.xml_decl_if()?;
-    Ok(Cursor::new(&answer[cursor.pos..]))
 }

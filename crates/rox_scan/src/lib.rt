@@ -3,6 +3,7 @@
 #![tactic(auto)]
 
 pub mod byte_set;
+pub mod character_data;
 pub mod chars;
 pub mod cursor;
 pub mod doctype;
@@ -11,3 +12,6 @@ pub mod markup;
 pub mod nibbles;
 pub mod runs;
 pub mod search;
+pub mod source;
+pub mod tag;
+pub mod xml_decl;

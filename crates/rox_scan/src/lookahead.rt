@@ -1,7 +1,7 @@
-//! A longer look at a value, a run or a comment, where the first look stops at a byte that may be in order: a reference, white
-//! space, the other quote, a bracket, a dash, or a character that begins with 239.
+//! A longer look at a value or a comment, where the first look stops at a byte that may be in order: a reference, white space,
+//! the other quote, a dash, or a character that begins with 239.
 
-ghost use Rattle.std.specs.Prelude.{◌≡◌, ◌==◌, ◌||◌, ◌+◌, ◌<◌, ◌≤◌, ℕ, true, false, length, slice_index};
+ghost use Rattle.std.specs.Prelude.{◌≡◌, ◌==◌, ◌||◌, ◌<◌, ◌≤◌, ℕ, true, false, length, slice_index};
 ghost use Rattle.std.specs.Str.{IsCharBoundary};
 ghost use Rattle.rox_grammar.specs.Chars.{is_char};
 ghost use Rattle.rox_grammar.specs.Runs.{begins};
@@ -12,7 +12,7 @@ ghost use Rattle.rox_reading.specs.Values as reading;
 ghost use Rattle.rox_scan.specs.Lookahead as longer;
 ghost use Rattle.rox_scan.specs.Lookahead.{IsLookahead};
 
-use crate::byte_set::{CommentByte, TextByte, ValueByte, skip_set};
+use crate::byte_set::{CommentByte, ValueByte, skip_set};
 use crate::runs::{Class, XmlChar, char_at};
 
 /// What a longer look tells: up to `end` all is in order, and whether it stands for itself.
@@ -24,7 +24,7 @@ pub struct Lookahead {
 
 /// The place behind the Char that begins at `at`, or `at` where a character begins that is none.
 #[inline(always)]
-fn after_char(text: &str, at: usize) -> usize
+pub(crate) fn after_char(text: &str, at: usize) -> usize
     requires cut { IsCharBoundary text.now at }
     requires within { at < length text.now }
     ensures onward { at ≤ result }
@@ -48,7 +48,7 @@ fn after_char(text: &str, at: usize) -> usize
 /// Whether the mark stands at `at`. Where its first byte does not, no other is looked at.
 #[inline(always)]
 #[tactic(auto, using(crate::proofs::LongerLemmas::apart_from), unfolding(rox_grammar::specs::Search::stands))]
-fn is_mark_at(text: &str, at: usize, mark: &[u8]) -> bool
+pub(crate) fn is_mark_at(text: &str, at: usize, mark: &[u8]) -> bool
     requires within { at < length text.now }
     requires some { 0 < length mark.now }
     ensures { result ≡ stands mark.now text.now at }
@@ -87,38 +87,6 @@ pub fn scan_value(text: &str, at: usize, quote: u8) -> Lookahead
         }
         plain &= !is_special(here);
         end = skip_set::<ValueByte>(text, next);
-    }
-    Lookahead { end, plain }
-}
-
-/// `&` or a carriage return.
-#[inline(always)]
-fn changes_run(byte: u8) -> bool
-    ensures { result ≡ longer.changes_run byte }
-{
-    (byte == b'&') | (byte == b'\r')
-}
-
-/// A run of character data as far as it is in order, up to a `<`, a `]]>` or the end.
-pub fn scan_character_data(text: &str, at: usize) -> Lookahead
-    requires { IsCharBoundary text.now at }
-    ensures looked { IsLookahead (longer.ends_run text.now) longer.changes_run text.now at result.end result.plain }
-    ensures stops { result.end < length text.now → longer.ends_run text.now result.end ≡ false → begins is_char text.now result.end ≡ false }
-{
-    let bytes = text.as_bytes();
-    let mut plain = true;
-    let mut end = skip_set::<TextByte>(text, at);
-    while end < bytes.len() {
-        let here = bytes[end];
-        if here == b'<' || is_mark_at(text, end, b"]]>") {
-            break;
-        }
-        let next = after_char(text, end);
-        if next == end {
-            break;
-        }
-        plain &= !changes_run(here);
-        end = skip_set::<TextByte>(text, next);
     }
     Lookahead { end, plain }
 }

@@ -15,8 +15,8 @@ use Rattle.rox_values.specs.Refusals.{IsRefusal}
 use Rattle.rox_values.specs.declared.parse_error.ParseError.{ParseError}
 use Rattle.rox_values.specs.declared.reference.Reference.{Reference}
 use Rattle.rox_values.specs.declared.reference.Reference.TheVariants as reference
-use Rattle.rox_values.specs.declared.value.TextValue.{TextValue}
-use Rattle.rox_values.specs.declared.value.TextValue.TheVariants as piece
+use Rattle.rox_values.specs.declared.text_value.TextValue.{TextValue}
+use Rattle.rox_values.specs.declared.text_value.TextValue.TheVariants as piece
 
 -- the base of a number's digits, and which bytes they are
 abbrev pub base_of : Bool → ℕ

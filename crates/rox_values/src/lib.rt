@@ -1,8 +1,11 @@
 //! The values of attributes, and the parts of a run of text: references, entities and line ends.
 #![tactic(auto)]
 
+pub mod attribute_value;
+pub mod character_data;
 pub mod context;
 pub mod entities;
+pub mod line_ends;
 pub mod parse_error;
 pub mod reference;
-pub mod value;
+pub mod text_value;

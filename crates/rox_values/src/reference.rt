@@ -1,12 +1,15 @@
-//! References to characters and to entities (XML 1.0 sections 4.1 and 4.6).
+//! References to characters and to entities, and the replacement text that one names (XML 1.0 sections 4.1 and 4.6).
 
-ghost use Rattle.std.specs.Prelude.{◌≡◌, ◌^◌, ◌≤◌, ◌<◌, IfOk, min, length, slice_index, slice_range};
+ghost use Rattle.std.specs.Prelude.{◌≡◌, ◌^◌, ◌≤◌, ◌<◌, List, IfOk, min, length, slice_index, slice_range};
 ghost use Rattle.rox_grammar.specs.Chars.{is_char};
+ghost use Rattle.rox_grammar.specs.Entities.{Entity, text_of};
 ghost use Rattle.rox_grammar.specs.References as spec;
 ghost use Rattle.rox_reading.specs.Values as reading;
 ghost use Rattle.rox_scan.specs.ScanResults.{Reads};
-ghost use Rattle.rox_values.specs.Values.{HasItsName, base_of, is_digit_of, reference_view};
+ghost use Rattle.rox_values.specs.DeclaredEntities.{AreDeclared};
+ghost use Rattle.rox_values.specs.Values.{FindsEntity, HasItsName, base_of, is_digit_of, reference_view};
 
+use crate::context::Context;
 use rox_grammar::fault::{Fault, Span};
 use rox_scan::chars::is_char;
 use rox_scan::cursor::Cursor;
@@ -193,4 +196,22 @@ pub fn read_reference<'input>(cursor: &mut Cursor<'input>) -> Result<Reference<'
         return number(cursor, digits, false);
     }
     number(cursor, digits + 1, true)
+}
+
+/// The replacement text of a name, which stands at `span` in a reference that begins at `start`. A name that is not declared is
+/// a fault there.
+#[cold]
+#[inline(never)]
+pub(crate) fn found<'input>(
+    how: Context<'_, 'input>,
+    name: &str,
+    span: Span,
+    start: usize,
+) -> Result<Cursor<'input>, Fault>
+    ensures { (es : List Entity) → AreDeclared es how.entry.entities.now → FindsEntity result (reading.entity_bit (text_of es name.now) start span) }
+{
+    match how.entities.get(name) {
+        Some(text) => Ok(text),
+        None => Err(Fault::UnknownEntityReference(span, start)),
+    }
 }

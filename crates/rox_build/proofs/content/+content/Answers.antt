@@ -9,7 +9,7 @@ use Rattle.rox_scan.proofs.NearLemmas.{text_cut}
 use Rattle.rox_values.specs.Contexts.{context_of}
 use Rattle.rox_build.proofs.Lifting.{refused_too}
 use Rattle.rox_build.proofs.Stepping.{two_stand, step_is_run, step_is_markup, plain_run, parted_run, run_fails, text_stepped, same_shows}
-use Rattle.rox_values.proofs.ShortLemmas.{short_run}
+use Rattle.rox_scan.proofs.ShortLemmas.{short_run}
 use Rattle.rox_build.proofs.Parting.{rests_of, parting_ends, parting_on, parting_fails, parting_stops, parting_out}
 use Rattle.rox_build.proofs.TextLooping.{opened_depth, text_on, text_fails, text_at_end, text_spent}
 use Rattle.rox_build.proofs.TextOpening.{inner_state, outer_state, opens_err, opens_reads, opens_refuses, opener_at}

@@ -3,7 +3,7 @@ use Rattle.std.proofs.lemmas.Result.{err_from_is_err_and}
 use Rattle.std.proofs.lemmas.Bool.{leb-true, leb-false}
 use Rattle.rox_reading.specs.Markup.{tag_item_at, more}
 use Rattle.rox_scan.specs.Views.{attribute_view, tag_item_view}
-use Rattle.rox_scan.specs.declared.markup.TagItem.{TagItem as CodeTagItem}
+use Rattle.rox_scan.specs.declared.tag.TagItem.{TagItem as CodeTagItem}
 use Rattle.rox_values.specs.Refusals.{IsRefusal}
 use Rattle.rox_values.specs.DeclaredEntities.{values_in}
 use Rattle.rox_build.specs.TagState.{one_more}

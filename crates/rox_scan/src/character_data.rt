@@ -1,0 +1,148 @@
+//! Runs of character data as they stand (XML 1.0 section 2.4): a first look, a longer one where that stops at a byte that may be
+//! in order, and the fault of `]]>`.
+
+ghost use Rattle.std.specs.Prelude.{◌≡◌, ◌==◌, ◌||◌, ◌<◌, ◌≤◌, IfOk, OnOk, false, length, slice_index};
+ghost use Rattle.std.specs.Str.{IsCharBoundary};
+ghost use Rattle.rox_grammar.specs.Chars.{is_char};
+ghost use Rattle.rox_grammar.specs.Runs.{begins};
+ghost use Rattle.rox_grammar.specs.Content as content;
+ghost use Rattle.rox_reading.specs.Values as spec;
+ghost use Rattle.rox_scan.specs.ByteSets as near;
+ghost use Rattle.rox_scan.specs.Lookahead as longer;
+ghost use Rattle.rox_scan.specs.Lookahead.{IsLookahead};
+ghost use Rattle.rox_scan.specs.ScanResults.{Reads};
+
+use crate::byte_set::{ByteSet, skip_set};
+use crate::chars;
+use crate::cursor::Cursor;
+use crate::lookahead::{Lookahead, after_char, is_mark_at};
+use crate::nibbles::classes;
+use crate::search::{before_either, byte_from, has_mark};
+use rox_grammar::fault::Fault;
+use std::simd::prelude::*;
+
+/// The bytes of character data that stand for themselves.
+pub struct TextByte;
+
+// Classes that a byte of the set has none of, and any other has one.
+const TEXT_LOW: [u8; 16] = [3, 3, 3, 3, 3, 3, 7, 3, 3, 2, 2, 3, 11, 19, 3, 35];
+
+const TEXT_HIGH: [u8; 16] = [1, 2, 4, 8, 0, 16, 0, 0, 0, 0, 0, 0, 0, 0, 32, 0];
+
+impl ByteSet for TextByte {
+    ghost test = { near.is_text_byte };
+
+    #[inline(always)]
+    fn has(byte: u8) -> bool {
+        chars::is_text_byte(byte)
+    }
+
+    #[inline(always)]
+    fn others(block: u8x16) -> u64 {
+        classes(TEXT_LOW, TEXT_HIGH, block)
+            .simd_ne(u8x16::splat(0))
+            .to_bitmask()
+    }
+}
+
+/// Whether a run ends at `at`: a `<` stands there, or the text ends.
+#[inline(always)]
+pub fn ends_character_data(text: &str, at: usize) -> bool
+    requires { at ≤ length text.now }
+    ensures { result ≡ (at == length text.now || slice_index text.now at == 60) }
+{
+    at == text.len() || text.as_bytes()[at] == b'<'
+}
+
+/// `&` or a carriage return.
+#[inline(always)]
+fn changes_run(byte: u8) -> bool
+    ensures { result ≡ longer.changes_run byte }
+{
+    (byte == b'&') | (byte == b'\r')
+}
+
+/// A run of character data as far as it is in order, up to a `<`, a `]]>` or the end.
+pub fn scan_character_data(text: &str, at: usize) -> Lookahead
+    requires { IsCharBoundary text.now at }
+    ensures looked { IsLookahead (longer.ends_run text.now) longer.changes_run text.now at result.end result.plain }
+    ensures stops { result.end < length text.now → longer.ends_run text.now result.end ≡ false → begins is_char text.now result.end ≡ false }
+{
+    let bytes = text.as_bytes();
+    let mut plain = true;
+    let mut end = skip_set::<TextByte>(text, at);
+    while end < bytes.len() {
+        let here = bytes[end];
+        if here == b'<' || is_mark_at(text, end, b"]]>") {
+            break;
+        }
+        let next = after_char(text, end);
+        if next == end {
+            break;
+        }
+        plain &= !changes_run(here);
+        end = skip_set::<TextByte>(text, next);
+    }
+    Lookahead { end, plain }
+}
+
+/// Whether the bytes are a run's text as they stand: they have no `&` and no CR.
+#[inline]
+fn is_verbatim(bytes: &[u8]) -> bool
+    ensures { result ≡ content.is_verbatim bytes.now }
+{
+    before_either(bytes, b'&', b'\r') == bytes.len()
+}
+
+/// A run of character data as it stands. `plain` says that it has no reference and no carriage return.
+#[derive(Clone, Copy)]
+pub struct RawCharacterData<'input> {
+    pub text: &'input str,
+    pub plain: bool,
+}
+
+/// A run of character data, up to the next `<` or the end (XML 1.0 section 2.4), as it stands: of Chars, and without `]]>`,
+/// which is a fault at its end.
+pub fn raw_character_data<'input>(
+    cursor: &mut Cursor<'input>,
+) -> Result<RawCharacterData<'input>, Fault>
+    ensures value { Reads (λ raw. raw.text.now) cursor.new result (spec.raw_character_data_at cursor.old.text.now cursor.old.pos) }
+    ensures plain { IfOk result (λ raw. raw.plain ≡ content.is_verbatim raw.text.now) }
+    ensures source { cursor.new.text ≡ cursor.old.text }
+    ensures cut { OnOk result (IsCharBoundary cursor.old.text.now cursor.new.pos) }
+{
+    let start = cursor.pos;
+    let text = cursor.text;
+    let look = scan_character_data(text, start);
+    if ends_character_data(text, look.end) {
+        cursor.pos = look.end;
+        return Ok(RawCharacterData {
+            text: &text[start..look.end],
+            plain: look.plain,
+        });
+    }
+    faulty_character_data(cursor)
+}
+
+/// The same of a run that is not in order.
+#[cold]
+#[inline(never)]
+#[tactic(auto, unfolding(rox_reading::specs::Values::raw_character_data_at))]
+fn faulty_character_data<'input>(
+    cursor: &mut Cursor<'input>,
+) -> Result<RawCharacterData<'input>, Fault>
+    ensures value { Reads (λ raw. raw.text.now) cursor.new result (spec.raw_character_data_at cursor.old.text.now cursor.old.pos) }
+    ensures plain { IfOk result (λ raw. raw.plain ≡ content.is_verbatim raw.text.now) }
+    ensures source { cursor.new.text ≡ cursor.old.text }
+    ensures cut { OnOk result (IsCharBoundary cursor.old.text.now cursor.new.pos) }
+{
+    let end = byte_from(cursor.text, cursor.pos, b'<');
+    let raw = cursor.chars_up_to(end)?;
+    if has_mark(raw.as_bytes(), b"]]>") {
+        return Err(Fault::InvalidCharacterData(end));
+    }
+    Ok(RawCharacterData {
+        text: raw,
+        plain: is_verbatim(raw.as_bytes()),
+    })
+}

@@ -1,0 +1,42 @@
+//! Where a text begins, behind its byte order mark, and where a resolver's answer does, behind its declaration too (XML 1.0
+//! sections 4.3.1 and 4.3.3).
+
+ghost use Rattle.std.specs.Prelude.{◌≡◌, ◌==◌, Some, IsUtf8};
+ghost use Rattle.std.specs.List.{starts_with};
+ghost use Rattle.rox_grammar.specs.TextStart.{after_bom, bom};
+ghost use Rattle.rox_reading.specs.Doctype as spec;
+ghost use Rattle.rox_scan.specs.DoctypeViews.{IsReplacement};
+
+use crate::cursor::Cursor;
+use rox_grammar::fault::Fault;
+
+/// Whether a byte order mark stands at the start (XML 1.0 section 4.3.3).
+fn has_byte_order_mark(text: &str) -> bool
+    ensures { result ≡ starts_with ◌==◌ text.now bom }
+{
+    text.as_bytes().starts_with(b"\xEF\xBB\xBF")
+}
+
+/// The start of a text, behind its byte order mark if it has one.
+pub fn start_of(text: &str) -> Cursor<'_>
+    ensures place { result.pos ≡ after_bom text.entry.now }
+    ensures source { result.text ≡ text.entry }
+{
+    if has_byte_order_mark(text) {
+        Cursor::at(text, 3)
+    } else {
+        Cursor::new(text)
+    }
+}
+
+/// The replacement text that a resolver's answer gives: what follows its byte order mark and its declaration (XML 1.0 section
+/// 4.3.1). It counts its places from its own start.
+#[tactic(auto, unfolding(rox_reading::specs::Doctype::answer_text))]
+pub fn replacement_in<'input>(answer: &'input str) -> Result<Cursor<'input>, Fault>
+    ensures value { IsReplacement answer.entry.now result (spec.answer_text (Some answer.entry.now)) }
+    ensures text { IsUtf8 answer.entry.now }
+{
+    let mut cursor = start_of(answer);
+    cursor.xml_decl_if()?;
+    Ok(Cursor::new(&answer[cursor.pos..]))
+}

@@ -1,0 +1,112 @@
+//! The declaration that a text may begin with (XML 1.0 [23] XMLDecl, [77] TextDecl).
+
+ghost use Rattle.std.specs.Prelude.{◌≡◌, ◌≤◌, ◌+◌, true};
+ghost use Rattle.rox_grammar.specs.Search.{stands};
+ghost use Rattle.rox_grammar.specs.FixedTexts.{word_text};
+ghost use Rattle.rox_grammar.specs.declared.fault.Word.TheVariants as word;
+ghost use Rattle.rox_reading.specs.Markup as spec;
+ghost use Rattle.rox_scan.specs.ScanResults.{Reads};
+ghost use Rattle.rox_scan.specs.DoctypeViews.{xml_decl_if};
+
+use crate::chars::is_space;
+use crate::cursor::Cursor;
+use crate::search::either_from;
+use rox_grammar::fault::{Due, Fault, Word};
+
+impl<'input> Cursor<'input> {
+    /// A name, `=`, and a value in quotes, of the XML declaration.
+    #[tactic(auto, unfolding(rox_reading::specs::Markup::pair_at))]
+    fn pair(&mut self) -> Result<(), Fault>
+        ensures value { Reads (λ x. x) self.new result (spec.pair_at self.old.text.now self.old.pos) }
+        ensures source { self.new.text ≡ self.old.text }
+        ensures onward { self.old.pos ≤ self.new.pos }
+    {
+        let _name = self.qname()?;
+        self.spaces();
+        self.byte(b'=')?;
+        self.spaces();
+        let quote = self.quote()?;
+        let end = either_from(self.text, self.pos, quote, b'<');
+        let _value = self.chars_up_to(end)?;
+        self.byte(quote)
+    }
+
+    /// White space, or nothing where `?>` stands or the source ends.
+    #[tactic(auto, unfolding(rox_reading::specs::Markup::gap_at))]
+    fn gap(&mut self) -> Result<(), Fault>
+        ensures value { Reads (λ x. x) self.new result (spec.gap_at self.old.text.now self.old.pos) }
+        ensures source { self.new.text ≡ self.old.text }
+        ensures onward { self.old.pos ≤ self.new.pos }
+    {
+        if self.pos >= self.text.len() {
+            return Ok(());
+        }
+        let here = self.text.as_bytes()[self.pos];
+        if is_space(here) {
+            self.spaces();
+            return Ok(());
+        }
+        if self.starts(Word::PIEnd) {
+            return Ok(());
+        }
+        Err(Fault::InvalidChar2(Due::Space, here, self.pos))
+    }
+
+    /// A pair and a gap if the word stands here.
+    #[tactic(auto, unfolding(rox_reading::specs::Markup::pair_if))]
+    fn pair_if(&mut self, name: Word) -> Result<(), Fault>
+        ensures value { Reads (λ x. x) self.new result (spec.pair_if name self.old.text.now self.old.pos) }
+        ensures source { self.new.text ≡ self.old.text }
+        ensures onward { self.old.pos ≤ self.new.pos }
+    {
+        if !self.starts(name) {
+            return Ok(());
+        }
+        self.pair()?;
+        self.gap()
+    }
+
+    /// Moves past `<?xml`, up to the space behind it.
+    #[inline]
+    fn skip_xml_decl_start(&mut self)
+        requires { stands (word_text word.XmlDeclStart) self.old.text.now self.old.pos ≡ true }
+        ensures place { self.new.pos ≡ self.old.pos + 5 }
+        ensures source { self.new.text ≡ self.old.text }
+    {
+        self.pos += 5;
+    }
+
+    /// The XML declaration, from `<?xml` and a space to its end `?>` (XML 1.0 [23] XMLDecl). Its values are read and not kept.
+    #[tactic(auto, unfolding(rox_reading::specs::Markup::xml_decl_at))]
+    pub fn declaration(&mut self) -> Result<(), Fault>
+        requires { stands (word_text word.XmlDeclStart) self.old.text.now self.old.pos ≡ true }
+        ensures value { Reads (λ x. x) self.new result (spec.xml_decl_at self.old.text.now self.old.pos) }
+        ensures source { self.new.text ≡ self.old.text }
+        ensures onward { self.old.pos ≤ self.new.pos }
+    {
+        self.skip_xml_decl_start();
+        self.spaces();
+        if !self.starts(Word::Version) {
+            return Err(Fault::InvalidString(Word::Version, self.pos));
+        }
+        self.pair_if(Word::Version)?;
+        self.pair_if(Word::Encoding)?;
+        if self.starts(Word::Standalone) {
+            self.pair()?;
+        }
+        self.spaces();
+        self.string(Word::PIEnd)
+    }
+
+    /// The declaration that a text begins with, if it does (XML 1.0 [23] XMLDecl, [77] TextDecl).
+    pub fn xml_decl_if(&mut self) -> Result<(), Fault>
+        ensures value { Reads (λ x. x) self.new result (xml_decl_if self.old.text.now self.old.pos) }
+        ensures source { self.new.text ≡ self.old.text }
+        ensures onward { self.old.pos ≤ self.new.pos }
+    {
+        if self.starts(Word::XmlDeclStart) {
+            return self.declaration();
+        }
+        Ok(())
+    }
+}

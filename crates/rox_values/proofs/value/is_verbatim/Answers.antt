@@ -1,5 +1,0 @@
-use Rattle.rox_values.proofs.PlainLemmas.{run_plain}
-use Rattle.rox_values.proofs.value.is_verbatim.Goals as goal
-
-pub returns : goal.returns
-returns c = rw c.before_either.ensures.value (run_plain c.args.bytes.now)

@@ -1,8 +1,0 @@
-use Rattle.std.proofs.Common.{sym, ◌∙◌}
-use Rattle.rox_values.proofs.ShortLemmas.{longer_run}
-use Rattle.rox_values.proofs.value.raw_character_data.Goals as goal
-
-pub returns-then-ends_character_data-clause-value : goal.returns-then-ends_character_data-clause-value
-returns-then-ends_character_data-clause-value c =
-    let read = longer_run c.args.cursor.now.text.now c.args.cursor.now.pos c.scan_character_data-look.result.end _ c.scan_character_data-look.ensures.looked (sym c.ends_character_data.ensures ∙ c.if-ends_character_data.true) in
-    rw c.range.ensures.value read

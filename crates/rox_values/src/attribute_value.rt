@@ -1,0 +1,305 @@
+//! The values of attributes: what they stand for, with references and white space (XML 1.0 sections 3.3.3 and 4.1).
+
+ghost use Rattle.std.specs.Prelude.{◌≡◌, ◌≢◌, Bool, List, Result, Ok, false, ◌≤◌, ◌<◌, length, slice_index, true};
+ghost use Rattle.std.specs.List.{position_or_len};
+ghost use Rattle.std.specs.String.{string_bytes};
+ghost use Rattle.std.specs.Char.{encode_utf8};
+ghost use Rattle.std.specs.Str.{IsCharBoundary};
+ghost use Rattle.rox_grammar.specs.Search.{byte_from};
+ghost use Rattle.rox_reading.specs.Values as spec;
+ghost use Rattle.rox_scan.specs.Views.{HasValue};
+ghost use Rattle.rox_grammar.specs.Entities.{Entity};
+ghost use Rattle.rox_grammar.specs.declared.fault.Fault.{Fault};
+ghost use Rattle.rox_reading.specs.Machine.{value_opener};
+ghost use Rattle.rox_scan.specs.DoctypeViews.{replacement_view};
+ghost use Rattle.rox_values.specs.DeclaredEntities.{AreDeclared};
+ghost use Rattle.rox_values.specs.Values.{Appends, AppendsBit, AppendsCharacter, AppendsValue, GivesValue, ends_stretch, piece_view};
+
+use crate::context::Context;
+use crate::parse_error::ParseError;
+use crate::reference::{Reference, found, read_reference};
+use crate::text_value::TextValue;
+use rox_grammar::failure::Failure;
+use rox_grammar::fault::Fault;
+use rox_scan::byte_set::{ValueByte, skip_set};
+use rox_scan::cursor::Cursor;
+use rox_scan::lookahead::is_special;
+use rox_scan::runs::is_at;
+use rox_scan::search::byte_from;
+use rox_scan::tag::RawAttribute;
+
+/// How many bytes come before the first special one, or all.
+fn before_special(bytes: &[u8]) -> usize
+    ensures value { result ≡ position_or_len spec.is_special bytes.now }
+    ensures within { result ≤ length bytes.now }
+    ensures found { result < length bytes.now → spec.is_special (slice_index bytes.now result) ≡ true }
+{
+    for (index, byte) in bytes.iter().enumerate() {
+        if is_special(*byte) {
+            return index;
+        }
+    }
+    bytes.len()
+}
+
+/// The first place from `at` on of a special byte of a value, or the end.
+#[tactic(auto, using(rox_scan::proofs::NearLemmas::special_goes_on, rox_scan::proofs::NearLemmas::value_cut), unfolding(rox_grammar::specs::Search::byte_from))]
+fn special_from(text: &str, at: usize) -> usize
+    requires { IsCharBoundary text.now at }
+    ensures place { result ≡ byte_from spec.is_special text.now at }
+    ensures onward { at ≤ result }
+    ensures cut { IsCharBoundary text.now result }
+{
+    let near = skip_set::<ValueByte>(text, at);
+    near + before_special(text[near..].as_bytes())
+}
+
+/// Appends a space for the white space byte that stands here, and nothing for a CR right before a LF.
+#[tactic(auto, unfolding(rox_reading::specs::Values::value_bit_at))]
+fn white_space(cursor: &mut Cursor<'_>, stop: usize, out: &mut String) -> Result<(), Failure>
+    requires here { spec.is_special (slice_index cursor.old.text.now cursor.old.pos) ≡ true }
+    requires no_reference { slice_index cursor.old.text.now cursor.old.pos ≢ 38 }
+    requires before { cursor.old.pos < stop }
+    requires cut { IsCharBoundary cursor.old.text.now stop }
+    ensures value { (main : Bool) (es : List Entity) → Appends (string_bytes out.old) (string_bytes out.new) cursor.new result (spec.value_bit_at main es cursor.old.text.now stop cursor.old.pos) }
+    ensures source { cursor.new.text ≡ cursor.old.text }
+{
+    let here = cursor.text.as_bytes()[cursor.pos];
+    cursor.advance();
+    if here == b'\r' && is_at(&cursor.text[..stop], cursor.pos, b'\n') {
+        return Ok(());
+    }
+    out.push(' ')?;
+    Ok(())
+}
+
+/// Appends a character that a reference names which begins at `start`, in a value. Within a replacement text white space gives a
+/// space, and a `<` is a fault (XML 1.0 sections 3.1 and 3.3.3).
+#[inline(always)]
+fn character_in_value(
+    character: char,
+    start: usize,
+    main: bool,
+    out: &mut String,
+) -> Result<(), Failure>
+    ensures { (read : Result spec.Bit Fault) → read ≡ Ok (spec.bytes_of (encode_utf8 character)) → AppendsCharacter (string_bytes out.old) (string_bytes out.new) result (spec.tested_bit main start (spec.character_of character) read) }
+{
+    if main {
+        out.push(character)?;
+        return Ok(());
+    }
+    if character == '<' {
+        return Err(Failure::Fault(Fault::InvalidAttributeValue(start)));
+    }
+    if matches!(character, '\t' | '\n' | '\r') {
+        out.push(' ')?;
+    } else {
+        out.push(character)?;
+    }
+    Ok(())
+}
+
+/// Appends the character of the reference that stands here, in a value; or answers the replacement text that it names.
+#[inline(always)]
+#[tactic(auto, unfolding(rox_reading::specs::Values::value_reference_at))]
+fn expand_in_value<'input>(
+    cursor: &mut Cursor<'input>,
+    how: Context<'_, 'input>,
+    out: &mut String,
+) -> Result<Option<Cursor<'input>>, Failure>
+    requires { slice_index cursor.old.text.now cursor.old.pos ≡ 38 }
+    ensures value { (es : List Entity) → AreDeclared es how.entry.entities.now
+        → AppendsBit (string_bytes out.old) (string_bytes out.new) cursor.new result (spec.value_reference_at how.entry.main es cursor.old.text.now cursor.old.pos) }
+    ensures source { cursor.new.text ≡ cursor.old.text }
+{
+    let start = cursor.pos;
+    match read_reference(cursor)? {
+        Reference::Character(character) => {
+            character_in_value(character, start, how.main, out)?;
+            Ok(None)
+        }
+        Reference::Entity(span, name) => {
+            let text = found(how, name, span, start)?;
+            Ok(Some(text))
+        }
+    }
+}
+
+/// `<`, `&`, or white space that is no space.
+#[inline(always)]
+fn is_stretch_end(byte: u8) -> bool
+    ensures { result ≡ ends_stretch byte }
+{
+    is_special(byte) | (byte == b'<')
+}
+
+/// How many bytes come before the first of these, or all.
+fn before_stop(bytes: &[u8]) -> usize
+    ensures value { result ≡ position_or_len ends_stretch bytes.now }
+    ensures within { result ≤ length bytes.now }
+    ensures found { result < length bytes.now → ends_stretch (slice_index bytes.now result) ≡ true }
+{
+    for (index, byte) in bytes.iter().enumerate() {
+        if is_stretch_end(*byte) {
+            return index;
+        }
+    }
+    bytes.len()
+}
+
+/// The first place from `at` on of a special byte of a value or a `<`, or the end.
+#[tactic(auto, unfolding(rox_grammar::specs::Search::byte_from))]
+fn stretch_end(text: &str, at: usize) -> usize
+    requires { IsCharBoundary text.now at }
+    ensures place { result ≡ byte_from ends_stretch text.now at }
+    ensures onward { at ≤ result }
+    ensures cut { IsCharBoundary text.now result }
+{
+    at + before_stop(text[at..].as_bytes())
+}
+
+/// Appends all of a value in a replacement text up to the next special byte. A character that is no Char, and a `<`, is a fault.
+#[cold]
+#[inline(never)]
+#[tactic(auto, unfolding(rox_reading::specs::Values::value_bit_at, rox_reading::specs::Values::stretch_at))]
+fn inner_stretch(cursor: &mut Cursor<'_>, stop: usize, out: &mut String) -> Result<(), Failure>
+    requires before { cursor.old.pos < stop }
+    requires cut { IsCharBoundary cursor.old.text.now stop }
+    requires plain { spec.is_special (slice_index cursor.old.text.now cursor.old.pos) ≡ false }
+    ensures value { (es : List Entity) → Appends (string_bytes out.old) (string_bytes out.new) cursor.new result (spec.value_bit_at false es cursor.old.text.now stop cursor.old.pos) }
+    ensures source { cursor.new.text ≡ cursor.old.text }
+{
+    let text = cursor.text;
+    let end = stretch_end(&text[..stop], cursor.pos);
+    let raw = cursor.chars_up_to(end)?;
+    if is_at(&text[..stop], end, b'<') {
+        return Err(Failure::Fault(Fault::InvalidAttributeValue(end)));
+    }
+    out.push_str(raw)?;
+    Ok(())
+}
+
+/// Appends all of a value in the main text up to the next special byte.
+#[tactic(auto, unfolding(rox_reading::specs::Values::value_bit_at, rox_reading::specs::Values::stretch_at))]
+fn main_stretch(cursor: &mut Cursor<'_>, stop: usize, out: &mut String) -> Result<(), Failure>
+    requires before { cursor.old.pos < stop }
+    requires cut { IsCharBoundary cursor.old.text.now stop }
+    requires plain { spec.is_special (slice_index cursor.old.text.now cursor.old.pos) ≡ false }
+    ensures value { (es : List Entity) → Appends (string_bytes out.old) (string_bytes out.new) cursor.new result (spec.value_bit_at true es cursor.old.text.now stop cursor.old.pos) }
+    ensures source { cursor.new.text ≡ cursor.old.text }
+{
+    let start = cursor.pos;
+    let text = cursor.text;
+    let end = special_from(&text[..stop], start);
+    out.push_str(&text[start..end])?;
+    cursor.pos = end;
+    Ok(())
+}
+
+/// Appends a bit of a value: a reference, white space, or all up to the next of these; or answers the replacement text that a
+/// reference names.
+#[inline(always)]
+#[tactic(auto, unfolding(rox_reading::specs::Values::value_bit_at))]
+fn value_bit<'input>(
+    cursor: &mut Cursor<'input>,
+    stop: usize,
+    how: Context<'_, 'input>,
+    out: &mut String,
+) -> Result<Option<Cursor<'input>>, Failure>
+    requires before { cursor.old.pos < stop }
+    requires cut { IsCharBoundary cursor.old.text.now stop }
+    ensures value { (es : List Entity) → AreDeclared es how.entry.entities.now
+        → AppendsBit (string_bytes out.old) (string_bytes out.new) cursor.new result (spec.value_bit_at how.entry.main es cursor.old.text.now stop cursor.old.pos) }
+    ensures source { cursor.new.text ≡ cursor.old.text }
+{
+    let here = cursor.text.as_bytes()[cursor.pos];
+    if here == b'&' {
+        return expand_in_value(cursor, how, out);
+    }
+    if is_special(here) {
+        white_space(cursor, stop, out)?;
+        return Ok(None);
+    }
+    if how.main {
+        main_stretch(cursor, stop, out)?;
+        return Ok(None);
+    }
+    inner_stretch(cursor, stop, out)?;
+    Ok(None)
+}
+
+/// Appends what the value's text from here up to `stop` stands for, where so many replacement texts may be opened; it has at most
+/// so many bits. Answers how many may be opened behind it.
+#[cycle(values)]
+fn value_text<'input>(
+    cursor: &mut Cursor<'input>,
+    stop: usize,
+    bits: usize,
+    how: Context<'_, 'input>,
+    mut left: u32,
+    out: &mut String,
+) -> Result<u32, ParseError<'input>>
+    requires { IsCharBoundary cursor.old.text.now stop }
+    ensures { (es : List Entity) → AreDeclared es how.entry.entities.now
+        → AppendsValue (string_bytes out.old) (string_bytes out.new) result (spec.value_text how.entry.main es (value_opener es how.entry.deep how.entry.main) bits cursor.old.text.now stop cursor.old.pos left) }
+{
+    'bits: for _turn in 0..bits {
+        if cursor.pos >= stop {
+            return Ok(left);
+        }
+        if let Some(text) = value_bit(cursor, stop, how, out)? {
+            left = open_value(text, cursor.pos, how, left, out)?;
+        }
+    }
+    Ok(left)
+}
+
+/// Appends a replacement text as a part of a value (XML 1.0 section 4.4.5). The reference ends at `after`. Answers how many may
+/// be opened behind it.
+#[cycle(values)]
+#[cold]
+#[inline(never)]
+fn open_value<'input>(
+    text: Cursor<'input>,
+    after: usize,
+    how: Context<'_, 'input>,
+    left: u32,
+    out: &mut String,
+) -> Result<u32, ParseError<'input>>
+    ensures { (es : List Entity) → AreDeclared es how.entry.entities.now
+        → AppendsValue (string_bytes out.old) (string_bytes out.new) result (value_opener es how.entry.deep how.entry.main (replacement_view text.entry) after left) }
+{
+    let (within, inner) = how.opened(after, left, 0)?;
+    let mut cursor = text;
+    let end = text.text.len();
+    match value_text(&mut cursor, end, end, within, inner, out) {
+        Ok(inner) => Ok(how.left_behind(left, inner)),
+        Err(refused) => Err(refused.within(text.text)),
+    }
+}
+
+/// An attribute's value (XML 1.0 section 3.3.3): a slice of the source where it has no reference and no white space but
+/// spaces, and else what it stands for, in `scratch`, which is cleared first; and how many replacement texts may be opened
+/// behind it, where so many could before.
+#[inline]
+#[tactic(auto, unfolding(rox_reading::specs::Values::value_at))]
+pub fn value<'input>(
+    text: &'input str,
+    raw: &RawAttribute<'input>,
+    how: Context<'_, 'input>,
+    left: u32,
+    scratch: &mut String,
+) -> Result<(TextValue<'input>, u32), ParseError<'input>>
+    requires { HasValue text.now raw.now }
+    ensures { (es : List Entity) → AreDeclared es how.entry.entities.now → GivesValue (λ p. piece_view p (string_bytes scratch.new)) result
+        (spec.value_at how.entry.main es (value_opener es how.entry.deep how.entry.main) text.entry.now raw.now.value_start raw.now.value_end left) }
+{
+    if raw.plain {
+        return Ok((TextValue::Plain(raw.value), left));
+    }
+    scratch.clear();
+    let mut cursor = Cursor::at(text, raw.value_start);
+    let bits = raw.value_end.saturating_sub(raw.value_start);
+    let left = value_text(&mut cursor, raw.value_end, bits, how, left, scratch)?;
+    Ok((TextValue::Changed, left))
+}

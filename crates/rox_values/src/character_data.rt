@@ -1,0 +1,132 @@
+//! What the parts of character data stand for, with references and line ends (XML 1.0 sections 2.4, 2.11 and 4.1).
+
+ghost use Rattle.std.specs.Prelude.{◌≡◌, ◌≢◌, ◌-◌, List, false, ◌<◌, slice_index, true};
+ghost use Rattle.std.specs.String.{string_bytes};
+ghost use Rattle.std.specs.Str.{IsCharBoundary};
+ghost use Rattle.rox_reading.specs.Values as spec;
+ghost use Rattle.rox_grammar.specs.Entities.{Entity};
+ghost use Rattle.rox_values.specs.DeclaredEntities.{AreDeclared};
+ghost use Rattle.rox_values.specs.Values.{Appends, AppendsBit, AppendsPart};
+
+use crate::context::Context;
+use crate::line_ends::line_end;
+use crate::reference::{Reference, found, read_reference};
+use rox_grammar::failure::Failure;
+use rox_scan::cursor::Cursor;
+use rox_scan::search::{byte_from, either_from};
+
+/// Appends the character of the reference that stands here, in a run; or answers the replacement text that it names.
+#[inline(always)]
+#[tactic(auto, unfolding(rox_reading::specs::Values::expansion_at))]
+fn expand<'input>(
+    cursor: &mut Cursor<'input>,
+    how: Context<'_, 'input>,
+    out: &mut String,
+) -> Result<Option<Cursor<'input>>, Failure>
+    requires { slice_index cursor.old.text.now cursor.old.pos ≡ 38 }
+    ensures value { (es : List Entity) → AreDeclared es how.entry.entities.now
+        → AppendsBit (string_bytes out.old) (string_bytes out.new) cursor.new result (spec.expansion_at es cursor.old.text.now cursor.old.pos) }
+    ensures source { cursor.new.text ≡ cursor.old.text }
+{
+    let start = cursor.pos;
+    match read_reference(cursor)? {
+        Reference::Character(character) => {
+            out.push(character)?;
+            Ok(None)
+        }
+        Reference::Entity(span, name) => {
+            let text = found(how, name, span, start)?;
+            Ok(Some(text))
+        }
+    }
+}
+
+/// Appends all of a run up to the next `&` or CR.
+#[tactic(auto, unfolding(rox_reading::specs::Values::data_bit_at))]
+fn main_data(cursor: &mut Cursor<'_>, stop: usize, out: &mut String) -> Result<(), Failure>
+    requires before { cursor.old.pos < stop }
+    requires cut { IsCharBoundary cursor.old.text.now stop }
+    requires no_reference { slice_index cursor.old.text.now cursor.old.pos ≢ 38 }
+    requires no_line_end { slice_index cursor.old.text.now cursor.old.pos ≢ 13 }
+    ensures value { (es : List Entity) → Appends (string_bytes out.old) (string_bytes out.new) cursor.new result (spec.data_bit_at true es cursor.old.text.now stop cursor.old.pos) }
+    ensures source { cursor.new.text ≡ cursor.old.text }
+{
+    let start = cursor.pos;
+    let text = cursor.text;
+    let end = either_from(&text[..stop], start, b'&', b'\r');
+    out.push_str(&text[start..end])?;
+    cursor.pos = end;
+    Ok(())
+}
+
+/// Appends all of a run of a replacement text up to the next `&`.
+#[tactic(auto, unfolding(rox_reading::specs::Values::data_bit_at))]
+fn inner_data(cursor: &mut Cursor<'_>, stop: usize, out: &mut String) -> Result<(), Failure>
+    requires before { cursor.old.pos < stop }
+    requires cut { IsCharBoundary cursor.old.text.now stop }
+    requires no_reference { slice_index cursor.old.text.now cursor.old.pos ≢ 38 }
+    ensures value { (es : List Entity) → Appends (string_bytes out.old) (string_bytes out.new) cursor.new result (spec.data_bit_at false es cursor.old.text.now stop cursor.old.pos) }
+    ensures source { cursor.new.text ≡ cursor.old.text }
+{
+    let start = cursor.pos;
+    let text = cursor.text;
+    let end = byte_from(&text[..stop], start, b'&');
+    out.push_str(&text[start..end])?;
+    cursor.pos = end;
+    Ok(())
+}
+
+/// Appends a bit of a run: a reference, a line end, or all up to the next of these; or answers the replacement text that a
+/// reference names. Within a replacement text line ends stay as they are.
+#[tactic(auto, unfolding(rox_reading::specs::Values::data_bit_at))]
+fn data_bit<'input>(
+    cursor: &mut Cursor<'input>,
+    stop: usize,
+    how: Context<'_, 'input>,
+    out: &mut String,
+) -> Result<Option<Cursor<'input>>, Failure>
+    requires before { cursor.old.pos < stop }
+    requires cut { IsCharBoundary cursor.old.text.now stop }
+    ensures value { (es : List Entity) → AreDeclared es how.entry.entities.now
+        → AppendsBit (string_bytes out.old) (string_bytes out.new) cursor.new result (spec.data_bit_at how.entry.main es cursor.old.text.now stop cursor.old.pos) }
+    ensures source { cursor.new.text ≡ cursor.old.text }
+{
+    let here = cursor.text.as_bytes()[cursor.pos];
+    if here == b'&' {
+        return expand(cursor, how, out);
+    }
+    if !how.main {
+        inner_data(cursor, stop, out)?;
+        return Ok(None);
+    }
+    if here == b'\r' {
+        line_end(cursor, stop, out)?;
+        return Ok(None);
+    }
+    main_data(cursor, stop, out)?;
+    Ok(None)
+}
+
+/// Appends what the run from here up to `stop` stands for, or up to the next reference to an entity, whose replacement text
+/// it answers. Within a replacement text line ends stay as they are.
+pub fn data_part<'input>(
+    cursor: &mut Cursor<'input>,
+    stop: usize,
+    how: Context<'_, 'input>,
+    out: &mut String,
+) -> Result<Option<Cursor<'input>>, Failure>
+    requires { IsCharBoundary cursor.old.text.now stop }
+    ensures value { (es : List Entity) → AreDeclared es how.entry.entities.now
+        → AppendsPart (string_bytes out.old) (string_bytes out.new) cursor.new result (spec.data_part how.entry.main es (stop - cursor.old.pos) cursor.old.text.now stop cursor.old.pos) }
+    ensures source { cursor.new.text ≡ cursor.old.text }
+{
+    'bits: for _turn in cursor.pos..stop {
+        if cursor.pos >= stop {
+            return Ok(None);
+        }
+        if let Some(text) = data_bit(cursor, stop, how, out)? {
+            return Ok(Some(text));
+        }
+    }
+    Ok(None)
+}

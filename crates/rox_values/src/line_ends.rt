@@ -1,0 +1,68 @@
+//! Line ends, each of which is read as a line feed (XML 1.0 section 2.11).
+
+ghost use Rattle.std.specs.Prelude.{◌≡◌, ◌++◌, List, IfOk, OnOk, ◌<◌, length, slice_index, true};
+ghost use Rattle.std.specs.String.{string_bytes};
+ghost use Rattle.std.specs.Str.{IsCharBoundary};
+ghost use Rattle.rox_reading.specs.Values as spec;
+ghost use Rattle.rox_grammar.specs.Entities.{Entity};
+ghost use Rattle.rox_values.specs.Values.{Appends, section_rest};
+
+use rox_grammar::failure::Failure;
+use rox_scan::cursor::Cursor;
+use rox_scan::runs::{after_byte, is_at};
+use rox_scan::search::byte_from;
+use std::alloc::AllocError;
+
+/// Appends a line feed for the line end that stands here: a CR, and the LF behind it if one stands there before `stop`.
+#[tactic(auto, unfolding(rox_reading::specs::Values::data_bit_at))]
+pub(crate) fn line_end(
+    cursor: &mut Cursor<'_>,
+    stop: usize,
+    out: &mut String,
+) -> Result<(), Failure>
+    requires here { slice_index cursor.old.text.now cursor.old.pos ≡ 13 }
+    requires before { cursor.old.pos < stop }
+    requires cut { IsCharBoundary cursor.old.text.now stop }
+    ensures value { (es : List Entity) → Appends (string_bytes out.old) (string_bytes out.new) cursor.new result (spec.data_bit_at true es cursor.old.text.now stop cursor.old.pos) }
+    ensures source { cursor.new.text ≡ cursor.old.text }
+{
+    cursor.advance();
+    out.push('\n')?;
+    if is_at(&cursor.text[..stop], cursor.pos, b'\n') {
+        cursor.advance();
+    }
+    Ok(())
+}
+
+/// Appends a text with a LF for each line end (XML 1.0 section 2.11).
+pub fn line_feeds(raw: &str, out: &mut String) -> Result<(), AllocError>
+    ensures { OnOk result (string_bytes out.new ≡ string_bytes out.old ++ section_rest raw.now 0) }
+{
+    let mut at = 0;
+    while at < raw.len() {
+        at = section_part(raw, at, out)?;
+    }
+    Ok(())
+}
+
+/// Appends a part of a CDATA section: a line end, or all up to the next CR. It answers where the part ends.
+#[tactic(auto, using(crate::proofs::SectionLemmas::part_stretch, crate::proofs::SectionLemmas::stretch_moves, crate::proofs::SectionLemmas::part_feed, crate::proofs::SectionLemmas::part_return))]
+fn section_part(raw: &str, at: usize, out: &mut String) -> Result<usize, AllocError>
+    requires within { at < length raw.now }
+    requires cut { IsCharBoundary raw.now at }
+    ensures value { IfOk result (λ next. string_bytes out.new ++ section_rest raw.now next ≡ string_bytes out.old ++ section_rest raw.now at) }
+    ensures moves { IfOk result (λ next. at < next) }
+    ensures cut { IfOk result (λ next. IsCharBoundary raw.now next) }
+{
+    if raw.as_bytes()[at] != b'\r' {
+        let end = byte_from(raw, at, b'\r');
+        out.push_str(&raw[at..end])?;
+        return Ok(end);
+    }
+    out.push('\n')?;
+    let next = after_byte(raw, at, b'\r');
+    if is_at(raw, next, b'\n') {
+        return Ok(after_byte(raw, next, b'\n'));
+    }
+    Ok(next)
+}

@@ -1,0 +1,36 @@
+//! A text that is read: a slice of the source, or a text of its own where line ends, references or white space change it; and the
+//! text of a CDATA section as one (XML 1.0 sections 2.7 and 2.11).
+
+ghost use Rattle.std.specs.Prelude.{Ok};
+ghost use Rattle.std.specs.String.{string_bytes};
+ghost use Rattle.rox_grammar.specs.Failures.{Gives};
+ghost use Rattle.rox_values.specs.Values.{piece_view, section_text};
+
+use crate::line_ends::line_feeds;
+use rox_grammar::failure::Failure;
+use rox_scan::search::before_byte;
+
+/// A text: a slice of the source, or what the caller's buffer holds.
+#[derive(Clone, Copy)]
+pub enum TextValue<'input> {
+    Plain(&'input str),
+    Changed,
+}
+
+/// The text of a CDATA section (XML 1.0 sections 2.7 and 2.11): a slice of the source where it has no CR, and else with a LF
+/// for each line end, in `scratch`, which is cleared first. The only error is want of memory.
+#[inline]
+pub fn cdata_text<'input>(
+    raw: &'input str,
+    scratch: &mut String,
+) -> Result<TextValue<'input>, Failure>
+    ensures { Gives (λ p. piece_view p (string_bytes scratch.new)) result (Ok (section_text raw.now)) }
+{
+    let bytes = raw.as_bytes();
+    if before_byte(bytes, b'\r') == bytes.len() {
+        return Ok(TextValue::Plain(raw));
+    }
+    scratch.clear();
+    line_feeds(raw, scratch)?;
+    Ok(TextValue::Changed)
+}
