@@ -3,8 +3,8 @@
 ghost use Rattle.std.specs.Prelude.{◌≤◌};
 
 use crate::entries::{Entry, attribute_entries, namespace_entries};
-use crate::fault::Fault;
 use crate::output::Output;
+use rox_programs::program_error::ProgramError;
 use roxmltree::{Document, Node, NodeId, NodeType, PI};
 use std::alloc::{AllocError, Global};
 use std::io::Write;
@@ -14,7 +14,7 @@ pub fn write_document<W: Write>(
     alloc: Global,
     document: &Document<'_>,
     out: &mut W,
-) -> Result<(), Fault> {
+) -> Result<(), ProgramError> {
     let mut out = Output::new(out);
     out.text("Document:\n");
     let listed = write_nodes(alloc, document, &mut out);
@@ -23,7 +23,10 @@ pub fn write_document<W: Write>(
 }
 
 /// Writes a line for each of these elements: its range and its name.
-pub fn write_elements<W: Write>(elements: &[Node<'_, '_>], out: &mut W) -> Result<(), Fault> {
+pub fn write_elements<W: Write>(
+    elements: &[Node<'_, '_>],
+    out: &mut W,
+) -> Result<(), ProgramError> {
     let mut out = Output::new(out);
     for element in elements {
         out.range(element.range());
