@@ -5,8 +5,9 @@ use crate::axes::write_axes;
 use crate::lookups::write_lookups;
 use crate::node::write_node;
 use crate::options::Options;
-use crate::output::Output;
+use crate::output::write_number;
 use crate::refusal::write_refusal;
+use rox_programs::output::Output;
 use rox_programs::program_error::ProgramError;
 use roxmltree::{Document, Error, Node, ParsingOptions, ResolveWith};
 use std::alloc::Global;
@@ -70,7 +71,7 @@ fn write_document<W: Write>(
     let nodes = document.descendants();
     let mut out = Output::new(out);
     out.text("OK ");
-    out.number(nodes.len() as u64);
+    write_number(nodes.len() as u64, &mut out);
     out.text("\n");
     for node in nodes {
         write_lines(node, options, &mut out);

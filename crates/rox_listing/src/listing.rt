@@ -3,7 +3,8 @@
 ghost use Rattle.std.specs.Prelude.{◌≤◌};
 
 use crate::entries::{Entry, attribute_entries, namespace_entries};
-use crate::output::Output;
+use crate::output::{write_debug, write_range};
+use rox_programs::output::Output;
 use rox_programs::program_error::ProgramError;
 use roxmltree::{Document, Node, NodeId, NodeType, PI};
 use std::alloc::{AllocError, Global};
@@ -29,7 +30,7 @@ pub fn write_elements<W: Write>(
 ) -> Result<(), ProgramError> {
     let mut out = Output::new(out);
     for element in elements {
-        out.range(element.range());
+        write_range(element.range(), &mut out);
         out.text(" ");
         write_name(*element, &mut out);
         if out.has_failed() {
@@ -188,7 +189,7 @@ fn write_instruction<W: Write>(pi: PI<'_>, depth: usize, out: &mut Output<'_, W>
 // Writes a text in its debug form, behind a mark, and ends the line.
 fn write_quoted<W: Write>(mark: &str, text: &str, out: &mut Output<'_, W>) {
     out.text(mark);
-    out.quoted(text);
+    write_debug(text, out);
     out.text("\n");
 }
 
