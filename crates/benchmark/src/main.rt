@@ -7,6 +7,7 @@ ghost use Rattle.rox_measures.specs.Fault.{status_of};
 use rox_measures::arguments::{Command, USAGE, read};
 use rox_measures::fault::Fault;
 use rox_measures::run;
+use rox_programs::program_error::ProgramError;
 use std::env;
 use std::io::{ErrorKind, Write};
 use std::process::ExitCode;
@@ -30,7 +31,9 @@ fn asked_for(rt: &HostRuntime) -> Result<Option<Command>, Fault> {
             let words: Vec<String> = words.skip(1).collect(rt.alloc())?;
             Ok(read(&words)?)
         }
-        Err(error) if error.kind() == ErrorKind::OutOfMemory => Err(Fault::OutOfMemory),
+        Err(error) if error.kind() == ErrorKind::OutOfMemory => Err(Fault::Program(
+            ProgramError::OutOfMemory,
+        )),
         Err(_) => Ok(None),
     }
 }

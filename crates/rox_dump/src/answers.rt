@@ -5,7 +5,7 @@ ghost use Rattle.std.specs.Result.{result_map_both};
 ghost use Rattle.rox_dump.specs.Answers as spec;
 
 use crate::node::write_text;
-use crate::output::Output;
+use rox_programs::output::Output;
 use std::alloc::{AllocError, Global};
 use std::cell::{Cell, RefCell};
 use std::io;

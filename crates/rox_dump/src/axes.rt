@@ -3,7 +3,8 @@
 ghost use Rattle.std.specs.Iterator.{IsFinite};
 
 use crate::node::{write_link, write_truth};
-use crate::output::Output;
+use crate::output::write_number;
+use rox_programs::output::Output;
 use roxmltree::Node;
 use std::io::Write;
 
@@ -20,7 +21,7 @@ pub fn write_axes<'a, W: Write>(node: Node<'a, 'a>, out: &mut Output<'_, W>) {
     write_ids(" children=", node.children(), out);
     write_ids(" children_back=", node.children().rev(), out);
     out.text(" desc=");
-    out.number(node.descendants().len() as u64);
+    write_number(node.descendants().len() as u64, out);
     out.text("\n");
 }
 

@@ -2,12 +2,13 @@
 
 use crate::answers::{Answers, Recorder};
 use crate::axes::write_axes;
-use crate::fault::Fault;
 use crate::lookups::write_lookups;
 use crate::node::write_node;
 use crate::options::Options;
-use crate::output::Output;
+use crate::output::write_number;
 use crate::refusal::write_refusal;
+use rox_programs::output::Output;
+use rox_programs::program_error::ProgramError;
 use roxmltree::{Document, Error, Node, ParsingOptions, ResolveWith};
 use std::alloc::Global;
 use std::io::Write;
@@ -19,7 +20,7 @@ pub fn write_dump<W: Write>(
     answers: Answers<'_>,
     options: Options,
     out: &mut W,
-) -> Result<(), Fault> {
+) -> Result<(), ProgramError> {
     let recorder = Recorder::new(alloc, answers);
     let answer = parse(alloc, text, answers, &recorder, options);
     write_requests(recorder, out)?;
@@ -54,10 +55,10 @@ fn parse<'t>(
     Document::parse_with_options(alloc, text, parsing)
 }
 
-fn write_requests<W: Write>(recorder: Recorder<'_>, out: &mut W) -> Result<(), Fault> {
+fn write_requests<W: Write>(recorder: Recorder<'_>, out: &mut W) -> Result<(), ProgramError> {
     match recorder.into_requests() {
         Some(requests) => Ok(out.write_all(&requests)?),
-        None => Err(Fault::OutOfMemory),
+        None => Err(ProgramError::OutOfMemory),
     }
 }
 
@@ -66,11 +67,11 @@ fn write_document<W: Write>(
     document: &Document<'_>,
     options: Options,
     out: &mut W,
-) -> Result<(), Fault> {
+) -> Result<(), ProgramError> {
     let nodes = document.descendants();
     let mut out = Output::new(out);
     out.text("OK ");
-    out.number(nodes.len() as u64);
+    write_number(nodes.len() as u64, &mut out);
     out.text("\n");
     for node in nodes {
         write_lines(node, options, &mut out);

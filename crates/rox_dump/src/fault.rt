@@ -1,61 +1,44 @@
 //! Why the program does not write what it was asked for.
 
 ghost use Rattle.std.specs.Prelude.{◌≡◌};
-ghost use Rattle.rox_dump.specs.declared.fault.Fault.TheVariants.{CannotWrite, OutOfMemory};
+ghost use Rattle.rox_programs.specs.declared.program_error.ProgramError.TheVariants.{CannotWrite};
+ghost use Rattle.rox_dump.specs.declared.fault.Fault.TheVariants.{Program};
 
-use std::alloc::{AllocError, AllocFailed};
+use rox_programs::program_error::ProgramError;
 use std::{fmt, io};
 
 /// Why the program could not do what it was asked. A text that the library refuses is none: the refusal is written.
 #[derive(Drop)]
 pub enum Fault {
-    /// The input could not be opened or read to its end.
-    CannotRead,
-    /// The input is one text, and not UTF-8.
-    NotUtf8,
     /// The input is no batch of texts.
     NoBatch,
-    /// The output could not be written to its end.
-    CannotWrite,
-    /// There is no memory.
-    OutOfMemory,
+    /// A fault that each of the programs can tell.
+    Program(ProgramError),
 }
 
 impl fmt::Display for Fault {
     fn fmt<W: fmt::Write>(&self, f: &mut fmt::Formatter<W>) -> fmt::Result {
-        let text = match self {
-            Fault::CannotRead => "cannot read input",
-            Fault::NotUtf8 => "input is not UTF-8",
-            Fault::NoBatch => "input is no batch of texts",
-            Fault::CannotWrite => "cannot write output",
-            Fault::OutOfMemory => "out of memory",
-        };
-        f.write_str(text)
+        match self {
+            Fault::NoBatch => f.write_str("input is no batch of texts"),
+            Fault::Program(error) => fmt::Display::fmt(error, f),
+        }
     }
 }
 
-impl From<AllocError> for Fault {
-    ghost from_gives = { λ _ fault. fault ≡ OutOfMemory };
+impl From<ProgramError> for Fault {
+    ghost from_gives = { λ error fault. fault ≡ Program error };
 
-    fn from(_error: AllocError) -> Fault {
-        Fault::OutOfMemory
-    }
-}
-
-impl<T: Drop> From<AllocFailed<T>> for Fault {
-    ghost from_gives = { λ _ fault. fault ≡ OutOfMemory };
-
-    fn from(_error: AllocFailed<T>) -> Fault {
-        Fault::OutOfMemory
+    fn from(error: ProgramError) -> Fault {
+        Fault::Program(error)
     }
 }
 
 /// Of a writer.
 impl From<io::Error> for Fault {
-    ghost from_gives = { λ _ fault. fault ≡ CannotWrite };
+    ghost from_gives = { λ _ fault. fault ≡ Program CannotWrite };
 
     fn from(_error: io::Error) -> Fault {
-        Fault::CannotWrite
+        Fault::Program(ProgramError::CannotWrite)
     }
 }
 
@@ -67,8 +50,8 @@ impl Fault {
         ensures { result ≡ status_of self.now }
     {
         match self {
-            Fault::OutOfMemory => 1,
-            Fault::CannotRead | Fault::NotUtf8 | Fault::NoBatch | Fault::CannotWrite => 2,
+            Fault::NoBatch => 2,
+            Fault::Program(error) => error.status(),
         }
     }
 }

@@ -3,7 +3,8 @@
 
 use crate::axes::write_ids;
 use crate::node::{gap, write_name, write_text, write_truth};
-use crate::output::Output;
+use crate::output::{write_number, write_position};
+use rox_programs::output::Output;
 use roxmltree::{Attribute, ExpandedName, NS_XML_URI, Node};
 use std::io::Write;
 
@@ -21,9 +22,9 @@ pub fn write_lookups<W: Write>(node: Node<'_, '_>, out: &mut Output<'_, W>) {
 fn write_places<W: Write>(node: Node<'_, '_>, out: &mut Output<'_, W>) {
     let (range, document) = (node.range(), node.document());
     out.text("  pos=");
-    out.position(document.text_pos_at(range.start));
+    write_position(document.text_pos_at(range.start), out);
     out.text("..");
-    out.position(document.text_pos_at(range.end));
+    write_position(document.text_pos_at(range.end), out);
 }
 
 // The URIs of the default, of `xml` and of each prefix that is listed.
@@ -102,7 +103,7 @@ fn write_start<W: Write>(
 ) {
     out.text(mark);
     match attribute {
-        Some(attribute) => out.number(attribute.position() as u64),
+        Some(attribute) => write_number(attribute.position() as u64, out),
         None => out.text("-"),
     }
 }

@@ -1,13 +1,14 @@
 //! The first line of a node: its neighbours, its place, its names and its texts.
 
-use crate::output::Output;
+use crate::output::{write_number, write_quoted};
+use rox_programs::output::Output;
 use roxmltree::{Attribute, Node, NodeType, PI, StringStorage};
 use std::io::Write;
 use std::ops::Range;
 
 /// Writes the first line of a node.
 pub fn write_node<W: Write>(node: Node<'_, '_>, out: &mut Output<'_, W>) {
-    out.number(node.id().get() as u64);
+    write_number(node.id().get() as u64, out);
     out.text(kind_name(node.node_type()));
     write_links(node, out);
     write_range(" range=", node.range(), out);
@@ -46,7 +47,7 @@ pub fn write_link<W: Write>(label: &str, node: Option<Node<'_, '_>>, out: &mut O
     out.text(label);
     match node {
         None => out.text("-"),
-        Some(node) => out.number(node.id().get() as u64),
+        Some(node) => write_number(node.id().get() as u64, out),
     }
 }
 
@@ -58,9 +59,9 @@ pub fn write_truth<W: Write>(label: &str, is_so: bool, out: &mut Output<'_, W>) 
 
 fn write_range<W: Write>(label: &str, range: Range<usize>, out: &mut Output<'_, W>) {
     out.text(label);
-    out.number(range.start as u64);
+    write_number(range.start as u64, out);
     out.text("..");
-    out.number(range.end as u64);
+    write_number(range.end as u64, out);
 }
 
 fn write_element<W: Write>(node: Node<'_, '_>, out: &mut Output<'_, W>) {
@@ -119,7 +120,7 @@ pub fn write_name<W: Write>(
     out.text(label);
     write_text("{", namespace, out);
     out.text("}");
-    out.quoted(local);
+    write_quoted(local, out);
 }
 
 /// Writes a label and a text, or that there is none.
@@ -127,7 +128,7 @@ pub fn write_text<W: Write>(label: &str, text: Option<&str>, out: &mut Output<'_
     out.text(label);
     match text {
         None => out.text("-"),
-        Some(text) => out.quoted(text),
+        Some(text) => write_quoted(text, out),
     }
 }
 
@@ -149,5 +150,5 @@ fn write_storage<W: Write>(label: &str, storage: &StringStorage<'_>, out: &mut O
         StringStorage::Borrowed(_) => out.text("B"),
         StringStorage::Owned(_) => out.text("O"),
     }
-    out.quoted(storage.as_str());
+    write_quoted(storage.as_str(), out);
 }

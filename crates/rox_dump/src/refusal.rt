@@ -1,13 +1,17 @@
 //! The dump of a text that is refused.
 
 use crate::escape::write_escaped;
-use crate::fault::Fault;
+use rox_programs::program_error::ProgramError;
 use roxmltree::Error;
 use std::alloc::Global;
 use std::io::Write;
 
 /// Writes the kind of an error, its position and its text.
-pub fn write_refusal<W: Write>(alloc: Global, error: &Error, out: &mut W) -> Result<(), Fault> {
+pub fn write_refusal<W: Write>(
+    alloc: Global,
+    error: &Error,
+    out: &mut W,
+) -> Result<(), ProgramError> {
     let (kind, pos) = (kind_name(error), error.pos());
     let text = error.to_string(alloc)?;
     write!(out, "ERR {kind} {pos} ")?;

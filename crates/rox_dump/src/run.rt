@@ -1,13 +1,15 @@
 //! What the program does, from its input to its status.
 
-ghost use Rattle.std.specs.Prelude.{◌≡◌, ◌≤◌, IfOk, IfSome, IsNone, IsErrOf};
+ghost use Rattle.std.specs.Prelude.{◌≡◌, ◌≤◌, IsNone, IsErrOf};
 
 use crate::batch::write_batch;
 use crate::fault::Fault;
 use crate::options::Options;
 use crate::sources::{Sources, write_text};
+use rox_programs::input::read_all;
+use rox_programs::program_error::ProgramError;
 use std::alloc::Global;
-use std::io::{BufWriter, ErrorKind, Read, Write};
+use std::io::{BufWriter, Read, Write};
 
 /// How many bytes are gathered before they are written.
 const BUFFER: usize = 65536;
@@ -44,34 +46,18 @@ fn write_input<I: Read + Drop, O: Write>(
     input: Option<I>,
     out: &mut O,
 ) -> Result<(), Fault>
-    ensures { IsNone input → IsErrOf result Fault.CannotRead }
+    ensures { IsNone input → IsErrOf result (Fault.Program ProgramError.CannotRead) }
 {
     let bytes = read_all(alloc, input)?;
     write_buffered(alloc, &bytes, sources, options, out)
 }
 
 /// The text of a file.
-pub fn read_text<I: Read + Drop>(alloc: Global, input: Option<I>) -> Result<String, Fault>
-    ensures { IsNone input → IsErrOf result Fault.CannotRead }
+pub fn read_text<I: Read + Drop>(alloc: Global, input: Option<I>) -> Result<String, ProgramError>
+    ensures { IsNone input → IsErrOf result ProgramError.CannotRead }
 {
     let bytes = read_all(alloc, input)?;
-    String::from_utf8(bytes).map_err(|_| Fault::NotUtf8)
-}
-
-/// The bytes of the input, to its end.
-fn read_all<I: Read + Drop>(alloc: Global, input: Option<I>) -> Result<Vec<u8>, Fault>
-    ensures none { IsNone input → IsErrOf result Fault.CannotRead }
-    ensures bytes { IfSome input (λ reader. IfOk result (λ bytes. IfSome (I.remaining reader) (λ left. bytes.items ≡ left))) }
-{
-    let Some(mut input) = input else {
-        return Err(Fault::CannotRead);
-    };
-    let mut bytes = Vec::new(alloc);
-    match input.read_to_end(&mut bytes) {
-        Ok(_) => Ok(bytes),
-        Err(error) if error.kind() == ErrorKind::OutOfMemory => Err(Fault::OutOfMemory),
-        Err(_) => Err(Fault::CannotRead),
-    }
+    String::from_utf8(bytes).map_err(|_| ProgramError::NotUtf8)
 }
 
 // After a fault nothing more is written: what is still in the buffer is let go.
@@ -84,10 +70,12 @@ fn write_buffered<O: Write>(
 ) -> Result<(), Fault> {
     let mut buffered = match BufWriter::with_capacity(alloc, BUFFER, out) {
         Ok(buffered) => buffered,
-        Err(_) => return Err(Fault::OutOfMemory),
+        Err(_) => return Err(Fault::Program(ProgramError::OutOfMemory)),
     };
     let written = match write_dumps(alloc, bytes, sources, options, &mut buffered) {
-        Ok(()) => buffered.flush().map_err(|_| Fault::CannotWrite),
+        Ok(()) => buffered
+            .flush()
+            .map_err(|_| Fault::Program(ProgramError::CannotWrite)),
         Err(fault) => Err(fault),
     };
     let (_out, _unwritten) = buffered.into_parts();
@@ -105,7 +93,7 @@ fn write_dumps<W: Write>(
         return write_batch(alloc, bytes, sources, options, out);
     }
     match str::from_utf8(bytes) {
-        Ok(text) => write_text(alloc, text, sources, options, out),
-        Err(_) => Err(Fault::NotUtf8),
+        Ok(text) => Ok(write_text(alloc, text, sources, options, out)?),
+        Err(_) => Err(Fault::Program(ProgramError::NotUtf8)),
     }
 }

@@ -2,8 +2,8 @@
 
 use crate::answers::{Answer, Answers};
 use crate::dump::write_dump;
-use crate::fault::Fault;
 use crate::options::Options;
+use rox_programs::program_error::ProgramError;
 use std::alloc::Global;
 use std::io::Write;
 
@@ -23,7 +23,7 @@ pub fn write_text<W: Write>(
     sources: &Sources,
     options: Options,
     out: &mut W,
-) -> Result<(), Fault> {
+) -> Result<(), ProgramError> {
     match &sources.main {
         Some(main) => write_dump(alloc, main.as_str(), Answers::Each(text), options, out),
         None => write_dump(

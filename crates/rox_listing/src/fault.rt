@@ -1,40 +1,29 @@
 //! Why the program prints nothing.
 
 ghost use Rattle.std.specs.Prelude.{◌≡◌};
-ghost use Rattle.rox_listing.specs.declared.fault.Fault.TheVariants.{CannotWrite, OutOfMemory};
 
 use rox_path::PathError;
-use std::alloc::{AllocError, AllocFailed};
-use std::{fmt, io};
+use rox_programs::program_error::ProgramError;
+use std::fmt;
 
 /// Why the program could not do what it was asked.
 #[derive(Drop)]
 pub enum Fault {
     /// The path is none, from this byte on.
     BadPath(usize),
-    /// The input could not be opened or read to its end.
-    CannotRead,
-    /// The input is not UTF-8.
-    NotUtf8,
     /// The input is refused.
     Refused(roxmltree::Error),
-    /// The output could not be written to its end.
-    CannotWrite,
-    /// There is no memory.
-    OutOfMemory,
+    /// A fault that each of the programs can tell.
+    Program(ProgramError),
 }
 
 impl fmt::Display for Fault {
     fn fmt<W: fmt::Write>(&self, f: &mut fmt::Formatter<W>) -> fmt::Result {
-        let text = match self {
-            Fault::BadPath(place) => return fmt::Display::fmt(&PathError::BadPath(*place), f),
-            Fault::Refused(error) => return fmt::Display::fmt(error, f),
-            Fault::CannotRead => "cannot read input",
-            Fault::NotUtf8 => "input is not UTF-8",
-            Fault::CannotWrite => "cannot write output",
-            Fault::OutOfMemory => "out of memory",
-        };
-        f.write_str(text)
+        match self {
+            Fault::BadPath(place) => fmt::Display::fmt(&PathError::BadPath(*place), f),
+            Fault::Refused(error) => fmt::Display::fmt(error, f),
+            Fault::Program(error) => fmt::Display::fmt(error, f),
+        }
     }
 }
 
@@ -46,33 +35,18 @@ impl From<PathError> for Fault {
     fn from(error: PathError) -> Fault {
         match error {
             PathError::BadPath(place) => Fault::BadPath(place),
-            PathError::OutOfMemory => Fault::OutOfMemory,
+            PathError::OutOfMemory => Fault::Program(ProgramError::OutOfMemory),
         }
     }
 }
 
-impl From<AllocError> for Fault {
-    ghost from_gives = { λ _ fault. fault ≡ OutOfMemory };
+impl From<ProgramError> for Fault {
+    ghost use Rattle.rox_listing.specs.declared.fault.Fault.TheVariants.{Program};
 
-    fn from(_error: AllocError) -> Fault {
-        Fault::OutOfMemory
-    }
-}
+    ghost from_gives = { λ error fault. fault ≡ Program error };
 
-impl<T: Drop> From<AllocFailed<T>> for Fault {
-    ghost from_gives = { λ _ fault. fault ≡ OutOfMemory };
-
-    fn from(_error: AllocFailed<T>) -> Fault {
-        Fault::OutOfMemory
-    }
-}
-
-/// Of a writer.
-impl From<io::Error> for Fault {
-    ghost from_gives = { λ _ fault. fault ≡ CannotWrite };
-
-    fn from(_error: io::Error) -> Fault {
-        Fault::CannotWrite
+    fn from(error: ProgramError) -> Fault {
+        Fault::Program(error)
     }
 }
 
@@ -84,8 +58,9 @@ impl Fault {
         ensures { result ≡ status_of self.now }
     {
         match self {
-            Fault::Refused(_) | Fault::OutOfMemory => 1,
-            Fault::BadPath(_) | Fault::CannotRead | Fault::NotUtf8 | Fault::CannotWrite => 2,
+            Fault::BadPath(_) => 2,
+            Fault::Refused(_) => 1,
+            Fault::Program(error) => error.status(),
         }
     }
 }

@@ -4,7 +4,6 @@
 pub mod arguments;
 pub mod entries;
 pub mod fault;
-pub mod input;
 pub mod listing;
 pub mod options;
 pub mod output;

@@ -3,8 +3,9 @@
 ghost use Rattle.std.specs.Prelude.{◌≤◌};
 
 use crate::entries::{Entry, attribute_entries, namespace_entries};
-use crate::fault::Fault;
-use crate::output::Output;
+use crate::output::{write_debug, write_range};
+use rox_programs::output::Output;
+use rox_programs::program_error::ProgramError;
 use roxmltree::{Document, Node, NodeId, NodeType, PI};
 use std::alloc::{AllocError, Global};
 use std::io::Write;
@@ -14,7 +15,7 @@ pub fn write_document<W: Write>(
     alloc: Global,
     document: &Document<'_>,
     out: &mut W,
-) -> Result<(), Fault> {
+) -> Result<(), ProgramError> {
     let mut out = Output::new(out);
     out.text("Document:\n");
     let listed = write_nodes(alloc, document, &mut out);
@@ -23,10 +24,13 @@ pub fn write_document<W: Write>(
 }
 
 /// Writes a line for each of these elements: its range and its name.
-pub fn write_elements<W: Write>(elements: &[Node<'_, '_>], out: &mut W) -> Result<(), Fault> {
+pub fn write_elements<W: Write>(
+    elements: &[Node<'_, '_>],
+    out: &mut W,
+) -> Result<(), ProgramError> {
     let mut out = Output::new(out);
     for element in elements {
-        out.range(element.range());
+        write_range(element.range(), &mut out);
         out.text(" ");
         write_name(*element, &mut out);
         if out.has_failed() {
@@ -185,7 +189,7 @@ fn write_instruction<W: Write>(pi: PI<'_>, depth: usize, out: &mut Output<'_, W>
 // Writes a text in its debug form, behind a mark, and ends the line.
 fn write_quoted<W: Write>(mark: &str, text: &str, out: &mut Output<'_, W>) {
     out.text(mark);
-    out.quoted(text);
+    write_debug(text, out);
     out.text("\n");
 }
 

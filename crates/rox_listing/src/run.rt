@@ -6,9 +6,11 @@ ghost use Rattle.rox_path.specs.Steps.{PathStep, step_of};
 ghost use Rattle.rox_path.specs.Paths.{IsPath};
 
 use crate::fault::Fault;
+use crate::listing;
 use crate::options::Command;
-use crate::{input, listing};
 use rox_path::{PathError, Step, parse_path, select};
+use rox_programs::input;
+use rox_programs::program_error::ProgramError;
 use roxmltree::{Document, ParsingOptions};
 use std::alloc::Global;
 use std::io::{BufWriter, Read, Write};
@@ -50,7 +52,7 @@ fn print<I: Read + Drop, O: Write>(
     out: &mut O,
 ) -> Result<(), Fault>
     ensures none { IsNone input → IsErr result }
-    ensures unopened { IsNone input → command.now.path ≡ None → IsErrOf result Fault.CannotRead }
+    ensures unopened { IsNone input → command.now.path ≡ None → IsErrOf result (Fault.Program ProgramError.CannotRead) }
     ensures bad_path { IfSome command.now.path (λ p. ((steps : List PathStep) → IsPath (string_bytes p) 0 steps → ⊥) → IsErr result) }
 {
     let steps = steps_of(alloc, command)?;
@@ -69,7 +71,7 @@ fn print_text<O: Write>(
     let mut options = ParsingOptions::default();
     options.allow_dtd = allow_dtd;
     match Document::parse_with_options(alloc, text, options) {
-        Ok(document) => write_buffered(alloc, &document, steps, out),
+        Ok(document) => Ok(write_buffered(alloc, &document, steps, out)?),
         Err(error) => Err(Fault::Refused(error)),
     }
 }
@@ -92,13 +94,13 @@ fn write_buffered<O: Write>(
     document: &Document<'_>,
     steps: Option<&Vec<Step<'_>>>,
     out: &mut O,
-) -> Result<(), Fault> {
+) -> Result<(), ProgramError> {
     let mut buffered = match BufWriter::with_capacity(alloc, BUFFER, out) {
         Ok(buffered) => buffered,
-        Err(_) => return Err(Fault::OutOfMemory),
+        Err(_) => return Err(ProgramError::OutOfMemory),
     };
     let written = match write_asked(alloc, document, steps, &mut buffered) {
-        Ok(()) => buffered.flush().map_err(|_| Fault::CannotWrite),
+        Ok(()) => buffered.flush().map_err(|_| ProgramError::CannotWrite),
         Err(fault) => Err(fault),
     };
     let (_out, _unwritten) = buffered.into_parts();
@@ -110,7 +112,7 @@ fn write_asked<O: Write>(
     document: &Document<'_>,
     steps: Option<&Vec<Step<'_>>>,
     out: &mut O,
-) -> Result<(), Fault> {
+) -> Result<(), ProgramError> {
     match steps {
         Some(steps) => {
             let elements = select(alloc, document.root(), steps)?;

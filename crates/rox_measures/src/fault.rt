@@ -1,67 +1,68 @@
 //! Why the program prints no measure.
 
 ghost use Rattle.std.specs.Prelude.{◌≡◌};
-ghost use Rattle.rox_measures.specs.declared.fault.Fault.TheVariants.{CannotWrite, OutOfMemory, Refused};
+ghost use Rattle.rox_programs.specs.declared.program_error.ProgramError.TheVariants.{CannotWrite, OutOfMemory};
+ghost use Rattle.rox_measures.specs.declared.fault.Fault.TheVariants.{Program, Refused};
 
+use rox_programs::program_error::ProgramError;
 use std::alloc::{AllocError, AllocFailed};
 use std::{fmt, io};
 
 /// Why the program could not do what it was asked.
 #[derive(Drop)]
 pub enum Fault {
-    /// The file could not be opened or read to its end.
-    CannotRead,
-    /// The file is not UTF-8.
-    NotUtf8,
     /// The text is refused.
     Refused(roxmltree::Error),
-    /// The output could not be written to its end.
-    CannotWrite,
     /// The clock could not be read.
     NoClock,
     /// A walk came to another sum than the one before it.
     UnequalWalks,
-    /// There is no memory.
-    OutOfMemory,
+    /// A fault that each of the programs can tell.
+    Program(ProgramError),
 }
 
 impl fmt::Display for Fault {
     fn fmt<W: fmt::Write>(&self, f: &mut fmt::Formatter<W>) -> fmt::Result {
         let text = match self {
             Fault::Refused(error) => return fmt::Display::fmt(error, f),
-            Fault::CannotRead => "cannot read input",
-            Fault::NotUtf8 => "input is not UTF-8",
-            Fault::CannotWrite => "cannot write output",
+            Fault::Program(error) => return fmt::Display::fmt(error, f),
             Fault::NoClock => "cannot read the clock",
             Fault::UnequalWalks => "two walks came to different sums",
-            Fault::OutOfMemory => "out of memory",
         };
         f.write_str(text)
     }
 }
 
 impl From<AllocError> for Fault {
-    ghost from_gives = { λ _ fault. fault ≡ OutOfMemory };
+    ghost from_gives = { λ _ fault. fault ≡ Program OutOfMemory };
 
     fn from(_error: AllocError) -> Fault {
-        Fault::OutOfMemory
+        Fault::Program(ProgramError::OutOfMemory)
     }
 }
 
 impl<T: Drop> From<AllocFailed<T>> for Fault {
-    ghost from_gives = { λ _ fault. fault ≡ OutOfMemory };
+    ghost from_gives = { λ _ fault. fault ≡ Program OutOfMemory };
 
     fn from(_error: AllocFailed<T>) -> Fault {
-        Fault::OutOfMemory
+        Fault::Program(ProgramError::OutOfMemory)
     }
 }
 
 /// Of a writer.
 impl From<io::Error> for Fault {
-    ghost from_gives = { λ _ fault. fault ≡ CannotWrite };
+    ghost from_gives = { λ _ fault. fault ≡ Program CannotWrite };
 
     fn from(_error: io::Error) -> Fault {
-        Fault::CannotWrite
+        Fault::Program(ProgramError::CannotWrite)
+    }
+}
+
+impl From<ProgramError> for Fault {
+    ghost from_gives = { λ error fault. fault ≡ Program error };
+
+    fn from(error: ProgramError) -> Fault {
+        Fault::Program(error)
     }
 }
 
@@ -81,8 +82,9 @@ impl Fault {
         ensures { result ≡ status_of self.now }
     {
         match self {
-            Fault::Refused(_) | Fault::UnequalWalks | Fault::OutOfMemory => 1,
-            Fault::CannotRead | Fault::NotUtf8 | Fault::CannotWrite | Fault::NoClock => 2,
+            Fault::Refused(_) | Fault::UnequalWalks => 1,
+            Fault::NoClock => 2,
+            Fault::Program(error) => error.status(),
         }
     }
 }

@@ -2,6 +2,7 @@
 
 use crate::fault::Fault;
 use crate::input;
+use rox_programs::program_error::ProgramError;
 use roxmltree::Document;
 use std::alloc::Global;
 use std::rt::Files;
@@ -44,10 +45,10 @@ fn each(before: Option<u64>, after: Option<u64>, count: usize) -> Option<u64> {
 }
 
 // The bytes of anonymous memory that the process has in use.
-fn in_use<R: Files + AllocGlobal>(rt: &R) -> Result<Option<u64>, Fault> {
+fn in_use<R: Files + AllocGlobal>(rt: &R) -> Result<Option<u64>, ProgramError> {
     match input::read(rt, "/proc/self/smaps_rollup") {
         Ok(table) => Ok(anonymous(&table)),
-        Err(Fault::OutOfMemory) => Err(Fault::OutOfMemory),
+        Err(ProgramError::OutOfMemory) => Err(ProgramError::OutOfMemory),
         Err(_) => Ok(None),
     }
 }

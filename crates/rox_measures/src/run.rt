@@ -7,6 +7,7 @@ use crate::turns::measure;
 use crate::walk::{Census, count, walk, walk_links};
 use crate::work::{Parse, ParseAndDrop, Walk, WalkLinks};
 use crate::{input, memory};
+use rox_programs::input::decode;
 use roxmltree::Document;
 use std::alloc::Global;
 use std::io::Write;
@@ -20,7 +21,7 @@ pub fn run<R: Files + AllocGlobal + CpuClock, O: Write>(
     out: &mut O,
 ) -> Result<(), Fault> {
     let bytes = input::read(rt, command.file.as_str())?;
-    let text = input::decode(&bytes)?;
+    let text = decode(&bytes)?;
     // before anything else is parsed
     let held = memory::held(rt, text)?;
     measure_text(rt, command, text, out)?;

@@ -7,9 +7,9 @@ use Rattle.rox_grammar.specs.Tree as tree
 use Rattle.rox_tables.specs.Rows.{attribute, namespace_view, namespace_at, AreScopes, NamespaceWithin}
 use Rattle.rox_tables.specs.Scopes.{places_in, ArePlaces}
 use Rattle.roxmltree.specs.TreeCodes.{attribute_code, namespace_decl_code}
-use Rattle.roxmltree.specs.declared.elements.Attribute.{Attribute}
-use Rattle.roxmltree.specs.declared.elements.Attributes.TheInside as attributes
-use Rattle.roxmltree.specs.declared.elements.NamespaceIter.TheInside as namespaces
+use Rattle.roxmltree.specs.declared.attributes.Attribute.{Attribute}
+use Rattle.roxmltree.specs.declared.attributes.Attributes.TheInside as attributes
+use Rattle.roxmltree.specs.declared.namespaces.NamespaceIter.TheInside as namespaces
 
 abbrev pub attributes_code : Coded (List tree.Attribute)
 attributes_code = coded_list attribute_code

@@ -1,13 +1,14 @@
 //! A read-only tree of an XML document, in document order.
 #![tactic(auto)]
 
+mod attributes;
 mod debug;
-mod elements;
 mod exchange;
 mod iterators;
 pub mod laws;
 mod lookups;
 mod names;
+mod namespaces;
 mod node_content;
 mod nodes;
 mod options;
@@ -16,9 +17,10 @@ mod parse;
 mod positions;
 mod tree;
 
-pub use crate::elements::{Attribute, Attributes, NamespaceIter};
+pub use crate::attributes::{Attribute, Attributes};
 pub use crate::iterators::{AxisIter, Children, Descendants};
 pub use crate::names::{ExpandedName, NS_XML_URI, NS_XMLNS_URI};
+pub use crate::namespaces::NamespaceIter;
 pub use crate::node_content::NodeType;
 pub use crate::nodes::{Node, NodeId, NodeIdTooLarge};
 pub use crate::options::ParsingOptions;

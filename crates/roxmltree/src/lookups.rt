@@ -9,8 +9,9 @@ ghost use Rattle.roxmltree.specs.ExpandedNames.{expanded, same_expanded_name, na
 ghost use Rattle.roxmltree.specs.ElementLists.{attribute_of};
 ghost use Rattle.roxmltree.specs.NodeRef.{item_of};
 
-use crate::elements::{Attribute, Attributes, NamespaceIter};
+use crate::attributes::{Attribute, Attributes};
 use crate::names::{ExpandedName, NS_XML_URI};
+use crate::namespaces::NamespaceIter;
 use crate::nodes::Node;
 use rox_tables::tables::NodeKind;
 

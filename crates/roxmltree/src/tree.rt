@@ -6,8 +6,9 @@ ghost use Rattle.rox_grammar.specs.Forest.{Forest, size};
 ghost use Rattle.roxmltree.specs.Places.{place, parent, children};
 ghost use Rattle.roxmltree.specs.NodeParts.{node_at, content_of, namespace_of, listed_of, attributes_of};
 
-use crate::elements::{Attributes, NamespaceIter};
+use crate::attributes::Attributes;
 use crate::iterators::Descendants;
+use crate::namespaces::NamespaceIter;
 use crate::nodes::{Node, NodeId};
 use rox_tables::tables::{NodeData, NodeKind, Tables};
 use std::marker::Model;

@@ -4,11 +4,11 @@
 
 use rox_dump::answers::Answer;
 use rox_dump::arguments::{USAGE, command};
-use rox_dump::fault::Fault;
 use rox_dump::options::{AnswerWord, Command};
 use rox_dump::run;
 use rox_dump::run::read_text;
 use rox_dump::sources::Sources;
+use rox_programs::program_error::ProgramError;
 use std::env;
 use std::fs::File;
 use std::io::{ErrorKind, Write};
@@ -26,10 +26,12 @@ fn main(rt: HostRuntime) -> ExitCode {
 }
 
 // An argument that is not UTF-8 is wrong.
-fn run_words(rt: &HostRuntime) -> Result<u8, Fault> {
+fn run_words(rt: &HostRuntime) -> Result<u8, ProgramError> {
     let words = match env::args(rt) {
         Ok(words) => words,
-        Err(error) if error.kind() == ErrorKind::OutOfMemory => return Err(Fault::OutOfMemory),
+        Err(error) if error.kind() == ErrorKind::OutOfMemory => return Err(
+            ProgramError::OutOfMemory,
+        ),
         Err(_) => return Ok(refuse(rt)),
     };
     let words: Vec<String> = words.skip(1).collect(rt.alloc())?;
@@ -45,7 +47,7 @@ fn refuse(rt: &HostRuntime) -> u8 {
 }
 
 // The files of the resolver's answers and of the main text are read before the input.
-fn run_with_files(rt: &HostRuntime, command: &Command<'_>) -> Result<u8, Fault> {
+fn run_with_files(rt: &HostRuntime, command: &Command<'_>) -> Result<u8, ProgramError> {
     let sources = read_sources(rt, command)?;
     let (mut out, mut err) = (rt.stdout(), rt.stderr());
     let (alloc, options) = (rt.alloc(), command.options);
@@ -61,7 +63,7 @@ fn run_with_files(rt: &HostRuntime, command: &Command<'_>) -> Result<u8, Fault> 
     }
 }
 
-fn read_sources(rt: &HostRuntime, command: &Command<'_>) -> Result<Sources, Fault> {
+fn read_sources(rt: &HostRuntime, command: &Command<'_>) -> Result<Sources, ProgramError> {
     let mut answers = Vec::new(rt.alloc());
     for word in &command.answers {
         answers.push(answer(rt, *word)?)?;
@@ -73,7 +75,7 @@ fn read_sources(rt: &HostRuntime, command: &Command<'_>) -> Result<Sources, Faul
     Ok(Sources { answers, main })
 }
 
-fn answer(rt: &HostRuntime, word: AnswerWord<'_>) -> Result<Answer, Fault> {
+fn answer(rt: &HostRuntime, word: AnswerWord<'_>) -> Result<Answer, ProgramError> {
     match word {
         AnswerWord::File(path) => Ok(Answer::Text(file_text(rt, path)?)),
         AnswerWord::Nothing => Ok(Answer::Nothing),
@@ -81,6 +83,6 @@ fn answer(rt: &HostRuntime, word: AnswerWord<'_>) -> Result<Answer, Fault> {
     }
 }
 
-fn file_text(rt: &HostRuntime, path: &str) -> Result<String, Fault> {
+fn file_text(rt: &HostRuntime, path: &str) -> Result<String, ProgramError> {
     read_text(rt.alloc(), File::open(rt, path).ok())
 }

@@ -2,9 +2,9 @@
 #![tactic(auto)]
 
 use rox_listing::arguments::{USAGE, command};
-use rox_listing::fault::Fault;
 use rox_listing::options::Command;
 use rox_listing::run;
+use rox_programs::program_error::ProgramError;
 use std::env;
 use std::fs::File;
 use std::io::{ErrorKind, Write};
@@ -23,13 +23,13 @@ fn main(rt: HostRuntime) -> ExitCode {
 }
 
 // The command of the program's arguments. One that is not UTF-8 is a wrong argument.
-fn asked_for(rt: &HostRuntime) -> Result<Option<Command>, Fault> {
+fn asked_for(rt: &HostRuntime) -> Result<Option<Command>, ProgramError> {
     match env::args(rt) {
         Ok(words) => {
             let words: Vec<String> = words.skip(1).collect(rt.alloc())?;
             Ok(command(rt.alloc(), &words)?)
         }
-        Err(error) if error.kind() == ErrorKind::OutOfMemory => Err(Fault::OutOfMemory),
+        Err(error) if error.kind() == ErrorKind::OutOfMemory => Err(ProgramError::OutOfMemory),
         Err(_) => Ok(None),
     }
 }

@@ -10,6 +10,7 @@ use rox_measures::report::{write_held, write_parse, write_walk};
 use rox_measures::turns::{Turns, measure};
 use rox_measures::walk::{count, walk, walk_links};
 use rox_measures::work::{Parse, ParseAndDrop, Walk, WalkLinks, Work};
+use rox_programs::program_error::ProgramError;
 use roxmltree::Document;
 use std::cell::Cell;
 use std::fmt::Display;
@@ -273,13 +274,29 @@ held           unknown
 
 #[test]
 fn tells_faults(rt: HostRuntime) {
-    prints(&rt, &Fault::CannotRead, "cannot read input");
-    prints(&rt, &Fault::NotUtf8, "input is not UTF-8");
-    prints(&rt, &Fault::CannotWrite, "cannot write output");
+    prints(
+        &rt,
+        &Fault::Program(ProgramError::CannotRead),
+        "cannot read input",
+    );
+    prints(
+        &rt,
+        &Fault::Program(ProgramError::NotUtf8),
+        "input is not UTF-8",
+    );
+    prints(
+        &rt,
+        &Fault::Program(ProgramError::CannotWrite),
+        "cannot write output",
+    );
     prints(&rt, &Fault::NoClock, "cannot read the clock");
     let message = "two walks came to different sums";
     prints(&rt, &Fault::UnequalWalks, message);
-    prints(&rt, &Fault::OutOfMemory, "out of memory");
+    prints(
+        &rt,
+        &Fault::Program(ProgramError::OutOfMemory),
+        "out of memory",
+    );
 }
 
 #[test]

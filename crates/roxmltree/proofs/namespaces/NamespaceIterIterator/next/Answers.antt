@@ -4,7 +4,7 @@ use Rattle.rox_tables.specs.Rows.{namespace_view, namespace_at}
 use Rattle.rox_tables.specs.Scopes.{places_in}
 use Rattle.roxmltree.proofs.Entries.{entry_is}
 use Rattle.roxmltree.proofs.Ends.{first_of}
-use Rattle.roxmltree.proofs.elements.NamespaceIterIterator.next.Goals as goal
+use Rattle.roxmltree.proofs.namespaces.NamespaceIterIterator.next.Goals as goal
 
 pub bounds-names-place : goal.bounds-names-place
 bounds-names-place c = c.place_at-place.ensures.place _ c.self.invariant.each

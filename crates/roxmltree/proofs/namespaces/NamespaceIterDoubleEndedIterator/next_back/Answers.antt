@@ -5,7 +5,7 @@ use Rattle.rox_tables.specs.Rows.{namespace_view, namespace_at}
 use Rattle.rox_tables.specs.Scopes.{places_in}
 use Rattle.roxmltree.proofs.Entries.{entry_is}
 use Rattle.roxmltree.proofs.Ends.{last_of}
-use Rattle.roxmltree.proofs.elements.NamespaceIterDoubleEndedIterator.next_back.Goals as goal
+use Rattle.roxmltree.proofs.namespaces.NamespaceIterDoubleEndedIterator.next_back.Goals as goal
 
 pub bounds-names-place : goal.bounds-names-place
 bounds-names-place c = c.place_at-place.ensures.place _ c.self.invariant.each

@@ -3,7 +3,7 @@ use Rattle.std.specs.List.{slice_range, zip}
 use Rattle.std.proofs.lemmas.List.{map-append}
 use Rattle.rox_tables.specs.Rows.{attribute, namespace_view}
 use Rattle.roxmltree.proofs.Columns.{last_row, length_left}
-use Rattle.roxmltree.proofs.elements.AttributesDoubleEndedIterator.next_back.Goals as goal
+use Rattle.roxmltree.proofs.attributes.AttributesDoubleEndedIterator.next_back.Goals as goal
 
 pub returns-clause-steps : goal.returns-clause-steps
 returns-clause-steps c =

@@ -1,7 +1,7 @@
 use Rattle.std.proofs.Common.{length, map, ap, ◌∙◌, sym}
 use Rattle.rox_tables.specs.Rows.{namespace_view}
 use Rattle.roxmltree.proofs.Columns.{length_left}
-use Rattle.roxmltree.proofs.elements.AttributesExactSizeIterator.len.Goals as goal
+use Rattle.roxmltree.proofs.attributes.AttributesExactSizeIterator.len.Goals as goal
 
 pub returns-clause-value : goal.returns-clause-value
 returns-clause-value c =

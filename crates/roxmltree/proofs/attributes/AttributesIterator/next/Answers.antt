@@ -1,7 +1,7 @@
 use Rattle.std.proofs.Common.{◌+◌, length, map, ap, arith}
 use Rattle.rox_tables.specs.Rows.{namespace_view}
 use Rattle.roxmltree.proofs.Columns.{length_left}
-use Rattle.roxmltree.proofs.elements.AttributesIterator.next.Goals as goal
+use Rattle.roxmltree.proofs.attributes.AttributesIterator.next.Goals as goal
 
 pub returns-clause-goes : goal.returns-clause-goes
 returns-clause-goes c =

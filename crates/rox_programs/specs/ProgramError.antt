@@ -1,0 +1,10 @@
+use Rattle.std.specs.Prelude.{ℕ}
+use Rattle.rox_programs.specs.declared.program_error.ProgramError.{ProgramError}
+use Rattle.rox_programs.specs.declared.program_error.ProgramError.TheVariants.{CannotRead, NotUtf8, CannotWrite, OutOfMemory}
+
+-- the exit status: 2 for faults of input and output, 1 for want of memory
+abbrev pub status_of : ProgramError → ℕ
+status_of CannotRead = 2
+status_of NotUtf8 = 2
+status_of CannotWrite = 2
+status_of OutOfMemory = 1

@@ -1,0 +1,30 @@
+//! Reading of the input.
+
+ghost use Rattle.std.specs.Prelude.{◌≡◌, IfOk, IfSome, IsNone, IsErrOf, MatchResult, IsUtf8};
+
+use crate::program_error::ProgramError;
+use std::alloc::Global;
+use std::io::{ErrorKind, Read};
+
+/// The bytes of the input, to its end. None is an input that could not be opened.
+pub fn read_all<I: Read + Drop>(alloc: Global, input: Option<I>) -> Result<Vec<u8>, ProgramError>
+    ensures none { IsNone input → IsErrOf result ProgramError.CannotRead }
+    ensures bytes { IfSome input (λ reader. IfOk result (λ bytes. IfSome (I.remaining reader) (λ left. bytes.items ≡ left))) }
+{
+    let Some(mut input) = input else {
+        return Err(ProgramError::CannotRead);
+    };
+    let mut bytes = Vec::new(alloc);
+    match input.read_to_end(&mut bytes) {
+        Ok(_) => Ok(bytes),
+        Err(error) if error.kind() == ErrorKind::OutOfMemory => Err(ProgramError::OutOfMemory),
+        Err(_) => Err(ProgramError::CannotRead),
+    }
+}
+
+/// The text of these bytes.
+pub fn decode(bytes: &[u8]) -> Result<&str, ProgramError>
+    ensures { MatchResult result (λ text. text.now ≡ bytes.now) (λ fault. (fault ≡ ProgramError.NotUtf8) × ¬ IsUtf8 bytes.now) }
+{
+    str::from_utf8(bytes).map_err(|_| ProgramError::NotUtf8)
+}

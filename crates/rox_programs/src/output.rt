@@ -1,0 +1,43 @@
+//! Where a program writes its text.
+
+use std::io;
+use std::io::Write;
+
+/// A writer, and what came of what was written. Behind its first error nothing more is written, so that only the end of a
+/// text has to look for it: it cannot be let go otherwise.
+pub struct Output<'o, W: Write> {
+    pub writer: &'o mut W,
+    pub result: io::Result<()>,
+}
+
+impl<'o, W: Write> Output<'o, W> {
+    pub fn new(writer: &'o mut W) -> Output<'o, W> {
+        Output {
+            writer,
+            result: Ok(()),
+        }
+    }
+
+    /// What came of all that was written.
+    pub fn into_result(self) -> io::Result<()> {
+        let Output { writer: _, result } = self;
+        result
+    }
+
+    /// Whether something could not be written.
+    pub fn has_failed(&self) -> bool {
+        self.result.is_err()
+    }
+
+    /// Writes some bytes.
+    pub fn bytes(&mut self, bytes: &[u8]) {
+        if self.result.is_ok() {
+            self.result = self.writer.write_all(bytes);
+        }
+    }
+
+    /// Writes a text as it is.
+    pub fn text(&mut self, text: &str) {
+        self.bytes(text.as_bytes());
+    }
+}

@@ -1,0 +1,71 @@
+//! Why a program does not do what it was asked, as each of the programs can tell.
+
+ghost use Rattle.std.specs.Prelude.{◌≡◌};
+ghost use Rattle.rox_programs.specs.declared.program_error.ProgramError.TheVariants.{CannotWrite, OutOfMemory};
+
+use std::alloc::{AllocError, AllocFailed};
+use std::{fmt, io};
+
+/// Why a program could not do what it was asked.
+#[derive(Drop)]
+pub enum ProgramError {
+    /// The input could not be opened or read to its end.
+    CannotRead,
+    /// The input is not UTF-8.
+    NotUtf8,
+    /// The output could not be written to its end.
+    CannotWrite,
+    /// There is no memory.
+    OutOfMemory,
+}
+
+impl fmt::Display for ProgramError {
+    fn fmt<W: fmt::Write>(&self, f: &mut fmt::Formatter<W>) -> fmt::Result {
+        let text = match self {
+            ProgramError::CannotRead => "cannot read input",
+            ProgramError::NotUtf8 => "input is not UTF-8",
+            ProgramError::CannotWrite => "cannot write output",
+            ProgramError::OutOfMemory => "out of memory",
+        };
+        f.write_str(text)
+    }
+}
+
+impl From<AllocError> for ProgramError {
+    ghost from_gives = { λ _ error. error ≡ OutOfMemory };
+
+    fn from(_error: AllocError) -> ProgramError {
+        ProgramError::OutOfMemory
+    }
+}
+
+impl<T: Drop> From<AllocFailed<T>> for ProgramError {
+    ghost from_gives = { λ _ error. error ≡ OutOfMemory };
+
+    fn from(_error: AllocFailed<T>) -> ProgramError {
+        ProgramError::OutOfMemory
+    }
+}
+
+/// Of a writer.
+impl From<io::Error> for ProgramError {
+    ghost from_gives = { λ _ error. error ≡ CannotWrite };
+
+    fn from(_error: io::Error) -> ProgramError {
+        ProgramError::CannotWrite
+    }
+}
+
+impl ProgramError {
+    ghost use Rattle.rox_programs.specs.ProgramError.{status_of};
+
+    /// The exit status: 2 for faults of input and output, 1 for want of memory.
+    pub fn status(&self) -> u8
+        ensures { result ≡ status_of self.now }
+    {
+        match self {
+            ProgramError::OutOfMemory => 1,
+            ProgramError::CannotRead | ProgramError::NotUtf8 | ProgramError::CannotWrite => 2,
+        }
+    }
+}

@@ -1,0 +1,145 @@
+//! The namespaces that an element lists.
+
+ghost use Rattle.std.specs.Prelude.{◌≡◌, length};
+ghost use Rattle.rox_tables.specs.Rows.{namespace_view};
+
+use rox_tables::rope::{count, place_at};
+use rox_tables::tables::{Namespace, Scope};
+use std::fmt;
+use std::marker::Model;
+
+/// Namespaces that one element lists, from both ends: a stretch of what its scope lists.
+#[derive(Clone, Drop)]
+pub struct NamespaceIter<'a, 'input> {
+    pub(crate) scopes: &'a [Scope],
+    pub(crate) listed: &'a [u16],
+    pub(crate) names: &'a [Namespace<'input>],
+    pub(crate) scope: u32,
+    pub(crate) from: usize,
+    pub(crate) until: usize,
+}
+
+impl<'a, 'input> Model for NamespaceIter<'a, 'input> {
+    ghost use Rattle.std.specs.Prelude.{List};
+    ghost use Rattle.rox_grammar.specs.Written.{NamespaceDecl};
+    ghost use Rattle.roxmltree.specs.ElementLists.{namespace_decls_code, namespaces_left, NamespacesWithin};
+
+    ghost Value = { List NamespaceDecl };
+
+    ghost coded = { namespace_decls_code };
+
+    ghost view = { namespaces_left };
+
+    ghost invariant = { NamespacesWithin };
+}
+
+impl<'a, 'input> NamespaceIter<'a, 'input> {
+    ghost use Rattle.std.specs.Prelude.{[], map, ◌<◌, ◌^◌};
+    ghost use Rattle.rox_tables.specs.Rows.{namespace_at, AreScopes};
+    ghost use Rattle.rox_tables.specs.Scopes.{places_in, ArePlaces};
+
+    /// All that a scope lists of these places, in this table of namespaces.
+    #[inline]
+    #[tactic(auto, using(crate::proofs::Ends::whole))]
+    pub(crate) fn of_scope(
+        scopes: &'a [Scope],
+        listed: &'a [u16],
+        names: &'a [Namespace<'input>],
+        scope: u32,
+    ) -> NamespaceIter<'a, 'input>
+        requires is_row { scope < length scopes.now }
+        requires scopes { AreScopes (length listed.now) scopes.now }
+        requires named { ArePlaces (length names.now) listed.now }
+        ensures value { result ≡ map (namespace_at (map namespace_view names.now)) (places_in listed.now scopes.now scope) }
+        ensures few { length result < 2 ^ 64 }
+    {
+        NamespaceIter {
+            scopes,
+            listed,
+            names,
+            scope,
+            from: 0,
+            until: count(scopes, scope),
+        }
+    }
+
+    /// None, as nodes list that are no element.
+    #[inline]
+    pub(crate) fn empty() -> NamespaceIter<'a, 'input>
+        ensures { result ≡ [] }
+    {
+        NamespaceIter {
+            scopes: &[],
+            listed: &[],
+            names: &[],
+            scope: 0,
+            from: 0,
+            until: 0,
+        }
+    }
+}
+
+impl fmt::Debug for NamespaceIter<'_, '_> {
+    fn fmt<W: fmt::Write>(&self, f: &mut fmt::Formatter<W>) -> fmt::Result {
+        f.write_str("NamespaceIter(")?;
+        f.debug_list().entries(self.clone()?).finish()?;
+        f.write_str(")")
+    }
+}
+
+impl<'a, 'input> Iterator for NamespaceIter<'a, 'input> {
+    type Item = &'a Namespace<'input>;
+
+    ghost use Rattle.std.specs.Prelude.{Some, IfSome, length};
+    ghost use Rattle.std.specs.Iterator.{YieldsFirstBy, item_count, UpTo};
+    ghost use Rattle.std.specs.Iterator.SizeHint.{IsWithinCount};
+
+    ghost next_gives = { YieldsFirstBy (λ n. namespace_view n.now) (λ s. s) };
+
+    ghost remaining = { item_count (λ s. s) };
+
+    #[tactic(auto, using(crate::proofs::Ends::length_stretch))]
+    fn next(&mut self) -> Option<&'a Namespace<'input>> {
+        if self.from == self.until {
+            return None;
+        }
+        let names = self.names;
+        let place = place_at(self.scopes, self.listed, self.scope, self.from);
+        self.from += 1;
+        Some(&names[place as usize])
+    }
+
+    fn size_hint(&self) -> (usize, Option<usize>)
+        ensures lower { IsWithinCount result.0 (item_count (λ s. s) self.now) }
+        ensures upper { IfSome result.1 (UpTo (item_count (λ s. s) self.now)) }
+        ensures exact { result ≡ (length self.now, Some (length self.now)) }
+    {
+        let left = self.len();
+        (left, Some(left))
+    }
+}
+
+impl<'a, 'input> DoubleEndedIterator for NamespaceIter<'a, 'input> {
+    ghost use Rattle.std.specs.Iterator.{YieldsLastBy};
+
+    ghost next_back_gives = { YieldsLastBy (λ n. namespace_view n.now) (λ s. s) };
+
+    #[tactic(auto, using(crate::proofs::Ends::length_stretch))]
+    fn next_back(&mut self) -> Option<&'a Namespace<'input>> {
+        if self.from == self.until {
+            return None;
+        }
+        let names = self.names;
+        let last = self.until - 1;
+        let place = place_at(self.scopes, self.listed, self.scope, last);
+        self.until = last;
+        Some(&names[place as usize])
+    }
+}
+
+impl ExactSizeIterator for NamespaceIter<'_, '_> {
+    #[tactic(auto, using(crate::proofs::Ends::length_stretch))]
+    fn len(&self) -> usize {
+        self.until - self.from
+    }
+}
