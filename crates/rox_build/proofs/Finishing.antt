@@ -10,8 +10,8 @@ use Rattle.rox_reading.proofs.Forests.{size-resolved}
 use Rattle.rox_tables.specs.Rows.{RowView, preorder_rows, HoldsTree, Sound, attribute_rows}
 use Rattle.rox_build.specs.OpenRows.{root_line, so_far}
 use Rattle.rox_build.specs.BuilderState.{IsRowWithin, AreSound, RepresentsFlushed, line_in}
-use Rattle.rox_tables.specs.declared.tables.NodeData.{NodeData}
-use Rattle.rox_tables.specs.declared.tables.Tables.{Tables}
+use Rattle.rox_tables.specs.declared.rows.tables.NodeData.{NodeData}
+use Rattle.rox_tables.specs.declared.rows.tables.Tables.{Tables}
 use Rattle.rox_build.specs.declared.builder.Builder.{Builder}
 use Rattle.rox_build.proofs.Showing.{rows_count, within_set, within_at, some_row, first_within}
 

@@ -9,8 +9,8 @@ use Rattle.rox_tables.specs.Rows.{row_view, namespace_view, scope_at, NamespaceW
 use Rattle.rox_tables.specs.Scopes.{PrefixesOnce}
 use Rattle.rox_tables.specs.TagScopes.{lists_in}
 use Rattle.rox_build.specs.BuilderState.{opened, opened_in, names_in, line_in, IsRowWithin, IsOpenWithin, AreSound, HasEmpty, Represents, Grown}
-use Rattle.rox_tables.specs.declared.tables.NodeData.{NodeData}
-use Rattle.rox_tables.specs.declared.tables.ElementTables.{ElementTables}
+use Rattle.rox_tables.specs.declared.rows.tables.NodeData.{NodeData}
+use Rattle.rox_tables.specs.declared.rows.tables.ElementTables.{ElementTables}
 use Rattle.rox_build.specs.declared.builder.OpenElement.{OpenElement}
 use Rattle.rox_build.specs.declared.builder.Builder.{Builder}
 use Rattle.rox_tables.proofs.Stable.{all_weaker, map_same, scope_at-append, lines-append, kind_more}

@@ -20,7 +20,7 @@ use Rattle.rox_reading.specs.Answering.{left_with, Stops, Continues}
 use Rattle.rox_reading.proofs.Answering as turn
 use Rattle.rox_reading.proofs.Answering.{spaced}
 use Rattle.rox_reading.proofs.Settling.{step_run, subset_run, doctype_subset, doctype_subset_stops}
-use Rattle.rox_resolver.specs.Requests.{AreAllowed}
+use Rattle.rox_build.specs.Requests.{AreAllowed}
 use Rattle.rox_scan.specs.declared.cursor.Cursor.{Cursor}
 use Rattle.rox_grammar.specs.declared.failure.Failure.{Failure}
 use Rattle.rox_grammar.specs.declared.failure.Failure.TheVariants as failure

@@ -24,8 +24,8 @@ use Rattle.rox_tables.specs.TagScopes.{lists_in}
 use Rattle.rox_build.specs.ElementRow.{Tagged}
 use Rattle.rox_build.specs.BuilderState.{names_in, IsRowWithin, AreSound, IsOpenWithin, IsConsistent, Grown, IsNode, IsOpening, Adds, ScansTo}
 use Rattle.std.specs.Result.{OnOk}
-use Rattle.rox_tables.specs.declared.tables.NodeKind.TheVariants as kind
-use Rattle.rox_tables.specs.declared.tables.ElementTables.{ElementTables}
+use Rattle.rox_tables.specs.declared.rows.tables.NodeKind.TheVariants as kind
+use Rattle.rox_tables.specs.declared.rows.tables.ElementTables.{ElementTables}
 use Rattle.rox_build.specs.declared.builder.OpenElement.{OpenElement}
 use Rattle.rox_build.specs.declared.builder.Builder.{Builder}
 use Rattle.rox_build.specs.declared.tag.StartTag.{StartTag}

@@ -19,10 +19,10 @@ use Rattle.rox_build.specs.OpenRows.{top, depth_of, open_line, rows_to, so_far}
 use Rattle.rox_build.specs.PendingText.{waiting}
 use Rattle.rox_tables.specs.TagScopes.{lists_in}
 use Rattle.rox_build.specs.BuilderState.{OpenRow, opened, open_lines, last_row, pending_text, names_in, line_in, opened_in, IsRowWithin, Represents, RepresentsFlushed, IsNode}
-use Rattle.rox_tables.specs.declared.tables.NodeKind.{NodeKind}
-use Rattle.rox_tables.specs.declared.tables.NodeKind.TheVariants as kind
-use Rattle.rox_tables.specs.declared.tables.NodeData.{NodeData}
-use Rattle.rox_tables.specs.declared.tables.ElementTables.{ElementTables}
+use Rattle.rox_tables.specs.declared.rows.tables.NodeKind.{NodeKind}
+use Rattle.rox_tables.specs.declared.rows.tables.NodeKind.TheVariants as kind
+use Rattle.rox_tables.specs.declared.rows.tables.NodeData.{NodeData}
+use Rattle.rox_tables.specs.declared.rows.tables.ElementTables.{ElementTables}
 use Rattle.rox_build.specs.declared.pending.Pending.{Pending}
 use Rattle.rox_build.specs.declared.pending.Pending.TheVariants as pending
 use Rattle.rox_build.specs.declared.builder.OpenElement.{OpenElement}

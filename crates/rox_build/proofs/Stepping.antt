@@ -24,7 +24,7 @@ use Rattle.rox_reading.proofs.Forests.{pairs-join, attribute_count-join, pairs-m
 use Rattle.rox_grammar.specs.Failures.{name_view}
 use Rattle.rox_values.specs.Values.{section_text}
 use Rattle.rox_build.specs.OpenRows.{top}
-use Rattle.rox_tables.specs.declared.tables.ElementTables.{ElementTables}
+use Rattle.rox_tables.specs.declared.rows.tables.ElementTables.{ElementTables}
 use Rattle.rox_build.specs.declared.builder.OpenElement.{OpenElement}
 use Rattle.rox_grammar.specs.Tree.{listed}
 use Rattle.rox_scan.specs.declared.cursor.Cursor.{Cursor}

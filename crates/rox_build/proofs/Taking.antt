@@ -20,7 +20,7 @@ use Rattle.rox_values.specs.Refusals.{IsRefusal, of_failure}
 use Rattle.rox_values.specs.declared.parse_error.ParseError.{ParseError}
 use Rattle.rox_values.proofs.PartLemmas.{refuses_by}
 use Rattle.rox_tables.specs.Storage.{storage_bytes, is_borrowed}
-use Rattle.rox_tables.specs.declared.unresolved_attribute.UnresolvedAttribute.{UnresolvedAttribute}
+use Rattle.rox_tables.specs.declared.namespaces.unresolved_attribute.UnresolvedAttribute.{UnresolvedAttribute}
 use Rattle.rox_tables.specs.TagDeclarations.{unresolved_view, Declared}
 use Rattle.rox_build.specs.TagState.{HoldsTag, AddsAttribute, one_more}
 

@@ -5,7 +5,7 @@ use Rattle.rox_reading.specs.Refusals.{here, there, refused}
 use Rattle.rox_reading.specs.Doctype.{Asks, Definition, Dtd, defined, replies_of, AreTextReplies}
 use Rattle.rox_reading.specs.Machine.{at_place}
 use Rattle.rox_reading.specs.Answering.{Answered, Stops, Continues}
-use Rattle.rox_resolver.specs.Requests.{Reply, AreAllowed}
+use Rattle.rox_build.specs.Requests.{Reply, AreAllowed}
 use Rattle.rox_scan.specs.DoctypeViews.{replacement_view}
 use Rattle.rox_scan.specs.declared.cursor.Cursor.{Cursor}
 use Rattle.rox_values.specs.DeclaredEntities.{AreDeclared}

@@ -10,9 +10,9 @@ use Rattle.rox_reading.specs.Refusals.{Refusal}
 use Rattle.rox_reading.specs.Doctype.{Reply, replies_of, AreTextReplies}
 use Rattle.rox_reading.specs.Answering.{Stops}
 use Rattle.rox_reading.specs.WholeText.{has_doctype, reading}
-use Rattle.rox_resolver.specs.Requests.{AreAllowed}
+use Rattle.rox_build.specs.Requests.{AreAllowed}
 use Rattle.rox_tables.specs.Rows.{HoldsTree}
-use Rattle.rox_tables.specs.declared.tables.Tables.{Tables}
+use Rattle.rox_tables.specs.declared.rows.tables.Tables.{Tables}
 use Rattle.rox_values.specs.declared.parse_error.ParseError.{ParseError}
 use Rattle.rox_values.specs.declared.parse_error.ParseError.TheVariants as refused
 

@@ -14,8 +14,8 @@ use Rattle.rox_values.specs.declared.parse_error.ParseError.{ParseError}
 use Rattle.rox_tables.specs.Rows.{namespace_view, attribute, namespace_at, scope_at, NamespaceWithin, OptionWithin, AreScopes, AttributeRow, attribute_rows}
 use Rattle.rox_tables.specs.Scopes.{ArePlaces, PrefixesOnce}
 use Rattle.rox_tables.specs.TagScopes.{lists_in, HasBindings}
-use Rattle.rox_tables.specs.declared.tables.ElementData.{ElementData}
-use Rattle.rox_tables.specs.declared.tables.ElementTables.{ElementTables}
+use Rattle.rox_tables.specs.declared.rows.tables.ElementData.{ElementData}
+use Rattle.rox_tables.specs.declared.rows.tables.ElementTables.{ElementTables}
 use Rattle.rox_build.specs.declared.tag.StartTag.{StartTag}
 
 -- The table of attributes has grown by these, in this scope.

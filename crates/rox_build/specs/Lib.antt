@@ -1,3 +1,4 @@
+pub mod Requests
 pub mod OpenRows
 pub mod DataParts
 pub mod PendingText

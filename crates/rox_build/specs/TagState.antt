@@ -8,7 +8,7 @@ use Rattle.rox_reading.specs.Tags.{TagSoFar, TagRest, Values, taken, attribute_w
 use Rattle.rox_reading.specs.Values.{value_at}
 use Rattle.rox_scan.specs.declared.cursor.Cursor.{Cursor}
 use Rattle.rox_tables.specs.TagDeclarations.{unresolved_view, Declares}
-use Rattle.rox_tables.specs.declared.unresolved_attribute.UnresolvedAttribute.{UnresolvedAttribute}
+use Rattle.rox_tables.specs.declared.namespaces.unresolved_attribute.UnresolvedAttribute.{UnresolvedAttribute}
 use Rattle.rox_values.specs.Refusals.{IsRefusal}
 use Rattle.rox_values.specs.declared.parse_error.ParseError.{ParseError}
 

@@ -1,8 +1,8 @@
 //! The tables as they grow: the open elements, and the text that may go on.
 
 ghost use Rattle.std.specs.Prelude.{◌<◌, ◌≤◌, ◌+◌, ◌^◌, ◌≡◌, ◌∷◌, [], ℕ, length, vec_len, set, get_or, max, IfOk, IfErr, OnOk};
-ghost use Rattle.rox_tables.specs.declared.tables.NodeData.{NodeData};
-ghost use Rattle.rox_tables.specs.declared.tables.NodeKind.TheVariants as kind;
+ghost use Rattle.rox_tables.specs.declared.rows.tables.NodeData.{NodeData};
+ghost use Rattle.rox_tables.specs.declared.rows.tables.NodeKind.TheVariants as kind;
 ghost use Rattle.rox_grammar.specs.declared.failure.Failure.TheVariants as failure;
 ghost use Rattle.rox_build.specs.PendingText.{waiting};
 
@@ -12,14 +12,14 @@ use rox_grammar::failure::Failure;
 use rox_grammar::fault::Fault;
 use rox_grammar::name::QName;
 use rox_scan::search::Finders;
-use rox_tables::attributes::AttributeTable;
-use rox_tables::bindings::PrefixBindings;
-use rox_tables::growth::{push, reserve, trim};
-use rox_tables::namespace_table::NamespaceTable;
-use rox_tables::node_rows;
-use rox_tables::recent_texts::Recent;
-use rox_tables::storage::StringStorage;
-use rox_tables::tables::{ElementTables, NodeData, NodeKind, Scope, Stretch, Tables};
+use rox_tables::namespaces::bindings::PrefixBindings;
+use rox_tables::namespaces::namespace_table::NamespaceTable;
+use rox_tables::rows::attributes::AttributeTable;
+use rox_tables::rows::growth::{push, reserve, trim};
+use rox_tables::rows::node_rows;
+use rox_tables::rows::recent_texts::Recent;
+use rox_tables::rows::storage::StringStorage;
+use rox_tables::rows::tables::{ElementTables, NodeData, NodeKind, Scope, Stretch, Tables};
 use rox_values::context::MOST_WITHIN;
 use rox_values::text_value::TextValue;
 use std::alloc::Global;

@@ -8,7 +8,7 @@ ghost use Rattle.rox_grammar.specs.declared.fault.Word.TheVariants as word;
 ghost use Rattle.rox_reading.specs.Doctype as reading;
 ghost use Rattle.rox_reading.specs.Doctype.{Asks, Dtd};
 ghost use Rattle.rox_reading.specs.Answering.{left_with};
-ghost use Rattle.rox_resolver.specs.Requests.{Reply, Allows, MayAsk};
+ghost use Rattle.rox_build.specs.Requests.{Reply, Allows, MayAsk};
 ghost use Rattle.rox_scan.specs.DoctypeViews.{definition_view, request_view};
 ghost use Rattle.rox_build.specs.Asking.{AskOutcome, IsDefined, IsEntityRead, IsSubsetSoFar, IsDoctypeRead, ItemOutcome};
 ghost use Rattle.rox_values.specs.DeclaredEntities.{AreDeclared};
@@ -16,8 +16,8 @@ ghost use Rattle.rox_build.specs.BuilderState.{IsConsistent, IsInState};
 
 use crate::builder::Builder;
 use crate::constructs::{comment, instruction};
+use crate::resolver::{EntityResolver, ask};
 use rox_grammar::fault::{Due, Fault, Word};
-use rox_resolver::resolver::{EntityResolver, ask};
 use rox_scan::cursor::Cursor;
 use rox_scan::doctype::{Definition, ExternalId};
 use rox_scan::runs::is_at;

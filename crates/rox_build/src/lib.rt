@@ -1,4 +1,4 @@
-//! From a text to the tables of its tree.
+//! From a text to the tables of its tree, and what answers for external entities.
 #![tactic(auto)]
 
 pub mod builder;
@@ -7,4 +7,5 @@ pub mod content;
 pub mod dtd;
 pub mod pending;
 pub mod reader;
+pub mod resolver;
 pub mod tag;

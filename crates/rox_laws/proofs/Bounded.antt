@@ -14,7 +14,7 @@ use Rattle.rox_reading.proofs.Forests.{size-resolved}
 use Rattle.rox_theory.specs.Answers.{AreShort}
 use Rattle.rox_theory.proofs.Bound.{is_bounded}
 use Rattle.rox_theory.proofs.Longest.{parse_short}
-use Rattle.rox_resolver.specs.Requests.{Reply, AreAllowed}
+use Rattle.rox_build.specs.Requests.{Reply, AreAllowed}
 use Rattle.rox_laws.specs.TreeSize.{attribute_bytes, bytes_of, attribute_count_of, all_bytes, all_attributes, IsTreeBounded}
 
 values_same : (scope : List NamespaceDecl) (as' : List written.Attribute) → attribute_bytes (map (attribute_in scope) as') ≡ value_bytes_of as'

@@ -9,12 +9,12 @@ use Rattle.rox_grammar.specs.declared.fault.Word.TheVariants.{Xml}
 use Rattle.rox_grammar.specs.FixedTexts.{word_text}
 use Rattle.rox_grammar.specs.Written.{NamespaceDecl}
 use Rattle.rox_grammar.specs.Tree.{is_declared}
-use Rattle.rox_tables.specs.declared.tables.Namespace.{Namespace}
-use Rattle.rox_tables.specs.declared.tables.Scope.{Scope}
-use Rattle.rox_tables.specs.declared.tables.Scope.TheVariants as scope
-use Rattle.rox_tables.specs.declared.tables.Stretch.{Stretch}
-use Rattle.rox_tables.specs.declared.tables.ElementTables.{ElementTables}
-use Rattle.rox_tables.specs.declared.bindings.PrefixBindings.{PrefixBindings}
+use Rattle.rox_tables.specs.declared.rows.tables.Namespace.{Namespace}
+use Rattle.rox_tables.specs.declared.rows.tables.Scope.{Scope}
+use Rattle.rox_tables.specs.declared.rows.tables.Scope.TheVariants as scope
+use Rattle.rox_tables.specs.declared.rows.tables.Stretch.{Stretch}
+use Rattle.rox_tables.specs.declared.rows.tables.ElementTables.{ElementTables}
+use Rattle.rox_tables.specs.declared.namespaces.bindings.PrefixBindings.{PrefixBindings}
 use Rattle.rox_tables.specs.Rows.{namespace_view, namespace_at, lists_of, scope_at, AreRows, AreScopes}
 use Rattle.rox_tables.specs.Scopes.{entries, places_in, ArePlaces, PrefixesOnce, others, unlisted, is_few_at}
 use Rattle.rox_tables.specs.Ropes.{IsRope, IsListed}

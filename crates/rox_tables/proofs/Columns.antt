@@ -4,8 +4,8 @@ use Rattle.std.specs.List.{AllByRecursion, zip, slice_range}
 use Rattle.std.proofs.Math.Seq.{drop-append_seam}
 use Rattle.std.proofs.lemmas.List.{length-map, drop-map}
 use Rattle.std.proofs.lemmas.Slice.Zip.{firsts-zip}
-use Rattle.rox_tables.specs.declared.tables.AttributeData.{AttributeData}
-use Rattle.rox_tables.specs.declared.attributes.AttributeTable.{AttributeTable}
+use Rattle.rox_tables.specs.declared.rows.tables.AttributeData.{AttributeData}
+use Rattle.rox_tables.specs.declared.rows.attributes.AttributeTable.{AttributeTable}
 use Rattle.rox_tables.specs.Rows.{AttributeRow, attribute_rows}
 use Rattle.rox_reading.proofs.Stretches.{slice-rest}
 

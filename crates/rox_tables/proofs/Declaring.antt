@@ -15,16 +15,16 @@ use Rattle.rox_reading.specs.Tags.{TagSoFar, uri_tested, declared}
 use Rattle.rox_grammar.specs.Failures.{Fails}
 use Rattle.rox_grammar.specs.declared.failure.Failure.{Failure}
 use Rattle.rox_grammar.specs.declared.failure.Failure.TheVariants as failure
-use Rattle.rox_tables.specs.declared.tables.Namespace.{Namespace}
+use Rattle.rox_tables.specs.declared.rows.tables.Namespace.{Namespace}
 use Rattle.rox_tables.specs.Rows.{namespace_view, namespace_at, lists_of, AreScopes}
 use Rattle.rox_tables.specs.PrefixSet.{IsPrefixSet}
 use Rattle.rox_tables.specs.Scopes.{entries, others, ArePlaces, PrefixesOnce}
 use Rattle.rox_tables.specs.TagDeclarations.{declares_xml, Declares, Declared}
-use Rattle.rox_tables.specs.declared.tables.Scope.{Scope}
-use Rattle.rox_tables.specs.declared.tables.ElementTables.{ElementTables}
+use Rattle.rox_tables.specs.declared.rows.tables.Scope.{Scope}
+use Rattle.rox_tables.specs.declared.rows.tables.ElementTables.{ElementTables}
 use Rattle.rox_tables.specs.TagScopes.{HasBindings, lists_in}
 use Rattle.rox_tables.specs.Bindings.{AreBindingsOf}
-use Rattle.rox_tables.specs.declared.bindings.PrefixBindings.{PrefixBindings}
+use Rattle.rox_tables.specs.declared.namespaces.bindings.PrefixBindings.{PrefixBindings}
 use Rattle.rox_tables.proofs.Presenting.{keeps_grown}
 use Rattle.rox_tables.proofs.Remembering.{Key, remembers_same}
 use Rattle.rox_tables.proofs.Listing.{with_new-append, with_new-more, with_new-front, declares_nothing, listed-none, listed-others}

@@ -3,11 +3,11 @@ use Rattle.std.proofs.Common.{◌≡◌, ℕ, zero, suc, ◌<◌, true, false, L
 use Rattle.std.specs.Option.{IfSome, IfNone}
 use Rattle.std.proofs.lemmas.List.{length-map}
 use Rattle.rox_grammar.specs.Written.{NamespaceDecl}
-use Rattle.rox_tables.specs.declared.tables.Namespace.{Namespace}
-use Rattle.rox_tables.specs.declared.tables.ElementTables.{ElementTables}
-use Rattle.rox_tables.specs.declared.tables.Scope.{Scope}
-use Rattle.rox_tables.specs.declared.tables.Scope.TheVariants as scope
-use Rattle.rox_tables.specs.declared.tables.Stretch.{Stretch}
+use Rattle.rox_tables.specs.declared.rows.tables.Namespace.{Namespace}
+use Rattle.rox_tables.specs.declared.rows.tables.ElementTables.{ElementTables}
+use Rattle.rox_tables.specs.declared.rows.tables.Scope.{Scope}
+use Rattle.rox_tables.specs.declared.rows.tables.Scope.TheVariants as scope
+use Rattle.rox_tables.specs.declared.rows.tables.Stretch.{Stretch}
 use Rattle.rox_tables.specs.Rows.{namespace_view, scope_at, OptionWithin}
 use Rattle.rox_tables.specs.Scopes.{entries, places_in, is_few_at, ArePlaces}
 use Rattle.rox_tables.specs.Bindings.{bound_place, IsBound, FindsBinding, LooksWithin, places_view}

@@ -15,8 +15,8 @@ use Rattle.std.proofs.lemmas.Bool.{cases_lt}
 use Rattle.rox_grammar.specs.Written.{NamespaceDecl}
 use Rattle.rox_grammar.specs.Tree.{same_prefix}
 use Rattle.rox_grammar.specs.Document.{same_pair, has_pair}
-use Rattle.rox_tables.specs.declared.namespace_table.Key.{Key}
-use Rattle.rox_tables.specs.declared.tables.Namespace.{Namespace}
+use Rattle.rox_tables.specs.declared.namespaces.namespace_table.Key.{Key}
+use Rattle.rox_tables.specs.declared.rows.tables.Namespace.{Namespace}
 use Rattle.rox_tables.specs.Rows.{namespace_view, namespace_at}
 use Rattle.rox_tables.specs.PairIndex.{pair_cmp, key_cmp, few_pairs, place_of, place_behind, place_among}
 use Rattle.rox_tables.proofs.Pairs.{same_pair-true}

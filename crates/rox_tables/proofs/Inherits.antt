@@ -7,7 +7,7 @@ use Rattle.rox_grammar.specs.Written.{NamespaceDecl}
 use Rattle.rox_grammar.specs.Tree.{is_declared}
 use Rattle.rox_grammar.specs.WellNamed.{is_xml}
 use Rattle.rox_reading.proofs.Stretches.{slice-more, slice-rest}
-use Rattle.rox_tables.specs.declared.tables.Namespace.{Namespace}
+use Rattle.rox_tables.specs.declared.rows.tables.Namespace.{Namespace}
 use Rattle.rox_tables.specs.Rows.{namespace_view, namespace_at}
 use Rattle.rox_tables.specs.Scopes.{entries, ArePlaces, others}
 use Rattle.rox_tables.proofs.Stable.{slice-append, all_append}

@@ -10,7 +10,7 @@ use Rattle.rox_grammar.specs.Tree as tree
 use Rattle.rox_grammar.specs.Tree.{same_prefix, is_declared, uri_of, none_if_empty, attribute_namespace, attribute_in, element_namespace}
 use Rattle.rox_grammar.specs.WellNamed.{is_known, same_expanded, may_name}
 use Rattle.rox_reading.specs.Tags.{names_tested}
-use Rattle.rox_tables.specs.declared.tables.AttributeNamespace.{AttributeNamespace}
+use Rattle.rox_tables.specs.declared.rows.tables.AttributeNamespace.{AttributeNamespace}
 use Rattle.rox_tables.specs.Rows.{attribute, namespace_at, attribute_uri, AttributeRow}
 use Rattle.rox_tables.specs.ResolvedNames.{has_expanded}
 use Rattle.rox_tables.proofs.Pairs.{declared_some, declared_none}

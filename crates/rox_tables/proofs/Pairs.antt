@@ -6,7 +6,7 @@ use Rattle.std.proofs.lemmas.List.{take_more, map-append, take-append-drop}
 use Rattle.rox_grammar.specs.Written.{NamespaceDecl}
 use Rattle.rox_grammar.specs.Tree.{same_prefix, is_declared, uri_of}
 use Rattle.rox_grammar.specs.Document.{same_pair}
-use Rattle.rox_tables.specs.declared.tables.Namespace.{Namespace}
+use Rattle.rox_tables.specs.declared.rows.tables.Namespace.{Namespace}
 use Rattle.rox_tables.specs.Rows.{namespace_view, namespace_at}
 use Rattle.rox_tables.specs.Scopes.{entries, ArePlaces}
 

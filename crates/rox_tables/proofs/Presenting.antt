@@ -7,17 +7,17 @@ use Rattle.std.proofs.lemmas.Bool.{eq-eqb, ne_eqb}
 use Rattle.std.proofs.Math.ListN.{drop_of_length-le}
 use Rattle.rox_grammar.specs.Written.{NamespaceDecl}
 use Rattle.rox_grammar.specs.Tree.{same_prefix, is_declared, uri_of}
-use Rattle.rox_tables.specs.declared.tables.Namespace.{Namespace}
+use Rattle.rox_tables.specs.declared.rows.tables.Namespace.{Namespace}
 use Rattle.rox_tables.specs.Rows.{namespace_view, namespace_at, scope_at, OptionWithin}
 use Rattle.rox_tables.specs.Scopes.{prefix_view, entries, ArePlaces, others}
 use Rattle.std.specs.BTreeMap.{BTreeMap, get_by}
 use Rattle.std.specs.Cmp.Lexicographic.{slice_cmp}
 use Rattle.std.specs.Ordering.{nat_cmp}
 use Rattle.rox_tables.specs.Bindings.{option_joined, found_at, bound_place, place_in, bound_namespace, restored, IsBound, Stacked, AreBindingsOf, FindsBinding, is_innermost}
-use Rattle.rox_tables.specs.declared.bindings.Binding.{Binding}
-use Rattle.rox_tables.specs.declared.bindings.ShadowedBinding.{ShadowedBinding}
-use Rattle.rox_tables.specs.declared.bindings.ScopeFrame.{ScopeFrame}
-use Rattle.rox_tables.specs.declared.bindings.PrefixBindings.{PrefixBindings}
+use Rattle.rox_tables.specs.declared.namespaces.bindings.Binding.{Binding}
+use Rattle.rox_tables.specs.declared.namespaces.bindings.ShadowedBinding.{ShadowedBinding}
+use Rattle.rox_tables.specs.declared.namespaces.bindings.ScopeFrame.{ScopeFrame}
+use Rattle.rox_tables.specs.declared.namespaces.bindings.PrefixBindings.{PrefixBindings}
 use Rattle.rox_grammar.specs.declared.fault.Word.TheVariants.{Xml}
 use Rattle.rox_grammar.specs.FixedTexts.{word_text}
 use Rattle.rox_grammar.specs.WellNamed.{is_xml}

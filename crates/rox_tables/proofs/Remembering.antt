@@ -12,7 +12,7 @@ use Rattle.std.proofs.lemmas.List.{map-append, take_more}
 use Rattle.std.proofs.lemmas.List.Folds.{list_any-append}
 use Rattle.rox_grammar.specs.Written.{NamespaceDecl}
 use Rattle.rox_grammar.specs.Tree.{same_prefix, is_declared}
-use Rattle.rox_tables.specs.declared.tables.Namespace.{Namespace}
+use Rattle.rox_tables.specs.declared.rows.tables.Namespace.{Namespace}
 use Rattle.rox_tables.specs.Rows.{namespace_view, namespace_at}
 use Rattle.rox_tables.specs.Scopes.{prefix_view, entries, ArePlaces}
 use Rattle.rox_tables.specs.PrefixSet.{has_prefix, IsPrefixSet}

@@ -9,8 +9,8 @@ use Rattle.rox_grammar.specs.Written.{Attribute, NamespaceDecl}
 use Rattle.rox_grammar.specs.Tree as tree
 use Rattle.rox_grammar.specs.Tree.{attribute_namespace, attribute_in}
 use Rattle.rox_reading.specs.Tags.{names_tested}
-use Rattle.rox_tables.specs.declared.tables.AttributeNamespace.{AttributeNamespace}
-use Rattle.rox_tables.specs.declared.unresolved_attribute.UnresolvedAttribute.{UnresolvedAttribute}
+use Rattle.rox_tables.specs.declared.rows.tables.AttributeNamespace.{AttributeNamespace}
+use Rattle.rox_tables.specs.declared.namespaces.unresolved_attribute.UnresolvedAttribute.{UnresolvedAttribute}
 use Rattle.rox_grammar.specs.Failures.{name_view, Fails}
 use Rattle.rox_grammar.specs.declared.failure.Failure.{Failure}
 use Rattle.rox_grammar.specs.declared.failure.Failure.TheVariants as failure

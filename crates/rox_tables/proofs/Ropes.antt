@@ -8,13 +8,13 @@ use Rattle.std.proofs.lemmas.List.{append-nil, length-map, length-reverse, map-a
 use Rattle.rox_grammar.specs.Written.{NamespaceDecl}
 use Rattle.rox_reading.proofs.Stretches.{range_length}
 use Rattle.rox_grammar.specs.declared.failure.Failure.{Failure}
-use Rattle.rox_tables.specs.declared.tables.Concat.{Concat}
-use Rattle.rox_tables.specs.declared.tables.Scope.{Scope}
-use Rattle.rox_tables.specs.declared.tables.Scope.TheVariants as scope
+use Rattle.rox_tables.specs.declared.rows.tables.Concat.{Concat}
+use Rattle.rox_tables.specs.declared.rows.tables.Scope.{Scope}
+use Rattle.rox_tables.specs.declared.rows.tables.Scope.TheVariants as scope
 use Rattle.rox_tables.specs.Rows.{namespace_at, listed_at, made, places_on, places_of, lists_of, scope_at, count_of, count_at, IsRow, AreRows, EndsWithin, AreScopes}
 use Rattle.rox_tables.specs.Scopes.{entries, places_in, ArePlaces}
 use Rattle.rox_tables.specs.Ropes.{IsRope}
-use Rattle.rox_tables.specs.declared.tables.Stretch.{Stretch}
+use Rattle.rox_tables.specs.declared.rows.tables.Stretch.{Stretch}
 use Rattle.rox_tables.proofs.Leaves.{range_get, back_get}
 use Rattle.rox_tables.proofs.Stable.{all_append, all_slice, all_weaker, map_same, namespace_at-append}
 

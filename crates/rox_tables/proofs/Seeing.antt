@@ -21,8 +21,8 @@ use Rattle.std.proofs.lemmas.List.Folds.{list_any-append}
 use Rattle.rox_grammar.specs.Written.{NamespaceDecl}
 use Rattle.rox_tables.specs.Rows.{attribute_uri, AttributeRow}
 use Rattle.rox_tables.specs.ResolvedNames.{has_expanded}
-use Rattle.rox_tables.specs.declared.tables.AttributeNamespace.{AttributeNamespace}
-use Rattle.rox_tables.specs.declared.tables.AttributeData.{AttributeData}
+use Rattle.rox_tables.specs.declared.rows.tables.AttributeNamespace.{AttributeNamespace}
+use Rattle.rox_tables.specs.declared.rows.tables.AttributeData.{AttributeData}
 
 or_swap : (a b : Bool) → (a || b) ≡ (b || a)
 or_swap true true = refl

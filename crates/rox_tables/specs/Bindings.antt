@@ -9,10 +9,10 @@ use Rattle.rox_grammar.specs.Written.{NamespaceDecl}
 use Rattle.rox_grammar.specs.Tree.{same_prefix, uri_of}
 use Rattle.rox_tables.specs.Rows.{namespace_at, scope_at, OptionWithin}
 use Rattle.rox_tables.specs.Scopes.{prefix_view, entries, others, ArePlaces}
-use Rattle.rox_tables.specs.declared.bindings.Binding.{Binding}
-use Rattle.rox_tables.specs.declared.bindings.PrefixBindings.{PrefixBindings}
-use Rattle.rox_tables.specs.declared.bindings.ShadowedBinding.{ShadowedBinding}
-use Rattle.rox_tables.specs.declared.bindings.ScopeFrame.{ScopeFrame}
+use Rattle.rox_tables.specs.declared.namespaces.bindings.Binding.{Binding}
+use Rattle.rox_tables.specs.declared.namespaces.bindings.PrefixBindings.{PrefixBindings}
+use Rattle.rox_tables.specs.declared.namespaces.bindings.ShadowedBinding.{ShadowedBinding}
+use Rattle.rox_tables.specs.declared.namespaces.bindings.ScopeFrame.{ScopeFrame}
 
 abbrev pub option_joined : Option (Option Binding) → Option Binding
 option_joined None = None

@@ -11,8 +11,8 @@ use Rattle.rox_reading.specs.Tags.{names_tested}
 use Rattle.rox_grammar.specs.declared.failure.Failure.{Failure}
 use Rattle.rox_grammar.specs.Failures.{Fails}
 use Rattle.rox_tables.specs.Rows.{attribute_uri}
-use Rattle.rox_tables.specs.declared.tables.AttributeNamespace.{AttributeNamespace}
-use Rattle.rox_tables.specs.declared.tables.AttributeData.{AttributeData}
+use Rattle.rox_tables.specs.declared.rows.tables.AttributeNamespace.{AttributeNamespace}
+use Rattle.rox_tables.specs.declared.rows.tables.AttributeData.{AttributeData}
 
 abbrev pub Key : Type 0
 Key = Bor (List ℕ) × Option (Bor (List ℕ))

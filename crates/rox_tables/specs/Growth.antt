@@ -1,7 +1,7 @@
 -- The room of a table that grows as a text is read.
 
 use Rattle.std.specs.Prelude.{ℕ, ◌+◌, ◌-◌, ◌*◌, ◌/◌, ◌^◌, List, [], ◌∷◌, max, min}
-use Rattle.rox_tables.specs.declared.tables.NodeData.{NodeData}
+use Rattle.rox_tables.specs.declared.rows.tables.NodeData.{NodeData}
 
 -- what a word of 64 bits holds of a number
 abbrev pub capped : ℕ → ℕ

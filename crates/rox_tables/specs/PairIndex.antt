@@ -9,7 +9,7 @@ use Rattle.std.specs.Map.{lookup}
 use Rattle.rox_grammar.specs.Written.{NamespaceDecl}
 use Rattle.rox_grammar.specs.Document.{same_pair}
 use Rattle.rox_tables.specs.Rows.{namespace_view}
-use Rattle.rox_tables.specs.declared.namespace_table.Key.{Key}
+use Rattle.rox_tables.specs.declared.namespaces.namespace_table.Key.{Key}
 
 -- by prefix, of which the default comes first, and then by URI
 abbrev pub pair_cmp : NamespaceDecl → NamespaceDecl → Ordering

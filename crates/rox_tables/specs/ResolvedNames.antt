@@ -5,9 +5,9 @@ use Rattle.rox_grammar.specs.Written.{Attribute, NamespaceDecl}
 use Rattle.rox_grammar.specs.Tree.{same_prefix}
 use Rattle.rox_reading.specs.Tags.{names_tested}
 use Rattle.rox_tables.specs.Rows.{AttributeRow, attribute_uri}
-use Rattle.rox_tables.specs.declared.unresolved_attribute.UnresolvedAttribute.{UnresolvedAttribute}
-use Rattle.rox_tables.specs.declared.tables.AttributeNamespace.{AttributeNamespace}
-use Rattle.rox_tables.specs.declared.tables.AttributeData.{AttributeData}
+use Rattle.rox_tables.specs.declared.namespaces.unresolved_attribute.UnresolvedAttribute.{UnresolvedAttribute}
+use Rattle.rox_tables.specs.declared.rows.tables.AttributeNamespace.{AttributeNamespace}
+use Rattle.rox_tables.specs.declared.rows.tables.AttributeData.{AttributeData}
 
 -- the row of an attribute that was taken, in this namespace
 abbrev pub row_of_unresolved : UnresolvedAttribute → AttributeNamespace → AttributeRow

@@ -4,7 +4,7 @@ use Rattle.std.specs.List.{AllByRecursion}
 use Rattle.rox_grammar.specs.Written.{NamespaceDecl}
 use Rattle.rox_tables.specs.Rows.{AreRows, AreScopes, EndsWithin}
 use Rattle.rox_tables.specs.Scopes.{entries, places_in, ArePlaces}
-use Rattle.rox_tables.specs.declared.tables.Scope.{Scope}
+use Rattle.rox_tables.specs.declared.rows.tables.Scope.{Scope}
 
 -- Rows were put behind the others, and the row at this place lists this of any listed places.
 pub record IsRope (old new : List Scope) (scope : ℕ) (list : List ℕ → List ℕ) : Type 0 where

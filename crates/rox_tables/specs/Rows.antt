@@ -7,18 +7,18 @@ use Rattle.rox_grammar.specs.Written.{NamespaceDecl}
 use Rattle.rox_grammar.specs.Tree as tree
 use Rattle.rox_grammar.specs.Tree.{Node, xml_uri}
 use Rattle.rox_tables.specs.Storage.{storage_bytes, is_borrowed}
-use Rattle.rox_tables.specs.declared.tables.Namespace.{Namespace}
-use Rattle.rox_tables.specs.declared.tables.AttributeNamespace.{AttributeNamespace}
-use Rattle.rox_tables.specs.declared.tables.AttributeNamespace.TheVariants as space
-use Rattle.rox_tables.specs.declared.tables.AttributeData.{AttributeData}
-use Rattle.rox_tables.specs.declared.tables.AttributePlaces.{AttributePlaces}
-use Rattle.rox_tables.specs.declared.attributes.AttributeTable.{AttributeTable}
-use Rattle.rox_tables.specs.declared.tables.NodeKind.{NodeKind}
-use Rattle.rox_tables.specs.declared.tables.NodeKind.TheVariants as kind
-use Rattle.rox_tables.specs.declared.tables.NodeData.{NodeData}
-use Rattle.rox_tables.specs.declared.tables.Scope.{Scope}
-use Rattle.rox_tables.specs.declared.tables.Scope.TheVariants as scope
-use Rattle.rox_tables.specs.declared.tables.Tables.{Tables}
+use Rattle.rox_tables.specs.declared.rows.tables.Namespace.{Namespace}
+use Rattle.rox_tables.specs.declared.rows.tables.AttributeNamespace.{AttributeNamespace}
+use Rattle.rox_tables.specs.declared.rows.tables.AttributeNamespace.TheVariants as space
+use Rattle.rox_tables.specs.declared.rows.tables.AttributeData.{AttributeData}
+use Rattle.rox_tables.specs.declared.rows.tables.AttributePlaces.{AttributePlaces}
+use Rattle.rox_tables.specs.declared.rows.attributes.AttributeTable.{AttributeTable}
+use Rattle.rox_tables.specs.declared.rows.tables.NodeKind.{NodeKind}
+use Rattle.rox_tables.specs.declared.rows.tables.NodeKind.TheVariants as kind
+use Rattle.rox_tables.specs.declared.rows.tables.NodeData.{NodeData}
+use Rattle.rox_tables.specs.declared.rows.tables.Scope.{Scope}
+use Rattle.rox_tables.specs.declared.rows.tables.Scope.TheVariants as scope
+use Rattle.rox_tables.specs.declared.rows.tables.Tables.{Tables}
 
 -- one row: where its node stands, and the node
 pub record RowView : Type 0 where

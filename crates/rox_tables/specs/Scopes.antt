@@ -7,8 +7,8 @@ use Rattle.rox_grammar.specs.Written.{NamespaceDecl}
 use Rattle.rox_grammar.specs.Tree.{same_prefix, is_declared}
 use Rattle.rox_grammar.specs.WellNamed.{is_xml}
 use Rattle.rox_tables.specs.Rows.{namespace_at, listed_at, places_of}
-use Rattle.rox_tables.specs.declared.tables.Scope.{Scope}
-use Rattle.rox_tables.specs.declared.tables.Scope.TheVariants as scope
+use Rattle.rox_tables.specs.declared.rows.tables.Scope.{Scope}
+use Rattle.rox_tables.specs.declared.rows.tables.Scope.TheVariants as scope
 
 -- a prefix, or none for the default, without where it lies in memory
 abbrev pub prefix_view : Option (Bor (List ℕ)) → Option (List ℕ)

@@ -1,8 +1,8 @@
 -- The bytes of a text, and whether they are a slice of the input.
 use Rattle.std.specs.Prelude.{◌≡◌, ℕ, List, Bool, true, false}
 use Rattle.std.specs.Rc.{rc_str_bytes}
-use Rattle.rox_tables.specs.declared.storage.StringStorage.{StringStorage}
-use Rattle.rox_tables.specs.declared.storage.StringStorage.TheVariants.{Borrowed, Owned}
+use Rattle.rox_tables.specs.declared.rows.storage.StringStorage.{StringStorage}
+use Rattle.rox_tables.specs.declared.rows.storage.StringStorage.TheVariants.{Borrowed, Owned}
 
 abbrev pub storage_bytes : StringStorage → List ℕ
 storage_bytes (Borrowed s) = s.now

@@ -10,7 +10,7 @@ use Rattle.rox_grammar.specs.Written.{Attribute, NamespaceDecl}
 use Rattle.rox_reading.specs.Tags.{TagSoFar}
 use Rattle.rox_tables.specs.Scopes.{entries, ArePlaces}
 use Rattle.rox_tables.specs.Storage.{storage_bytes, is_borrowed}
-use Rattle.rox_tables.specs.declared.unresolved_attribute.UnresolvedAttribute.{UnresolvedAttribute}
+use Rattle.rox_tables.specs.declared.namespaces.unresolved_attribute.UnresolvedAttribute.{UnresolvedAttribute}
 
 -- `xml` is among the declared prefixes
 abbrev pub declares_xml : List NamespaceDecl → Bool

@@ -4,7 +4,7 @@ use Rattle.rox_grammar.specs.Written.{NamespaceDecl}
 use Rattle.rox_tables.specs.Rows.{namespace_view, lists_of, scope_at, AreScopes}
 use Rattle.rox_tables.specs.Bindings.{AreBindingsOf, IsBound, bound_place}
 use Rattle.rox_tables.specs.Scopes.{entries, ArePlaces, PrefixesOnce, others, is_few_at}
-use Rattle.rox_tables.specs.declared.tables.ElementTables.{ElementTables}
+use Rattle.rox_tables.specs.declared.rows.tables.ElementTables.{ElementTables}
 
 -- what each scope lists
 abbrev pub lists_in : ElementTables → List (List NamespaceDecl)

@@ -5,10 +5,10 @@ use Rattle.rox_tables.specs.Storage.{storage_bytes}
 use Rattle.rox_grammar.specs.Forest.{Forest, size}
 use Rattle.rox_grammar.specs.Tree.{Node, Root, Element, Text, Comment, PI}
 use Rattle.rox_tables.specs.Rows.{HoldsTree, KindWithin, node, names_of, scopes_of, attribute_rows, AttributeRow}
-use Rattle.rox_tables.specs.declared.tables.NodeKind.{NodeKind}
-use Rattle.rox_tables.specs.declared.tables.NodeKind.TheVariants as kind
-use Rattle.rox_tables.specs.declared.tables.NodeData.{NodeData}
-use Rattle.rox_tables.specs.declared.tables.Tables.{Tables}
+use Rattle.rox_tables.specs.declared.rows.tables.NodeKind.{NodeKind}
+use Rattle.rox_tables.specs.declared.rows.tables.NodeKind.TheVariants as kind
+use Rattle.rox_tables.specs.declared.rows.tables.NodeData.{NodeData}
+use Rattle.rox_tables.specs.declared.rows.tables.Tables.{Tables}
 use Rattle.rox_grammar.specs.Written.{NamespaceDecl}
 use Rattle.roxmltree.specs.Places.{place}
 use Rattle.roxmltree.specs.Stripped.{stripped, stripped_row}

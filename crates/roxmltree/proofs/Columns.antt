@@ -5,9 +5,9 @@ use Rattle.std.proofs.lemmas.List.{length-map}
 use Rattle.std.proofs.lemmas.Slice.Zip.{firsts-zip, get_or-zip}
 use Rattle.rox_grammar.specs.Written.{NamespaceDecl}
 use Rattle.rox_tables.specs.Rows.{AttributeRow, NamespaceWithin, attribute, attribute_rows}
-use Rattle.rox_tables.specs.declared.tables.AttributeData.{AttributeData}
-use Rattle.rox_tables.specs.declared.tables.AttributePlaces.{AttributePlaces}
-use Rattle.rox_tables.specs.declared.attributes.AttributeTable.{AttributeTable}
+use Rattle.rox_tables.specs.declared.rows.tables.AttributeData.{AttributeData}
+use Rattle.rox_tables.specs.declared.rows.tables.AttributePlaces.{AttributePlaces}
+use Rattle.rox_tables.specs.declared.rows.attributes.AttributeTable.{AttributeTable}
 use Rattle.roxmltree.specs.NamespaceBound.{namespace_bound}
 use Rattle.roxmltree.proofs.Ends.{first_of, last_of, length_stretch}
 use Rattle.roxmltree.proofs.Entries.{reach_within}

@@ -17,10 +17,10 @@ use Rattle.rox_theory.proofs.OneParse as once
 use Rattle.rox_theory.proofs.OneParse.{one_plain_parse}
 use Rattle.rox_theory.proofs.Tops.{parse_merged}
 use Rattle.rox_theory.proofs.Whole.{seen_parse, doctype_seen, plain_refused, asks_nothing_there}
-use Rattle.rox_resolver.specs.Requests.{AreAllowed}
+use Rattle.rox_build.specs.Requests.{AreAllowed}
 use Rattle.rox_build.specs.Built.{Built}
 use Rattle.rox_tables.specs.Rows.{HoldsTree}
-use Rattle.rox_tables.specs.declared.tables.Tables.{Tables}
+use Rattle.rox_tables.specs.declared.rows.tables.Tables.{Tables}
 use Rattle.roxmltree.specs.DocumentView.{DocumentView}
 use Rattle.roxmltree.specs.FirstError.{IsReadDocument}
 use Rattle.roxmltree.specs.DocumentTables.{HoldsDocument}

@@ -4,8 +4,8 @@ use Rattle.std.proofs.lemmas.List.{get_or-map, length-map, map-append}
 use Rattle.rox_grammar.specs.Forest.{Forest, Nil, Cons, size}
 use Rattle.rox_grammar.specs.Tree.{Node}
 use Rattle.rox_tables.specs.Rows.{RowView, row_view, preorder_rows, names_of, scopes_of, HoldsTree, attribute_rows}
-use Rattle.rox_tables.specs.declared.tables.NodeData.{NodeData}
-use Rattle.rox_tables.specs.declared.tables.Tables.{Tables}
+use Rattle.rox_tables.specs.declared.rows.tables.NodeData.{NodeData}
+use Rattle.rox_tables.specs.declared.rows.tables.Tables.{Tables}
 use Rattle.roxmltree.specs.TreeCodes.{flattened, unflattened, unflattened-flattened}
 use Rattle.roxmltree.specs.Places.{Place, places, preorder, place, nowhere, first, parent}
 use Rattle.roxmltree.specs.DocumentTables.{tree_in, nodes_from, HoldsDocument, IsWhole}

@@ -36,7 +36,7 @@ pub use Rattle.rox_reading.specs.WholeText as Reading
 pub use Rattle.rox_reading.specs.Refusals
 pub use Rattle.rox_reading.specs.Doctype as Replies
 pub use Rattle.rox_reading.specs.Answering
-pub use Rattle.rox_resolver.specs.Requests
+pub use Rattle.rox_build.specs.Requests
 pub use Rattle.rox_error.specs.FaultErrors
 pub use Rattle.rox_error.specs.Messages
 pub use Rattle.rox_tables.specs.Rows

@@ -2,10 +2,10 @@
 use Rattle.std.specs.Prelude.{ℕ, Bool, List, Option, Some, None}
 use Rattle.std.specs.Option.{option_map}
 use Rattle.rox_tables.specs.Storage.{storage_bytes, is_borrowed}
-use Rattle.rox_tables.specs.declared.storage.StringStorage.{StringStorage}
-use Rattle.rox_tables.specs.declared.tables.PI.{PI}
-use Rattle.rox_tables.specs.declared.tables.NodeKind.{NodeKind}
-use Rattle.rox_tables.specs.declared.tables.NodeKind.TheVariants as kind
+use Rattle.rox_tables.specs.declared.rows.storage.StringStorage.{StringStorage}
+use Rattle.rox_tables.specs.declared.rows.tables.PI.{PI}
+use Rattle.rox_tables.specs.declared.rows.tables.NodeKind.{NodeKind}
+use Rattle.rox_tables.specs.declared.rows.tables.NodeKind.TheVariants as kind
 
 -- the bytes, and whether they are a slice of the input
 abbrev pub stored : StringStorage → List ℕ × Bool

@@ -6,8 +6,8 @@ ghost use Rattle.rox_tables.specs.Rows.{namespace_view};
 ghost use Rattle.roxmltree.specs.NamespaceBound.{namespace_bound};
 
 use crate::names::{ExpandedName, NS_XML_URI};
-use rox_tables::storage::StringStorage;
-use rox_tables::tables::{AttributeData, AttributeNamespace, AttributePlaces, Namespace};
+use rox_tables::rows::storage::StringStorage;
+use rox_tables::rows::tables::{AttributeData, AttributeNamespace, AttributePlaces, Namespace};
 use std::fmt;
 use std::marker::Model;
 use std::ops::Range;

@@ -4,7 +4,7 @@ ghost use Rattle.std.specs.Iterator.{IsFinite};
 
 use crate::nodes::Node;
 use crate::tree::Document;
-use rox_tables::tables::NodeKind;
+use rox_tables::rows::tables::NodeKind;
 use std::fmt;
 
 /// Prints the tree, a node after the other, by a loop: however deep it is, no stack is used up.

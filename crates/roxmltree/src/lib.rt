@@ -25,10 +25,10 @@ pub use crate::node_content::NodeType;
 pub use crate::nodes::{Node, NodeId, NodeIdTooLarge};
 pub use crate::options::ParsingOptions;
 pub use crate::tree::Document;
+pub use rox_build::resolver::{EntityResolver, NoResolver, ResolveWith};
 pub use rox_error::position::TextPos;
-pub use rox_resolver::resolver::{EntityResolver, NoResolver, ResolveWith};
-pub use rox_tables::storage::StringStorage;
-pub use rox_tables::tables::{Namespace, PI};
+pub use rox_tables::rows::storage::StringStorage;
+pub use rox_tables::rows::tables::{Namespace, PI};
 
 /// Why a text is refused.
 pub type Error = rox_error::error::Error<'static>;

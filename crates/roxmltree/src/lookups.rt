@@ -13,7 +13,7 @@ use crate::attributes::{Attribute, Attributes};
 use crate::names::{ExpandedName, NS_XML_URI};
 use crate::namespaces::NamespaceIter;
 use crate::nodes::Node;
-use rox_tables::tables::NodeKind;
+use rox_tables::rows::tables::NodeKind;
 
 impl<'a, 'input> Node<'a, 'input> {
     /// The name of an element. The empty name without namespace for other nodes.

@@ -3,8 +3,8 @@
 ghost use Rattle.std.specs.Prelude.{◌≡◌, length};
 ghost use Rattle.rox_tables.specs.Rows.{namespace_view};
 
-use rox_tables::rope::{count, place_at};
-use rox_tables::tables::{Namespace, Scope};
+use rox_tables::namespaces::rope::{count, place_at};
+use rox_tables::rows::tables::{Namespace, Scope};
 use std::fmt;
 use std::marker::Model;
 

@@ -8,8 +8,8 @@ ghost use Rattle.roxmltree.specs.StoredText.{stored, instruction};
 ghost use Rattle.roxmltree.specs.NodeRef.{id_of, tree_of, item_of};
 
 use crate::nodes::Node;
-use rox_tables::storage::StringStorage;
-use rox_tables::tables::{NodeKind, PI};
+use rox_tables::rows::storage::StringStorage;
+use rox_tables::rows::tables::{NodeKind, PI};
 use std::ops::Range;
 
 /// The kinds of node.

@@ -1,6 +1,6 @@
 //! What a caller asks of the parser.
 
-use rox_resolver::resolver::NoResolver;
+use rox_build::resolver::NoResolver;
 
 /// What a caller asks of the parser.
 #[derive(Clone, Copy, Debug, Drop)]

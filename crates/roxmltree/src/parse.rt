@@ -13,7 +13,7 @@ ghost use Rattle.rox_grammar.specs.Doctype.{Request, Asked};
 ghost use Rattle.rox_grammar.specs.Document.{IsTreeOf, Permits, HasAsked, AsksNext};
 ghost use Rattle.rox_reading.specs.Refusals.{here};
 ghost use Rattle.rox_reading.specs.WholeText.{reading};
-ghost use Rattle.rox_resolver.specs.Requests.{Allows, AreAllowed, MayAsk};
+ghost use Rattle.rox_build.specs.Requests.{Allows, AreAllowed, MayAsk};
 ghost use Rattle.rox_error.specs.FaultErrors.{position_at, IsErrorOf};
 ghost use Rattle.roxmltree.specs.TextErrors.{IsTextError};
 ghost use Rattle.roxmltree.specs.FirstError.{IsFirst, IsReadDocument, IsErrorOfReason};
@@ -21,9 +21,9 @@ ghost use Rattle.roxmltree.specs.FirstError.{IsFirst, IsReadDocument, IsErrorOfR
 use crate::options::ParsingOptions;
 use crate::tree::Document;
 use rox_build::reader::{Options, build};
+use rox_build::resolver::EntityResolver;
 use rox_error::error::Error;
 use rox_error::position::TextPos;
-use rox_resolver::resolver::EntityResolver;
 use rox_values::parse_error::ParseError;
 use std::alloc::Global;
 

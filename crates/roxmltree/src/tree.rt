@@ -10,7 +10,7 @@ use crate::attributes::Attributes;
 use crate::iterators::Descendants;
 use crate::namespaces::NamespaceIter;
 use crate::nodes::{Node, NodeId};
-use rox_tables::tables::{NodeData, NodeKind, Tables};
+use rox_tables::rows::tables::{NodeData, NodeKind, Tables};
 use std::marker::Model;
 
 /// An XML document as a read-only tree of nodes.

@@ -2,6 +2,7 @@
 
 ghost use Rattle.std.specs.Prelude.{◌≡◌, Some};
 
+mod asking;
 mod generated;
 mod limits;
 mod messages;

@@ -5,10 +5,10 @@ ghost use Rattle.std.specs.Prelude.{◌<◌, length, IfOk, OnOk};
 ghost use Rattle.rox_tables.specs.Rows.{AreRows};
 
 use rox_grammar::failure::Failure;
-use rox_tables::recent_texts::Recent;
-use rox_tables::rope::{add, both, count, find, height, without};
-use rox_tables::storage::StringStorage;
-use rox_tables::tables::{Scope, Stretch};
+use rox_tables::namespaces::rope::{add, both, count, find, height, without};
+use rox_tables::rows::recent_texts::Recent;
+use rox_tables::rows::storage::StringStorage;
+use rox_tables::rows::tables::{Scope, Stretch};
 use std::process::Abort;
 use std::test::Fail;
 

@@ -9,7 +9,7 @@ use Rattle.rox_reading.specs.Refusals.{lifted}
 use Rattle.rox_values.specs.Contexts.{context_of}
 use Rattle.rox_build.specs.ElementRow.{Tagged}
 use Rattle.rox_build.specs.BuilderState.{IsNode, IsConsistent, ScansTo}
-use Rattle.rox_tables.specs.declared.tables.NodeKind.TheVariants as kind
+use Rattle.rox_tables.specs.declared.rows.tables.NodeKind.TheVariants as kind
 use Rattle.rox_build.proofs.Declared.{some_declare}
 use Rattle.rox_build.proofs.Lifting.{refused_too}
 use Rattle.rox_build.proofs.Growing.{grown_shows}

@@ -1,7 +1,7 @@
 use Rattle.std.proofs.Common.{[], Some}
 use Rattle.std.specs.Prelude.{string_bytes}
 use Rattle.rox_reading.specs.Refusals.{there}
-use Rattle.rox_resolver.specs.Requests.{Allows}
+use Rattle.rox_build.specs.Requests.{Allows}
 use Rattle.rox_scan.specs.DoctypeViews.{request_view, replacement_view}
 use Rattle.rox_build.proofs.Asking.{none_given, once, text_given, text_answered, text_refused, nothing_given, nothing_answered, resolver_refuses}
 use Rattle.rox_build.proofs.dtd.answer_for.Goals as goal

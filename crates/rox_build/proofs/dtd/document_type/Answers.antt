@@ -5,7 +5,7 @@ use Rattle.std.proofs.lemmas.Bool.{leb-true, leb-false, eqb-true, ne_eqb}
 use Rattle.rox_reading.specs.Doctype.{with_state, doctype_head_at}
 use Rattle.rox_reading.specs.Machine.{at_place}
 use Rattle.rox_reading.proofs.Settling.{doctype_head_stops, doctype_cut_stops, doctype_plain, doctype_other_stops}
-use Rattle.rox_resolver.specs.Requests.{Allows}
+use Rattle.rox_build.specs.Requests.{Allows}
 use Rattle.rox_build.proofs.Asking.{none_given}
 use Rattle.rox_build.proofs.Items.{sees_at, stands_within, with_subset}
 use Rattle.rox_build.proofs.dtd.document_type.Goals as goal

@@ -7,7 +7,7 @@ use Rattle.rox_grammar.specs.Entities.{Entity}
 use Rattle.rox_reading.specs.Doctype.{EntityHead, entity_head_at, definition_at, defined}
 use Rattle.rox_reading.specs.Lexical.{byte_at}
 use Rattle.rox_reading.proofs.Settling.{entity_run, head_stops, definition_stops, declared_there}
-use Rattle.rox_resolver.specs.Requests.{Allows}
+use Rattle.rox_build.specs.Requests.{Allows}
 use Rattle.rox_scan.specs.DoctypeViews.{definition_view, head_view, replacement_view}
 use Rattle.rox_values.specs.DeclaredEntities.{AreDeclared}
 use Rattle.rox_build.proofs.Asking.{none_given, stops_by, definition_refused, entity_unclosed, entity_read}

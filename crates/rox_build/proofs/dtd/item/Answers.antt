@@ -1,7 +1,7 @@
 use Rattle.std.proofs.Common.{Ok, Err, sym, ap, ◌∙◌}
 use Rattle.std.proofs.lemmas.Result.{err_from_is_err_and}
 use Rattle.std.proofs.lemmas.Bool.{eqb-true}
-use Rattle.rox_resolver.specs.Requests.{Allows}
+use Rattle.rox_build.specs.Requests.{Allows}
 use Rattle.rox_build.proofs.Items.{entity_turn, comment_turn, instruction_turn, passed_turn, passed_stops, unknown_stops, end_turn, end_stops}
 use Rattle.rox_build.proofs.dtd.item.Goals as goal
 

@@ -4,7 +4,7 @@ use Rattle.std.proofs.lemmas.Bool.{leb-true}
 use Rattle.rox_reading.specs.Doctype as reading
 use Rattle.rox_reading.specs.Doctype.{Asks, Dtd}
 use Rattle.rox_reading.specs.Answering.{left_with}
-use Rattle.rox_resolver.specs.Requests.{Reply, Allows}
+use Rattle.rox_build.specs.Requests.{Reply, Allows}
 use Rattle.rox_build.specs.Asking.{IsSubsetSoFar, ItemOutcome}
 use Rattle.rox_build.specs.declared.builder.Builder.{Builder}
 use Rattle.rox_values.specs.declared.entities.Entities.{Entities}

@@ -2,7 +2,7 @@ use Rattle.std.proofs.Common.{◌≡◌, ℕ, ◌-◌, length}
 use Rattle.rox_reading.specs.Doctype as reading
 use Rattle.rox_reading.specs.Doctype.{Dtd}
 use Rattle.rox_reading.specs.Answering.{left_with}
-use Rattle.rox_resolver.specs.Requests.{Allows}
+use Rattle.rox_build.specs.Requests.{Allows}
 use Rattle.rox_build.specs.Asking.{IsSubsetSoFar}
 use Rattle.rox_values.specs.DeclaredEntities.{AreDeclared}
 use Rattle.rox_build.specs.BuilderState.{IsConsistent, IsInState}

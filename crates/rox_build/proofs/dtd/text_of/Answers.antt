@@ -1,5 +1,5 @@
 use Rattle.std.proofs.Common.{[], refl}
-use Rattle.rox_resolver.specs.Requests.{Allows}
+use Rattle.rox_build.specs.Requests.{Allows}
 use Rattle.rox_build.proofs.Asking.{none_given}
 use Rattle.rox_build.proofs.dtd.text_of.Goals as goal
 

@@ -2,7 +2,7 @@ use Rattle.std.proofs.Common.{ℕ, Bool, List, refl, sym, ap, ◌∙◌, length}
 use Rattle.std.proofs.lemmas.Result.{err_from_is_err_and}
 use Rattle.rox_grammar.specs.TextStart.{after_bom}
 use Rattle.rox_grammar.specs.Doctype.{Request, Asked}
-use Rattle.rox_resolver.specs.Requests.{Reply, Allows}
+use Rattle.rox_build.specs.Requests.{Reply, Allows}
 use Rattle.rox_build.specs.Asking.{AreGiven, StopsBy}
 use Rattle.rox_build.specs.Built.{BuiltRefusal}
 use Rattle.rox_build.specs.BuilderState.{IsInState}

@@ -6,7 +6,7 @@ use Rattle.rox_reading.specs.Doctype.{Dtd, replies_of}
 use Rattle.rox_reading.specs.Answering.{left_with, Answered}
 use Rattle.rox_reading.specs.WholeText.{misc, doctype}
 use Rattle.rox_reading.proofs.Settling.{doctype_run, whole_run, whole_doctype_stops}
-use Rattle.rox_resolver.specs.Requests.{Allows}
+use Rattle.rox_build.specs.Requests.{Allows}
 use Rattle.rox_build.specs.WholeTexts.{start_state, beginning}
 use Rattle.rox_build.proofs.Asking.{none_given, stops_by}
 use Rattle.rox_build.proofs.Lifting.{lifted_ok}

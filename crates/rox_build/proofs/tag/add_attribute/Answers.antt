@@ -7,7 +7,7 @@ use Rattle.rox_tables.specs.Rows.{namespace_view}
 use Rattle.rox_tables.specs.Bindings.{AreBindingsOf}
 use Rattle.rox_tables.specs.TagScopes.{lists_in}
 use Rattle.rox_tables.specs.TagDeclarations.{unresolved_view}
-use Rattle.rox_tables.specs.declared.unresolved_attribute.UnresolvedAttribute.{UnresolvedAttribute}
+use Rattle.rox_tables.specs.declared.namespaces.unresolved_attribute.UnresolvedAttribute.{UnresolvedAttribute}
 use Rattle.rox_build.proofs.Taking.{view_is, took_declaration, refused_declaration, refused_value, took_attribute}
 use Rattle.rox_build.proofs.tag.add_attribute.Goals as goal
 

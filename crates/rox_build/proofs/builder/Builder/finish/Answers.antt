@@ -1,6 +1,6 @@
 use Rattle.std.proofs.Common.{◌≡◌, refl, ap, ◌∙◌, arith, length, set, get_or, ℕ}
 use Rattle.rox_build.specs.BuilderState.{AreSound}
-use Rattle.rox_tables.specs.declared.tables.Tables.{Tables}
+use Rattle.rox_tables.specs.declared.rows.tables.Tables.{Tables}
 use Rattle.rox_build.proofs.Finishing.{finish_holds, same_held}
 use Rattle.rox_build.proofs.builder.Builder.finish.Goals as goal
 

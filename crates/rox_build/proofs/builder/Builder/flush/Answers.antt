@@ -6,10 +6,10 @@ use Rattle.rox_tables.specs.Rows.{node, attribute_rows}
 use Rattle.rox_build.specs.BuilderState.{pending_text, names_in}
 use Rattle.rox_tables.specs.TagScopes.{lists_in}
 use Rattle.rox_build.specs.declared.pending.Pending.{Pending}
-use Rattle.rox_tables.specs.declared.tables.NodeKind.{NodeKind}
-use Rattle.rox_tables.specs.declared.tables.NodeKind.TheVariants as kind
-use Rattle.rox_tables.specs.declared.tables.NodeData.{NodeData}
-use Rattle.rox_tables.specs.declared.storage.StringStorage.TheVariants as storage
+use Rattle.rox_tables.specs.declared.rows.tables.NodeKind.{NodeKind}
+use Rattle.rox_tables.specs.declared.rows.tables.NodeKind.TheVariants as kind
+use Rattle.rox_tables.specs.declared.rows.tables.NodeData.{NodeData}
+use Rattle.rox_tables.specs.declared.rows.storage.StringStorage.TheVariants as storage
 use Rattle.std.specs.String.{string_bytes}
 use Rattle.rox_build.proofs.Showing.{settled_none, settled_some}
 use Rattle.rox_build.proofs.builder.Builder.flush.Goals as goal

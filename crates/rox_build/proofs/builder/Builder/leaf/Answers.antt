@@ -5,7 +5,7 @@ use Rattle.rox_grammar.specs.Written.{leaf}
 use Rattle.rox_build.specs.BuilderState.{IsNode}
 use Rattle.rox_grammar.specs.State.{scope_of}
 use Rattle.rox_reading.specs.State.{State}
-use Rattle.rox_tables.specs.declared.tables.NodeData.{NodeData}
+use Rattle.rox_tables.specs.declared.rows.tables.NodeData.{NodeData}
 use Rattle.rox_build.proofs.Showing.{leaf_shows, leaf_count, settled_count, counted_ok, counted_err}
 use Rattle.rox_build.proofs.builder.Builder.leaf.Goals as goal
 

@@ -7,9 +7,9 @@ use Rattle.rox_reading.specs.State.{State}
 use Rattle.rox_build.specs.BuilderState.{IsOpening, opened}
 use Rattle.rox_tables.specs.TagScopes.{lists_in}
 use Rattle.rox_build.specs.declared.builder.OpenElement.{OpenElement}
-use Rattle.rox_tables.specs.declared.tables.NodeKind.{NodeKind}
-use Rattle.rox_tables.specs.declared.tables.NodeKind.TheVariants as kind
-use Rattle.rox_tables.specs.declared.tables.NodeData.{NodeData}
+use Rattle.rox_tables.specs.declared.rows.tables.NodeKind.{NodeKind}
+use Rattle.rox_tables.specs.declared.rows.tables.NodeKind.TheVariants as kind
+use Rattle.rox_tables.specs.declared.rows.tables.NodeData.{NodeData}
 use Rattle.rox_build.proofs.Showing.{row_open, open_shows, open_count, settled_count, counted_ok, counted_err}
 use Rattle.rox_build.proofs.builder.Builder.open_element.Goals as goal
 

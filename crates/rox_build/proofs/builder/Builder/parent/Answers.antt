@@ -1,6 +1,6 @@
 use Rattle.std.proofs.Common.{◌≡◌, ◌-◌, ◌<◌, ℕ, suc, List, [], ◌∷◌, length, get_or, ap, sym, subst, arith}
 use Rattle.rox_build.specs.declared.builder.OpenElement.{OpenElement}
-use Rattle.rox_tables.specs.declared.tables.ElementTables.{ElementTables}
+use Rattle.rox_tables.specs.declared.rows.tables.ElementTables.{ElementTables}
 use Rattle.rox_build.specs.BuilderState.{opened_in, last_row}
 use Rattle.rox_build.proofs.builder.Builder.parent.Goals as goal
 

@@ -1,9 +1,0 @@
-use Rattle.rox_tables.specs.declared.tables.Namespace.{Namespace}
-use Rattle.rox_tables.specs.Rows.{namespace_view}
-use Rattle.rox_tables.proofs.Indexing.{row_last}
-use Rattle.rox_tables.proofs.namespace_table.NamespaceTable.place.Goals as goal
-
-pub returns-clause-there : goal.returns-clause-there
-returns-clause-there c =
-    let row : Namespace = record { name = c.args.prefix; uri = c.args.uri } in
-    row_last c.add.result c.args.self.now.items.items c.add.new.self.items.items (namespace_view row) c.add.ensures.items c.add.ensures.place

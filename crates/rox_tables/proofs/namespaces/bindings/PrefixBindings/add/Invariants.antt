@@ -1,0 +1,13 @@
+use Rattle.std.proofs.Common.{◌≡◌, ◌++◌, List, map, reverse, slice_range}
+use Rattle.rox_grammar.specs.Written.{NamespaceDecl}
+use Rattle.rox_tables.specs.Rows.{namespace_view}
+use Rattle.rox_tables.specs.Scopes.{entries}
+use Rattle.rox_tables.specs.Bindings.{bound_place, IsBound, AreBindingsOf}
+use Rattle.rox_tables.proofs.namespaces.bindings.PrefixBindings.add.Given as goal
+
+abbrev pub invariant-loop-position : goal.invariant-loop-position
+invariant-loop-position l = record {
+  bound : (ds : List NamespaceDecl) → IsBound (map namespace_view l.names) (bound_place l.fn.self) ds → IsBound (map namespace_view l.names) (bound_place l.self) (entries (map namespace_view l.names) (reverse (slice_range l.listed l.from l.position)) ++ ds);
+  keeps : (names : List NamespaceDecl) (lists : List (List NamespaceDecl)) → AreBindingsOf names lists l.fn.self → AreBindingsOf names lists l.self;
+  layers : l.self.layers ≡ l.fn.self.layers;
+}

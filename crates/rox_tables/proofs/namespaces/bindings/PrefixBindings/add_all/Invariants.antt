@@ -1,0 +1,14 @@
+use Rattle.std.proofs.Common.{◌≡◌, ◌-◌, List, [], map, length, drop}
+use Rattle.rox_grammar.specs.Written.{NamespaceDecl}
+use Rattle.rox_tables.specs.Rows.{namespace_view}
+use Rattle.rox_tables.specs.Scopes.{entries, places_in}
+use Rattle.rox_tables.specs.Bindings.{bound_place, IsBound, AreBindingsOf}
+use Rattle.rox_tables.proofs.namespaces.bindings.PrefixBindings.add_all.Given as goal
+
+abbrev pub invariant-loop-turn : goal.invariant-loop-turn
+invariant-loop-turn l = record {
+  bound : IsBound (map namespace_view l.names) (bound_place l.fn.self) []
+      → IsBound (map namespace_view l.names) (bound_place l.self) (entries (map namespace_view l.names) (drop (length (places_in l.listed l.scopes l.scope) - l.turn) (places_in l.listed l.scopes l.scope)));
+  keeps : (names : List NamespaceDecl) (lists : List (List NamespaceDecl)) → AreBindingsOf names lists l.fn.self → AreBindingsOf names lists l.self;
+  layers : l.self.layers ≡ l.fn.self.layers;
+}

@@ -1,0 +1,11 @@
+use Rattle.std.proofs.Common.{◌≡◌, ◌+◌, true, List, length}
+use Rattle.rox_grammar.specs.Written.{NamespaceDecl}
+use Rattle.rox_tables.specs.Bindings.{AreBindingsOf, is_innermost}
+use Rattle.rox_tables.proofs.namespaces.bindings.PrefixBindings.leave_inner.Given as goal
+
+abbrev pub invariant-loop-turn : goal.invariant-loop-turn
+invariant-loop-turn l = record {
+  keeps : (names : List NamespaceDecl) (lists : List (List NamespaceDecl)) → AreBindingsOf names lists l.fn.self → AreBindingsOf names lists l.self;
+  same : is_innermost l.fn.self.layers.items (length l.fn.self.replaced.items) l.scope ≡ true → l.self ≡ l.fn.self;
+  left : length l.self.layers.items + l._turn ≡ length l.fn.self.layers.items;
+}

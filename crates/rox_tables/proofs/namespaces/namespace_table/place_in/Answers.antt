@@ -1,0 +1,32 @@
+use Rattle.std.proofs.Common.{◌≡◌, ◌+◌, suc, true, false, map, take, sym, ap, ◌∙◌, arith}
+use Rattle.std.proofs.lemmas.List.{length-map}
+use Rattle.rox_grammar.specs.Written.{NamespaceDecl}
+use Rattle.rox_grammar.specs.Document.{same_pair}
+use Rattle.rox_tables.specs.Rows.{namespace_view, namespace_at}
+use Rattle.rox_tables.specs.PairIndex.{place_of}
+use Rattle.rox_tables.proofs.Pairs.{namespace_at-get}
+use Rattle.rox_tables.proofs.Indexing.{pair_eq, place_here, place_on}
+use Rattle.rox_tables.proofs.namespaces.namespace_table.place_in.Goals as goal
+
+pub returns-then-eq : goal.returns-then-eq
+returns-then-eq c =
+    let rows = c.args.items.now in
+    let k = c.loop-place.place in
+    let item = c.index-items-place.result in
+    let mine = namespace_view c.args.pair.now in
+    let l = length-map rows namespace_view in
+    let e : namespace_at (map namespace_view rows) k ≡ namespace_view item = namespace_at-get rows k item (omega arith) ∙ ap namespace_view (sym c.index-items-place.is) in
+    let same : same_pair (namespace_view item) mine ≡ true = sym (pair_eq (namespace_view item) mine) ∙ sym c.eq.ensures ∙ c.if-eq.true in
+    record { value = sym (place_here (map namespace_view rows) k mine (omega arith) c.loop-place.invariant (ap (λ (d : NamespaceDecl). same_pair d mine) e ∙ same)) }
+
+pub loop-place-preserved : goal.loop-place-preserved
+loop-place-preserved c =
+    let rows = c.args.items.now in
+    let k = c.loop-place.place in
+    let item = c.index-items-place.result in
+    let mine = namespace_view c.args.pair.now in
+    let l = length-map rows namespace_view in
+    let e : namespace_at (map namespace_view rows) k ≡ namespace_view item = namespace_at-get rows k item (omega arith) ∙ ap namespace_view (sym c.index-items-place.is) in
+    let other : same_pair (namespace_view item) mine ≡ false = sym (pair_eq (namespace_view item) mine) ∙ sym c.eq.ensures ∙ c.if-eq.false in
+    let step : k + 1 ≡ suc k = omega arith in
+    ap (λ n. place_of (take n (map namespace_view rows)) mine) step ∙ place_on (map namespace_view rows) k mine (omega arith) c.loop-place.invariant (ap (λ (d : NamespaceDecl). same_pair d mine) e ∙ other)

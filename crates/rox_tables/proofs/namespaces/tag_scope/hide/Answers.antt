@@ -1,0 +1,47 @@
+use Rattle.std.proofs.Common.{◌≡◌, ◌<◌, true, false, length, map, get_or, sym, ap, subst, arith}
+use Rattle.rox_grammar.specs.Tree.{same_prefix, is_declared}
+use Rattle.rox_tables.specs.Rows.{namespace_view, namespace_at}
+use Rattle.rox_tables.specs.Scopes.{prefix_view, entries, places_in}
+use Rattle.rox_tables.specs.Bindings.{bound_namespace}
+use Rattle.rox_tables.proofs.Hiding.{unlisted_none, unlisted_one}
+use Rattle.rox_tables.proofs.Leaves.{cut}
+use Rattle.rox_tables.proofs.Ropes.{count_places}
+use Rattle.rox_tables.proofs.Sharing.{same_listed, rope_listed}
+use Rattle.rox_tables.proofs.namespaces.tag_scope.hide.Goals as goal
+
+pub returns-in_default-clause-value : goal.returns-in_default-clause-value
+returns-in_default-clause-value c =
+    let names = map namespace_view c.args.names.now in
+    let ds = entries names (places_in c.args.listed.now c.args.scopes.now.items c.args.scope) in
+    let p = prefix_view c.args.prefix in
+    same_listed names c.args.listed.now c.args.scopes.now.items c.args.scope _ c.requires.scopes c.requires.within
+    (sym (unlisted_none p ds (c.requires.absent (ap bound_namespace (sym c.in_default.ensures)))))
+
+pub returns-in_default-index_of-clause-value : goal.returns-in_default-index_of-clause-value
+returns-in_default-index_of-clause-value c =
+    let names = map namespace_view c.args.names.now in
+    let ds = entries names (places_in c.args.listed.now c.args.scopes.now.items c.args.scope) in
+    let p = prefix_view c.args.prefix in
+    let absent : is_declared p ds ≡ false =
+    subst (λ ss. is_declared p (entries names (places_in c.args.listed.now ss c.args.scope)) ≡ false) c.deref.ensures.value c.in_default-index_of.ensures.absent in
+    same_listed names c.args.listed.now c.args.scopes.now.items c.args.scope _ c.requires.scopes c.requires.within (sym (unlisted_none p ds absent))
+
+pub without-requires-clause-index : goal.without-requires-clause-index
+without-requires-clause-index c =
+    let n = count_places c.args.listed.now c.args.scopes.now.items c.args.scope c.requires.scopes c.requires.within in
+    let k : c.in-Some-index_of.index < length (places_in c.args.listed.now c.args.scopes.now.items c.args.scope) =
+    subst (λ ss. c.in-Some-index_of.index < length (places_in c.args.listed.now ss c.args.scope)) c.deref.ensures.value c.in-Some-index_of.ensures.there.0 in
+    omega arith
+
+pub returns-clause-value : goal.returns-clause-value
+returns-clause-value c =
+    let names = map namespace_view c.args.names.now in
+    let old = c.args.scopes.now.items in
+    let index = c.in-Some-index_of.index in
+    let p = prefix_view c.args.prefix in
+    let places = places_in c.args.listed.now old c.args.scope in
+    let less : index < length places = subst (λ ss. index < length (places_in c.args.listed.now ss c.args.scope)) c.deref.ensures.value c.in-Some-index_of.ensures.there.0 in
+    let same : same_prefix (namespace_at names (get_or places index 0)).prefix p ≡ true =
+    subst (λ ss. same_prefix (namespace_at names (get_or (places_in c.args.listed.now ss c.args.scope) index 0)).prefix p ≡ true) c.deref.ensures.value c.in-Some-index_of.ensures.there.1 in
+    rope_listed names c.args.listed.now old c.without.new.scopes.items c.in_ok-left.left (λ l. cut index (places_in l old c.args.scope)) _ c.requires.scopes c.in_ok-left.ensures.value
+    (unlisted_one names places index p c.requires.once less same)

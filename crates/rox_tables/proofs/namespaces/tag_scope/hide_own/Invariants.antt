@@ -1,0 +1,10 @@
+use Rattle.std.proofs.Common.{false, map}
+use Rattle.std.specs.List.{slice_range}
+use Rattle.rox_tables.specs.Rows.{namespace_view}
+use Rattle.rox_tables.specs.Scopes.{entries, places_in, others}
+use Rattle.rox_tables.specs.Ropes.{IsListed}
+use Rattle.rox_tables.proofs.namespaces.tag_scope.hide_own.Given as goal
+
+abbrev pub invariant-loop-turn : goal.invariant-loop-turn
+invariant-loop-turn l = IsListed (map namespace_view l.names) l.listed l.fn.scopes.items l.listed l.scopes.items l.left
+    (others (entries (map namespace_view l.names) (slice_range l.listed l.own l.turn)) false (entries (map namespace_view l.names) (places_in l.listed l.fn.scopes.items l.scope)))

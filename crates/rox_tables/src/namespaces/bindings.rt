@@ -1,0 +1,328 @@
+//! The place that each prefix stands for, where an element lists many namespaces: a map of those of the innermost scope, and
+//! what they stood for around it, which is taken back when a scope around it is asked for.
+
+ghost use Rattle.std.specs.Prelude.{◌≡◌, ◌<◌, ◌≤◌, ◌+◌, ◌-◌, ◌++◌, ◌⊎◌, ℕ, List, Option, Some, None, Bool, true, length, map, take, reverse, slice_index, slice_range, OnOk, IfErr, if◌then◌else◌};
+ghost use Rattle.rox_grammar.specs.Tree.{same_prefix};
+ghost use Rattle.rox_grammar.specs.Written.{NamespaceDecl};
+ghost use Rattle.rox_tables.specs.Rows.{namespace_view, namespace_at, lists_of, scope_at, AreScopes};
+ghost use Rattle.rox_tables.specs.Scopes.{prefix_view, entries, places_in, ArePlaces, others};
+
+use crate::namespaces::rope::{count, position_at};
+use crate::rows::growth::push;
+use crate::rows::tables::{Namespace, Scope};
+use rox_grammar::failure::Failure;
+use std::alloc::Global;
+use std::collections::BTreeMap;
+
+/// What a prefix, or the default, stands for: a place in the table of namespaces, and where it stood among the listed places
+/// when it was looked for there. That is a guess, since it may be listed anew: nothing is stated of it.
+#[derive(Clone, Copy)]
+pub struct Binding {
+    pub namespace: u16,
+    pub listed: u32,
+}
+
+/// A prefix, or the default, that stands for something else in a scope than around it, and the place that it had there.
+#[derive(Clone, Copy)]
+pub struct ShadowedBinding<'input> {
+    pub prefix: Option<&'input str>,
+    pub before: Option<Binding>,
+}
+
+/// A scope, by its place in the table of scopes, and how many places were replaced up to it.
+#[derive(Clone, Copy)]
+pub struct ScopeFrame {
+    pub scope: u32,
+    pub count: usize,
+}
+
+/// The places of the innermost scope that was asked for.
+#[derive(Drop)]
+pub struct PrefixBindings<'input> {
+    /// That of the default.
+    pub default: Option<Binding>,
+    /// That of each prefix.
+    pub prefixes: BTreeMap<&'input str, Option<Binding>>,
+    /// What was replaced, the last one last.
+    pub replaced: Vec<ShadowedBinding<'input>>,
+    /// The scopes, the innermost last.
+    pub layers: Vec<ScopeFrame>,
+}
+
+impl<'input> PrefixBindings<'input> {
+    ghost use Rattle.std.specs.Prelude.{◌∷◌, [], ◌&&◌, not, filter};
+    ghost use Rattle.rox_grammar.specs.WellNamed.{is_xml};
+    ghost use Rattle.rox_tables.specs.Bindings.{bound_place, place_in, AreBindingsOf, IsBound, IsEntered, is_innermost};
+    ghost use Rattle.rox_tables.specs.declared.namespaces.bindings.ScopeFrame.{ScopeFrame};
+
+    /// Of no scope.
+    pub fn new(alloc: Global) -> PrefixBindings<'input>
+        ensures { (names : List NamespaceDecl) (lists : List (List NamespaceDecl)) → AreBindingsOf names lists result }
+    {
+        PrefixBindings {
+            default: None,
+            prefixes: BTreeMap::new(alloc),
+            replaced: Vec::new(alloc),
+            layers: Vec::new(alloc),
+        }
+    }
+
+    /// The place of a prefix, or of the default.
+    #[inline]
+    pub fn get(&self, prefix: Option<&str>) -> Option<Binding>
+        ensures { result ≡ place_in self.now (prefix_view prefix.entry) }
+    {
+        match prefix {
+            None => self.default,
+            Some(prefix) => match self.prefixes.get(prefix) {
+                Some(place) => *place,
+                None => None,
+            },
+        }
+    }
+
+    /// Gives a prefix, or the default, this place. The only error is want of memory.
+    fn set(&mut self, prefix: Option<&'input str>, place: Option<Binding>) -> Result<(), Failure>
+        ensures present { OnOk result ((p : Option (List ℕ)) → place_in self.new p ≡ (if same_prefix (prefix_view prefix.entry) p then place else place_in self.old p)) }
+        ensures replaced { self.new.replaced ≡ self.old.replaced }
+        ensures layers { self.new.layers ≡ self.old.layers }
+        ensures err { IfErr result (λ e. e ≡ Failure.Memory) }
+    {
+        match prefix {
+            None => {
+                self.default = place;
+                Ok(())
+            }
+            Some(prefix) => match self.prefixes.insert(prefix, place) {
+                Ok(_) => Ok(()),
+                Err(_) => Err(Failure::Memory),
+            },
+        }
+    }
+
+    /// The same, so that it can be taken back.
+    fn put(&mut self, prefix: Option<&'input str>, place: Option<Binding>) -> Result<(), Failure>
+        ensures present { OnOk result ((p : Option (List ℕ)) → place_in self.new p ≡ (if same_prefix (prefix_view prefix.entry) p then place else place_in self.old p)) }
+        ensures keeps { OnOk result ((names : List NamespaceDecl) (lists : List (List NamespaceDecl)) → AreBindingsOf names lists self.old → AreBindingsOf names lists self.new) }
+        ensures layers { self.new.layers ≡ self.old.layers }
+        ensures err { IfErr result (λ e. e ≡ Failure.Memory) }
+    {
+        let before = self.get(prefix);
+        push(&mut self.replaced, ShadowedBinding { prefix, before })?;
+        self.set(prefix, place)?;
+        Ok(())
+    }
+
+    /// Takes back what was replaced last, if it was behind so many. The innermost scope has so many before it.
+    fn take_back(&mut self, count: usize) -> Result<(), Failure>
+        ensures back { OnOk result (count < length self.old.replaced.items → length self.new.replaced.items + 1 ≡ length self.old.replaced.items) }
+        ensures same { length self.old.replaced.items ≤ count → self.new ≡ self.old }
+        ensures keeps { OnOk result ((names : List NamespaceDecl) (lists : List (List NamespaceDecl)) (ls : List ScopeFrame) (l : ScopeFrame) → self.old.layers.items ≡ ls ++ l ∷ [] → l.count ≡ count
+            → AreBindingsOf names lists self.old → AreBindingsOf names lists self.new) }
+        ensures layers { self.new.layers ≡ self.old.layers }
+        ensures err { IfErr result (λ e. e ≡ Failure.Memory) }
+    {
+        if self.replaced.len() <= count {
+            return Ok(());
+        }
+        if let Some(last) = self.replaced.pop() {
+            self.set(last.prefix, last.before)?;
+        }
+        Ok(())
+    }
+
+    /// Leaves the innermost scope.
+    fn leave(&mut self) -> Result<(), Failure>
+        ensures layers { OnOk result (self.new.layers.items ≡ take (length self.old.layers.items - 1) self.old.layers.items) }
+        ensures back { OnOk result ((ls : List ScopeFrame) (l : ScopeFrame) → self.new.layers.items ≡ ls ++ l ∷ [] → l.count ≤ length self.old.replaced.items → length self.new.replaced.items ≡ l.count) }
+        ensures keeps { OnOk result ((names : List NamespaceDecl) (lists : List (List NamespaceDecl)) → AreBindingsOf names lists self.old → AreBindingsOf names lists self.new) }
+        ensures err { IfErr result (λ e. e ≡ Failure.Memory) }
+    {
+        let _ = self.layers.pop();
+        let Some(around) = self.layers.last() else {
+            return Ok(());
+        };
+        let count = around.count;
+        for _turn in count..self.replaced.len() {
+            self.take_back(count)?;
+        }
+        Ok(())
+    }
+
+    /// Leaves scopes until the innermost is this one, or there is none.
+    fn leave_inner(&mut self, scope: u32) -> Result<(), Failure>
+        ensures innermost { OnOk result ((self.new.layers.items ≡ []) ⊎ (is_innermost self.new.layers.items (length self.new.replaced.items) scope ≡ true)) }
+        ensures same { is_innermost self.old.layers.items (length self.old.replaced.items) scope ≡ true → self.new ≡ self.old }
+        ensures keeps { OnOk result ((names : List NamespaceDecl) (lists : List (List NamespaceDecl)) → AreBindingsOf names lists self.old → AreBindingsOf names lists self.new) }
+        ensures err { IfErr result (λ e. e ≡ Failure.Memory) }
+    {
+        for _turn in 0..self.layers.len() {
+            if self.is_in(scope) {
+                return Ok(());
+            }
+            self.leave()?;
+        }
+        Ok(())
+    }
+
+    /// Whether this is the innermost scope.
+    fn is_in(&self, scope: u32) -> bool
+        ensures value { result ≡ is_innermost self.now.layers.items (length self.now.replaced.items) scope }
+        ensures bound { result ≡ true → (names : List NamespaceDecl) (lists : List (List NamespaceDecl)) → AreBindingsOf names lists self.now → IsBound names (bound_place self.now) (scope_at lists scope) }
+    {
+        match self.layers.last() {
+            Some(layer) => layer.count == self.replaced.len() && layer.scope == scope,
+            None => false,
+        }
+    }
+
+    /// Hides `xml`, if the flag says so.
+    fn hide_xml(&mut self, xml: bool) -> Result<(), Failure>
+        ensures bound { OnOk result ((names ds : List NamespaceDecl) → IsBound names (bound_place self.old) ds → IsBound names (bound_place self.new) (filter (λ d. not (xml && is_xml d.prefix)) ds)) }
+        ensures keeps { OnOk result ((names : List NamespaceDecl) (lists : List (List NamespaceDecl)) → AreBindingsOf names lists self.old → AreBindingsOf names lists self.new) }
+        ensures layers { self.new.layers ≡ self.old.layers }
+        ensures err { IfErr result (λ e. e ≡ Failure.Memory) }
+    {
+        if !xml {
+            return Ok(());
+        }
+        self.put(Some("xml"), None)?;
+        Ok(())
+    }
+
+    /// Gives the prefix of the namespace that is listed at this position its place.
+    fn bind(
+        &mut self,
+        names: &[Namespace<'input>],
+        listed: &[u16],
+        position: usize,
+    ) -> Result<(), Failure>
+        requires places { ArePlaces (length names.now) listed.now }
+        requires within { position < length listed.now }
+        ensures bound { OnOk result ((ds : List NamespaceDecl) → IsBound (map namespace_view names.now) (bound_place self.old) ds
+            → IsBound (map namespace_view names.now) (bound_place self.new) (namespace_at (map namespace_view names.now) (slice_index listed.now position) ∷ ds)) }
+        ensures keeps { OnOk result ((names : List NamespaceDecl) (lists : List (List NamespaceDecl)) → AreBindingsOf names lists self.old → AreBindingsOf names lists self.new) }
+        ensures layers { self.new.layers ≡ self.old.layers }
+        ensures err { IfErr result (λ e. e ≡ Failure.Memory) }
+    {
+        let namespace = listed[position];
+        let place = Binding {
+            namespace,
+            listed: position.min(u32::MAX as usize) as u32,
+        };
+        self.put(names[namespace as usize].name, Some(place))?;
+        Ok(())
+    }
+
+    /// Gives the prefixes of what is listed from `from` up to `until` their places, the last one where there are more.
+    fn add(
+        &mut self,
+        names: &[Namespace<'input>],
+        listed: &[u16],
+        from: usize,
+        until: usize,
+    ) -> Result<(), Failure>
+        requires places { ArePlaces (length names.now) listed.now }
+        requires stretch { (from ≤ until) × (until ≤ length listed.now) }
+        ensures bound { OnOk result ((ds : List NamespaceDecl) → IsBound (map namespace_view names.now) (bound_place self.old) ds
+            → IsBound (map namespace_view names.now) (bound_place self.new) (entries (map namespace_view names.now) (reverse (slice_range listed.now from until)) ++ ds)) }
+        ensures keeps { OnOk result ((names : List NamespaceDecl) (lists : List (List NamespaceDecl)) → AreBindingsOf names lists self.old → AreBindingsOf names lists self.new) }
+        ensures layers { self.new.layers ≡ self.old.layers }
+        ensures err { IfErr result (λ e. e ≡ Failure.Memory) }
+    {
+        for position in from..until {
+            self.bind(names, listed, position)?;
+        }
+        Ok(())
+    }
+
+    /// Gives the prefixes of what a scope lists their places, the first one where there are more.
+    fn add_all(
+        &mut self,
+        names: &[Namespace<'input>],
+        listed: &[u16],
+        scopes: &[Scope],
+        scope: u32,
+    ) -> Result<(), Failure>
+        requires places { ArePlaces (length names.now) listed.now }
+        requires scopes { AreScopes (length listed.now) scopes.now }
+        requires within { scope < length scopes.now }
+        ensures bound { OnOk result (IsBound (map namespace_view names.now) (bound_place self.old) []
+            → IsBound (map namespace_view names.now) (bound_place self.new) (entries (map namespace_view names.now) (places_in listed.now scopes.now scope))) }
+        ensures keeps { OnOk result ((names : List NamespaceDecl) (lists : List (List NamespaceDecl)) → AreBindingsOf names lists self.old → AreBindingsOf names lists self.new) }
+        ensures layers { self.new.layers ≡ self.old.layers }
+        ensures err { IfErr result (λ e. e ≡ Failure.Memory) }
+    {
+        let count = count(scopes, scope);
+        for turn in 0..count {
+            let position = position_at(scopes, listed, scope, count - 1 - turn);
+            self.bind(names, listed, position)?;
+        }
+        Ok(())
+    }
+
+    /// Leaves all scopes.
+    fn clear(&mut self)
+        ensures bound { (names : List NamespaceDecl) → IsBound names (bound_place self.new) [] }
+        ensures keeps { (names : List NamespaceDecl) (lists : List (List NamespaceDecl)) → AreBindingsOf names lists self.new }
+    {
+        self.default = None;
+        self.prefixes.clear();
+        self.replaced.clear();
+        self.layers.clear();
+    }
+
+    /// Makes this the innermost scope: leaves those inside it, and where it was not entered, all others. The only error is want
+    /// of memory.
+    pub fn make_innermost(
+        &mut self,
+        names: &[Namespace<'input>],
+        listed: &[u16],
+        scopes: &[Scope],
+        scope: u32,
+    ) -> Result<(), Failure>
+        requires places { ArePlaces (length names.now) listed.now }
+        requires scopes { AreScopes (length listed.now) scopes.now }
+        requires within { scope < length scopes.now }
+        ensures value { OnOk result (AreBindingsOf (map namespace_view names.now) (lists_of (map namespace_view names.now) listed.now scopes.now) self.old
+            → AreBindingsOf (map namespace_view names.now) (lists_of (map namespace_view names.now) listed.now scopes.now) self.new
+            × IsBound (map namespace_view names.now) (bound_place self.new) (scope_at (lists_of (map namespace_view names.now) listed.now scopes.now) scope)) }
+        ensures same { is_innermost self.old.layers.items (length self.old.replaced.items) scope ≡ true → self.new ≡ self.old }
+        ensures err { IfErr result (λ e. e ≡ Failure.Memory) }
+    {
+        self.leave_inner(scope)?;
+        if self.is_in(scope) {
+            return Ok(());
+        }
+        self.clear();
+        self.add_all(names, listed, scopes, scope)?;
+        let count = self.replaced.len();
+        push(&mut self.layers, ScopeFrame { scope, count })?;
+        Ok(())
+    }
+
+    /// Enters a scope below the innermost one: that of an element which declares what is listed from `from` up to `until`, from
+    /// its back, and `xml` if the flag says so. The only error is want of memory.
+    pub fn enter(
+        &mut self,
+        names: &[Namespace<'input>],
+        listed: &[u16],
+        from: usize,
+        until: usize,
+        xml: bool,
+        scope: u32,
+    ) -> Result<(), Failure>
+        requires places { ArePlaces (length names.now) listed.now }
+        requires stretch { (from ≤ until) × (until ≤ length listed.now) }
+        ensures value { OnOk result ((lists : List (List NamespaceDecl)) (above : List NamespaceDecl) → AreBindingsOf (map namespace_view names.now) lists self.old → IsBound (map namespace_view names.now) (bound_place self.old) above
+            → IsEntered (entries (map namespace_view names.now) (reverse (slice_range listed.now from until))) xml above lists scope
+            → AreBindingsOf (map namespace_view names.now) lists self.new × IsBound (map namespace_view names.now) (bound_place self.new) (scope_at lists scope)) }
+        ensures err { IfErr result (λ e. e ≡ Failure.Memory) }
+    {
+        self.hide_xml(xml)?;
+        self.add(names, listed, from, until)?;
+        let count = self.replaced.len();
+        push(&mut self.layers, ScopeFrame { scope, count })?;
+        Ok(())
+    }
+}

@@ -1,0 +1,186 @@
+//! The declarations of a start tag, one by one (XML 1.0 section 3.1, Namespaces in XML 1.0 section 3).
+
+ghost use Rattle.std.specs.Prelude.{◌≡◌, ◌<◌, ◌≤◌, ◌+◌, ◌-◌, ◌^◌, List, ℕ, false, length, map, drop, Ok, Err, OnOk};
+ghost use Rattle.rox_grammar.specs.declared.fault.Span.{Span as SpecSpan};
+ghost use Rattle.rox_grammar.specs.Written.{Attribute, NamespaceDecl, Name, is_namespace_decl, local_span, prefix_span};
+ghost use Rattle.rox_grammar.specs.Document.{listable_of, most_pairs};
+ghost use Rattle.rox_reading.specs.Tags as spec;
+ghost use Rattle.rox_grammar.specs.Failures.{name_view};
+ghost use Rattle.rox_tables.specs.Rows.{namespace_view, lists_of, AreScopes};
+ghost use Rattle.rox_tables.specs.Scopes.{ArePlaces, PrefixesOnce, entries, prefix_view};
+ghost use Rattle.rox_tables.specs.PrefixSet.{IsPrefixSet};
+ghost use Rattle.rox_tables.specs.Bindings.{AreBindingsOf};
+ghost use Rattle.rox_tables.specs.declared.namespaces.bindings.PrefixBindings.{PrefixBindings};
+ghost use Rattle.rox_tables.specs.declared.rows.tables.Scope.{Scope};
+ghost use Rattle.rox_tables.specs.TagDeclarations.{unresolved_view, declares_xml, Declares, Declared};
+ghost use Rattle.rox_grammar.specs.Tree.{is_declared};
+ghost use Rattle.rox_reading.specs.Tags.{TagSoFar};
+
+use crate::compare::same_text;
+use crate::namespaces::namespace_table::NamespaceTable;
+use crate::namespaces::prefix_set::add_prefix;
+use crate::namespaces::scope::{XML_URI, XMLNS_URI, is_own, is_xml};
+use crate::namespaces::unresolved_attribute::UnresolvedAttribute;
+use crate::rows::tables::Namespace;
+use rox_grammar::failure::Failure;
+use rox_grammar::fault::{Fault, Span};
+use rox_grammar::name::QName;
+use std::collections::BTreeSet;
+
+/// Where the local part of a name stands that ends at `end`.
+#[inline]
+pub fn local_span(local: &str, end: usize) -> Span
+    ensures { (n : Name) → n.local ≡ local.now → result ≡ local_span n end }
+{
+    Span {
+        start: end.saturating_sub(local.len()),
+        end,
+    }
+}
+
+/// Where the prefix of a name stands that begins at `start`.
+#[inline]
+pub fn prefix_span(prefix: &str, start: usize) -> Span
+    requires { start < 2 ^ 63 }
+    ensures { (n : Name) → n.prefix ≡ prefix.now → result ≡ prefix_span n start }
+{
+    Span {
+        start,
+        end: start + prefix.len(),
+    }
+}
+
+/// Whether the name declares a prefix or the default.
+#[inline]
+pub fn is_namespace_decl(name: QName<'_>) -> bool
+    ensures { result ≡ is_namespace_decl (name_view name.entry) }
+{
+    same_text(name.prefix, "xmlns") || same_text(name.local, "xmlns")
+}
+
+/// What may not be declared with a prefix.
+fn test_prefix_uri(local: &str, uri: &str, at: usize) -> Result<(), Fault>
+    ensures { (a : Attribute) → a.name.local ≡ local.now → a.value ≡ uri.now → a.start ≡ at → result ≡ spec.prefix_tested a }
+{
+    if uri == XMLNS_URI {
+        return Err(Fault::UnexpectedXmlnsUri(at));
+    }
+    let is_xml = uri == XML_URI;
+    if local == "xml" {
+        return if is_xml {
+            Ok(())
+        } else {
+            Err(Fault::InvalidXmlPrefixUri(at))
+        };
+    }
+    if is_xml {
+        Err(Fault::UnexpectedXmlUri(at))
+    } else {
+        Ok(())
+    }
+}
+
+/// The same of the default.
+fn test_default_uri(uri: &str, at: usize) -> Result<(), Fault>
+    ensures { (a : Attribute) → a.value ≡ uri.now → a.start ≡ at → result ≡ spec.default_tested a }
+{
+    if uri == XML_URI {
+        return Err(Fault::UnexpectedXmlUri(at));
+    }
+    if uri == XMLNS_URI {
+        return Err(Fault::UnexpectedXmlnsUri(at));
+    }
+    Ok(())
+}
+
+impl<'input> UnresolvedAttribute<'input> {
+    ghost use Rattle.rox_tables.specs.TagDeclarations.{unresolved_view};
+    ghost use Rattle.rox_grammar.specs.Written.{namespace_decl_of};
+    ghost use Rattle.rox_tables.specs.Scopes.{prefix_view};
+
+    /// What may not be declared.
+    fn test_uri(&self) -> Result<(), Fault>
+        ensures { result ≡ spec.uri_tested (unresolved_view self.now) }
+    {
+        let uri = self.value.as_str();
+        if same_text(self.name.prefix, "xmlns") {
+            return test_prefix_uri(self.name.local, uri, self.start);
+        }
+        test_default_uri(uri, self.start)
+    }
+
+    /// The prefix that it declares, or none for the default.
+    #[inline]
+    fn declared_prefix(&self) -> Option<&'input str>
+        ensures { prefix_view result ≡ (namespace_decl_of (unresolved_view self.now)).prefix }
+    {
+        if same_text(self.name.prefix, "xmlns") {
+            Some(self.name.local)
+        } else {
+            None
+        }
+    }
+}
+
+/// Whether the tag, whose own declarations are these listed places and `xml` if the flag says so, declares this prefix, or
+/// the default, already. Where they are many the set has their prefixes.
+#[inline]
+fn is_again<'a>(
+    names: &[Namespace<'a>],
+    own: &[u16],
+    many: &BTreeSet<Option<&'a str>>,
+    xml: bool,
+    prefix: Option<&'a str>,
+) -> bool
+    requires places { ArePlaces (length names.now) own.now }
+    requires many { IsPrefixSet (map namespace_view names.now) own.now many.now.keys }
+    ensures value { (ds : List NamespaceDecl) → xml ≡ declares_xml ds → entries (map namespace_view names.now) own.now ≡ listable_of ds
+        → result ≡ is_declared (prefix_view prefix.entry) ds }
+    ensures absent { result ≡ false → is_declared (prefix_view prefix.entry) (entries (map namespace_view names.now) own.now) ≡ false }
+{
+    is_own(names, own, many, xml, prefix)
+}
+
+/// A declaration, which is listed unless it is that of `xml`; `own` is where the listed places of the tag begin, whose prefixes
+/// the set has where they are many. Answers whether the tag declares `xml` now.
+pub fn declare_namespace<'input>(
+    names: &mut NamespaceTable<'input>,
+    listed: &mut Vec<u16>,
+    many: &mut BTreeSet<Option<&'input str>>,
+    own: usize,
+    xml: bool,
+    taken: UnresolvedAttribute<'input>,
+) -> Result<bool, Failure>
+    requires places { ArePlaces (length names.old.items.items) listed.old.items }
+    requires own { own ≤ length listed.old.items }
+    requires few { length names.old.items.items ≤ most_pairs }
+    requires many { IsPrefixSet (map namespace_view names.old.items.items) (drop own listed.old.items) many.old.keys }
+    requires once { PrefixesOnce (entries (map namespace_view names.old.items.items) (drop own listed.old.items)) }
+    ensures places { OnOk result (ArePlaces (length names.new.items.items) listed.new.items) }
+    ensures own { OnOk result (own ≤ length listed.new.items) }
+    ensures few { OnOk result (length names.new.items.items ≤ most_pairs) }
+    ensures lists { OnOk result ((scopes : List Scope) → AreScopes own scopes
+        → lists_of (map namespace_view names.new.items.items) listed.new.items scopes ≡ lists_of (map namespace_view names.old.items.items) listed.old.items scopes) }
+    ensures grown { OnOk result ((lists : List (List NamespaceDecl)) (x : PrefixBindings) → AreBindingsOf (map namespace_view names.old.items.items) lists x → AreBindingsOf (map namespace_view names.new.items.items) lists x) }
+    ensures many { OnOk result (IsPrefixSet (map namespace_view names.new.items.items) (drop own listed.new.items) many.new.keys) }
+    ensures once { OnOk result (PrefixesOnce (entries (map namespace_view names.new.items.items) (drop own listed.new.items))) }
+    ensures value { (known : List NamespaceDecl) (before : List ℕ) (h : TagSoFar) → own ≡ length before
+        → Declares known before (map namespace_view names.old.items.items) listed.old.items xml h.own
+        → Declared known before (map namespace_view names.new.items.items) listed.new.items result h (spec.declared known (unresolved_view taken.entry) h) }
+{
+    taken.test_uri()?;
+    let prefix = taken.declared_prefix();
+    if is_again(names.as_slice(), &listed[own..], many, xml, prefix) {
+        return Err(Failure::Fault(Fault::DuplicatedNamespace(
+            local_span(taken.name.local, taken.name_end),
+            taken.start,
+        )));
+    }
+    if is_xml(prefix) {
+        return Ok(true);
+    }
+    let place = names.place(prefix, taken.value)?;
+    listed.push(place)?;
+    add_prefix(many, names.as_slice(), &listed[own..], prefix)?;
+    Ok(xml)
+}

@@ -1,0 +1,204 @@
+//! The table of the distinct pairs of a prefix, or the default, and a URI. A pair is looked for among the first few of them, one
+//! after another, and then in a map of the others, so that a text of few pairs makes no map.
+
+ghost use Rattle.std.specs.Prelude.{◌≡◌, ◌<◌, ◌≤◌, ◌∷◌, ◌++◌, [], length, map, true, false, IfSome, IfNone, IfOk, OnOk, IfErr, Err};
+ghost use Rattle.rox_grammar.specs.Written.{NamespaceDecl};
+ghost use Rattle.rox_grammar.specs.Document.{has_pair, with_new, most_pairs};
+ghost use Rattle.rox_grammar.specs.declared.fault.Fault.{Fault};
+ghost use Rattle.rox_tables.specs.Storage.{storage_bytes};
+ghost use Rattle.rox_tables.specs.Rows.{namespace_view, namespace_at};
+ghost use Rattle.rox_tables.specs.Scopes.{prefix_view, pair};
+ghost use Rattle.rox_tables.specs.PairIndex.{pair_cmp, key_cmp, key_total, few_pairs, place_among, place_behind, place_of};
+
+use crate::rows::storage::StringStorage;
+use crate::rows::tables::Namespace;
+use rox_grammar::failure::Failure;
+use rox_grammar::fault::Fault;
+use std::alloc::Global;
+use std::cmp::Ordering;
+use std::collections::BTreeMap;
+
+/// The most pairs that the table holds.
+const MOST_PAIRS: usize = 65_535;
+
+/// How many pairs are looked for one after another.
+const FEW: usize = 16;
+
+/// How two pairs stand to each other: by prefix, of which the default comes first, and then by URI.
+fn compare(one: &Namespace<'_>, other: &Namespace<'_>) -> Ordering
+    ensures { result ≡ pair_cmp (namespace_view one.now) (namespace_view other.now) }
+{
+    match one.name.cmp(&other.name) {
+        Ordering::Equal => one.uri.as_str().cmp(other.uri.as_str()),
+        Ordering::Less => Ordering::Less,
+        Ordering::Greater => Ordering::Greater,
+    }
+}
+
+/// A pair as a key.
+#[derive(Drop)]
+pub struct Key<'input> {
+    pub namespace: Namespace<'input>,
+}
+
+impl PartialEq for Key<'_> {
+    ghost use Rattle.std.specs.Ordering.{eq_by_cmp};
+    ghost use Rattle.std.specs.Cmp.{partial_equiv_from_equiv, eq_by_cmp_equiv};
+
+    ghost eq = { eq_by_cmp key_cmp };
+
+    ghost laws = { partial_equiv_from_equiv (eq_by_cmp_equiv key_total) };
+
+    fn eq(&self, other: &Self) -> bool {
+        compare(&self.namespace, &other.namespace) == Ordering::Equal
+    }
+}
+
+impl Eq for Key<'_> {
+    ghost use Rattle.std.specs.Cmp.{eq_by_cmp_equiv};
+
+    ghost laws = { eq_by_cmp_equiv key_total };
+}
+
+impl Ord for Key<'_> {
+    ghost use Rattle.std.proofs.Common.{rules};
+    ghost use Rattle.std.specs.Cmp.Rules.{comparing};
+
+    ghost cmp = { key_cmp };
+
+    ghost total = { key_total };
+
+    ghost matches_partial_cmp = { Prim.search (comparing, rules) };
+
+    ghost matches_eq = { Prim.search (comparing, rules) };
+
+    fn cmp(&self, other: &Self) -> Ordering {
+        compare(&self.namespace, &other.namespace)
+    }
+}
+
+impl PartialOrd for Key<'_> {
+    ghost use Rattle.std.specs.Ordering.{as_partial_cmp};
+    ghost use Rattle.std.specs.Cmp.{partial_order_from_total};
+
+    ghost partial_cmp = { as_partial_cmp key_cmp };
+
+    ghost laws = { partial_order_from_total key_total };
+
+    fn partial_cmp(&self, other: &Self) -> Option<Ordering> {
+        Some(self.cmp(other))
+    }
+}
+
+/// The place of a pair among these, which are few.
+fn place_in(items: &[Namespace<'_>], pair: &Namespace<'_>) -> Option<u16>
+    requires few { length items.now ≤ few_pairs }
+    ensures value { result ≡ place_of (map namespace_view items.now) (namespace_view pair.now) }
+{
+    for (place, item) in items.iter().enumerate() {
+        if item == pair {
+            return Some(place as u16);
+        }
+    }
+    None
+}
+
+/// The table, while it grows.
+#[derive(Drop)]
+pub struct NamespaceTable<'input> {
+    /// In the order in which they are first declared.
+    pub items: Vec<Namespace<'input>>,
+    /// The place of each behind the first few.
+    pub places: BTreeMap<Key<'input>, u16>,
+    pub ghost found: { (d : NamespaceDecl) → place_among places.entries d ≡ place_behind (map namespace_view items.items) d },
+}
+
+impl<'input> NamespaceTable<'input> {
+    /// A table without pairs.
+    pub fn new(alloc: Global) -> NamespaceTable<'input>
+        ensures { result.items.items ≡ [] }
+    {
+        NamespaceTable {
+            items: Vec::new(alloc),
+            places: BTreeMap::new(alloc),
+        }
+    }
+
+    /// The pairs, in the order in which they are first declared.
+    #[inline]
+    pub fn as_slice(&self) -> &[Namespace<'input>]
+        ensures value { result.now ≡ self.now.items.items }
+    {
+        self.items.as_slice()
+    }
+
+    /// The place of a pair behind the first few.
+    fn find_behind(&self, key: &Key<'input>) -> Option<u16>
+        ensures { result ≡ place_behind (map namespace_view self.now.items.items) (namespace_view key.now.namespace) }
+    {
+        match self.places.get(key) {
+            Some(place) => Some(*place),
+            None => None,
+        }
+    }
+
+    /// The place of a pair.
+    fn find(&self, key: &Key<'input>) -> Option<u16>
+        ensures there { IfSome result (λ i. (i < length self.now.items.items)
+            × (namespace_at (map namespace_view self.now.items.items) i ≡ namespace_view key.now.namespace)
+            × (has_pair (map namespace_view self.now.items.items) (namespace_view key.now.namespace) ≡ true)) }
+        ensures absent { IfNone result (has_pair (map namespace_view self.now.items.items) (namespace_view key.now.namespace) ≡ false) }
+    {
+        let few = self.items.len().min(FEW);
+        match place_in(&self.items[..few], &key.namespace) {
+            Some(place) => Some(place),
+            None => self.find_behind(key),
+        }
+    }
+
+    /// Puts a new pair at the end of the table. The only error is want of memory.
+    fn add(&mut self, key: Key<'input>) -> Result<u16, Failure>
+        requires few { length self.old.items.items < most_pairs }
+        requires absent { has_pair (map namespace_view self.old.items.items) (namespace_view key.namespace) ≡ false }
+        ensures items { OnOk result (map namespace_view self.new.items.items ≡ map namespace_view self.old.items.items ++ namespace_view key.entry.namespace ∷ []) }
+        ensures place { IfOk result (λ i. i ≡ length self.old.items.items) }
+        ensures err { IfErr result (λ e. e ≡ Failure.Memory) }
+    {
+        let place = self.items.len() as u16;
+        if self.items.len() < FEW {
+            self.items.push(key.namespace)?;
+            return Ok(place);
+        }
+        let namespace = key.namespace.clone()?;
+        self.items.push(namespace)?;
+        if self.places.insert(key, place).is_err() {
+            self.items.pop();
+            return Err(Failure::Memory);
+        }
+        Ok(place)
+    }
+
+    /// The place of a pair, which is put at the end if it is new. The table may hold 65,535 of them.
+    pub fn place(
+        &mut self,
+        prefix: Option<&'input str>,
+        uri: StringStorage<'input>,
+    ) -> Result<u16, Failure>
+        requires { length self.old.items.items ≤ most_pairs }
+        ensures there { IfOk result (λ i. (i < length self.new.items.items) × (namespace_at (map namespace_view self.new.items.items) i ≡ pair (prefix_view prefix.entry) (storage_bytes uri.entry))) }
+        ensures table { OnOk result (map namespace_view self.new.items.items ≡ with_new (map namespace_view self.old.items.items) (pair (prefix_view prefix.entry) (storage_bytes uri.entry) ∷ [])) }
+        ensures few { OnOk result (length self.new.items.items ≤ most_pairs) }
+        ensures fault { (f : Fault) → result ≡ Err (Failure.Fault f) → (f ≡ Fault.NamespacesLimitReached)
+            × (most_pairs < length (with_new (map namespace_view self.old.items.items) (pair (prefix_view prefix.entry) (storage_bytes uri.entry) ∷ []))) }
+    {
+        let namespace = Namespace { name: prefix, uri };
+        let key = Key { namespace };
+        if let Some(place) = self.find(&key) {
+            return Ok(place);
+        }
+        if self.items.len() >= MOST_PAIRS {
+            return Err(Failure::Fault(Fault::NamespacesLimitReached));
+        }
+        self.add(key)
+    }
+}

@@ -1,0 +1,72 @@
+//! The prefixes that a tag declares, where it has many declarations.
+
+ghost use Rattle.std.specs.Prelude.{◌≡◌, ◌<◌, ◌++◌, ◌∷◌, ◌||◌, [], ℕ, List, Option, length, map, OnOk, IfErr};
+ghost use Rattle.rox_grammar.specs.Tree.{same_prefix, is_declared};
+ghost use Rattle.rox_tables.specs.Rows.{namespace_view, namespace_at};
+ghost use Rattle.rox_tables.specs.Scopes.{prefix_view, entries, ArePlaces};
+ghost use Rattle.rox_tables.specs.PrefixSet.{has_prefix, IsPrefixSet};
+
+use crate::rows::tables::Namespace;
+use rox_grammar::failure::Failure;
+use std::collections::BTreeSet;
+
+/// Up to so many declarations of a tag are compared one with another.
+pub const FEW: usize = 16;
+
+/// Whether the prefix, or the default, is among these.
+pub fn has_prefix<'a>(prefixes: &BTreeSet<Option<&'a str>>, prefix: Option<&'a str>) -> bool
+    ensures { result ≡ has_prefix (prefix_view prefix.entry) prefixes.now.keys }
+{
+    prefixes.contains(&prefix)
+}
+
+/// Puts a prefix, or the default, among these. The only error is want of memory.
+fn add<'a>(prefixes: &mut BTreeSet<Option<&'a str>>, prefix: Option<&'a str>) -> Result<(), Failure>
+    ensures more { OnOk result ((p : Option (List ℕ)) → has_prefix p prefixes.new.keys ≡ (has_prefix p prefixes.old.keys || same_prefix (prefix_view prefix.entry) p)) }
+    ensures err { IfErr result (λ e. e ≡ Failure.Memory) }
+{
+    match prefixes.insert(prefix) {
+        Ok(_) => Ok(()),
+        Err(_) => Err(Failure::Memory),
+    }
+}
+
+/// Puts those of the namespaces at these places among these.
+fn add_all<'a>(
+    prefixes: &mut BTreeSet<Option<&'a str>>,
+    names: &[Namespace<'a>],
+    places: &[u16],
+) -> Result<(), Failure>
+    requires { ArePlaces (length names.now) places.now }
+    ensures more { OnOk result ((p : Option (List ℕ)) → has_prefix p prefixes.new.keys ≡ (has_prefix p prefixes.old.keys || is_declared p (entries (map namespace_view names.now) places.now))) }
+    ensures err { IfErr result (λ e. e ≡ Failure.Memory) }
+{
+    for place in places {
+        add(prefixes, names[*place as usize].name)?;
+    }
+    Ok(())
+}
+
+/// Keeps the prefix of the last of the places that a tag declares: in the set, where these are many.
+pub fn add_prefix<'a>(
+    prefixes: &mut BTreeSet<Option<&'a str>>,
+    names: &[Namespace<'a>],
+    own: &[u16],
+    prefix: Option<&'a str>,
+) -> Result<(), Failure>
+    requires { ArePlaces (length names.now) own.now }
+    ensures value { OnOk result ((before : List ℕ) (place : ℕ) → own.now ≡ before ++ place ∷ [] → (namespace_at (map namespace_view names.now) place).prefix ≡ prefix_view prefix.entry
+        → IsPrefixSet (map namespace_view names.now) before prefixes.old.keys → IsPrefixSet (map namespace_view names.now) own.now prefixes.new.keys) }
+    ensures err { IfErr result (λ e. e ≡ Failure.Memory) }
+{
+    if own.len() <= FEW {
+        return Ok(());
+    }
+    if own.len() > FEW + 1 {
+        add(prefixes, prefix)?;
+        return Ok(());
+    }
+    prefixes.clear();
+    add_all(prefixes, names, own)?;
+    Ok(())
+}

@@ -1,0 +1,294 @@
+//! The names of a start tag in their namespaces (Namespaces in XML 1.0, sections 5, 6.2 and 6.3). They are resolved at the
+//! end of the tag, since a declaration holds for the whole of it.
+
+ghost use Rattle.std.specs.Prelude.{◌≡◌, ◌<◌, ◌^◌, ◌++◌, ◌∷◌, [], List, length, map, true, false, IfOk, OnOk, IfErr, IfSome, IfNone, Ok};
+ghost use Rattle.std.specs.List.{AllByRecursion, list_any};
+ghost use Rattle.std.specs.Option.{option_map};
+ghost use Rattle.rox_grammar.specs.declared.fault.Fault.TheVariants as fault;
+ghost use Rattle.rox_grammar.specs.Written.{Attribute, NamespaceDecl, prefix_span};
+ghost use Rattle.rox_grammar.specs.Tree as tree;
+ghost use Rattle.rox_grammar.specs.Tree.{attribute_in};
+ghost use Rattle.rox_grammar.specs.WellNamed.{is_known, may_name};
+ghost use Rattle.rox_reading.specs.Tags.{names_tested};
+ghost use Rattle.rox_grammar.specs.Failures.{Fails, name_view};
+ghost use Rattle.rox_tables.specs.Rows.{AttributeRow, namespace_view, namespace_at, attribute, attribute_rows, attribute_uri, NamespaceWithin, OptionWithin};
+ghost use Rattle.rox_tables.specs.Scopes.{prefix_view};
+ghost use Rattle.rox_tables.specs.Bindings.{FindsBinding, LooksWithin, places_view};
+ghost use Rattle.rox_tables.specs.TagDeclarations.{unresolved_view};
+ghost use Rattle.rox_tables.specs.ResolvedNames.{row_of_unresolved, has_expanded, Tested};
+ghost use Rattle.rox_tables.specs.ExpandedNames.{HasExpandedNames, TestedOr};
+
+use crate::compare::same_text;
+use crate::namespaces::bindings::PrefixBindings;
+use crate::namespaces::expanded_names::is_repeated_name;
+use crate::namespaces::namespace_decl::{local_span, prefix_span};
+use crate::namespaces::scope::{XML_URI, find, find_default, same_prefix};
+use crate::namespaces::unresolved_attribute::UnresolvedAttribute;
+use crate::rows::attributes::AttributeTable;
+use crate::rows::storage::StringStorage;
+use crate::rows::tables::{AttributeData, AttributeNamespace, AttributePlaces, Namespace};
+use rox_grammar::failure::Failure;
+use rox_grammar::fault::Fault;
+use rox_grammar::name::QName;
+use std::alloc::Global;
+use std::collections::BTreeSet;
+
+/// Up to so many attributes of a tag are compared one with another.
+const FEW: usize = 16;
+
+/// The namespace of an attribute's name in this scope: none without a prefix, and its own for `xml`. Answers `None` where
+/// the prefix is not known.
+#[inline]
+fn attribute_namespace(
+    names: &[Namespace<'_>],
+    few: Option<&[u16]>,
+    present: &PrefixBindings<'_>,
+    name: QName<'_>,
+) -> Option<AttributeNamespace>
+    requires within { LooksWithin (length names.now) (places_view few) present.now }
+    ensures within { IfSome result (λ s. NamespaceWithin (length names.now) s) }
+    ensures there { (ds : List NamespaceDecl) → FindsBinding (map namespace_view names.now) (places_view few.entry) present.now ds
+        → IfSome result (λ s. attribute_uri (map namespace_view names.now) s ≡ tree.attribute_namespace ds (name_view name.entry)) }
+    ensures known { (ds : List NamespaceDecl) → FindsBinding (map namespace_view names.now) (places_view few.entry) present.now ds → IfSome result (λ _. is_known ds (name_view name.entry) ≡ true) }
+    ensures unknown { (ds : List NamespaceDecl) → FindsBinding (map namespace_view names.now) (places_view few.entry) present.now ds → IfNone result (is_known ds (name_view name.entry) ≡ false) }
+{
+    if name.prefix.is_empty() {
+        return Some(AttributeNamespace::None);
+    }
+    if same_text(name.prefix, "xml") {
+        return Some(AttributeNamespace::Xml);
+    }
+    match find(names, few, present, Some(name.prefix)) {
+        Some(place) => Some(AttributeNamespace::Listed(place)),
+        None => None,
+    }
+}
+
+/// The URI of an attribute's namespace.
+#[inline]
+fn namespace_uri<'a>(names: &'a [Namespace<'_>], namespace: AttributeNamespace) -> Option<&'a str>
+    requires { NamespaceWithin (length names.now) namespace }
+    ensures { prefix_view result ≡ attribute_uri (map namespace_view names.now) namespace }
+{
+    match namespace {
+        AttributeNamespace::None => None,
+        AttributeNamespace::Xml => Some(XML_URI),
+        AttributeNamespace::Listed(place) => Some(names[place as usize].uri.as_str()),
+    }
+}
+
+/// Whether an attribute has this expanded name. Namespaces are equal where their URIs are.
+#[inline]
+fn has_expanded(
+    names: &[Namespace<'_>],
+    attribute: &AttributeData<'_>,
+    namespace: AttributeNamespace,
+    local: &str,
+) -> bool
+    requires one { NamespaceWithin (length names.now) attribute.now.namespace }
+    requires other { NamespaceWithin (length names.now) namespace }
+    ensures { result ≡ has_expanded (map namespace_view names.now) namespace local.now attribute.now }
+{
+    same_text(attribute.local, local)
+        && same_prefix(
+            namespace_uri(names, attribute.namespace),
+            namespace_uri(names, namespace),
+        )
+}
+
+/// Whether one of these attributes has this expanded name.
+fn is_repeated(
+    names: &[Namespace<'_>],
+    done: &[AttributeData<'_>],
+    namespace: AttributeNamespace,
+    local: &str,
+) -> bool
+    requires done { AllByRecursion (λ a. NamespaceWithin (length names.now) a.namespace) done.now }
+    requires other { NamespaceWithin (length names.now) namespace }
+    ensures { result ≡ list_any (has_expanded (map namespace_view names.now) namespace local.now) done.now }
+{
+    for attribute in done {
+        if has_expanded(names, attribute, namespace, local) {
+            return true;
+        }
+    }
+    false
+}
+
+/// The namespace of an attribute behind these of its tag: its prefix must be known, and its expanded name be none of theirs.
+#[inline(always)]
+fn tested_namespace(
+    names: &[Namespace<'_>],
+    few: Option<&[u16]>,
+    present: &PrefixBindings<'_>,
+    done: &[AttributeData<'_>],
+    taken: &UnresolvedAttribute<'_>,
+) -> Result<AttributeNamespace, Fault>
+    requires within { LooksWithin (length names.now) (places_view few) present.now }
+    requires done { AllByRecursion (λ a. NamespaceWithin (length names.now) a.namespace) done.now }
+    ensures within { IfOk result (λ s. NamespaceWithin (length names.now) s) }
+    ensures there { (ds : List NamespaceDecl) → FindsBinding (map namespace_view names.now) (places_view few.entry) present.now ds
+        → IfOk result (λ s. attribute_uri (map namespace_view names.now) s ≡ tree.attribute_namespace ds (name_view taken.now.name)) }
+    ensures tested { (ds : List NamespaceDecl) (rows : List AttributeRow) (before rest : List Attribute) → FindsBinding (map namespace_view names.now) (places_view few.entry) present.now ds
+        → map (λ r. r.0) rows ≡ done.now → map (attribute (map namespace_view names.now)) rows ≡ map (attribute_in ds) before → Tested ds before (unresolved_view taken.now) rest result }
+{
+    let name = taken.name;
+    let Some(namespace) = attribute_namespace(names, few, present, name) else {
+        return Err(Fault::UnknownNamespace(prefix_span(name.prefix, taken.start), taken.start));
+    };
+    if is_repeated(names, done, namespace, name.local) {
+        return Err(Fault::DuplicatedAttribute(local_span(name.local, taken.name_end), taken.start));
+    }
+    Ok(namespace)
+}
+
+/// The same of an attribute of a tag that has many: the names of those before it are `seen`, and its own is put there.
+fn seen_namespace<'a>(
+    names: &'a [Namespace<'_>],
+    few: Option<&[u16]>,
+    present: &PrefixBindings<'_>,
+    seen: &mut BTreeSet<(&'a str, Option<&'a str>)>,
+    taken: &UnresolvedAttribute<'a>,
+) -> Result<AttributeNamespace, Failure>
+    requires within { LooksWithin (length names.now) (places_view few) present.now }
+    ensures within { IfOk result (λ s. NamespaceWithin (length names.now) s) }
+    ensures there { (ds : List NamespaceDecl) → FindsBinding (map namespace_view names.now) (places_view few.entry) present.now ds
+        → IfOk result (λ s. attribute_uri (map namespace_view names.now) s ≡ tree.attribute_namespace ds (name_view taken.now.name)) }
+    ensures tested { (ds : List NamespaceDecl) (rows : List AttributeRow) (before rest : List Attribute) → FindsBinding (map namespace_view names.now) (places_view few.entry) present.now ds
+        → HasExpandedNames (map namespace_view names.now) seen.old.keys (map (λ r. r.0) rows) → map (attribute (map namespace_view names.now)) rows ≡ map (attribute_in ds) before
+        → TestedOr ds before (unresolved_view taken.now) rest result }
+    ensures more { IfOk result (λ s. (done : List AttributeData) (a : AttributeData) → HasExpandedNames (map namespace_view names.now) seen.old.keys done → a.namespace ≡ s → a.local ≡ taken.now.name.local
+        → HasExpandedNames (map namespace_view names.now) seen.new.keys (done ++ a ∷ [])) }
+{
+    let name = taken.name;
+    let Some(namespace) = attribute_namespace(names, few, present, name) else {
+        return Err(Failure::Fault(Fault::UnknownNamespace(
+            prefix_span(name.prefix, taken.start),
+            taken.start,
+        )));
+    };
+    if is_repeated_name(seen, name.local, namespace_uri(names, namespace))? {
+        return Err(Failure::Fault(Fault::DuplicatedAttribute(
+            local_span(name.local, taken.name_end),
+            taken.start,
+        )));
+    }
+    Ok(namespace)
+}
+
+/// The row of an attribute with this namespace. Its value moves into the row.
+#[inline]
+fn move_row<'input>(
+    taken: &mut UnresolvedAttribute<'input>,
+    namespace: AttributeNamespace,
+) -> (AttributeData<'input>, AttributePlaces)
+    ensures { result ≡ row_of_unresolved taken.old namespace }
+{
+    let value = std::mem::replace(&mut taken.value, StringStorage::Borrowed(""));
+    let data = AttributeData {
+        local: taken.name.local,
+        value,
+        namespace,
+    };
+    let places = AttributePlaces {
+        start: taken.start,
+        name_end: taken.name_end,
+        value_start: taken.value_start,
+        end: taken.end,
+    };
+    (data, places)
+}
+
+/// As `resolve`, of a tag with many attributes: their names are kept in a set, in time n log n.
+#[cold]
+#[inline(never)]
+fn resolve_many<'input>(
+    alloc: Global,
+    names: &[Namespace<'input>],
+    few: Option<&[u16]>,
+    present: &PrefixBindings<'_>,
+    taken: &mut Vec<UnresolvedAttribute<'input>>,
+    attributes: &mut AttributeTable<'input>,
+) -> Result<(), Failure>
+    requires within { LooksWithin (length names.now) (places_view few) present.now }
+    ensures ok { (ds : List NamespaceDecl) → FindsBinding (map namespace_view names.now) (places_view few.entry) present.now ds
+        → OnOk result ((names_tested ds [] (map unresolved_view taken.old.items) ≡ Ok tt)
+        × ((more : List AttributeRow) × (attribute_rows attributes.new ≡ attribute_rows attributes.old ++ more)
+        × (map (attribute (map namespace_view names.now)) more ≡ map (attribute_in ds) (map unresolved_view taken.old.items))
+        × AllByRecursion (λ a. NamespaceWithin (length names.now) a.0.namespace) more)) }
+    ensures err { (ds : List NamespaceDecl) → FindsBinding (map namespace_view names.now) (places_view few.entry) present.now ds
+        → IfErr result (λ e. Fails e (names_tested ds [] (map unresolved_view taken.old.items))) }
+{
+    let mut seen = BTreeSet::new(alloc);
+    for turn in 0..taken.len() {
+        let namespace = seen_namespace(names, few, present, &mut seen, &taken[turn])?;
+        let row = move_row(&mut taken[turn], namespace);
+        attributes.push(row)?;
+    }
+    Ok(())
+}
+
+/// Moves the attributes of a tag into the table, each with its namespace in this scope. A prefix that is not known, or an
+/// expanded name that comes twice, is refused.
+#[inline(always)]
+pub fn resolve<'input>(
+    alloc: Global,
+    names: &[Namespace<'input>],
+    few: Option<&[u16]>,
+    present: &PrefixBindings<'_>,
+    taken: &mut Vec<UnresolvedAttribute<'input>>,
+    attributes: &mut AttributeTable<'input>,
+) -> Result<(), Failure>
+    requires within { LooksWithin (length names.now) (places_view few) present.now }
+    ensures ok { (ds : List NamespaceDecl) → FindsBinding (map namespace_view names.now) (places_view few.entry) present.now ds
+        → OnOk result ((names_tested ds [] (map unresolved_view taken.old.items) ≡ Ok tt)
+        × ((more : List AttributeRow) × (attribute_rows attributes.new ≡ attribute_rows attributes.old ++ more)
+        × (map (attribute (map namespace_view names.now)) more ≡ map (attribute_in ds) (map unresolved_view taken.old.items))
+        × AllByRecursion (λ a. NamespaceWithin (length names.now) a.0.namespace) more)) }
+    ensures err { (ds : List NamespaceDecl) → FindsBinding (map namespace_view names.now) (places_view few.entry) present.now ds
+        → IfErr result (λ e. Fails e (names_tested ds [] (map unresolved_view taken.old.items))) }
+{
+    if taken.len() > FEW {
+        return resolve_many(alloc, names, few, present, taken, attributes);
+    }
+    let from = attributes.len();
+    for turn in 0..taken.len() {
+        let namespace = tested_namespace(
+            names,
+            few,
+            present,
+            &attributes.items[from..],
+            &taken[turn],
+        )?;
+        let row = move_row(&mut taken[turn], namespace);
+        attributes.push(row)?;
+    }
+    Ok(())
+}
+
+/// The namespace of an element's name, which stands at `at`, in this scope: without a prefix the default. A prefix that is
+/// not known is refused.
+#[inline(always)]
+pub fn element_namespace(
+    names: &[Namespace<'_>],
+    few: Option<&[u16]>,
+    present: &PrefixBindings<'_>,
+    name: QName<'_>,
+    at: usize,
+) -> Result<Option<u16>, Fault>
+    requires within { LooksWithin (length names.now) (places_view few) present.now }
+    requires small { at < 2 ^ 63 }
+    ensures within { IfOk result (λ o. OptionWithin (length names.now) o) }
+    ensures ok { (ds : List NamespaceDecl) → FindsBinding (map namespace_view names.now) (places_view few.entry) present.now ds
+        → IfOk result (λ o. (option_map (λ i. (namespace_at (map namespace_view names.now) i).uri) o ≡ tree.element_namespace ds (name_view name.entry)) × (may_name ds (name_view name.entry) ≡ true)) }
+    ensures err { (ds : List NamespaceDecl) → FindsBinding (map namespace_view names.now) (places_view few.entry) present.now ds
+        → IfErr result (λ f. (f ≡ fault.UnknownNamespace (prefix_span (name_view name.entry) at) at) × (may_name ds (name_view name.entry) ≡ false)) }
+{
+    if name.prefix.is_empty() {
+        return Ok(find_default(names, few, present));
+    }
+    match find(names, few, present, Some(name.prefix)) {
+        Some(place) => Ok(Some(place)),
+        None => Err(Fault::UnknownNamespace(prefix_span(name.prefix, at), at)),
+    }
+}

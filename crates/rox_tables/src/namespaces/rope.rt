@@ -1,0 +1,394 @@
+//! Scopes that list many namespaces: ropes of stretches of the listed places. A row is a leaf or joins two rows before it, so that
+//! a scope shares what it inherits with the scope above.
+
+ghost use Rattle.std.specs.Prelude.{◌≡◌, ◌<◌, ◌≤◌, ◌+◌, ◌-◌, ◌++◌, ◌∷◌, [], true, false, ℕ, List, length, map, take, drop, reverse, slice_index, slice_range, OnOk, IfOk, IfErr, IfSome, IfNone};
+ghost use Rattle.rox_grammar.specs.Tree.{same_prefix, is_declared};
+ghost use Rattle.std.specs.List.{AllByRecursion};
+ghost use Rattle.rox_tables.specs.Rows.{namespace_view, namespace_at, count_at, AreRows, AreScopes, EndsWithin};
+ghost use Rattle.rox_tables.specs.Scopes.{prefix_view, entries, places_in, ArePlaces};
+ghost use Rattle.rox_tables.specs.Ropes.{IsRope};
+
+use crate::namespaces::scope::same_prefix;
+use crate::rows::growth::push;
+use crate::rows::tables::{Concat, Namespace, Scope, Stretch};
+use rox_grammar::failure::Failure;
+
+/// How many scopes the table holds at most: each has a number that a `u32` holds.
+const MOST_SCOPES: usize = 4294967296;
+
+/// How many are listed at most in all scopes: a stretch of them has ends that a `u32` holds.
+const MOST_LISTED: usize = 4294967295;
+
+/// How many a scope lists at most. More are never asked for: each prefix is listed once, and there are 65,535 pairs.
+const MOST_OF_SCOPE: usize = 65535;
+
+/// How many a scope lists.
+#[inline]
+pub fn count(scopes: &[Scope], scope: u32) -> usize
+    requires within { scope < length scopes.now }
+    requires rows { AreRows scopes.now }
+    ensures value { result ≡ count_at scopes.now scope }
+    ensures length { (listed : List ℕ) → AreScopes (length listed) scopes.now → result ≡ length (places_in listed scopes.now scope) }
+{
+    match scopes[scope as usize] {
+        Scope::Few(stretch) => (stretch.until - stretch.from) as usize,
+        Scope::Back(stretch) => (stretch.until - stretch.from) as usize,
+        Scope::Concat(both) => both.count as usize,
+    }
+}
+
+/// How high a rope is: nothing is stated of it.
+pub fn height(scopes: &[Scope], scope: u32) -> u8
+    requires within { scope < length scopes.now }
+{
+    match scopes[scope as usize] {
+        Scope::Concat(both) => both.height,
+        _ => 0,
+    }
+}
+
+/// The lowest listed place of the last leaf: nothing is stated of it.
+fn low(scopes: &[Scope], scope: u32) -> usize
+    requires within { scope < length scopes.now }
+    requires rows { AreRows scopes.now }
+{
+    match scopes[scope as usize] {
+        Scope::Few(stretch) => stretch.from as usize,
+        Scope::Back(stretch) => stretch.from as usize,
+        Scope::Concat(both) => low(scopes, both.rest),
+    }
+}
+
+/// The position among the listed places of the one at this index of what a scope lists.
+pub fn position_at(scopes: &[Scope], listed: &[u16], scope: u32, index: usize) -> usize
+    requires within { scope < length scopes.now }
+    requires scopes { AreScopes (length listed.now) scopes.now }
+    requires index { index < length (places_in listed.now scopes.now scope) }
+    ensures within { result < length listed.now }
+    ensures value { slice_index listed.now result ≡ slice_index (places_in listed.now scopes.now scope) index }
+{
+    match scopes[scope as usize] {
+        Scope::Few(stretch) => stretch.from as usize + index,
+        Scope::Back(stretch) => stretch.until as usize - 1 - index,
+        Scope::Concat(parts) => {
+            let before = count(scopes, parts.first);
+            if index < before {
+                return position_at(scopes, listed, parts.first, index);
+            }
+            position_at(scopes, listed, parts.rest, index - before)
+        }
+    }
+}
+
+/// The place at this index of what a scope lists.
+#[inline]
+pub fn place_at(scopes: &[Scope], listed: &[u16], scope: u32, index: usize) -> u16
+    requires within { scope < length scopes.now }
+    requires scopes { AreScopes (length listed.now) scopes.now }
+    requires index { index < length (places_in listed.now scopes.now scope) }
+    ensures value { result ≡ slice_index (places_in listed.now scopes.now scope) index }
+    ensures place { (n : ℕ) → ArePlaces n listed.now → result < n }
+{
+    listed[position_at(scopes, listed, scope, index)]
+}
+
+/// A stretch of what is listed. The only error is want of memory.
+pub fn stretch(from: usize, until: usize) -> Result<Stretch, Failure>
+    requires ordered { from ≤ until }
+    ensures value { IfOk result (λ s. s ≡ record { from = from; until = until }) }
+    ensures err { IfErr result (λ e. e ≡ Failure.Memory) }
+{
+    if until > MOST_LISTED {
+        return Err(Failure::Memory);
+    }
+    Ok(Stretch {
+        from: from as u32,
+        until: until as u32,
+    })
+}
+
+/// Puts a row behind the others. The only error is want of memory.
+pub fn add(scopes: &mut Vec<Scope>, row: Scope) -> Result<u32, Failure>
+    ensures items { OnOk result (scopes.new.items ≡ scopes.old.items ++ row ∷ []) }
+    ensures value { IfOk result (λ s. s ≡ length scopes.old.items) }
+    ensures err { IfErr result (λ e. e ≡ Failure.Memory) }
+{
+    let place = scopes.len();
+    if place >= MOST_SCOPES {
+        return Err(Failure::Memory);
+    }
+    push(scopes, row)?;
+    Ok(place as u32)
+}
+
+/// The row of what two list, the one behind the other.
+fn pair(scopes: &mut Vec<Scope>, first: u32, rest: u32) -> Result<u32, Failure>
+    requires first { first < length scopes.old.items }
+    requires rest { rest < length scopes.old.items }
+    requires rows { AreRows scopes.old.items }
+    ensures value { IfOk result (λ s. IsRope scopes.old.items scopes.new.items s (λ listed. places_in listed scopes.old.items first ++ places_in listed scopes.old.items rest)) }
+    ensures err { IfErr result (λ e. e ≡ Failure.Memory) }
+{
+    let before = count(scopes, first);
+    let behind = count(scopes, rest);
+    if behind > MOST_OF_SCOPE || before > MOST_OF_SCOPE - behind {
+        return Err(Failure::Memory);
+    }
+    let row = Concat {
+        first,
+        rest,
+        count: (before + behind) as u16,
+        height: height(scopes, first)
+            .max(height(scopes, rest))
+            .saturating_add(1),
+    };
+    let place = add(scopes, Scope::Concat(row))?;
+    Ok(place)
+}
+
+/// The same, where the one in front may be too high to be beside the other.
+fn lower_first(scopes: &mut Vec<Scope>, first: u32, rest: u32) -> Result<u32, Failure>
+    requires first { first < length scopes.old.items }
+    requires rest { rest < length scopes.old.items }
+    requires rows { AreRows scopes.old.items }
+    ensures value { IfOk result (λ s. IsRope scopes.old.items scopes.new.items s (λ listed. places_in listed scopes.old.items first ++ places_in listed scopes.old.items rest)) }
+    ensures err { IfErr result (λ e. e ≡ Failure.Memory) }
+{
+    let Scope::Concat(high) = scopes[first as usize] else {
+        return pair(scopes, first, rest);
+    };
+    if height(scopes, high.rest) > height(scopes, high.first) {
+        if let Scope::Concat(middle) = scopes[high.rest as usize] {
+            let left = pair(scopes, high.first, middle.first)?;
+            let right = pair(scopes, middle.rest, rest)?;
+            return pair(scopes, left, right);
+        }
+    }
+    let right = pair(scopes, high.rest, rest)?;
+    pair(scopes, high.first, right)
+}
+
+/// The same, where the one behind may be too high.
+fn lower_rest(scopes: &mut Vec<Scope>, first: u32, rest: u32) -> Result<u32, Failure>
+    requires first { first < length scopes.old.items }
+    requires rest { rest < length scopes.old.items }
+    requires rows { AreRows scopes.old.items }
+    ensures value { IfOk result (λ s. IsRope scopes.old.items scopes.new.items s (λ listed. places_in listed scopes.old.items first ++ places_in listed scopes.old.items rest)) }
+    ensures err { IfErr result (λ e. e ≡ Failure.Memory) }
+{
+    let Scope::Concat(high) = scopes[rest as usize] else {
+        return pair(scopes, first, rest);
+    };
+    if height(scopes, high.first) > height(scopes, high.rest) {
+        if let Scope::Concat(middle) = scopes[high.first as usize] {
+            let left = pair(scopes, first, middle.first)?;
+            let right = pair(scopes, middle.rest, high.rest)?;
+            return pair(scopes, left, right);
+        }
+    }
+    let left = pair(scopes, first, high.first)?;
+    pair(scopes, left, high.rest)
+}
+
+/// The row of what two list, of which one may be by two higher than the other.
+fn balanced(scopes: &mut Vec<Scope>, first: u32, rest: u32) -> Result<u32, Failure>
+    requires first { first < length scopes.old.items }
+    requires rest { rest < length scopes.old.items }
+    requires rows { AreRows scopes.old.items }
+    ensures value { IfOk result (λ s. IsRope scopes.old.items scopes.new.items s (λ listed. places_in listed scopes.old.items first ++ places_in listed scopes.old.items rest)) }
+    ensures err { IfErr result (λ e. e ≡ Failure.Memory) }
+{
+    let before = height(scopes, first);
+    let behind = height(scopes, rest);
+    if before > behind.saturating_add(1) {
+        return lower_first(scopes, first, rest);
+    }
+    if behind > before.saturating_add(1) {
+        return lower_rest(scopes, first, rest);
+    }
+    pair(scopes, first, rest)
+}
+
+/// A row of what two list, the one behind the other. It goes down the higher one, as in AVL trees, so that ropes stay low.
+pub fn both(scopes: &mut Vec<Scope>, first: u32, rest: u32) -> Result<u32, Failure>
+    requires first { first < length scopes.old.items }
+    requires rest { rest < length scopes.old.items }
+    requires rows { AreRows scopes.old.items }
+    ensures value { IfOk result (λ s. IsRope scopes.old.items scopes.new.items s (λ listed. places_in listed scopes.old.items first ++ places_in listed scopes.old.items rest)) }
+    ensures err { IfErr result (λ e. e ≡ Failure.Memory) }
+{
+    if count(scopes, first) == 0 {
+        return Ok(rest);
+    }
+    if count(scopes, rest) == 0 {
+        return Ok(first);
+    }
+    let before = height(scopes, first);
+    let behind = height(scopes, rest);
+    if before > behind.saturating_add(1) {
+        if let Scope::Concat(high) = scopes[first as usize] {
+            let inner = both(scopes, high.rest, rest)?;
+            return balanced(scopes, high.first, inner);
+        }
+    }
+    if behind > before.saturating_add(1) {
+        if let Scope::Concat(high) = scopes[rest as usize] {
+            let inner = both(scopes, first, high.first)?;
+            return balanced(scopes, inner, high.rest);
+        }
+    }
+    pair(scopes, first, rest)
+}
+
+/// A row of a stretch from its front, but for the one at this index.
+fn without_few(scopes: &mut Vec<Scope>, stretch: Stretch, index: usize) -> Result<u32, Failure>
+    requires rows { AreRows scopes.old.items }
+    requires ordered { stretch.from ≤ stretch.until }
+    requires ends { (n : ℕ) → AllByRecursion (EndsWithin n) scopes.old.items → stretch.until ≤ n }
+    requires index { index < stretch.until - stretch.from }
+    ensures value { IfOk result (λ s. IsRope scopes.old.items scopes.new.items s (λ listed. take index (slice_range listed stretch.from stretch.until) ++ drop (index + 1) (slice_range listed stretch.from stretch.until))) }
+    ensures err { IfErr result (λ e. e ≡ Failure.Memory) }
+{
+    let middle = stretch.from + index as u32;
+    let before = Stretch {
+        from: stretch.from,
+        until: middle,
+    };
+    let behind = Stretch {
+        from: middle + 1,
+        until: stretch.until,
+    };
+    let first = add(scopes, Scope::Few(before))?;
+    let rest = add(scopes, Scope::Few(behind))?;
+    both(scopes, first, rest)
+}
+
+/// The same of a stretch from its back.
+fn without_back(scopes: &mut Vec<Scope>, stretch: Stretch, index: usize) -> Result<u32, Failure>
+    requires rows { AreRows scopes.old.items }
+    requires ordered { stretch.from ≤ stretch.until }
+    requires ends { (n : ℕ) → AllByRecursion (EndsWithin n) scopes.old.items → stretch.until ≤ n }
+    requires index { index < stretch.until - stretch.from }
+    ensures value { IfOk result (λ s. IsRope scopes.old.items scopes.new.items s (λ listed. take index (reverse (slice_range listed stretch.from stretch.until)) ++ drop (index + 1) (reverse (slice_range listed stretch.from stretch.until)))) }
+    ensures err { IfErr result (λ e. e ≡ Failure.Memory) }
+{
+    let middle = stretch.until - index as u32;
+    let before = Stretch {
+        from: middle,
+        until: stretch.until,
+    };
+    let behind = Stretch {
+        from: stretch.from,
+        until: middle - 1,
+    };
+    let first = add(scopes, Scope::Back(before))?;
+    let rest = add(scopes, Scope::Back(behind))?;
+    both(scopes, first, rest)
+}
+
+/// A row of what a scope lists but for the one at this index.
+pub fn without(scopes: &mut Vec<Scope>, scope: u32, index: usize) -> Result<u32, Failure>
+    requires within { scope < length scopes.old.items }
+    requires rows { AreRows scopes.old.items }
+    requires index { index < count_at scopes.old.items scope }
+    ensures value { IfOk result (λ s. IsRope scopes.old.items scopes.new.items s (λ listed. take index (places_in listed scopes.old.items scope) ++ drop (index + 1) (places_in listed scopes.old.items scope))) }
+    ensures err { IfErr result (λ e. e ≡ Failure.Memory) }
+{
+    match scopes[scope as usize] {
+        Scope::Few(stretch) => without_few(scopes, stretch, index),
+        Scope::Back(stretch) => without_back(scopes, stretch, index),
+        Scope::Concat(parts) => {
+            let before = count(scopes, parts.first);
+            if index < before {
+                let first = without(scopes, parts.first, index)?;
+                return both(scopes, first, parts.rest);
+            }
+            let rest = without(scopes, parts.rest, index - before)?;
+            both(scopes, parts.first, rest)
+        }
+    }
+}
+
+/// Where a scope lists the listed place at this position, if positions fall along it: a guess, which the caller is to verify.
+pub fn find(scopes: &[Scope], scope: u32, position: usize) -> Option<usize>
+    requires within { scope < length scopes.now }
+    requires rows { AreRows scopes.now }
+    ensures { IfSome result (λ i. i < count_at scopes.now scope) }
+{
+    match scopes[scope as usize] {
+        Scope::Few(stretch) => {
+            let from = stretch.from as usize;
+            if position < from || position >= stretch.until as usize {
+                return None;
+            }
+            Some(position - from)
+        }
+        Scope::Back(stretch) => {
+            let until = stretch.until as usize;
+            if position < stretch.from as usize || position >= until {
+                return None;
+            }
+            Some(until - 1 - position)
+        }
+        Scope::Concat(parts) => {
+            if position >= low(scopes, parts.first) {
+                return find(scopes, parts.first, position);
+            }
+            let before = count(scopes, parts.first);
+            match find(scopes, parts.rest, position) {
+                Some(index) => Some(before.saturating_add(index)),
+                None => None,
+            }
+        }
+    }
+}
+
+/// The index of the first that a scope lists for this prefix, or for the default.
+fn first_of(
+    names: &[Namespace<'_>],
+    listed: &[u16],
+    scopes: &[Scope],
+    scope: u32,
+    prefix: Option<&str>,
+) -> Option<usize>
+    requires places { ArePlaces (length names.now) listed.now }
+    requires scopes { AreScopes (length listed.now) scopes.now }
+    requires within { scope < length scopes.now }
+    ensures there { IfSome result (λ i. (i < length (places_in listed.now scopes.now scope))
+        × (same_prefix (namespace_at (map namespace_view names.now) (slice_index (places_in listed.now scopes.now scope) i)).prefix (prefix_view prefix.entry) ≡ true)) }
+    ensures absent { IfNone result (is_declared (prefix_view prefix.entry) (entries (map namespace_view names.now) (places_in listed.now scopes.now scope)) ≡ false) }
+{
+    for index in 0..count(scopes, scope) {
+        let place = place_at(scopes, listed, scope, index);
+        if same_prefix(names[place as usize].name, prefix) {
+            return Some(index);
+        }
+    }
+    None
+}
+
+/// The index of one that a scope lists for this prefix, or for the default. It is looked for first where the listed place at
+/// the position `guess` is.
+pub fn index_of(
+    names: &[Namespace<'_>],
+    listed: &[u16],
+    scopes: &[Scope],
+    scope: u32,
+    prefix: Option<&str>,
+    guess: usize,
+) -> Option<usize>
+    requires places { ArePlaces (length names.now) listed.now }
+    requires scopes { AreScopes (length listed.now) scopes.now }
+    requires within { scope < length scopes.now }
+    ensures there { IfSome result (λ i. (i < length (places_in listed.now scopes.now scope))
+        × (same_prefix (namespace_at (map namespace_view names.now) (slice_index (places_in listed.now scopes.now scope) i)).prefix (prefix_view prefix.entry) ≡ true)) }
+    ensures absent { IfNone result (is_declared (prefix_view prefix.entry) (entries (map namespace_view names.now) (places_in listed.now scopes.now scope)) ≡ false) }
+{
+    if let Some(index) = find(scopes, scope, guess) {
+        let place = place_at(scopes, listed, scope, index);
+        if same_prefix(names[place as usize].name, prefix) {
+            return Some(index);
+        }
+    }
+    first_of(names, listed, scopes, scope, prefix)
+}

@@ -1,0 +1,215 @@
+//! Namespaces in scope (Namespaces in XML 1.0, section 6). A namespace is a place in the table of the distinct pairs of a
+//! prefix, or the default, and a URI; what an element lists is a row of such places.
+
+ghost use Rattle.std.specs.Prelude.{◌≡◌, ◌<◌, ◌≤◌, ◌++◌, ℕ, List, length, map, drop, slice_range, false, OnOk, IfSome, IfNone, Some, None, IfErr, ◌&&◌, ◌||◌};
+ghost use Rattle.std.specs.Option.{option_map};
+ghost use Rattle.rox_grammar.specs.Tree.{same_prefix, is_declared, uri_of};
+ghost use Rattle.rox_grammar.specs.WellNamed.{is_xml};
+ghost use Rattle.rox_tables.specs.Rows.{namespace_view, namespace_at, OptionWithin, AreScopes};
+ghost use Rattle.rox_tables.specs.Scopes.{prefix_view, entries, places_in, is_few_at, ArePlaces, others};
+ghost use Rattle.rox_tables.specs.PrefixSet.{IsPrefixSet};
+ghost use Rattle.rox_tables.specs.Bindings.{LooksWithin, looked_up, places_view};
+
+use crate::compare::same_text;
+use crate::namespaces::bindings::PrefixBindings;
+use crate::namespaces::prefix_set::{FEW, has_prefix};
+use crate::rows::tables::{Namespace, Scope};
+use rox_grammar::failure::Failure;
+use std::collections::BTreeSet;
+
+/// The URI of the prefix `xml`.
+pub const XML_URI: &str = "http://www.w3.org/XML/1998/namespace";
+
+/// The URI of the prefix `xmlns`.
+pub const XMLNS_URI: &str = "http://www.w3.org/2000/xmlns/";
+
+/// Whether two prefixes are one; two defaults are.
+#[inline]
+pub fn same_prefix(one: Option<&str>, other: Option<&str>) -> bool
+    ensures { result ≡ same_prefix (prefix_view one.entry) (prefix_view other.entry) }
+{
+    match (one, other) {
+        (None, None) => true,
+        (Some(one), Some(other)) => same_text(one, other),
+        _ => false,
+    }
+}
+
+/// The first of these places whose namespace has this prefix, or is the default.
+pub fn place_of(names: &[Namespace<'_>], places: &[u16], prefix: Option<&str>) -> Option<u16>
+    requires { ArePlaces (length names.now) places.now }
+    ensures there { IfSome result (λ i. (i < length names.now)
+        × (uri_of (entries (map namespace_view names.now) places.now) (prefix_view prefix.entry) ≡ Some (namespace_at (map namespace_view names.now) i).uri)) }
+    ensures absent { IfNone result (uri_of (entries (map namespace_view names.now) places.now) (prefix_view prefix.entry) ≡ None) }
+{
+    for place in places {
+        if same_prefix(names[*place as usize].name, prefix) {
+            return Some(*place);
+        }
+    }
+    None
+}
+
+/// The first of these places whose namespace is the default.
+#[inline(always)]
+pub fn default_place(names: &[Namespace<'_>], places: &[u16]) -> Option<u16>
+    requires { ArePlaces (length names.now) places.now }
+    ensures there { IfSome result (λ i. (i < length names.now)
+        × (uri_of (entries (map namespace_view names.now) places.now) None ≡ Some (namespace_at (map namespace_view names.now) i).uri)) }
+    ensures absent { IfNone result (uri_of (entries (map namespace_view names.now) places.now) None ≡ None) }
+{
+    for place in places {
+        if same_prefix(names[*place as usize].name, None) {
+            return Some(*place);
+        }
+    }
+    None
+}
+
+/// The listed places of a scope, where they are few.
+#[inline(always)]
+pub fn few_places<'a>(scopes: &[Scope], listed: &'a [u16], scope: u32) -> Option<&'a [u16]>
+    requires scopes { AreScopes (length listed.now) scopes.now }
+    requires within { scope < length scopes.now }
+    ensures few { IfSome result (λ places. places.now ≡ places_in listed.now scopes.now scope) }
+    ensures many { IfNone result (is_few_at scopes.now scope ≡ false) }
+{
+    match scopes[scope as usize] {
+        Scope::Few(stretch) => Some(&listed[stretch.from as usize..stretch.until as usize]),
+        _ => None,
+    }
+}
+
+/// The place of this prefix, or of the default: the first among these places, where they are few, and else as it is present.
+#[inline]
+pub fn find(
+    names: &[Namespace<'_>],
+    few: Option<&[u16]>,
+    present: &PrefixBindings<'_>,
+    prefix: Option<&str>,
+) -> Option<u16>
+    requires { LooksWithin (length names.now) (places_view few) present.now }
+    ensures within { OptionWithin (length names.now) result }
+    ensures value { option_map (λ i. (namespace_at (map namespace_view names.now) i).uri) result ≡ looked_up (map namespace_view names.now) (places_view few.entry) present.now (prefix_view prefix.entry) }
+{
+    match few {
+        Some(places) => place_of(names, places, prefix),
+        None => match present.get(prefix) {
+            Some(place) => Some(place.namespace),
+            None => None,
+        },
+    }
+}
+
+/// The place of the default: the first among these places, where they are few, and else as it is present.
+#[inline(always)]
+pub fn find_default(
+    names: &[Namespace<'_>],
+    few: Option<&[u16]>,
+    present: &PrefixBindings<'_>,
+) -> Option<u16>
+    requires { LooksWithin (length names.now) (places_view few) present.now }
+    ensures within { OptionWithin (length names.now) result }
+    ensures value { option_map (λ i. (namespace_at (map namespace_view names.now) i).uri) result ≡ looked_up (map namespace_view names.now) (places_view few.entry) present.now None }
+{
+    match few {
+        Some(places) => default_place(names, places),
+        None => match present.get(None) {
+            Some(place) => Some(place.namespace),
+            None => None,
+        },
+    }
+}
+
+/// Whether one of these has this prefix, or is the default.
+#[tactic(auto, using(crate::proofs::Pairs::declared_some, crate::proofs::Pairs::declared_none))]
+pub fn is_declared(names: &[Namespace<'_>], places: &[u16], prefix: Option<&str>) -> bool
+    requires { ArePlaces (length names.now) places.now }
+    ensures { result ≡ is_declared (prefix_view prefix.entry) (entries (map namespace_view names.now) places.now) }
+{
+    match place_of(names, places, prefix) {
+        Some(_) => true,
+        None => false,
+    }
+}
+
+/// The prefix `xml`.
+#[inline]
+pub fn is_xml(prefix: Option<&str>) -> bool
+    ensures { result ≡ is_xml (prefix_view prefix.entry) }
+{
+    match prefix {
+        Some(prefix) => same_text(prefix, "xml"),
+        None => false,
+    }
+}
+
+/// Whether one of these has this prefix, or is the default. Where they are many the set has their prefixes.
+#[inline]
+fn is_among<'a>(
+    names: &[Namespace<'a>],
+    own: &[u16],
+    many: &BTreeSet<Option<&'a str>>,
+    prefix: Option<&'a str>,
+) -> bool
+    requires places { ArePlaces (length names.now) own.now }
+    requires many { IsPrefixSet (map namespace_view names.now) own.now many.now.keys }
+    ensures { result ≡ is_declared (prefix_view prefix.entry) (entries (map namespace_view names.now) own.now) }
+{
+    if own.len() > FEW {
+        return has_prefix(many, prefix);
+    }
+    is_declared(names, own, prefix)
+}
+
+/// Whether an element that declares those at these places, and `xml` if the flag says so, declares this prefix. Where they are
+/// many the set has their prefixes.
+#[inline]
+pub fn is_own<'a>(
+    names: &[Namespace<'a>],
+    own: &[u16],
+    many: &BTreeSet<Option<&'a str>>,
+    xml: bool,
+    prefix: Option<&'a str>,
+) -> bool
+    requires places { ArePlaces (length names.now) own.now }
+    requires many { IsPrefixSet (map namespace_view names.now) own.now many.now.keys }
+    ensures { result ≡ (is_declared (prefix_view prefix.entry) (entries (map namespace_view names.now) own.now) || (xml && is_xml (prefix_view prefix.entry))) }
+{
+    is_among(names, own, many, prefix) || (xml && is_xml(prefix))
+}
+
+/// Lists, behind what an element declares itself, what its parent lists from `from` up to `until` and it does not declare.
+pub fn inherit<'a>(
+    names: &[Namespace<'a>],
+    listed: &mut Vec<u16>,
+    own: usize,
+    many: &BTreeSet<Option<&'a str>>,
+    xml: bool,
+    from: usize,
+    until: usize,
+) -> Result<(), Failure>
+    requires places { ArePlaces (length names.now) listed.old.items }
+    requires own { own ≤ length listed.old.items }
+    requires many { IsPrefixSet (map namespace_view names.now) (drop own listed.old.items) many.now.keys }
+    requires parent { (from ≤ until) × (until ≤ own) }
+    ensures ok { OnOk result ((more : List ℕ) × (listed.new.items ≡ listed.old.items ++ more) × ArePlaces (length names.now) more
+        × (entries (map namespace_view names.now) more
+        ≡ others (entries (map namespace_view names.now) (drop own listed.old.items)) xml (entries (map namespace_view names.now) (slice_range listed.old.items from until)))) }
+    ensures err { IfErr result (λ e. e ≡ Failure.Memory) }
+{
+    let end = listed.len();
+    for turn in from..until {
+        let place = listed[turn];
+        if !is_own(
+            names,
+            &listed[own..end],
+            many,
+            xml,
+            names[place as usize].name,
+        ) {
+            listed.push(place)?;
+        }
+    }
+    Ok(())
+}

@@ -1,0 +1,327 @@
+//! The scope of a start tag: what its element declares, and what it inherits and does not declare (Namespaces in XML 1.0,
+//! section 6).
+
+ghost use Rattle.std.specs.Prelude.{◌≡◌, ◌<◌, ◌≤◌, ◌++◌, Bool, false, ℕ, List, None, length, map, drop, reverse, slice_range, slice_index_or, IfOk, IfErr, OnOk};
+ghost use Rattle.rox_grammar.specs.Written.{NamespaceDecl};
+ghost use Rattle.rox_grammar.specs.Tree.{is_declared};
+ghost use Rattle.rox_tables.specs.Rows.{namespace_view, scope_at, AreScopes};
+ghost use Rattle.rox_tables.specs.Scopes.{prefix_view, entries, places_in, ArePlaces, PrefixesOnce, others, unlisted};
+ghost use Rattle.rox_tables.specs.PrefixSet.{IsPrefixSet};
+ghost use Rattle.rox_tables.specs.Bindings.{IsBound, bound_place};
+ghost use Rattle.rox_tables.specs.Ropes.{IsListed};
+ghost use Rattle.rox_tables.specs.TagScopes.{HasScope, HasBindings, lists_in};
+
+use crate::namespaces::bindings::PrefixBindings;
+use crate::namespaces::prefix_set::FEW;
+use crate::namespaces::rope::{add, both, index_of, stretch, without};
+use crate::namespaces::scope::inherit;
+use crate::rows::tables::{ElementTables, Namespace, Scope, Stretch};
+use rox_grammar::failure::Failure;
+use std::collections::BTreeSet;
+
+/// Lists once more, in reverse order, what is listed from `from` on: a row that reads it from its back.
+fn add_back(listed: &mut Vec<u16>, scopes: &mut Vec<Scope>, from: usize) -> Result<u32, Failure>
+    requires from { from ≤ length listed.old.items }
+    requires scopes { AreScopes (length listed.old.items) scopes.old.items }
+    ensures value { IfOk result (λ s. (names : List NamespaceDecl) → IsListed names listed.old.items scopes.old.items listed.new.items scopes.new.items s (entries names (drop from listed.old.items))) }
+    ensures own { OnOk result (listed.new.items ≡ listed.old.items ++ reverse (drop from listed.old.items)) }
+    ensures err { IfErr result (λ e. e ≡ Failure.Memory) }
+{
+    let end = listed.len();
+    for turn in 0..end - from {
+        let place = listed[end - 1 - turn];
+        listed.push(place)?;
+    }
+    let turned = stretch(end, listed.len())?;
+    let place = add(scopes, Scope::Back(turned))?;
+    Ok(place)
+}
+
+/// A row of what is listed from `from` on: few are a stretch.
+fn add_stretch(listed: &mut Vec<u16>, scopes: &mut Vec<Scope>, from: usize) -> Result<u32, Failure>
+    requires from { from ≤ length listed.old.items }
+    requires scopes { AreScopes (length listed.old.items) scopes.old.items }
+    ensures value { IfOk result (λ s. (names : List NamespaceDecl) → IsListed names listed.old.items scopes.old.items listed.new.items scopes.new.items s (entries names (drop from listed.old.items))) }
+    ensures err { IfErr result (λ e. e ≡ Failure.Memory) }
+{
+    let until = listed.len();
+    if until - from > FEW {
+        return add_back(listed, scopes, from);
+    }
+    let few = stretch(from, until)?;
+    let place = add(scopes, Scope::Few(few))?;
+    Ok(place)
+}
+
+/// The scope of an element whose own declarations are those from `own` on, and `xml` if the flag says so, below one that lists
+/// few, those of the stretch. The set has the prefixes that it declares, where these are many.
+pub fn listed_below_few<'input>(
+    names: &[Namespace<'input>],
+    listed: &mut Vec<u16>,
+    scopes: &mut Vec<Scope>,
+    many: &BTreeSet<Option<&'input str>>,
+    above: Stretch,
+    own: usize,
+    xml: bool,
+) -> Result<u32, Failure>
+    requires places { ArePlaces (length names.now) listed.old.items }
+    requires scopes { AreScopes (length listed.old.items) scopes.old.items }
+    requires own { own ≤ length listed.old.items }
+    requires many { IsPrefixSet (map namespace_view names.now) (drop own listed.old.items) many.now.keys }
+    requires above { (above.from ≤ above.until) × (above.until ≤ own) }
+    ensures value { IfOk result (λ s. IsListed (map namespace_view names.now) listed.old.items scopes.old.items listed.new.items scopes.new.items s
+        (entries (map namespace_view names.now) (drop own listed.old.items)
+        ++ others (entries (map namespace_view names.now) (drop own listed.old.items)) xml (entries (map namespace_view names.now) (slice_range listed.old.items above.from above.until)))) }
+    ensures err { IfErr result (λ e. e ≡ Failure.Memory) }
+{
+    let from = above.from as usize;
+    let until = above.until as usize;
+    inherit(names, listed, own, many, xml, from, until)?;
+    let place = add_stretch(listed, scopes, own)?;
+    Ok(place)
+}
+
+/// What a scope lists but for this prefix, or the default.
+fn hide<'input>(
+    names: &[Namespace<'input>],
+    listed: &[u16],
+    scopes: &mut Vec<Scope>,
+    present: &PrefixBindings<'input>,
+    scope: u32,
+    prefix: Option<&str>,
+) -> Result<u32, Failure>
+    requires places { ArePlaces (length names.now) listed.now }
+    requires scopes { AreScopes (length listed.now) scopes.old.items }
+    requires within { scope < length scopes.old.items }
+    requires once { PrefixesOnce (entries (map namespace_view names.now) (places_in listed.now scopes.old.items scope)) }
+    requires absent { bound_place present.now (prefix_view prefix) ≡ None
+        → is_declared (prefix_view prefix) (entries (map namespace_view names.now) (places_in listed.now scopes.old.items scope)) ≡ false }
+    ensures value { IfOk result (λ s. IsListed (map namespace_view names.now) listed.now scopes.old.items listed.now scopes.new.items s
+        (unlisted (prefix_view prefix.entry) (entries (map namespace_view names.now) (places_in listed.now scopes.old.items scope)))) }
+    ensures err { IfErr result (λ e. e ≡ Failure.Memory) }
+{
+    let Some(place) = present.get(prefix) else {
+        return Ok(scope);
+    };
+    let guess = place.listed as usize;
+    let Some(index) = index_of(names, listed, scopes, scope, prefix, guess) else {
+        return Ok(scope);
+    };
+    let left = without(scopes, scope, index)?;
+    Ok(left)
+}
+
+/// What a scope lists but for the prefixes of those that are listed from `own` on, and for `xml` if the flag says so.
+fn hide_own<'input>(
+    names: &[Namespace<'input>],
+    listed: &[u16],
+    scopes: &mut Vec<Scope>,
+    present: &PrefixBindings<'input>,
+    scope: u32,
+    own: usize,
+    xml: bool,
+) -> Result<u32, Failure>
+    requires places { ArePlaces (length names.now) listed.now }
+    requires scopes { AreScopes (length listed.now) scopes.old.items }
+    requires within { scope < length scopes.old.items }
+    requires own { own ≤ length listed.now }
+    requires once { PrefixesOnce (entries (map namespace_view names.now) (places_in listed.now scopes.old.items scope)) }
+    requires bound { IsBound (map namespace_view names.now) (bound_place present.now) (entries (map namespace_view names.now) (places_in listed.now scopes.old.items scope)) }
+    ensures value { IfOk result (λ s. IsListed (map namespace_view names.now) listed.now scopes.old.items listed.now scopes.new.items s
+        (others (entries (map namespace_view names.now) (drop own listed.now)) xml (entries (map namespace_view names.now) (places_in listed.now scopes.old.items scope)))) }
+    ensures err { IfErr result (λ e. e ≡ Failure.Memory) }
+{
+    let mut left = scope;
+    for turn in own..listed.len() {
+        let place = listed[turn];
+        let prefix = names[place as usize].name;
+        left = hide(names, listed, scopes, present, left, prefix)?;
+    }
+    if xml {
+        left = hide(names, listed, scopes, present, left, Some("xml"))?;
+    }
+    Ok(left)
+}
+
+/// The scope of an element whose own declarations are those from `own` on, and `xml` if the flag says so, below one of a scope
+/// that lists many, whose prefixes have their places.
+pub fn listed_below_many<'input>(
+    names: &[Namespace<'input>],
+    listed: &mut Vec<u16>,
+    scopes: &mut Vec<Scope>,
+    present: &PrefixBindings<'input>,
+    above: u32,
+    own: usize,
+    xml: bool,
+) -> Result<u32, Failure>
+    requires places { ArePlaces (length names.now) listed.old.items }
+    requires scopes { AreScopes (length listed.old.items) scopes.old.items }
+    requires above { above < length scopes.old.items }
+    requires own { own ≤ length listed.old.items }
+    requires once { PrefixesOnce (entries (map namespace_view names.now) (places_in listed.old.items scopes.old.items above)) }
+    requires bound { IsBound (map namespace_view names.now) (bound_place present.now) (entries (map namespace_view names.now) (places_in listed.old.items scopes.old.items above)) }
+    ensures value { IfOk result (λ s. IsListed (map namespace_view names.now) listed.old.items scopes.old.items listed.new.items scopes.new.items s
+        (entries (map namespace_view names.now) (drop own listed.old.items)
+        ++ others (entries (map namespace_view names.now) (drop own listed.old.items)) xml (entries (map namespace_view names.now) (places_in listed.old.items scopes.old.items above)))) }
+    ensures own { OnOk result (listed.new.items ≡ listed.old.items ++ reverse (drop own listed.old.items)) }
+    ensures err { IfErr result (λ e. e ≡ Failure.Memory) }
+{
+    let rest = hide_own(names, listed, scopes, present, above, own, xml)?;
+    let first = add_back(listed, scopes, own)?;
+    let place = both(scopes, first, rest)?;
+    Ok(place)
+}
+
+/// The scope of an element below one with the scope `above`, which is a stretch of few, as it is for `scope_of_tag`.
+fn scope_below_few<'input>(
+    elements: &mut ElementTables<'input>,
+    many: &BTreeSet<Option<&'input str>>,
+    above: u32,
+    stretch: Stretch,
+    own: usize,
+    xml: bool,
+) -> Result<u32, Failure>
+    requires places { ArePlaces (length elements.old.namespaces.items.items) elements.old.listed.items }
+    requires own { own ≤ length elements.old.listed.items }
+    requires many { IsPrefixSet (map namespace_view elements.old.namespaces.items.items) (drop own elements.old.listed.items) many.now.keys }
+    requires scopes { AreScopes own elements.old.scopes.items }
+    requires above { above < length elements.old.scopes.items }
+    requires few { Scope.Few stretch ≡ slice_index_or elements.old.scopes.items above (Scope.Few stretch) }
+    requires once { PrefixesOnce (scope_at (lists_in elements.old) above) }
+    requires own_once { PrefixesOnce (entries (map namespace_view elements.old.namespaces.items.items) (drop own elements.old.listed.items)) }
+    requires kept { HasBindings elements.old }
+    ensures names { elements.new.namespaces ≡ elements.old.namespaces }
+    ensures attributes { elements.new.attributes ≡ elements.old.attributes }
+    ensures value { IfOk result (λ s. HasScope elements.old elements.new above own xml s) }
+    ensures err { IfErr result (λ e. e ≡ Failure.Memory) }
+{
+    let scope = listed_below_few(
+        elements.namespaces.as_slice(),
+        &mut elements.listed,
+        &mut elements.scopes,
+        many,
+        stretch,
+        own,
+        xml,
+    )?;
+    if let Scope::Few(_) = elements.scopes[scope as usize] {
+        return Ok(scope);
+    }
+    elements.present.make_innermost(
+        elements.namespaces.as_slice(),
+        &elements.listed,
+        &elements.scopes,
+        scope,
+    )?;
+    Ok(scope)
+}
+
+/// The same where that scope lists many.
+fn scope_below_many<'input>(
+    elements: &mut ElementTables<'input>,
+    above: u32,
+    own: usize,
+    xml: bool,
+) -> Result<u32, Failure>
+    requires places { ArePlaces (length elements.old.namespaces.items.items) elements.old.listed.items }
+    requires own { own ≤ length elements.old.listed.items }
+    requires scopes { AreScopes own elements.old.scopes.items }
+    requires above { above < length elements.old.scopes.items }
+    requires once { PrefixesOnce (scope_at (lists_in elements.old) above) }
+    requires own_once { PrefixesOnce (entries (map namespace_view elements.old.namespaces.items.items) (drop own elements.old.listed.items)) }
+    requires kept { HasBindings elements.old }
+    ensures names { elements.new.namespaces ≡ elements.old.namespaces }
+    ensures attributes { elements.new.attributes ≡ elements.old.attributes }
+    ensures value { IfOk result (λ s. HasScope elements.old elements.new above own xml s) }
+    ensures err { IfErr result (λ e. e ≡ Failure.Memory) }
+{
+    elements.present.make_innermost(
+        elements.namespaces.as_slice(),
+        &elements.listed,
+        &elements.scopes,
+        above,
+    )?;
+    if own >= elements.listed.len() && !xml {
+        return Ok(above);
+    }
+    let from = elements.listed.len();
+    let scope = listed_below_many(
+        elements.namespaces.as_slice(),
+        &mut elements.listed,
+        &mut elements.scopes,
+        &elements.present,
+        above,
+        own,
+        xml,
+    )?;
+    elements.present.enter(
+        elements.namespaces.as_slice(),
+        &elements.listed,
+        from,
+        elements.listed.len(),
+        xml,
+        scope,
+    )?;
+    Ok(scope)
+}
+
+/// The same whatever that scope lists. It is called where a tag declares something or many are listed above it: what most tags
+/// do stays short without it.
+#[inline(never)]
+fn scope_below<'input>(
+    elements: &mut ElementTables<'input>,
+    many: &BTreeSet<Option<&'input str>>,
+    above: u32,
+    own: usize,
+    xml: bool,
+) -> Result<u32, Failure>
+    requires places { ArePlaces (length elements.old.namespaces.items.items) elements.old.listed.items }
+    requires own { own ≤ length elements.old.listed.items }
+    requires many { IsPrefixSet (map namespace_view elements.old.namespaces.items.items) (drop own elements.old.listed.items) many.now.keys }
+    requires scopes { AreScopes own elements.old.scopes.items }
+    requires above { above < length elements.old.scopes.items }
+    requires once { PrefixesOnce (scope_at (lists_in elements.old) above) }
+    requires own_once { PrefixesOnce (entries (map namespace_view elements.old.namespaces.items.items) (drop own elements.old.listed.items)) }
+    requires kept { HasBindings elements.old }
+    ensures names { elements.new.namespaces ≡ elements.old.namespaces }
+    ensures attributes { elements.new.attributes ≡ elements.old.attributes }
+    ensures value { IfOk result (λ s. HasScope elements.old elements.new above own xml s) }
+    ensures err { IfErr result (λ e. e ≡ Failure.Memory) }
+{
+    if let Scope::Few(stretch) = elements.scopes[above as usize] {
+        return scope_below_few(elements, many, above, stretch, own, xml);
+    }
+    scope_below_many(elements, above, own, xml)
+}
+
+/// The scope of an element whose own declarations are those behind `own`, and `xml` if the flag says so, below one of the scope
+/// `above`: one of its own, or its parent's where it declares nothing. The set has its prefixes where they are many. Where the
+/// scope lists many, it is the innermost of those whose prefixes have places.
+#[inline(always)]
+pub fn scope_of_tag<'input>(
+    elements: &mut ElementTables<'input>,
+    many: &BTreeSet<Option<&'input str>>,
+    above: u32,
+    own: usize,
+    xml: bool,
+) -> Result<u32, Failure>
+    requires places { ArePlaces (length elements.old.namespaces.items.items) elements.old.listed.items }
+    requires own { own ≤ length elements.old.listed.items }
+    requires many { IsPrefixSet (map namespace_view elements.old.namespaces.items.items) (drop own elements.old.listed.items) many.now.keys }
+    requires scopes { AreScopes own elements.old.scopes.items }
+    requires above { above < length elements.old.scopes.items }
+    requires once { PrefixesOnce (scope_at (lists_in elements.old) above) }
+    requires own_once { PrefixesOnce (entries (map namespace_view elements.old.namespaces.items.items) (drop own elements.old.listed.items)) }
+    requires kept { HasBindings elements.old }
+    ensures names { elements.new.namespaces ≡ elements.old.namespaces }
+    ensures attributes { elements.new.attributes ≡ elements.old.attributes }
+    ensures value { IfOk result (λ s. HasScope elements.old elements.new above own xml s) }
+    ensures err { IfErr result (λ e. e ≡ Failure.Memory) }
+{
+    if own >= elements.listed.len() && !xml {
+        if let Scope::Few(_) = elements.scopes[above as usize] {
+            return Ok(above);
+        }
+    }
+    scope_below(elements, many, above, own, xml)
+}

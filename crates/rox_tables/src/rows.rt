@@ -1,0 +1,8 @@
+//! The rows of a tree: those of its nodes and of their attributes, the texts that they hold, and how the tables of them grow.
+
+pub mod attributes;
+pub mod growth;
+pub mod node_rows;
+pub mod recent_texts;
+pub mod storage;
+pub mod tables;
