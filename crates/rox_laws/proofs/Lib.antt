@@ -1,7 +1,7 @@
 mod Apart
 mod Bounded
 mod CharNodes
-mod EachNode
+mod EachNodeLemmas
 mod Forward
 mod Nearest
 mod Nested
