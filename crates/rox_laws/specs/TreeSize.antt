@@ -33,11 +33,11 @@ all_attributes Nil = 0
 all_attributes (Cons node children rest) = attribute_count_of node + all_attributes children + all_attributes rest
 
 -- the bytes of the text, and for each `&` in it 256 times so many
-abbrev pub most_bytes : (text : List ℕ) (longest : ℕ) → ℕ
-most_bytes text longest = length text + 256 * count_by (λ b. b == 38) text * longest
+abbrev pub most_tree_bytes : (text : List ℕ) (longest : ℕ) → ℕ
+most_tree_bytes text longest = length text + 256 * count_by (λ b. b == 38) text * longest
 
 -- The values have at most these bytes, where `longest` is how many a replacement text has at most; nodes, the root node aside, and
 -- attributes together are no more than that.
 pub record IsTreeBounded (text : List ℕ) (longest : ℕ) (tree : Forest Node) : Type 0 where
-  pub bytes : all_bytes tree ≤ most_bytes text longest
-  pub nodes : size tree + all_attributes tree ≤ most_bytes text longest + 1
+  pub bytes : all_bytes tree ≤ most_tree_bytes text longest
+  pub nodes : size tree + all_attributes tree ≤ most_tree_bytes text longest + 1
