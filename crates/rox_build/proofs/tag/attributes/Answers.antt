@@ -30,7 +30,7 @@ returns-in_err-raw-clause-took c = λ es known before h declared o hold.
     let one : n ≡ suc (n - 1) = omega arith in
     rw (p.1, p.2) (going_fails (values_in es c.args.how) known before c.args.cut src _ n (n - 1) c.attributes.cursor.pos c.attributes.left _ _ _ _ c.in_err-raw.field-0.0 g one inside is)
 
-pub add_attribute-requires-clause-placed : goal.take-requires-clause-placed
+pub add_attribute-requires-clause-placed : goal.add_attribute-requires-clause-placed
 add_attribute-requires-clause-placed c =
     let src = c.args.cursor.now.text.now in
     let s = ap (λ t. t.now) c.attributes.invariant.source in
@@ -42,13 +42,13 @@ add_attribute-requires-clause-placed c =
     let l : length c.attributes.cursor.text.now ≡ length src = ap length s in
     omega arith
 
-pub add_attribute-requires-clause-end : goal.take-requires-clause-end
+pub add_attribute-requires-clause-end : goal.add_attribute-requires-clause-end
 add_attribute-requires-clause-end c =
     let is : tag_item_at c.attributes.cursor.text.now c.attributes.cursor.pos ≡ Ok (more (attribute_view c.in-More.raw), c.tag_item.new.self.pos) =
     c.in_ok-raw.ensures.value ∙ ap (λ (t : CodeTagItem). Ok (tag_item_view t, c.tag_item.new.self.pos)) c.in-More.is in
     (turn_gives c.attributes.cursor.text.now c.attributes.cursor.pos (attribute_view c.in-More.raw) c.tag_item.new.self.pos is).end
 
-pub add_attribute-requires-clause-scopes : goal.take-requires-clause-scopes
+pub add_attribute-requires-clause-scopes : goal.add_attribute-requires-clause-scopes
 add_attribute-requires-clause-scopes c = rw c.attributes.invariant.scopes c.requires.scopes
 
 pub returns-in_err-xml-in-More-clause-took : goal.returns-in_err-xml-in-More-clause-took
