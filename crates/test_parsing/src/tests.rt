@@ -2,14 +2,10 @@
 
 ghost use Rattle.std.specs.Prelude.{◌≡◌, Some};
 
-mod asking;
 mod generated;
 mod limits;
 mod messages;
-mod paths;
-mod resolvers;
 mod slices;
-mod tables;
 
 use roxmltree::{Document, Error, Node, NodeId, ParsingOptions};
 use std::fmt::{Debug, Display};

@@ -1,4 +1,5 @@
-//! What is searched for in texts, at each place of them, and the positions of places: worked answers. The crate holds tests alone.
+//! What is searched for in texts, at each place of them, the positions of places, and what tables do that no call shows: worked
+//! answers. The crate holds tests alone.
 #![tactic(auto)]
 
 #[cfg(test)]

@@ -1,7 +1,8 @@
-//! Searches and positions, in tables.
+//! Searches, positions and tables.
 
 mod positions;
 mod searches;
+mod tables;
 
 use roxmltree::{Document, Error, ParsingOptions};
 use std::fmt::{Debug, Display};

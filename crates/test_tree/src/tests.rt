@@ -5,6 +5,7 @@ mod calls;
 mod iterators;
 mod order;
 mod parsing;
+mod paths;
 mod printed;
 mod text;
 

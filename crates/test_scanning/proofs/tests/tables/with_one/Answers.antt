@@ -1,6 +1,6 @@
 use Rattle.std.proofs.Common.{◌+◌, ◌≤◌, arith}
 use Rattle.rox_tables.proofs.Ropes.{rows_push}
-use Rattle.test_parsing.proofs.tests.tables.with_one.Goals as goal
+use Rattle.test_scanning.proofs.tests.tables.with_one.Goals as goal
 
 pub both-requires-clause-rows : goal.both-requires-clause-rows
 both-requires-clause-rows c =
