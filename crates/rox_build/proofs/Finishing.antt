@@ -16,21 +16,21 @@ use Rattle.rox_build.specs.declared.builder.Builder.{Builder}
 use Rattle.rox_build.proofs.Showing.{rows_count, within_set, within_at, some_row, first_within}
 
 root_closed : (end : ℕ) (f : Forest Item) (n : ℕ) → n ≡ 0 + 1 + size f
-    → set (so_far end root f) 0 (record (root_line end) { next = n }) ≡ preorder_rows 0 0 0 (document_tree end f)
+    → set (so_far end root f) 0 (record (root_line end) { subtree_end = n }) ≡ preorder_rows 0 0 0 (document_tree end f)
 root_closed end f n h =
     let k : n ≡ 1 + size (resolved [] f) = h ∙ ap (λ (m : ℕ). 1 + m) (sym (size-resolved [] f)) in
-    ap (λ (m : ℕ). record (root_line end) { next = m } ∷ preorder_rows 0 1 1 (resolved [] f)) k
-    ∙ ap (λ xs. record (root_line end) { next = 1 + size (resolved [] f) } ∷ xs) (sym (append-nil (preorder_rows 0 1 1 (resolved [] f))))
+    ap (λ (m : ℕ). record (root_line end) { subtree_end = m } ∷ preorder_rows 0 1 1 (resolved [] f)) k
+    ∙ ap (λ xs. record (root_line end) { subtree_end = 1 + size (resolved [] f) } ∷ xs) (sym (append-nil (preorder_rows 0 1 1 (resolved [] f))))
 
 finish_with : (end : ℕ) (done : Forest Item) (b : Builder) (u : Tables) (d : NodeData) → RepresentsFlushed end root done b → AreSound b.tables → length b.nodes.items < 2 ^ 32
-    → u.nodes.items ≡ set b.nodes.items 0 (record (get_or b.nodes.items 0 d) { next = length b.nodes.items }) → u.attributes ≡ b.tables.attributes → u.namespaces ≡ b.tables.namespaces.items
+    → u.nodes.items ≡ set b.nodes.items 0 (record (get_or b.nodes.items 0 d) { subtree_end = length b.nodes.items }) → u.attributes ≡ b.tables.attributes → u.namespaces ≡ b.tables.namespaces.items
     → u.listed ≡ b.tables.listed → u.scopes ≡ b.tables.scopes → IsRowWithin b.tables d.kind → HoldsTree u (document_tree end (merge done))
 finish_with end done b u d h sound few change attributes namespaces listed scopes fine =
     let t = b.tables in
     let n = rows_count t end root (merge done) b.nodes.items h.rows in
     let found : line_in t (get_or b.nodes.items 0 d) ≡ root_line end = sym (get_or-map (line_in t) b.nodes.items 0 d) ∙ ap (λ xs. get_or xs 0 (line_in t d)) h.rows in
-    let new : NodeData = record (get_or b.nodes.items 0 d) { next = length b.nodes.items } in
-    let is_closed : line_in t new ≡ record (root_line end) { next = length b.nodes.items } = ap (λ (l : RowView). record l { next = length b.nodes.items }) found in
+    let new : NodeData = record (get_or b.nodes.items 0 d) { subtree_end = length b.nodes.items } in
+    let is_closed : line_in t new ≡ record (root_line end) { subtree_end = length b.nodes.items } = ap (λ (l : RowView). record l { subtree_end = length b.nodes.items }) found in
     let g = map-set (line_in t) b.nodes.items 0 new ∙ ap (λ xs. set xs 0 (line_in t new)) h.rows ∙ ap (λ y. set (so_far end root (merge done)) 0 y) is_closed
     ∙ root_closed end (merge done) (length b.nodes.items) n in
     let w = within_set t b.nodes.items 0 new h.within (within_at t b.nodes.items 0 d h.within fine) in
@@ -44,7 +44,7 @@ finish_with end done b u d h sound few change attributes namespaces listed scope
     record { rows = rw (change, attributes, namespaces, listed, scopes) g; sound = s; few = rw l few }
 
 pub finish_holds : (end : ℕ) (done : Forest Item) (b : Builder) (u : Tables) → RepresentsFlushed end root done b → AreSound b.tables → length b.nodes.items < 2 ^ 32
-    → ((d : NodeData) → u.nodes.items ≡ set b.nodes.items 0 (record (get_or b.nodes.items 0 d) { next = length b.nodes.items })) → u.attributes ≡ b.tables.attributes
+    → ((d : NodeData) → u.nodes.items ≡ set b.nodes.items 0 (record (get_or b.nodes.items 0 d) { subtree_end = length b.nodes.items })) → u.attributes ≡ b.tables.attributes
     → u.namespaces ≡ b.tables.namespaces.items → u.listed ≡ b.tables.listed → u.scopes ≡ b.tables.scopes → HoldsTree u (document_tree end (merge done))
 finish_holds end done b u h sound few change attributes namespaces listed scopes =
     let n = rows_count b.tables end root (merge done) b.nodes.items h.rows in

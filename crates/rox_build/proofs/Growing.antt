@@ -29,7 +29,7 @@ pub grown_counts : (old new : ElementTables) → Grown old new
     → (length (attribute_rows old.attributes) ≤ length (attribute_rows new.attributes)) × (length old.namespaces.items.items ≤ length new.namespaces.items.items) × (length old.scopes.items ≤ length new.scopes.items)
 grown_counts old new g =
     let a = ap length g.attributes ∙ length-append (attribute_rows old.attributes) g.more_attributes in
-    let n = ap length g.names ∙ length-append (names_in old) g.more_names in
+    let n = ap length g.namespaces ∙ length-append (names_in old) g.more_names in
     let l = ap length g.lists ∙ length-append (lists_in old) g.more_lists in
     let x = names_count old in let y = names_count new in
     let v = lists_count old in let w = lists_count new in
@@ -75,7 +75,7 @@ grown_shows end o done b u h sound elements g nodes opens waits joined =
     (all_weaker (IsOpenWithin t) (λ (o : OpenElement). o.scope < length t.scopes.items) b.opened.items (λ o x. x.0) elements) in
     let rows : map (line_in u.tables) b.nodes.items ≡ map (line_in t) b.nodes.items =
     ap (λ (xs : List AttributeRow). map (row_view xs (names_in u.tables) (lists_in u.tables)) b.nodes.items) g.attributes
-    ∙ ap (λ (ns : List NamespaceDecl). map (row_view ((attribute_rows t.attributes) ++ g.more_attributes) ns (lists_in u.tables)) b.nodes.items) g.names
+    ∙ ap (λ (ns : List NamespaceDecl). map (row_view ((attribute_rows t.attributes) ++ g.more_attributes) ns (lists_in u.tables)) b.nodes.items) g.namespaces
     ∙ ap (λ (ls : List (List NamespaceDecl)). map (row_view ((attribute_rows t.attributes) ++ g.more_attributes) (names_in t ++ g.more_names) ls) b.nodes.items) g.lists
     ∙ lines-append (attribute_rows t.attributes) g.more_attributes (names_in t) g.more_names (lists_in t) g.more_lists b.nodes.items all_attributes all_rows in
     let os : opened_in u.tables b.opened.items ≡ opened_in t b.opened.items =

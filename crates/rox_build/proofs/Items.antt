@@ -51,7 +51,7 @@ given_both allows a b h k = record { allowed = allowed_both allows a b h.allowed
 -- ---- the state at another place
 
 pub sees_at : (limit end : ℕ) (s : State) (c e : Cursor) (b : Builder) (j : ℕ) → IsInState limit end s c b → e.pos ≡ j → IsInState limit end (at_place j s) e b
-sees_at limit end s c e b j h is = record { here = is; limit_is = h.limit_is; shows = h.shows; names = h.names; attributes = h.attributes; left_is = h.left_is }
+sees_at limit end s c e b j h is = record { here = is; limit_is = h.limit_is; shows = h.shows; namespaces = h.namespaces; attributes = h.attributes; openings_left_is = h.openings_left_is }
 
 -- ---- what has no value of its own
 

@@ -83,19 +83,19 @@ counted_at : (b : Bool) (u : State) (f : Fault) (j : ℕ) → at_place j u ≡ u
 counted_at true u f j same = ap (λ (v : State). Ok v) same
 counted_at false u f j same = refl
 
-at_state : (how : Context) (src : List ℕ) (s : State) (j : ℕ) → how.values.main ≡ true → IsLine src s.at j
-    → data_parts how (length src) src s.at j s ≡ lifted (with_item how.limit s j (Text s.at j (slice_range src (s.at + 1) j) false))
+at_state : (context : Context) (src : List ℕ) (s : State) (j : ℕ) → context.values.main ≡ true → IsLine src s.at j
+    → data_parts context (length src) src s.at j s ≡ lifted (with_item context.limit s j (Text s.at j (slice_range src (s.at + 1) j) false))
 unfolding data_parts
-at_state how src s j main h =
+at_state context src s j main h =
     let some = h.some in
     let within = h.within in
     let len : length src ≡ suc (length src - 1) = omega arith in
-    let part : data_part how.values.main how.values.entities (j - s.at) src j s.at ≡ Ok (10 ∷ slice_range src (s.at + 1 + 1) j, at_end) = rw main (line_part how.values.entities src s.at j h) in
+    let part : data_part context.values.main context.values.entities (j - s.at) src j s.at ≡ Ok (10 ∷ slice_range src (s.at + 1 + 1) j, at_end) = rw main (line_part context.values.entities src s.at j h) in
     let text : slice_range src (s.at + 1) j ≡ 10 ∷ slice_range src (s.at + 1 + 1) j = one_more src (s.at + 1) j some within ∙ ap (λ b. b ∷ slice_range src (s.at + 1 + 1) j) h.feed in
     rw (len, part, text, main) (counted_at _ _ _ j refl)
 
-pub line_run : (how : Context) (src : List ℕ) (s : State) (i j : ℕ) → i ≡ s.at → how.values.main ≡ true → IsLine src i j
-    → data_parts how (length src) src i j s ≡ lifted (with_item how.limit s j (Text s.at j (slice_range src (i + 1) j) false))
-line_run how src s i j e main h =
-    subst (λ (n : ℕ). data_parts how (length src) src n j s ≡ lifted (with_item how.limit s j (Text s.at j (slice_range src (n + 1) j) false))) (sym e)
-    (at_state how src s j main (subst (λ (n : ℕ). IsLine src n j) e h))
+pub line_run : (context : Context) (src : List ℕ) (s : State) (i j : ℕ) → i ≡ s.at → context.values.main ≡ true → IsLine src i j
+    → data_parts context (length src) src i j s ≡ lifted (with_item context.limit s j (Text s.at j (slice_range src (i + 1) j) false))
+line_run context src s i j e main h =
+    subst (λ (n : ℕ). data_parts context (length src) src n j s ≡ lifted (with_item context.limit s j (Text s.at j (slice_range src (n + 1) j) false))) (sym e)
+    (at_state context src s j main (subst (λ (n : ℕ). IsLine src n j) e h))

@@ -22,49 +22,49 @@ use Rattle.rox_build.specs.declared.builder.Builder.{Builder}
 
 -- ---- content
 
-pub record Driving (how : Context) (end : ℕ) (src : List ℕ) (whole : Result State Refusal) (n : ℕ) (c : Cursor) (b : Builder) : Type 0 where
+pub record Driving (context : Context) (end : ℕ) (src : List ℕ) (whole : Result State Refusal) (n : ℕ) (c : Cursor) (b : Builder) : Type 0 where
   pub s : State
-  pub sees : IsInState how.limit end s c b
-  pub same : drive how n src s ≡ whole
+  pub sees : IsInState context.limit end s c b
+  pub same : drive context n src s ≡ whole
 
-driven : (how : Context) (n m : ℕ) (src : List ℕ) (s : State) → n ≡ suc m → is_root s.stack ≡ false → s.at < length src → drive how n src s ≡ (step how src s >>= λ t. drive how m src t)
+driven : (context : Context) (n m : ℕ) (src : List ℕ) (s : State) → n ≡ suc m → is_root s.stack ≡ false → s.at < length src → drive context n src s ≡ (step context src s >>= λ t. drive context m src t)
 unfolding drive
-driven how n m src s one inner inside = let k = lt-ltb _ _ inside in rw (one, inner, k) refl
+driven context n m src s one inner inside = let k = lt-ltb _ _ inside in rw (one, inner, k) refl
 
-pub drives_on : (how : Context) (end : ℕ) (src : List ℕ) (whole : Result State Refusal) (n m : ℕ) (c d : Cursor) (b u : Builder) (x : Unit {0}) (g : Driving how end src whole n c b) → n ≡ suc m → is_root g.s.stack ≡ false
-    → g.s.at < length src → ParsesTo how.limit end (Ok x) d u (step how src g.s) → Driving how end src whole m d u
-drives_on how end src whole n m c d b u x g one inner inside (t, read, sees) =
-    record { s = t; sees = sees; same = sym (driven how n m src g.s one inner inside ∙ rw read refl) ∙ g.same }
+pub drives_on : (context : Context) (end : ℕ) (src : List ℕ) (whole : Result State Refusal) (n m : ℕ) (c d : Cursor) (b u : Builder) (x : Unit {0}) (g : Driving context end src whole n c b) → n ≡ suc m → is_root g.s.stack ≡ false
+    → g.s.at < length src → ParsesTo context.limit end (Ok x) d u (step context src g.s) → Driving context end src whole m d u
+drives_on context end src whole n m c d b u x g one inner inside (t, read, sees) =
+    record { s = t; sees = sees; same = sym (driven context n m src g.s one inner inside ∙ rw read refl) ∙ g.same }
 
-pub drive_fails : (how : Context) (end : ℕ) (src : List ℕ) (whole : Result State Refusal) (n m : ℕ) (c : Cursor) (b : Builder) (e : ParseError) (g : Driving how end src whole n c b) → n ≡ suc m → is_root g.s.stack ≡ false
-    → g.s.at < length src → IsRefusal e (step how src g.s) → IsRefusal e whole
-drive_fails how end src whole n m c b e g one inner inside h =
-    refuses_by e (step how src g.s) whole (λ r err. sym g.same ∙ driven how n m src g.s one inner inside ∙ rw err refl) h
+pub drive_fails : (context : Context) (end : ℕ) (src : List ℕ) (whole : Result State Refusal) (n m : ℕ) (c : Cursor) (b : Builder) (e : ParseError) (g : Driving context end src whole n c b) → n ≡ suc m → is_root g.s.stack ≡ false
+    → g.s.at < length src → IsRefusal e (step context src g.s) → IsRefusal e whole
+drive_fails context end src whole n m c b e g one inner inside h =
+    refuses_by e (step context src g.s) whole (λ r err. sym g.same ∙ driven context n m src g.s one inner inside ∙ rw err refl) h
 
 -- the root element is closed
-pub drive_done : (how : Context) (end : ℕ) (src : List ℕ) (whole : Result State Refusal) (n : ℕ) (c : Cursor) (b : Builder) (g : Driving how end src whole n c b) → is_root g.s.stack ≡ true
-    → (s : State) × (whole ≡ Ok s) × IsInState how.limit end s c b
+pub drive_done : (context : Context) (end : ℕ) (src : List ℕ) (whole : Result State Refusal) (n : ℕ) (c : Cursor) (b : Builder) (g : Driving context end src whole n c b) → is_root g.s.stack ≡ true
+    → (s : State) × (whole ≡ Ok s) × IsInState context.limit end s c b
 unfolding drive
-drive_done how end src whole n c b g closed = (g.s, sym g.same ∙ stays n, g.sees)
+drive_done context end src whole n c b g closed = (g.s, sym g.same ∙ stays n, g.sees)
   where
-    stays : (n : ℕ) → drive how n src g.s ≡ Ok g.s
+    stays : (n : ℕ) → drive context n src g.s ≡ Ok g.s
     stays zero = rw closed refl
     stays (suc n) = rw closed refl
 
 -- the text ends within it
-pub drive_cut : (how : Context) (end : ℕ) (src : List ℕ) (whole : Result State Refusal) (n : ℕ) (c : Cursor) (b : Builder) (g : Driving how end src whole n c b) → is_root g.s.stack ≡ false
+pub drive_cut : (context : Context) (end : ℕ) (src : List ℕ) (whole : Result State Refusal) (n : ℕ) (c : Cursor) (b : Builder) (g : Driving context end src whole n c b) → is_root g.s.stack ≡ false
     → length src ≤ g.s.at → whole ≡ Err (here fault.UnclosedRootNode)
 unfolding drive
-drive_cut how end src whole n c b g inner past = sym g.same ∙ stops n
+drive_cut context end src whole n c b g inner past = sym g.same ∙ stops n
   where
-    stops : (n : ℕ) → drive how n src g.s ≡ Err (here fault.UnclosedRootNode)
+    stops : (n : ℕ) → drive context n src g.s ≡ Err (here fault.UnclosedRootNode)
     stops zero = rw inner refl
     stops (suc n) = let k = le-ltb _ _ past in rw (inner, k) refl
 
-pub drive_spent : (how : Context) (end : ℕ) (src : List ℕ) (whole : Result State Refusal) (n : ℕ) (c : Cursor) (b : Builder) (g : Driving how end src whole n c b) → is_root g.s.stack ≡ false
+pub drive_spent : (context : Context) (end : ℕ) (src : List ℕ) (whole : Result State Refusal) (n : ℕ) (c : Cursor) (b : Builder) (g : Driving context end src whole n c b) → is_root g.s.stack ≡ false
     → n ≡ 0 → whole ≡ Err (here fault.UnclosedRootNode)
 unfolding drive
-drive_spent how end src whole n c b g inner none = sym g.same ∙ rw (none, inner) refl
+drive_spent context end src whole n c b g inner none = sym g.same ∙ rw (none, inner) refl
 
 -- ---- comments, processing instructions and white space
 
@@ -75,11 +75,11 @@ pub record Going (limit end : ℕ) (src : List ℕ) (whole : Result State Refusa
 
 -- behind white space
 abbrev pub spaced : List ℕ → State → State
-spaced src s = record { at = spaces_end src s.at; done = s.done; stack = s.stack; left = s.left }
+spaced src s = record { at = spaces_end src s.at; done = s.done; stack = s.stack; openings_left = s.openings_left }
 
 pub sees_spaced : (limit end : ℕ) (src : List ℕ) (s : State) (c d : Cursor) (b : Builder) → IsInState limit end s c b → d.pos ≡ spaces_end src c.pos → IsInState limit end (spaced src s) d b
 sees_spaced limit end src s c d b h next =
-    record { here = next ∙ ap (spaces_end src) h.here; limit_is = h.limit_is; shows = h.shows; names = h.names; attributes = h.attributes; left_is = h.left_is }
+    record { here = next ∙ ap (spaces_end src) h.here; limit_is = h.limit_is; shows = h.shows; namespaces = h.namespaces; attributes = h.attributes; openings_left_is = h.openings_left_is }
 
 commented : (limit n m : ℕ) (src : List ℕ) (s : State) → n ≡ suc m → at word.CommentStart src (spaces_end src s.at) ≡ true
     → misc limit n src s ≡ (comment_step limit src (spaced src s) >>= λ u. misc limit m src u)

@@ -42,7 +42,7 @@ grown_by old new t above tag h =
       more_attributes = h.element.attributes.more;
       attributes = h.element.attributes.grown;
       more_names = w.0;
-      names = h.names ∙ w.1;
+      namespaces = h.namespaces ∙ w.1;
       more_lists = h.more;
       lists = h.lists_more;
     }
@@ -111,7 +111,7 @@ fine_opened t os qs x f is within =
 
 -- the counts after a tag
 pub names_by : (old new : ElementTables) (t : StartTag) (above : List NamespaceDecl) (tag : Tag) (ps : List NamespaceDecl) → Tagged old new t above tag → names_in old ≡ distinct_pairs ps → names_in new ≡ distinct_pairs (ps ++ listable tag)
-names_by old new t above tag ps h e = h.names ∙ ap (λ ds. with_new ds (listable tag)) e ∙ sym (with_new-append [] ps (listable tag))
+names_by old new t above tag ps h e = h.namespaces ∙ ap (λ ds. with_new ds (listable tag)) e ∙ sym (with_new-append [] ps (listable tag))
 
 pub attributes_by : (old new : ElementTables) (t : StartTag) (above : List NamespaceDecl) (tag : Tag) → Tagged old new t above tag → length (attribute_rows new.attributes) ≡ length (attribute_rows old.attributes) + length tag.attributes
 attributes_by old new t above tag h =
@@ -122,54 +122,54 @@ attributes_by old new t above tag h =
 
 -- ---- one start tag, read and kept
 
-pub tag_fails : (how : Context) (src : List ℕ) (s : State) (i : ℕ) (cut : Fault) (above : List NamespaceDecl) (count : ℕ) (known : List NamespaceDecl) (e : ParseError) → i ≡ s.at → cut ≡ cut_off_fault how.values.main s.stack → above ≡ scope_of s.stack
-    → count ≡ attributes_so_far s.stack s.done → known ≡ distinct_pairs (pairs_so_far s.stack s.done) → IsRefusal e (tag_at how.values cut above count known src i s.left) → IsRefusal e (tag_step how src s)
+pub tag_fails : (context : Context) (src : List ℕ) (s : State) (i : ℕ) (cut : Fault) (above : List NamespaceDecl) (count : ℕ) (known : List NamespaceDecl) (e : ParseError) → i ≡ s.at → cut ≡ cut_off_fault context.values.main s.stack → above ≡ scope_of s.stack
+    → count ≡ attributes_so_far s.stack s.done → known ≡ distinct_pairs (pairs_so_far s.stack s.done) → IsRefusal e (tag_at context.values cut above count known src i s.openings_left) → IsRefusal e (tag_step context src s)
 unfolding tag_step
-tag_fails how src s i cut above count known e here c a n k h =
-    refuses_by e (tag_at how.values cut above count known src i s.left) (tag_step how src s)
+tag_fails context src s i cut above count known e here c a n k h =
+    refuses_by e (tag_at context.values cut above count known src i s.openings_left) (tag_step context src s)
     (λ r err.
-    let t : tag_at how.values (cut_off_fault how.values.main s.stack) (scope_of s.stack) (attributes_so_far s.stack s.done) (distinct_pairs (pairs_so_far s.stack s.done)) src s.at s.left ≡ Err r = rw (← here, ← c, ← a, ← n, ← k) err in
+    let t : tag_at context.values (cut_off_fault context.values.main s.stack) (scope_of s.stack) (attributes_so_far s.stack s.done) (distinct_pairs (pairs_so_far s.stack s.done)) src s.at s.openings_left ≡ Err r = rw (← here, ← c, ← a, ← n, ← k) err in
     rw t refl)
     h
 
-pub tag_is : (how : Context) (src : List ℕ) (s : State) (i : ℕ) (cut : Fault) (above : List NamespaceDecl) (count : ℕ) (known : List NamespaceDecl) (tag : Tag) (empty : Bool) (left j : ℕ) → i ≡ s.at → cut ≡ cut_off_fault how.values.main s.stack
+pub tag_is : (context : Context) (src : List ℕ) (s : State) (i : ℕ) (cut : Fault) (above : List NamespaceDecl) (count : ℕ) (known : List NamespaceDecl) (tag : Tag) (empty : Bool) (openings_left j : ℕ) → i ≡ s.at → cut ≡ cut_off_fault context.values.main s.stack
     → above ≡ scope_of s.stack → count ≡ attributes_so_far s.stack s.done → known ≡ distinct_pairs (pairs_so_far s.stack s.done)
-    → tag_at how.values cut above count known src i s.left ≡ Ok (record { tag = tag; empty = empty; left = left }, j) → tag_step how src s ≡ lifted (opened_by how.limit s tag empty left j)
+    → tag_at context.values cut above count known src i s.openings_left ≡ Ok (record { tag = tag; empty = empty; openings_left = openings_left }, j) → tag_step context src s ≡ lifted (opened_by context.limit s tag empty openings_left j)
 unfolding tag_step
-tag_is how src s i cut above count known tag empty left j here c a n k h =
-    let t : tag_at how.values (cut_off_fault how.values.main s.stack) (scope_of s.stack) (attributes_so_far s.stack s.done) (distinct_pairs (pairs_so_far s.stack s.done)) src s.at s.left ≡ Ok (record { tag = tag; empty = empty; left = left }, j) =
+tag_is context src s i cut above count known tag empty openings_left j here c a n k h =
+    let t : tag_at context.values (cut_off_fault context.values.main s.stack) (scope_of s.stack) (attributes_so_far s.stack s.done) (distinct_pairs (pairs_so_far s.stack s.done)) src s.at s.openings_left ≡ Ok (record { tag = tag; empty = empty; openings_left = openings_left }, j) =
     rw (← here, ← c, ← a, ← n, ← k) h in
     rw t refl
 
 -- an element without content
-pub empty_stepped : (limit end left : ℕ) (s : State) (d : Cursor) (old new : ElementTables) (m : ℕ) (u : Builder) (r : Result (Unit {0}) Failure) (t : StartTag) (above : List NamespaceDecl) (tag : Tag)
+pub empty_stepped : (limit end openings_left : ℕ) (s : State) (d : Cursor) (old new : ElementTables) (m : ℕ) (u : Builder) (r : Result (Unit {0}) Failure) (t : StartTag) (above : List NamespaceDecl) (tag : Tag)
     → Tagged old new t above tag → names_in old ≡ distinct_pairs (pairs_so_far s.stack s.done) → length (attribute_rows old.attributes) ≡ attributes_so_far s.stack s.done → m ≡ limit
-    → u.left ≡ left → u.tables ≡ new → u.nodes_limit ≡ m → Adds end r u (opened_by m s tag true left d.pos) → ScansTo limit end r d u (lifted (opened_by limit s tag true left d.pos))
-empty_stepped limit end left s d old new m u r t above tag h names attributes limit_is left_is tables same adds =
+    → u.openings_left ≡ openings_left → u.tables ≡ new → u.nodes_limit ≡ m → Adds end r u (opened_by m s tag true openings_left d.pos) → ScansTo limit end r d u (lifted (opened_by limit s tag true openings_left d.pos))
+empty_stepped limit end openings_left s d old new m u r t above tag h namespaces attributes limit_is openings_left_is tables same adds =
     let i : Item = Element s.at d.pos tag in
-    let next : State = record { at = d.pos; done = join s.done (leaf i); stack = s.stack; left = left } in
+    let next : State = record { at = d.pos; done = join s.done (leaf i); stack = s.stack; openings_left = openings_left } in
     let a : Adds end r u (counted limit next) = subst (λ (n : ℕ). Adds end r u (counted n next)) limit_is adds in
     let p : pairs_so_far s.stack (join s.done (leaf i)) ≡ pairs_so_far s.stack s.done ++ listable tag = pairs_more s.stack s.done i Nil ∙ ap (λ xs. pairs_so_far s.stack s.done ++ xs) (nil_right (listable tag)) in
     let n = attributes_more s.stack s.done i Nil in
     let m = attributes_by old new t above tag h in
     let q : attributes_so_far s.stack (join s.done (leaf i)) ≡ length (attribute_rows new.attributes) = omega arith in
-    adds_stepped limit end next d u r a refl (same ∙ limit_is) (ap names_in tables ∙ names_by old new t above tag (pairs_so_far s.stack s.done) h names ∙ sym (ap distinct_pairs p)) (ap (λ (t : ElementTables). length (attribute_rows t.attributes)) tables ∙ sym q) left_is
+    adds_stepped limit end next d u r a refl (same ∙ limit_is) (ap names_in tables ∙ names_by old new t above tag (pairs_so_far s.stack s.done) h namespaces ∙ sym (ap distinct_pairs p)) (ap (λ (t : ElementTables). length (attribute_rows t.attributes)) tables ∙ sym q) openings_left_is
   where
     nil_right : {A : Type 0} (xs : List A) → xs ++ [] ≡ xs
     nil_right [] = refl
     nil_right (x ∷ xs) = ap (λ ys. x ∷ ys) (nil_right xs)
 
 -- one that opens
-pub open_stepped : (limit end left : ℕ) (s : State) (d : Cursor) (old new : ElementTables) (m : ℕ) (u : Builder) (r : Result (Unit {0}) Failure) (t : StartTag) (above : List NamespaceDecl) (tag : Tag)
+pub open_stepped : (limit end openings_left : ℕ) (s : State) (d : Cursor) (old new : ElementTables) (m : ℕ) (u : Builder) (r : Result (Unit {0}) Failure) (t : StartTag) (above : List NamespaceDecl) (tag : Tag)
     → Tagged old new t above tag → names_in old ≡ distinct_pairs (pairs_so_far s.stack s.done) → length (attribute_rows old.attributes) ≡ attributes_so_far s.stack s.done → m ≡ limit
-    → u.left ≡ left → u.tables ≡ new → u.nodes_limit ≡ m → Adds end r u (opened_by m s tag false left d.pos) → ScansTo limit end r d u (lifted (opened_by limit s tag false left d.pos))
-open_stepped limit end left s d old new m u r t above tag h names attributes limit_is left_is tables same adds =
-    let next : State = record { at = d.pos; done = Nil; stack = inside s.at tag s.done s.stack; left = left } in
+    → u.openings_left ≡ openings_left → u.tables ≡ new → u.nodes_limit ≡ m → Adds end r u (opened_by m s tag false openings_left d.pos) → ScansTo limit end r d u (lifted (opened_by limit s tag false openings_left d.pos))
+open_stepped limit end openings_left s d old new m u r t above tag h namespaces attributes limit_is openings_left_is tables same adds =
+    let next : State = record { at = d.pos; done = Nil; stack = inside s.at tag s.done s.stack; openings_left = openings_left } in
     let a : Adds end r u (counted limit next) = subst (λ (n : ℕ). Adds end r u (counted n next)) limit_is adds in
     let p : pairs_so_far s.stack s.done ++ (listable tag ++ []) ≡ pairs_so_far s.stack s.done ++ listable tag = ap (λ xs. pairs_so_far s.stack s.done ++ xs) (nil_right (listable tag)) in
     let m = attributes_by old new t above tag h in
     let q : attributes_so_far s.stack s.done + (length tag.attributes + 0) ≡ length (attribute_rows new.attributes) = omega arith in
-    adds_stepped limit end next d u r a refl (same ∙ limit_is) (ap names_in tables ∙ names_by old new t above tag (pairs_so_far s.stack s.done) h names ∙ sym (ap distinct_pairs p)) (ap (λ (t : ElementTables). length (attribute_rows t.attributes)) tables ∙ sym q) left_is
+    adds_stepped limit end next d u r a refl (same ∙ limit_is) (ap names_in tables ∙ names_by old new t above tag (pairs_so_far s.stack s.done) h namespaces ∙ sym (ap distinct_pairs p)) (ap (λ (t : ElementTables). length (attribute_rows t.attributes)) tables ∙ sym q) openings_left_is
   where
     nil_right : {A : Type 0} (xs : List A) → xs ++ [] ≡ xs
     nil_right [] = refl

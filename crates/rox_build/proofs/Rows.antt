@@ -19,7 +19,7 @@ preorder_rows-join p d at Nil g = let e : at + 0 ≡ at = omega arith in rw e re
 preorder_rows-join p d at (Cons n c f) g =
     let k : at + 1 + size c + size f ≡ at + (1 + size c + size f) = omega arith in
     let ih = rw k at (preorder_rows-join p d (at + 1 + size c) f g) in
-    ap (λ (xs : List RowView). record { parent = p; next = at + 1 + size c; depth = d; node = n } ∷ xs)
+    ap (λ (xs : List RowView). record { parent = p; subtree_end = at + 1 + size c; depth = d; node = n } ∷ xs)
     (ap (λ ys. preorder_rows at (d + 1) (at + 1) c ++ ys) ih
     ∙ sym (append_assoc (preorder_rows at (d + 1) (at + 1) c) (preorder_rows p d (at + 1 + size c) f) (preorder_rows p d (at + (1 + size c + size f)) g)))
 
@@ -73,8 +73,8 @@ so_far-open end up start tag before =
 
 -- the row of an element that ended at e
 abbrev pub closed_line : ℕ → ℕ → Tag → Open → ℕ → RowView
-closed_line start e tag up next =
-    record { parent = top up; next = next; depth = depth_of up + 1; node = node_in (listed (scope_of up) tag.declarations) (Element start e tag) }
+closed_line start e tag up subtree_end =
+    record { parent = top up; subtree_end = subtree_end; depth = depth_of up + 1; node = node_in (listed (scope_of up) tag.declarations) (Element start e tag) }
 
 -- an element that ends is written into its row
 pub so_far-closed : (end : ℕ) (up : Open) (start e : ℕ) (tag : Tag) (before front : Forest Item)
@@ -95,6 +95,6 @@ so_far-closed end up start e tag before front =
     ∙ ap (λ xs. rows_to end up ++ xs) (append_assoc below (open_line start tag up ∷ []) inner)
     ∙ sym (append_assoc (rows_to end up) below (open_line start tag up ∷ inner)) in
     so_far-join end up (merge before) (Cons (Element start e tag) front Nil)
-    ∙ ap (λ (n : ℕ). outer ++ record closed { next = at + 1 + n } ∷ (inner ++ [])) size_is
+    ∙ ap (λ (n : ℕ). outer ++ record closed { subtree_end = at + 1 + n } ∷ (inner ++ [])) size_is
     ∙ ap (λ xs. outer ++ closed ∷ xs) (append-nil inner)
     ∙ sym (ap (λ xs. set xs at closed) before_is ∙ set_at outer _ inner closed at long)

@@ -77,15 +77,15 @@ counted_err limit s h = let k = lt-leb (nodes_so_far s.stack s.done) limit h in 
 -- ---- one more row
 
 leaf_line : (p d at : ℕ) (scope : List NamespaceDecl) (i : Item)
-    → preorder_rows p d at (resolved scope (leaf i)) ≡ record { parent = p; next = at + 1; depth = d; node = node_in (scope_in scope i) i } ∷ []
+    → preorder_rows p d at (resolved scope (leaf i)) ≡ record { parent = p; subtree_end = at + 1; depth = d; node = node_in (scope_in scope i) i } ∷ []
 leaf_line p d at scope i = let e : at + 1 + 0 ≡ at + 1 = omega arith in rw e refl
 
 abbrev pub row_of : ElementTables → List NodeData → List OpenElement → ℕ → ℕ → NodeKind → NodeData
-row_of t rows os s e k = record { start = s; end = e; parent = last_row (opened_in t os); next = length rows + 1; depth = length os + 1; kind = k }
+row_of t rows os s e k = record { start = s; end = e; parent = last_row (opened_in t os); subtree_end = length rows + 1; depth = length os + 1; kind = k }
 
 -- the row of an element that opens
 abbrev pub row_open : ElementTables → ℕ → List OpenElement → ℕ → NodeKind → NodeData
-row_open t next os s k = record { start = s; end = 0; parent = last_row (opened_in t os); next = next; depth = length os + 1; kind = k }
+row_open t subtree_end os s k = record { start = s; end = 0; parent = last_row (opened_in t os); subtree_end = subtree_end; depth = length os + 1; kind = k }
 
 row_shows : (t : ElementTables) (end : ℕ) (o : Open) (front : Forest Item) (i : Item) (rows : List NodeData) (os : List OpenElement) (s e : ℕ) (k : NodeKind)
     → map (line_in t) rows ≡ so_far end o front → opened_in t os ≡ open_lines o
@@ -94,7 +94,7 @@ row_shows : (t : ElementTables) (end : ℕ) (o : Open) (front : Forest Item) (i 
 row_shows t end o front i rows os s e k h opens is =
     let n = rows_count t end o front rows h in
     let r = row_of t rows os s e k in
-    let row : line_in t r ≡ record { parent = top o; next = top o + 1 + size front + 1; depth = depth_of o + 1; node = node_in (scope_in (scope_of o) i) i } =
+    let row : line_in t r ≡ record { parent = top o; subtree_end = top o + 1 + size front + 1; depth = depth_of o + 1; node = node_in (scope_in (scope_of o) i) i } =
     rw (parent_is t o os opens, depth_is t o os opens, n, is) refl in
     map-append (line_in t) rows (r ∷ []) ∙ ap (λ xs. xs ++ line_in t r ∷ []) h ∙ ap (λ x. so_far end o front ++ x ∷ []) row
     ∙ ap (λ xs. so_far end o front ++ xs) (sym (leaf_line (top o) (depth_of o + 1) (top o + 1 + size front) (scope_of o) i)) ∙ sym (so_far-join end o front (leaf i))
@@ -262,13 +262,13 @@ with_end e (tree.Text s x v b) = tree.Text s e v b
 with_end e (tree.Comment s x t) = tree.Comment s e t
 with_end e (tree.PI s x t v) = tree.PI s e t v
 
-node_end : (as' : List AttributeRow) (names : List NamespaceDecl) (ls : List (List NamespaceDecl)) (s x e : ℕ) (k : NodeKind) → node as' names ls s e k ≡ with_end e (node as' names ls s x k)
+node_end : (as' : List AttributeRow) (namespaces : List NamespaceDecl) (ls : List (List NamespaceDecl)) (s x e : ℕ) (k : NodeKind) → node as' namespaces ls s e k ≡ with_end e (node as' namespaces ls s x k)
 unfolding with_end
-node_end as' names ls s x e kind.Root = refl
-node_end as' names ls s x e (kind.Element d) = refl
-node_end as' names ls s x e (kind.Text v) = refl
-node_end as' names ls s x e (kind.Comment t) = refl
-node_end as' names ls s x e (kind.PI p) = refl
+node_end as' namespaces ls s x e kind.Root = refl
+node_end as' namespaces ls s x e (kind.Element d) = refl
+node_end as' namespaces ls s x e (kind.Text v) = refl
+node_end as' namespaces ls s x e (kind.Comment t) = refl
+node_end as' namespaces ls s x e (kind.PI p) = refl
 
 so_far-inside : (end : ℕ) (up : Open) (start : ℕ) (tag : Tag) (before front : Forest Item)
     → so_far end (inside start tag before up) front
@@ -280,17 +280,17 @@ so_far-inside end up start tag before front =
     ∙ ap (λ xs. rows_to end up ++ xs) (append_assoc below (open_line start tag up ∷ []) inner)
     ∙ sym (append_assoc (rows_to end up) below (open_line start tag up ∷ inner))
 
-closed_is : (as' : List AttributeRow) (names : List NamespaceDecl) (ls : List (List NamespaceDecl)) (r : NodeData) (s e next : ℕ) (tag : Tag) (up : Open) → row_view as' names ls r ≡ open_line s tag up
-    → row_view as' names ls (record r { end = e; next = next }) ≡ closed_line s e tag up next
+closed_is : (as' : List AttributeRow) (namespaces : List NamespaceDecl) (ls : List (List NamespaceDecl)) (r : NodeData) (s e subtree_end : ℕ) (tag : Tag) (up : Open) → row_view as' namespaces ls r ≡ open_line s tag up
+    → row_view as' namespaces ls (record r { end = e; subtree_end = subtree_end }) ≡ closed_line s e tag up subtree_end
 unfolding with_end
-closed_is as' names ls r s e next tag up h =
-    let n : node as' names ls r.start e r.kind ≡ with_end e (node as' names ls r.start r.end r.kind) = node_end as' names ls r.start r.end e r.kind in
-    ap (λ (n : Node). let l : RowView = record { parent = r.parent; next = next; depth = r.depth; node = n } in l) n
-    ∙ ap (λ (l : RowView). record l { next = next; node = with_end e l.node }) h
+closed_is as' namespaces ls r s e subtree_end tag up h =
+    let n : node as' namespaces ls r.start e r.kind ≡ with_end e (node as' namespaces ls r.start r.end r.kind) = node_end as' namespaces ls r.start r.end e r.kind in
+    ap (λ (n : Node). let l : RowView = record { parent = r.parent; subtree_end = subtree_end; depth = r.depth; node = n } in l) n
+    ∙ ap (λ (l : RowView). record l { subtree_end = subtree_end; node = with_end e l.node }) h
 
 close_with : (end s e : ℕ) (t : Tag) (before : Forest Item) (up : Open) (done : Forest Item) (b u : Builder) (outer : List OpenElement) (x : OpenElement) (d : NodeData)
     → RepresentsFlushed end (inside s t before up) done b → b.opened.items ≡ outer ++ x ∷ [] → u.opened.items ≡ outer → u.tables ≡ b.tables → u.pending ≡ b.pending
-    → u.nodes.items ≡ set b.nodes.items x.row (record (get_or b.nodes.items x.row d) { end = e; next = length b.nodes.items }) → IsRowWithin b.tables d.kind
+    → u.nodes.items ≡ set b.nodes.items x.row (record (get_or b.nodes.items x.row d) { end = e; subtree_end = length b.nodes.items }) → IsRowWithin b.tables d.kind
     → Represents end up (join before (Cons (Element s e t) (merge done) Nil)) u
 close_with end s e t before up done b u outer x d h was opens tables same change fine =
     let tt' = b.tables in
@@ -304,12 +304,12 @@ close_with end s e t before up done b u outer x d h was opens tables same change
     let found : line_in tt' (get_or b.nodes.items k d) ≡ open_line s t up =
     sym (get_or-map (line_in tt') b.nodes.items k d) ∙ ap (λ xs. get_or xs k (line_in tt' d)) (h.rows ∙ so_far-inside end up s t before (merge done))
     ∙ get_or_at (so_far end up (merge before)) (open_line s t up) rest (line_in tt' d) k (length-so_far end up (merge before)) in
-    let new : NodeData = record (get_or b.nodes.items k d) { end = e; next = length b.nodes.items } in
+    let new : NodeData = record (get_or b.nodes.items k d) { end = e; subtree_end = length b.nodes.items } in
     let is_closed : line_in tt' new ≡ closed_line s e t up (k + 1 + size (merge done)) =
     closed_is (attribute_rows tt'.attributes) (names_in tt') (lists_in tt') (get_or b.nodes.items k d) s e (length b.nodes.items) t up found ∙ ap (closed_line s e t up) n in
     let one = Cons (Element s e t) (merge done) Nil in
     let z : u.pending ≡ pending.None = same ∙ h.empty in
-    let set_is : u.nodes.items ≡ set b.nodes.items k new = subst (λ (i : ℕ). u.nodes.items ≡ set b.nodes.items i (record (get_or b.nodes.items i d) { end = e; next = length b.nodes.items })) row change in
+    let set_is : u.nodes.items ≡ set b.nodes.items k new = subst (λ (i : ℕ). u.nodes.items ≡ set b.nodes.items i (record (get_or b.nodes.items i d) { end = e; subtree_end = length b.nodes.items })) row change in
     let g = map-set (line_in tt') b.nodes.items k new ∙ ap (λ xs. set xs k (line_in tt' new)) h.rows ∙ ap (λ y. set (so_far end (inside s t before up) (merge done)) k y) is_closed
     ∙ sym (so_far-closed end up s e t before (merge done)) in
     let w = within_set tt' b.nodes.items k new h.within (within_at tt' b.nodes.items k d h.within fine) in
@@ -324,7 +324,7 @@ close_with end s e t before up done b u outer x d h was opens tables same change
 
 pub close_shows : (end s e : ℕ) (t : Tag) (before : Forest Item) (up : Open) (done : Forest Item) (b u : Builder) (outer : List OpenElement) (x : OpenElement)
     → RepresentsFlushed end (inside s t before up) done b → b.opened.items ≡ outer ++ x ∷ [] → u.opened.items ≡ outer → u.tables ≡ b.tables → u.pending ≡ b.pending
-    → ((d : NodeData) → u.nodes.items ≡ set b.nodes.items x.row (record (get_or b.nodes.items x.row d) { end = e; next = length b.nodes.items }))
+    → ((d : NodeData) → u.nodes.items ≡ set b.nodes.items x.row (record (get_or b.nodes.items x.row d) { end = e; subtree_end = length b.nodes.items }))
     → Represents end up (join before (Cons (Element s e t) (merge done) Nil)) u
 close_shows end s e t before up done b u outer x h was opens tables same change =
     let n = rows_count b.tables end (inside s t before up) (merge done) b.nodes.items h.rows in

@@ -29,28 +29,28 @@ use Rattle.rox_tables.specs.TagScopes.{HasBindings, lists_in}
 use Rattle.rox_build.specs.ElementRow.{IsElement, Tagged, scope_in_tables}
 
 -- nothing is held before the first attribute
-pub holds_nothing : (names : List NamespaceDecl) (listed : List ℕ) (taken : List UnresolvedAttribute) → length names ≤ most_pairs → taken ≡ []
-    → HoldsTag names listed names listed false taken (record { own = []; attributes = [] })
-holds_nothing names listed taken few none = record {
+pub holds_nothing : (namespaces : List NamespaceDecl) (listed : List ℕ) (taken : List UnresolvedAttribute) → length namespaces ≤ most_pairs → taken ≡ []
+    → HoldsTag namespaces listed namespaces listed false taken (record { own = []; attributes = [] })
+holds_nothing namespaces listed taken few none = record {
   declares = record { names_are = refl; few = few; xml_is = refl; mine = []; listed_are = sym (append-nil listed); places = tt; same = refl };
   attributes = ap (map unresolved_view) none;
 }
 
-tag_rest : (how : Values) (cut : Fault) (above : List NamespaceDecl) (count : ℕ) (known : List NamespaceDecl) (src : List ℕ) (i left : ℕ) (name : Name) (n : ℕ) → qname_at src (i + 1) ≡ Ok (name, n)
+tag_rest : (context : Values) (cut : Fault) (above : List NamespaceDecl) (count : ℕ) (known : List NamespaceDecl) (src : List ℕ) (i openings_left : ℕ) (name : Name) (n : ℕ) → qname_at src (i + 1) ≡ Ok (name, n)
     → bytes_eq name.prefix (word_text Xmlns) ≡ false
-    → tag_at how cut above count known src i left
-    ≡ (attributes_at (length src) how cut known src n left (record { own = []; attributes = [] }) >>= λ x.
+    → tag_at context cut above count known src i openings_left
+    ≡ (attributes_at (length src) context cut known src n openings_left (record { own = []; attributes = [] }) >>= λ x.
     lifted (tag_tested (listed above x.0.held.own) count i name x.0.held.attributes) >>= λ _.
-    Ok (record { tag = record { name = name; name_end = n; declarations = x.0.held.own; attributes = x.0.held.attributes }; empty = x.0.empty; left = x.0.left }, x.1))
+    Ok (record { tag = record { name = name; name_end = n; declarations = x.0.held.own; attributes = x.0.held.attributes }; empty = x.0.empty; openings_left = x.0.openings_left }, x.1))
 unfolding tag_at
-tag_rest how cut above count known src i left name n is other = rw (is, other) refl
+tag_rest context cut above count known src i openings_left name n is other = rw (is, other) refl
 
 -- its attributes are refused
-pub tag_unread : (how : Values) (cut : Fault) (above : List NamespaceDecl) (count : ℕ) (known : List NamespaceDecl) (src : List ℕ) (i left : ℕ) (name : Name) (n : ℕ) (e : ParseError) → qname_at src (i + 1) ≡ Ok (name, n)
-    → bytes_eq name.prefix (word_text Xmlns) ≡ false → IsRefusal e (attributes_at (length src) how cut known src n left (record { own = []; attributes = [] })) → IsRefusal e (tag_at how cut above count known src i left)
-tag_unread how cut above count known src i left name n e is other h =
-    refuses_by e (attributes_at (length src) how cut known src n left (record { own = []; attributes = [] })) (tag_at how cut above count known src i left)
-    (λ r err. tag_rest how cut above count known src i left name n is other ∙ rw err refl) h
+pub tag_unread : (context : Values) (cut : Fault) (above : List NamespaceDecl) (count : ℕ) (known : List NamespaceDecl) (src : List ℕ) (i openings_left : ℕ) (name : Name) (n : ℕ) (e : ParseError) → qname_at src (i + 1) ≡ Ok (name, n)
+    → bytes_eq name.prefix (word_text Xmlns) ≡ false → IsRefusal e (attributes_at (length src) context cut known src n openings_left (record { own = []; attributes = [] })) → IsRefusal e (tag_at context cut above count known src i openings_left)
+tag_unread context cut above count known src i openings_left name n e is other h =
+    refuses_by e (attributes_at (length src) context cut known src n openings_left (record { own = []; attributes = [] })) (tag_at context cut above count known src i openings_left)
+    (λ r err. tag_rest context cut above count known src i openings_left name n is other ∙ rw err refl) h
 
 -- its names are tested where its own stands, right behind the `<`
 tested_is : (scope : List NamespaceDecl) (count i : ℕ) (name : Name) (as' : List Attribute) → tag_tested scope count i name as' ≡ tested_at scope count (i + 1) name as'
@@ -82,17 +82,17 @@ pub tested_known : (scope : List NamespaceDecl) (count at : ℕ) (name : Name) (
 tested_known scope count at name as' few fine known = tested_rest scope count at name as' few ∙ rw (fine, known) refl
 
 -- its names are refused
-pub tag_untested : (how : Values) (cut : Fault) (above : List NamespaceDecl) (count : ℕ) (known : List NamespaceDecl) (src : List ℕ) (i left : ℕ) (name : Name) (n j : ℕ) (h : TagSoFar) (empty : Bool) (l : ℕ) (e : Failure) → qname_at src (i + 1) ≡ Ok (name, n)
-    → bytes_eq name.prefix (word_text Xmlns) ≡ false → attributes_at (length src) how cut known src n left (record { own = []; attributes = [] }) ≡ Ok (record { held = h; empty = empty; left = l }, j)
-    → Fails e (tag_tested (listed above h.own) count i name h.attributes) → IsRefusal (of_failure e) (tag_at how cut above count known src i left)
-tag_untested how cut above count known src i left name n j h empty l failure.Memory is other read fails = tt
-tag_untested how cut above count known src i left name n j h empty l (failure.Fault f) is other read fails = tag_rest how cut above count known src i left name n is other ∙ rw (read, fails) refl
+pub tag_untested : (context : Values) (cut : Fault) (above : List NamespaceDecl) (count : ℕ) (known : List NamespaceDecl) (src : List ℕ) (i openings_left : ℕ) (name : Name) (n j : ℕ) (h : TagSoFar) (empty : Bool) (l : ℕ) (e : Failure) → qname_at src (i + 1) ≡ Ok (name, n)
+    → bytes_eq name.prefix (word_text Xmlns) ≡ false → attributes_at (length src) context cut known src n openings_left (record { own = []; attributes = [] }) ≡ Ok (record { held = h; empty = empty; openings_left = l }, j)
+    → Fails e (tag_tested (listed above h.own) count i name h.attributes) → IsRefusal (of_failure e) (tag_at context cut above count known src i openings_left)
+tag_untested context cut above count known src i openings_left name n j h empty l failure.Memory is other read fails = tt
+tag_untested context cut above count known src i openings_left name n j h empty l (failure.Fault f) is other read fails = tag_rest context cut above count known src i openings_left name n is other ∙ rw (read, fails) refl
 
-pub tag_made : (how : Values) (cut : Fault) (above : List NamespaceDecl) (count : ℕ) (known : List NamespaceDecl) (src : List ℕ) (i left : ℕ) (name : Name) (n j : ℕ) (h : TagSoFar) (empty : Bool) (l : ℕ) → qname_at src (i + 1) ≡ Ok (name, n)
-    → bytes_eq name.prefix (word_text Xmlns) ≡ false → attributes_at (length src) how cut known src n left (record { own = []; attributes = [] }) ≡ Ok (record { held = h; empty = empty; left = l }, j)
+pub tag_made : (context : Values) (cut : Fault) (above : List NamespaceDecl) (count : ℕ) (known : List NamespaceDecl) (src : List ℕ) (i openings_left : ℕ) (name : Name) (n j : ℕ) (h : TagSoFar) (empty : Bool) (l : ℕ) → qname_at src (i + 1) ≡ Ok (name, n)
+    → bytes_eq name.prefix (word_text Xmlns) ≡ false → attributes_at (length src) context cut known src n openings_left (record { own = []; attributes = [] }) ≡ Ok (record { held = h; empty = empty; openings_left = l }, j)
     → tag_tested (listed above h.own) count i name h.attributes ≡ Ok tt
-    → tag_at how cut above count known src i left ≡ Ok (record { tag = record { name = name; name_end = n; declarations = h.own; attributes = h.attributes }; empty = empty; left = l }, j)
-tag_made how cut above count known src i left name n j h empty l is other read fine = tag_rest how cut above count known src i left name n is other ∙ rw (read, fine) refl
+    → tag_at context cut above count known src i openings_left ≡ Ok (record { tag = record { name = name; name_end = n; declarations = h.own; attributes = h.attributes }; empty = empty; openings_left = l }, j)
+tag_made context cut above count known src i openings_left name n j h empty l is other read fine = tag_rest context cut above count known src i openings_left name n is other ∙ rw (read, fine) refl
 
 pub tagged : (o a s e : ElementTables) (t : StartTag) (above : List NamespaceDecl) (name : Name) (n : ℕ) (h : TagSoFar) (xml : Bool) (taken : List UnresolvedAttribute) (scope : ℕ)
     → name_view t.name ≡ name → t.name_end ≡ n → a.attributes ≡ o.attributes
@@ -101,23 +101,23 @@ pub tagged : (o a s e : ElementTables) (t : StartTag) (above : List NamespaceDec
     → AreScopes (length s.listed.items) s.scopes.items
     → scope_in_tables s scope ≡ listed above h.own → e.namespaces ≡ s.namespaces → e.listed ≡ s.listed → e.scopes ≡ s.scopes → IsElement s e t.element (scope_in_tables s scope) name (map unresolved_view taken)
     → HasBindings s → e.present ≡ s.present → PrefixesOnce (scope_in_tables s scope) → Tagged o e t above (record { name = name; name_end = n; declarations = h.own; attributes = h.attributes })
-tagged o a s e t above name n h xml taken scope is ends same hold few names attributes before (more, lists_are) places stretches lists names' listed' scopes' k known present' once =
+tagged o a s e t above name n h xml taken scope is ends same hold few namespaces attributes before (more, lists_are) places stretches lists namespaces' listed' scopes' k known present' once =
     let d = hold.declares in
     let kept = attributes ∙ same in
     let after : lists_in e ≡ lists_in s =
-    ap (λ v. lists_of (map namespace_view v.items.items) e.listed.items e.scopes.items) names'
+    ap (λ v. lists_of (map namespace_view v.items.items) e.listed.items e.scopes.items) namespaces'
     ∙ ap (λ v. lists_of (map namespace_view s.namespaces.items.items) v.items e.scopes.items) listed'
     ∙ ap (λ v. lists_of (map namespace_view s.namespaces.items.items) s.listed.items v.items) scopes' in
     record {
       name = is;
       name_end = ends;
-      names = ap (λ v. map namespace_view v.items.items) (names' ∙ names) ∙ d.names_are;
-      few = rw (ap (λ v. length v.items.items) (names' ∙ names)) few;
+      namespaces = ap (λ v. map namespace_view v.items.items) (namespaces' ∙ namespaces) ∙ d.names_are;
+      few = rw (ap (λ v. length v.items.items) (namespaces' ∙ namespaces)) few;
       more = more;
       lists_more = after ∙ lists_are ∙ ap (λ xs. xs ++ more) before;
-      places = rw (names', listed') places;
+      places = rw (namespaces', listed') places;
       scopes = rw (listed', scopes') stretches;
-      kept = rw (names', listed', scopes', present') known;
+      kept = rw (namespaces', listed', scopes', present') known;
       once = subst PrefixesOnce (sym k.lists) once;
       element = record {
         attributes = record {

@@ -57,22 +57,22 @@ counted_is limit t s h = by_cases (leb (nodes_so_far t.stack t.done) limit) refl
 
 -- what a builder adds is what is read
 pub adds_stepped : (limit end : ℕ) (t : State) (c : Cursor) (u : Builder) (r : Result (Unit {0}) Failure) → Adds end r u (counted limit t) → c.pos ≡ t.at → u.nodes_limit ≡ limit
-    → names_in u.tables ≡ distinct_pairs (pairs_so_far t.stack t.done) → length (attribute_rows u.tables.attributes) ≡ attributes_so_far t.stack t.done → u.left ≡ t.left
+    → names_in u.tables ≡ distinct_pairs (pairs_so_far t.stack t.done) → length (attribute_rows u.tables.attributes) ≡ attributes_so_far t.stack t.done → u.openings_left ≡ t.openings_left
     → ScansTo limit end r c u (lifted (counted limit t))
-adds_stepped limit end t c u (Ok x) (s, is, shows) here l names attributes left =
+adds_stepped limit end t c u (Ok x) (s, is, shows) here l namespaces attributes openings_left =
     let e = counted_is limit t s is in
-    (t, ap lifted (is ∙ ap (λ (s : State). Ok s) e), record { here = here; limit_is = l; shows = subst (λ (s : State). Represents end s.stack s.done u) e shows; names = names; attributes = attributes; left_is = left })
-adds_stepped limit end t c u (Err e) h here l names attributes left = refuses e (counted limit t) h
+    (t, ap lifted (is ∙ ap (λ (s : State). Ok s) e), record { here = here; limit_is = l; shows = subst (λ (s : State). Represents end s.stack s.done u) e shows; namespaces = namespaces; attributes = attributes; openings_left_is = openings_left })
+adds_stepped limit end t c u (Err e) h here l namespaces attributes openings_left = refuses e (counted limit t) h
 
 -- an item with nothing below it that declares nothing
 pub item_stepped : (limit end : ℕ) (s : State) (c d : Cursor) (b u : Builder) (r : Result (Unit {0}) Failure) (i : Item) → IsInState limit end s c b → own_pairs i ≡ [] → own_attributes i ≡ 0
-    → u.tables ≡ b.tables → u.nodes_limit ≡ b.nodes_limit → u.left ≡ b.left → Adds end r u (with_item b.nodes_limit s d.pos i) → ScansTo limit end r d u (lifted (with_item limit s d.pos i))
-item_stepped limit end s c d b u r i h no_pairs no_attributes tables same left adds =
-    let t : State = record { at = d.pos; done = join s.done (leaf i); stack = s.stack; left = s.left } in
+    → u.tables ≡ b.tables → u.nodes_limit ≡ b.nodes_limit → u.openings_left ≡ b.openings_left → Adds end r u (with_item b.nodes_limit s d.pos i) → ScansTo limit end r d u (lifted (with_item limit s d.pos i))
+item_stepped limit end s c d b u r i h no_pairs no_attributes tables same openings_left adds =
+    let t : State = record { at = d.pos; done = join s.done (leaf i); stack = s.stack; openings_left = s.openings_left } in
     let a : Adds end r u (counted limit t) = subst (λ (n : ℕ). Adds end r u (counted n t)) h.limit_is adds in
     let p : pairs_so_far s.stack (join s.done (leaf i)) ≡ pairs_so_far s.stack s.done = pairs_more s.stack s.done i Nil ∙ ap (λ (xs : List NamespaceDecl). pairs_so_far s.stack s.done ++ (xs ++ [])) no_pairs ∙ append-nil (pairs_so_far s.stack s.done) in
     let n : attributes_so_far s.stack (join s.done (leaf i)) ≡ attributes_so_far s.stack s.done = omega (arith, attributes_more s.stack s.done i Nil) in
-    adds_stepped limit end t d u r a refl (same ∙ h.limit_is) (rw (tables, p) h.names) (rw (tables, n) h.attributes) (left ∙ h.left_is)
+    adds_stepped limit end t d u r a refl (same ∙ h.limit_is) (rw (tables, p) h.namespaces) (rw (tables, n) h.attributes) (openings_left ∙ h.openings_left_is)
 
 -- ---- what one construct is read as
 
@@ -94,33 +94,33 @@ unfolding instruction_step
 instruction_fails limit src s i f e h = let k : instruction_at src s.at ≡ Err f = subst (λ (n : ℕ). instruction_at src n ≡ Err f) e h in rw k refl
 
 pub cdata_is : (limit : ℕ) (src : List ℕ) (s : State) (i j : ℕ) (raw : List ℕ) (t : ReadText) → i ≡ s.at → cdata_at src i ≡ Ok (raw, j) → section_text raw ≡ t
-    → cdata_step limit src s ≡ with_item limit s j (Text s.at j t.value t.plain)
+    → cdata_step limit src s ≡ with_item limit s j (Text s.at j t.value t.borrowed)
 unfolding cdata_step
 cdata_is limit src s i j raw t e h is =
     let k : cdata_at src s.at ≡ Ok (raw, j) = subst (λ (n : ℕ). cdata_at src n ≡ Ok (raw, j)) e h in
-    rw k (ap (λ (t : ReadText). with_item limit s j (Text s.at j t.value t.plain)) is)
+    rw k (ap (λ (t : ReadText). with_item limit s j (Text s.at j t.value t.borrowed)) is)
 
 pub cdata_fails : (limit : ℕ) (src : List ℕ) (s : State) (i : ℕ) (f : Fault) → i ≡ s.at → cdata_at src i ≡ Err f → cdata_step limit src s ≡ Err f
 unfolding cdata_step
 cdata_fails limit src s i f e h = let k : cdata_at src s.at ≡ Err f = subst (λ (n : ℕ). cdata_at src n ≡ Err f) e h in rw k refl
 
 -- a run that is a slice of the source
-pub plain_run : (how : Context) (src : List ℕ) (s : State) (i j : ℕ) (raw : List ℕ) → i ≡ s.at → raw_character_data_at src i ≡ Ok (raw, j) → is_verbatim raw ≡ true
-    → character_data_step how src s ≡ lifted (with_item how.limit s j (Text s.at j raw true))
+pub plain_run : (context : Context) (src : List ℕ) (s : State) (i j : ℕ) (raw : List ℕ) → i ≡ s.at → raw_character_data_at src i ≡ Ok (raw, j) → is_verbatim raw ≡ true
+    → character_data_step context src s ≡ lifted (with_item context.limit s j (Text s.at j raw true))
 unfolding character_data_step
-plain_run how src s i j raw e h plain = let k : raw_character_data_at src s.at ≡ Ok (raw, j) = subst (λ (n : ℕ). raw_character_data_at src n ≡ Ok (raw, j)) e h in rw (k, plain) refl
+plain_run context src s i j raw e h plain = let k : raw_character_data_at src s.at ≡ Ok (raw, j) = subst (λ (n : ℕ). raw_character_data_at src n ≡ Ok (raw, j)) e h in rw (k, plain) refl
 
 -- one that is read by parts
-pub parted_run : (how : Context) (src : List ℕ) (s : State) (i j : ℕ) (raw : List ℕ) → i ≡ s.at → raw_character_data_at src i ≡ Ok (raw, j) → is_verbatim raw ≡ false
-    → character_data_step how src s ≡ data_parts how (length src) src i j s
+pub parted_run : (context : Context) (src : List ℕ) (s : State) (i j : ℕ) (raw : List ℕ) → i ≡ s.at → raw_character_data_at src i ≡ Ok (raw, j) → is_verbatim raw ≡ false
+    → character_data_step context src s ≡ data_parts context (length src) src i j s
 unfolding character_data_step
-parted_run how src s i j raw e h other =
+parted_run context src s i j raw e h other =
     let k : raw_character_data_at src s.at ≡ Ok (raw, j) = subst (λ (n : ℕ). raw_character_data_at src n ≡ Ok (raw, j)) e h in
-    rw (k, other) (ap (λ (n : ℕ). data_parts how (length src) src n j s) (sym e))
+    rw (k, other) (ap (λ (n : ℕ). data_parts context (length src) src n j s) (sym e))
 
-pub run_fails : (how : Context) (src : List ℕ) (s : State) (i : ℕ) (f : Fault) → i ≡ s.at → raw_character_data_at src i ≡ Err f → character_data_step how src s ≡ Err (refusal.here f)
+pub run_fails : (context : Context) (src : List ℕ) (s : State) (i : ℕ) (f : Fault) → i ≡ s.at → raw_character_data_at src i ≡ Err f → character_data_step context src s ≡ Err (refusal.here f)
 unfolding character_data_step
-run_fails how src s i f e h = let k : raw_character_data_at src s.at ≡ Err f = subst (λ (n : ℕ). raw_character_data_at src n ≡ Err f) e h in rw k refl
+run_fails context src s i f e h = let k : raw_character_data_at src s.at ≡ Err f = subst (λ (n : ℕ). raw_character_data_at src n ≡ Err f) e h in rw k refl
 
 pub same_shows : (end : ℕ) (o : Open) (done : Forest Item) (b u : Builder) → Represents end o done b → u.nodes ≡ b.nodes → u.tables ≡ b.tables → u.opened ≡ b.opened → u.pending ≡ b.pending → u.joined ≡ b.joined
     → Represents end o done u
@@ -136,23 +136,23 @@ same_shows end o done b u h nodes tables opens waits joined =
 
 -- ---- end tags
 
-pub end_fails : (how : Context) (src : List ℕ) (s : State) (i : ℕ) (f : Fault) → i ≡ s.at → end_tag_at src i ≡ Err f → end_step how src s ≡ Err f
+pub end_fails : (context : Context) (src : List ℕ) (s : State) (i : ℕ) (f : Fault) → i ≡ s.at → end_tag_at src i ≡ Err f → end_step context src s ≡ Err f
 unfolding end_step
-end_fails how src s i f e h = let k : end_tag_at src s.at ≡ Err f = subst (λ (n : ℕ). end_tag_at src n ≡ Err f) e h in rw k refl
+end_fails context src s i f e h = let k : end_tag_at src s.at ≡ Err f = subst (λ (n : ℕ). end_tag_at src n ≡ Err f) e h in rw k refl
 
 -- it closes an element of its own text
-pub end_is : (how : Context) (src : List ℕ) (s : State) (i j : ℕ) (t : EndTag) → i ≡ s.at → end_tag_at src i ≡ Ok (t, j) → leb (depth_of s.stack) how.base ≡ false
-    → end_step how src s ≡ closed_by i t.name t.name_end j s.done s.stack s.left
+pub end_is : (context : Context) (src : List ℕ) (s : State) (i j : ℕ) (t : EndTag) → i ≡ s.at → end_tag_at src i ≡ Ok (t, j) → leb (depth_of s.stack) context.open_around ≡ false
+    → end_step context src s ≡ closed_by i t.name t.name_end j s.done s.stack s.openings_left
 unfolding end_step
-end_is how src s i j t e h within =
+end_is context src s i j t e h within =
     let k : end_tag_at src s.at ≡ Ok (t, j) = subst (λ (n : ℕ). end_tag_at src n ≡ Ok (t, j)) e h in
-    rw (k, within) (ap (λ (n : ℕ). closed_by n t.name t.name_end j s.done s.stack s.left) (sym e))
+    rw (k, within) (ap (λ (n : ℕ). closed_by n t.name t.name_end j s.done s.stack s.openings_left) (sym e))
 
 -- it would close one that was open before
-pub end_below : (how : Context) (src : List ℕ) (s : State) (i j : ℕ) (t : EndTag) → i ≡ s.at → end_tag_at src i ≡ Ok (t, j) → leb (depth_of s.stack) how.base ≡ true
-    → end_step how src s ≡ Err (fault.UnexpectedEntityCloseTag i)
+pub end_below : (context : Context) (src : List ℕ) (s : State) (i j : ℕ) (t : EndTag) → i ≡ s.at → end_tag_at src i ≡ Ok (t, j) → leb (depth_of s.stack) context.open_around ≡ true
+    → end_step context src s ≡ Err (fault.UnexpectedEntityCloseTag i)
 unfolding end_step
-end_below how src s i j t e h below =
+end_below context src s i j t e h below =
     let k : end_tag_at src s.at ≡ Ok (t, j) = subst (λ (n : ℕ). end_tag_at src n ≡ Ok (t, j)) e h in
     rw (k, below) (ap (λ (n : ℕ). Err (fault.UnexpectedEntityCloseTag n)) (sym e))
 
@@ -165,10 +165,10 @@ pub opened_deep : (end : ℕ) (o : Open) (done : Forest Item) (b : Builder) → 
 opened_deep end o done b h = sym (length-map b.opened.items (opened (lists_in b.tables))) ∙ ap length h.open_rows ∙ lines_deep o
 
 -- no element is open
-pub closed_at_root : (t : ElementTables) (o : Open) (i n j : ℕ) (name : Name) (done : Forest Item) (left : ℕ) → opened_in t [] ≡ open_lines o → closed_by i name n j done o left ≡ Err (fault.UnexpectedEntityCloseTag i)
+pub closed_at_root : (t : ElementTables) (o : Open) (i n j : ℕ) (name : Name) (done : Forest Item) (openings_left : ℕ) → opened_in t [] ≡ open_lines o → closed_by i name n j done o openings_left ≡ Err (fault.UnexpectedEntityCloseTag i)
 unfolding closed_by
-closed_at_root t root i n j name done left h = refl
-closed_at_root t (inside start tag before up) i n j name done left h = absurd (push_not_nil (open_lines up) _ (sym h))
+closed_at_root t root i n j name done openings_left h = refl
+closed_at_root t (inside start tag before up) i n j name done openings_left h = absurd (push_not_nil (open_lines up) _ (sym h))
   where
     push_not_nil : {A : Type 0} (xs : List A) (y : A) → xs ++ y ∷ [] ≡ [] → ⊥
     push_not_nil [] y h = cc h
@@ -184,12 +184,12 @@ outer_not_nil : (t : ElementTables) (outer : List OpenElement) (x : OpenElement)
 outer_not_nil t [] x h = cc h
 outer_not_nil t (y ∷ outer) x h = cc h
 
-pub closed_other : (t : ElementTables) (o : Open) (outer : List OpenElement) (x : OpenElement) (i n j : ℕ) (name : Name) (done : Forest Item) (left : ℕ) → opened_in t (outer ++ x ∷ []) ≡ open_lines o
+pub closed_other : (t : ElementTables) (o : Open) (outer : List OpenElement) (x : OpenElement) (i n j : ℕ) (name : Name) (done : Forest Item) (openings_left : ℕ) → opened_in t (outer ++ x ∷ []) ≡ open_lines o
     → same_qname (name_view x.name) name ≡ false
-    → closed_by i name n j done o left ≡ Err (fault.UnexpectedCloseTag (name_span (name_view x.name) x.name_start x.name_end) (name_span name (i + 2) n) i)
+    → closed_by i name n j done o openings_left ≡ Err (fault.UnexpectedCloseTag (name_span (name_view x.name) x.name_start x.name_end) (name_span name (i + 2) n) i)
 unfolding closed_by
-closed_other t root outer x i n j name done left h other = absurd (outer_not_nil t outer x h)
-closed_other t (inside start tag before up) outer x i n j name done left h other =
+closed_other t root outer x i n j name done openings_left h other = absurd (outer_not_nil t outer x h)
+closed_other t (inside start tag before up) outer x i n j name done openings_left h other =
     let v = top_view t start tag before up outer x h in
     let a : name_view x.name ≡ tag.name = ap (λ (l : OpenRow). l.name) v in
     let g : name_span (name_view x.name) x.name_start x.name_end ≡ name_span tag.name (start + 1) tag.name_end = ap (λ (l : OpenRow). name_span l.name l.name_start l.name_end) v in
@@ -197,13 +197,13 @@ closed_other t (inside start tag before up) outer x i n j name done left h other
     rw d (ap (λ (sp : Span). Err (fault.UnexpectedCloseTag sp (name_span name (i + 2) n) i)) (sym g))
 
 pub closed_stepped : (limit end : ℕ) (s : State) (c d : Cursor) (b u : Builder) (outer : List OpenElement) (x : OpenElement) (i n : ℕ) (name : Name) → IsInState limit end s c b → b.opened.items ≡ outer ++ x ∷ []
-    → same_qname (name_view x.name) name ≡ true → u.tables ≡ b.tables → u.nodes_limit ≡ b.nodes_limit → u.left ≡ b.left
+    → same_qname (name_view x.name) name ≡ true → u.tables ≡ b.tables → u.nodes_limit ≡ b.nodes_limit → u.openings_left ≡ b.openings_left
     → ((total start : ℕ) (t : Tag) (before : Forest Item) (up : Open) (done : Forest Item) → Represents total (inside start t before up) done b → Represents total up (join before (Cons (Element start d.pos t) (merge done) Nil)) u)
-    → (r : State) × (lifted (closed_by i name n d.pos s.done s.stack s.left) ≡ Ok r) × IsInState limit end r d u
+    → (r : State) × (lifted (closed_by i name n d.pos s.done s.stack s.openings_left) ≡ Ok r) × IsInState limit end r d u
 unfolding closed_by
-closed_stepped limit end s c d b u outer x i n name h os same tables limits left close = by_stack s.stack refl
+closed_stepped limit end s c d b u outer x i n name h os same tables limits openings_left close = by_stack s.stack refl
   where
-    by_stack : (o : Open) → o ≡ s.stack → (r : State) × (lifted (closed_by i name n d.pos s.done o s.left) ≡ Ok r) × IsInState limit end r d u
+    by_stack : (o : Open) → o ≡ s.stack → (r : State) × (lifted (closed_by i name n d.pos s.done o s.openings_left) ≡ Ok r) × IsInState limit end r d u
     by_stack root e = absurd (outer_not_nil b.tables outer x (sym (ap (opened_in b.tables) os) ∙ h.shows.open_rows ∙ ap open_lines (sym e)))
     by_stack (inside start tag before up) e =
         let v = top_view b.tables start tag before up outer x (sym (ap (opened_in b.tables) os) ∙ h.shows.open_rows ∙ ap open_lines (sym e)) in
@@ -217,21 +217,21 @@ closed_stepped limit end s c d b u outer x i n name h os same tables limits left
         let q2 = attribute_count-merge s.done in
         let q3 : attributes_so_far (inside start tag before up) s.done ≡ attributes_so_far s.stack s.done = ap (λ (o : Open). attributes_so_far o s.done) e in
         let m : attributes_so_far up done ≡ attributes_so_far s.stack s.done = omega arith in (
-          record { at = d.pos; done = done; stack = up; left = s.left },
+          record { at = d.pos; done = done; stack = up; openings_left = s.openings_left },
           rw k refl,
-          record { here = refl; limit_is = limits ∙ h.limit_is; shows = sh; names = rw (tables, p) h.names; attributes = rw (tables, m) h.attributes; left_is = left ∙ h.left_is },
+          record { here = refl; limit_is = limits ∙ h.limit_is; shows = sh; namespaces = rw (tables, p) h.namespaces; attributes = rw (tables, m) h.attributes; openings_left_is = openings_left ∙ h.openings_left_is },
         )
 
 abbrev pub text_or : Result ReadText Fault → ReadText
 text_or (Ok t) = t
-text_or (Err f) = record { value = []; plain = true }
+text_or (Err f) = record { value = []; borrowed = true }
 
 pub text_stepped : (limit end : ℕ) (s : State) (c d : Cursor) (b u : Builder) (r : Result (Unit {0}) Failure) (t : ReadText) → IsInState limit end s c b
-    → u.tables ≡ b.tables → u.nodes_limit ≡ b.nodes_limit → u.left ≡ b.left → Adds end r u (with_item b.nodes_limit s d.pos (Text c.pos d.pos t.value t.plain))
-    → ScansTo limit end r d u (lifted (with_item limit s d.pos (Text s.at d.pos t.value t.plain)))
-text_stepped limit end s c d b u r t h tables limits left adds =
-    subst (λ (n : ℕ). ScansTo limit end r d u (lifted (with_item limit s d.pos (Text n d.pos t.value t.plain)))) h.here
-    (item_stepped limit end s c d b u r (Text c.pos d.pos t.value t.plain) h refl refl tables limits left adds)
+    → u.tables ≡ b.tables → u.nodes_limit ≡ b.nodes_limit → u.openings_left ≡ b.openings_left → Adds end r u (with_item b.nodes_limit s d.pos (Text c.pos d.pos t.value t.borrowed))
+    → ScansTo limit end r d u (lifted (with_item limit s d.pos (Text s.at d.pos t.value t.borrowed)))
+text_stepped limit end s c d b u r t h tables limits openings_left adds =
+    subst (λ (n : ℕ). ScansTo limit end r d u (lifted (with_item limit s d.pos (Text n d.pos t.value t.borrowed)))) h.here
+    (item_stepped limit end s c d b u r (Text c.pos d.pos t.value t.borrowed) h refl refl tables limits openings_left adds)
 
 -- ---- what the innermost open element lists
 
@@ -250,18 +250,18 @@ no_scope t (inside start tag before up) h = absurd (push_not_nil (open_lines up)
 
 -- ---- which construct a step is
 
-pub step_is_run : (how : Context) (src xs : List ℕ) (s : State) (i : ℕ) → xs ≡ src → i ≡ s.at → (slice_index xs i ≡ 60 → ⊥) → step how src s ≡ character_data_step how src s
+pub step_is_run : (context : Context) (src xs : List ℕ) (s : State) (i : ℕ) → xs ≡ src → i ≡ s.at → (slice_index xs i ≡ 60 → ⊥) → step context src s ≡ character_data_step context src s
 unfolding step
-step_is_run how src xs s i same e other =
+step_is_run context src xs s i same e other =
     let x : slice_index xs i ≡ slice_index src s.at = ap (λ (ys : List ℕ). slice_index ys i) same ∙ ap (slice_index src) e in
     let k : eqb (slice_index src s.at) 60 ≡ false = subst (λ (n : ℕ). eqb n 60 ≡ false) x (ne_eqb (slice_index xs i) 60 other) in
     rw k refl
 
 -- `<` with a byte behind it that is no `!`
-pub step_is_markup : (how : Context) (src xs : List ℕ) (s : State) (i b : ℕ) → xs ≡ src → i ≡ s.at → slice_index xs i ≡ 60 → i + 1 < length xs → slice_index xs (i + 1) ≡ b → (b ≡ 33 → ⊥)
-    → step how src s ≡ (if eqb b 63 then lifted (instruction_step how.limit src s) else if eqb b 47 then lifted (end_step how src s) else tag_step how src s)
+pub step_is_markup : (context : Context) (src xs : List ℕ) (s : State) (i b : ℕ) → xs ≡ src → i ≡ s.at → slice_index xs i ≡ 60 → i + 1 < length xs → slice_index xs (i + 1) ≡ b → (b ≡ 33 → ⊥)
+    → step context src s ≡ (if eqb b 63 then lifted (instruction_step context.limit src s) else if eqb b 47 then lifted (end_step context src s) else tag_step context src s)
 unfolding step
-step_is_markup how src xs s i b same e here more next other =
+step_is_markup context src xs s i b same e here more next other =
     let x : slice_index src s.at ≡ 60 = sym (ap (λ (ys : List ℕ). slice_index ys i) same ∙ ap (slice_index src) e) ∙ here in
     let y : slice_index src (s.at + 1) ≡ b = sym (ap (λ (ys : List ℕ). slice_index ys (i + 1)) same ∙ ap (λ (n : ℕ). slice_index src (n + 1)) e) ∙ next in
     let z : s.at + 1 < length src = subst (λ (n : ℕ). n + 1 < length src) e (subst (λ (ys : List ℕ). i + 1 < length ys) same more) in

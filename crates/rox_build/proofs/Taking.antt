@@ -26,51 +26,51 @@ use Rattle.rox_build.specs.TagState.{HoldsTag, AddsAttribute, one_more}
 
 -- an attribute with its value is the one that the code makes of it
 pub view_is : (raw : CodeRaw) (v : ReadText) (t : UnresolvedAttribute) → t.start ≡ raw.start → t.name_end ≡ raw.name_end → t.value_start ≡ raw.value_start → t.end ≡ raw.value_end + 1
-    → t.name ≡ raw.name → storage_bytes t.value ≡ v.value → is_borrowed t.value ≡ v.plain → attribute_with (attribute_view raw) v ≡ unresolved_view t
+    → t.name ≡ raw.name → storage_bytes t.value ≡ v.value → is_borrowed t.value ≡ v.borrowed → attribute_with (attribute_view raw) v ≡ unresolved_view t
 view_is raw v t a b c d e f g = rw (a, b, c, d, e, f, g) refl
 
 -- what is read of one attribute, where so many may be opened behind it
 abbrev kept_left : ℕ → Result TagSoFar Fault → Result (TagSoFar × ℕ) Refusal
-kept_left left r = lifted r >>= λ held. Ok (held, left)
+kept_left openings_left r = lifted r >>= λ held. Ok (held, openings_left)
 
-one_is : (how : Values) (known : List NamespaceDecl) (src : List ℕ) (raw : RawAttribute) (left l : ℕ) (h : TagSoFar) (v : ReadText) (a : Attribute)
-    → value_at how.main how.entities how.opener src raw.value_start raw.value_end left ≡ Ok (v, l) → attribute_with raw v ≡ a
-    → one_more how known src raw left h ≡ kept_left l (tags.taken known a h)
-one_is how known src raw left l h v a is view =
+one_is : (context : Values) (known : List NamespaceDecl) (src : List ℕ) (raw : RawAttribute) (openings_left l : ℕ) (h : TagSoFar) (v : ReadText) (a : Attribute)
+    → value_at context.main context.entities context.opener src raw.value_start raw.value_end openings_left ≡ Ok (v, l) → attribute_with raw v ≡ a
+    → one_more context known src raw openings_left h ≡ kept_left l (tags.taken known a h)
+one_is context known src raw openings_left l h v a is view =
     ap (λ (r : Result (ReadText × ℕ) Refusal). r >>= λ v. lifted (tags.taken known (attribute_with raw v.0) h) >>= λ held. Ok (held, v.1)) is ∙ ap (λ (a : Attribute). kept_left l (tags.taken known a h)) view
 
-stops_left : (left : ℕ) (e : Failure) (r : Result TagSoFar Fault) → Fails e r → IsRefusal (of_failure e) (kept_left left r)
-stops_left left failure.Memory r h = tt
-stops_left left (failure.Fault f) r h = ap (kept_left left) h
+stops_left : (openings_left : ℕ) (e : Failure) (r : Result TagSoFar Fault) → Fails e r → IsRefusal (of_failure e) (kept_left openings_left r)
+stops_left openings_left failure.Memory r h = tt
+stops_left openings_left (failure.Fault f) r h = ap (kept_left openings_left) h
 
-pub took_declaration : (how : Values) (known : List NamespaceDecl) (before : List ℕ) (names : List NamespaceDecl) (listed : List ℕ) (xml : Bool) (taken : List UnresolvedAttribute) (src : List ℕ) (raw : RawAttribute) (left l : ℕ) (h : TagSoFar)
-    (v : ReadText) (a : Attribute) → value_at how.main how.entities how.opener src raw.value_start raw.value_end left ≡ Ok (v, l) → attribute_with raw v ≡ a → is_namespace_decl a.name ≡ true → map unresolved_view taken ≡ h.attributes
-    → Declared known before names listed (Ok xml) h (declared known a h) → AddsAttribute known before names listed taken (Ok (xml, l)) (one_more how known src raw left h)
-took_declaration how known before names listed xml taken src raw left l h v a is view dec same (own, read, d) =
-    (record { own = own; attributes = h.attributes }, one_is how known src raw left l h v a is view ∙ rw dec (ap (kept_left l) read), record { declares = d; attributes = same })
+pub took_declaration : (context : Values) (known : List NamespaceDecl) (before : List ℕ) (namespaces : List NamespaceDecl) (listed : List ℕ) (xml : Bool) (taken : List UnresolvedAttribute) (src : List ℕ) (raw : RawAttribute) (openings_left l : ℕ) (h : TagSoFar)
+    (v : ReadText) (a : Attribute) → value_at context.main context.entities context.opener src raw.value_start raw.value_end openings_left ≡ Ok (v, l) → attribute_with raw v ≡ a → is_namespace_decl a.name ≡ true → map unresolved_view taken ≡ h.attributes
+    → Declared known before namespaces listed (Ok xml) h (declared known a h) → AddsAttribute known before namespaces listed taken (Ok (xml, l)) (one_more context known src raw openings_left h)
+took_declaration context known before namespaces listed xml taken src raw openings_left l h v a is view dec same (own, read, d) =
+    (record { own = own; attributes = h.attributes }, one_is context known src raw openings_left l h v a is view ∙ rw dec (ap (kept_left l) read), record { declares = d; attributes = same })
 
-pub refused_declaration : (how : Values) (known : List NamespaceDecl) (src : List ℕ) (raw : RawAttribute) (left l : ℕ) (h : TagSoFar) (v : ReadText) (a : Attribute) (e : Failure)
-    → value_at how.main how.entities how.opener src raw.value_start raw.value_end left ≡ Ok (v, l) → attribute_with raw v ≡ a → is_namespace_decl a.name ≡ true
-    → Fails e (declared known a h) → IsRefusal (of_failure e) (one_more how known src raw left h)
-refused_declaration how known src raw left l h v a e is view dec fails =
-    let k : kept_left l (declared known a h) ≡ one_more how known src raw left h = sym (one_is how known src raw left l h v a is view ∙ rw dec refl) in
+pub refused_declaration : (context : Values) (known : List NamespaceDecl) (src : List ℕ) (raw : RawAttribute) (openings_left l : ℕ) (h : TagSoFar) (v : ReadText) (a : Attribute) (e : Failure)
+    → value_at context.main context.entities context.opener src raw.value_start raw.value_end openings_left ≡ Ok (v, l) → attribute_with raw v ≡ a → is_namespace_decl a.name ≡ true
+    → Fails e (declared known a h) → IsRefusal (of_failure e) (one_more context known src raw openings_left h)
+refused_declaration context known src raw openings_left l h v a e is view dec fails =
+    let k : kept_left l (declared known a h) ≡ one_more context known src raw openings_left h = sym (one_is context known src raw openings_left l h v a is view ∙ rw dec refl) in
     subst (λ (r : Result (TagSoFar × ℕ) Refusal). IsRefusal (of_failure e) r) k (stops_left l e (declared known a h) fails)
 
 -- its value is refused
-pub refused_value : (how : Values) (known : List NamespaceDecl) (src : List ℕ) (raw : RawAttribute) (left : ℕ) (h : TagSoFar) (e : ParseError)
-    → IsRefusal e (value_at how.main how.entities how.opener src raw.value_start raw.value_end left) → IsRefusal e (one_more how known src raw left h)
-refused_value how known src raw left h e fails = refuses_by e (value_at how.main how.entities how.opener src raw.value_start raw.value_end left) (one_more how known src raw left h) (λ r is. rw is refl) fails
+pub refused_value : (context : Values) (known : List NamespaceDecl) (src : List ℕ) (raw : RawAttribute) (openings_left : ℕ) (h : TagSoFar) (e : ParseError)
+    → IsRefusal e (value_at context.main context.entities context.opener src raw.value_start raw.value_end openings_left) → IsRefusal e (one_more context known src raw openings_left h)
+refused_value context known src raw openings_left h e fails = refuses_by e (value_at context.main context.entities context.opener src raw.value_start raw.value_end openings_left) (one_more context known src raw openings_left h) (λ r is. rw is refl) fails
 
-pub took_attribute : (how : Values) (known : List NamespaceDecl) (before : List ℕ) (names : List NamespaceDecl) (listed : List ℕ) (xml : Bool) (taken kept : List UnresolvedAttribute) (src : List ℕ) (raw : CodeRaw) (left l : ℕ) (h : TagSoFar)
-    (v : ReadText) (t : UnresolvedAttribute) → kept ≡ taken ++ t ∷ [] → value_at how.main how.entities how.opener src raw.value_start raw.value_end left ≡ Ok (v, l) → t.start ≡ raw.start → t.name_end ≡ raw.name_end → t.value_start ≡ raw.value_start
-    → t.end ≡ raw.value_end + 1 → t.name ≡ raw.name → storage_bytes t.value ≡ v.value → is_borrowed t.value ≡ v.plain → is_namespace_decl (name_view raw.name) ≡ false
-    → HoldsTag known before names listed xml taken h
-    → (x : TagSoFar) × (one_more how known src (attribute_view raw) left h ≡ Ok (x, l)) × HoldsTag known before names listed xml kept x
-took_attribute how known before names listed xml taken kept src raw left l h v t push is a b d e n f g dec hold =
+pub took_attribute : (context : Values) (known : List NamespaceDecl) (before : List ℕ) (namespaces : List NamespaceDecl) (listed : List ℕ) (xml : Bool) (taken kept : List UnresolvedAttribute) (src : List ℕ) (raw : CodeRaw) (openings_left l : ℕ) (h : TagSoFar)
+    (v : ReadText) (t : UnresolvedAttribute) → kept ≡ taken ++ t ∷ [] → value_at context.main context.entities context.opener src raw.value_start raw.value_end openings_left ≡ Ok (v, l) → t.start ≡ raw.start → t.name_end ≡ raw.name_end → t.value_start ≡ raw.value_start
+    → t.end ≡ raw.value_end + 1 → t.name ≡ raw.name → storage_bytes t.value ≡ v.value → is_borrowed t.value ≡ v.borrowed → is_namespace_decl (name_view raw.name) ≡ false
+    → HoldsTag known before namespaces listed xml taken h
+    → (x : TagSoFar) × (one_more context known src (attribute_view raw) openings_left h ≡ Ok (x, l)) × HoldsTag known before namespaces listed xml kept x
+took_attribute context known before namespaces listed xml taken kept src raw openings_left l h v t push is a b d e n f g dec hold =
     let view = view_is raw v t a b d e n f g in
     let other : is_namespace_decl (unresolved_view t).name ≡ false = ap (λ n. is_namespace_decl (name_view n)) n ∙ dec in (
       record { own = h.own; attributes = h.attributes ++ unresolved_view t ∷ [] },
-      one_is how known src (attribute_view raw) left l h v (unresolved_view t) is view ∙ rw other refl,
+      one_is context known src (attribute_view raw) openings_left l h v (unresolved_view t) is view ∙ rw other refl,
       record { declares = hold.declares; attributes = ap (map unresolved_view) push ∙ map-append unresolved_view taken (t ∷ []) ∙ ap (λ xs. xs ++ unresolved_view t ∷ []) hold.attributes },
     )
 
@@ -143,43 +143,43 @@ turn_gives src i raw j h =
 
 -- ---- the loop
 
-pub record Going (how : Values) (known : List NamespaceDecl) (before : List ℕ) (cut : Fault) (src : List ℕ) (whole : Result (TagRest × ℕ) Refusal) (n i left : ℕ) (names : List NamespaceDecl) (listed : List ℕ) (xml : Bool) (taken : List UnresolvedAttribute) : Type 0 where
+pub record Going (context : Values) (known : List NamespaceDecl) (before : List ℕ) (cut : Fault) (src : List ℕ) (whole : Result (TagRest × ℕ) Refusal) (n i openings_left : ℕ) (namespaces : List NamespaceDecl) (listed : List ℕ) (xml : Bool) (taken : List UnresolvedAttribute) : Type 0 where
   pub h : TagSoFar
-  pub holding : HoldsTag known before names listed xml taken h
-  pub same : attributes_at n how cut known src i left h ≡ whole
+  pub holding : HoldsTag known before namespaces listed xml taken h
+  pub same : attributes_at n context cut known src i openings_left h ≡ whole
 
 -- the text ends
-pub going_cut : (how : Values) (known : List NamespaceDecl) (before : List ℕ) (cut : Fault) (src : List ℕ) (whole : Result (TagRest × ℕ) Refusal) (n i left : ℕ) (names : List NamespaceDecl) (listed : List ℕ) (xml : Bool) (taken : List UnresolvedAttribute)
-    → Going how known before cut src whole n i left names listed xml taken → length src ≤ i → whole ≡ Err (here cut)
+pub going_cut : (context : Values) (known : List NamespaceDecl) (before : List ℕ) (cut : Fault) (src : List ℕ) (whole : Result (TagRest × ℕ) Refusal) (n i openings_left : ℕ) (namespaces : List NamespaceDecl) (listed : List ℕ) (xml : Bool) (taken : List UnresolvedAttribute)
+    → Going context known before cut src whole n i openings_left namespaces listed xml taken → length src ≤ i → whole ≡ Err (here cut)
 unfolding attributes_at
-going_cut how known before cut src whole zero i left names listed xml taken g past = sym g.same
-going_cut how known before cut src whole (suc n) i left names listed xml taken g past = let k = le-leb _ _ past in sym g.same ∙ rw k refl
+going_cut context known before cut src whole zero i openings_left namespaces listed xml taken g past = sym g.same
+going_cut context known before cut src whole (suc n) i openings_left namespaces listed xml taken g past = let k = le-leb _ _ past in sym g.same ∙ rw k refl
 
 -- the turns are used up
-pub going_none : (how : Values) (known : List NamespaceDecl) (before : List ℕ) (cut : Fault) (src : List ℕ) (whole : Result (TagRest × ℕ) Refusal) (n i left : ℕ) (names : List NamespaceDecl) (listed : List ℕ) (xml : Bool) (taken : List UnresolvedAttribute)
-    → Going how known before cut src whole n i left names listed xml taken → n ≡ 0 → whole ≡ Err (here cut)
+pub going_none : (context : Values) (known : List NamespaceDecl) (before : List ℕ) (cut : Fault) (src : List ℕ) (whole : Result (TagRest × ℕ) Refusal) (n i openings_left : ℕ) (namespaces : List NamespaceDecl) (listed : List ℕ) (xml : Bool) (taken : List UnresolvedAttribute)
+    → Going context known before cut src whole n i openings_left namespaces listed xml taken → n ≡ 0 → whole ≡ Err (here cut)
 unfolding attributes_at
-going_none how known before cut src whole n i left names listed xml taken g none = sym g.same ∙ rw none refl
+going_none context known before cut src whole n i openings_left namespaces listed xml taken g none = sym g.same ∙ rw none refl
 
-turned : (how : Values) (cut : Fault) (known : List NamespaceDecl) (src : List ℕ) (n m i left : ℕ) (h : TagSoFar) → n ≡ suc m → i < length src
-    → attributes_at n how cut known src i left h ≡ (lifted (tag_item_at src i) >>= λ x. after_tag_item (λ j l held. attributes_at m how cut known src j l held) how known src left h x.0 x.1)
+turned : (context : Values) (cut : Fault) (known : List NamespaceDecl) (src : List ℕ) (n m i openings_left : ℕ) (h : TagSoFar) → n ≡ suc m → i < length src
+    → attributes_at n context cut known src i openings_left h ≡ (lifted (tag_item_at src i) >>= λ x. after_tag_item (λ j l held. attributes_at m context cut known src j l held) context known src openings_left h x.0 x.1)
 unfolding attributes_at
-turned how cut known src n m i left h one inside = let k = lt-leb _ _ inside in rw (one, k) refl
+turned context cut known src n m i openings_left h one inside = let k = lt-leb _ _ inside in rw (one, k) refl
 
-pub going_fails : (how : Values) (known : List NamespaceDecl) (before : List ℕ) (cut : Fault) (src : List ℕ) (whole : Result (TagRest × ℕ) Refusal) (n m i left : ℕ) (names : List NamespaceDecl) (listed : List ℕ) (xml : Bool) (taken : List UnresolvedAttribute) (f : Fault)
-    → Going how known before cut src whole n i left names listed xml taken → n ≡ suc m → i < length src → tag_item_at src i ≡ Err f → whole ≡ Err (here f)
-going_fails how known before cut src whole n m i left names listed xml taken f g one inside is = sym g.same ∙ turned how cut known src n m i left g.h one inside ∙ rw is refl
+pub going_fails : (context : Values) (known : List NamespaceDecl) (before : List ℕ) (cut : Fault) (src : List ℕ) (whole : Result (TagRest × ℕ) Refusal) (n m i openings_left : ℕ) (namespaces : List NamespaceDecl) (listed : List ℕ) (xml : Bool) (taken : List UnresolvedAttribute) (f : Fault)
+    → Going context known before cut src whole n i openings_left namespaces listed xml taken → n ≡ suc m → i < length src → tag_item_at src i ≡ Err f → whole ≡ Err (here f)
+going_fails context known before cut src whole n m i openings_left namespaces listed xml taken f g one inside is = sym g.same ∙ turned context cut known src n m i openings_left g.h one inside ∙ rw is refl
 
-pub going_ends : (how : Values) (known : List NamespaceDecl) (before : List ℕ) (cut : Fault) (src : List ℕ) (whole : Result (TagRest × ℕ) Refusal) (n m i j left : ℕ) (names : List NamespaceDecl) (listed : List ℕ) (xml empty : Bool) (taken : List UnresolvedAttribute) (t : TagItem)
-    → Going how known before cut src whole n i left names listed xml taken → n ≡ suc m → i < length src → tag_item_at src i ≡ Ok (t, j) → (t ≡ (if empty then closed else opened))
-    → (h : TagSoFar) × (whole ≡ Ok (record { held = h; empty = empty; left = left }, j)) × HoldsTag known before names listed xml taken h
-going_ends how known before cut src whole n m i j left names listed xml true taken t g one inside is kind = (g.h, sym g.same ∙ turned how cut known src n m i left g.h one inside ∙ rw (is, kind) refl, g.holding)
-going_ends how known before cut src whole n m i j left names listed xml false taken t g one inside is kind = (g.h, sym g.same ∙ turned how cut known src n m i left g.h one inside ∙ rw (is, kind) refl, g.holding)
+pub going_ends : (context : Values) (known : List NamespaceDecl) (before : List ℕ) (cut : Fault) (src : List ℕ) (whole : Result (TagRest × ℕ) Refusal) (n m i j openings_left : ℕ) (namespaces : List NamespaceDecl) (listed : List ℕ) (xml empty : Bool) (taken : List UnresolvedAttribute) (t : TagItem)
+    → Going context known before cut src whole n i openings_left namespaces listed xml taken → n ≡ suc m → i < length src → tag_item_at src i ≡ Ok (t, j) → (t ≡ (if empty then closed else opened))
+    → (h : TagSoFar) × (whole ≡ Ok (record { held = h; empty = empty; openings_left = openings_left }, j)) × HoldsTag known before namespaces listed xml taken h
+going_ends context known before cut src whole n m i j openings_left namespaces listed xml true taken t g one inside is kind = (g.h, sym g.same ∙ turned context cut known src n m i openings_left g.h one inside ∙ rw (is, kind) refl, g.holding)
+going_ends context known before cut src whole n m i j openings_left namespaces listed xml false taken t g one inside is kind = (g.h, sym g.same ∙ turned context cut known src n m i openings_left g.h one inside ∙ rw (is, kind) refl, g.holding)
 
 -- an attribute or a declaration, and then the others
-kept_on : {X : Type 0} (left : ℕ) (r : Result TagSoFar Fault) (next : ℕ → TagSoFar → Result X Refusal) → (lifted r >>= λ held. next left held) ≡ (kept_left left r >>= λ x. next x.1 x.0)
-kept_on left (Ok x) next = refl
-kept_on left (Err f) next = refl
+kept_on : {X : Type 0} (openings_left : ℕ) (r : Result TagSoFar Fault) (next : ℕ → TagSoFar → Result X Refusal) → (lifted r >>= λ held. next openings_left held) ≡ (kept_left openings_left r >>= λ x. next x.1 x.0)
+kept_on openings_left (Ok x) next = refl
+kept_on openings_left (Err f) next = refl
 
 regrouped : {X : Type 0} (known : List NamespaceDecl) (raw : RawAttribute) (h : TagSoFar) (r : Result (ReadText × ℕ) Refusal) (one : Result (TagSoFar × ℕ) Refusal) (next : ℕ → TagSoFar → Result X Refusal)
     → one ≡ (r >>= λ v. kept_left v.1 (tags.taken known (attribute_with raw v.0) h))
@@ -187,19 +187,19 @@ regrouped : {X : Type 0} (known : List NamespaceDecl) (raw : RawAttribute) (h : 
 regrouped known raw h (Err e) one next is = rw is refl
 regrouped known raw h (Ok v) one next is = kept_on v.1 (tags.taken known (attribute_with raw v.0) h) next ∙ rw is refl
 
-more_turn : (how : Values) (cut : Fault) (known : List NamespaceDecl) (src : List ℕ) (n m i j left : ℕ) (h : TagSoFar) (raw : RawAttribute) → n ≡ suc m → i < length src → tag_item_at src i ≡ Ok (more raw, j)
-    → attributes_at n how cut known src i left h ≡ (one_more how known src raw left h >>= λ x. attributes_at m how cut known src j x.1 x.0)
-more_turn how cut known src n m i j left h raw one inside is = turned how cut known src n m i left h one inside ∙ rw is refl
-    ∙ regrouped known raw h (value_at how.main how.entities how.opener src raw.value_start raw.value_end left) (one_more how known src raw left h) (λ l held. attributes_at m how cut known src j l held) refl
+more_turn : (context : Values) (cut : Fault) (known : List NamespaceDecl) (src : List ℕ) (n m i j openings_left : ℕ) (h : TagSoFar) (raw : RawAttribute) → n ≡ suc m → i < length src → tag_item_at src i ≡ Ok (more raw, j)
+    → attributes_at n context cut known src i openings_left h ≡ (one_more context known src raw openings_left h >>= λ x. attributes_at m context cut known src j x.1 x.0)
+more_turn context cut known src n m i j openings_left h raw one inside is = turned context cut known src n m i openings_left h one inside ∙ rw is refl
+    ∙ regrouped known raw h (value_at context.main context.entities context.opener src raw.value_start raw.value_end openings_left) (one_more context known src raw openings_left h) (λ l held. attributes_at m context cut known src j l held) refl
 
-pub going_on : (how : Values) (known : List NamespaceDecl) (before : List ℕ) (cut : Fault) (src : List ℕ) (whole : Result (TagRest × ℕ) Refusal) (n m i j left l : ℕ) (names next : List NamespaceDecl) (listed after : List ℕ) (xml now : Bool) (taken kept : List UnresolvedAttribute) (raw : RawAttribute)
-    → (g : Going how known before cut src whole n i left names listed xml taken) → n ≡ suc m → i < length src → tag_item_at src i ≡ Ok (more raw, j)
-    → AddsAttribute known before next after kept (Ok (now, l)) (one_more how known src raw left g.h) → Going how known before cut src whole m j l next after now kept
-going_on how known before cut src whole n m i j left l names next listed after xml now taken kept raw g one inside is (h, read, hold) =
-    record { h = h; holding = hold; same = sym (more_turn how cut known src n m i j left g.h raw one inside is ∙ rw read refl) ∙ g.same }
+pub going_on : (context : Values) (known : List NamespaceDecl) (before : List ℕ) (cut : Fault) (src : List ℕ) (whole : Result (TagRest × ℕ) Refusal) (n m i j openings_left l : ℕ) (namespaces next : List NamespaceDecl) (listed after : List ℕ) (xml now : Bool) (taken kept : List UnresolvedAttribute) (raw : RawAttribute)
+    → (g : Going context known before cut src whole n i openings_left namespaces listed xml taken) → n ≡ suc m → i < length src → tag_item_at src i ≡ Ok (more raw, j)
+    → AddsAttribute known before next after kept (Ok (now, l)) (one_more context known src raw openings_left g.h) → Going context known before cut src whole m j l next after now kept
+going_on context known before cut src whole n m i j openings_left l namespaces next listed after xml now taken kept raw g one inside is (h, read, hold) =
+    record { h = h; holding = hold; same = sym (more_turn context cut known src n m i j openings_left g.h raw one inside is ∙ rw read refl) ∙ g.same }
 
-pub going_stops : (how : Values) (known : List NamespaceDecl) (before : List ℕ) (cut : Fault) (src : List ℕ) (whole : Result (TagRest × ℕ) Refusal) (n m i j left : ℕ) (names : List NamespaceDecl) (listed : List ℕ) (xml : Bool) (taken : List UnresolvedAttribute) (raw : RawAttribute) (e : ParseError)
-    → (g : Going how known before cut src whole n i left names listed xml taken) → n ≡ suc m → i < length src → tag_item_at src i ≡ Ok (more raw, j)
-    → IsRefusal e (one_more how known src raw left g.h) → IsRefusal e whole
-going_stops how known before cut src whole n m i j left names listed xml taken raw e g one inside is h =
-    refuses_by e (one_more how known src raw left g.h) whole (λ r err. sym g.same ∙ more_turn how cut known src n m i j left g.h raw one inside is ∙ rw err refl) h
+pub going_stops : (context : Values) (known : List NamespaceDecl) (before : List ℕ) (cut : Fault) (src : List ℕ) (whole : Result (TagRest × ℕ) Refusal) (n m i j openings_left : ℕ) (namespaces : List NamespaceDecl) (listed : List ℕ) (xml : Bool) (taken : List UnresolvedAttribute) (raw : RawAttribute) (e : ParseError)
+    → (g : Going context known before cut src whole n i openings_left namespaces listed xml taken) → n ≡ suc m → i < length src → tag_item_at src i ≡ Ok (more raw, j)
+    → IsRefusal e (one_more context known src raw openings_left g.h) → IsRefusal e whole
+going_stops context known before cut src whole n m i j openings_left namespaces listed xml taken raw e g one inside is h =
+    refuses_by e (one_more context known src raw openings_left g.h) whole (λ r err. sym g.same ∙ more_turn context cut known src n m i j openings_left g.h raw one inside is ∙ rw err refl) h

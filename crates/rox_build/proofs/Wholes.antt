@@ -25,29 +25,29 @@ pub no_body : (limit : ℕ) (es : List Entity) (src : List ℕ) (s : State) → 
 unfolding body
 no_body limit es src s other = let k = ne_eqb _ _ other in rw k refl
 
-begun : (limit : ℕ) (es : List Entity) (how : Context) (src : List ℕ) (s : State) → how ≡ main_text limit es → slice_index src s.at ≡ 60
-    → body limit es src s ≡ (tag_step how src s >>= λ t. drive how (length src) src t >>= λ u. lifted (misc limit (length src) src u) >>= λ v. Ok (v, true))
+begun : (limit : ℕ) (es : List Entity) (context : Context) (src : List ℕ) (s : State) → context ≡ main_text limit es → slice_index src s.at ≡ 60
+    → body limit es src s ≡ (tag_step context src s >>= λ t. drive context (length src) src t >>= λ u. lifted (misc limit (length src) src u) >>= λ v. Ok (v, true))
 unfolding body
-begun limit es how src s main here =
+begun limit es context src s main here =
     subst (λ (w : Context). body limit es src s ≡ (tag_step w src s >>= λ t. drive w (length src) src t >>= λ u. lifted (misc limit (length src) src u) >>= λ v. Ok (v, true))) (sym main)
     (let k = eq-eqb _ _ here in rw k refl)
 
-pub tag_fails_body : (limit : ℕ) (es : List Entity) (how : Context) (src : List ℕ) (s : State) (e : ParseError) → how ≡ main_text limit es → slice_index src s.at ≡ 60 → IsRefusal e (tag_step how src s) → IsRefusal e (body limit es src s)
-tag_fails_body limit es how src s e main here h = refuses_by e (tag_step how src s) (body limit es src s) (λ r err. begun limit es how src s main here ∙ rw err refl) h
+pub tag_fails_body : (limit : ℕ) (es : List Entity) (context : Context) (src : List ℕ) (s : State) (e : ParseError) → context ≡ main_text limit es → slice_index src s.at ≡ 60 → IsRefusal e (tag_step context src s) → IsRefusal e (body limit es src s)
+tag_fails_body limit es context src s e main here h = refuses_by e (tag_step context src s) (body limit es src s) (λ r err. begun limit es context src s main here ∙ rw err refl) h
 
-pub content_fails_body : (limit : ℕ) (es : List Entity) (how : Context) (src : List ℕ) (s t : State) (e : ParseError) → how ≡ main_text limit es → slice_index src s.at ≡ 60 → tag_step how src s ≡ Ok t
-    → IsRefusal e (drive how (length src) src t) → IsRefusal e (body limit es src s)
-content_fails_body limit es how src s t e main here tag h =
-    refuses_by e (drive how (length src) src t) (body limit es src s) (λ r err. begun limit es how src s main here ∙ rw (tag, err) refl) h
+pub content_fails_body : (limit : ℕ) (es : List Entity) (context : Context) (src : List ℕ) (s t : State) (e : ParseError) → context ≡ main_text limit es → slice_index src s.at ≡ 60 → tag_step context src s ≡ Ok t
+    → IsRefusal e (drive context (length src) src t) → IsRefusal e (body limit es src s)
+content_fails_body limit es context src s t e main here tag h =
+    refuses_by e (drive context (length src) src t) (body limit es src s) (λ r err. begun limit es context src s main here ∙ rw (tag, err) refl) h
 
-pub misc_fails_body : (limit : ℕ) (es : List Entity) (how : Context) (src : List ℕ) (s t u : State) (e : Failure) → how ≡ main_text limit es → slice_index src s.at ≡ 60 → tag_step how src s ≡ Ok t
-    → drive how (length src) src t ≡ Ok u → IsFailure e (lifted (misc limit (length src) src u)) → IsRefusal (of_failure e) (body limit es src s)
-misc_fails_body limit es how src s t u failure.Memory main here tag inner h = tt
-misc_fails_body limit es how src s t u (failure.Fault f) main here tag inner h = let k = lifted_err (misc limit (length src) src u) f h in begun limit es how src s main here ∙ rw (tag, inner, k) refl
+pub misc_fails_body : (limit : ℕ) (es : List Entity) (context : Context) (src : List ℕ) (s t u : State) (e : Failure) → context ≡ main_text limit es → slice_index src s.at ≡ 60 → tag_step context src s ≡ Ok t
+    → drive context (length src) src t ≡ Ok u → IsFailure e (lifted (misc limit (length src) src u)) → IsRefusal (of_failure e) (body limit es src s)
+misc_fails_body limit es context src s t u failure.Memory main here tag inner h = tt
+misc_fails_body limit es context src s t u (failure.Fault f) main here tag inner h = let k = lifted_err (misc limit (length src) src u) f h in begun limit es context src s main here ∙ rw (tag, inner, k) refl
 
-pub a_body : (limit : ℕ) (es : List Entity) (how : Context) (src : List ℕ) (s t u v : State) → how ≡ main_text limit es → slice_index src s.at ≡ 60 → tag_step how src s ≡ Ok t → drive how (length src) src t ≡ Ok u
+pub a_body : (limit : ℕ) (es : List Entity) (context : Context) (src : List ℕ) (s t u v : State) → context ≡ main_text limit es → slice_index src s.at ≡ 60 → tag_step context src s ≡ Ok t → drive context (length src) src t ≡ Ok u
     → lifted (misc limit (length src) src u) ≡ Ok v → body limit es src s ≡ Ok (v, true)
-a_body limit es how src s t u v main here tag inner after = let k = lifted_ok (misc limit (length src) src u) v after in begun limit es how src s main here ∙ rw (tag, inner, k) refl
+a_body limit es context src s t u v main here tag inner after = let k = lifted_ok (misc limit (length src) src u) v after in begun limit es context src s main here ∙ rw (tag, inner, k) refl
 
 -- ---- nothing is open behind it
 
@@ -81,19 +81,19 @@ pub misc_open : (limit n : ℕ) (src : List ℕ) (s t : State) → misc limit n 
 unfolding misc
 misc_open limit zero src s t h = cc h
 misc_open limit (suc n) src s t h =
-    let a : State = record { at = spaces_end src s.at; done = s.done; stack = s.stack; left = s.left } in
+    let a : State = record { at = spaces_end src s.at; done = s.done; stack = s.stack; openings_left = s.openings_left } in
     branch_of (at word.CommentStart src a.at) _ _ _ h
     (λ one. bound (comment_step limit src a) (λ u. misc limit n src u) t one (λ u is e. misc_open limit n src u t e ∙ comment_open limit src a u is))
     (λ more. branch_of (at word.PIStart src a.at) _ _ _ more
     (λ one. bound (instruction_step limit src a) (λ u. misc limit n src u) t one (λ u is e. misc_open limit n src u t e ∙ instruction_open limit src a u is))
     (λ none. cc))
 
-drive_open : (how : Context) (n : ℕ) (src : List ℕ) (s t : State) → drive how n src s ≡ Ok t → is_root t.stack ≡ true
+drive_open : (context : Context) (n : ℕ) (src : List ℕ) (s t : State) → drive context n src s ≡ Ok t → is_root t.stack ≡ true
 unfolding drive
-drive_open how zero src s t h = chosen (is_root s.stack) _ _ _ h (λ is e. cc) (λ is e. cc)
-drive_open how (suc n) src s t h =
+drive_open context zero src s t h = chosen (is_root s.stack) _ _ _ h (λ is e. cc) (λ is e. cc)
+drive_open context (suc n) src s t h =
     chosen (is_root s.stack) _ _ _ h (λ is e. cc)
-    (λ inner more. branch_of (nat_lt s.at (length src)) _ _ _ more (λ on. bound (step how src s) (λ u. drive how n src u) t on (λ u is e. drive_open how n src u t e)) (λ cut. cc))
+    (λ inner more. branch_of (nat_lt s.at (length src)) _ _ _ more (λ on. bound (step context src s) (λ u. drive context n src u) t on (λ u is e. drive_open context n src u t e)) (λ cut. cc))
 
 is_the_root : (o : Open) → is_root o ≡ true → o ≡ root
 is_the_root root h = refl

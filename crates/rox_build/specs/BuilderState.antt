@@ -141,9 +141,9 @@ pub record IsInState (limit end : ℕ) (s : State) (c : Cursor) (b : Builder) : 
   pub here : c.pos ≡ s.at
   pub limit_is : b.nodes_limit ≡ limit
   pub shows : Represents end s.stack s.done b
-  pub names : names_in b.tables ≡ distinct_pairs (pairs_so_far s.stack s.done)
+  pub namespaces : names_in b.tables ≡ distinct_pairs (pairs_so_far s.stack s.done)
   pub attributes : length (attribute_rows b.tables.attributes) ≡ attributes_so_far s.stack s.done
-  pub left_is : b.left ≡ s.left
+  pub openings_left_is : b.openings_left ≡ s.openings_left
 
 -- the same after a step, unless memory ran out
 abbrev pub ScansTo : ℕ → ℕ → Result (Unit {0}) Failure → Cursor → Builder → Result State Refusal → Type 0
@@ -159,9 +159,9 @@ ParsesTo limit end (Err e) c b read = IsRefusal e read
 pub record HoldsState (limit end : ℕ) (s : State) (b : Builder) : Type 0 where
   pub limit_is : b.nodes_limit ≡ limit
   pub shows : Represents end s.stack s.done b
-  pub names : names_in b.tables ≡ distinct_pairs (pairs_so_far s.stack s.done)
+  pub namespaces : names_in b.tables ≡ distinct_pairs (pairs_so_far s.stack s.done)
   pub attributes : length (attribute_rows b.tables.attributes) ≡ attributes_so_far s.stack s.done
-  pub left_is : b.left ≡ s.left
+  pub openings_left_is : b.openings_left ≡ s.openings_left
 
 -- the same after a replacement text
 abbrev pub ParsesToHeld : ℕ → ℕ → Result (Unit {0}) ParseError → Builder → Result State Refusal → Type 0
@@ -183,6 +183,6 @@ pub record Grown (old new : ElementTables) : Type 0 where
   pub more_attributes : List AttributeRow
   pub attributes : (attribute_rows new.attributes) ≡ (attribute_rows old.attributes) ++ more_attributes
   pub more_names : List NamespaceDecl
-  pub names : names_in new ≡ names_in old ++ more_names
+  pub namespaces : names_in new ≡ names_in old ++ more_names
   pub more_lists : List (List NamespaceDecl)
   pub lists : lists_in new ≡ lists_in old ++ more_lists

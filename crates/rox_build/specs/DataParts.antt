@@ -15,9 +15,9 @@ use Rattle.rox_build.specs.declared.builder.Builder.{Builder}
 
 -- a part of the run from start up to stop, from the state's place on: the state with its piece, if it has one, and what ends it
 abbrev pub next_part : Context → List ℕ → (start stop : ℕ) → State → Result (State × Next) Fault
-next_part how src start stop s =
-    data_part how.values.main how.values.entities (stop - s.at) src stop s.at >>= λ x.
-    with_piece how.limit s start stop (part_text how.values.main x.0) >>= λ t. Ok (t, x.1)
+next_part context src start stop s =
+    data_part context.values.main context.values.entities (stop - s.at) src stop s.at >>= λ x.
+    with_piece context.limit s start stop (part_text context.values.main x.0) >>= λ t. Ok (t, x.1)
 
 -- it was read
 abbrev pub GivesDataPart : ℕ → ℕ → Result (Option Cursor) Failure → Cursor → Builder → Result (State × Next) Fault → Type 0

@@ -19,11 +19,11 @@ use Rattle.rox_tables.specs.declared.rows.tables.ElementTables.{ElementTables}
 use Rattle.rox_build.specs.declared.tag.StartTag.{StartTag}
 
 -- The table of attributes has grown by these, in this scope.
-pub record HasAttributes (old new : List AttributeRow) (names : List NamespaceDecl) (scope : List NamespaceDecl) (written : List Attribute) : Type 0 where
+pub record HasAttributes (old new : List AttributeRow) (namespaces : List NamespaceDecl) (scope : List NamespaceDecl) (written : List Attribute) : Type 0 where
   pub more : List AttributeRow
   pub grown : new ≡ old ++ more
-  pub same : map (attribute names) more ≡ map (attribute_in scope) written
-  pub within : AllByRecursion (λ a. NamespaceWithin (length names) a.0.namespace) more
+  pub same : map (attribute namespaces) more ≡ map (attribute_in scope) written
+  pub within : AllByRecursion (λ a. NamespaceWithin (length namespaces) a.0.namespace) more
 
 -- An element of this name and with these attributes, which lists this scope.
 pub record IsElement (old new : ElementTables) (e : ElementData) (scope : List NamespaceDecl) (name : Name) (written : List Attribute) : Type 0 where
@@ -41,7 +41,7 @@ pub record IsElement (old new : ElementTables) (e : ElementData) (scope : List N
 pub record Tagged (old new : ElementTables) (t : StartTag) (above : List NamespaceDecl) (tag : Tag) : Type 0 where
   pub name : name_view t.name ≡ tag.name
   pub name_end : t.name_end ≡ tag.name_end
-  pub names : map namespace_view new.namespaces.items.items ≡ with_new (map namespace_view old.namespaces.items.items) (listable tag)
+  pub namespaces : map namespace_view new.namespaces.items.items ≡ with_new (map namespace_view old.namespaces.items.items) (listable tag)
   pub few : length new.namespaces.items.items ≤ most_pairs
   pub more : List (List NamespaceDecl)
   pub lists_more : lists_in new ≡ lists_in old ++ more
@@ -53,7 +53,7 @@ pub record Tagged (old new : ElementTables) (t : StartTag) (above : List Namespa
 
 -- a start tag was read, unless memory ran out
 abbrev pub GivesTag : ElementTables → ElementTables → Cursor → Result StartTag ParseError → List NamespaceDecl → Result (TagRead × ℕ) Refusal → Type 0
-GivesTag old new after (Ok t) above read = (tag : Tag) × (read ≡ Ok (record { tag = tag; empty = t.empty; left = t.left }, after.pos)) × Tagged old new t above tag
+GivesTag old new after (Ok t) above read = (tag : Tag) × (read ≡ Ok (record { tag = tag; empty = t.empty; openings_left = t.openings_left }, after.pos)) × Tagged old new t above tag
 GivesTag old new after (Err e) above read = IsRefusal e read
 
 -- the namespaces that the scope at this place lists

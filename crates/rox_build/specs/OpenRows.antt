@@ -17,12 +17,12 @@ depth_of (inside start tag before up) = depth_of up + 1
 
 -- the row of the root node while its descendants are not all known
 abbrev pub root_line : ℕ → RowView
-root_line end = record { parent = 0; next = 0; depth = 0; node = Root end }
+root_line end = record { parent = 0; subtree_end = 0; depth = 0; node = Root end }
 
 -- the row of an element while it is open
 abbrev pub open_line : ℕ → Tag → Open → RowView
 open_line start tag up =
-    record { parent = top up; next = 0; depth = depth_of up + 1; node = node_in (listed (scope_of up) tag.declarations) (Element start 0 tag) }
+    record { parent = top up; subtree_end = 0; depth = depth_of up + 1; node = node_in (listed (scope_of up) tag.declarations) (Element start 0 tag) }
 
 -- the rows up to that of the innermost open element
 abbrev pub rows_to : ℕ → Open → List RowView

@@ -25,7 +25,7 @@ use Rattle.rox_values.specs.declared.parse_error.ParseError.{ParseError}
 
 -- nothing is read yet
 abbrev pub start_state : ℕ → State
-start_state i = record { at = i; done = Nil; stack = root; left = 255 }
+start_state i = record { at = i; done = Nil; stack = root; openings_left = 255 }
 
 -- what stands before a document type declaration
 abbrev pub beginning : ℕ → List ℕ → Result State Fault

@@ -52,7 +52,7 @@ pub struct Builder<'input> {
     pub recent: Recent,
     pub nodes_limit: u32,
     /// How many replacement texts may still be opened within the one that is read.
-    pub left: u32,
+    pub openings_left: u32,
     pub ghost few: { vec_len nodes + waiting pending < 2 ^ 32 },
     pub ghost counted: { vec_len nodes + waiting pending ≤ max 1 nodes_limit },
     pub ghost shallow: { vec_len opened < vec_len nodes },
@@ -66,7 +66,7 @@ const FEWEST_ROWS: usize = 32;
 
 /// The row of the root node of a text of so many bytes, with some room for more.
 fn root_row<'input>(alloc: Global, bytes: usize) -> Result<Vec<NodeData<'input>>, Failure>
-    ensures ok { IfOk result (λ nodes. nodes.items ≡ record { start = 0; end = bytes; parent = 0; next = 0; depth = 0; kind = kind.Root } ∷ []) }
+    ensures ok { IfOk result (λ nodes. nodes.items ≡ record { start = 0; end = bytes; parent = 0; subtree_end = 0; depth = 0; kind = kind.Root } ∷ []) }
     ensures err { IfErr result (λ e. e ≡ failure.Memory) }
 {
     let room = (bytes / 48 + FEWEST_ROWS).min(FIRST_ROWS);
@@ -76,7 +76,7 @@ fn root_row<'input>(alloc: Global, bytes: usize) -> Result<Vec<NodeData<'input>>
         start: 0,
         end: bytes,
         parent: 0,
-        next: 0,
+        subtree_end: 0,
         depth: 0,
         kind: NodeKind::Root,
     })?;
@@ -97,22 +97,22 @@ fn empty_scope(alloc: Global) -> Result<Vec<Scope>, Failure>
 #[inline]
 fn end_row(nodes: &mut Vec<NodeData<'_>>, row: u32, end: usize)
     requires { vec_len nodes.old < 2 ^ 32 }
-    ensures rows { (d : NodeData) → nodes.new.items ≡ set nodes.old.items row (record (get_or nodes.old.items row d) { end = end; next = length nodes.old.items }) }
+    ensures rows { (d : NodeData) → nodes.new.items ≡ set nodes.old.items row (record (get_or nodes.old.items row d) { end = end; subtree_end = length nodes.old.items }) }
     ensures count { vec_len nodes.new ≡ vec_len nodes.old }
 {
-    let next = nodes.len() as u32;
+    let subtree_end = nodes.len() as u32;
     if let Some(node) = nodes.get_mut(row as usize) {
         node.end = end;
-        node.next = next;
+        node.subtree_end = subtree_end;
     }
 }
 
 /// Writes the count of all rows into that of the root node.
 fn end_root(nodes: &mut Vec<NodeData<'_>>, count: u32)
-    ensures rows { (d : NodeData) → nodes.new.items ≡ set nodes.old.items 0 (record (get_or nodes.old.items 0 d) { next = count }) }
+    ensures rows { (d : NodeData) → nodes.new.items ≡ set nodes.old.items 0 (record (get_or nodes.old.items 0 d) { subtree_end = count }) }
 {
     if let Some(node) = nodes.get_mut(0) {
-        node.next = count;
+        node.subtree_end = count;
     }
 }
 
@@ -140,7 +140,7 @@ impl<'input> Builder<'input> {
         ensures fine { IfOk result (λ b. IsConsistent b.tables b.opened.items) }
         ensures shows { IfOk result (λ b. Represents bytes root Nil b) }
         ensures limit { IfOk result (λ b. b.nodes_limit ≡ nodes_limit) }
-        ensures left { IfOk result (λ b. b.left ≡ 255) }
+        ensures openings_left { IfOk result (λ b. b.openings_left ≡ 255) }
         ensures err { IfErr result (λ e. e ≡ failure.Memory) }
     {
         // An allocator often gives places in turn, and a table behind which nothing stands grows where it is: the rows come last.
@@ -163,12 +163,12 @@ impl<'input> Builder<'input> {
                 scratch: String::new(alloc),
                 raw: String::new(alloc),
                 taken: Vec::new(alloc),
-                many: BTreeSet::new(alloc),
+                prefix_set: BTreeSet::new(alloc),
             },
             finders: Finders::new(),
             recent: Recent::new(alloc),
             nodes_limit,
-            left: MOST_WITHIN,
+            openings_left: MOST_WITHIN,
         })
     }
 
@@ -238,7 +238,7 @@ impl<'input> Builder<'input> {
           start = start;
           end = end;
           parent = last_row (opened_in self.now.tables self.now.opened.items);
-          next = length self.now.nodes.items + 1;
+          subtree_end = length self.now.nodes.items + 1;
           depth = length self.now.opened.items + 1;
           kind = kind.entry;
         } }
@@ -247,7 +247,7 @@ impl<'input> Builder<'input> {
             start,
             end,
             parent: self.parent(),
-            next: self.nodes.len() as u32 + 1,
+            subtree_end: self.nodes.len() as u32 + 1,
             depth: self.opened.len() as u32 + 1,
             kind,
         }
@@ -262,7 +262,7 @@ impl<'input> Builder<'input> {
         ensures tables { self.new.tables ≡ self.old.tables }
         ensures opened { self.new.opened ≡ self.old.opened }
         ensures limit { self.new.nodes_limit ≡ self.old.nodes_limit }
-        ensures left { self.new.left ≡ self.old.left }
+        ensures openings_left { self.new.openings_left ≡ self.old.openings_left }
         ensures err { IfErr result (λ e. e ≡ failure.Memory) }
     {
         match mem::replace(&mut self.pending, Pending::None) {
@@ -295,7 +295,7 @@ impl<'input> Builder<'input> {
         ensures tables { self.new.tables ≡ self.old.tables }
         ensures opened { self.new.opened ≡ self.old.opened }
         ensures limit { self.new.nodes_limit ≡ self.old.nodes_limit }
-        ensures left { self.new.left ≡ self.old.left }
+        ensures openings_left { self.new.openings_left ≡ self.old.openings_left }
     {
         self.flush(alloc)?;
         self.room()?;
@@ -317,7 +317,7 @@ impl<'input> Builder<'input> {
         ensures tables { self.new.tables ≡ self.old.tables }
         ensures opened { self.new.opened ≡ self.old.opened }
         ensures limit { self.new.nodes_limit ≡ self.old.nodes_limit }
-        ensures left { self.new.left ≡ self.old.left }
+        ensures openings_left { self.new.openings_left ≡ self.old.openings_left }
     {
         match self.pending {
             Pending::None => {
@@ -342,7 +342,7 @@ impl<'input> Builder<'input> {
         ensures tables { self.new.tables ≡ self.old.tables }
         ensures opened { self.new.opened ≡ self.old.opened }
         ensures limit { self.new.nodes_limit ≡ self.old.nodes_limit }
-        ensures left { self.new.left ≡ self.old.left }
+        ensures openings_left { self.new.openings_left ≡ self.old.openings_left }
     {
         match self.pending {
             Pending::None => {
@@ -372,11 +372,11 @@ impl<'input> Builder<'input> {
     ) -> Result<(), Failure>
         ensures value { (total at : ℕ) (s : State) → Represents total s.stack s.done self.old
             → let text = piece_view piece.entry (string_bytes self.old.buffers.scratch) in
-            Adds total result self.new (with_item self.old.nodes_limit s at (Text start end text.value text.plain)) }
+            Adds total result self.new (with_item self.old.nodes_limit s at (Text start end text.value text.borrowed)) }
         ensures tables { self.new.tables ≡ self.old.tables }
         ensures opened { self.new.opened ≡ self.old.opened }
         ensures limit { self.new.nodes_limit ≡ self.old.nodes_limit }
-        ensures left { self.new.left ≡ self.old.left }
+        ensures openings_left { self.new.openings_left ≡ self.old.openings_left }
     {
         match piece {
             TextValue::Plain(text) => self.slice_piece(start, end, text),
@@ -392,18 +392,18 @@ impl<'input> Builder<'input> {
         start: usize,
         tag: &StartTag<'input>,
     ) -> Result<(), Failure>
-        ensures value { (total at left : ℕ) (s : State) (t : Tag) → Represents total s.stack s.done self.old → s.at ≡ start → IsOpening self.old.tables (scope_of s.stack) start tag.now t
-            → Adds total result self.new (opened_by self.old.nodes_limit s t false left at) }
+        ensures value { (total at openings_left : ℕ) (s : State) (t : Tag) → Represents total s.stack s.done self.old → s.at ≡ start → IsOpening self.old.tables (scope_of s.stack) start tag.now t
+            → Adds total result self.new (opened_by self.old.nodes_limit s t false openings_left at) }
         ensures tables { self.new.tables ≡ self.old.tables }
         ensures opened { OnOk result ((x : OpenElement) × (self.new.opened.items ≡ self.old.opened.items ++ x ∷ []) × (x.scope ≡ tag.now.element.scope)) }
         ensures limit { self.new.nodes_limit ≡ self.old.nodes_limit }
-        ensures left { self.new.left ≡ self.old.left }
+        ensures openings_left { self.new.openings_left ≡ self.old.openings_left }
     {
         self.flush(alloc)?;
         self.room()?;
         let row = self.nodes.len() as u32;
         let mut opening = self.row(start, 0, NodeKind::Element(tag.element));
-        opening.next = 0;
+        opening.subtree_end = 0;
         node_rows::push(&mut self.nodes, opening)?;
         let element = OpenElement {
             row,
@@ -424,7 +424,7 @@ impl<'input> Builder<'input> {
         ensures tables { self.new.tables ≡ self.old.tables }
         ensures opened { OnOk result (self.new.opened.items ≡ take (length self.old.opened.items - 1) self.old.opened.items) }
         ensures limit { self.new.nodes_limit ≡ self.old.nodes_limit }
-        ensures left { self.new.left ≡ self.old.left }
+        ensures openings_left { self.new.openings_left ≡ self.old.openings_left }
         ensures err { IfErr result (λ e. e ≡ failure.Memory) }
     {
         self.flush(alloc)?;
@@ -453,7 +453,7 @@ impl<'input> Builder<'input> {
             finders: _,
             recent: _,
             nodes_limit: _,
-            left: _,
+            openings_left: _,
         } = self;
         let ElementTables {
             mut attributes,

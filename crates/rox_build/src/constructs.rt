@@ -106,8 +106,8 @@ fn comment_or_section<'input>(
     requires here { slice_index cursor.old.text.now cursor.old.pos ≡ 60 }
     requires next { slice_index cursor.old.text.now (cursor.old.pos + 1) ≡ 33 }
     requires fine { IsConsistent builder.old.tables builder.old.opened.items }
-    ensures value { (how : machine.Context) (end : ℕ) (s : State) → IsInState how.limit end s cursor.old builder.old
-        → ScansTo how.limit end result cursor.new builder.new (machine.step how cursor.old.text.now s) }
+    ensures value { (context : machine.Context) (end : ℕ) (s : State) → IsInState context.limit end s cursor.old builder.old
+        → ScansTo context.limit end result cursor.new builder.new (machine.step context cursor.old.text.now s) }
     ensures fine { OnOk result (IsConsistent builder.new.tables builder.new.opened.items) }
     ensures source { cursor.new.text ≡ cursor.old.text }
 {
@@ -121,10 +121,10 @@ fn comment_or_section<'input>(
 }
 
 /// The fault of a start tag that is cut off by the end of the text.
-fn cut_off_fault(builder: &Builder<'_>, how: Context<'_, '_>) -> Fault
-    ensures { (end : ℕ) (stack : Open) (done : Forest Item) → Represents end stack done builder.now → result ≡ machine.cut_off_fault how.entry.main stack }
+fn cut_off_fault(builder: &Builder<'_>, context: Context<'_, '_>) -> Fault
+    ensures { (end : ℕ) (stack : Open) (done : Forest Item) → Represents end stack done builder.now → result ≡ machine.cut_off_fault context.entry.main stack }
 {
-    if !how.main {
+    if !context.main {
         Fault::UnexpectedEndOfStream
     } else if builder.is_at_root() {
         Fault::NoRootNode
@@ -138,19 +138,19 @@ pub fn element<'input>(
     alloc: Global,
     cursor: &mut Cursor<'input>,
     builder: &mut Builder<'input>,
-    how: Context<'_, 'input>,
+    context: Context<'_, 'input>,
 ) -> Result<(), ParseError<'input>>
     requires there { cursor.old.pos < length cursor.old.text.now }
     requires here { slice_index cursor.old.text.now cursor.old.pos ≡ 60 }
     requires fine { IsConsistent builder.old.tables builder.old.opened.items }
-    ensures value { (limit end : ℕ) (es : List Entity) (s : State) → AreDeclared es how.entry.entities.now → IsInState limit end s cursor.old builder.old
-        → ParsesTo limit end result cursor.new builder.new (machine.tag_step (context_of limit es how.entry) cursor.old.text.now s) }
+    ensures value { (limit end : ℕ) (es : List Entity) (s : State) → AreDeclared es context.entry.entities.now → IsInState limit end s cursor.old builder.old
+        → ParsesTo limit end result cursor.new builder.new (machine.tag_step (context_of limit es context.entry) cursor.old.text.now s) }
     ensures fine { OnOk result (IsConsistent builder.new.tables builder.new.opened.items) }
     ensures source { cursor.new.text ≡ cursor.old.text }
 {
     let start = cursor.pos;
-    let cut = cut_off_fault(builder, how);
-    let left = builder.left;
+    let cut = cut_off_fault(builder, context);
+    let openings_left = builder.openings_left;
     let above = builder.scope();
     let tag = start_tag(
         alloc,
@@ -159,10 +159,10 @@ pub fn element<'input>(
         &mut builder.buffers,
         above,
         cut,
-        how,
-        left,
+        context,
+        openings_left,
     )?;
-    builder.left = tag.left;
+    builder.openings_left = tag.openings_left;
     if tag.empty {
         builder.leaf(alloc, start, cursor.pos, NodeKind::Element(tag.element))?;
         return Ok(());
@@ -207,18 +207,18 @@ pub fn end_tag<'input>(
     alloc: Global,
     cursor: &mut Cursor<'input>,
     builder: &mut Builder<'input>,
-    how: Context<'_, 'input>,
+    context: Context<'_, 'input>,
 ) -> Result<(), Failure>
     requires here { stands (word_text word.EndTagStart) cursor.old.text.now cursor.old.pos ≡ true }
     requires fine { IsConsistent builder.old.tables builder.old.opened.items }
     ensures value { (limit end : ℕ) (es : List Entity) (s : State) → IsInState limit end s cursor.old builder.old
-        → ScansTo limit end result cursor.new builder.new (lifted (machine.end_step (context_of limit es how.entry) cursor.old.text.now s)) }
+        → ScansTo limit end result cursor.new builder.new (lifted (machine.end_step (context_of limit es context.entry) cursor.old.text.now s)) }
     ensures fine { OnOk result (IsConsistent builder.new.tables builder.new.opened.items) }
     ensures source { cursor.new.text ≡ cursor.old.text }
 {
     let start = cursor.pos;
     let tag = cursor.end_tag()?;
-    if builder.opened.len() <= how.base {
+    if builder.opened.len() <= context.open_around {
         return Err(Failure::Fault(Fault::UnexpectedEntityCloseTag(start)));
     }
     let Some(open) = builder.opened.last() else {
@@ -240,14 +240,14 @@ pub fn markup<'input>(
     alloc: Global,
     cursor: &mut Cursor<'input>,
     builder: &mut Builder<'input>,
-    how: Context<'_, 'input>,
+    context: Context<'_, 'input>,
 ) -> Result<(), ParseError<'input>>
     requires there { cursor.old.pos + 1 < length cursor.old.text.now }
     requires here { slice_index cursor.old.text.now cursor.old.pos ≡ 60 }
     requires no_end_tag { slice_index cursor.old.text.now (cursor.old.pos + 1) ≢ 47 }
     requires fine { IsConsistent builder.old.tables builder.old.opened.items }
-    ensures value { (limit end : ℕ) (es : List Entity) (s : State) → AreDeclared es how.entry.entities.now → IsInState limit end s cursor.old builder.old
-        → ParsesTo limit end result cursor.new builder.new (machine.step (context_of limit es how.entry) cursor.old.text.now s) }
+    ensures value { (limit end : ℕ) (es : List Entity) (s : State) → AreDeclared es context.entry.entities.now → IsInState limit end s cursor.old builder.old
+        → ParsesTo limit end result cursor.new builder.new (machine.step (context_of limit es context.entry) cursor.old.text.now s) }
     ensures fine { OnOk result (IsConsistent builder.new.tables builder.new.opened.items) }
     ensures source { cursor.new.text ≡ cursor.old.text }
 {
@@ -261,6 +261,6 @@ pub fn markup<'input>(
         instruction(alloc, cursor, builder)?;
         return Ok(());
     }
-    element(alloc, cursor, builder, how)?;
+    element(alloc, cursor, builder, context)?;
     Ok(())
 }

@@ -62,7 +62,7 @@ fn changed_piece(
     ensures tables { builder.new.tables ≡ builder.old.tables }
     ensures opened { builder.new.opened ≡ builder.old.opened }
     ensures limit { builder.new.nodes_limit ≡ builder.old.nodes_limit }
-    ensures left { builder.new.left ≡ builder.old.left }
+    ensures openings_left { builder.new.openings_left ≡ builder.old.openings_left }
 {
     builder.buffers.scratch.clear();
     builder.buffers.scratch.push_str(text)?;
@@ -76,28 +76,28 @@ fn slow_character_data<'input>(
     alloc: Global,
     cursor: &mut Cursor<'input>,
     builder: &mut Builder<'input>,
-    how: Context<'_, 'input>,
+    context: Context<'_, 'input>,
 ) -> Result<(), ParseError<'input>>
     requires fine { IsConsistent builder.old.tables builder.old.opened.items }
-    ensures value { (limit end : ℕ) (es : List Entity) (s : State) → AreDeclared es how.entry.entities.now → IsInState limit end s cursor.old builder.old
-        → ParsesTo limit end result cursor.new builder.new (machine.character_data_step (context_of limit es how.entry) cursor.old.text.now s) }
+    ensures value { (limit end : ℕ) (es : List Entity) (s : State) → AreDeclared es context.entry.entities.now → IsInState limit end s cursor.old builder.old
+        → ParsesTo limit end result cursor.new builder.new (machine.character_data_step (context_of limit es context.entry) cursor.old.text.now s) }
     ensures fine { OnOk result (IsConsistent builder.new.tables builder.new.opened.items) }
     ensures source { cursor.new.text ≡ cursor.old.text }
 {
     let start = cursor.pos;
     let raw = raw_character_data(cursor)?;
-    if raw.plain {
+    if raw.is_verbatim {
         builder.slice_piece(start, cursor.pos, raw.text)?;
         return Ok(());
     }
     let stop = cursor.pos;
     let text = cursor.text;
-    if how.main && is_line(text, start, stop) {
+    if context.main && is_line(text, start, stop) {
         changed_piece(builder, start, stop, &text[start + 1..stop])?;
         return Ok(());
     }
     cursor.pos = start;
-    data_parts(alloc, cursor, builder, how, start, stop)
+    data_parts(alloc, cursor, builder, context, start, stop)
 }
 
 /// Character data, up to the next `<` or the end.
@@ -107,11 +107,11 @@ fn character_data<'input>(
     alloc: Global,
     cursor: &mut Cursor<'input>,
     builder: &mut Builder<'input>,
-    how: Context<'_, 'input>,
+    context: Context<'_, 'input>,
 ) -> Result<(), ParseError<'input>>
     requires fine { IsConsistent builder.old.tables builder.old.opened.items }
-    ensures value { (limit end : ℕ) (es : List Entity) (s : State) → AreDeclared es how.entry.entities.now → IsInState limit end s cursor.old builder.old
-        → ParsesTo limit end result cursor.new builder.new (machine.character_data_step (context_of limit es how.entry) cursor.old.text.now s) }
+    ensures value { (limit end : ℕ) (es : List Entity) (s : State) → AreDeclared es context.entry.entities.now → IsInState limit end s cursor.old builder.old
+        → ParsesTo limit end result cursor.new builder.new (machine.character_data_step (context_of limit es context.entry) cursor.old.text.now s) }
     ensures fine { OnOk result (IsConsistent builder.new.tables builder.new.opened.items) }
     ensures source { cursor.new.text ≡ cursor.old.text }
 {
@@ -123,7 +123,7 @@ fn character_data<'input>(
         builder.slice_piece(start, near, &text[start..near])?;
         return Ok(());
     }
-    slow_character_data(alloc, cursor, builder, how)
+    slow_character_data(alloc, cursor, builder, context)
 }
 
 /// The parts of a run from `start` up to `stop`, from here on, and the replacement texts between them.
@@ -132,20 +132,20 @@ fn data_parts<'input>(
     alloc: Global,
     cursor: &mut Cursor<'input>,
     builder: &mut Builder<'input>,
-    how: Context<'_, 'input>,
+    context: Context<'_, 'input>,
     start: usize,
     stop: usize,
 ) -> Result<(), ParseError<'input>>
     requires stop { IsCharBoundary cursor.old.text.now stop }
     requires fine { IsConsistent builder.old.tables builder.old.opened.items }
-    ensures value { (limit end : ℕ) (es : List Entity) (s : State) → AreDeclared es how.entry.entities.now → IsInState limit end s cursor.old builder.old
-        → ParsesTo limit end result cursor.new builder.new (machine.data_parts (context_of limit es how.entry) (length cursor.old.text.now) cursor.old.text.now start stop s) }
+    ensures value { (limit end : ℕ) (es : List Entity) (s : State) → AreDeclared es context.entry.entities.now → IsInState limit end s cursor.old builder.old
+        → ParsesTo limit end result cursor.new builder.new (machine.data_parts (context_of limit es context.entry) (length cursor.old.text.now) cursor.old.text.now start stop s) }
     ensures fine { OnOk result (IsConsistent builder.new.tables builder.new.opened.items) }
     ensures source { cursor.new.text ≡ cursor.old.text }
 {
     for _turn in 0..cursor.text.len() {
-        match part_piece(cursor, builder, how, start, stop)? {
-            Some(text) => open_text(alloc, cursor.pos, builder, how, text)?,
+        match part_piece(cursor, builder, context, start, stop)? {
+            Some(text) => open_text(alloc, cursor.pos, builder, context, text)?,
             None => {
                 cursor.pos = stop;
                 return Ok(());
@@ -160,20 +160,20 @@ fn data_parts<'input>(
 fn part<'input>(
     cursor: &mut Cursor<'input>,
     buffers: &mut Buffers<'input>,
-    how: Context<'_, 'input>,
+    context: Context<'_, 'input>,
     stop: usize,
 ) -> Result<Option<Cursor<'input>>, Failure>
     requires { IsCharBoundary cursor.old.text.now stop }
-    ensures value { (es : List Entity) → AreDeclared es how.entry.entities.now
-        → GivesPart how.entry.main (string_bytes buffers.new.scratch) cursor.new result (spec.data_part how.entry.main es (stop - cursor.old.pos) cursor.old.text.now stop cursor.old.pos) }
+    ensures value { (es : List Entity) → AreDeclared es context.entry.entities.now
+        → GivesPart context.entry.main (string_bytes buffers.new.scratch) cursor.new result (spec.data_part context.entry.main es (stop - cursor.old.pos) cursor.old.text.now stop cursor.old.pos) }
     ensures source { cursor.new.text ≡ cursor.old.text }
 {
     buffers.scratch.clear();
-    if how.main {
-        return data_part(cursor, stop, how, &mut buffers.scratch);
+    if context.main {
+        return data_part(cursor, stop, context, &mut buffers.scratch);
     }
     buffers.raw.clear();
-    let next = data_part(cursor, stop, how, &mut buffers.raw)?;
+    let next = data_part(cursor, stop, context, &mut buffers.raw)?;
     line_feeds(buffers.raw.as_str(), &mut buffers.scratch)?;
     Ok(next)
 }
@@ -183,18 +183,18 @@ fn part<'input>(
 fn part_piece<'input>(
     cursor: &mut Cursor<'input>,
     builder: &mut Builder<'input>,
-    how: Context<'_, 'input>,
+    context: Context<'_, 'input>,
     start: usize,
     stop: usize,
 ) -> Result<Option<Cursor<'input>>, Failure>
     requires stop { IsCharBoundary cursor.old.text.now stop }
     requires fine { IsConsistent builder.old.tables builder.old.opened.items }
-    ensures value { (limit end : ℕ) (es : List Entity) (s : State) → AreDeclared es how.entry.entities.now → IsInState limit end s cursor.old builder.old
-        → GivesDataPart limit end result cursor.new builder.new (next_part (context_of limit es how.entry) cursor.old.text.now start stop s) }
+    ensures value { (limit end : ℕ) (es : List Entity) (s : State) → AreDeclared es context.entry.entities.now → IsInState limit end s cursor.old builder.old
+        → GivesDataPart limit end result cursor.new builder.new (next_part (context_of limit es context.entry) cursor.old.text.now start stop s) }
     ensures fine { OnOk result (IsConsistent builder.new.tables builder.new.opened.items) }
     ensures source { cursor.new.text ≡ cursor.old.text }
 {
-    let next = part(cursor, &mut builder.buffers, how, stop)?;
+    let next = part(cursor, &mut builder.buffers, context, stop)?;
     if builder.buffers.scratch.is_empty() {
         return Ok(next);
     }
@@ -210,20 +210,20 @@ fn open_text<'input>(
     alloc: Global,
     after: usize,
     builder: &mut Builder<'input>,
-    how: Context<'_, 'input>,
+    context: Context<'_, 'input>,
     text: Cursor<'input>,
 ) -> Result<(), ParseError<'input>>
     requires fine { IsConsistent builder.old.tables builder.old.opened.items }
-    ensures value { (limit end : ℕ) (es : List Entity) (s : State) → AreDeclared es how.entry.entities.now → HoldsState limit end s builder.old
-        → ParsesToHeld limit end result builder.new (machine.opener limit es how.entry.deep how.entry.main (replacement_view text.entry) after s) }
+    ensures value { (limit end : ℕ) (es : List Entity) (s : State) → AreDeclared es context.entry.entities.now → HoldsState limit end s builder.old
+        → ParsesToHeld limit end result builder.new (machine.opener limit es context.entry.depth_left context.entry.main (replacement_view text.entry) after s) }
     ensures fine { OnOk result (IsConsistent builder.new.tables builder.new.opened.items) }
 {
-    let before = builder.left;
-    let (within, inner) = how.opened(after, before, builder.opened.len())?;
-    builder.left = inner;
+    let before = builder.openings_left;
+    let (within, inner) = context.opened(after, before, builder.opened.len())?;
+    builder.openings_left = inner;
     match content_text(alloc, builder, within, text) {
         Ok(()) => {
-            builder.left = how.left_behind(before, builder.left);
+            builder.openings_left = context.left_behind(before, builder.openings_left);
             Ok(())
         }
         Err(refused) => Err(refused.within(text.text)),
@@ -235,32 +235,32 @@ fn open_text<'input>(
 fn content_text<'input>(
     alloc: Global,
     builder: &mut Builder<'input>,
-    how: Context<'_, 'input>,
+    context: Context<'_, 'input>,
     text: Cursor<'input>,
 ) -> Result<(), ParseError<'input>>
     requires fine { IsConsistent builder.old.tables builder.old.opened.items }
-    ensures value { (limit end : ℕ) (es : List Entity) (s : State) → AreDeclared es how.entry.entities.now → HoldsState limit end s builder.old → s.at ≡ text.entry.pos
-        → ParsesToHeld limit end result builder.new (machine.drive_text (context_of limit es how.entry) (length text.entry.text.now) text.entry.text.now s) }
+    ensures value { (limit end : ℕ) (es : List Entity) (s : State) → AreDeclared es context.entry.entities.now → HoldsState limit end s builder.old → s.at ≡ text.entry.pos
+        → ParsesToHeld limit end result builder.new (machine.drive_text (context_of limit es context.entry) (length text.entry.text.now) text.entry.text.now s) }
     ensures fine { OnOk result (IsConsistent builder.new.tables builder.new.opened.items) }
 {
     let mut cursor = text;
     for _turn in 0..text.text.len() {
         if cursor.is_at_end() {
-            return text_end(builder, how);
+            return text_end(builder, context);
         }
-        step(alloc, &mut cursor, builder, how)?;
+        step(alloc, &mut cursor, builder, context)?;
     }
-    text_end(builder, how)
+    text_end(builder, context)
 }
 
 /// The end of a replacement text: no element may be open that it opened.
 fn text_end<'input>(
     builder: &Builder<'input>,
-    how: Context<'_, 'input>,
+    context: Context<'_, 'input>,
 ) -> Result<(), ParseError<'input>>
-    ensures { (limit end : ℕ) (es : List Entity) (s : State) → HoldsState limit end s builder.now → ParsesToHeld limit end result builder.now (machine.text_ends (context_of limit es how.entry) s) }
+    ensures { (limit end : ℕ) (es : List Entity) (s : State) → HoldsState limit end s builder.now → ParsesToHeld limit end result builder.now (machine.text_ends (context_of limit es context.entry) s) }
 {
-    if builder.opened.len() == how.base {
+    if builder.opened.len() == context.open_around {
         Ok(())
     } else {
         Err(ParseError::Fault(Fault::UnexpectedEndOfStream))
@@ -275,28 +275,28 @@ fn step<'input>(
     alloc: Global,
     cursor: &mut Cursor<'input>,
     builder: &mut Builder<'input>,
-    how: Context<'_, 'input>,
+    context: Context<'_, 'input>,
 ) -> Result<(), ParseError<'input>>
     requires there { cursor.old.pos < length cursor.old.text.now }
     requires fine { IsConsistent builder.old.tables builder.old.opened.items }
-    ensures value { (limit end : ℕ) (es : List Entity) (s : State) → AreDeclared es how.entry.entities.now → IsInState limit end s cursor.old builder.old
-        → ParsesTo limit end result cursor.new builder.new (machine.step (context_of limit es how.entry) cursor.old.text.now s) }
+    ensures value { (limit end : ℕ) (es : List Entity) (s : State) → AreDeclared es context.entry.entities.now → IsInState limit end s cursor.old builder.old
+        → ParsesTo limit end result cursor.new builder.new (machine.step (context_of limit es context.entry) cursor.old.text.now s) }
     ensures fine { OnOk result (IsConsistent builder.new.tables builder.new.opened.items) }
     ensures source { cursor.new.text ≡ cursor.old.text }
 {
     let bytes = cursor.text.as_bytes();
     if bytes[cursor.pos] != b'<' {
-        return character_data(alloc, cursor, builder, how);
+        return character_data(alloc, cursor, builder, context);
     }
     if cursor.pos + 1 >= bytes.len() {
         return Err(ParseError::Fault(Fault::UnknownToken(cursor.pos)));
     }
     let next = bytes[cursor.pos + 1];
     if next == b'/' {
-        end_tag(alloc, cursor, builder, how)?;
+        end_tag(alloc, cursor, builder, context)?;
         return Ok(());
     }
-    markup(alloc, cursor, builder, how)?;
+    markup(alloc, cursor, builder, context)?;
     Ok(())
 }
 
@@ -305,11 +305,11 @@ pub fn content<'input>(
     alloc: Global,
     cursor: &mut Cursor<'input>,
     builder: &mut Builder<'input>,
-    how: Context<'_, 'input>,
+    context: Context<'_, 'input>,
 ) -> Result<(), ParseError<'input>>
     requires fine { IsConsistent builder.old.tables builder.old.opened.items }
-    ensures value { (limit end : ℕ) (es : List Entity) (s : State) → AreDeclared es how.entry.entities.now → IsInState limit end s cursor.old builder.old
-        → ParsesTo limit end result cursor.new builder.new (machine.drive (context_of limit es how.entry) (length cursor.old.text.now) cursor.old.text.now s) }
+    ensures value { (limit end : ℕ) (es : List Entity) (s : State) → AreDeclared es context.entry.entities.now → IsInState limit end s cursor.old builder.old
+        → ParsesTo limit end result cursor.new builder.new (machine.drive (context_of limit es context.entry) (length cursor.old.text.now) cursor.old.text.now s) }
     ensures fine { OnOk result (IsConsistent builder.new.tables builder.new.opened.items) }
     ensures source { cursor.new.text ≡ cursor.old.text }
 {
@@ -320,7 +320,7 @@ pub fn content<'input>(
         if cursor.is_at_end() {
             return Err(ParseError::Fault(Fault::UnclosedRootNode));
         }
-        step(alloc, cursor, builder, how)?;
+        step(alloc, cursor, builder, context)?;
     }
     if builder.is_at_root() {
         Ok(())

@@ -81,9 +81,9 @@ fn body<'input>(
     if cursor.is_at_end() || cursor.text.as_bytes()[cursor.pos] != b'<' {
         return Ok(false);
     }
-    let how = Context::main_text(entities);
-    element(alloc, cursor, builder, how)?;
-    content(alloc, cursor, builder, how)?;
+    let context = Context::main_text(entities);
+    element(alloc, cursor, builder, context)?;
+    content(alloc, cursor, builder, context)?;
     misc(alloc, cursor, builder)?;
     Ok(true)
 }

@@ -50,7 +50,7 @@ pub struct StartTag<'input> {
     /// It ends with `/>`.
     pub empty: bool,
     /// How many replacement texts may be opened behind it.
-    pub left: u32,
+    pub openings_left: u32,
 }
 
 /// What is used again for each start tag.
@@ -63,7 +63,7 @@ pub struct Buffers<'input> {
     /// The attributes of the tag.
     pub taken: Vec<UnresolvedAttribute<'input>>,
     /// The prefixes that the tag declares, where these are many.
-    pub many: BTreeSet<Option<&'input str>>,
+    pub prefix_set: BTreeSet<Option<&'input str>>,
 }
 
 /// A text to keep: a slice of the source where it is one, else a copy of the buffer.
@@ -74,7 +74,7 @@ pub fn stored<'input>(
     scratch: &str,
 ) -> Result<StringStorage<'input>, Failure>
     ensures bytes { IfOk result (λ s. storage_bytes s ≡ (piece_view piece.entry scratch.now).value) }
-    ensures kind { IfOk result (λ s. is_borrowed s ≡ (piece_view piece.entry scratch.now).plain) }
+    ensures kind { IfOk result (λ s. is_borrowed s ≡ (piece_view piece.entry scratch.now).borrowed) }
     ensures err { IfErr result (λ e. e ≡ Failure.Memory) }
 {
     match piece {
@@ -97,8 +97,8 @@ fn add_attribute<'input>(
     buffers: &mut Buffers<'input>,
     own: usize,
     xml: bool,
-    how: Context<'_, 'input>,
-    left: u32,
+    context: Context<'_, 'input>,
+    openings_left: u32,
 ) -> Result<(bool, u32), ParseError<'input>>
     requires value { HasValue text.now raw.now }
     requires placed { raw.now.start < 2 ^ 63 }
@@ -106,24 +106,24 @@ fn add_attribute<'input>(
     requires places { ArePlaces (length elements.old.namespaces.items.items) elements.old.listed.items }
     requires own { own ≤ length elements.old.listed.items }
     requires few { length elements.old.namespaces.items.items ≤ most_pairs }
-    requires many { IsPrefixSet (map namespace_view elements.old.namespaces.items.items) (drop own elements.old.listed.items) buffers.old.many.keys }
+    requires prefix_set { IsPrefixSet (map namespace_view elements.old.namespaces.items.items) (drop own elements.old.listed.items) buffers.old.prefix_set.keys }
     requires once { PrefixesOnce (entries (map namespace_view elements.old.namespaces.items.items) (drop own elements.old.listed.items)) }
     requires scopes { AreScopes own elements.old.scopes.items }
     requires kept { HasBindings elements.old }
     ensures places { OnOk result (ArePlaces (length elements.new.namespaces.items.items) elements.new.listed.items) }
     ensures own { OnOk result (own ≤ length elements.new.listed.items) }
     ensures few { OnOk result (length elements.new.namespaces.items.items ≤ most_pairs) }
-    ensures many { OnOk result (IsPrefixSet (map namespace_view elements.new.namespaces.items.items) (drop own elements.new.listed.items) buffers.new.many.keys) }
+    ensures prefix_set { OnOk result (IsPrefixSet (map namespace_view elements.new.namespaces.items.items) (drop own elements.new.listed.items) buffers.new.prefix_set.keys) }
     ensures once { OnOk result (PrefixesOnce (entries (map namespace_view elements.new.namespaces.items.items) (drop own elements.new.listed.items))) }
     ensures kept { OnOk result (HasBindings elements.new) }
     ensures scopes { elements.new.scopes ≡ elements.old.scopes }
     ensures lists { OnOk result (lists_in elements.new ≡ lists_in elements.old) }
     ensures attributes { elements.new.attributes ≡ elements.old.attributes }
-    ensures took { (es : List Entity) (known : List NamespaceDecl) (before : List ℕ) (h : TagSoFar) → AreDeclared es how.entry.entities.now → own ≡ length before
+    ensures took { (es : List Entity) (known : List NamespaceDecl) (before : List ℕ) (h : TagSoFar) → AreDeclared es context.entry.entities.now → own ≡ length before
         → HoldsTag known before (map namespace_view elements.old.namespaces.items.items) elements.old.listed.items xml buffers.old.taken.items h
-        → AddsAttribute known before (map namespace_view elements.new.namespaces.items.items) elements.new.listed.items buffers.new.taken.items result (one_more (values_in es how.entry) known text.now (attribute_view raw.now) left h) }
+        → AddsAttribute known before (map namespace_view elements.new.namespaces.items.items) elements.new.listed.items buffers.new.taken.items result (one_more (values_in es context.entry) known text.now (attribute_view raw.now) openings_left h) }
 {
-    let (piece, left) = value(text, raw, how, left, &mut buffers.scratch)?;
+    let (piece, openings_left) = value(text, raw, context, openings_left, &mut buffers.scratch)?;
     let value = stored(alloc, piece, buffers.scratch.as_str())?;
     let one = UnresolvedAttribute {
         start: raw.start,
@@ -137,15 +137,15 @@ fn add_attribute<'input>(
         let xml = declare_namespace(
             &mut elements.namespaces,
             &mut elements.listed,
-            &mut buffers.many,
+            &mut buffers.prefix_set,
             own,
             xml,
             one,
         )?;
-        return Ok((xml, left));
+        return Ok((xml, openings_left));
     }
     push(&mut buffers.taken, one)?;
-    Ok((xml, left))
+    Ok((xml, openings_left))
 }
 
 /// How many bytes a text has, which is always less than 2^63.
@@ -170,30 +170,30 @@ fn attributes<'input>(
     buffers: &mut Buffers<'input>,
     own: usize,
     cut: Fault,
-    how: Context<'_, 'input>,
-    mut left: u32,
+    context: Context<'_, 'input>,
+    mut openings_left: u32,
 ) -> Result<(bool, bool, u32), ParseError<'input>>
     requires places { ArePlaces (length elements.old.namespaces.items.items) elements.old.listed.items }
     requires own { own ≤ length elements.old.listed.items }
     requires few { length elements.old.namespaces.items.items ≤ most_pairs }
-    requires many { IsPrefixSet (map namespace_view elements.old.namespaces.items.items) (drop own elements.old.listed.items) buffers.old.many.keys }
+    requires prefix_set { IsPrefixSet (map namespace_view elements.old.namespaces.items.items) (drop own elements.old.listed.items) buffers.old.prefix_set.keys }
     requires once { PrefixesOnce (entries (map namespace_view elements.old.namespaces.items.items) (drop own elements.old.listed.items)) }
     requires scopes { AreScopes own elements.old.scopes.items }
     requires kept { HasBindings elements.old }
     ensures places { OnOk result (ArePlaces (length elements.new.namespaces.items.items) elements.new.listed.items) }
     ensures own { OnOk result (own ≤ length elements.new.listed.items) }
     ensures few { OnOk result (length elements.new.namespaces.items.items ≤ most_pairs) }
-    ensures many { OnOk result (IsPrefixSet (map namespace_view elements.new.namespaces.items.items) (drop own elements.new.listed.items) buffers.new.many.keys) }
+    ensures prefix_set { OnOk result (IsPrefixSet (map namespace_view elements.new.namespaces.items.items) (drop own elements.new.listed.items) buffers.new.prefix_set.keys) }
     ensures once { OnOk result (PrefixesOnce (entries (map namespace_view elements.new.namespaces.items.items) (drop own elements.new.listed.items))) }
     ensures kept { OnOk result (HasBindings elements.new) }
     ensures scopes { elements.new.scopes ≡ elements.old.scopes }
     ensures lists { OnOk result (lists_in elements.new ≡ lists_in elements.old) }
     ensures attributes { elements.new.attributes ≡ elements.old.attributes }
     ensures source { cursor.new.text ≡ cursor.old.text }
-    ensures took { (es : List Entity) (known : List NamespaceDecl) (before : List ℕ) (h : TagSoFar) → AreDeclared es how.entry.entities.now → own ≡ length before
+    ensures took { (es : List Entity) (known : List NamespaceDecl) (before : List ℕ) (h : TagSoFar) → AreDeclared es context.entry.entities.now → own ≡ length before
         → HoldsTag known before (map namespace_view elements.old.namespaces.items.items) elements.old.listed.items false buffers.old.taken.items h
         → AddsAttributes known before (map namespace_view elements.new.namespaces.items.items) elements.new.listed.items buffers.new.taken.items cursor.new result
-        (attributes_at (length cursor.old.text.now) (values_in es how.entry) cut known cursor.old.text.now cursor.old.pos left h) }
+        (attributes_at (length cursor.old.text.now) (values_in es context.entry) cut known cursor.old.text.now cursor.old.pos openings_left h) }
 {
     let mut xml = false;
     let count = byte_count(cursor.text);
@@ -203,7 +203,7 @@ fn attributes<'input>(
         }
         match cursor.tag_item()? {
             TagItem::More(raw) => {
-                (xml, left) = add_attribute(
+                (xml, openings_left) = add_attribute(
                     alloc,
                     cursor.text,
                     &raw,
@@ -212,12 +212,12 @@ fn attributes<'input>(
                     buffers,
                     own,
                     xml,
-                    how,
-                    left,
+                    context,
+                    openings_left,
                 )?;
             }
-            TagItem::Open => return Ok((xml, false, left)),
-            TagItem::Empty => return Ok((xml, true, left)),
+            TagItem::Open => return Ok((xml, false, openings_left)),
+            TagItem::Empty => return Ok((xml, true, openings_left)),
         }
     }
     Err(ParseError::Fault(cut))
@@ -242,7 +242,7 @@ fn element_data<'input>(
     requires present { HasBindingsOf elements.old scope }
     requires few { length (attribute_rows elements.old.attributes) ≤ most_attributes }
     requires small { at < 2 ^ 63 }
-    ensures names { elements.new.namespaces ≡ elements.old.namespaces }
+    ensures namespaces { elements.new.namespaces ≡ elements.old.namespaces }
     ensures listed { elements.new.listed ≡ elements.old.listed }
     ensures scopes { elements.new.scopes ≡ elements.old.scopes }
     ensures present { elements.new.present ≡ elements.old.present }
@@ -290,8 +290,8 @@ pub fn start_tag<'input>(
     buffers: &mut Buffers<'input>,
     above: u32,
     cut: Fault,
-    how: Context<'_, 'input>,
-    left: u32,
+    context: Context<'_, 'input>,
+    openings_left: u32,
 ) -> Result<StartTag<'input>, ParseError<'input>>
     requires there { cursor.old.pos < length cursor.old.text.now }
     requires here { slice_index cursor.old.text.now cursor.old.pos ≡ 60 }
@@ -304,8 +304,8 @@ pub fn start_tag<'input>(
     requires kept { HasBindings elements.old }
     ensures source { cursor.new.text ≡ cursor.old.text }
     ensures starts { IfOk result (λ t. t.name_start ≡ cursor.old.pos + 1) }
-    ensures value { (es : List Entity) → AreDeclared es how.entry.entities.now → GivesTag elements.old elements.new cursor.new result (scope_in_tables elements.old above)
-        (tag_at (values_in es how.entry) cut (scope_in_tables elements.old above) (length (attribute_rows elements.old.attributes)) (map namespace_view elements.old.namespaces.items.items) cursor.old.text.now cursor.old.pos left) }
+    ensures value { (es : List Entity) → AreDeclared es context.entry.entities.now → GivesTag elements.old elements.new cursor.new result (scope_in_tables elements.old above)
+        (tag_at (values_in es context.entry) cut (scope_in_tables elements.old above) (length (attribute_rows elements.old.attributes)) (map namespace_view elements.old.namespaces.items.items) cursor.old.text.now cursor.old.pos openings_left) }
 {
     let small = byte_count(cursor.text);
     cursor.advance();
@@ -317,8 +317,17 @@ pub fn start_tag<'input>(
     }
     let own = elements.listed.len();
     buffers.taken.clear();
-    let (xml, empty, left) = attributes(alloc, cursor, elements, buffers, own, cut, how, left)?;
-    let scope = scope_of_tag(elements, &buffers.many, above, own, xml)?;
+    let (xml, empty, openings_left) = attributes(
+        alloc,
+        cursor,
+        elements,
+        buffers,
+        own,
+        cut,
+        context,
+        openings_left,
+    )?;
+    let scope = scope_of_tag(elements, &buffers.prefix_set, above, own, xml)?;
     let element = element_data(alloc, elements, &mut buffers.taken, name, name_start, scope)?;
     Ok(StartTag {
         name,
@@ -326,6 +335,6 @@ pub fn start_tag<'input>(
         name_end,
         element,
         empty,
-        left,
+        openings_left,
     })
 }

@@ -55,13 +55,13 @@ unmarked src first =
     ]
 
 -- what it is written in
-pub alone_utf8 : (src : List ℕ) (s e left : ℕ) (one : Forest Item) → IsUtf8 src → IsElement true no_entities src s e 255 left one → (e ≤ length src) × IsUtf8 (slice src s e)
-alone_utf8 src s e left one utf8 is =
-    let ends = element_ends true no_entities src s e 255 left one is in
+pub alone_utf8 : (src : List ℕ) (s e openings_left : ℕ) (one : Forest Item) → IsUtf8 src → IsElement true no_entities src s e 255 openings_left one → (e ≤ length src) × IsUtf8 (slice src s e)
+alone_utf8 src s e openings_left one utf8 is =
+    let ends = element_ends true no_entities src s e 255 openings_left one is in
     let cut = ends_cut src e utf8 ends in
     let inside = cut.0 in
-    let lt = element_lt src true no_entities s e 255 left one is in
-    let first = element_begins src s e 255 left one is in
+    let lt = element_lt src true no_entities s e 255 openings_left one is in
+    let first = element_begins src s e 255 openings_left one is in
     let n = length-take e src in
     let same = get_or-take e src s 0 lt in
     let here = first.0 in
@@ -71,72 +71,72 @@ alone_utf8 src s e left one utf8 is =
     (inside, subst IsUtf8 d (IsUtf8-drop (take e src) s (IsUtf8-take src e utf8 cut) start))
 
 -- an element of the slice
-pub element_alone : (src : List ℕ) (s e left : ℕ) (one : Forest Item) → IsUtf8 src → IsElement true no_entities src s e 255 left one
-    → IsElement true no_entities (slice src s e) 0 (e - s) 255 left (moved_items (record { add = 0; sub = s }) one)
-element_alone src s e left one utf8 is =
+pub element_alone : (src : List ℕ) (s e openings_left : ℕ) (one : Forest Item) → IsUtf8 src → IsElement true no_entities src s e 255 openings_left one
+    → IsElement true no_entities (slice src s e) 0 (e - s) 255 openings_left (moved_items (record { add = 0; sub = s }) one)
+element_alone src s e openings_left one utf8 is =
     let mv : Move = record { add = 0; sub = s } in
-    let a = alone_utf8 src s e left one utf8 is in
+    let a = alone_utf8 src s e openings_left one utf8 is in
     let inside = a.0 in
-    let lt = element_lt src true no_entities s e 255 left one is in
+    let lt = element_lt src true no_entities s e 255 openings_left one is in
     let z : s + 0 - s ≡ 0 = omega arith in
     let z' : e + 0 - s ≡ e - s = omega arith in
     let f : Follows mv src s (drop s src) (s + 0 - s) = record { same = ap (λ (k : ℕ). drop k (drop s src)) (sym z); at = omega arith } in
-    let there = element_moves mv src (drop s src) s e 255 left one f is in
+    let there = element_moves mv src (drop s src) s e 255 openings_left one f is in
     let front : Fronts (drop s src) (slice src s e) (e - s) = record {
       same = sym (take-take (e - s) (e - s) (drop s src) (omega arith));
       inside = omega (arith, length-drop s src);
       utf8 = a.1;
     } in
-    let cut = element_cut (drop s src) (slice src s e) (e - s) front (s + 0 - s) (e + 0 - s) 255 left (moved_items mv one) (omega arith) there in
-    subst (λ (k : ℕ). IsElement true no_entities (slice src s e) k (e - s) 255 left (moved_items mv one)) z
-    (subst (λ (k : ℕ). IsElement true no_entities (slice src s e) (s + 0 - s) k 255 left (moved_items mv one)) z' cut)
+    let cut = element_cut (drop s src) (slice src s e) (e - s) front (s + 0 - s) (e + 0 - s) 255 openings_left (moved_items mv one) (omega arith) there in
+    subst (λ (k : ℕ). IsElement true no_entities (slice src s e) k (e - s) 255 openings_left (moved_items mv one)) z
+    (subst (λ (k : ℕ). IsElement true no_entities (slice src s e) (s + 0 - s) k 255 openings_left (moved_items mv one)) z' cut)
 
 -- how long it is
-alone_long : (src : List ℕ) (s e left : ℕ) (one : Forest Item) → IsUtf8 src → IsElement true no_entities src s e 255 left one → e - s ≡ length (slice src s e)
-alone_long src s e left one utf8 is =
-    let a = alone_utf8 src s e left one utf8 is in
+alone_long : (src : List ℕ) (s e openings_left : ℕ) (one : Forest Item) → IsUtf8 src → IsElement true no_entities src s e 255 openings_left one → e - s ≡ length (slice src s e)
+alone_long src s e openings_left one utf8 is =
+    let a = alone_utf8 src s e openings_left one utf8 is in
     let inside = a.0 in
-    let lt = element_lt src true no_entities s e 255 left one is in
+    let lt = element_lt src true no_entities s e 255 openings_left one is in
     omega (arith, length-take (e - s) (drop s src), length-drop s src)
 
 -- a parse of it
-pub parse_alone : (src : List ℕ) (s e left : ℕ) (one : Forest Item) → IsUtf8 src → IsElement true no_entities src s e 255 left one → AreWellNamed [] one
+pub parse_alone : (src : List ℕ) (s e openings_left : ℕ) (one : Forest Item) → IsUtf8 src → IsElement true no_entities src s e 255 openings_left one → AreWellNamed [] one
     → ParseWithout (slice src s e) (moved_items (record { add = 0; sub = s }) one)
-parse_alone src s e left one utf8 is named =
+parse_alone src s e openings_left one utf8 is named =
     let mv : Move = record { add = 0; sub = s } in
     let text = slice src s e in
-    let own = element_alone src s e left one utf8 is in
-    let first = element_begins text 0 (e - s) 255 left (moved_items mv one) own in
+    let own = element_alone src s e openings_left one utf8 is in
+    let first = element_begins text 0 (e - s) 255 openings_left (moved_items mv one) own in
     record {
       declared_to = 0;
-      declaration = subst (λ (k : ℕ). MayHaveXmlDecl text k 0) (sym (unmarked text first.0)) (not_declared 0 (undeclared text 0 (e - s) 255 left (moved_items mv one) own));
+      declaration = subst (λ (k : ℕ). MayHaveXmlDecl text k 0) (sym (unmarked text first.0)) (not_declared 0 (undeclared text 0 (e - s) 255 openings_left (moved_items mv one) own));
       start = 0;
       before = Nil;
       misc_before = no_misc 0;
       end = e - s;
-      left = left;
+      openings_left = openings_left;
       one = moved_items mv one;
       element = own;
       after = Nil;
-      misc_after = subst (λ (k : ℕ). Misc text (e - s) k Nil) (alone_long src s e left one utf8 is) (no_misc (e - s));
+      misc_after = subst (λ (k : ℕ). Misc text (e - s) k Nil) (alone_long src s e openings_left one utf8 is) (no_misc (e - s));
       is_tree = sym (join_nil (moved_items mv one));
       well_named = moved_named mv [] one named;
     }
 
 -- its tree
-pub shown_alone : (src : List ℕ) (s e left : ℕ) (one : Forest Item) → IsUtf8 src → IsElement true no_entities src s e 255 left one
+pub shown_alone : (src : List ℕ) (s e openings_left : ℕ) (one : Forest Item) → IsUtf8 src → IsElement true no_entities src s e 255 openings_left one
     → Cons (Root (e - s)) (shifted (record { add = 0; sub = s }) (resolved [] one)) Nil ≡ document_tree (length (slice src s e)) (moved_items (record { add = 0; sub = s }) one)
-shown_alone src s e left one utf8 is =
+shown_alone src s e openings_left one utf8 is =
     let mv : Move = record { add = 0; sub = s } in
-    ap (λ (k : ℕ). Cons (Root k) (shifted mv (resolved [] one)) Nil) (alone_long src s e left one utf8 is)
+    ap (λ (k : ℕ). Cons (Root k) (shifted mv (resolved [] one)) Nil) (alone_long src s e openings_left one utf8 is)
     ∙ ap (λ (f : Forest Node). Cons (Root (length (slice src s e))) f Nil) (sym (moved_resolved mv [] one))
 
 -- a document of it
-pub reparse_at : (src : List ℕ) (s e left : ℕ) (one : Forest Item) → IsUtf8 src → IsElement true no_entities src s e 255 left one → AreWellNamed [] one
+pub reparse_at : (src : List ℕ) (s e openings_left : ℕ) (one : Forest Item) → IsUtf8 src → IsElement true no_entities src s e 255 openings_left one → AreWellNamed [] one
     → HasTree (slice src s e) (Cons (Root (e - s)) (shifted (record { add = 0; sub = s }) (resolved [] one)) Nil)
-reparse_at src s e left one utf8 is named =
+reparse_at src s e openings_left one utf8 is named =
     record {
       written = moved_items (record { add = 0; sub = s }) one;
-      parse = parse_with (slice src s e) (moved_items (record { add = 0; sub = s }) one) (parse_alone src s e left one utf8 is named);
-      shown = shown_alone src s e left one utf8 is;
+      parse = parse_with (slice src s e) (moved_items (record { add = 0; sub = s }) one) (parse_alone src s e openings_left one utf8 is named);
+      shown = shown_alone src s e openings_left one utf8 is;
     }

@@ -29,20 +29,20 @@ join_nil (Cons item children rest) = ap (Cons item children) (join_nil rest)
 abbrev pub EndUpTo : ℕ → Forest Item → Type 0
 EndUpTo s Nil = Unit {0}
 EndUpTo s (Cons (Element a z t) children rest) = (a < z) × (z ≤ s) × EndUpTo s rest
-EndUpTo s (Cons (Text a z v plain) children rest) = EndUpTo s rest
+EndUpTo s (Cons (Text a z v borrowed) children rest) = EndUpTo s rest
 EndUpTo s (Cons (Comment a z v) children rest) = EndUpTo s rest
 EndUpTo s (Cons (PI a z v o) children rest) = EndUpTo s rest
 
 up_to_join : (s : ℕ) (f g : Forest Item) → EndUpTo s f → EndUpTo s g → EndUpTo s (join f g)
 up_to_join s Nil g a b = b
 up_to_join s (Cons (Element x z t) children rest) g (lt, le, more) b = (lt, le, up_to_join s rest g more b)
-up_to_join s (Cons (Text x z v plain) children rest) g a b = up_to_join s rest g a b
+up_to_join s (Cons (Text x z v borrowed) children rest) g a b = up_to_join s rest g a b
 up_to_join s (Cons (Comment x z v) children rest) g a b = up_to_join s rest g a b
 up_to_join s (Cons (PI x z v o) children rest) g a b = up_to_join s rest g a b
 
-piece_up_to : (s start stop : ℕ) (plain : Bool) (ss : List DataByte) → EndUpTo s (piece start stop plain ss)
-piece_up_to s start stop plain [] = tt
-piece_up_to s start stop plain (x ∷ ss) = tt
+piece_up_to : (s start stop : ℕ) (borrowed : Bool) (ss : List DataByte) → EndUpTo s (piece start stop borrowed ss)
+piece_up_to s start stop borrowed [] = tt
+piece_up_to s start stop borrowed (x ∷ ss) = tt
 
 module _ (src : List ℕ) where
   parts_up_to : (s start stop i b c : ℕ) (items : Forest Item) → Parts true no_entities src start stop i b c items → EndUpTo s items
@@ -111,31 +111,31 @@ module _ (mv : Move) (one : Forest Item) (s : ℕ) where
       let here = ne_eqb a s (λ e. omega arith) in
       let over = le-ltb s z le in
       rw (here, over) (ap (Cons (Element a z t) children) (past_front rest g more))
-  past_front (Cons (Text a z v plain) children rest) g up = ap (Cons (Text a z v plain) children) (past_front rest g up)
+  past_front (Cons (Text a z v borrowed) children rest) g up = ap (Cons (Text a z v borrowed) children) (past_front rest g up)
   past_front (Cons (Comment a z v) children rest) g up = ap (Cons (Comment a z v) children) (past_front rest g up)
   past_front (Cons (PI a z v o) children rest) g up = ap (Cons (PI a z v o) children) (past_front rest g up)
 
 module _ (mv : Move) (s x y : ℕ) (tag : Tag) (below : Forest Item) where
   -- a text in front of it
-  exchanged_glue : (a z : ℕ) (v : List ℕ) (plain : Bool) (under f : Forest Item)
-      → exchanged_items mv (Cons (Element x y tag) below Nil) s (glue a z v plain under f) ≡ glue a z v plain under (exchanged_items mv (Cons (Element x y tag) below Nil) s f)
-  exchanged_glue a z v plain under Nil = refl
-  exchanged_glue a z v plain under (Cons (Text b w u p) children rest) = refl
-  exchanged_glue a z v plain under (Cons (Element b w t) children rest) =
-      elim (cases_Bool (b == s)) as (λ q. exchanged_items mv (Cons (Element x y tag) below Nil) s (glue a z v plain under (Cons (Element b w t) children rest)) ≡ glue a z v plain under (exchanged_items mv (Cons (Element x y tag) below Nil) s (Cons (Element b w t) children rest))) [
+  exchanged_glue : (a z : ℕ) (v : List ℕ) (borrowed : Bool) (under f : Forest Item)
+      → exchanged_items mv (Cons (Element x y tag) below Nil) s (glue a z v borrowed under f) ≡ glue a z v borrowed under (exchanged_items mv (Cons (Element x y tag) below Nil) s f)
+  exchanged_glue a z v borrowed under Nil = refl
+  exchanged_glue a z v borrowed under (Cons (Text b w u p) children rest) = refl
+  exchanged_glue a z v borrowed under (Cons (Element b w t) children rest) =
+      elim (cases_Bool (b == s)) as (λ q. exchanged_items mv (Cons (Element x y tag) below Nil) s (glue a z v borrowed under (Cons (Element b w t) children rest)) ≡ glue a z v borrowed under (exchanged_items mv (Cons (Element x y tag) below Nil) s (Cons (Element b w t) children rest))) [
         | inl is ↦ rw is refl
-        | inr differs ↦ elim (cases_Bool (nat_lt s w)) as (λ q. exchanged_items mv (Cons (Element x y tag) below Nil) s (glue a z v plain under (Cons (Element b w t) children rest)) ≡ glue a z v plain under (exchanged_items mv (Cons (Element x y tag) below Nil) s (Cons (Element b w t) children rest))) [
+        | inr differs ↦ elim (cases_Bool (nat_lt s w)) as (λ q. exchanged_items mv (Cons (Element x y tag) below Nil) s (glue a z v borrowed under (Cons (Element b w t) children rest)) ≡ glue a z v borrowed under (exchanged_items mv (Cons (Element x y tag) below Nil) s (Cons (Element b w t) children rest))) [
           | inl within ↦ rw (differs, within) refl
           | inr behind ↦ rw (differs, behind) refl
         ]
       ]
-  exchanged_glue a z v plain under (Cons (Comment b w u) children rest) = refl
-  exchanged_glue a z v plain under (Cons (PI b w u o) children rest) = refl
+  exchanged_glue a z v borrowed under (Cons (Comment b w u) children rest) = refl
+  exchanged_glue a z v borrowed under (Cons (PI b w u o) children rest) = refl
 
   -- texts that touch
   pub exchanged_merge : (f : Forest Item) → exchanged_items mv (Cons (Element x y tag) below Nil) s (merge f) ≡ merge (exchanged_items mv (Cons (Element x y tag) below Nil) s f)
   exchanged_merge Nil = refl
-  exchanged_merge (Cons (Text a z v plain) children rest) = exchanged_glue a z v plain children (merge rest) ∙ ap (glue a z v plain children) (exchanged_merge rest)
+  exchanged_merge (Cons (Text a z v borrowed) children rest) = exchanged_glue a z v borrowed children (merge rest) ∙ ap (glue a z v borrowed children) (exchanged_merge rest)
   exchanged_merge (Cons (Element a z t) children rest) =
       elim (cases_Bool (a == s)) as (λ q. exchanged_items mv (Cons (Element x y tag) below Nil) s (merge (Cons (Element a z t) children rest)) ≡ merge (exchanged_items mv (Cons (Element x y tag) below Nil) s (Cons (Element a z t) children rest))) [
         | inl is ↦ rw is (ap (Cons (Element x y tag) below) (moved_merge mv rest))

@@ -107,7 +107,7 @@ up_to_around src s i j items (an_item _ k _ _ more (instruction _ n x _ is) rest
 -- the top nodes of a document are in order
 pub tops_ordered : (src : List ℕ) (tops : Forest Item) → ParseWithout src tops → Ordered 0 (length src) tops
 tops_ordered src tops p =
-    let one = ordered_join p.start p.end (length src) p.one p.after (element_ordered src p.start p.end 255 p.left p.one p.element) (around_ordered src p.end (length src) p.after p.misc_after) in
+    let one = ordered_join p.start p.end (length src) p.one p.after (element_ordered src p.start p.end 255 p.openings_left p.one p.element) (around_ordered src p.end (length src) p.after p.misc_after) in
     let all = ordered_join p.declared_to p.start (length src) p.before (join p.one p.after) (around_ordered src p.declared_to p.start p.before p.misc_before) one in
     subst (Ordered 0 (length src)) (sym p.is_tree) (wider p.declared_to (length src) 0 (length src) (join p.before (join p.one p.after)) (omega arith) (omega arith) all)
 
@@ -129,7 +129,7 @@ module _ (src other : List ℕ) (s e a z : ℕ) (t : Tag) (kids one : Forest Ite
 
   -- where the element stands
   placed : ElementWith src s e hole p.start p.end p.one × IsElement true no_entities src s e 255 255 hole
-  placed = element_found src s e t kids p.start p.end 255 p.left p.one p.element (in_root src s e t kids tops p is)
+  placed = element_found src s e t kids p.start p.end 255 p.openings_left p.one p.element (in_root src s e t kids tops p is)
 
   -- the items of the new text
   items_are : exchanged_items (record { add = z - a; sub = e - s }) (moved_items (record { add = s; sub = a }) one) s tops
@@ -141,7 +141,7 @@ module _ (src other : List ℕ) (s e a z : ℕ) (t : Tag) (kids one : Forest Ite
       let b0 = b.0 in
       let b1 = b.1 in
       let lt = element_lt src true no_entities s e 255 255 hole placed.1 in
-      let o = one_element src p.start p.end 255 p.left p.one p.element in
+      let o = one_element src p.start p.end 255 p.openings_left p.one p.element in
       let front = subst (λ (f : Forest Item). exchanged_items mv put_in s (join f p.after) ≡ join (exchanged_items mv put_in s f) (moved_items mv p.after)) (sym o.2)
       (exchanged_front mv put_in s p.start p.end o.0 o.1 p.after b0 (omega arith)) in
       ap (exchanged_items mv put_in s) p.is_tree ∙ past_front mv put_in s p.before (join p.one p.after) (up_to_around src s p.declared_to p.start p.before p.misc_before) ∙ ap (join p.before) front
@@ -189,7 +189,7 @@ module _ (src other : List ℕ) (s e a z : ℕ) (t : Tag) (kids one : Forest Ite
         before = p.before;
         misc_before = around_cut src text (s + 1) front p.declared_to p.start p.before (omega arith) p.misc_before;
         end = moved mv p.end;
-        left = 255;
+        openings_left = 255;
         one = exchanged_items mv put_in s p.one;
         element = exchanged_whole src other s e a z utf8 utf8' hole one is_hole new p.start p.end p.one with_hole;
         after = moved_items mv p.after;

@@ -172,11 +172,11 @@ apart_in i j (Cons (Element a z t) children rest) (suc k) (suc l) (below, lt, lo
           let l_is : self_contained (resolved [] rest) (l - n) ≡ true = rw l_out at is' in
           rw (k_out, l_out) (apart_in z j rest (k - n) (l - n) next k_is l_is (omega arith)))
     ]
-apart_in i j (Cons (Text a z v plain) children rest) zero l order is is' le = cc is
-apart_in i j (Cons (Text a z v plain) children rest) (suc k) zero order is is' le = cc is'
-apart_in i j (Cons (Text a z v plain) children rest) (suc k) (suc l) (bare, next) is is' le =
-    subst (λ (c : Forest Item). self_contained (resolved [] (Cons (Text a z v plain) c rest)) (suc k) ≡ true → self_contained (resolved [] (Cons (Text a z v plain) c rest)) (suc l) ≡ true
-    → suc k + size (subtree (resolved [] (Cons (Text a z v plain) c rest)) (suc k)) ≤ suc l → end_at (resolved [] (Cons (Text a z v plain) c rest)) (suc k) ≤ start_at (resolved [] (Cons (Text a z v plain) c rest)) (suc l)) (sym bare)
+apart_in i j (Cons (Text a z v borrowed) children rest) zero l order is is' le = cc is
+apart_in i j (Cons (Text a z v borrowed) children rest) (suc k) zero order is is' le = cc is'
+apart_in i j (Cons (Text a z v borrowed) children rest) (suc k) (suc l) (bare, next) is is' le =
+    subst (λ (c : Forest Item). self_contained (resolved [] (Cons (Text a z v borrowed) c rest)) (suc k) ≡ true → self_contained (resolved [] (Cons (Text a z v borrowed) c rest)) (suc l) ≡ true
+    → suc k + size (subtree (resolved [] (Cons (Text a z v borrowed) c rest)) (suc k)) ≤ suc l → end_at (resolved [] (Cons (Text a z v borrowed) c rest)) (suc k) ≤ start_at (resolved [] (Cons (Text a z v borrowed) c rest)) (suc l)) (sym bare)
     (λ k_is l_is fits.
     let k_out = le-ltb k 0 (omega arith) in
     let l_out = le-ltb l 0 (omega arith) in

@@ -27,13 +27,13 @@ module _ (s e : ℕ) (t : Tag) (kids : Forest Item) where
       elim (stands_join rest g is) as (λ q. StandsInEach s e t kids (Cons item children rest) ⊎ StandsInEach s e t kids g) [ inl is ↦ inl (beside item children rest is) | inr is ↦ inr is ]
 
   -- behind a text
-  past_text : (a z : ℕ) (v : List ℕ) (plain : Bool) (under f : Forest Item) → StandsInEach s e t kids (Cons (Text a z v plain) under f) → StandsInEach s e t kids under ⊎ StandsInEach s e t kids f
-  past_text a z v plain under f (below _ _ _ is) = inl is
-  past_text a z v plain under f (beside _ _ _ is) = inr is
+  past_text : (a z : ℕ) (v : List ℕ) (borrowed : Bool) (under f : Forest Item) → StandsInEach s e t kids (Cons (Text a z v borrowed) under f) → StandsInEach s e t kids under ⊎ StandsInEach s e t kids f
+  past_text a z v borrowed under f (below _ _ _ is) = inl is
+  past_text a z v borrowed under f (beside _ _ _ is) = inr is
 
-  stands_glue : (a z : ℕ) (v : List ℕ) (plain : Bool) (under f : Forest Item) → StandsInEach s e t kids (glue a z v plain under f) → StandsInEach s e t kids under ⊎ StandsInEach s e t kids f
-  stands_glue a z v plain under Nil is = past_text a z v plain under Nil is
-  stands_glue a z v plain under (Cons (Text x y w p) children rest) is =
+  stands_glue : (a z : ℕ) (v : List ℕ) (borrowed : Bool) (under f : Forest Item) → StandsInEach s e t kids (glue a z v borrowed under f) → StandsInEach s e t kids under ⊎ StandsInEach s e t kids f
+  stands_glue a z v borrowed under Nil is = past_text a z v borrowed under Nil is
+  stands_glue a z v borrowed under (Cons (Text x y w p) children rest) is =
       elim (past_text a z (v ++ w) false (join under children) rest is) as (λ q. StandsInEach s e t kids under ⊎ StandsInEach s e t kids (Cons (Text x y w p) children rest)) [
         | inl low ↦ elim (stands_join under children low) as (λ q. StandsInEach s e t kids under ⊎ StandsInEach s e t kids (Cons (Text x y w p) children rest)) [
           | inl low ↦ inl low
@@ -41,17 +41,17 @@ module _ (s e : ℕ) (t : Tag) (kids : Forest Item) where
         ]
         | inr next ↦ inr (beside (Text x y w p) children rest next)
       ]
-  stands_glue a z v plain under (Cons (Element x y u) children rest) is = past_text a z v plain under (Cons (Element x y u) children rest) is
-  stands_glue a z v plain under (Cons (Comment x y u) children rest) is = past_text a z v plain under (Cons (Comment x y u) children rest) is
-  stands_glue a z v plain under (Cons (PI x y u o) children rest) is = past_text a z v plain under (Cons (PI x y u o) children rest) is
+  stands_glue a z v borrowed under (Cons (Element x y u) children rest) is = past_text a z v borrowed under (Cons (Element x y u) children rest) is
+  stands_glue a z v borrowed under (Cons (Comment x y u) children rest) is = past_text a z v borrowed under (Cons (Comment x y u) children rest) is
+  stands_glue a z v borrowed under (Cons (PI x y u o) children rest) is = past_text a z v borrowed under (Cons (PI x y u o) children rest) is
 
   -- texts that touch hide no element
   pub stands_merge : (f : Forest Item) → StandsInEach s e t kids (merge f) → StandsInEach s e t kids f
   stands_merge Nil is = is
-  stands_merge (Cons (Text a z v plain) children rest) is =
-      elim (stands_glue a z v plain children (merge rest) is) as (λ q. StandsInEach s e t kids (Cons (Text a z v plain) children rest)) [
-        | inl low ↦ below (Text a z v plain) children rest low
-        | inr next ↦ beside (Text a z v plain) children rest (stands_merge rest next)
+  stands_merge (Cons (Text a z v borrowed) children rest) is =
+      elim (stands_glue a z v borrowed children (merge rest) is) as (λ q. StandsInEach s e t kids (Cons (Text a z v borrowed) children rest)) [
+        | inl low ↦ below (Text a z v borrowed) children rest low
+        | inr next ↦ beside (Text a z v borrowed) children rest (stands_merge rest next)
       ]
   stands_merge (Cons (Element a z u) children rest) (first _) = first rest
   stands_merge (Cons (Element a z u) children rest) (below _ _ _ is) = below (Element a z u) children rest is
@@ -66,9 +66,9 @@ module _ (s e : ℕ) (t : Tag) (kids : Forest Item) where
   in_none is = elim is [ ]
 
   -- a part has none
-  no_piece : (start stop : ℕ) (plain : Bool) (ss : List DataByte) → StandsInEach s e t kids (piece start stop plain ss) → ⊥
-  no_piece start stop plain [] is = in_none is
-  no_piece start stop plain (x ∷ ss) is = nowhere _ _ _ _ is
+  no_piece : (start stop : ℕ) (borrowed : Bool) (ss : List DataByte) → StandsInEach s e t kids (piece start stop borrowed ss) → ⊥
+  no_piece start stop borrowed [] is = in_none is
+  no_piece start stop borrowed (x ∷ ss) is = nowhere _ _ _ _ is
     where
       nowhere : (a z : ℕ) (v : List ℕ) (p : Bool) → StandsInEach s e t kids (leaf (Text a z v p)) → ⊥
       nowhere a z v p (below _ _ _ is) = in_none is
@@ -147,12 +147,12 @@ module _ (src : List ℕ) (s e : ℕ) (t : Tag) (kids : Forest Item) where
         ]
     content_found i j b c items (cdata _ x k _ _ _ more is rest) stands =
         let value = line_ends (literals (slice src (i + 9) x)) in
-        let plain = not (list_any (λ b. b == 13) (slice src (i + 9) x)) in
-        elim (stands_join s e t kids (leaf (Text i k value plain)) more stands) as (λ q. ContentWith src s e hole i j (join (leaf (Text i k value plain)) more) × IsElement true no_entities src s e 255 255 hole) [
-          | inl early ↦ absurd (no_text i k value plain early)
+        let borrowed = not (list_any (λ b. b == 13) (slice src (i + 9) x)) in
+        elim (stands_join s e t kids (leaf (Text i k value borrowed)) more stands) as (λ q. ContentWith src s e hole i j (join (leaf (Text i k value borrowed)) more) × IsElement true no_entities src s e 255 255 hole) [
+          | inl early ↦ absurd (no_text i k value borrowed early)
           | inr late ↦ (
               let found = content_found k j b c more rest late in
-              (ahead i k j (leaf (Text i k value plain)) more (cdata i x k k 255 255 Nil is (ends k 255)) found.0, found.1))
+              (ahead i k j (leaf (Text i k value borrowed)) more (cdata i x k k 255 255 Nil is (ends k 255)) found.0, found.1))
         ]
     content_found i j b c items (misc _ k _ _ _ item more is rest) stands =
         elim (stands_join s e t kids (leaf item) more stands) as (λ q. ContentWith src s e hole i j (join (leaf item) more) × IsElement true no_entities src s e 255 255 hole) [

@@ -141,10 +141,10 @@ find i j (Cons (Element a z t) children rest) (suc id) (le, lt, low, next) is =
           let later : self_contained (resolved [] rest) (id - size (resolved scope children)) ≡ true = rw outside at is in
           found_beside i j a z t children rest id (le, lt, low, next) outside (find z j rest (id - size (resolved scope children)) next later))
     ]
-find i j (Cons (Text a z v plain) children rest) zero order is = cc is
-find i j (Cons (Text a z v plain) children rest) (suc id) (bare, next) is =
-    subst (λ (k : Forest Item). self_contained (resolved [] (Cons (Text a z v plain) k rest)) (suc id) ≡ true → Found i j (Cons (Text a z v plain) k rest) (suc id)) (sym bare)
-    (λ here. found_leaf i j (Text a z v plain) rest id (λ s. refl) (λ mv one s. refl) here (λ later. find i j rest (id - 0) next later)) is
+find i j (Cons (Text a z v borrowed) children rest) zero order is = cc is
+find i j (Cons (Text a z v borrowed) children rest) (suc id) (bare, next) is =
+    subst (λ (k : Forest Item). self_contained (resolved [] (Cons (Text a z v borrowed) k rest)) (suc id) ≡ true → Found i j (Cons (Text a z v borrowed) k rest) (suc id)) (sym bare)
+    (λ here. found_leaf i j (Text a z v borrowed) rest id (λ s. refl) (λ mv one s. refl) here (λ later. find i j rest (id - 0) next later)) is
 find i j (Cons (Comment a z v) children rest) zero order is = cc is
 find i j (Cons (Comment a z v) children rest) (suc id) (bare, next) is =
     subst (λ (k : Forest Item). self_contained (resolved [] (Cons (Comment a z v) k rest)) (suc id) ≡ true → Found i j (Cons (Comment a z v) k rest) (suc id)) (sym bare)

@@ -17,18 +17,18 @@ module _ (m : Move) where
   moved_join (Cons item children rest) g = ap (Cons (moved_item m item) (moved_items m children)) (moved_join rest g)
 
   -- a text in front
-  pub moved_glue : (a e : ℕ) (v : List ℕ) (plain : Bool) (below f : Forest Item) → moved_items m (glue a e v plain below f) ≡ glue (moved m a) (moved m e) v plain (moved_items m below) (moved_items m f)
-  moved_glue a e v plain below Nil = refl
-  moved_glue a e v plain below (Cons (Text x y w p) children rest) = ap (λ (g : Forest Item). Cons (Text (moved m a) (moved m e) (v ++ w) false) g (moved_items m rest)) (moved_join below children)
-  moved_glue a e v plain below (Cons (Element x y t) children rest) = refl
-  moved_glue a e v plain below (Cons (Comment x y t) children rest) = refl
-  moved_glue a e v plain below (Cons (PI x y t o) children rest) = refl
+  pub moved_glue : (a e : ℕ) (v : List ℕ) (borrowed : Bool) (below f : Forest Item) → moved_items m (glue a e v borrowed below f) ≡ glue (moved m a) (moved m e) v borrowed (moved_items m below) (moved_items m f)
+  moved_glue a e v borrowed below Nil = refl
+  moved_glue a e v borrowed below (Cons (Text x y w p) children rest) = ap (λ (g : Forest Item). Cons (Text (moved m a) (moved m e) (v ++ w) false) g (moved_items m rest)) (moved_join below children)
+  moved_glue a e v borrowed below (Cons (Element x y t) children rest) = refl
+  moved_glue a e v borrowed below (Cons (Comment x y t) children rest) = refl
+  moved_glue a e v borrowed below (Cons (PI x y t o) children rest) = refl
 
   -- texts that touch
   pub moved_merge : (f : Forest Item) → moved_items m (merge f) ≡ merge (moved_items m f)
   moved_merge Nil = refl
-  moved_merge (Cons (Text a e v plain) children rest) =
-      moved_glue a e v plain children (merge rest) ∙ ap (glue (moved m a) (moved m e) v plain (moved_items m children)) (moved_merge rest)
+  moved_merge (Cons (Text a e v borrowed) children rest) =
+      moved_glue a e v borrowed children (merge rest) ∙ ap (glue (moved m a) (moved m e) v borrowed (moved_items m children)) (moved_merge rest)
   moved_merge (Cons (Element a e t) children rest) = ap (Cons (Element (moved m a) (moved m e) (moved_tag m t)) (moved_items m children)) (moved_merge rest)
   moved_merge (Cons (Comment a e t) children rest) = ap (Cons (Comment (moved m a) (moved m e) t) (moved_items m children)) (moved_merge rest)
   moved_merge (Cons (PI a e t o) children rest) = ap (Cons (PI (moved m a) (moved m e) t o) (moved_items m children)) (moved_merge rest)
@@ -41,14 +41,14 @@ module _ (m : Move) where
   -- an item as its readers see it
   node_seen : (scope : List NamespaceDecl) (item : Item) → node_in scope (moved_item m item) ≡ moved_node m (node_in scope item)
   node_seen scope (Element a e t) = ap (tree.Element (moved m a) (moved m e) (tree.element_namespace scope t.name) t.name.local scope) (attributes_seen scope t.attributes)
-  node_seen scope (Text a e v plain) = refl
+  node_seen scope (Text a e v borrowed) = refl
   node_seen scope (Comment a e t) = refl
   node_seen scope (PI a e t o) = refl
 
   -- what it lists
   pub same_scope : (above : List NamespaceDecl) (item : Item) → scope_in above (moved_item m item) ≡ scope_in above item
   same_scope above (Element a e t) = refl
-  same_scope above (Text a e v plain) = refl
+  same_scope above (Text a e v borrowed) = refl
   same_scope above (Comment a e t) = refl
   same_scope above (PI a e t o) = refl
 
@@ -85,7 +85,7 @@ module _ (m : Move) where
     attributes = distinct_moves scope [] t.attributes is.attributes;
     element = is.element;
   }
-  item_named scope (Text a e v plain) is = is
+  item_named scope (Text a e v borrowed) is = is
   item_named scope (Comment a e t) is = is
   item_named scope (PI a e t o) is = is
 
@@ -98,7 +98,7 @@ module _ (m : Move) where
 
   same_pairs : (item : Item) → own_pairs (moved_item m item) ≡ own_pairs item
   same_pairs (Element a e t) = refl
-  same_pairs (Text a e v plain) = refl
+  same_pairs (Text a e v borrowed) = refl
   same_pairs (Comment a e t) = refl
   same_pairs (PI a e t o) = refl
 
@@ -112,7 +112,7 @@ module _ (m : Move) where
 
   same_attributes : (item : Item) → own_attributes (moved_item m item) ≡ own_attributes item
   same_attributes (Element a e t) = map_length t.attributes
-  same_attributes (Text a e v plain) = refl
+  same_attributes (Text a e v borrowed) = refl
   same_attributes (Comment a e t) = refl
   same_attributes (PI a e t o) = refl
 

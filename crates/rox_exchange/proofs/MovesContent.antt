@@ -17,9 +17,9 @@ use Rattle.rox_exchange.proofs.Order.{comment_le, cdata_le, pi_le, misc_lt, tag_
 
 module _ (m : Move) (src to : List ℕ) where
   -- the text of a part
-  piece_moves : (start stop : ℕ) (plain : Bool) (ss : List DataByte) → moved_items m (piece start stop plain ss) ≡ piece (moved m start) (moved m stop) plain ss
-  piece_moves start stop plain [] = refl
-  piece_moves start stop plain (s ∷ ss) = refl
+  piece_moves : (start stop : ℕ) (borrowed : Bool) (ss : List DataByte) → moved_items m (piece start stop borrowed ss) ≡ piece (moved m start) (moved m stop) borrowed ss
+  piece_moves start stop borrowed [] = refl
+  piece_moves start stop borrowed (s ∷ ss) = refl
 
   -- the parts of a run
   pub parts_move : (main : Bool) (start stop i b c : ℕ) (items : Forest Item) → start ≤ stop → Follows m src start to (moved m start) → Follows m src i to (moved m i)

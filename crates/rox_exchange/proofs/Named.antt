@@ -40,6 +40,6 @@ module _ (mv : Move) (one : Forest Item) (s : ℕ) (new : AreWellNamed [] one) w
               rw (other, behind) (own, below, named_exchanged rest next beside))
         ]
       ]
-  named_exchanged (Cons (Text a z v plain) children rest) within (own, below, beside) = (own, below, named_exchanged rest within beside)
+  named_exchanged (Cons (Text a z v borrowed) children rest) within (own, below, beside) = (own, below, named_exchanged rest within beside)
   named_exchanged (Cons (Comment a z v) children rest) within (own, below, beside) = (own, below, named_exchanged rest within beside)
   named_exchanged (Cons (PI a z v o) children rest) within (own, below, beside) = (own, below, named_exchanged rest within beside)

@@ -11,14 +11,14 @@ use Rattle.rox_exchange.proofs.Order.{tag_lt, end_lt, misc_lt, content_le, cdata
 abbrev pub Ordered : ℕ → ℕ → Forest Item → Type 0
 Ordered i j Nil = i ≤ j
 Ordered i j (Cons (Element a z t) children rest) = (i ≤ a) × (a < z) × Ordered (a + 1) z children × Ordered z j rest
-Ordered i j (Cons (Text a z v plain) children rest) = (children ≡ Nil) × Ordered i j rest
+Ordered i j (Cons (Text a z v borrowed) children rest) = (children ≡ Nil) × Ordered i j rest
 Ordered i j (Cons (Comment a z v) children rest) = (children ≡ Nil) × Ordered i j rest
 Ordered i j (Cons (PI a z v o) children rest) = (children ≡ Nil) × Ordered i j rest
 
 pub ordered_le : (i j : ℕ) (f : Forest Item) → Ordered i j f → i ≤ j
 ordered_le i j Nil is = is
 ordered_le i j (Cons (Element a z t) children rest) (le, lt, low, beside) = omega (arith, ordered_le z j rest beside)
-ordered_le i j (Cons (Text a z v plain) children rest) (bare, beside) = ordered_le i j rest beside
+ordered_le i j (Cons (Text a z v borrowed) children rest) (bare, beside) = ordered_le i j rest beside
 ordered_le i j (Cons (Comment a z v) children rest) (bare, beside) = ordered_le i j rest beside
 ordered_le i j (Cons (PI a z v o) children rest) (bare, beside) = ordered_le i j rest beside
 
@@ -26,35 +26,35 @@ ordered_le i j (Cons (PI a z v o) children rest) (bare, beside) = ordered_le i j
 pub wider : (i j k l : ℕ) (f : Forest Item) → k ≤ i → j ≤ l → Ordered i j f → Ordered k l f
 wider i j k l Nil left right is = omega arith
 wider i j k l (Cons (Element a z t) children rest) left right (le, lt, low, beside) = (omega arith, lt, low, wider z j z l rest (omega arith) right beside)
-wider i j k l (Cons (Text a z v plain) children rest) left right (bare, beside) = (bare, wider i j k l rest left right beside)
+wider i j k l (Cons (Text a z v borrowed) children rest) left right (bare, beside) = (bare, wider i j k l rest left right beside)
 wider i j k l (Cons (Comment a z v) children rest) left right (bare, beside) = (bare, wider i j k l rest left right beside)
 wider i j k l (Cons (PI a z v o) children rest) left right (bare, beside) = (bare, wider i j k l rest left right beside)
 
 pub ordered_join : (i j k : ℕ) (f g : Forest Item) → Ordered i j f → Ordered j k g → Ordered i k (join f g)
 ordered_join i j k Nil g is more = wider j k i k g is (omega arith) more
 ordered_join i j k (Cons (Element a z t) children rest) g (le, lt, low, beside) more = (le, lt, low, ordered_join z j k rest g beside more)
-ordered_join i j k (Cons (Text a z v plain) children rest) g (bare, beside) more = (bare, ordered_join i j k rest g beside more)
+ordered_join i j k (Cons (Text a z v borrowed) children rest) g (bare, beside) more = (bare, ordered_join i j k rest g beside more)
 ordered_join i j k (Cons (Comment a z v) children rest) g (bare, beside) more = (bare, ordered_join i j k rest g beside more)
 ordered_join i j k (Cons (PI a z v o) children rest) g (bare, beside) more = (bare, ordered_join i j k rest g beside more)
 
 -- a text in front
-ordered_glue : (i j a z : ℕ) (v : List ℕ) (plain : Bool) (f : Forest Item) → Ordered i j f → Ordered i j (glue a z v plain Nil f)
-ordered_glue i j a z v plain Nil is = (refl, is)
-ordered_glue i j a z v plain (Cons (Text x y w p) children rest) is = is
-ordered_glue i j a z v plain (Cons (Element x y t) children rest) is = (refl, is)
-ordered_glue i j a z v plain (Cons (Comment x y t) children rest) is = (refl, is)
-ordered_glue i j a z v plain (Cons (PI x y t o) children rest) is = (refl, is)
+ordered_glue : (i j a z : ℕ) (v : List ℕ) (borrowed : Bool) (f : Forest Item) → Ordered i j f → Ordered i j (glue a z v borrowed Nil f)
+ordered_glue i j a z v borrowed Nil is = (refl, is)
+ordered_glue i j a z v borrowed (Cons (Text x y w p) children rest) is = is
+ordered_glue i j a z v borrowed (Cons (Element x y t) children rest) is = (refl, is)
+ordered_glue i j a z v borrowed (Cons (Comment x y t) children rest) is = (refl, is)
+ordered_glue i j a z v borrowed (Cons (PI x y t o) children rest) is = (refl, is)
 
 pub ordered_merge : (i j : ℕ) (f : Forest Item) → Ordered i j f → Ordered i j (merge f)
 ordered_merge i j Nil is = is
-ordered_merge i j (Cons (Text a z v plain) children rest) (bare, beside) = rw bare (ordered_glue i j a z v plain (merge rest) (ordered_merge i j rest beside))
+ordered_merge i j (Cons (Text a z v borrowed) children rest) (bare, beside) = rw bare (ordered_glue i j a z v borrowed (merge rest) (ordered_merge i j rest beside))
 ordered_merge i j (Cons (Element a z t) children rest) (le, lt, low, beside) = (le, lt, low, ordered_merge z j rest beside)
 ordered_merge i j (Cons (Comment a z t) children rest) (bare, beside) = (bare, ordered_merge i j rest beside)
 ordered_merge i j (Cons (PI a z t o) children rest) (bare, beside) = (bare, ordered_merge i j rest beside)
 
-piece_ordered : (i j start stop : ℕ) (plain : Bool) (ss : List DataByte) → i ≤ j → Ordered i j (piece start stop plain ss)
-piece_ordered i j start stop plain [] le = le
-piece_ordered i j start stop plain (s ∷ ss) le = (refl, le)
+piece_ordered : (i j start stop : ℕ) (borrowed : Bool) (ss : List DataByte) → i ≤ j → Ordered i j (piece start stop borrowed ss)
+piece_ordered i j start stop borrowed [] le = le
+piece_ordered i j start stop borrowed (s ∷ ss) le = (refl, le)
 
 module _ (src : List ℕ) where
   misc_ordered : (i j : ℕ) (item : Item) (rest : Forest Item) (k l : ℕ) → IsMisc src i j item → Ordered k l rest → Ordered k l (Cons item Nil rest)

@@ -68,7 +68,7 @@ module _ (text : List ℕ) (tree : Forest Node) (id : ℕ) (utf8 : IsUtf8 text) 
   pub element_is : IsElement true no_entities text w.found.start w.found.end 255 255 own
   element_is =
       let p = w.parse in
-      (element_found text w.found.start w.found.end w.found.tag w.found.kids p.start p.end 255 p.left p.one p.element
+      (element_found text w.found.start w.found.end w.found.tag w.found.kids p.start p.end 255 p.openings_left p.one p.element
       (in_root text w.found.start w.found.end w.found.tag w.found.kids w.tops p w.found.stands)).1
 
   pub named_is : AreWellNamed [] own

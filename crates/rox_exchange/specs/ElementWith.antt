@@ -29,7 +29,7 @@ exchanged_items m one s (Cons (Element a z t) children rest) =
     if a == s then join one (moved_items m rest)
     else if nat_lt s z then Cons (Element a (moved m z) t) (exchanged_items m one s children) (moved_items m rest)
     else Cons (Element a z t) children (exchanged_items m one s rest)
-exchanged_items m one s (Cons (Text a z v plain) children rest) = Cons (Text a z v plain) children (exchanged_items m one s rest)
+exchanged_items m one s (Cons (Text a z v borrowed) children rest) = Cons (Text a z v borrowed) children (exchanged_items m one s rest)
 exchanged_items m one s (Cons (Comment a z v) children rest) = Cons (Comment a z v) children (exchanged_items m one s rest)
 exchanged_items m one s (Cons (PI a z v o) children rest) = Cons (PI a z v o) children (exchanged_items m one s rest)
 

@@ -12,6 +12,6 @@ is_contained s (Cons (Element a z t) children rest) =
     if a == s then true
     else if nat_lt s z then none_of (listed [] t.declarations) && is_contained s children
     else is_contained s rest
-is_contained s (Cons (Text a z v plain) children rest) = is_contained s rest
+is_contained s (Cons (Text a z v borrowed) children rest) = is_contained s rest
 is_contained s (Cons (Comment a z v) children rest) = is_contained s rest
 is_contained s (Cons (PI a z v o) children rest) = is_contained s rest

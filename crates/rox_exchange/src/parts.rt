@@ -17,7 +17,7 @@ ghost use Rattle.rox_exchange.specs.SelfContained.{is_contained};
 
 /// What an element is written in is a document, if its names are declared within it, and its tree is the element alone, moved to the start.
 pub fn element_is_a_document()
-    ensures { (src : List ℕ) (s e left : ℕ) (one : Forest Item) → IsUtf8 src → IsElement true no_entities src s e 255 left one → AreWellNamed [] one
+    ensures { (src : List ℕ) (s e openings_left : ℕ) (one : Forest Item) → IsUtf8 src → IsElement true no_entities src s e 255 openings_left one → AreWellNamed [] one
         → HasTree (slice src s e) (Cons (Root (e - s)) (shifted (record { add = 0; sub = s }) (resolved [] one)) Nil) }
 {}
 

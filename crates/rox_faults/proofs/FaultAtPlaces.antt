@@ -41,7 +41,7 @@ use Rattle.rox_faults.proofs.PartFronts.{SpendsOnce, value_front}
 use Rattle.rox_theory.proofs.FailedReadings.{ok_one, chars_refuse}
 use Rattle.rox_faults.proofs.FaultLimits.{IsOver, nodes_over}
 use Rattle.rox_faults.proofs.FaultRows.{mark_cut, behind, run_stops_cut}
-use Rattle.rox_faults.proofs.FaultPoints.{how_at}
+use Rattle.rox_faults.proofs.FaultPoints.{context_at}
 use Rattle.rox_faults.proofs.FaultPlaces.{Tagged}
 use Rattle.rox_faults.proofs.FaultApart.{byte_stands, word_stands, chars_stand, misc_begins, misc_apart}
 use Rattle.rox_faults.proofs.FaultPairs.{one_qname}
@@ -77,17 +77,17 @@ end_one src i j k m n x y a b =
     (ap (λ (t : EndTag × ℕ). t.0.name) e, ap (λ (t : EndTag × ℕ). t.0.name_end) e)
 
 -- where no replacement text is open and content ends, no element is open
-ends_main : (k base : ℕ) (src : List ℕ) (e : State) → is_main k ≡ true → Ends k base src e → is_root e.stack ≡ true
-ends_main zero base src e main ends = ends
-ends_main (suc k) base src e main ends = cc main
+ends_main : (k open_around : ℕ) (src : List ℕ) (e : State) → is_main k ≡ true → Ends k open_around src e → is_root e.stack ≡ true
+ends_main zero open_around src e main ends = ends
+ends_main (suc k) open_around src e main ends = cc main
 
-ends_inner : (k base : ℕ) (src : List ℕ) (e : State) → is_main k ≡ false → Ends k base src e → depth_of e.stack ≡ base
-ends_inner zero base src e main ends = cc main
-ends_inner (suc k) base src e main ends = ends.1
+ends_inner : (k open_around : ℕ) (src : List ℕ) (e : State) → is_main k ≡ false → Ends k open_around src e → depth_of e.stack ≡ open_around
+ends_inner zero open_around src e main ends = cc main
+ends_inner (suc k) open_around src e main ends = ends.1
 
 module _ (opens : ℕ → Inclusion) (es : List Entity) (all : OpensAt opens es) (limit : ℕ) (W : Type 0) where
-  abbrev There : (k base : ℕ) → List ℕ → State → Type 0
-  There k base src s = Reached opens es all limit W k base src s
+  abbrev There : (k open_around : ℕ) → List ℕ → State → Type 0
+  There k open_around src s = Reached opens es all limit W k open_around src s
 
   -- a declared entity has a text
   content_declared : (k : ℕ) (name : List ℕ) (b c : ℕ) (items : Forest Item) → (opens k).content name b items c → (t : Replacement) × (text_of es name ≡ Some t)
@@ -98,57 +98,57 @@ module _ (opens : ℕ → Inclusion) (es : List Entity) (all : OpensAt opens es)
 
   -- ---- places
 
-  module _ (k base b : ℕ) (src : List ℕ) (s : grammar.State) (r : There k base src (state_of s b)) where
+  module _ (k open_around b : ℕ) (src : List ℕ) (s : grammar.State) (r : There k open_around src (state_of s b)) where
     abbrev here : State
     here = state_of s b
 
     -- in a run
     run_apart : (f : Fault) → s.at < length src → byte src s.at ≢ 60 → InRun es k (opens k) src s.at b f → ⊥
     run_apart f below other (faults.InRun.no_char _ lack) =
-        let run = run_there opens es all limit W k base b src s r below other in
+        let run = run_there opens es all limit W k open_around b src s r below other in
         chars_stand src r.utf8 s.at (byte_from (λ c. c == 60) src s.at) f r.cut (run_stops_cut src s.at below) (subst (λ (e : ℕ). AreChars src s.at e) run.1.end run.1.chars) lack
     run_apart f below other (end_mark e is chars marked) =
-        let run = run_there opens es all limit W k base b src s r below other in
+        let run = run_there opens es all limit W k open_around b src s r below other in
         let same : e ≡ run.0 = is ∙ sym run.1.end in
         let none : has_mark (word_text word.CDataEnd) (slice src s.at e) ≡ false = ap (λ (j : ℕ). has_mark (word_text word.CDataEnd) (slice src s.at j)) same ∙ run.1.no_end_mark in
         true≢false (sym marked ∙ none)
     run_apart f below other (faults.InRun.in_reference e q _ is chars unmarked from inside' ill) =
-        let run = run_there opens es all limit W k base b src s r below other in
+        let run = run_there opens es all limit W k open_around b src s r below other in
         let below' : q < run.0 = subst (λ (j : ℕ). q < j) (is ∙ sym run.1.end) inside' in
-        run_reference_apart es (is_main k) (opens k) src r.utf8 (content_declared k) s.at run.0 b run.2.left q run.2.items f run.2.parts from below' ill
+        run_reference_apart es (is_main k) (opens k) src r.utf8 (content_declared k) s.at run.0 b run.2.openings_left q run.2.items f run.2.parts from below' ill
     run_apart f below other (faults.InRun.too_many stop q j c front t is to inside' refers spent) =
-        let found = (opened_there opens es all limit W k base b src s r stop q c j front t is to inside' refers).1 in
-        let x = all.content k c found.left (slice src (q + 1) refers.n) found.opened found.opens in
+        let found = (opened_there opens es all limit W k open_around b src s r stop q c j front t is to inside' refers).1 in
+        let x = all.content k c found.openings_left (slice src (q + 1) refers.n) found.opened found.opens in
         spent_apart k c x.1 x.4 spent
 
     -- in a CDATA section
     section_apart : (q : ℕ) (t : DueItem) (f : Fault) → DueInCData src s.at q t → IsMissing src q t f → ⊥
     section_apart q t f (due.DueInCData.its_text opens') lack =
         let below : s.at < length src = let two = (cdata_bytes src s.at opens').0 in omega arith in
-        let is = (there_by opens es all limit W k base src here r a_cdata below (cdata_kind src s.at opens')).2 in
+        let is = (there_by opens es all limit W k open_around src here r a_cdata below (cdata_kind src s.at opens')).2 in
         let eight : s.at + 8 + 1 ≡ s.at + 9 = omega arith in
         let cut = subst (IsCharBoundary src) eight (behind word.CDataStart src s.at 8 91 r.utf8 opens' (omega arith) refl (omega arith) (omega arith)) in
         chars_stand src r.utf8 (s.at + 9) (first word.CDataEnd src (s.at + 9)) f cut (mark_cut (word_text word.CDataEnd) 93 (93 ∷ 62 ∷ []) src (s.at + 9) refl (omega arith) cut.0)
         (subst (λ (e : ℕ). AreChars src (s.at + 9) e) is.end is.chars) lack
     section_apart q t f (due.DueInCData.its_end opens' chars) lack =
         let below : s.at < length src = let two = (cdata_bytes src s.at opens').0 in omega arith in
-        let is = (there_by opens es all limit W k base src here r a_cdata below (cdata_kind src s.at opens')).2 in
+        let is = (there_by opens es all limit W k open_around src here r a_cdata below (cdata_kind src s.at opens')).2 in
         word_stands src word.CDataEnd (first word.CDataEnd src (s.at + 9)) f (subst (λ (e : ℕ). at word.CDataEnd src e ≡ true) is.end is.closes) lack
 
     -- in a comment or an instruction
     item_there : (at word.CommentStart src s.at ≡ true) ⊎ (at word.PIStart src s.at ≡ true) → (j : ℕ) × (item : Item) × IsMisc src s.at j item
-    item_there (inl c) = there_by opens es all limit W k base src here r a_comment (let two = (comment_bytes src s.at c).0 in omega arith) (comment_kind src s.at c)
-    item_there (inr p) = there_by opens es all limit W k base src here r an_instruction (let two = (instruction_bytes src s.at p).0 in omega arith) (instruction_kind src s.at p)
+    item_there (inl c) = there_by opens es all limit W k open_around src here r a_comment (let two = (comment_bytes src s.at c).0 in omega arith) (comment_kind src s.at c)
+    item_there (inr p) = there_by opens es all limit W k open_around src here r an_instruction (let two = (instruction_bytes src s.at p).0 in omega arith) (instruction_kind src s.at p)
 
     item_apart : (f : Fault) → InMisc src s.at f → ⊥
     item_apart f ill = let item = item_there (misc_begins src r.utf8 s.at f ill) in misc_apart src r.utf8 s.at item.0 item.1 f item.2 ill
 
     -- the end tag that stands there closes the innermost open tag of its text
     end_there : at word.EndTagStart src s.at ≡ true
-        → (start : ℕ) × (tag : Tag) × (before : Forest Item) × (up : Open) × (n : ℕ) × (j : ℕ) × (s.stack ≡ inside start tag before up) × (base < depth_of up + 1) × IsEnd src s.at tag.name n j
-    end_there is = there_by opens es all limit W k base src here r an_end (let two = (end_bytes src s.at is).0 in omega arith) (end_kind src s.at is)
+        → (start : ℕ) × (tag : Tag) × (before : Forest Item) × (up : Open) × (n : ℕ) × (j : ℕ) × (s.stack ≡ inside start tag before up) × (open_around < depth_of up + 1) × IsEnd src s.at tag.name n j
+    end_there is = there_by opens es all limit W k open_around src here r an_end (let two = (end_bytes src s.at is).0 in omega arith) (end_kind src s.at is)
 
-    end_apart : (f : Fault) → InEnd base src s f → ⊥
+    end_apart : (f : Fault) → InEnd open_around src s f → ⊥
     unfolding tag_of
     end_apart f (lacks q t _ (due.DueInEnd.its_name opens') (no_qname none)) = let there = end_there opens' in none there.1.name there.4 there.8.is_name
     end_apart f (lacks q t _ (due.DueInEnd.its_name opens') (ends_before _ byte' past)) = cc byte'
@@ -169,13 +169,13 @@ module _ (opens : ℕ → Inclusion) (es : List Entity) (all : OpensAt opens es)
         absurd (omega arith)
 
     -- the start tag that stands there
-    tag_there : TagBegins src s.at (is_content k s.stack) → (t : State) × Tagged (is_main k) (opens k) src base here t × (W → IsValidState limit t) × AreNamed t.stack t.done
+    tag_there : TagBegins src s.at (is_content k s.stack) → (t : State) × Tagged (is_main k) (opens k) src open_around here t × (W → IsValidState limit t) × AreNamed t.stack t.done
     tag_there begins =
         let less' = tag_less src s.at (is_content k s.stack) begins in
         let below : s.at < length src = within src s.at (λ z. omega arith) in
         let kind : kind_at src s.at ≡ a_tag = elim (cases_Bool (is_content k s.stack)) as (λ x. kind_at src s.at ≡ a_tag) [ inl inner ↦ tag_here src s.at (is_content k s.stack) begins inner | inr top ↦ (r.first top).1 ] in
-        let there = step_there opens es all limit W k base src here r below in
-        (there.to, there_by opens es all limit W k base src here r a_tag below kind, there.fine, there.named)
+        let there = step_there opens es all limit W k open_around src here r below in
+        (there.to, there_by opens es all limit W k open_around src here r a_tag below kind, there.fine, there.named)
 
     -- what it adds
     tag_adds : (j c : ℕ) (x : Tag) (empty : Bool) → IsValidState limit (after here j x empty c) → Adds here (Element s.at j x)
@@ -190,20 +190,20 @@ module _ (opens : ℕ → Inclusion) (es : List Entity) (all : OpensAt opens es)
     tag_named j c x false named = named.1
 
     -- holds no fault
-    read_tag_apart : (t : State) (f : Fault) → Tagged (is_main k) (opens k) src base here t → (W → IsValidState limit t) → AreNamed t.stack t.done → faults.InTag (is_main k) (opens k) src s b f → IsOver W f
+    read_tag_apart : (t : State) (f : Fault) → Tagged (is_main k) (opens k) src open_around here t → (W → IsValidState limit t) → AreNamed t.stack t.done → faults.InTag (is_main k) (opens k) src s b f → IsOver W f
     read_tag_apart t f (j, c, x, empty, is, leads) fine named ill =
         let adds : W → Adds here (Element s.at j x) = λ w. tag_adds j c x empty (subst (IsValidState limit) leads (fine w)) in
         let well_named = tag_named j c x empty (subst (λ (u : State). AreNamed u.stack u.done) leads named) in
-        tag_apart (how_at limit es r.d k base).values (opens k) (all.values r.d k r.deep) src r.utf8 s j b c empty x is well_named W (λ w. (adds w).attributes) (λ w. (adds w).pairs) f ill
+        tag_apart (context_at limit es r.d k open_around).values (opens k) (all.values r.d k r.deep) src r.utf8 s j b c empty x is well_named W (λ w. (adds w).attributes) (λ w. (adds w).pairs) f ill
 
     -- past the end nothing stands
-    trail_past : (t u : State) → Trail (is_main k) (opens k) src base t u → length src ≤ t.at → t ≡ u
+    trail_past : (t u : State) → Trail (is_main k) (opens k) src open_around t u → length src ≤ t.at → t ≡ u
     trail_past t u (stays _) past = refl
     trail_past t u (follows _ v _ takes rest) past =
-        let moves = (steps.step_moves (how_at limit es r.d k base) (opens k) (all.values r.d k r.deep) (all.contents limit r.d k r.deep) src r.utf8 t v takes).0 in absurd (omega arith)
+        let moves = (steps.step_moves (context_at limit es r.d k open_around) (opens k) (all.values r.d k r.deep) (all.contents limit r.d k r.deep) src r.utf8 t v takes).0 in absurd (omega arith)
 
     -- so no fault stands at the place but those of the limits
-    pub stands_apart : (f : Fault) → Stands limit es k base (opens k) src s b f → IsOver W f
+    pub stands_apart : (f : Fault) → Stands limit es k open_around (opens k) src s b f → IsOver W f
     stands_apart f (in_run _ inner below other ill) = absurd (run_apart f below other ill)
     stands_apart f (in_section q t _ inner due' lack) = absurd (section_apart q t f due' lack)
     stands_apart f (in_misc _ inner ill) = absurd (item_apart f ill)
@@ -213,36 +213,36 @@ module _ (opens : ℕ → Inclusion) (es : List Entity) (all : OpensAt opens es)
         let same = eq-eqb _ _ less' in
         let past = le-leb (length src) (s.at + 1) (omega arith) in
         let is : kind_at src s.at ≡ nothing = rw (same, past) refl in
-        absurd (there_by opens es all limit W k base src here r nothing (omega arith) is)
+        absurd (there_by opens es all limit W k open_around src here r nothing (omega arith) is)
     stands_apart f (unknown inner less' (inr (mark, no_comment, no_section))) =
         let same = eq-eqb _ _ less' in
         let inside' = within src (s.at + 1) (λ z. omega arith) in
         let more = lt-leb (length src) (s.at + 1) inside' in
         let bang = eq-eqb _ _ mark in
         let is : kind_at src s.at ≡ nothing = rw (same, more, bang, no_comment, no_section) refl in
-        absurd (there_by opens es all limit W k base src here r nothing (omega arith) is)
+        absurd (there_by opens es all limit W k open_around src here r nothing (omega arith) is)
     stands_apart f (unclosed start tag before up stack past main) =
         let same = trail_past here r.end r.trail past in
-        let at_root : is_root s.stack ≡ true = ap (λ (s : State). is_root s.stack) same ∙ ends_main k base src r.end main r.ends in
+        let at_root : is_root s.stack ≡ true = ap (λ (s : State). is_root s.stack) same ∙ ends_main k open_around src r.end main r.ends in
         absurd (true≢false (sym at_root ∙ ap is_root stack))
     stands_apart f (unclosed_in_replacement deep past inner) =
         let same = trail_past here r.end r.trail past in
-        let depth : depth_of s.stack ≡ base = ap (λ (s : State). depth_of s.stack) same ∙ ends_inner k base src r.end inner r.ends in
+        let depth : depth_of s.stack ≡ open_around = ap (λ (s : State). depth_of s.stack) same ∙ ends_inner k open_around src r.end inner r.ends in
         absurd (omega arith)
     stands_apart f (too_many_nodes c t takes few few' over) =
         let below = place_within k (opens k) src r.utf8 s t b c takes in
-        let there = step_there opens es all limit W k base src here r below in
+        let there = step_there opens es all limit W k open_around src here r below in
         nodes_over W (λ w.
-        (let fine = subst (IsValidState limit) (one_step opens es all limit W k base src here r (state_of t c) (takes_there opens es all limit W k base b src s r t c takes) below) (there.fine w) in
+        (let fine = subst (IsValidState limit) (one_step opens es all limit W k open_around src here r (state_of t c) (takes_there opens es all limit W k open_around b src s r t c takes) below) (there.fine w) in
         let nodes = fine.nodes in
         omega arith))
     stands_apart f (too_many_pieces stop q j c front t inner is to named below refers few few' over) =
-        let there = opened_there opens es all limit W k base b src s r stop q c j front t is to below refers in
+        let there = opened_there opens es all limit W k open_around b src s r stop q c j front t is to below refers in
         let run = there.0 in let found = there.1 in
         let split : join s.done run.items ≡ join (join s.done front) (join found.opened found.rest) = ap (join s.done) found.all ∙ sym (join_assoc s.done front (join found.opened found.rest)) in
         nodes_over W (λ w.
-        (let fine : IsValidState limit (state stop (join (join s.done front) (join found.opened found.rest)) s.stack run.left) = subst (λ (f : Forest Item). IsValidState limit (state stop f s.stack run.left)) split (run.fine w) in
-        let nodes = (fine_before limit q stop c run.left (join s.done front) (join found.opened found.rest) s.stack fine).nodes in
+        (let fine : IsValidState limit (state stop (join (join s.done front) (join found.opened found.rest)) s.stack run.openings_left) = subst (λ (f : Forest Item). IsValidState limit (state stop f s.stack run.openings_left)) split (run.fine w) in
+        let nodes = (fine_before limit q stop c run.openings_left (join s.done front) (join found.opened found.rest) s.stack fine).nodes in
         omega arith))
 
   -- ---- values
@@ -254,9 +254,9 @@ module _ (opens : ℕ → Inclusion) (es : List Entity) (all : OpensAt opens es)
     utf8 : IsUtf8 part
     cut : IsCharBoundary part i
     end_cut : IsCharBoundary part stop
-    left : ℕ
+    openings_left : ℕ
     bytes : List ℕ
-    value : Value (is_main l) (opens l) part stop i d left bytes
+    value : Value (is_main l) (opens l) part stop i d openings_left bytes
     chars : AreChars part i stop
 
   -- what a reference opens it opens in one way
@@ -274,13 +274,13 @@ module _ (opens : ℕ → Inclusion) (es : List Entity) (all : OpensAt opens es)
   part_read k src start end b l part i stop d whole (opened m i' stop' d' c _ p j part' t within' to below refers may) =
       let outer = part_read k src start end b m part' i' stop' d' whole within' in
       let name = slice part' (p + 1) refers.n in
-      let there = value_front (is_main m) (opens m) (spends_once outer.depth m outer.deep) part' stop' i' p refers.n j d' c outer.left outer.bytes to outer.value below refers.is_reference refers.no_character in
+      let there = value_front (is_main m) (opens m) (spends_once outer.depth m outer.deep) part' stop' i' p refers.n j d' c outer.openings_left outer.bytes to outer.value below refers.is_reference refers.no_character in
       let x = all.value m c there.1 name there.0 there.2 in
       let text = all.texts name t refers.found in
       let text_is : x.0 ≡ t = same_text es name x.0 t x.3 refers.found in
-      let left_is : x.1 ≡ d = may_once m c x.1 d x.4 may in
+      let openings_left_is : x.1 ≡ d = may_once m c x.1 d x.4 may in
       let value : Value false (opens (suc m)) t.source (length t.source) t.start d x.2 there.0 =
-      subst (λ (r : ℕ). Value false (opens (suc m)) t.source (length t.source) t.start r x.2 there.0) left_is
+      subst (λ (r : ℕ). Value false (opens (suc m)) t.source (length t.source) t.start r x.2 there.0) openings_left_is
       (subst (λ (t : Replacement). Value false (opens (suc m)) t.source (length t.source) t.start x.1 x.2 there.0) text_is x.6) in
       record {
         depth = most_deep - suc m;
@@ -288,7 +288,7 @@ module _ (opens : ℕ → Inclusion) (es : List Entity) (all : OpensAt opens es)
         utf8 = text.0;
         cut = text.1;
         end_cut = IsCharBoundary-end t.source;
-        left = x.2;
+        openings_left = x.2;
         bytes = there.0;
         value = value;
         chars = subst (λ (t : Replacement). AreChars t.source t.start (length t.source)) text_is x.5;
@@ -296,27 +296,27 @@ module _ (opens : ℕ → Inclusion) (es : List Entity) (all : OpensAt opens es)
 
   -- no fault stands in it
   part_apart : (l : ℕ) (part : List ℕ) (i stop d : ℕ) (f : Fault) → PartRead l part i stop d → InValue es l (opens l) part i stop d f → ⊥
-  part_apart l part i stop d f r (faults.InValue.in_reference q _ from below ill) = value_reference_apart es (is_main l) (opens l) part r.utf8 (value_declared l) i stop d r.left q r.bytes f r.value from below ill
+  part_apart l part i stop d f r (faults.InValue.in_reference q _ from below ill) = value_reference_apart es (is_main l) (opens l) part r.utf8 (value_declared l) i stop d r.openings_left q r.bytes f r.value from below ill
   part_apart l part i stop d f r (faults.InValue.too_many q j c t to below refers spent) =
-      let there = value_front (is_main l) (opens l) (spends_once r.depth l r.deep) part stop i q refers.n j d c r.left r.bytes to r.value below refers.is_reference refers.no_character in
+      let there = value_front (is_main l) (opens l) (spends_once r.depth l r.deep) part stop i q refers.n j d c r.openings_left r.bytes to r.value below refers.is_reference refers.no_character in
       let x = all.value l c there.1 (slice part (q + 1) refers.n) there.0 there.2 in
       spent_apart l c x.1 x.4 spent
-  part_apart l part i stop d f r (less q inner from below here) = value_no_less es (is_main l) (opens l) part r.utf8 stop i q d r.left r.bytes r.value from below here
-  part_apart l part i stop d f r (less_by_reference q j inner from below is) = value_gives_less es (is_main l) (opens l) part r.utf8 (value_declared l) i stop d r.left q j r.bytes r.value inner from below is
+  part_apart l part i stop d f r (less q inner from below here) = value_no_less es (is_main l) (opens l) part r.utf8 stop i q d r.openings_left r.bytes r.value from below here
+  part_apart l part i stop d f r (less_by_reference q j inner from below is) = value_gives_less es (is_main l) (opens l) part r.utf8 (value_declared l) i stop d r.openings_left q j r.bytes r.value inner from below is
   part_apart l part i stop d f r (faults.InValue.no_char q c inner from below stands ill) = chars_refuse part i stop q c r.utf8 r.cut r.end_cut from below r.chars stands ill
 
   -- nor in a value of a start tag at a place
-  pub value_apart : (k base b p c n v e j l i stop d : ℕ) (src part : List ℕ) (s : grammar.State) (as' : List Attribute) (name : Name) (f : Fault) → There k base src (state_of s b) → TagBegins src s.at (is_content k s.stack)
+  pub value_apart : (k open_around b p c n v e j l i stop d : ℕ) (src part : List ℕ) (s : grammar.State) (as' : List Attribute) (name : Name) (f : Fault) → There k open_around src (state_of s b) → TagBegins src s.at (is_content k s.stack)
       → TagTo (is_main k) (opens k) src s p b c as' → IsQName src (spaces_end src p) name n → IsEq src n v → IsLiteral src v e j → ValuePart opens es k src (v + 1) e c l part i stop d → InValue es l (opens l) part i stop d f → ⊥
-  value_apart k base b p c n v e j l i stop d src part s as' name f r begins to named eq literal is ill =
-      let there = tag_there k base b src s r begins in
+  value_apart k open_around b p c n v e j l i stop d src part s as' name f r begins to named eq literal is ill =
+      let there = tag_there k open_around b src s r begins in
       part_apart l part i stop d f (part_read k src (v + 1) e c l part i stop d (literal_read there.0 there.1 there.2 there.3) is) ill
     where
-      literal_read : (t : State) → Tagged (is_main k) (opens k) src base (state_of s b) t → (W → IsValidState limit t) → AreNamed t.stack t.done → PartRead k src (v + 1) e c
+      literal_read : (t : State) → Tagged (is_main k) (opens k) src open_around (state_of s b) t → (W → IsValidState limit t) → AreNamed t.stack t.done → PartRead k src (v + 1) e c
       literal_read t (j', c', x, empty, is', leads) fine named' =
-          let adds : W → Adds (state_of s b) (Element s.at j' x) = λ w. tag_adds k base b src s r j' c' x empty (subst (IsValidState limit) leads (fine w)) in
-          let well_named = tag_named k base b src s r j' c' x empty (subst (λ (u : State). AreNamed u.stack u.done) leads named') in
-          let value = value_there (how_at limit es r.d k base).values (opens k) (all.values r.d k r.deep) src r.utf8 s j' b c' empty x is' well_named W (λ w. (adds w).attributes) (λ w. (adds w).pairs) p c n v e j as' name to named eq literal in
+          let adds : W → Adds (state_of s b) (Element s.at j' x) = λ w. tag_adds k open_around b src s r j' c' x empty (subst (IsValidState limit) leads (fine w)) in
+          let well_named = tag_named k open_around b src s r j' c' x empty (subst (λ (u : State). AreNamed u.stack u.done) leads named') in
+          let value = value_there (context_at limit es r.d k open_around).values (opens k) (all.values r.d k r.deep) src r.utf8 s j' b c' empty x is' well_named W (λ w. (adds w).attributes) (λ w. (adds w).pairs) p c n v e j as' name to named eq literal in
           let low = quote_ascii (byte src v) literal.quote in
           let end = literal.end in let closes = literal.closes in
           let h = from_here (λ c. c == byte src v) src (v + 1) (rw (← end) closes) in
@@ -327,7 +327,7 @@ module _ (opens : ℕ → Inclusion) (es : List Entity) (all : OpensAt opens es)
             utf8 = r.utf8;
             cut = cut_behind src v (byte src v) (v + 1) r.utf8 refl (omega arith) (omega arith) refl;
             end_cut = IsCharBoundary-before_ascii src e closes (omega arith);
-            left = value.0;
+            openings_left = value.0;
             bytes = value.1;
             value = value.2;
             chars = literal.chars;

@@ -120,71 +120,71 @@ end_byte : (src : List ℕ) (p j : ℕ) (empty : Bool) → TagEnds src p empty j
 end_byte src p j empty (opened _ close) = inl close
 end_byte src p j empty (closed _ slash close) = inr slash
 
-module _ (how : Values) (O : Inclusion) (agrees : AgreesValue how.entities O how.opener) (src : List ℕ) (utf8 : IsUtf8 src) where
+module _ (context : Values) (O : Inclusion) (agrees : AgreesValue context.entities O context.opener) (src : List ℕ) (utf8 : IsUtf8 src) where
   -- a turn of a tag that is an attribute
-  turn : (i j b c : ℕ) (a : Attribute) → IsAttribute how.main O src (spaces_end src i) j b c a → (spaces : i < spaces_end src i)
-      → (r : Reads how O agrees src utf8 (spaces_end src i) j b c a) × (tag_item_at src i ≡ Ok (markup.more r.0, j))
-  turn i j b c a is spaces = turn_is how O agrees src utf8 i j b c a is spaces
+  turn : (i j b c : ℕ) (a : Attribute) → IsAttribute context.main O src (spaces_end src i) j b c a → (spaces : i < spaces_end src i)
+      → (r : Reads context O agrees src utf8 (spaces_end src i) j b c a) × (tag_item_at src i ≡ Ok (markup.more r.0, j))
+  turn i j b c a is spaces = turn_is context O agrees src utf8 i j b c a is spaces
 
   -- two that stand there are one
-  one_turn : (i j k b c d : ℕ) (a e : Attribute) → IsAttribute how.main O src (spaces_end src i) j b c a → IsAttribute how.main O src (spaces_end src i) k b d e → i < spaces_end src i → (a ≡ e) × (c ≡ d) × (j ≡ k)
+  one_turn : (i j k b c d : ℕ) (a e : Attribute) → IsAttribute context.main O src (spaces_end src i) j b c a → IsAttribute context.main O src (spaces_end src i) k b d e → i < spaces_end src i → (a ≡ e) × (c ≡ d) × (j ≡ k)
   one_turn i j k b c d a e is is' spaces =
       let x = turn i j b c a is spaces in
       let y = turn i k b d e is' spaces in
       let same = ok_one (markup.more x.0.0, j) (markup.more y.0.0, k) (tag_item_at src i) x.1 y.1 in
-      let one = one_attribute how O agrees src utf8 j k (spaces_end src i) b c d a e x.0 y.0 (same_more x.0.0 y.0.0 (ap (λ (p : TagItem × ℕ). p.0) same)) in
+      let one = one_attribute context O agrees src utf8 j k (spaces_end src i) b c d a e x.0 y.0 (same_more x.0.0 y.0.0 (ap (λ (p : TagItem × ℕ). p.0) same)) in
       (one.0, one.1, ap (λ (p : TagItem × ℕ). p.1) same)
 
   -- attributes that stand there are a front of all of them
-  front : (i p last b c e j : ℕ) (empty : Bool) (as' bs : List Attribute) → Attributes how.main O src i p b c as' → Attributes how.main O src i last b e bs → TagEnds src last empty j
-      → (rest : List Attribute) × (bs ≡ as' ++ rest) × Next how.main O src p empty j c rest
-  front i p last b c e j empty as' bs (no_more _ _) all ends = (bs, refl, next_at how.main O src i last b e j empty bs all ends)
+  front : (i p last b c e j : ℕ) (empty : Bool) (as' bs : List Attribute) → Attributes context.main O src i p b c as' → Attributes context.main O src i last b e bs → TagEnds src last empty j
+      → (rest : List Attribute) × (bs ≡ as' ++ rest) × Next context.main O src p empty j c rest
+  front i p last b c e j empty as' bs (no_more _ _) all ends = (bs, refl, next_at context.main O src i last b e j empty bs all ends)
   front i p last b c e j empty as' bs (one_more _ k _ _ g _ a rest spaces is others) (no_more _ _) ends =
       let one = turn i k b g a is spaces in
       let same = ok_one (markup.more one.0.0, k) (cond empty markup.closed markup.opened, j) (tag_item_at src i) one.1 (end_complete src i empty j ends) in
       absurd (apart one.0.0 empty (ap (λ (p : TagItem × ℕ). p.0) same))
   front i p last b c e j empty as' bs (one_more _ k _ _ g _ a rest spaces is others) (one_more _ o _ _ h _ a' rest' spaces' is' others') ends =
       let one = one_turn i k o b g h a a' is is' spaces in
-      let others'' : Attributes how.main O src k last g e rest' = subst (λ (o : ℕ). Attributes how.main O src o last g e rest') (sym one.2) (subst (λ (h : ℕ). Attributes how.main O src o last h e rest') (sym one.1) others') in
+      let others'' : Attributes context.main O src k last g e rest' = subst (λ (o : ℕ). Attributes context.main O src o last g e rest') (sym one.2) (subst (λ (h : ℕ). Attributes context.main O src o last h e rest') (sym one.1) others') in
       let next = front k p last g c e j empty rest rest' others others'' ends in
       (next.0, ap (λ (x : Attribute). x ∷ rest') (sym one.0) ∙ ap (λ (xs : List Attribute). a ∷ xs) next.1, next.2)
 
   -- a character begins behind attributes
-  attributes_cut : (i p b c : ℕ) (as' : List Attribute) → IsCharBoundary src i → Attributes how.main O src i p b c as' → IsCharBoundary src p
+  attributes_cut : (i p b c : ℕ) (as' : List Attribute) → IsCharBoundary src i → Attributes context.main O src i p b c as' → IsCharBoundary src p
   attributes_cut i p b c as' cut' (no_more _ _) = cut'
-  attributes_cut i p b c as' cut' (one_more _ k _ _ d _ a rest spaces is others) = attributes_cut k p d c rest (attribute_cut how.main O src utf8 (spaces_end src i) k b d a is) others
+  attributes_cut i p b c as' cut' (one_more _ k _ _ d _ a rest spaces is others) = attributes_cut k p d c rest (attribute_cut context.main O src utf8 (spaces_end src i) k b d a is) others
 
   -- what follows begins within the source
-  next_within : (p j b : ℕ) (empty : Bool) (rest : List Attribute) → Next how.main O src p empty j b rest → spaces_end src p < length src
+  next_within : (p j b : ℕ) (empty : Bool) (rest : List Attribute) → Next context.main O src p empty j b rest → spaces_end src p < length src
   next_within p j b empty rest (it_ends ends) = elim (end_byte src p j empty ends) as (λ s. spaces_end src p < length src) [ inl is ↦ within src (spaces_end src p) (λ z. omega arith) | inr is ↦ within src (spaces_end src p) (λ z. omega arith) ]
   next_within p j b empty rest (it_goes q c a more spaces is) = (name_byte src (spaces_end src p) a.name a.name_end is.is_name).within
 
   -- a tag that goes on with a name does not end
-  name_follows : (p j b n : ℕ) (empty : Bool) (rest : List Attribute) (name : Name) → Next how.main O src p empty j b rest → IsQName src (spaces_end src p) name n
-      → (q : ℕ) × (c : ℕ) × (a : Attribute) × (more : List Attribute) × (rest ≡ a ∷ more) × IsAttribute how.main O src (spaces_end src p) q b c a
+  name_follows : (p j b n : ℕ) (empty : Bool) (rest : List Attribute) (name : Name) → Next context.main O src p empty j b rest → IsQName src (spaces_end src p) name n
+      → (q : ℕ) × (c : ℕ) × (a : Attribute) × (more : List Attribute) × (rest ≡ a ∷ more) × IsAttribute context.main O src (spaces_end src p) q b c a
   name_follows p j b n empty rest name (it_ends ends) is =
-      elim (end_byte src p j empty ends) as (λ s. (q : ℕ) × (c : ℕ) × (a : Attribute) × (more : List Attribute) × (rest ≡ a ∷ more) × IsAttribute how.main O src (spaces_end src p) q b c a) [
+      elim (end_byte src p j empty ends) as (λ s. (q : ℕ) × (c : ℕ) × (a : Attribute) × (more : List Attribute) × (rest ≡ a ∷ more) × IsAttribute context.main O src (spaces_end src p) q b c a) [
         | inl close ↦ absurd (name_no_greater src (spaces_end src p) name n is close)
         | inr slash ↦ absurd ((name_byte src (spaces_end src p) name n is).no_slash slash)
       ]
   name_follows p j b n empty rest name (it_goes q c a more spaces is') is = (q, c, a, more, refl, is')
 
   -- `/` without `>`
-  slash_apart : (p j b : ℕ) (empty : Bool) (rest : List Attribute) (f : Fault) → Next how.main O src p empty j b rest → byte src (spaces_end src p) ≡ 47 → IsMissing src (spaces_end src p + 1) (a_byte 62) f → ⊥
+  slash_apart : (p j b : ℕ) (empty : Bool) (rest : List Attribute) (f : Fault) → Next context.main O src p empty j b rest → byte src (spaces_end src p) ≡ 47 → IsMissing src (spaces_end src p + 1) (a_byte 62) f → ⊥
   slash_apart p j b empty rest f (it_ends (opened _ close)) slash lack = absurd (omega arith)
   slash_apart p j b empty rest f (it_ends (closed _ slash' close)) slash lack = byte_stands src 62 (spaces_end src p + 1) f (omega arith) close lack
   slash_apart p j b empty rest f (it_goes q c a more spaces is) slash lack = (name_byte src (spaces_end src p) a.name a.name_end is.is_name).no_slash slash
 
-  module _ (s : State) (j b e : ℕ) (empty : Bool) (tag : Tag) (is : IsTag how.main O src s.at j b e empty tag) (well_named : IsWellNamed (listed (scope_of s.stack) tag.declarations) tag)
+  module _ (s : State) (j b e : ℕ) (empty : Bool) (tag : Tag) (is : IsTag context.main O src s.at j b e empty tag) (well_named : IsWellNamed (listed (scope_of s.stack) tag.declarations) tag)
       (W : Type 0) (few : W → attributes_so_far s.stack s.done + length tag.attributes ≤ most_attributes) (few_pairs : W → length (with_new (distinct_pairs (pairs_so_far s.stack s.done)) (listable_of tag.declarations)) ≤ most_pairs) where
     -- what is read of it is a front of it
-    tag_front : (p c : ℕ) (as' : List Attribute) → TagTo how.main O src s p b c as' → (rest : List Attribute) × (is.written ≡ as' ++ rest) × Next how.main O src p empty j c rest
+    tag_front : (p c : ℕ) (as' : List Attribute) → TagTo context.main O src s p b c as' → (rest : List Attribute) × (is.written ≡ as' ++ rest) × Next context.main O src p empty j c rest
     tag_front p c as' to =
         let same : to.name_end ≡ tag.name_end = (one_qname src (s.at + 1) to.name_end tag.name_end to.name tag.name to.is_name is.is_name).1 in
-        front tag.name_end p is.last b c e j empty as' is.written (subst (λ (n : ℕ). Attributes how.main O src n p b c as') same to.attributes) is.attributes is.ends
+        front tag.name_end p is.last b c e j empty as' is.written (subst (λ (n : ℕ). Attributes context.main O src n p b c as') same to.attributes) is.attributes is.ends
 
     -- a character begins behind it
-    to_cut : (p c : ℕ) (as' : List Attribute) → TagTo how.main O src s p b c as' → IsCharBoundary src p
+    to_cut : (p c : ℕ) (as' : List Attribute) → TagTo context.main O src s p b c as' → IsCharBoundary src p
     to_cut p c as' to =
         let cut' : IsCharBoundary src (s.at + 1) = cut_behind src s.at 60 utf8 is.begins (omega arith) (omega arith) in
         attributes_cut to.name_end p b c as' (qname_text src (s.at + 1) to.name to.name_end utf8 cut' to.is_name).3 to.attributes
@@ -194,7 +194,7 @@ module _ (how : Values) (O : Inclusion) (agrees : AgreesValue how.entities O how
     all_declared as' rest same = is.declares ∙ ap namespace_decls_of same ∙ declared_both as' rest
 
     -- a name with no white space in front
-    space_apart : (p c : ℕ) (rest : List Attribute) (f : Fault) → IsCharBoundary src p → Next how.main O src p empty j c rest → byte src p ≢ 47 → byte src p ≢ 62 → IsMissing src p a_space f → ⊥
+    space_apart : (p c : ℕ) (rest : List Attribute) (f : Fault) → IsCharBoundary src p → Next context.main O src p empty j c rest → byte src p ≢ 47 → byte src p ≢ 62 → IsMissing src p a_space f → ⊥
     space_apart p c rest f cut' (it_ends ends) no_slash no_close lack =
         let le = run_end_le is_space src p in
         let apart' : spaces_end src p ≢ p = λ same.
@@ -203,24 +203,24 @@ module _ (how : Values) (O : Inclusion) (agrees : AgreesValue how.entities O how
     space_apart p c rest f cut' (it_goes q d a more spaces is') no_slash no_close lack = space_stands src utf8 p f cut' spaces lack
 
     -- nor an attribute that lacks something
-    pair_in : (p q c : ℕ) (rest : List Attribute) (t : DueItem) (f : Fault) → Next how.main O src p empty j c rest → byte src (spaces_end src p) ≢ 47 → byte src (spaces_end src p) ≢ 62 → DueInPair src (spaces_end src p) q t → IsMissing src q t f → ⊥
+    pair_in : (p q c : ℕ) (rest : List Attribute) (t : DueItem) (f : Fault) → Next context.main O src p empty j c rest → byte src (spaces_end src p) ≢ 47 → byte src (spaces_end src p) ≢ 62 → DueInPair src (spaces_end src p) q t → IsMissing src q t f → ⊥
     pair_in p q c rest t f (it_ends ends) no_slash no_close due lack = elim (end_byte src p j empty ends) as (λ s. ⊥) [ inl close ↦ no_close close | inr slash ↦ no_slash slash ]
     pair_in p q c rest t f (it_goes k d a more spaces is') no_slash no_close due lack = pair_apart src utf8 (spaces_end src p) a.name_end is'.v is'.e k q a.name t f is'.is_name is'.eq is'.literal due lack
 
     -- the value of an attribute that stands behind
-    value_in : (p n v e k c : ℕ) (rest : List Attribute) (name : Name) → Next how.main O src p empty j c rest → IsQName src (spaces_end src p) name n → IsEq src n v → IsLiteral src v e k
-        → (d : ℕ) × (w : List ℕ) × Value how.main O src e (v + 1) c d w
+    value_in : (p n v e k c : ℕ) (rest : List Attribute) (name : Name) → Next context.main O src p empty j c rest → IsQName src (spaces_end src p) name n → IsEq src n v → IsLiteral src v e k
+        → (d : ℕ) × (w : List ℕ) × Value context.main O src e (v + 1) c d w
     value_in p n v e k c rest name next named eq literal =
         let x = name_follows p j c n empty rest name next named in
         let a = x.2 in let is' = x.5 in
         let same : v ≡ is'.v = eq_one src n a.name_end v is'.v (one_qname src (spaces_end src p) n a.name_end name a.name named is'.is_name).1 eq is'.eq in
         let literal' : IsLiteral src is'.v e k = subst (λ (v : ℕ). IsLiteral src v e k) same literal in
         let end : is'.e ≡ e = sym (literal_complete src is'.v is'.e x.0 is'.literal) ∙ literal_complete src is'.v e k literal' in
-        let value : Value how.main O src e (is'.v + 1) c x.1 a.value = subst (λ (e : ℕ). Value how.main O src e (is'.v + 1) c x.1 a.value) end is'.value in
-        (x.1, a.value, subst (λ (v : ℕ). Value how.main O src e (v + 1) c x.1 a.value) (sym same) value)
+        let value : Value context.main O src e (is'.v + 1) c x.1 a.value = subst (λ (e : ℕ). Value context.main O src e (is'.v + 1) c x.1 a.value) end is'.value in
+        (x.1, a.value, subst (λ (v : ℕ). Value context.main O src e (v + 1) c x.1 a.value) (sym same) value)
 
     -- a declaration that stands behind these is one of the tag
-    declared_there : (p k c d : ℕ) (as' rest : List Attribute) (a : Attribute) → is.written ≡ as' ++ rest → Next how.main O src p empty j c rest → p < spaces_end src p → IsAttribute how.main O src (spaces_end src p) k c d a
+    declared_there : (p k c d : ℕ) (as' rest : List Attribute) (a : Attribute) → is.written ≡ as' ++ rest → Next context.main O src p empty j c rest → p < spaces_end src p → IsAttribute context.main O src (spaces_end src p) k c d a
         → is_namespace_decl a.name ≡ true → (more : List NamespaceDecl) × (tag.declarations ≡ namespace_decls_of as' ++ namespace_decl_of a ∷ more)
     declared_there p k c d as' rest a same next spaces is' declares' =
         let x = name_follows p j c a.name_end empty rest a.name next is'.is_name in
@@ -230,7 +230,7 @@ module _ (how : Values) (O : Inclusion) (agrees : AgreesValue how.entities O how
         (namespace_decls_of x.3, all_declared as' (a ∷ x.3) whole ∙ ap (λ (ds : List NamespaceDecl). namespace_decls_of as' ++ ds) first)
 
     -- nor one that may not be declared
-    declared_in : (p k c d : ℕ) (as' rest : List Attribute) (a : Attribute) (f : Fault) → is.written ≡ as' ++ rest → Next how.main O src p empty j c rest → p < spaces_end src p → IsAttribute how.main O src (spaces_end src p) k c d a
+    declared_in : (p k c d : ℕ) (as' rest : List Attribute) (a : Attribute) (f : Fault) → is.written ≡ as' ++ rest → Next context.main O src p empty j c rest → p < spaces_end src p → IsAttribute context.main O src (spaces_end src p) k c d a
         → is_namespace_decl a.name ≡ true → IllDeclared src (namespace_decls_of as') a f → ⊥
     declared_in p k c d as' rest a f same next spaces is' declares' ill =
         let there = declared_there p k c d as' rest a same next spaces is' declares' in
@@ -248,15 +248,15 @@ module _ (how : Values) (O : Inclusion) (agrees : AgreesValue how.entities O how
     named_in f (unknown_element name distinct unknown holds) = true≢false (sym well_named.element ∙ unknown)
 
     -- it is the tag that stands there
-    same_tag : (p k c : ℕ) (x : Bool) (as' : List Attribute) (to : TagTo how.main O src s p b c as') → TagEnds src p x k
+    same_tag : (p k c : ℕ) (x : Bool) (as' : List Attribute) (to : TagTo context.main O src s p b c as') → TagEnds src p x k
         → ◌≡◌ {A = Tag} (record { name = to.name; name_end = to.name_end; declarations = namespace_decls_of as'; attributes = plain_attributes_of as' }) tag
     same_tag p k c x as' to ends =
         let t : Tag = record { name = to.name; name_end = to.name_end; declarations = namespace_decls_of as'; attributes = plain_attributes_of as' } in
-        let is' : IsTag how.main O src s.at k b c x t = record { begins = is.begins; is_name = to.is_name; written = as'; last = p; attributes = to.attributes; ends = ends; declares = refl; has = refl } in
-        (one_tag how O agrees src utf8 s.at k j b c e t tag x empty is' is).1
+        let is' : IsTag context.main O src s.at k b c x t = record { begins = is.begins; is_name = to.is_name; written = as'; last = p; attributes = to.attributes; ends = ends; declares = refl; has = refl } in
+        (one_tag context O agrees src utf8 s.at k j b c e t tag x empty is' is).1
 
     -- so no fault of a start tag stands in it but those of the limits: rows 1 to 6, 9, 10, 13 to 15, 19 to 24, 31
-    pub tag_apart : (f : Fault) → InTag how.main O src s b f → IsOver W f
+    pub tag_apart : (f : Fault) → InTag context.main O src s b f → IsOver W f
     tag_apart f (no_name _ lack) = absurd (qname_stands src (s.at + 1) tag.name_end tag.name f is.is_name lack)
     tag_apart f (xmlns_prefix name n named prefix) =
         let same : name ≡ tag.name = (one_qname src (s.at + 1) n tag.name_end name tag.name named is.is_name).0 in
@@ -287,6 +287,6 @@ module _ (how : Values) (O : Inclusion) (agrees : AgreesValue how.entities O how
         absurd (named_in f (subst (λ (t : Tag). IllNamed src s.at (listed (scope_of s.stack) t.declarations) t.name t.attributes f) (same_tag p k c x as' to ends) ill))
 
     -- and a value in it is read
-    pub value_there : (p c n v e' k : ℕ) (as' : List Attribute) (name : Name) → TagTo how.main O src s p b c as' → IsQName src (spaces_end src p) name n → IsEq src n v → IsLiteral src v e' k
-        → (d : ℕ) × (w : List ℕ) × Value how.main O src e' (v + 1) c d w
+    pub value_there : (p c n v e' k : ℕ) (as' : List Attribute) (name : Name) → TagTo context.main O src s p b c as' → IsQName src (spaces_end src p) name n → IsEq src n v → IsLiteral src v e' k
+        → (d : ℕ) × (w : List ℕ) × Value context.main O src e' (v + 1) c d w
     value_there p c n v e' k as' name to named eq literal = let x = tag_front p c as' to in value_in p n v e' k c x.0 name x.2 named eq literal

@@ -40,7 +40,7 @@ use Rattle.rox_theory.proofs.NoEntities.{no_values, no_contents}
 use Rattle.rox_theory.proofs.Around.{Stops, no_spaces, element_stops, end_stops, prolog_complete}
 use Rattle.rox_theory.proofs.FailedReadings.{ok_one}
 use Rattle.rox_faults.proofs.FaultLimits.{IsOver, nodes_over}
-use Rattle.rox_faults.proofs.FaultPoints.{how_at}
+use Rattle.rox_faults.proofs.FaultPoints.{context_at}
 use Rattle.rox_faults.proofs.FaultPlaces.{tagged_takes}
 use Rattle.rox_faults.proofs.FaultWhole.{ahead_on}
 use Rattle.rox_faults.proofs.FaultPairs.{declaration_apart}
@@ -56,12 +56,12 @@ pub record Parsed (opens : ℕ → Inclusion) (limit : ℕ) (W : Type 0) (text :
   pub ahead : (p : ℕ) (items : Forest Item) → Front p items → (rest : Forest Item) × Misc text p start rest × (before ≡ join items rest)
   pub on : (p q : ℕ) (items more : Forest Item) → Front p items → Misc text p q more → Front q (join items more)
   pub end : ℕ
-  pub left : ℕ
+  pub openings_left : ℕ
   pub one : Forest Item
-  pub element : IsElement true (opens 0) text start end 255 left one
+  pub element : IsElement true (opens 0) text start end 255 openings_left one
   pub after : Forest Item
   pub misc_after : Misc text end (length text) after
-  pub fine : W → IsValidState limit (state (length text) (join (join before one) after) root left)
+  pub fine : W → IsValidState limit (state (length text) (join (join before one) after) root openings_left)
   pub named : AreNamed root (join (join before one) after)
 
 module _ (opens : ℕ → Inclusion) (es : List Entity) (all : OpensAt opens es) (limit : ℕ) (W : Type 0) (text : List ℕ) (utf8 : IsUtf8 text) where
@@ -70,7 +70,7 @@ module _ (opens : ℕ → Inclusion) (es : List Entity) (all : OpensAt opens es)
 
   -- a construct of the main text moves forward
   main_moves : (s t : State) → StepsOver true (opens 0) text 0 s t → (s.at < length text) × (s.at < t.at) × (t.at ≤ length text)
-  main_moves s t takes = steps.step_moves (how_at limit es most_deep 0 0) (opens 0) agrees (all.contents limit most_deep 0 (omega arith)) text utf8 s t takes
+  main_moves s t takes = steps.step_moves (context_at limit es most_deep 0 0) (opens 0) agrees (all.contents limit most_deep 0 (omega arith)) text utf8 s t takes
 
   trail_le : (s u : State) → Trail true (opens 0) text 0 s u → s.at ≤ u.at
   trail_le s u (stays _) = omega arith
@@ -78,23 +78,23 @@ module _ (opens : ℕ → Inclusion) (es : List Entity) (all : OpensAt opens es)
 
   module _ (Front : ℕ → Forest Item → Type 0) (p : Parsed opens limit W text Front) where
     -- up to the end of the root element all is within the limits if the whole is
-    end_fine : W → IsValidState limit (state p.end (join p.before p.one) root p.left)
-    end_fine w = fine_before limit p.end (length text) p.left p.left (join p.before p.one) p.after root (p.fine w)
+    end_fine : W → IsValidState limit (state p.end (join p.before p.one) root p.openings_left)
+    end_fine w = fine_before limit p.end (length text) p.openings_left p.openings_left (join p.before p.one) p.after root (p.fine w)
 
     -- and up to its beginning
     start_fine : W → IsValidState limit (state p.start p.before root 255)
-    start_fine w = fine_before limit p.start p.end 255 p.left p.before p.one root (end_fine w)
+    start_fine w = fine_before limit p.start p.end 255 p.openings_left p.before p.one root (end_fine w)
 
     -- where the root element begins
     root_at : (byte text p.start ≡ 60) × (at word.DoctypeStart text p.start ≡ false) × Stops text p.start
-    root_at = element_stops true (opens 0) text p.start p.end 255 p.left p.one p.element
+    root_at = element_stops true (opens 0) text p.start p.end 255 p.openings_left p.one p.element
 
     -- the way begins there
     root_reached : Reached opens es all limit W 0 0 text (state p.start p.before root 255)
     root_reached =
-        let x = root_drives (opens 0) text p.start p.end 255 p.left p.one p.before p.element in
+        let x = root_drives (opens 0) text p.start p.end 255 p.openings_left p.one p.before p.element in
         let start = state p.start p.before root 255 in
-        let end = state p.end (join p.before p.one) root p.left in
+        let end = state p.end (join p.before p.one) root p.openings_left in
         let next = after start x.0 x.2 x.3 x.1 in
         let takes = tagged_takes true (opens 0) text 0 start next (x.0, x.1, x.2, x.3, x.4, refl) in
         let rest = drives_trail (opens 0) text next end x.5 in
@@ -128,8 +128,8 @@ module _ (opens : ℕ → Inclusion) (es : List Entity) (all : OpensAt opens es)
         (subst (λ (f : Forest Item). Reached opens es all limit W 0 0 text (state p.start f root 255)) same.1 root_reached)
 
     -- each place lies on it
-    place_there : (kind : Bool) (k base b : ℕ) (src : List ℕ) (s : grammar.State) → ContentPoint opens es text (λ i items. Front i items × RootBegins kind text i) k base src b s → Reached opens es all limit W k base src (state_of s b)
-    place_there kind k base b src s place = place_reached opens es all limit W text (λ i items. Front i items × RootBegins kind text i) (at_root kind) k base b src s place
+    place_there : (kind : Bool) (k open_around b : ℕ) (src : List ℕ) (s : grammar.State) → ContentPoint opens es text (λ i items. Front i items × RootBegins kind text i) k open_around src b s → Reached opens es all limit W k open_around src (state_of s b)
+    place_there kind k open_around b src s place = place_reached opens es all limit W text (λ i items. Front i items × RootBegins kind text i) (at_root kind) k open_around b src s place
 
     -- what is left up to the end of the text
     record Rest (q : ℕ) (items : Forest Item) : Type 0 where
@@ -139,10 +139,10 @@ module _ (opens : ℕ → Inclusion) (es : List Entity) (all : OpensAt opens es)
 
     behind_rest : (q : ℕ) (items : Forest Item) → Behind opens text Front q items → Rest q items
     behind_rest q items behind =
-        let there = element_stops true (opens 0) text behind.start behind.end 255 behind.left behind.one behind.element in
+        let there = element_stops true (opens 0) text behind.start behind.end 255 behind.openings_left behind.one behind.element in
         let same = start_there behind.start behind.before behind.ahead there.2 in
-        let element : IsElement true (opens 0) text p.start behind.end 255 behind.left behind.one = subst (λ (i : ℕ). IsElement true (opens 0) text i behind.end 255 behind.left behind.one) (sym same.0) behind.element in
-        let one = one_element es most_deep (opens 0) agrees (all.once 0) text utf8 p.start behind.end p.end 255 behind.left p.left behind.one p.one element p.element in
+        let element : IsElement true (opens 0) text p.start behind.end 255 behind.openings_left behind.one = subst (λ (i : ℕ). IsElement true (opens 0) text i behind.end 255 behind.openings_left behind.one) (sym same.0) behind.element in
+        let one = one_element es most_deep (opens 0) agrees (all.once 0) text utf8 p.start behind.end p.end 255 behind.openings_left p.openings_left behind.one p.one element p.element in
         let misc : Misc text p.end q behind.after = subst (λ (e : ℕ). Misc text e q behind.after) one.0 behind.misc in
         let r = misc_front text utf8 p.end q (length text) behind.after p.after misc p.misc_after (end_stops text) in
         let front_is : items ≡ join (join p.before p.one) behind.after =
@@ -164,16 +164,16 @@ module _ (opens : ℕ → Inclusion) (es : List Entity) (all : OpensAt opens es)
         let nodes = fine.nodes in let less = merge-more all' r.0 in omega arith))
     never kind source f (no_root items front fits) = let r = p.ahead (length text) items front in let l = before_end text utf8 (length text) p.start r.0 r.1 root_at.0 in absurd (omega arith)
     never kind source f (unknown_ahead q items front fits below no_space no_less) = let r = p.ahead q items front in absurd (other_at text utf8 q p.start r.0 r.1 root_at.0 no_space no_less)
-    never kind source f (at_place k base b _ s _ place fits stands) = stands_apart opens es all limit W k base b source s (place_there kind k base b source s place) f stands
-    never kind source f (in_value k base b q c n v e j l i stop d src _ s as' name _ place fits begins to spaces named eq literal part ill) =
-        absurd (value_apart opens es all limit W k base b q c n v e j l i stop d src source s as' name f (place_there kind k base b src s place) begins to named eq literal part ill)
+    never kind source f (at_place k open_around b _ s _ place fits stands) = stands_apart opens es all limit W k open_around b source s (place_there kind k open_around b source s place) f stands
+    never kind source f (in_value k open_around b q c n v e j l i stop d src _ s as' name _ place fits begins to spaces named eq literal part ill) =
+        absurd (value_apart opens es all limit W k open_around b q c n v e j l i stop d src source s as' name f (place_there kind k open_around b src s place) begins to named eq literal part ill)
     never kind source f (in_misc_behind q items _ behind fits ill) = let r = behind_rest q items behind in absurd (misc_at text utf8 q (length text) r.rest f r.misc (end_stops text) ill)
     never kind source f (too_many_behind q k items item behind fits is over) =
         let r = behind_rest q items behind in
         let s = misc_front text utf8 q k (length text) (leaf item) r.rest (an_item q k k item Nil is (no_misc k)) r.misc (end_stops text) in
         let whole : join (join p.before p.one) p.after ≡ join (join items (leaf item)) s.0 = r.whole ∙ ap (join items) s.2 ∙ sym (join_assoc items (leaf item) s.0) in
         nodes_over W (λ w.
-        (let fine : IsValidState limit (state (length text) (join (join items (leaf item)) s.0) root p.left) = subst (λ (b : Forest Item). IsValidState limit (state (length text) b root p.left)) whole (p.fine w) in
+        (let fine : IsValidState limit (state (length text) (join (join items (leaf item)) s.0) root p.openings_left) = subst (λ (b : Forest Item). IsValidState limit (state (length text) b root p.openings_left)) whole (p.fine w) in
         let nodes = fine.nodes in let less = merge-more (join items (leaf item)) s.0 in omega arith))
     never kind source f (unknown_behind q items behind fits below no_space no_comment no_instruction) =
         let r = behind_rest q items behind in absurd (last_at text utf8 q (length text) r.rest r.misc refl below no_space no_comment no_instruction)
@@ -197,13 +197,13 @@ module _ (src : List ℕ) (utf8 : IsUtf8 src) (limit : ℕ) (tree : Forest Item)
   same_whole = p.is_tree ∙ sym (join_assoc p.before p.one p.after)
 
   -- which is within the limits where the parse is
-  whole_fine : IsWithinLimits limit tree → IsValidState limit (state (length src) (join (join p.before p.one) p.after) root p.left)
+  whole_fine : IsWithinLimits limit tree → IsValidState limit (state (length src) (join (join p.before p.one) p.after) root p.openings_left)
   whole_fine few =
       let merged : merge tree ≡ tree =
-      ap merge p.is_tree ∙ tops_merged true no_entities src p.declared_to p.start p.start p.end (length src) 255 p.left false p.before Nil p.one p.after [] [] p.misc_before (no_doctype p.start) p.element p.misc_after ∙ sym p.is_tree in
+      ap merge p.is_tree ∙ tops_merged true no_entities src p.declared_to p.start p.start p.end (length src) 255 p.openings_left false p.before Nil p.one p.after [] [] p.misc_before (no_doctype p.start) p.element p.misc_after ∙ sym p.is_tree in
       let counted : 1 + size (merge tree) ≤ limit = rw merged (omega (arith, few.nodes)) in
-      let whole : IsValidState limit (state (length src) tree root p.left) = record { nodes = counted; attributes = few.attributes; pairs = few.namespaces; named = p.well_named } in
-      subst (λ (f : Forest Item). IsValidState limit (state (length src) f root p.left)) same_whole whole
+      let whole : IsValidState limit (state (length src) tree root p.openings_left) = record { nodes = counted; attributes = few.attributes; pairs = few.namespaces; named = p.well_named } in
+      subst (λ (f : Forest Item). IsValidState limit (state (length src) f root p.openings_left)) same_whole whole
 
   -- a declaration has one end
   one_declaration : (d : ℕ) → MayHaveXmlDecl src (after_bom src) d → d ≡ p.declared_to
@@ -212,7 +212,7 @@ module _ (src : List ℕ) (utf8 : IsUtf8 src) (limit : ℕ) (tree : Forest Item)
   -- what is left up to the root element
   ahead_rest : (q : ℕ) (items : Forest Item) → PrologTo src q items → (rest : Forest Item) × Misc src q p.start rest × (p.before ≡ join items rest)
   ahead_rest q items ahead =
-      let there = element_stops true no_entities src p.start p.end 255 p.left p.one p.element in
+      let there = element_stops true no_entities src p.start p.end 255 p.openings_left p.one p.element in
       misc_front src utf8 p.declared_to q p.start items p.before (subst (λ (d : ℕ). Misc src d q items) (one_declaration ahead.declared_to ahead.declaration) ahead.misc) p.misc_before there.2
 
   plain_parsed : Parsed (λ k. no_entities) limit (IsWithinLimits limit tree) src (PrologTo src)
@@ -223,7 +223,7 @@ module _ (src : List ℕ) (utf8 : IsUtf8 src) (limit : ℕ) (tree : Forest Item)
         ahead = ahead_rest;
         on = ahead_on src utf8;
         end = p.end;
-        left = p.left;
+        openings_left = p.openings_left;
         one = p.one;
         element = p.element;
         after = p.after;
@@ -236,7 +236,7 @@ module _ (src : List ℕ) (utf8 : IsUtf8 src) (limit : ℕ) (tree : Forest Item)
   doctype_apart : (i : ℕ) (before : Forest Item) → PrologTo src i before → at word.DoctypeStart src i ≡ true → ⊥
   doctype_apart i before ahead here =
       let r = ahead_rest i before ahead in
-      doctype_at src utf8 i p.start r.0 r.1 (element_stops true no_entities src p.start p.end 255 p.left p.one p.element).1 here
+      doctype_at src utf8 i p.start r.0 r.1 (element_stops true no_entities src p.start p.end 255 p.openings_left p.one p.element).1 here
 
 -- a fault that stands in a text that has a parse is that of a limit, and the parse is not within the limits
 pub fault_over : (limit : ℕ) (src : List ℕ) (f : Fault) (asked : List Asked) (tree : Forest Item) → IsUtf8 src → FaultOf limit src f → ParseOf src false asked tree → IsOver (IsWithinLimits limit tree) f

@@ -63,8 +63,8 @@ abbrev pub place_of : State → grammar.State
 place_of s = record { at = s.at; done = s.done; stack = s.stack }
 
 -- how a text is read where k replacement texts are open, and d more may be
-abbrev pub how_at : ℕ → List Entity → (d k base : ℕ) → Context
-how_at limit es d k base = record { limit = limit; values = values_of es d (is_main k); base = base; opener = opener limit es d (is_main k) }
+abbrev pub context_at : ℕ → List Entity → (d k open_around : ℕ) → Context
+context_at limit es d k open_around = record { limit = limit; values = values_of es d (is_main k); open_around = open_around; opener = opener limit es d (is_main k) }
 
 -- the names of what is read last
 pub named_last : (stack : Open) (done items : Forest Item) → AreNamed stack (join done items) → AreWellNamed (scope_of stack) items
@@ -90,9 +90,9 @@ item_few s item attributes few =
     (omega (arith, attributes-item s.stack s.done item Nil), rw (e, distinct-append) few)
 
 -- with an open tag
-pub opened_few : (s : State) (j left : ℕ) (tag : Tag) → attributes_so_far s.stack s.done + length tag.attributes ≤ most_attributes → length (with_new (distinct_pairs (pairs_so_far s.stack s.done)) (listable tag)) ≤ most_pairs
-    → AreFew (after s j tag false left).stack (after s j tag false left).done
-opened_few s j left tag attributes few = (omega arith, rw (append-nil (listable tag), distinct-append) few)
+pub opened_few : (s : State) (j openings_left : ℕ) (tag : Tag) → attributes_so_far s.stack s.done + length tag.attributes ≤ most_attributes → length (with_new (distinct_pairs (pairs_so_far s.stack s.done)) (listable tag)) ≤ most_pairs
+    → AreFew (after s j tag false openings_left).stack (after s j tag false openings_left).done
+opened_few s j openings_left tag attributes few = (omega arith, rw (append-nil (listable tag), distinct-append) few)
 
 -- of an item that neither declares anything nor has attributes
 pub plain_few : (limit : ℕ) (s : State) (item : Item) → own_attributes item ≡ 0 → own_pairs item ≡ [] → FitsLimits limit s.stack s.done → AreFew s.stack (join s.done (leaf item))
@@ -101,21 +101,21 @@ plain_few limit s item no_attributes no_pairs fits = item_few s item (omega (ari
 -- ---- openings
 
 -- what is left where none may be opened
-pub spent_here : (l after left : ℕ) (f : Fault) → budget (is_main l) after left ≡ Err f → IsSpent l left × (fault.EntityReferenceLoop after ≡ f)
-spent_here zero after left f h = no_fault _ f h
+pub spent_here : (l after openings_left : ℕ) (f : Fault) → budget (is_main l) after openings_left ≡ Err f → IsSpent l openings_left × (fault.EntityReferenceLoop after ≡ f)
+spent_here zero after openings_left f h = no_fault _ f h
 spent_here (suc l) after zero f h = (inl refl, cc h)
 spent_here (suc l) after (suc r) f h = no_fault _ f h
 
 -- and where one may
-pub may_open : (l after left r : ℕ) → l < most_deep → budget (is_main l) after left ≡ Ok r → MayOpen l left r
-may_open zero after left r fewer h = let e : 255 ≡ r = cc in sym e
+pub may_open : (l after openings_left r : ℕ) → l < most_deep → budget (is_main l) after openings_left ≡ Ok r → MayOpen l openings_left r
+may_open zero after openings_left r fewer h = let e : 255 ≡ r = cc in sym e
 may_open (suc l) after zero r fewer h = cc h
 may_open (suc l) after (suc n) r fewer h = let e : n ≡ r = cc in (omega arith, fewer)
 
 -- the deepest
-pub deepest : (l left : ℕ) → zero + l ≡ most_deep → IsSpent l left
-deepest zero left h = absurd (omega arith)
-deepest (suc l) left h = inr (omega arith)
+pub deepest : (l openings_left : ℕ) → zero + l ≡ most_deep → IsSpent l openings_left
+deepest zero openings_left h = absurd (omega arith)
+deepest (suc l) openings_left h = inr (omega arith)
 
 -- ---- places
 
@@ -125,18 +125,18 @@ module _ (opens : ℕ → Inclusion) (es : List Entity) (limit : ℕ) (text : Li
   From src f = FaultFrom opens es limit text declared Front src f
 
   -- a place where the state is
-  abbrev pub At : (k base : ℕ) → List ℕ → State → Type 0
-  At k base src s = ContentPoint opens es text (λ p items. Front p items × RootBegins declared text p) k base src s.left (place_of s)
+  abbrev pub At : (k open_around : ℕ) → List ℕ → State → Type 0
+  At k open_around src s = ContentPoint opens es text (λ p items. Front p items × RootBegins declared text p) k open_around src s.openings_left (place_of s)
 
   -- a fault at a place
-  pub stand : (k base : ℕ) (src : List ℕ) (s : State) (f : Fault) → At k base src s → FitsLimits limit s.stack s.done → Stands limit es k base (opens k) src (place_of s) s.left f → From src f
-  stand k base src s f place fits stands = at_place k base s.left src (place_of s) f place fits stands
+  pub stand : (k open_around : ℕ) (src : List ℕ) (s : State) (f : Fault) → At k open_around src s → FitsLimits limit s.stack s.done → Stands limit es k open_around (opens k) src (place_of s) s.openings_left f → From src f
+  stand k open_around src s f place fits stands = at_place k open_around s.openings_left src (place_of s) f place fits stands
 
   -- more nodes than the limit
-  pub over : (k base : ℕ) (src : List ℕ) (s t : State) (f : Fault) → At k base src s → FitsLimits limit s.stack s.done → StepsOver k (opens k) src (place_of s) s.left (place_of t) t.left → AreFew t.stack t.done → counted limit t ≡ Err f
+  pub over : (k open_around : ℕ) (src : List ℕ) (s t : State) (f : Fault) → At k open_around src s → FitsLimits limit s.stack s.done → StepsOver k (opens k) src (place_of s) s.openings_left (place_of t) t.openings_left → AreFew t.stack t.done → counted limit t ≡ Err f
       → From src f
-  over k base src s t f place fits takes few h =
+  over k open_around src s t f place fits takes few h =
       chosen (nat_le (nodes_so_far t.stack t.done) limit) _ _ _ h (λ fewer h. no_fault t f h)
       (λ more h.
       let is : fault.NodesLimitReached ≡ f = cc in
-      subst (From src) is (stand k base src s fault.NodesLimitReached place fits (too_many_nodes t.left (place_of t) takes few.0 few.1 (leb-false _ _ more))))
+      subst (From src) is (stand k open_around src s fault.NodesLimitReached place fits (too_many_nodes t.openings_left (place_of t) takes few.0 few.1 (leb-false _ _ more))))

@@ -202,7 +202,7 @@ module _ (src : List ℕ) (utf8 : IsUtf8 src) (limit : ℕ) (allow : Bool) where
         record { begun = i; before = before; ahead = ahead; nodes = join items Nil; doctype = here'; all = ap (λ (f : Forest Item). join before f) (sym (join-nil items)) } in
         let on = declared_on src utf8 asked es in
         let fine' : IsValidState most (state e.state.at (join before items) root 255) = subst (IsValidState most) state_is fine in
-        let elements : (i j left : ℕ) (one : Forest Item) → IsElement true (included_in_main es) src i j 255 left one → (left' : ℕ) × IsElement true (opens_at es 0) src i j 255 left' one = λ i j left one is. (left, is) in
+        let elements : (i j openings_left : ℕ) (one : Forest Item) → IsElement true (included_in_main es) src i j 255 openings_left one → (openings_left' : ℕ) × IsElement true (opens_at es 0) src i j 255 openings_left' one = λ i j openings_left one is. (openings_left, is) in
         let values = values_at es texts in
         let contents = contents_at limit es texts in
         nothing_by (λ r. Whole ((asked ++ r.0, r.1) >>> rest_of)) (misc limit (length src) src e.state) (λ s. asks_nothing (Ok (with_state e s)))

@@ -43,10 +43,10 @@ use Rattle.rox_faults.proofs.FaultWay.{OpensAt}
 use Rattle.rox_faults.proofs.FaultNever.{Parsed, never, fault_over, no_doctype_there}
 
 -- what stands before a place
-place_front : (opens : ℕ → Inclusion) (es : List Entity) (text : List ℕ) (Root : ℕ → Forest Item → Type 0) (k base b : ℕ) (src : List ℕ) (s : grammar.State) → ContentPoint opens es text Root k base src b s → (p : ℕ) × (items : Forest Item) × Root p items
-place_front opens es text Root k base b src s (begins p items is) = (p, items, is)
-place_front opens es text Root k base b src s (goes _ _ d _ _ r _ place takes content deep) = place_front opens es text Root k base d src r place
-place_front opens es text Root k base b src s (enters l other d c r stop q j source t front text' place inner run to named below refers may) = place_front opens es text Root l other d source t place
+place_front : (opens : ℕ → Inclusion) (es : List Entity) (text : List ℕ) (Root : ℕ → Forest Item → Type 0) (k open_around b : ℕ) (src : List ℕ) (s : grammar.State) → ContentPoint opens es text Root k open_around src b s → (p : ℕ) × (items : Forest Item) × Root p items
+place_front opens es text Root k open_around b src s (begins p items is) = (p, items, is)
+place_front opens es text Root k open_around b src s (goes _ _ d _ _ r _ place takes content deep) = place_front opens es text Root k open_around d src r place
+place_front opens es text Root k open_around b src s (enters l other d c r stop q j source t front text' place inner run to named below refers may) = place_front opens es text Root l other d source t place
 
 -- and before a fault
 front_of : (opens : ℕ → Inclusion) (es : List Entity) (limit : ℕ) (text : List ℕ) (behind_dtd : Bool) (Front : ℕ → Forest Item → Type 0) (source : List ℕ) (f : Fault) → FaultFrom opens es limit text behind_dtd Front source f
@@ -55,10 +55,10 @@ front_of opens es limit text behind_dtd Front source f (in_misc_ahead p items _ 
 front_of opens es limit text behind_dtd Front source f (too_many_ahead p j items item front fits is over) = (p, items, front)
 front_of opens es limit text behind_dtd Front source f (no_root items front fits) = (length text, items, front)
 front_of opens es limit text behind_dtd Front source f (unknown_ahead p items front fits below no_space no_less) = (p, items, front)
-front_of opens es limit text behind_dtd Front source f (at_place k base b _ s _ place fits stands) =
-    let r = place_front opens es text (λ p items. Front p items × RootBegins behind_dtd text p) k base b source s place in (r.0, r.1, r.2.0)
-front_of opens es limit text behind_dtd Front source f (in_value k base b p c n v e j l i stop d src part s as' name _ place fits begins' to spaces named eq literal is ill) =
-    let r = place_front opens es text (λ p items. Front p items × RootBegins behind_dtd text p) k base b src s place in (r.0, r.1, r.2.0)
+front_of opens es limit text behind_dtd Front source f (at_place k open_around b _ s _ place fits stands) =
+    let r = place_front opens es text (λ p items. Front p items × RootBegins behind_dtd text p) k open_around b source s place in (r.0, r.1, r.2.0)
+front_of opens es limit text behind_dtd Front source f (in_value k open_around b p c n v e j l i stop d src part s as' name _ place fits begins' to spaces named eq literal is ill) =
+    let r = place_front opens es text (λ p items. Front p items × RootBegins behind_dtd text p) k open_around b src s place in (r.0, r.1, r.2.0)
 front_of opens es limit text behind_dtd Front source f (in_misc_behind p items _ back fits ill) = (back.start, back.before, back.ahead)
 front_of opens es limit text behind_dtd Front source f (too_many_behind p j items item back fits is over) = (back.start, back.before, back.ahead)
 front_of opens es limit text behind_dtd Front source f (unknown_behind p items back fits below a b c) = (back.start, back.before, back.ahead)
@@ -107,14 +107,14 @@ module _ (limit : ℕ) (src : List ℕ) (utf8 : IsUtf8 src) (given : List Asked)
 
   no_root_behind : (q : ℕ) (items : Forest Item) → Behind (λ k. no_entities) src (PrologTo src) q items → ⊥
   no_root_behind q items back =
-      let there = element_stops true no_entities src back.start back.end 255 back.left back.one back.element in
+      let there = element_stops true no_entities src back.start back.end 255 back.openings_left back.one back.element in
       no_root_here back.start back.before back.ahead there.2 there.1
 
   -- where the parse is within the limits all nodes are
   few_nodes : IsWithinLimits limit tree → 1 + size (merge tree) ≤ limit
   few_nodes few =
       let merged : merge tree ≡ tree =
-      ap merge p.is_tree ∙ tops_merged true (included_in_main p.entities) src p.declared_to p.begun p.start p.end (length src) 255 p.left true p.before p.nodes p.one p.after given p.entities p.misc_before p.doctype p.element p.misc_after ∙ sym p.is_tree in
+      ap merge p.is_tree ∙ tops_merged true (included_in_main p.entities) src p.declared_to p.begun p.start p.end (length src) 255 p.openings_left true p.before p.nodes p.one p.after given p.entities p.misc_before p.doctype p.element p.misc_after ∙ sym p.is_tree in
       rw merged (omega (arith, few.nodes))
 
   -- no fault stands before it but those of the limits
@@ -132,10 +132,10 @@ module _ (limit : ℕ) (src : List ℕ) (utf8 : IsUtf8 src) (given : List Asked)
       let r = ahead_rest (length src) items ahead in let l = before_end src utf8 (length src) p.begun r.0 r.1 (doctype_bytes src p.begun begins_here).1 in absurd (omega arith)
   ahead_over source f (unknown_ahead q items ahead fits below no_space no_less) =
       let r = ahead_rest q items ahead in absurd (other_at src utf8 q p.begun r.0 r.1 (doctype_bytes src p.begun begins_here).1 no_space no_less)
-  ahead_over source f (at_place k base b _ s _ place fits stands) =
-      let r = place_front (λ k. no_entities) [] src (λ p items. PrologTo src p items × RootBegins false src p) k base b source s place in absurd (no_root_begins r.0 r.1 r.2.0 r.2.1)
-  ahead_over source f (in_value k base b q c n v e j l i stop d other part s as' name _ place fits begins' to spaces named eq literal is ill) =
-      let r = place_front (λ k. no_entities) [] src (λ p items. PrologTo src p items × RootBegins false src p) k base b other s place in absurd (no_root_begins r.0 r.1 r.2.0 r.2.1)
+  ahead_over source f (at_place k open_around b _ s _ place fits stands) =
+      let r = place_front (λ k. no_entities) [] src (λ p items. PrologTo src p items × RootBegins false src p) k open_around b source s place in absurd (no_root_begins r.0 r.1 r.2.0 r.2.1)
+  ahead_over source f (in_value k open_around b q c n v e j l i stop d other part s as' name _ place fits begins' to spaces named eq literal is ill) =
+      let r = place_front (λ k. no_entities) [] src (λ p items. PrologTo src p items × RootBegins false src p) k open_around b other s place in absurd (no_root_begins r.0 r.1 r.2.0 r.2.1)
   ahead_over source f (in_misc_behind q items _ back fits ill) = absurd (no_root_behind q items back)
   ahead_over source f (too_many_behind q j items item back fits is over) = absurd (no_root_behind q items back)
   ahead_over source f (unknown_behind q items back fits below a b c) = absurd (no_root_behind q items back)
@@ -213,18 +213,18 @@ module _ (limit : ℕ) (src : List ℕ) (utf8 : IsUtf8 src) (given : List Asked)
   before_root = join p.before p.nodes
 
   root_stops : (byte src p.start ≡ 60) × (at word.DoctypeStart src p.start ≡ false) × Stops src p.start
-  root_stops = element_stops true (included_in_main p.entities) src p.start p.end 255 p.left p.one p.element
+  root_stops = element_stops true (included_in_main p.entities) src p.start p.end 255 p.openings_left p.one p.element
 
   -- the whole as a state has it
   same_whole : tree ≡ join (join before_root p.one) p.after
   same_whole = p.is_tree ∙ sym (join_assoc p.before p.nodes (join p.one p.after)) ∙ sym (join_assoc before_root p.one p.after)
 
   -- which is within the limits where the parse is
-  all_fine : IsWithinLimits limit tree → IsValidState limit (state (length src) (join (join before_root p.one) p.after) root p.left)
+  all_fine : IsWithinLimits limit tree → IsValidState limit (state (length src) (join (join before_root p.one) p.after) root p.openings_left)
   all_fine few =
-      let whole : IsValidState limit (state (length src) tree root p.left) =
+      let whole : IsValidState limit (state (length src) tree root p.openings_left) =
       record { nodes = few_nodes limit src utf8 given tree p few; attributes = few.attributes; pairs = few.namespaces; named = p.well_named } in
-      subst (λ (f : Forest Item). IsValidState limit (state (length src) f root p.left)) same_whole whole
+      subst (λ (f : Forest Item). IsValidState limit (state (length src) f root p.openings_left)) same_whole whole
 
   -- the entities are text
   entities_texts : AreTexts p.entities
@@ -249,7 +249,7 @@ module _ (limit : ℕ) (src : List ℕ) (utf8 : IsUtf8 src) (given : List Asked)
           ahead = λ q items a. (declared_rest p.entities q items a).0;
           on = declared_on src utf8 asked p.entities;
           end = p.end;
-          left = p.left;
+          openings_left = p.openings_left;
           one = p.one;
           element = p.element;
           after = p.after;

@@ -36,7 +36,7 @@ use Rattle.rox_theory.proofs.Standing.{AreNamed, IsValidState}
 use Rattle.rox_theory.proofs.Leaves.{state, with_leaf}
 use Rattle.rox_theory.proofs.FailedReadings.{bind_err, lifted_err, lifted_only, no_fault, chars_fails}
 use Rattle.rox_faults.proofs.FaultRows.{run_stops_cut, expansion_fails}
-use Rattle.rox_faults.proofs.FaultPoints.{Refuses, refuses_here, place_of, how_at, named_last, fine_fits, AreFew, plain_few, From, At, stand, over}
+use Rattle.rox_faults.proofs.FaultPoints.{Refuses, refuses_here, place_of, context_at, named_last, fine_fits, AreFew, plain_few, From, At, stand, over}
 
 module _ (src : List ℕ) (utf8 : IsUtf8 src) (es : List Entity) (main : Bool) where
   -- what follows a bit fails
@@ -70,15 +70,15 @@ item_over : (limit : ℕ) (s : State) (j : ℕ) (item : Item) (f : Fault) → wi
 item_over limit s j item f h = chosen (nat_le (nodes_so_far s.stack (join s.done (leaf item))) limit) _ _ _ h (λ fewer h. no_fault _ f h) (λ more h. (leb-false _ _ more, cc))
 
 module _ (opens : ℕ → Inclusion) (es : List Entity) (limit : ℕ) (text : List ℕ) (declared : Bool) (Front : ℕ → Forest Item → Type 0)
-    (d k base most : ℕ) (agrees : AgreesContent es limit (opens k) (opener limit es d (is_main k))) (less : limit ≤ most) (least : most ≤ max limit 1) where
+    (d k open_around most : ℕ) (agrees : AgreesContent es limit (opens k) (opener limit es d (is_main k))) (less : limit ≤ most) (least : most ≤ max limit 1) where
   -- what is opened behind a reference that ends at j fails: by the number of openings, or within
   abbrev pub OpenerFails : Type 0
   OpenerFails =
-      (src : List ℕ) (j : ℕ) (t : Replacement) (name : List ℕ) (u : State) (e : Refusal) → text_of es name ≡ Some t → IsValidState most u → (IsSpent k u.left → From opens es limit text declared Front src (fault.EntityReferenceLoop j))
-      → ((r : ℕ) → MayOpen k u.left r → At opens es limit text declared Front (suc k) (depth_of u.stack) t.source (state t.start u.done u.stack r)) → opener limit es d (is_main k) t j u ≡ Err e
+      (src : List ℕ) (j : ℕ) (t : Replacement) (name : List ℕ) (u : State) (e : Refusal) → text_of es name ≡ Some t → IsValidState most u → (IsSpent k u.openings_left → From opens es limit text declared Front src (fault.EntityReferenceLoop j))
+      → ((r : ℕ) → MayOpen k u.openings_left r → At opens es limit text declared Front (suc k) (depth_of u.stack) t.source (state t.start u.done u.stack r)) → opener limit es d (is_main k) t j u ≡ Err e
       → Refuses es (From opens es limit text declared Front) src e
 
-  module _ (opener_fails : OpenerFails) (src : List ℕ) (utf8 : IsUtf8 src) (s : State) (place : At opens es limit text declared Front k base src s) (fine : IsValidState most s) (inner : is_content k s.stack ≡ true)
+  module _ (opener_fails : OpenerFails) (src : List ℕ) (utf8 : IsUtf8 src) (s : State) (place : At opens es limit text declared Front k open_around src s) (fine : IsValidState most s) (inner : is_content k s.stack ≡ true)
       (within' : s.at < length src) (other : byte src s.at ≢ 60) where
     abbrev P : List ℕ → Fault → Type 0
     P src f = From opens es limit text declared Front src f
@@ -87,8 +87,8 @@ module _ (opens : ℕ → Inclusion) (es : List Entity) (limit : ℕ) (text : Li
     fits = fine_fits limit most s least fine
 
     -- a fault of the run
-    in_it : (f : Fault) → InRun es k (opens k) src s.at s.left f → P src f
-    in_it f ill = stand opens es limit text declared Front k base src s f place fits (in_run f inner within' other ill)
+    in_it : (f : Fault) → InRun es k (opens k) src s.at s.openings_left f → P src f
+    in_it f ill = stand opens es limit text declared Front k open_around src s f place fits (in_run f inner within' other ill)
 
     module _ (stop : ℕ) (run : IsCharacterData src s.at stop) (marked : is_verbatim (slice src s.at stop) ≡ false) where
       -- the parts that are read so far, up to this state
@@ -96,16 +96,16 @@ module _ (opens : ℕ → Inclusion) (es : List Entity) (limit : ℕ) (text : Li
         pub front : Forest Item
         pub done : u.done ≡ join s.done front
         pub stack : u.stack ≡ s.stack
-        pub to : (q c : ℕ) (more : Forest Item) → PartsTo (is_main k) (opens k) src s.at stop u.at q u.left c more → PartsTo (is_main k) (opens k) src s.at stop s.at q s.left c (join front more)
-        pub all : (c : ℕ) (more : Forest Item) → Parts (is_main k) (opens k) src s.at stop u.at u.left c more → Parts (is_main k) (opens k) src s.at stop s.at s.left c (join front more)
+        pub to : (q c : ℕ) (more : Forest Item) → PartsTo (is_main k) (opens k) src s.at stop u.at q u.openings_left c more → PartsTo (is_main k) (opens k) src s.at stop s.at q s.openings_left c (join front more)
+        pub all : (c : ℕ) (more : Forest Item) → Parts (is_main k) (opens k) src s.at stop u.at u.openings_left c more → Parts (is_main k) (opens k) src s.at stop s.at s.openings_left c (join front more)
 
       begun : Begun s
       begun = record { front = Nil; done = sym (join-nil s.done); stack = refl; to = λ q c more p. p; all = λ c more p. p }
 
       -- behind a part and what a reference opens
       begun_more : (u v : State) (b : Begun u) (q n j c : ℕ) (ss : List DataByte) (items : Forest Item) → Part (is_main k) src q u.at ss → IsReference src q n j → predefined (slice src (q + 1) n) ≡ None
-          → (opens k).content (slice src (q + 1) n) u.left items c → v.at ≡ j → v.left ≡ c → v.stack ≡ u.stack → v.done ≡ join (join u.done (piece s.at stop false ss)) items → Begun v
-      begun_more u v b q n j c ss items part ref none opened at left stack done =
+          → (opens k).content (slice src (q + 1) n) u.openings_left items c → v.at ≡ j → v.openings_left ≡ c → v.stack ≡ u.stack → v.done ≡ join (join u.done (piece s.at stop false ss)) items → Begun v
+      begun_more u v b q n j c ss items part ref none opened at openings_left stack done =
           let one = piece s.at stop false ss in
           let whole : (more : Forest Item) → join b.front (join one (join items more)) ≡ join (join b.front (join one items)) more =
           λ more. ap (λ (f : Forest Item). join b.front f) (sym (join_assoc one items more)) ∙ sym (join_assoc b.front (join one items) more) in
@@ -114,13 +114,13 @@ module _ (opens : ℕ → Inclusion) (es : List Entity) (limit : ℕ) (text : Li
             done = done ∙ ap (λ (f : Forest Item). join (join f one) items) b.done ∙ join_assoc (join s.done b.front) one items ∙ join_assoc s.done b.front (join one items);
             stack = stack ∙ b.stack;
             to = λ p e more p'.
-                subst (λ (f : Forest Item). PartsTo (is_main k) (opens k) src s.at stop s.at p s.left e f) (whole more)
-                (b.to p e (join one (join items more)) (then_entity u.at q n j p u.left c e ss items more part ref none opened
-                (subst (λ (i : ℕ). PartsTo (is_main k) (opens k) src s.at stop i p c e more) at (subst (λ (l : ℕ). PartsTo (is_main k) (opens k) src s.at stop v.at p l e more) left p'))));
+                subst (λ (f : Forest Item). PartsTo (is_main k) (opens k) src s.at stop s.at p s.openings_left e f) (whole more)
+                (b.to p e (join one (join items more)) (then_entity u.at q n j p u.openings_left c e ss items more part ref none opened
+                (subst (λ (i : ℕ). PartsTo (is_main k) (opens k) src s.at stop i p c e more) at (subst (λ (l : ℕ). PartsTo (is_main k) (opens k) src s.at stop v.at p l e more) openings_left p'))));
             all = λ e more p'.
-                subst (λ (f : Forest Item). Parts (is_main k) (opens k) src s.at stop s.at s.left e f) (whole more)
-                (b.all e (join one (join items more)) (content.Parts.then_entity u.at q n j u.left c e ss items more part ref none opened
-                (subst (λ (i : ℕ). Parts (is_main k) (opens k) src s.at stop i c e more) at (subst (λ (l : ℕ). Parts (is_main k) (opens k) src s.at stop v.at l e more) left p'))));
+                subst (λ (f : Forest Item). Parts (is_main k) (opens k) src s.at stop s.at s.openings_left e f) (whole more)
+                (b.all e (join one (join items more)) (content.Parts.then_entity u.at q n j u.openings_left c e ss items more part ref none opened
+                (subst (λ (i : ℕ). Parts (is_main k) (opens k) src s.at stop i c e more) at (subst (λ (l : ℕ). Parts (is_main k) (opens k) src s.at stop v.at l e more) openings_left p'))));
           }
 
       -- what is read in front is well named
@@ -132,15 +132,15 @@ module _ (opens : ℕ → Inclusion) (es : List Entity) (limit : ℕ) (text : Li
           → AreFew s.stack (join s.done (join b.front (piece s.at stop false ss))) → limit < nodes_so_far s.stack (join s.done (join b.front (piece s.at stop false ss))) → P src fault.NodesLimitReached
       by_end u b q ss next part (ends_run _ same) named few many =
           let items = join b.front (piece s.at stop false ss) in
-          let last : Parts (is_main k) (opens k) src s.at stop u.at u.left u.left (piece s.at stop false ss) =
-          subst (λ (p : Bool). Parts (is_main k) (opens k) src s.at stop u.at u.left u.left (piece s.at stop p ss)) marked
-          (last_part u.at u.left ss (subst (λ (q : ℕ). Part (is_main k) src q u.at ss) same part)) in
-          stand opens es limit text declared Front k base src s fault.NodesLimitReached place fits
-          (too_many_nodes u.left (place_of (state stop (join s.done items) s.stack u.left)) (a_run stop s.left u.left items inner run (b.all u.left (piece s.at stop false ss) last) named) few.0 few.1 many)
+          let last : Parts (is_main k) (opens k) src s.at stop u.at u.openings_left u.openings_left (piece s.at stop false ss) =
+          subst (λ (p : Bool). Parts (is_main k) (opens k) src s.at stop u.at u.openings_left u.openings_left (piece s.at stop p ss)) marked
+          (last_part u.at u.openings_left ss (subst (λ (q : ℕ). Part (is_main k) src q u.at ss) same part)) in
+          stand opens es limit text declared Front k open_around src s fault.NodesLimitReached place fits
+          (too_many_nodes u.openings_left (place_of (state stop (join s.done items) s.stack u.openings_left)) (a_run stop s.openings_left u.openings_left items inner run (b.all u.openings_left (piece s.at stop false ss) last) named) few.0 few.1 many)
       by_end u b q ss next part (ends_entity _ n j t ref none to found) named few many =
           let moves = reference_opens src q n j ref in
-          stand opens es limit text declared Front k base src s fault.NodesLimitReached place fits
-          (too_many_pieces stop q j u.left (join b.front (piece s.at stop false ss)) t inner run (b.to q u.left (piece s.at stop false ss) (one_part u.at q u.left ss part)) named (omega (arith, moves.2))
+          stand opens es limit text declared Front k open_around src s fault.NodesLimitReached place fits
+          (too_many_pieces stop q j u.openings_left (join b.front (piece s.at stop false ss)) t inner run (b.to q u.openings_left (piece s.at stop false ss) (one_part u.at q u.openings_left ss part)) named (omega (arith, moves.2))
           (record { n = n; is_reference = ref; no_character = none; found = found }) few.0 few.1 many)
 
       -- a text that is one node too many
@@ -164,7 +164,7 @@ module _ (opens : ℕ → Inclusion) (es : List Entity) (limit : ℕ) (text : Li
       -- the parts behind an opened text
       after_fails : (u t : State) (b : Begun u) (q : ℕ) (ss : List DataByte) (next : Next) (more : State → Result State Refusal) (e : Refusal) → IsValidState most t → IsPiece u t s.at stop ss → Part (is_main k) src q u.at ss
           → u.at ≤ q → Ends es src stop q next → ((v : State) → Begun v → q < v.at → v.at ≤ stop → IsValidState most v → more v ≡ Err e → Refuses es P src e)
-          → after_part (how_at limit es d k base) more stop t next ≡ Err e → Refuses es P src e
+          → after_part (context_at limit es d k open_around) more stop t next ≡ Err e → Refuses es P src e
       after_fails u t b q ss next more e fine' is part le (ends_run _ same) go h = no_fault _ e h
       after_fails u t b q ss next more e fine' is part le (ends_entity _ n j r ref none to found) go h =
           let name = slice src (q + 1) n in
@@ -173,29 +173,29 @@ module _ (opens : ℕ → Inclusion) (es : List Entity) (limit : ℕ) (text : Li
           let t_done : t.done ≡ join s.done (join b.front one) = is.done ∙ ap (λ (f : Forest Item). join f one) b.done ∙ join_assoc s.done b.front one in
           let t_stack : t.stack ≡ s.stack = is.stack ∙ b.stack in
           let refers : RefersTo es src q j r = record { n = n; is_reference = ref; no_character = none; found = found } in
-          let to' : PartsTo (is_main k) (opens k) src s.at stop s.at q s.left t.left (join b.front one) =
-          subst (λ (c : ℕ). PartsTo (is_main k) (opens k) src s.at stop s.at q s.left c (join b.front one)) (sym is.left) (b.to q u.left one (one_part u.at q u.left ss part)) in
+          let to' : PartsTo (is_main k) (opens k) src s.at stop s.at q s.openings_left t.openings_left (join b.front one) =
+          subst (λ (c : ℕ). PartsTo (is_main k) (opens k) src s.at stop s.at q s.openings_left c (join b.front one)) (sym is.openings_left) (b.to q u.openings_left one (one_part u.at q u.openings_left ss part)) in
           let named : AreWellNamed (scope_of s.stack) (join b.front one) =
           named_last s.stack s.done (join b.front one) (subst (λ (o : Open). AreNamed o (join s.done (join b.front one))) t_stack (subst (AreNamed t.stack) t_done fine'.named)) in
           let below : q < stop = omega (arith, moves.2) in
           bind_err (opener limit es d (is_main k) r j t) _ e h
-          (λ bad. opener_fails src j r name t e found fine' (λ spent. in_it (fault.EntityReferenceLoop j) (too_many stop q j t.left (join b.front one) r run to' below refers spent))
+          (λ bad. opener_fails src j r name t e found fine' (λ spent. in_it (fault.EntityReferenceLoop j) (too_many stop q j t.openings_left (join b.front one) r run to' below refers spent))
           (λ l may.
           subst (λ (o : Open). At opens es limit text declared Front (suc k) (depth_of o) r.source (state r.start t.done o l)) (sym t_stack)
           (subst (λ (f : Forest Item). At opens es limit text declared Front (suc k) (depth_of s.stack) r.source (state r.start f s.stack l)) (sym t_done)
-          (enters k base s.left t.left l stop q j src (place_of s) (join b.front one) r place inner run to' named below refers may))) bad)
+          (enters k open_around s.openings_left t.openings_left l stop q j src (place_of s) (join b.front one) r place inner run to' named below refers may))) bad)
           (λ v opened h.
           let o = agrees.sound most name r j t v less found fine' opened in
           let v_is = o.3 in
           let v_at : v.at ≡ j = ap (λ (s : State). s.at) v_is in
-          let v_left : v.left ≡ o.1 = ap (λ (s : State). s.left) v_is in
+          let v_left : v.openings_left ≡ o.1 = ap (λ (s : State). s.openings_left) v_is in
           let v_stack : v.stack ≡ u.stack = ap (λ (s : State). s.stack) v_is ∙ is.stack in
           let v_done : v.done ≡ join (join u.done one) o.0 = ap (λ (s : State). s.done) v_is ∙ ap (λ (f : Forest Item). join f o.0) is.done in
-          let content' : (opens k).content name u.left o.0 o.1 = subst (λ (l : ℕ). (opens k).content name l o.0 o.1) is.left o.2 in
+          let content' : (opens k).content name u.openings_left o.0 o.1 = subst (λ (l : ℕ). (opens k).content name l o.0 o.1) is.openings_left o.2 in
           go v (begun_more u v b q n j o.1 ss o.0 part ref none content' v_at v_left v_stack v_done) (omega (arith, moves.2)) (omega arith) o.4 h)
 
       -- a run with references or CR
-      parts_fail : (n : ℕ) (u : State) (e : Refusal) → Begun u → IsValidState most u → s.at ≤ u.at → u.at ≤ stop → stop ≤ u.at + n → data_parts (how_at limit es d k base) n src s.at stop u ≡ Err e → Refuses es P src e
+      parts_fail : (n : ℕ) (u : State) (e : Refusal) → Begun u → IsValidState most u → s.at ≤ u.at → u.at ≤ stop → stop ≤ u.at + n → data_parts (context_at limit es d k open_around) n src s.at stop u ≡ Err e → Refuses es P src e
       unfolding data_parts
       parts_fail zero u e b fine' from to enough h = no_fault _ e h
       parts_fail (suc n) u e b fine' from to enough h =
@@ -212,11 +212,11 @@ module _ (opens : ℕ → Inclusion) (es : List Entity) (limit : ℕ) (text : Li
           (λ f bad is. refuses_here es P src f e is (piece_over u b part.0 signs (part_text (is_main k) x.0) x.1 f fine' part.1.1 part.2 (sym spelled) bad))
           (λ t added h.
           let added' = piece_read limit most u t s.at stop signs less fine' (sym (ap (with_piece limit u s.at stop) spelled) ∙ added) in
-          after_fails u t b part.0 signs x.1 (λ v. data_parts (how_at limit es d k base) n src s.at stop v) e added'.1 added'.0 part.1.1 le part.2
+          after_fails u t b part.0 signs x.1 (λ v. data_parts (context_at limit es d k open_around) n src s.at stop v) e added'.1 added'.0 part.1.1 le part.2
           (λ v b' past to' fine'' h. parts_fail n v e b' fine'' (omega arith) to' (omega arith) h) h))
 
     -- the bytes of the run
-    raw_fails : (f : Fault) → IsCharBoundary src s.at → raw_character_data_at src s.at ≡ Err f → InRun es k (opens k) src s.at s.left f
+    raw_fails : (f : Fault) → IsCharBoundary src s.at → raw_character_data_at src s.at ≡ Err f → InRun es k (opens k) src s.at s.openings_left f
     unfolding raw_character_data_at
     raw_fails f cut h =
         let stop = byte_from (λ c. c == 60) src s.at in
@@ -227,11 +227,11 @@ module _ (opens : ℕ → Inclusion) (es : List Entity) (limit : ℕ) (text : Li
         let c = chars_sound stop src s.at raw utf8 le read in
         let text : raw.0 ≡ slice src s.at stop = c.1 in
         chosen (has_mark (word_text word.CDataEnd) raw.0) _ _ _ h
-        (λ marked h. let is : fault.InvalidCharacterData stop ≡ f = cc in subst (InRun es k (opens k) src s.at s.left) is (end_mark stop refl c.0 (sym (ap (has_mark (word_text word.CDataEnd)) text) ∙ marked)))
+        (λ marked h. let is : fault.InvalidCharacterData stop ≡ f = cc in subst (InRun es k (opens k) src s.at s.openings_left) is (end_mark stop refl c.0 (sym (ap (has_mark (word_text word.CDataEnd)) text) ∙ marked)))
         (λ fine h. no_fault _ f h))
 
     -- a run
-    pub run_fails : (e : Refusal) → IsCharBoundary src s.at → character_data_step (how_at limit es d k base) src s ≡ Err e → Refuses es P src e
+    pub run_fails : (e : Refusal) → IsCharBoundary src s.at → character_data_step (context_at limit es d k open_around) src s ≡ Err e → Refuses es P src e
     unfolding character_data_step
     run_fails e cut h =
         lifted_err (raw_character_data_at src s.at) _ e h
@@ -242,11 +242,11 @@ module _ (opens : ℕ → Inclusion) (es : List Entity) (limit : ℕ) (text : Li
         (λ plain h.
         let plain' : is_verbatim (slice src s.at x.1) ≡ true = rw (raw.1) at plain in
         let item = Text s.at x.1 x.0 true in
-        let parts : Parts (is_main k) (opens k) src s.at x.1 s.at s.left s.left (leaf item) =
-        subst (λ (v : List ℕ). Parts (is_main k) (opens k) src s.at x.1 s.at s.left s.left (leaf (Text s.at x.1 v true))) (sym raw.1)
-        (plain_part (how_at limit es d k base) (opens k) agrees src utf8 s.at x.1 s.left raw.0 plain') in
+        let parts : Parts (is_main k) (opens k) src s.at x.1 s.at s.openings_left s.openings_left (leaf item) =
+        subst (λ (v : List ℕ). Parts (is_main k) (opens k) src s.at x.1 s.at s.openings_left s.openings_left (leaf (Text s.at x.1 v true))) (sym raw.1)
+        (plain_part (context_at limit es d k open_around) (opens k) agrees src utf8 s.at x.1 s.openings_left raw.0 plain') in
         lifted_only (with_item limit s x.1 item) e h
-        (λ f bad is. refuses_here es P src f e is (over opens es limit text declared Front k base src s (with_leaf s x.1 item) f place fits (a_run x.1 s.left s.left (leaf item) inner raw.0 parts (tt, tt, tt)) (plain_few limit s item refl refl fits) bad)))
+        (λ f bad is. refuses_here es P src f e is (over opens es limit text declared Front k open_around src s (with_leaf s x.1 item) f place fits (a_run x.1 s.openings_left s.openings_left (leaf item) inner raw.0 parts (tt, tt, tt)) (plain_few limit s item refl refl fits) bad)))
         (λ marked h.
         let marked' : is_verbatim (slice src s.at x.1) ≡ false = rw (raw.1) at marked in
         let inside = run_inside src s.at x.1 raw.0 in

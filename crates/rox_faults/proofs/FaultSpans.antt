@@ -278,7 +278,7 @@ module _ (src : List ℕ) (bottom : Open) where
 
   -- one more item
   item_spans : (limit : ℕ) (s : State) (j : ℕ) (item : Item) → StateNamed s → Spanned State src StateNamed (with_item limit s j item)
-  item_spans limit s j item named = counted_spans limit (state j (join s.done (leaf item)) s.stack s.left) named
+  item_spans limit s j item named = counted_spans limit (state j (join s.done (leaf item)) s.stack s.openings_left) named
 
   -- a comment
   comment_step_spans : (limit : ℕ) (s : State) → StateNamed s → Spanned State src StateNamed (comment_step limit src s)
@@ -319,17 +319,17 @@ module _ (src : List ℕ) (bottom : Open) where
   cut_off_spans false stack = tt
 
   -- behind a start tag with a name
-  opened_spans : (limit : ℕ) (s : State) (tag : Tag) (empty : Bool) (left j : ℕ) → IsTextSpan src (name_span tag.name (s.at + 1) tag.name_end) → StateNamed s
-      → Spanned State src StateNamed (opened_by limit s tag empty left j)
-  opened_spans limit s tag true left j name named = item_spans limit (state s.at s.done s.stack left) j (Element s.at j tag) named
-  opened_spans limit s tag false left j name named = counted_spans limit (state j Nil (inside s.at tag s.done s.stack) left) (above s.at tag s.done s.stack name named)
+  opened_spans : (limit : ℕ) (s : State) (tag : Tag) (empty : Bool) (openings_left j : ℕ) → IsTextSpan src (name_span tag.name (s.at + 1) tag.name_end) → StateNamed s
+      → Spanned State src StateNamed (opened_by limit s tag empty openings_left j)
+  opened_spans limit s tag true openings_left j name named = item_spans limit (state s.at s.done s.stack openings_left) j (Element s.at j tag) named
+  opened_spans limit s tag false openings_left j name named = counted_spans limit (state j Nil (inside s.at tag s.done s.stack) openings_left) (above s.at tag s.done s.stack name named)
 
   -- behind an end tag with a name, where an element is open above these
-  closed_spans : (i : ℕ) (name : Name) (n j : ℕ) (done : Forest Item) (stack : Open) (left : ℕ) → IsTextSpan src (name_span name (i + 2) n) → depth_of bottom < depth_of stack → Rests src bottom stack
-      → Spanned State src StateNamed (closed_by i name n j done stack left)
+  closed_spans : (i : ℕ) (name : Name) (n j : ℕ) (done : Forest Item) (stack : Open) (openings_left : ℕ) → IsTextSpan src (name_span name (i + 2) n) → depth_of bottom < depth_of stack → Rests src bottom stack
+      → Spanned State src StateNamed (closed_by i name n j done stack openings_left)
   unfolding closed_by
-  closed_spans i name n j done stack left actual deep rests = absurd (omega arith)
-  closed_spans i name n j done stack left actual deep (above start tag before up text more) =
+  closed_spans i name n j done stack openings_left actual deep rests = absurd (omega arith)
+  closed_spans i name n j done stack openings_left actual deep (above start tag before up text more) =
       spanned_cond src _ (same_qname tag.name name) _ _ (λ h. record { holds = more }) (λ h. record { holds = (text, actual) })
 
   -- the piece of a part
@@ -349,32 +349,32 @@ module _ (src : List ℕ) (bottom : Open) where
   abbrev pub ContentTold : (Replacement → ℕ → State → Result State Refusal) → Type 0
   ContentTold opener = (t : Replacement) (after : ℕ) (s : State) → IsUtf8 t.source → Told State src (λ (u : State). u.stack ≡ s.stack) (opener t after s)
 
-  module _ (utf8 : IsUtf8 src) (how : Context) (texts : AreTexts how.values.entities) (base : how.base ≡ depth_of bottom)
-      (values : (i stop left : ℕ) → Told (ReadText × ℕ) src (λ x. Unit {0}) (value_at how.values.main how.values.entities how.values.opener src i stop left)) (opens : ContentTold how.opener) where
+  module _ (utf8 : IsUtf8 src) (context : Context) (texts : AreTexts context.values.entities) (open_around : context.open_around ≡ depth_of bottom)
+      (values : (i stop openings_left : ℕ) → Told (ReadText × ℕ) src (λ x. Unit {0}) (value_at context.values.main context.values.entities context.values.opener src i stop openings_left)) (opens : ContentTold context.opener) where
     -- behind a part
     after_part_told : (more : State → Result State Refusal) → ((u : State) → StateNamed u → Told State src StateNamed (more u)) → (stop : ℕ) (s : State) (next : Next) → StateNamed s → NextIsSource src utf8 next
-        → Told State src StateNamed (after_part how more stop s next)
+        → Told State src StateNamed (after_part context more stop s next)
     after_part_told more rest stop s at_end named is = record { tells = named }
     after_part_told more rest stop s (opening t j) named is =
-        told_bind src (λ (u : State). u.stack ≡ s.stack) _ (how.opener t j s) _ (opens t j s is) (λ u read same. rest u (subst (Rests src bottom) (sym same) named))
+        told_bind src (λ (u : State). u.stack ≡ s.stack) _ (context.opener t j s) _ (opens t j s is) (λ u read same. rest u (subst (Rests src bottom) (sym same) named))
 
     -- the parts of a run
-    run_parts_told : (n start stop : ℕ) (s : State) → StateNamed s → Told State src StateNamed (data_parts how n src start stop s)
+    run_parts_told : (n start stop : ℕ) (s : State) → StateNamed s → Told State src StateNamed (data_parts context n src start stop s)
     unfolding data_parts
     run_parts_told zero start stop s named = record { tells = named }
     run_parts_told (suc n) start stop s named =
-        told_after src (λ (x : List ℕ × Next). NextIsSource src utf8 x.1) _ (data_part how.values.main how.values.entities (stop - s.at) src stop s.at) _
-        (run_part_spans src utf8 how.values.entities texts how.values.main (stop - s.at) stop s.at) (λ x read is.
-        told_after src StateNamed _ (with_piece how.limit s start stop (part_text how.values.main x.0)) _ (piece_spans how.limit s start stop (part_text how.values.main x.0) named) (λ t added named'.
-        after_part_told (λ u. data_parts how n src start stop u) (λ u more. run_parts_told n start stop u more) stop t x.1 named' is))
+        told_after src (λ (x : List ℕ × Next). NextIsSource src utf8 x.1) _ (data_part context.values.main context.values.entities (stop - s.at) src stop s.at) _
+        (run_part_spans src utf8 context.values.entities texts context.values.main (stop - s.at) stop s.at) (λ x read is.
+        told_after src StateNamed _ (with_piece context.limit s start stop (part_text context.values.main x.0)) _ (piece_spans context.limit s start stop (part_text context.values.main x.0) named) (λ t added named'.
+        after_part_told (λ u. data_parts context n src start stop u) (λ u more. run_parts_told n start stop u more) stop t x.1 named' is))
 
     -- a run
-    run_step_told : (s : State) → StateNamed s → Told State src StateNamed (character_data_step how src s)
+    run_step_told : (s : State) → StateNamed s → Told State src StateNamed (character_data_step context src s)
     unfolding character_data_step
     run_step_told s named =
         told_after src (λ (x : List ℕ × ℕ). Unit {0}) _ (raw_character_data_at src s.at) _ (raw_spans s.at) (λ x read h.
         told_cond src _ (is_verbatim x.0) _ _
-        (λ h. told_lifted src StateNamed (with_item how.limit s x.1 (Text s.at x.1 x.0 true)) (item_spans how.limit s x.1 (Text s.at x.1 x.0 true) named))
+        (λ h. told_lifted src StateNamed (with_item context.limit s x.1 (Text s.at x.1 x.0 true)) (item_spans context.limit s x.1 (Text s.at x.1 x.0 true) named))
         (λ h. run_parts_told (length src) s.at x.1 s named))
 
     -- a qualified name, written with its colon or without
@@ -398,59 +398,59 @@ module _ (src : List ℕ) (bottom : Open) where
         record { holds = written_spans (i + 2) name.0 name.1 (end_cut i slash) read }))
 
     -- an end tag
-    end_step_spans : (s : State) → byte src (s.at + 1) ≡ 47 → StateNamed s → Spanned State src StateNamed (end_step how src s)
+    end_step_spans : (s : State) → byte src (s.at + 1) ≡ 47 → StateNamed s → Spanned State src StateNamed (end_step context src s)
     unfolding end_step
     end_step_spans s slash named =
         spanned_bind src (λ (x : EndTag × ℕ). IsTextSpan src (name_span x.0.name (s.at + 2) x.0.name_end)) _ (end_tag_at src s.at) _ (end_tag_spans s.at slash) (λ x read actual.
-        spanned_cond src _ (nat_le (depth_of s.stack) how.base) _ _ (λ h. record { holds = tt })
-        (λ deep. closed_spans s.at x.0.name x.0.name_end x.1 s.done s.stack s.left actual (omega (arith, leb-false _ _ deep)) named))
+        spanned_cond src _ (nat_le (depth_of s.stack) context.open_around) _ _ (λ h. record { holds = tt })
+        (λ deep. closed_spans s.at x.0.name x.0.name_end x.1 s.done s.stack s.openings_left actual (omega (arith, leb-false _ _ deep)) named))
 
     -- a start tag
-    tag_step_told : (s : State) → byte src s.at ≡ 60 → StateNamed s → Told State src StateNamed (tag_step how src s)
+    tag_step_told : (s : State) → byte src s.at ≡ 60 → StateNamed s → Told State src StateNamed (tag_step context src s)
     unfolding tag_step
     tag_step_told s opens' named =
-        let cut = cut_off_fault how.values.main s.stack in
+        let cut = cut_off_fault context.values.main s.stack in
         let known = distinct_pairs (pairs_so_far s.stack s.done) in
         told_bind src (λ (x : TagRead × ℕ). IsTextSpan src (name_span x.0.tag.name (s.at + 1) x.0.tag.name_end)) _
-        (tag_at how.values cut (scope_of s.stack) (attributes_so_far s.stack s.done) known src s.at s.left) _
-        (tag_told how.values src utf8 values cut (scope_of s.stack) (attributes_so_far s.stack s.done) known s.at s.left opens' (cut_off_spans how.values.main s.stack))
-        (λ x read name. told_lifted src StateNamed (opened_by how.limit s x.0.tag x.0.empty x.0.left x.1) (opened_spans how.limit s x.0.tag x.0.empty x.0.left x.1 name named))
+        (tag_at context.values cut (scope_of s.stack) (attributes_so_far s.stack s.done) known src s.at s.openings_left) _
+        (tag_told context.values src utf8 values cut (scope_of s.stack) (attributes_so_far s.stack s.done) known s.at s.openings_left opens' (cut_off_spans context.values.main s.stack))
+        (λ x read name. told_lifted src StateNamed (opened_by context.limit s x.0.tag x.0.empty x.0.openings_left x.1) (opened_spans context.limit s x.0.tag x.0.empty x.0.openings_left x.1 name named))
 
     -- one construct of content
-    step_told : (s : State) → StateNamed s → Told State src StateNamed (step how src s)
+    step_told : (s : State) → StateNamed s → Told State src StateNamed (step context src s)
     unfolding step
     step_told s named =
         told_cond src _ (not (byte src s.at == 60)) _ _ (λ h. run_step_told s named)
         (λ opens'. told_cond src _ (leb (length src) (s.at + 1)) _ _ (λ h. record { tells = tt })
         (λ h. told_cond src _ (byte src (s.at + 1) == 33) _ _
-        (λ h. told_cond src _ (at word.CommentStart src s.at) _ _ (λ h. told_lifted src StateNamed (comment_step how.limit src s) (comment_step_spans how.limit s named))
-        (λ h. told_cond src _ (at word.CDataStart src s.at) _ _ (λ h. told_lifted src StateNamed (cdata_step how.limit src s) (cdata_step_spans how.limit s named)) (λ h. record { tells = tt })))
-        (λ h. told_cond src _ (byte src (s.at + 1) == 63) _ _ (λ h. told_lifted src StateNamed (instruction_step how.limit src s) (instruction_step_spans how.limit s named))
-        (λ h. told_cond src _ (byte src (s.at + 1) == 47) _ _ (λ slash. told_lifted src StateNamed (end_step how src s) (end_step_spans s (eqb-true _ _ slash) named))
+        (λ h. told_cond src _ (at word.CommentStart src s.at) _ _ (λ h. told_lifted src StateNamed (comment_step context.limit src s) (comment_step_spans context.limit s named))
+        (λ h. told_cond src _ (at word.CDataStart src s.at) _ _ (λ h. told_lifted src StateNamed (cdata_step context.limit src s) (cdata_step_spans context.limit s named)) (λ h. record { tells = tt })))
+        (λ h. told_cond src _ (byte src (s.at + 1) == 63) _ _ (λ h. told_lifted src StateNamed (instruction_step context.limit src s) (instruction_step_spans context.limit s named))
+        (λ h. told_cond src _ (byte src (s.at + 1) == 47) _ _ (λ slash. told_lifted src StateNamed (end_step context src s) (end_step_spans s (eqb-true _ _ slash) named))
         (λ h. tag_step_told s (eqb-true _ _ (not_fails _ opens')) named)))))
 
     -- content up to the end tag of the root element
-    drive_told : (n : ℕ) (s : State) → StateNamed s → Told State src StateNamed (drive how n src s)
+    drive_told : (n : ℕ) (s : State) → StateNamed s → Told State src StateNamed (drive context n src s)
     unfolding drive
     drive_told zero s named = told_cond src _ (is_root s.stack) _ _ (λ h. record { tells = named }) (λ h. record { tells = tt })
     drive_told (suc n) s named =
         told_cond src _ (is_root s.stack) _ _ (λ h. record { tells = named })
         (λ h. told_cond src _ (ltb s.at (length src)) _ _
-        (λ h. told_bind src StateNamed _ (step how src s) _ (step_told s named) (λ t read more. drive_told n t more))
+        (λ h. told_bind src StateNamed _ (step context src s) _ (step_told s named) (λ t read more. drive_told n t more))
         (λ h. record { tells = tt }))
 
     -- a replacement text ends where as many elements are open as before it
-    ends_told : (s : State) → StateNamed s → Told State src (λ (u : State). u.stack ≡ bottom) (text_ends how s)
+    ends_told : (s : State) → StateNamed s → Told State src (λ (u : State). u.stack ≡ bottom) (text_ends context s)
     ends_told s named =
-        told_cond src _ (eqb (depth_of s.stack) how.base) _ _ (λ same. record { tells = rests_same src bottom s.stack named (eqb-true _ _ same ∙ base) }) (λ h. record { tells = tt })
+        told_cond src _ (eqb (depth_of s.stack) context.open_around) _ _ (λ same. record { tells = rests_same src bottom s.stack named (eqb-true _ _ same ∙ open_around) }) (λ h. record { tells = tt })
 
     -- content of a replacement text up to its end
-    drive_text_told : (n : ℕ) (s : State) → StateNamed s → Told State src (λ (u : State). u.stack ≡ bottom) (drive_text how n src s)
+    drive_text_told : (n : ℕ) (s : State) → StateNamed s → Told State src (λ (u : State). u.stack ≡ bottom) (drive_text context n src s)
     unfolding drive_text
     drive_text_told zero s named = ends_told s named
     drive_text_told (suc n) s named =
         told_cond src _ (ltb s.at (length src)) _ _
-        (λ h. told_bind src StateNamed _ (step how src s) _ (step_told s named) (λ t read more. drive_text_told n t more))
+        (λ h. told_bind src StateNamed _ (step context src s) _ (step_told s named) (λ t read more. drive_text_told n t more))
         (λ h. ends_told s named)
 
 -- what a reference opens in content, by how many may still be open
@@ -460,13 +460,13 @@ unfolding opener
 opener_told limit es texts zero main src t after s utf8 = record { tells = tt }
 opener_told limit es texts (suc d) main src t after s utf8 =
     let inner = t.source in
-    told_after src (λ (r : ℕ). Unit {0}) _ (budget main after s.left) _ (budget_spans src main after s.left) (λ r read h.
-    let how : Context = record { limit = limit; values = values_of es d false; base = depth_of s.stack; opener = opener limit es d false } in
+    told_after src (λ (r : ℕ). Unit {0}) _ (budget main after s.openings_left) _ (budget_spans src main after s.openings_left) (λ r read h.
+    let context : Context = record { limit = limit; values = values_of es d false; open_around = depth_of s.stack; opener = opener limit es d false } in
     let start : State = state t.start s.done s.stack r in
-    told_bind src (λ (u : State). u.stack ≡ s.stack) _ (elsewhere inner (drive_text how (length inner) inner start)) _
-    (told_elsewhere src inner _ (drive_text how (length inner) inner start)
-    (drive_text_told inner s.stack utf8 how texts refl
-    (λ i stop left. value_told inner utf8 es texts (values_of es d false).opener (λ t after left utf8. value_opener_told es texts d false inner t after left utf8) false i stop left)
+    told_bind src (λ (u : State). u.stack ≡ s.stack) _ (elsewhere inner (drive_text context (length inner) inner start)) _
+    (told_elsewhere src inner _ (drive_text context (length inner) inner start)
+    (drive_text_told inner s.stack utf8 context texts refl
+    (λ i stop openings_left. value_told inner utf8 es texts (values_of es d false).opener (λ t after openings_left utf8. value_opener_told es texts d false inner t after openings_left utf8) false i stop openings_left)
     (λ t after s utf8. opener_told limit es texts d false inner t after s utf8) (length inner) start rests))
     (λ u read same. record { tells = same }))
 
@@ -572,18 +572,18 @@ module _ (src : List ℕ) where
     body_told : (limit : ℕ) (es : List Entity) (s : State) → (byte src s.at ≡ 60 → AreTexts es) → Rests src root s.stack → Told (State × Bool) src (λ x. Unit {0}) (body limit es src s)
     unfolding body
     body_told limit es s entities named =
-        let how = main_text limit es in
+        let context = main_text limit es in
         let Named : State → Type 0 = λ u. Rests src root u.stack in
         told_cond src _ (byte src s.at == 60) _ _
         (λ opens.
         let is = eqb-true _ _ opens in
         let texts = entities is in
-        let values : (i stop left : ℕ) → Told (ReadText × ℕ) src (λ x. Unit {0}) (value_at true es how.values.opener src i stop left) =
-        λ i stop left. value_told src utf8 es texts how.values.opener (λ t after left utf8. value_opener_told es texts most_deep true src t after left utf8) true i stop left in
-        let opener' : (t : Replacement) (after : ℕ) (s : State) → IsUtf8 t.source → Told State src (λ (u : State). u.stack ≡ s.stack) (how.opener t after s) =
+        let values : (i stop openings_left : ℕ) → Told (ReadText × ℕ) src (λ x. Unit {0}) (value_at true es context.values.opener src i stop openings_left) =
+        λ i stop openings_left. value_told src utf8 es texts context.values.opener (λ t after openings_left utf8. value_opener_told es texts most_deep true src t after openings_left utf8) true i stop openings_left in
+        let opener' : (t : Replacement) (after : ℕ) (s : State) → IsUtf8 t.source → Told State src (λ (u : State). u.stack ≡ s.stack) (context.opener t after s) =
         λ t after s utf8. opener_told limit es texts most_deep true src t after s utf8 in
-        told_bind src Named _ (tag_step how src s) _ (tag_step_told src root utf8 how texts refl values opener' s is named) (λ t read more.
-        told_bind src Named _ (drive how (length src) src t) _ (drive_told src root utf8 how texts refl values opener' (length src) t more) (λ u read more.
+        told_bind src Named _ (tag_step context src s) _ (tag_step_told src root utf8 context texts refl values opener' s is named) (λ t read more.
+        told_bind src Named _ (drive context (length src) src t) _ (drive_told src root utf8 context texts refl values opener' (length src) t more) (λ u read more.
         told_after src Named _ (misc limit (length src) src u) _ (misc_spans src root (length src) limit u more) (λ v read h. record { tells = tt }))))
         (λ h. record { tells = tt })
 

@@ -261,7 +261,7 @@ module _ (src : List ℕ) (utf8 : IsUtf8 src) (limit most : ℕ) (less : limit �
 
       -- where reading goes on behind white space
       place_is : spaced.state ≡ state (spaces_end src d.state.at) (join before so.items) root 255
-      place_is = ap (λ (t : State). state (spaces_end src d.state.at) t.done t.stack t.left) so.state_is
+      place_is = ap (λ (t : State). state (spaces_end src d.state.at) t.done t.stack t.openings_left) so.state_is
 
       -- a comment or an instruction
       item_goes : (j : ℕ) (item : Item) (t : State) → IsMisc src (spaces_end src d.state.at) j item → with_item limit spaced.state j item ≡ Ok t
@@ -339,7 +339,7 @@ module _ (src : List ℕ) (utf8 : IsUtf8 src) (limit most : ℕ) (less : limit �
           let is = eqb-true _ _ closes in
           closed so.items
           (subst (λ (a : List Asked). IsDoctype src i (e + 1) so.items a d.entities) (sym (append-nil asked0)) (with_subset i s k so.items asked0 d.entities begins bracket read_to closing is))
-          (ap (λ (t : State). state (e + 1) t.done t.stack t.left) so.state_is) (cut_behind src e 62 utf8 is (omega arith) (omega arith))
+          (ap (λ (t : State). state (e + 1) t.done t.stack t.openings_left) so.state_is) (cut_behind src e 62 utf8 is (omega arith) (omega arith))
           (fine_there most d.state (at_place (e + 1) d.state) refl refl fine))
           (λ other. here_now asked0 (fault.InvalidChar2 due.End (byte src e) e)
           (end_lacks k so.items asked0 (fault.InvalidChar2 due.End (byte src e) e) to_here fits closing (no_end (leb-false _ _ inside) (eqb-false _ _ other)))))
@@ -387,7 +387,7 @@ module _ (src : List ℕ) (utf8 : IsUtf8 src) (limit most : ℕ) (less : limit �
                 (subst (λ (a : List Asked). Subset src (s + 1) (e + 1) (join so.items Nil) a d.entities) (append-nil asked0)
                 (subst (λ (es : List Entity). Subset src (s + 1) (e + 1) (join so.items Nil) (asked0 ++ []) es) (append-nil d.entities) (subset_then src (s + 1) k (e + 1) so.items Nil asked0 [] d.entities [] read_to one))) in
                 let so' : So s asked0 next =
-                record { items = so.items; read = read'; state_is = ap (λ (t : State). state (e + 1) t.done t.stack t.left) so.state_is; solid = solid_behind src (e + 1) e 62 refl closes refl } in
+                record { items = so.items; read = read'; state_is = ap (λ (t : State). state (e + 1) t.done t.stack t.openings_left) so.state_is; solid = solid_behind src (e + 1) e 62 refl closes refl } in
                 rw lt (go next so' moves.2 (fine_there most d.state (at_place (e + 1) d.state) refl refl fine) refl (omega (arith, moves.0))))
             | inr ge ↦ rw ge (here_now asked0 (fault.UnknownToken i) (not_passed k so.items asked0 to_here fits is (ltb-false _ _ ge)))
           ]
@@ -408,7 +408,7 @@ module _ (src : List ℕ) (utf8 : IsUtf8 src) (limit most : ℕ) (less : limit �
             record {
               items = so.items;
               read = read';
-              state_is = o.state_is ∙ ap (λ (t : State). state j t.done t.stack t.left) so.state_is;
+              state_is = o.state_is ∙ ap (λ (t : State). state j t.done t.stack t.openings_left) so.state_is;
               solid = solid_behind src j (spaces_end src o.is.e) 62 o.is.next closes refl;
             },
             moves.3,

@@ -434,7 +434,7 @@ module _ (opens : ℕ → Inclusion) (es : List Entity) (agrees : (d l : ℕ) �
         let r = rest_sound alone (opens level) (agrees deeper level deep) src utf8 (length src) (machine.cut_off_fault (is_main level) s.stack) known name.1 b none_yet x rest in
         let all = taken_sound known r.0 none_yet x.0.held r.4 in
         let few_pairs : length (with_new known (listable_of (namespace_decls_of r.0))) ≤ most_pairs = subst (λ (ds : List NamespaceDecl). length (with_new known (listable_of ds)) ≤ most_pairs) all.own (all.pairs few) in
-        let c = x.0.left in
+        let c = x.0.openings_left in
         let to : UpTo r.1 c r.0 = record { name = name.0; name_end = name.1; is_name = is_name; no_xmlns = free; attributes = r.2; declarable = all.declarable; few_pairs = few_pairs } in
         let as' = plain_attributes_of r.0 in
         let scope = listed (scope_of s.stack) (namespace_decls_of r.0) in

@@ -103,8 +103,8 @@ module _ (opens : ℕ → Inclusion) (es : List Entity) (k : ℕ) (whole : List 
   -- what is opened behind a reference that ends at j fails
   abbrev pub ValueOpenerFails : (d l : ℕ) → Type 0
   ValueOpenerFails d l =
-      (src : List ℕ) (j left : ℕ) (t : Replacement) (name : List ℕ) (e : Refusal) → text_of es name ≡ Some t → (IsSpent l left → InPart src (fault.EntityReferenceLoop j))
-      → ((r : ℕ) → MayOpen l left r → ValuePart opens es k whole start end b (suc l) t.source t.start (length t.source) r) → value_opener es d (is_main l) t j left ≡ Err e → Refuses es InPart src e
+      (src : List ℕ) (j openings_left : ℕ) (t : Replacement) (name : List ℕ) (e : Refusal) → text_of es name ≡ Some t → (IsSpent l openings_left → InPart src (fault.EntityReferenceLoop j))
+      → ((r : ℕ) → MayOpen l openings_left r → ValuePart opens es k whole start end b (suc l) t.source t.start (length t.source) r) → value_opener es d (is_main l) t j openings_left ≡ Err e → Refuses es InPart src e
 
   module _ (d l : ℕ) (agrees : AgreesValue es (opens l) (value_opener es d (is_main l))) (opener_fails : ValueOpenerFails d l)
       (src : List ℕ) (utf8 : IsUtf8 src) (i stop c0 : ℕ) (long : stop ≤ length src) (closes : stop < length src → IsStop (byte src stop)) (no_tag : is_main l ≡ true → (q : ℕ) → i ≤ q → q < stop → byte src q ≢ 60)
@@ -118,39 +118,39 @@ module _ (opens : ℕ → Inclusion) (es : List Entity) (k : ℕ) (whole : List 
 
     -- the value is read up to here
     abbrev To : ℕ → ℕ → Type 0
-    To p left = (q c : ℕ) → ValueTo (opens l) src p q left c → ValueTo (opens l) src i q c0 c
+    To p openings_left = (q c : ℕ) → ValueTo (opens l) src p q openings_left c → ValueTo (opens l) src i q c0 c
 
     -- behind a bit
-    bit_goes : (p left : ℕ) (bit : Bit) (j : ℕ) (e : Refusal) (next : ℕ → ℕ → Result (List ℕ × ℕ) Refusal) → To p left → ValueBit (is_main l) es src stop p bit j
-        → ((c : ℕ) → To j c → next j c ≡ Err e → Refuses es InPart src e) → after_value_bit (value_opener es d (is_main l)) next left bit j ≡ Err e → Refuses es InPart src e
-    bit_goes p left bit j e next to (bit_line_end _ more cr lf) go h =
-        bind_err (next (p + 1) left) _ e h (go left (λ q c rest. to q c (a_byte p q left c (λ amp. absurd (omega arith)) rest))) (λ x ok h. no_fault _ e h)
-    bit_goes p left bit j e next to (bit_white _ here' is) go h =
-        bind_err (next (p + 1) left) _ e h (go left (λ q c rest. to q c (a_byte p q left c (white_no_amp is) rest))) (λ x ok h. no_fault _ e h)
+    bit_goes : (p openings_left : ℕ) (bit : Bit) (j : ℕ) (e : Refusal) (next : ℕ → ℕ → Result (List ℕ × ℕ) Refusal) → To p openings_left → ValueBit (is_main l) es src stop p bit j
+        → ((c : ℕ) → To j c → next j c ≡ Err e → Refuses es InPart src e) → after_value_bit (value_opener es d (is_main l)) next openings_left bit j ≡ Err e → Refuses es InPart src e
+    bit_goes p openings_left bit j e next to (bit_line_end _ more cr lf) go h =
+        bind_err (next (p + 1) openings_left) _ e h (go openings_left (λ q c rest. to q c (a_byte p q openings_left c (λ amp. absurd (omega arith)) rest))) (λ x ok h. no_fault _ e h)
+    bit_goes p openings_left bit j e next to (bit_white _ here' is) go h =
+        bind_err (next (p + 1) openings_left) _ e h (go openings_left (λ q c rest. to q c (a_byte p q openings_left c (white_no_amp is) rest))) (λ x ok h. no_fault _ e h)
       where
         white_no_amp : (byte src p ≡ 9) ⊎ ((byte src p ≡ 10) ⊎ ((byte src p ≡ 13) × ((stop ≡ p + 1) ⊎ (byte src (p + 1) ≢ 10)))) → byte src p ≢ 38
         white_no_amp (inl is) amp = absurd (omega arith)
         white_no_amp (inr (inl is)) amp = absurd (omega arith)
         white_no_amp (inr (inr (is, more))) amp = absurd (omega arith)
-    bit_goes p left bit j e next to (bit_stretch _ _ some to' cut plain chars) go h =
-        bind_err (next j left) _ e h (go left (λ q c rest. to q c (passes (opens l) src (j - p) p j q left c (omega arith) (λ m from below. (plain m from below).0.0) rest))) (λ x ok h. no_fault _ e h)
-    bit_goes p left bit j e next to (bit_character _ x _ r to' any) go h =
-        bind_err (next j left) _ e h (go left (λ q c rest. to q c (a_character p j x q left c r rest))) (λ x ok h. no_fault _ e h)
-    bit_goes p left bit j e next to (bit_entity _ n _ t r none to' found) go h =
+    bit_goes p openings_left bit j e next to (bit_stretch _ _ some to' cut plain chars) go h =
+        bind_err (next j openings_left) _ e h (go openings_left (λ q c rest. to q c (passes (opens l) src (j - p) p j q openings_left c (omega arith) (λ m from below. (plain m from below).0.0) rest))) (λ x ok h. no_fault _ e h)
+    bit_goes p openings_left bit j e next to (bit_character _ x _ r to' any) go h =
+        bind_err (next j openings_left) _ e h (go openings_left (λ q c rest. to q c (a_character p j x q openings_left c r rest))) (λ x ok h. no_fault _ e h)
+    bit_goes p openings_left bit j e next to (bit_entity _ n _ t r none to' found) go h =
         let name = slice src (p + 1) n in
         let moves = reference_opens src p n j r in
         let refers : RefersTo es src p j t = record { n = n; is_reference = r; no_character = none; found = found } in
-        let so_far = to p left (to_here p left) in
-        bind_err (value_opener es d (is_main l) t j left) _ e h
-        (λ bad. opener_fails src j left t name e found (λ spent. in_part l i stop c0 part (too_many p j left t so_far (omega (arith, moves.2)) refers spent))
-        (λ r' may. opened l i stop c0 left r' p j src t part so_far (omega (arith, moves.2)) refers may) bad)
+        let so_far = to p openings_left (to_here p openings_left) in
+        bind_err (value_opener es d (is_main l) t j openings_left) _ e h
+        (λ bad. opener_fails src j openings_left t name e found (λ spent. in_part l i stop c0 part (too_many p j openings_left t so_far (omega (arith, moves.2)) refers spent))
+        (λ r' may. opened l i stop c0 openings_left r' p j src t part so_far (omega (arith, moves.2)) refers may) bad)
         (λ x read h. bind_err (next j x.1) _ e h
-        (go x.1 (λ q c rest. to q c (an_entity p n j q left x.1 c x.0 r none (agrees.sound name t j left x.1 x.0 found read) rest))) (λ y ok h. no_fault _ e h))
+        (go x.1 (λ q c rest. to q c (an_entity p n j q openings_left x.1 c x.0 r none (agrees.sound name t j openings_left x.1 x.0 found read) rest))) (λ y ok h. no_fault _ e h))
 
-    pub value_text_fails : (n p left : ℕ) (e : Refusal) → i ≤ p → IsCharBoundary src p → To p left → value_text (is_main l) es (value_opener es d (is_main l)) n src stop p left ≡ Err e → Refuses es InPart src e
+    pub value_text_fails : (n p openings_left : ℕ) (e : Refusal) → i ≤ p → IsCharBoundary src p → To p openings_left → value_text (is_main l) es (value_opener es d (is_main l)) n src stop p openings_left ≡ Err e → Refuses es InPart src e
     unfolding value_text
-    value_text_fails zero p left e from cut to h = no_fault _ e h
-    value_text_fails (suc n) p left e from cut to h =
+    value_text_fails zero p openings_left e from cut to h = no_fault _ e h
+    value_text_fails (suc n) p openings_left e from cut to h =
         chosen (ltb p stop) _ _ _ h
         (λ lt h.
         let below = ltb-true _ _ lt in
@@ -159,24 +159,24 @@ module _ (opens : ℕ → Inclusion) (es : List Entity) (k : ℕ) (whole : List 
         (λ x read h.
         let bit = value_bit_sound es src utf8 stop long closes (is_main l) p x below (λ main q from' below'. no_tag main q (omega arith) below') read in
         let moves = bit_moves es src utf8 stop long closes (is_main l) p x.0 x.1 bit in
-        bit_goes p left x.0 x.1 e (λ j c. value_text (is_main l) es (value_opener es d (is_main l)) n src stop j c) to bit
+        bit_goes p openings_left x.0 x.1 e (λ j c. value_text (is_main l) es (value_opener es d (is_main l)) n src stop j c) to bit
         (λ c to' h. value_text_fails n x.1 c e (omega (arith, moves.0)) (bit_cut es src utf8 stop long closes (is_main l) p x.0 x.1 bit) to' h) h))
         (λ past h. no_fault _ e h)
 
   module _ (agrees : (d l : ℕ) → d + l ≡ most_deep → AgreesValue es (opens l) (value_opener es d (is_main l))) (texts : AreTexts es) where
     pub value_opener_fails : (d l : ℕ) → d + l ≡ most_deep → ValueOpenerFails d l
     unfolding value_opener
-    value_opener_fails zero l deep src j left t name e found spent part h = refuses_here es InPart src (fault.EntityReferenceLoop j) e (cc h) (spent (deepest l left deep))
-    value_opener_fails (suc d) l deep src j left t name e found spent part h =
+    value_opener_fails zero l deep src j openings_left t name e found spent part h = refuses_here es InPart src (fault.EntityReferenceLoop j) e (cc h) (spent (deepest l openings_left deep))
+    value_opener_fails (suc d) l deep src j openings_left t name e found spent part h =
         let text = texts name t found in
-        lifted_err (budget (is_main l) j left) _ e h
-        (λ f bad is. let w = spent_here l j left f bad in refuses_here es InPart src f e is (subst (InPart src) w.1 (spent w.0)))
+        lifted_err (budget (is_main l) j openings_left) _ e h
+        (λ f bad is. let w = spent_here l j openings_left f bad in refuses_here es InPart src f e is (subst (InPart src) w.1 (spent w.0)))
         (λ r may h.
         elsewhere_err es t.source (value_text false es (value_opener es d false) (length t.source) t.source (length t.source) t.start r) _ e h
         (λ c bad back.
         back InPart src (name, t, found)
         (value_text_fails d (suc l) (agrees d (suc l) (omega arith)) (value_opener_fails d (suc l) (omega arith)) t.source text.0 t.start (length t.source) r (omega arith) (λ past. absurd (omega arith)) (λ main. absurd (false≢true main))
-        (part r (may_open l j left r (omega arith) may)) (length t.source) t.start r c (omega arith) text.1 (λ q c rest. rest) bad))
+        (part r (may_open l j openings_left r (omega arith) may)) (length t.source) t.start r c (omega arith) text.1 (λ q c rest. rest) bad))
         (λ x ok h. no_fault _ e h))
 
     -- a value

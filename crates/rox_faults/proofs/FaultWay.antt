@@ -30,7 +30,7 @@ use Rattle.rox_theory.proofs.Around.{misc_within}
 use Rattle.rox_theory.proofs.PartOnce.{OpensOnce}
 use Rattle.rox_faults.proofs.PartFronts.{OpenedThere, parts_front}
 use Rattle.rox_theory.proofs.Once.{takes_once}
-use Rattle.rox_faults.proofs.FaultPoints.{how_at}
+use Rattle.rox_faults.proofs.FaultPoints.{context_at}
 use Rattle.rox_faults.proofs.FaultPlaces.{Tagged, takes_cut}
 
 -- a state of the grammar, where so many texts may be opened
@@ -65,18 +65,18 @@ same_text es name t u found found' = cc (sym found ∙ found')
 
 -- ---- one construct after the other
 
-module _ (main : Bool) (O : Inclusion) (src : List ℕ) (base : ℕ) where
+module _ (main : Bool) (O : Inclusion) (src : List ℕ) (open_around : ℕ) where
   pub data Trail : State → State → Type 0 where
     stays : (s : State) → Trail s s
-    follows : (s t u : State) → flat.StepsOver main O src base s t → Trail t u → Trail s u
+    follows : (s t u : State) → flat.StepsOver main O src open_around s t → Trail t u → Trail s u
 
   -- a replacement text
-  pub chain_trail : (s u : State) → flat.Chain main O src base s u → Trail s u
+  pub chain_trail : (s u : State) → flat.Chain main O src open_around s u → Trail s u
   chain_trail s u (flat.Chain.arrives _ at deep) = stays s
   chain_trail s u (flat.Chain.goes _ t _ takes rest) = follows s t u takes (chain_trail t u rest)
 
   -- names that are in order behind a construct were so before it
-  pub takes_named : (s t : State) → flat.StepsOver main O src base s t → AreNamed t.stack t.done → AreNamed s.stack s.done
+  pub takes_named : (s t : State) → flat.StepsOver main O src open_around s t → AreNamed t.stack t.done → AreNamed s.stack s.done
   takes_named s t (flat.StepsOver.takes_run i j b c items done stack is parts) named = named_before stack done items named
   takes_named s t (flat.StepsOver.takes_cdata i e j b done stack is) named = named_before stack done _ named
   takes_named s t (flat.StepsOver.takes_misc i j b item done stack is) named = named_before stack done _ named
@@ -87,22 +87,22 @@ module _ (main : Bool) (O : Inclusion) (src : List ℕ) (base : ℕ) where
       (before_end.0, before_end.1, merge-named (listed (scope_of up) tag.declarations) done before_end.2)
 
   -- the construct that stands where the way does not end
-  trail_step : (s u : State) → Trail s u → (s ≡ u → ⊥) → (t : State) × flat.StepsOver main O src base s t × Trail t u
+  trail_step : (s u : State) → Trail s u → (s ≡ u → ⊥) → (t : State) × flat.StepsOver main O src open_around s t × Trail t u
   trail_step s u (stays _) apart = absurd (apart refl)
   trail_step s u (follows _ t _ takes rest) apart = (t, takes, rest)
 
   -- what stands where a construct of a kind is taken
   abbrev pub By : Kind → State → State → Type 0
-  By a_run s t = (j : ℕ) × (items : Forest Item) × IsCharacterData src s.at j × Parts main O src s.at j s.at s.left t.left items × (t ≡ state j (join s.done items) s.stack t.left)
+  By a_run s t = (j : ℕ) × (items : Forest Item) × IsCharacterData src s.at j × Parts main O src s.at j s.at s.openings_left t.openings_left items × (t ≡ state j (join s.done items) s.stack t.openings_left)
   By a_comment s t = (j : ℕ) × (item : Item) × IsMisc src s.at j item
   By a_cdata s t = (e : ℕ) × (j : ℕ) × IsCData src s.at e j
   By an_instruction s t = (j : ℕ) × (item : Item) × IsMisc src s.at j item
-  By an_end s t = (start : ℕ) × (tag : Tag) × (before : Forest Item) × (up : Open) × (n : ℕ) × (j : ℕ) × (s.stack ≡ inside start tag before up) × (base < depth_of up + 1) × IsEnd src s.at tag.name n j
-  By a_tag s t = Tagged main O src base s t
+  By an_end s t = (start : ℕ) × (tag : Tag) × (before : Forest Item) × (up : Open) × (n : ℕ) × (j : ℕ) × (s.stack ≡ inside start tag before up) × (open_around < depth_of up + 1) × IsEnd src s.at tag.name n j
+  By a_tag s t = Tagged main O src open_around s t
   By nothing s t = ⊥
 
   -- each construct is of the kind that stands there
-  pub takes_by : (s t : State) → flat.StepsOver main O src base s t → By (kind_at src s.at) s t
+  pub takes_by : (s t : State) → flat.StepsOver main O src open_around s t → By (kind_at src s.at) s t
   takes_by s t (flat.StepsOver.takes_run i j b c items done stack is parts) =
       subst (λ (k : Kind). By k (state i done stack b) (state j (join done items) stack c)) (sym (run_kind src i (run_within src i j is).1)) (j, items, is, parts, refl)
   takes_by s t (flat.StepsOver.takes_cdata i e j b done stack is) = subst (λ (k : Kind). By k (state i done stack b) t) (sym (cdata_kind src i is.opens)) (e, j, is)
@@ -145,78 +145,78 @@ inner_apart (inside start tag before up) p inner at_root same = let z : is_root 
 -- ---- the way
 
 -- where it ends
-abbrev pub Ends : (k base : ℕ) → List ℕ → State → Type 0
-Ends zero base src e = is_root e.stack ≡ true
-Ends (suc k) base src e = (e.at ≡ length src) × (depth_of e.stack ≡ base)
+abbrev pub Ends : (k open_around : ℕ) → List ℕ → State → Type 0
+Ends zero open_around src e = is_root e.stack ≡ true
+Ends (suc k) open_around src e = (e.at ≡ length src) × (depth_of e.stack ≡ open_around)
 
 module _ (opens : ℕ → Inclusion) (es : List Entity) (all : OpensAt opens es) (limit : ℕ) (W : Type 0) where
   -- A state lies on the way of a text, where k replacement texts are open: up to its end, which is well named, and within the limits if
   -- the parse is, which is what W says. Where no content stands the root element begins.
-  pub record Reached (k base : ℕ) (src : List ℕ) (s : State) : Type 0 where
+  pub record Reached (k open_around : ℕ) (src : List ℕ) (s : State) : Type 0 where
     pub d : ℕ
     pub deep : d + k ≡ most_deep
     pub utf8 : IsUtf8 src
     pub cut : IsCharBoundary src s.at
     pub end : State
-    pub trail : Trail (is_main k) (opens k) src base s end
-    pub ends : Ends k base src end
+    pub trail : Trail (is_main k) (opens k) src open_around s end
+    pub ends : Ends k open_around src end
     pub fine : W → IsValidState limit end
     pub named : AreNamed end.stack end.done
     pub first : is_content k s.stack ≡ false → (s.at < end.at) × (kind_at src s.at ≡ a_tag)
 
-  not_end : (k base : ℕ) (src : List ℕ) (s e : State) → Ends k base src e → (is_content k s.stack ≡ false → s.at < e.at) → s.at < length src → s ≡ e → ⊥
-  not_end zero base src s e ends first below same =
+  not_end : (k open_around : ℕ) (src : List ℕ) (s e : State) → Ends k open_around src e → (is_content k s.stack ≡ false → s.at < e.at) → s.at < length src → s ≡ e → ⊥
+  not_end zero open_around src s e ends first below same =
       elim (cases_Bool (is_content 0 s.stack)) as (λ x. ⊥) [
         | inl inner ↦ inner_apart s.stack e.stack inner ends (ap (λ (s : State). s.stack) same)
         | inr top ↦ (let l = first top in let at : s.at ≡ e.at = ap (λ (s : State). s.at) same in absurd (omega arith))
       ]
-  not_end (suc k) base src s e ends first below same = let at : s.at ≡ e.at = ap (λ (s : State). s.at) same in let past = ends.0 in absurd (omega arith)
+  not_end (suc k) open_around src s e ends first below same = let at : s.at ≡ e.at = ap (λ (s : State). s.at) same in let past = ends.0 in absurd (omega arith)
 
-  module _ (k base : ℕ) (src : List ℕ) (s : State) (r : Reached k base src s) where
+  module _ (k open_around : ℕ) (src : List ℕ) (s : State) (r : Reached k open_around src s) where
     abbrev One : State → State → Type 0
-    One s t = flat.StepsOver (is_main k) (opens k) src base s t
+    One s t = flat.StepsOver (is_main k) (opens k) src open_around s t
 
     -- a state on the way is within the limits if its end is
-    trail_fine : (t u : State) → Trail (is_main k) (opens k) src base t u → IsValidState limit u → IsValidState limit t
+    trail_fine : (t u : State) → Trail (is_main k) (opens k) src open_around t u → IsValidState limit u → IsValidState limit t
     trail_fine t u (stays _) fine = fine
     trail_fine t u (follows _ v _ takes rest) fine =
-        steps.step_back (how_at limit es r.d k base) (opens k) (all.values r.d k r.deep) (all.contents limit r.d k r.deep) src r.utf8 t v takes (trail_fine v u rest fine)
+        steps.step_back (context_at limit es r.d k open_around) (opens k) (all.values r.d k r.deep) (all.contents limit r.d k r.deep) src r.utf8 t v takes (trail_fine v u rest fine)
 
     -- and its names are in order
-    trail_named : (t u : State) → Trail (is_main k) (opens k) src base t u → AreNamed u.stack u.done → AreNamed t.stack t.done
+    trail_named : (t u : State) → Trail (is_main k) (opens k) src open_around t u → AreNamed u.stack u.done → AreNamed t.stack t.done
     trail_named t u (stays _) named = named
-    trail_named t u (follows _ v _ takes rest) named = takes_named (is_main k) (opens k) src base t v takes (trail_named v u rest named)
+    trail_named t u (follows _ v _ takes rest) named = takes_named (is_main k) (opens k) src open_around t v takes (trail_named v u rest named)
 
     -- the construct that stands there
     pub record Step : Type 0 where
       pub to : State
-      pub takes : flat.StepsOver (is_main k) (opens k) src base s to
+      pub takes : flat.StepsOver (is_main k) (opens k) src open_around s to
       pub fine : W → IsValidState limit to
       pub named : AreNamed to.stack to.done
-      pub rest : Trail (is_main k) (opens k) src base to r.end
+      pub rest : Trail (is_main k) (opens k) src open_around to r.end
 
     pub step_there : s.at < length src → Step
     step_there below =
-        let x = trail_step (is_main k) (opens k) src base s r.end r.trail (not_end k base src s r.end r.ends (λ top. (r.first top).0) below) in
+        let x = trail_step (is_main k) (opens k) src open_around s r.end r.trail (not_end k open_around src s r.end r.ends (λ top. (r.first top).0) below) in
         record { to = x.0; takes = x.1; fine = λ w. trail_fine x.0 r.end x.2 (r.fine w); named = trail_named x.0 r.end x.2 r.named; rest = x.2 }
 
     -- of this kind
-    pub there_by : (kind : Kind) → (below : s.at < length src) → kind_at src s.at ≡ kind → By (is_main k) (opens k) src base kind s (step_there below).to
+    pub there_by : (kind : Kind) → (below : s.at < length src) → kind_at src s.at ≡ kind → By (is_main k) (opens k) src open_around kind s (step_there below).to
     there_by kind below is =
         let there = step_there below in
-        subst (λ (kind : Kind). By (is_main k) (opens k) src base kind s there.to) is (takes_by (is_main k) (opens k) src base s there.to there.takes)
+        subst (λ (kind : Kind). By (is_main k) (opens k) src open_around kind s there.to) is (takes_by (is_main k) (opens k) src open_around s there.to there.takes)
 
     -- any construct that stands there is the one on the way
-    pub one_step : (t : State) → flat.StepsOver (is_main k) (opens k) src base s t → (below : s.at < length src) → (step_there below).to ≡ t
+    pub one_step : (t : State) → flat.StepsOver (is_main k) (opens k) src open_around s t → (below : s.at < length src) → (step_there below).to ≡ t
     one_step t takes below =
         let there = step_there below in
-        takes_once (how_at limit es r.d k base).values (opens k) (all.values r.d k r.deep) (all.once k) src r.utf8 base s there.to t there.takes takes
+        takes_once (context_at limit es r.d k open_around).values (opens k) (all.values r.d k r.deep) (all.once k) src r.utf8 open_around s there.to t there.takes takes
 
   -- ---- places
 
-  module _ (k base b : ℕ) (src : List ℕ) (s : grammar.State) (r : Reached k base src (state_of s b)) where
+  module _ (k open_around b : ℕ) (src : List ℕ) (s : grammar.State) (r : Reached k open_around src (state_of s b)) where
     -- what is taken at a place on the way is a construct of its state
-    pub takes_there : (t : grammar.State) (c : ℕ) → StepsOver k (opens k) src s b t c → flat.StepsOver (is_main k) (opens k) src base (state_of s b) (state_of t c)
+    pub takes_there : (t : grammar.State) (c : ℕ) → StepsOver k (opens k) src s b t c → flat.StepsOver (is_main k) (opens k) src open_around (state_of s b) (state_of t c)
     unfolding up_of
     takes_there t c (takes_run j _ _ items inner is parts named) = flat.StepsOver.takes_run s.at j b c items s.done s.stack is parts
     takes_there t c (a_section e j _ inner is) = flat.StepsOver.takes_cdata s.at e j b s.done s.stack is
@@ -225,25 +225,25 @@ module _ (opens : ℕ → Inclusion) (es : List Entity) (all : OpensAt opens es)
     takes_there t c (a_start_tag j _ _ x is named) = flat.StepsOver.takes_start s.at j b c x s.done s.stack is
     takes_there t c (an_end_tag n j _ start x before up stack is) =
         let below : s.at < length src = let two = (end_bytes src s.at is.opens).0 in omega arith in
-        let there = there_by k base src (state_of s b) r an_end below (end_kind src s.at is.opens) in
+        let there = there_by k open_around src (state_of s b) r an_end below (end_kind src s.at is.opens) in
         let same : there.3 ≡ up = ap (up_of root) (sym there.6 ∙ stack) in
-        let deep : base < depth_of up + 1 = subst (λ (up : Open). base < depth_of up + 1) same there.7 in
-        subst (λ (o : Open). flat.StepsOver (is_main k) (opens k) src base (state s.at s.done o b) (state_of t b)) (sym stack) (flat.StepsOver.takes_end s.at n j b start x s.done before up deep is)
+        let deep : open_around < depth_of up + 1 = subst (λ (up : Open). open_around < depth_of up + 1) same there.7 in
+        subst (λ (o : Open). flat.StepsOver (is_main k) (opens k) src open_around (state s.at s.done o b) (state_of t b)) (sym stack) (flat.StepsOver.takes_end s.at n j b start x s.done before up deep is)
 
     -- and leads on along the way
-    goes_reached : (t : grammar.State) (c : ℕ) → StepsOver k (opens k) src s b t c → is_content k t.stack ≡ true → Reached k base src (state_of t c)
+    goes_reached : (t : grammar.State) (c : ℕ) → StepsOver k (opens k) src s b t c → is_content k t.stack ≡ true → Reached k open_around src (state_of t c)
     goes_reached t c takes inner =
         let takes' = takes_there t c takes in
         let below = place_within k (opens k) src r.utf8 s t b c takes in
-        let there = step_there k base src (state_of s b) r below in
-        let same = one_step k base src (state_of s b) r (state_of t c) takes' below in
+        let there = step_there k open_around src (state_of s b) r below in
+        let same = one_step k open_around src (state_of s b) r (state_of t c) takes' below in
         record {
           d = r.d;
           deep = r.deep;
           utf8 = r.utf8;
-          cut = takes_cut (is_main k) (opens k) src base r.utf8 (state_of s b) (state_of t c) takes';
+          cut = takes_cut (is_main k) (opens k) src open_around r.utf8 (state_of s b) (state_of t c) takes';
           end = r.end;
-          trail = subst (λ (t : State). Trail (is_main k) (opens k) src base t r.end) same there.rest;
+          trail = subst (λ (t : State). Trail (is_main k) (opens k) src open_around t r.end) same there.rest;
           ends = r.ends;
           fine = r.fine;
           named = r.named;
@@ -252,26 +252,26 @@ module _ (opens : ℕ → Inclusion) (es : List Entity) (all : OpensAt opens es)
 
     -- the run that stands there
     pub record RunThere (stop : ℕ) : Type 0 where
-      pub left : ℕ
+      pub openings_left : ℕ
       pub items : Forest Item
-      pub parts : Parts (is_main k) (opens k) src s.at stop s.at b left items
-      pub fine : W → IsValidState limit (state stop (join s.done items) s.stack left)
+      pub parts : Parts (is_main k) (opens k) src s.at stop s.at b openings_left items
+      pub fine : W → IsValidState limit (state stop (join s.done items) s.stack openings_left)
       pub named : AreNamed s.stack (join s.done items)
 
     pub run_there : s.at < length src → byte src s.at ≢ 60 → (stop : ℕ) × IsCharacterData src s.at stop × RunThere stop
     run_there below other =
-        let there = step_there k base src (state_of s b) r below in
-        let run = there_by k base src (state_of s b) r a_run below (run_kind src s.at other) in
-        (run.0, run.2, record { left = there.to.left; items = run.1; parts = run.3; fine = λ w. subst (IsValidState limit) run.4 (there.fine w); named = subst (λ (u : State). AreNamed u.stack u.done) run.4 there.named })
+        let there = step_there k open_around src (state_of s b) r below in
+        let run = there_by k open_around src (state_of s b) r a_run below (run_kind src s.at other) in
+        (run.0, run.2, record { openings_left = there.to.openings_left; items = run.1; parts = run.3; fine = λ w. subst (IsValidState limit) run.4 (there.fine w); named = subst (λ (u : State). AreNamed u.stack u.done) run.4 there.named })
 
     -- where it is read up to a reference, that opens a text there
     pub opened_there : (stop p c j : ℕ) (front : Forest Item) (t : Replacement) → IsCharacterData src s.at stop → PartsTo (is_main k) (opens k) src s.at stop s.at p b c front → p < stop → (refers : RefersTo es src p j t)
-        → (run : RunThere stop) × OpenedThere (is_main k) (opens k) (all.once k) src s.at stop p refers.n j c run.left front run.items
+        → (run : RunThere stop) × OpenedThere (is_main k) (opens k) (all.once k) src s.at stop p refers.n j c run.openings_left front run.items
     opened_there stop p c j front t is to below refers =
         let inside = run_within src s.at stop is in
         let there = run_there inside.0 inside.1 in
         let run : RunThere stop = subst RunThere (there.1.end ∙ sym is.end) there.2 in
-        (run, parts_front (is_main k) (opens k) (all.once k) src s.at stop s.at p refers.n j b c run.left front run.items to run.parts below refers.is_reference refers.no_character)
+        (run, parts_front (is_main k) (opens k) (all.once k) src s.at stop s.at p refers.n j b c run.openings_left front run.items to run.parts below refers.is_reference refers.no_character)
 
     -- so the way leads into that text
     enters_reached : (stop p c j q : ℕ) (front : Forest Item) (t : Replacement) → IsCharacterData src s.at stop → PartsTo (is_main k) (opens k) src s.at stop s.at p b c front → p < stop → RefersTo es src p j t → MayOpen k c q
@@ -279,18 +279,18 @@ module _ (opens : ℕ → Inclusion) (es : List Entity) (all : OpensAt opens es)
     enters_reached stop p c j q front t is to below refers may =
         let there = opened_there stop p c j front t is to below refers in
         let run = there.0 in let found = there.1 in
-        let x = all.content k c found.left (slice src (p + 1) refers.n) found.opened found.opens in
+        let x = all.content k c found.openings_left (slice src (p + 1) refers.n) found.opened found.opens in
         let text = all.texts (slice src (p + 1) refers.n) t refers.found in
         let text_is : x.0 ≡ t = same_text es (slice src (p + 1) refers.n) x.0 t x.3 refers.found in
-        let left_is : x.1 ≡ q = may_once k c x.1 q x.4 may in
+        let openings_left_is : x.1 ≡ q = may_once k c x.1 q x.4 may in
         let content : Content false (opens (suc k)) t.source t.start (length t.source) q x.2 found.opened =
-        subst (λ (q : ℕ). Content false (opens (suc k)) t.source t.start (length t.source) q x.2 found.opened) left_is
+        subst (λ (q : ℕ). Content false (opens (suc k)) t.source t.start (length t.source) q x.2 found.opened) openings_left_is
         (subst (λ (t : Replacement). Content false (opens (suc k)) t.source t.start (length t.source) x.1 x.2 found.opened) text_is x.5) in
         let done = join s.done front in
         let end : State = state (length t.source) (join done found.opened) s.stack x.2 in
         let split : join s.done run.items ≡ join (join done found.opened) found.rest =
         ap (join s.done) found.all ∙ sym (join_assoc s.done front (join found.opened found.rest)) ∙ sym (join_assoc done found.opened found.rest) in
-        let fine : W → IsValidState limit (state stop (join (join done found.opened) found.rest) s.stack run.left) = λ w. subst (λ (f : Forest Item). IsValidState limit (state stop f s.stack run.left)) split (run.fine w) in
+        let fine : W → IsValidState limit (state stop (join (join done found.opened) found.rest) s.stack run.openings_left) = λ w. subst (λ (f : Forest Item). IsValidState limit (state stop f s.stack run.openings_left)) split (run.fine w) in
         let named : AreNamed s.stack (join (join done found.opened) found.rest) = subst (λ (f : Forest Item). AreNamed s.stack f) split run.named in
         let chain = flat.text_complete (opens (suc k)) t.source t.start q x.2 done found.opened s.stack content in
         record {
@@ -301,15 +301,15 @@ module _ (opens : ℕ → Inclusion) (es : List Entity) (all : OpensAt opens es)
           end = end;
           trail = chain_trail false (opens (suc k)) t.source (depth_of s.stack) (state t.start done s.stack q) end chain;
           ends = (refl, refl);
-          fine = λ w. fine_before limit (length t.source) stop x.2 run.left (join done found.opened) found.rest s.stack (fine w);
+          fine = λ w. fine_before limit (length t.source) stop x.2 run.openings_left (join done found.opened) found.rest s.stack (fine w);
           named = named_before s.stack (join done found.opened) found.rest named;
           first = λ top. cc top;
         }
 
   -- each place lies on the way
   pub place_reached : (text : List ℕ) (Root : ℕ → Forest Item → Type 0) → ((p : ℕ) (items : Forest Item) → Root p items → Reached 0 0 text (state p items root 255))
-      → (k base b : ℕ) (src : List ℕ) (s : grammar.State) → ContentPoint opens es text Root k base src b s → Reached k base src (state_of s b)
-  place_reached text Root at_root k base b src s (begins p items is) = at_root p items is
-  place_reached text Root at_root k base b src s (goes _ _ c _ _ r _ place takes inner deep) = goes_reached k base c src r (place_reached text Root at_root k base c src r place) s b takes inner
-  place_reached text Root at_root k base b src s (enters l other c e _ stop p j source r front t place inner is to named below refers may) =
+      → (k open_around b : ℕ) (src : List ℕ) (s : grammar.State) → ContentPoint opens es text Root k open_around src b s → Reached k open_around src (state_of s b)
+  place_reached text Root at_root k open_around b src s (begins p items is) = at_root p items is
+  place_reached text Root at_root k open_around b src s (goes _ _ c _ _ r _ place takes inner deep) = goes_reached k open_around c src r (place_reached text Root at_root k open_around c src r place) s b takes inner
+  place_reached text Root at_root k open_around b src s (enters l other c e _ stop p j source r front t place inner is to named below refers may) =
       enters_reached l other c source r (place_reached text Root at_root l other c source r place) stop p e j b front t is to below refers may

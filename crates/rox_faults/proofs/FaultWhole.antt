@@ -249,7 +249,7 @@ module _ (src : List ℕ) (utf8 : IsUtf8 src) where
 
   module _ (opens : ℕ → Inclusion) (es : List Entity) (limit most : ℕ) (declared : Bool) (Front : ℕ → Forest Item → Type 0) (less : limit ≤ most) (least : most ≤ max limit 1)
       (values : (d k : ℕ) → d + k ≡ most_deep → AgreesValue es (opens k) (value_opener es d (is_main k))) (contents : (d k : ℕ) → d + k ≡ most_deep → AgreesContent es limit (opens k) (opener limit es d (is_main k)))
-      (texts : AreTexts es) (elements : (i j left : ℕ) (one : Forest Item) → IsElement true (included_in_main es) src i j 255 left one → (left' : ℕ) × IsElement true (opens 0) src i j 255 left' one) where
+      (texts : AreTexts es) (elements : (i j openings_left : ℕ) (one : Forest Item) → IsElement true (included_in_main es) src i j 255 openings_left one → (openings_left' : ℕ) × IsElement true (opens 0) src i j 255 openings_left' one) where
     -- a fault from there on
     abbrev P : List ℕ → Fault → Type 0
     P source f = From opens es limit src declared Front source f
@@ -259,7 +259,7 @@ module _ (src : List ℕ) (utf8 : IsUtf8 src) where
 
     -- what is read from the tag of the root element on
     root_read : (i : ℕ) (before : Forest Item) (t u : State) → byte src i ≡ 60 → IsValidState most (state i before root 255) → tag_step (main_text limit es) src (state i before root 255) ≡ Ok t
-        → drive (main_text limit es) (length src) src t ≡ Ok u → (left : ℕ) × (one : Forest Item) × IsElement true (opens 0) src i u.at 255 left one × (u ≡ state u.at (join before one) root u.left) × IsValidState most u
+        → drive (main_text limit es) (length src) src t ≡ Ok u → (openings_left : ℕ) × (one : Forest Item) × IsElement true (opens 0) src i u.at 255 openings_left one × (u ≡ state u.at (join before one) root u.openings_left) × IsValidState most u
     root_read i before t u opens' fine read driven =
         let values' = values_agree es texts most_deep true in
         let contents' = openers_agree limit es texts most_deep true in
@@ -267,7 +267,7 @@ module _ (src : List ℕ) (utf8 : IsUtf8 src) where
         let (j, c, tag, empty, is, leads) = tagged in
         let chain = drive_sound limit es src (steps_agree (main_text limit es) (included_in_main es) values' contents' src utf8) (length src) most t u less fine' driven in
         let e = root_element (included_in_main es) src i j 255 c before tag empty u is (subst (λ (t : State). Drives (included_in_main es) src t u) leads chain.0) in
-        let same = elements i u.at u.left e.0 e.1 in
+        let same = elements i u.at u.openings_left e.0 e.1 in
         (same.0, e.0, same.1, e.2, chain.1)
 
     -- behind the root element
@@ -278,7 +278,7 @@ module _ (src : List ℕ) (utf8 : IsUtf8 src) where
           before = point.before;
           ahead = point.ahead;
           end = point.end;
-          left = point.left;
+          openings_left = point.openings_left;
           one = point.one;
           element = point.element;
           well_named = point.well_named;
@@ -288,11 +288,11 @@ module _ (src : List ℕ) (utf8 : IsUtf8 src) where
         }
 
     -- right behind it
-    behind_root : (i left : ℕ) (before one : Forest Item) (u : State) → Front i before → IsElement true (opens 0) src i u.at 255 left one → u ≡ state u.at (join before one) root u.left → IsValidState most u
+    behind_root : (i openings_left : ℕ) (before one : Forest Item) (u : State) → Front i before → IsElement true (opens 0) src i u.at 255 openings_left one → u ≡ state u.at (join before one) root u.openings_left → IsValidState most u
         → Behind opens src Front u.at (join before one)
-    behind_root i left before one u ahead element is fine =
+    behind_root i openings_left before one u ahead element is fine =
         let named : AreWellNamed [] (join before one) = (subst (IsValidState most) is fine).named in
-        record { start = i; before = before; ahead = ahead; end = u.at; left = left; one = one; element = element; well_named = named-right [] before one named; after = Nil; misc = no_misc u.at; all = sym (join-nil (join before one)) }
+        record { start = i; before = before; ahead = ahead; end = u.at; openings_left = openings_left; one = one; element = element; well_named = named-right [] before one named; after = Nil; misc = no_misc u.at; all = sym (join-nil (join before one)) }
 
     -- the root element and what follows it
     pub body_fails : (i : ℕ) (before : Forest Item) (e : Refusal) → IsCharBoundary src i → IsValidState most (state i before root 255) → Front i before → at word.CommentStart src i ≡ false → at word.PIStart src i ≡ false
@@ -324,7 +324,7 @@ module _ (src : List ℕ) (utf8 : IsUtf8 src) where
         refuses_here es P src f e same
         (misc_fails limit most less least f (Behind opens src Front) behind_on (P src f) (λ p items point fits ill. in_misc_behind p items f point fits ill)
         (λ p j items item point fits item_is many is. subst (P src) is (too_many_behind p j items item point fits item_is many))
-        (length src) u.left u.at (join before one) behind (subst (IsValidState most) u_is root'.4) (ends_cut src u.at utf8 (element_ends true (opens 0) src i u.at 255 root'.0 one root'.2))
+        (length src) u.openings_left u.at (join before one) behind (subst (IsValidState most) u_is root'.4) (ends_cut src u.at utf8 (element_ends true (opens 0) src i u.at 255 root'.0 one root'.2))
         (subst (λ (u : State). misc limit (length src) src u ≡ Err f) u_is bad)))
         (λ v rest h. no_fault _ e h))))
         (λ none h. no_fault _ e h)
@@ -345,13 +345,13 @@ module _ (src : List ℕ) (utf8 : IsUtf8 src) where
         let cut'' = ends_cut src u.at utf8 (element_ends true (opens 0) src i u.at 255 root'.0 one root'.2) in
         let behind = behind_root i root'.0 before one u ahead root'.2 u_is root'.4 in
         let rest' = subst (λ (u : State). misc limit (length src) src u ≡ Ok v) u_is rest in
-        let m = misc_sound src utf8 (length src) limit most u.left u.at (join before one) v less cut'' (subst (IsValidState most) u_is root'.4) rest' in
+        let m = misc_sound src utf8 (length src) limit most u.openings_left u.at (join before one) v less cut'' (subst (IsValidState most) u_is root'.4) rest' in
         let there = behind_on u.at v.at (join before one) m.0 behind m.1 in
-        let stops = misc_stops (length src) limit u.left u.at (join before one) v cut'' (omega arith) rest' in
+        let stops = misc_stops (length src) limit u.openings_left u.at (join before one) v cut'' (omega arith) rest' in
         let bad' : finished src (v, true) ≡ Err f = subst (λ (x : State × Bool). finished src x ≡ Err f) (sym (ok_same _ _ h)) bad in
         chosen (nat_lt v.at (length src)) _ _ _ bad'
         (λ more bad. let is : fault.UnknownToken v.at ≡ f = cc in
-        subst (P src) is (unknown_behind v.at (join (join before one) m.0) there (fits_here (state v.at (join (join before one) m.0) root u.left) (subst (IsValidState most) m.2 m.3)) (ltb-true _ _ more) stops.0 stops.1 stops.2))
+        subst (P src) is (unknown_behind v.at (join (join before one) m.0) there (fits_here (state v.at (join (join before one) m.0) root u.openings_left) (subst (IsValidState most) m.2 m.3)) (ltb-true _ _ more) stops.0 stops.1 stops.2))
         (λ all bad. no_fault _ f bad)))))
         (λ none h.
         let bad' : finished src (s, false) ≡ Err f = subst (λ (x : State × Bool). finished src x ≡ Err f) (sym (ok_same _ _ h)) bad in
@@ -375,8 +375,8 @@ module _ (src : List ℕ) (utf8 : IsUtf8 src) where
   pub plain_contents : (limit d k : ℕ) → d + k ≡ most_deep → AgreesContent [] limit no_entities (opener limit [] d (is_main k))
   plain_contents limit d k deep = no_contents limit (opener limit [] d (is_main k))
 
-  pub plain_elements : (i j left : ℕ) (one : Forest Item) → IsElement true (included_in_main []) src i j 255 left one → (left' : ℕ) × IsElement true no_entities src i j 255 left' one
-  plain_elements i j left one element = element_without src i j 255 left one element
+  pub plain_elements : (i j openings_left : ℕ) (one : Forest Item) → IsElement true (included_in_main []) src i j 255 openings_left one → (openings_left' : ℕ) × IsElement true no_entities src i j 255 openings_left' one
+  plain_elements i j openings_left one element = element_without src i j 255 openings_left one element
 
   -- so that a fault stands in the text itself
   plain_here : (limit : ℕ) (e : Refusal) → Refuses [] (From (λ k. no_entities) [] limit src false (PrologTo src)) src e → IsHere (FaultOf limit src) e

@@ -25,10 +25,10 @@ module _ (main : Bool) (O : Inclusion) (once : OpensOnce O) (src : List ℕ) (st
   -- the reference at p opens these items there, behind those in front
   pub record OpenedThere (p n j c d : ℕ) (front items : Forest Item) : Type 0 where
     pub opened : Forest Item
-    pub left : ℕ
+    pub openings_left : ℕ
     pub rest : Forest Item
-    pub opens : O.content (slice src (p + 1) n) c opened left
-    pub parts : Parts main O src start stop j left d rest
+    pub opens : O.content (slice src (p + 1) n) c opened openings_left
+    pub parts : Parts main O src start stop j openings_left d rest
     pub all : items ≡ join front (join opened rest)
 
   pub parts_front : (i p n j b c d : ℕ) (front items : Forest Item) → PartsTo main O src start stop i p b c front → Parts main O src start stop i b d items → p < stop → IsReference src p n j
@@ -41,7 +41,7 @@ module _ (main : Bool) (O : Inclusion) (once : OpensOnce O) (src : List ℕ) (st
       let ends = entity_ends src p m n k j (subst (λ (q : ℕ). IsReference src q m k) (sym same.0) r') r in
       record {
         opened = one;
-        left = e;
+        openings_left = e;
         rest = more;
         opens = subst (λ (m : ℕ). O.content (slice src (p + 1) m) b one e) ends.0 (subst (λ (q : ℕ). O.content (slice src (q + 1) m) b one e) (sym same.0) opens);
         parts = subst (λ (k : ℕ). Parts main O src start stop k e d more) ends.1 rest;
@@ -64,7 +64,7 @@ module _ (main : Bool) (O : Inclusion) (once : OpensOnce O) (src : List ℕ) (st
       let next = parts_front k p n j e c d more more' to rest' below r none in
       record {
         opened = next.opened;
-        left = next.left;
+        openings_left = next.openings_left;
         rest = next.rest;
         opens = next.opens;
         parts = next.parts;

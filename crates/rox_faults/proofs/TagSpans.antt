@@ -215,43 +215,43 @@ tested_tag_spans src scope count i name as' text all = tested_spans src scope co
 tag_name : (src : List ℕ) (i : ℕ) (n : Name × ℕ) → IsUtf8 src → slice_index src i ≡ 60 → qname_at src (i + 1) ≡ Ok n → NameText src (i + 1) n.0 n.1
 tag_name src i n utf8 begins h = qname_spans src (i + 1) n.0 n.1 utf8 (cut_behind src i 60 utf8 begins (omega arith) (omega arith)) h
 
-module _ (how : Values) (src : List ℕ) (utf8 : IsUtf8 src) (values : (i stop left : ℕ) → Told (ReadText × ℕ) src (λ x. Unit {0}) (value_at how.main how.entities how.opener src i stop left)) where
+module _ (context : Values) (src : List ℕ) (utf8 : IsUtf8 src) (values : (i stop openings_left : ℕ) → Told (ReadText × ℕ) src (λ x. Unit {0}) (value_at context.main context.entities context.opener src i stop openings_left)) where
   -- the rest of a tag: the names of its refusal are texts, and so are the names of the attributes that are held then
   abbrev RestTold : Result (TagRest × ℕ) Refusal → Type 0
   RestTold r = Told (TagRest × ℕ) src (λ (x : TagRest × ℕ). AllNamed src x.0.held.attributes) r
 
   -- behind a turn
   after_told : (known : List NamespaceDecl) (next : ℕ → ℕ → TagSoFar → Result (TagRest × ℕ) Refusal) → ((j l : ℕ) (held : TagSoFar) → IsCharBoundary src j → AllNamed src held.attributes → RestTold (next j l held))
-      → (i left : ℕ) (h : TagSoFar) (t : TagItem) (j : ℕ) → IsCharBoundary src i → AllNamed src h.attributes → tag_item_at src i ≡ Ok (t, j) → RestTold (after_tag_item next how known src left h t j)
-  after_told known next rest i left h (more raw) j cut all turn =
+      → (i openings_left : ℕ) (h : TagSoFar) (t : TagItem) (j : ℕ) → IsCharBoundary src i → AllNamed src h.attributes → tag_item_at src i ≡ Ok (t, j) → RestTold (after_tag_item next context known src openings_left h t j)
+  after_told known next rest i openings_left h (more raw) j cut all turn =
       let text = turn_named src i raw j utf8 cut turn in
       let named : (v : ReadText) → Named src (attribute_with raw v) = λ v. record { prefix = text.0; local = text.1 } in
-      told_bind src (λ (x : ReadText × ℕ). Unit {0}) _ (value_at how.main how.entities how.opener src raw.value_start raw.value_end left) _ (values raw.value_start raw.value_end left) (λ v read h'.
+      told_bind src (λ (x : ReadText × ℕ). Unit {0}) _ (value_at context.main context.entities context.opener src raw.value_start raw.value_end openings_left) _ (values raw.value_start raw.value_end openings_left) (λ v read h'.
       told_after src (λ (k : TagSoFar). AllNamed src k.attributes) _ (taken known (attribute_with raw v.0) h) _
       (spanned_by src (λ (k : TagSoFar). AllNamed src k.attributes) (taken known (attribute_with raw v.0) h) (taken_spans src known (attribute_with raw v.0) h (named v.0)) (λ held e. taken_keeps src known (attribute_with raw v.0) h held (named v.0) all e))
       (λ held e all'. rest j v.1 held text.2 all'))
-  after_told known next rest i left h opened j cut all turn = record { tells = all }
-  after_told known next rest i left h closed j cut all turn = record { tells = all }
+  after_told known next rest i openings_left h opened j cut all turn = record { tells = all }
+  after_told known next rest i openings_left h closed j cut all turn = record { tells = all }
 
   -- the attributes of a tag
-  attributes_told : (n : ℕ) (cut : Fault) (known : List NamespaceDecl) → NamesText src cut → (i left : ℕ) (h : TagSoFar) → IsCharBoundary src i → AllNamed src h.attributes → RestTold (attributes_at n how cut known src i left h)
+  attributes_told : (n : ℕ) (cut : Fault) (known : List NamespaceDecl) → NamesText src cut → (i openings_left : ℕ) (h : TagSoFar) → IsCharBoundary src i → AllNamed src h.attributes → RestTold (attributes_at n context cut known src i openings_left h)
   unfolding attributes_at
-  attributes_told zero cut known text i left h at all = record { tells = text }
-  attributes_told (suc n) cut known text i left h at all =
+  attributes_told zero cut known text i openings_left h at all = record { tells = text }
+  attributes_told (suc n) cut known text i openings_left h at all =
       told_cond src _ (leb (length src) i) _ _ (λ out. record { tells = text }) (λ inside.
       told_after src (λ (x : TagItem × ℕ). Unit {0}) _ (tag_item_at src i) _ (spanned_by src (λ (x : TagItem × ℕ). Unit {0}) (tag_item_at src i) (turn_well src i) (λ x h. tt)) (λ t turn h'.
-      after_told known (λ j l held. attributes_at n how cut known src j l held) (λ j l held at all. attributes_told n cut known text j l held at all) i left h t.0 t.1 at all turn))
+      after_told known (λ j l held. attributes_at n context cut known src j l held) (λ j l held at all. attributes_told n cut known text j l held at all) i openings_left h t.0 t.1 at all turn))
 
   -- the names of a tag's refusal are texts, and so is its own
-  pub tag_told : (cut : Fault) (above : List NamespaceDecl) (count : ℕ) (known : List NamespaceDecl) (i left : ℕ) → slice_index src i ≡ 60 → NamesText src cut
-      → Told (TagRead × ℕ) src (λ (x : TagRead × ℕ). IsTextSpan src (name_span x.0.tag.name (i + 1) x.0.tag.name_end)) (tag_at how cut above count known src i left)
+  pub tag_told : (cut : Fault) (above : List NamespaceDecl) (count : ℕ) (known : List NamespaceDecl) (i openings_left : ℕ) → slice_index src i ≡ 60 → NamesText src cut
+      → Told (TagRead × ℕ) src (λ (x : TagRead × ℕ). IsTextSpan src (name_span x.0.tag.name (i + 1) x.0.tag.name_end)) (tag_at context cut above count known src i openings_left)
   unfolding tag_at
-  tag_told cut above count known i left begins text =
+  tag_told cut above count known i openings_left begins text =
       let none : TagSoFar = record { own = []; attributes = [] } in
       told_after src (λ (n : Name × ℕ). Unit {0}) _ (qname_at src (i + 1)) _ (spanned_by src (λ (n : Name × ℕ). Unit {0}) (qname_at src (i + 1)) (qname_well src (i + 1)) (λ n h. tt)) (λ n named h.
       let name = tag_name src i n utf8 begins named in
       told_cond src _ (bytes_eq n.0.prefix (word_text word.Xmlns)) _ _ (λ reserved. record { tells = tt }) (λ free.
-      told_bind src (λ (x : TagRest × ℕ). AllNamed src x.0.held.attributes) _ (attributes_at (length src) how cut known src n.1 left none) _ (attributes_told (length src) cut known text n.1 left none name.3 tt) (λ x rest all.
+      told_bind src (λ (x : TagRest × ℕ). AllNamed src x.0.held.attributes) _ (attributes_at (length src) context cut known src n.1 openings_left none) _ (attributes_told (length src) cut known text n.1 openings_left none name.3 tt) (λ x rest all.
       told_after src (λ (u : Unit {0}). Unit {0}) _ (tag_tested (listed above x.0.held.own) count i n.0 x.0.held.attributes) _
       (spanned_by src (λ (u : Unit {0}). Unit {0}) (tag_tested (listed above x.0.held.own) count i n.0 x.0.held.attributes) (tested_tag_spans src (listed above x.0.held.own) count i n.0 x.0.held.attributes name.0 all) (λ u h. tt))
       (λ u tested h. record { tells = name_spans src (i + 1) n.0 n.1 name }))))

@@ -254,49 +254,49 @@ module _ (src : List ℕ) (utf8 : IsUtf8 src) where
 
     -- the refusals of what a replacement text is read to as a part of a value are told
     abbrev pub OpenerTold : ValueInclusion → Type 0
-    OpenerTold opener = (t : Replacement) (after left : ℕ) → IsUtf8 t.source → Told (List ℕ × ℕ) src (λ x. Unit {0}) (opener t after left)
+    OpenerTold opener = (t : Replacement) (after openings_left : ℕ) → IsUtf8 t.source → Told (List ℕ × ℕ) src (λ x. Unit {0}) (opener t after openings_left)
 
     module _ (opener : ValueInclusion) (opens : OpenerTold opener) where
       -- a bit, and what follows it
-      after_value_told : (more : ℕ → ℕ → Result (List ℕ × ℕ) Refusal) → ((j left : ℕ) → Told (List ℕ × ℕ) src (λ x. Unit {0}) (more j left)) → (left : ℕ) (bit : Bit) (j : ℕ) → IsSource bit
-          → Told (List ℕ × ℕ) src (λ x. Unit {0}) (after_value_bit opener more left bit j)
-      after_value_told more rest left (bytes_of bs) j is = told_bind src (λ (x : List ℕ × ℕ). Unit {0}) _ (more j left) _ (rest j left) (λ x read h. record { tells = tt })
-      after_value_told more rest left (a_text t) j is =
-          told_bind src (λ (x : List ℕ × ℕ). Unit {0}) _ (opener t j left) _ (opens t j left is) (λ x read h.
+      after_value_told : (more : ℕ → ℕ → Result (List ℕ × ℕ) Refusal) → ((j openings_left : ℕ) → Told (List ℕ × ℕ) src (λ x. Unit {0}) (more j openings_left)) → (openings_left : ℕ) (bit : Bit) (j : ℕ) → IsSource bit
+          → Told (List ℕ × ℕ) src (λ x. Unit {0}) (after_value_bit opener more openings_left bit j)
+      after_value_told more rest openings_left (bytes_of bs) j is = told_bind src (λ (x : List ℕ × ℕ). Unit {0}) _ (more j openings_left) _ (rest j openings_left) (λ x read h. record { tells = tt })
+      after_value_told more rest openings_left (a_text t) j is =
+          told_bind src (λ (x : List ℕ × ℕ). Unit {0}) _ (opener t j openings_left) _ (opens t j openings_left is) (λ x read h.
           told_bind src (λ (x : List ℕ × ℕ). Unit {0}) _ (more j x.1) _ (rest j x.1) (λ y read h. record { tells = tt }))
 
       -- all bits of a value
-      pub value_text_told : (main : Bool) (n stop i left : ℕ) → Told (List ℕ × ℕ) src (λ x. Unit {0}) (value_text main es opener n src stop i left)
+      pub value_text_told : (main : Bool) (n stop i openings_left : ℕ) → Told (List ℕ × ℕ) src (λ x. Unit {0}) (value_text main es opener n src stop i openings_left)
       unfolding value_text
-      value_text_told main zero stop i left = record { tells = tt }
-      value_text_told main (suc n) stop i left =
+      value_text_told main zero stop i openings_left = record { tells = tt }
+      value_text_told main (suc n) stop i openings_left =
           told_cond src _ (ltb i stop) _ _
           (λ h. told_after src (λ (x : Bit × ℕ). IsSource x.0) _ (value_bit_at main es src stop i) _ (value_bit_spans main stop i) (λ x read is.
-          after_value_told (λ j l. value_text main es opener n src stop j l) (λ j l. value_text_told main n stop j l) left x.0 x.1 is))
+          after_value_told (λ j l. value_text main es opener n src stop j l) (λ j l. value_text_told main n stop j l) openings_left x.0 x.1 is))
           (λ h. record { tells = tt })
 
       -- a value
-      pub value_told : (main : Bool) (i stop left : ℕ) → Told (ReadText × ℕ) src (λ x. Unit {0}) (value_at main es opener src i stop left)
+      pub value_told : (main : Bool) (i stop openings_left : ℕ) → Told (ReadText × ℕ) src (λ x. Unit {0}) (value_at main es opener src i stop openings_left)
       unfolding value_at
-      value_told main i stop left =
+      value_told main i stop openings_left =
           told_cond src _ (is_verbatim_value (slice src i stop)) _ _
           (λ h. record { tells = tt })
-          (λ h. told_bind src (λ (x : List ℕ × ℕ). Unit {0}) _ (value_text main es opener (stop - i) src stop i left) _ (value_text_told main (stop - i) stop i left) (λ value read h. record { tells = tt }))
+          (λ h. told_bind src (λ (x : List ℕ × ℕ). Unit {0}) _ (value_text main es opener (stop - i) src stop i openings_left) _ (value_text_told main (stop - i) stop i openings_left) (λ value read h. record { tells = tt }))
 
 -- how many may be opened: the fault has no name
-pub budget_spans : (src : List ℕ) (main : Bool) (after left : ℕ) → FaultSpanned src (budget main after left)
-budget_spans src true after left = record { holds = tt }
+pub budget_spans : (src : List ℕ) (main : Bool) (after openings_left : ℕ) → FaultSpanned src (budget main after openings_left)
+budget_spans src true after openings_left = record { holds = tt }
 budget_spans src false after zero = record { holds = tt }
 budget_spans src false after (suc r) = record { holds = tt }
 
 -- a replacement text as a part of a value, by how many may still be open
-pub value_opener_told : (es : List Entity) → AreTexts es → (d : ℕ) (main : Bool) (src : List ℕ) (t : Replacement) (after left : ℕ) → IsUtf8 t.source → Told (List ℕ × ℕ) src (λ x. Unit {0}) (value_opener es d main t after left)
+pub value_opener_told : (es : List Entity) → AreTexts es → (d : ℕ) (main : Bool) (src : List ℕ) (t : Replacement) (after openings_left : ℕ) → IsUtf8 t.source → Told (List ℕ × ℕ) src (λ x. Unit {0}) (value_opener es d main t after openings_left)
 unfolding value_opener
-value_opener_told es texts zero main src t after left utf8 = record { tells = tt }
-value_opener_told es texts (suc d) main src t after left utf8 =
+value_opener_told es texts zero main src t after openings_left utf8 = record { tells = tt }
+value_opener_told es texts (suc d) main src t after openings_left utf8 =
     let inner = t.source in
-    told_after src (λ (r : ℕ). Unit {0}) _ (budget main after left) _ (budget_spans src main after left) (λ r read h.
+    told_after src (λ (r : ℕ). Unit {0}) _ (budget main after openings_left) _ (budget_spans src main after openings_left) (λ r read h.
     told_bind src (λ (x : List ℕ × ℕ). Unit {0}) _ (elsewhere inner (value_text false es (value_opener es d false) (length inner) inner (length inner) t.start r)) _
     (told_elsewhere src inner _ (value_text false es (value_opener es d false) (length inner) inner (length inner) t.start r)
-    (value_text_told inner utf8 es texts (value_opener es d false) (λ u after left utf8. value_opener_told es texts d false inner u after left utf8) false (length inner) (length inner) t.start r))
+    (value_text_told inner utf8 es texts (value_opener es d false) (λ u after openings_left utf8. value_opener_told es texts d false inner u after openings_left utf8) false (length inner) (length inner) t.start r))
     (λ x read h. record { tells = tt }))

@@ -62,8 +62,8 @@ is_verbatim_value bs = not (list_any (λ b. b == 38 || (b == 9 || (b == 10 || b 
 
 -- the text of a part, if it has a character
 abbrev pub piece : ℕ → ℕ → Bool → List DataByte → Forest Item
-piece start stop plain [] = Nil
-piece start stop plain (s ∷ ss) = leaf (Text start stop (line_ends (s ∷ ss)) plain)
+piece start stop borrowed [] = Nil
+piece start stop borrowed (s ∷ ss) = leaf (Text start stop (line_ends (s ∷ ss)) borrowed)
 
 -- XML 2.4, 4.1: characters and references to them, from i up to j. In a replacement text too a reference stands for a character,
 -- where by 4.5 one of an entity's literal is opened before, and may begin markup.

@@ -96,15 +96,15 @@ abbrev pub IsSpent : (k b : ℕ) → Type 0
 IsSpent zero b = ⊥
 IsSpent (suc k) b = (b ≡ 0) ⊎ (most_deep ≤ suc k)
 
--- A point that content reaches from the left: with k replacement texts open, around which `base` elements are open, in this
+-- A point that content reaches from the left: with k replacement texts open, around which `open_around` elements are open, in this
 -- source, with b openings left, and what is read and open there. `opens k` is the meaning of a reference there.
-pub data ContentPoint (opens : ℕ → Inclusion) (es : List Entity) (text : List ℕ) (Root : ℕ → Forest Item → Type 0) : (k base : ℕ) → List ℕ → ℕ → State → Type 0 where
+pub data ContentPoint (opens : ℕ → Inclusion) (es : List Entity) (text : List ℕ) (Root : ℕ → Forest Item → Type 0) : (k open_around : ℕ) → List ℕ → ℕ → State → Type 0 where
   begins : (p : ℕ) (items : Forest Item) → Root p items → ContentPoint opens es text Root 0 0 text 255 (record { at = p; done = items; stack = root })
   -- no element is closed that a replacement text did not open
-  goes : (k base b c : ℕ) (src : List ℕ) (s t : State) → ContentPoint opens es text Root k base src b s → StepsOver k (opens k) src s b t c → is_content k t.stack ≡ true → base ≤ depth_of t.stack
-      → ContentPoint opens es text Root k base src c t
+  goes : (k open_around b c : ℕ) (src : List ℕ) (s t : State) → ContentPoint opens es text Root k open_around src b s → StepsOver k (opens k) src s b t c → is_content k t.stack ≡ true → open_around ≤ depth_of t.stack
+      → ContentPoint opens es text Root k open_around src c t
   -- the run at a place is read up to a reference, whose replacement text is opened
-  enters : (k base b c r stop p j : ℕ) (src : List ℕ) (s : State) (front : Forest Item) (t : Replacement) → ContentPoint opens es text Root k base src b s → is_content k s.stack ≡ true → IsCharacterData src s.at stop
+  enters : (k open_around b c r stop p j : ℕ) (src : List ℕ) (s : State) (front : Forest Item) (t : Replacement) → ContentPoint opens es text Root k open_around src b s → is_content k s.stack ≡ true → IsCharacterData src s.at stop
       → PartsTo (is_main k) (opens k) src s.at stop s.at p b c front → AreWellNamed (scope_of s.stack) front → p < stop → RefersTo es src p j t → MayOpen k c r
       → ContentPoint opens es text Root (suc k) (depth_of s.stack) t.source r (record { at = t.start; done = join s.done front; stack = s.stack })
 
@@ -129,9 +129,9 @@ pub record Behind (opens : ℕ → Inclusion) (text : List ℕ) (Front : ℕ →
   pub before : Forest Item
   pub ahead : Front start before
   pub end : ℕ
-  pub left : ℕ
+  pub openings_left : ℕ
   pub one : Forest Item
-  pub element : IsElement true (opens 0) text start end 255 left one
+  pub element : IsElement true (opens 0) text start end 255 openings_left one
   pub well_named : AreWellNamed [] one
   pub after : Forest Item
   pub misc : Misc text end p after

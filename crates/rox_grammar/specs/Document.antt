@@ -38,9 +38,9 @@ pub record ParseOf (src : List ℕ) (dtd : Bool) (asked : List Asked) (tree : Fo
   pub entities : List Entity
   pub doctype : MayHaveDoctype src begun start dtd nodes asked entities
   pub end : ℕ
-  pub left : ℕ
+  pub openings_left : ℕ
   pub one : Forest Item
-  pub element : IsElement true (included_in_main entities) src start end 255 left one
+  pub element : IsElement true (included_in_main entities) src start end 255 openings_left one
   pub after : Forest Item
   pub misc_after : Misc src end (length src) after
   pub is_tree : tree ≡ join before (join nodes (join one after))

@@ -33,7 +33,7 @@ no_entities = record { content = λ name b items c. ⊥; value = λ name b v c. 
 -- XML 4.4.2, 4.4.5: what a reference opens, outside replacement texts or within one, where so many may still be open within one
 -- another; XML knows no such bound. In content the whole text is content; in a value it is a part of a value, of Chars, and may be
 -- an external entity's, which 3.1 (No External Entity References) forbids.
-abbrev pub Includes : List Entity → (left : ℕ) → (main : Bool) → Inclusion
+abbrev pub Includes : List Entity → (openings_left : ℕ) → (main : Bool) → Inclusion
 Includes es zero main = no_entities
 Includes es (suc d) main =
     record {

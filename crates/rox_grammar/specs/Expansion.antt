@@ -9,7 +9,7 @@ use Rattle.rox_grammar.specs.Document.{attribute_count}
 
 -- The replacement texts that a reference opens, at most so many within one another, with no limit but this: the numbers count
 -- those that were opened before it and after it.
-abbrev pub Counts : List Entity → (deep : ℕ) → Inclusion
+abbrev pub Counts : List Entity → (depth_left : ℕ) → Inclusion
 Counts es zero = no_entities
 Counts es (suc d) =
     record {

@@ -119,34 +119,34 @@ pub data InTag (main : Bool) (Includes : Inclusion) (src : List ℕ) (s : State)
       → attributes_so_far s.stack s.done + length (plain_attributes_of as') ≤ most_attributes → IllNamed src s.at (listed (scope_of s.stack) (namespace_decls_of as')) to.name (plain_attributes_of as') f
       → InTag main Includes src s b f
 
--- ---- in the end tag that begins at a place (XML 3.1 [42]), where `base` elements are open around the replacement text
-pub data InEnd (base : ℕ) (src : List ℕ) (s : State) : Fault → Type 0 where
-  lacks : (p : ℕ) (t : DueItem) (f : Fault) → DueInEnd src s.at p t → IsMissing src p t f → InEnd base src s f
-  other_name : (n j start : ℕ) (name : Name) (tag : Tag) (before : Forest Item) (up : Open) (expected actual : Span) → s.stack ≡ inside start tag before up → base < depth_of s.stack
+-- ---- in the end tag that begins at a place (XML 3.1 [42]), where `open_around` elements are open around the replacement text
+pub data InEnd (open_around : ℕ) (src : List ℕ) (s : State) : Fault → Type 0 where
+  lacks : (p : ℕ) (t : DueItem) (f : Fault) → DueInEnd src s.at p t → IsMissing src p t f → InEnd open_around src s f
+  other_name : (n j start : ℕ) (name : Name) (tag : Tag) (before : Forest Item) (up : Open) (expected actual : Span) → s.stack ≡ inside start tag before up → open_around < depth_of s.stack
       → IsEnd src s.at name n j → tag.name ≢ name → SpanIs src expected (spelled tag.name) → SpanIs src actual (spelled name)
-      → InEnd base src s (fault.UnexpectedCloseTag expected actual s.at)
+      → InEnd open_around src s (fault.UnexpectedCloseTag expected actual s.at)
   -- the replacement text has no element open
-  none_open : (n j : ℕ) (name : Name) → depth_of s.stack ≡ base → IsEnd src s.at name n j → InEnd base src s (fault.UnexpectedEntityCloseTag s.at)
+  none_open : (n j : ℕ) (name : Name) → depth_of s.stack ≡ open_around → IsEnd src s.at name n j → InEnd open_around src s (fault.UnexpectedEntityCloseTag s.at)
 
 -- ---- at a place
-pub data Stands (limit : ℕ) (es : List Entity) (k base : ℕ) (Includes : Inclusion) (src : List ℕ) (s : State) (b : ℕ) : Fault → Type 0 where
-  in_run : (f : Fault) → is_content k s.stack ≡ true → s.at < length src → byte src s.at ≢ 60 → InRun es k Includes src s.at b f → Stands limit es k base Includes src s b f
-  in_section : (p : ℕ) (t : DueItem) (f : Fault) → is_content k s.stack ≡ true → DueInCData src s.at p t → IsMissing src p t f → Stands limit es k base Includes src s b f
-  in_misc : (f : Fault) → is_content k s.stack ≡ true → InMisc src s.at f → Stands limit es k base Includes src s b f
-  in_tag : (f : Fault) → TagBegins src s.at (is_content k s.stack) → InTag (is_main k) Includes src s b f → Stands limit es k base Includes src s b f
-  in_end : (f : Fault) → is_content k s.stack ≡ true → InEnd base src s f → Stands limit es k base Includes src s b f
+pub data Stands (limit : ℕ) (es : List Entity) (k open_around : ℕ) (Includes : Inclusion) (src : List ℕ) (s : State) (b : ℕ) : Fault → Type 0 where
+  in_run : (f : Fault) → is_content k s.stack ≡ true → s.at < length src → byte src s.at ≢ 60 → InRun es k Includes src s.at b f → Stands limit es k open_around Includes src s b f
+  in_section : (p : ℕ) (t : DueItem) (f : Fault) → is_content k s.stack ≡ true → DueInCData src s.at p t → IsMissing src p t f → Stands limit es k open_around Includes src s b f
+  in_misc : (f : Fault) → is_content k s.stack ≡ true → InMisc src s.at f → Stands limit es k open_around Includes src s b f
+  in_tag : (f : Fault) → TagBegins src s.at (is_content k s.stack) → InTag (is_main k) Includes src s b f → Stands limit es k open_around Includes src s b f
+  in_end : (f : Fault) → is_content k s.stack ≡ true → InEnd open_around src s f → Stands limit es k open_around Includes src s b f
   -- `<` at the end, or `<!` of neither a comment nor a section
   unknown : is_content k s.stack ≡ true → byte src s.at ≡ 60
-      → (length src ≡ s.at + 1) ⊎ ((byte src (s.at + 1) ≡ 33) × (at word.CommentStart src s.at ≡ false) × (at word.CDataStart src s.at ≡ false)) → Stands limit es k base Includes src s b (fault.UnknownToken s.at)
-  unclosed : (start : ℕ) (tag : Tag) (before : Forest Item) (up : Open) → s.stack ≡ inside start tag before up → length src ≤ s.at → is_main k ≡ true → Stands limit es k base Includes src s b fault.UnclosedRootNode
-  unclosed_in_replacement : base < depth_of s.stack → length src ≤ s.at → is_main k ≡ false → Stands limit es k base Includes src s b fault.UnexpectedEndOfStream
+      → (length src ≡ s.at + 1) ⊎ ((byte src (s.at + 1) ≡ 33) × (at word.CommentStart src s.at ≡ false) × (at word.CDataStart src s.at ≡ false)) → Stands limit es k open_around Includes src s b (fault.UnknownToken s.at)
+  unclosed : (start : ℕ) (tag : Tag) (before : Forest Item) (up : Open) → s.stack ≡ inside start tag before up → length src ≤ s.at → is_main k ≡ true → Stands limit es k open_around Includes src s b fault.UnclosedRootNode
+  unclosed_in_replacement : open_around < depth_of s.stack → length src ≤ s.at → is_main k ≡ false → Stands limit es k open_around Includes src s b fault.UnexpectedEndOfStream
   -- behind the construct that begins here; of a tag its pairs and its attributes are counted first
   too_many_nodes : (c : ℕ) (t : State) → StepsOver k Includes src s b t c → attributes_so_far t.stack t.done ≤ most_attributes → length (distinct_pairs (pairs_so_far t.stack t.done)) ≤ most_pairs
-      → limit < nodes_so_far t.stack t.done → Stands limit es k base Includes src s b fault.NodesLimitReached
+      → limit < nodes_so_far t.stack t.done → Stands limit es k open_around Includes src s b fault.NodesLimitReached
   -- behind the parts of a run up to a reference to an entity: a text is counted before the reference behind it is opened
   too_many_pieces : (stop p j c : ℕ) (front : Forest Item) (t : Replacement) → is_content k s.stack ≡ true → IsCharacterData src s.at stop → PartsTo (is_main k) Includes src s.at stop s.at p b c front
       → AreWellNamed (scope_of s.stack) front → p < stop → RefersTo es src p j t → attributes_so_far s.stack (join s.done front) ≤ most_attributes
-      → length (distinct_pairs (pairs_so_far s.stack (join s.done front))) ≤ most_pairs → limit < nodes_so_far s.stack (join s.done front) → Stands limit es k base Includes src s b fault.NodesLimitReached
+      → length (distinct_pairs (pairs_so_far s.stack (join s.done front))) ≤ most_pairs → limit < nodes_so_far s.stack (join s.done front) → Stands limit es k open_around Includes src s b fault.NodesLimitReached
 
 -- Of this text, with at most `limit` nodes, the fault stands in this source, in the part that begins where `Front` says what
 -- stands before: before the root element, in it, or behind it. All before it is as the grammar wants and within the limits.
@@ -158,11 +158,11 @@ pub data FaultFrom (opens : ℕ → Inclusion) (es : List Entity) (limit : ℕ) 
   no_root : (items : Forest Item) → Front (length text) items → FitsLimits limit root items → FaultFrom opens es limit text declared Front text fault.NoRootNode
   unknown_ahead : (p : ℕ) (items : Forest Item) → Front p items → FitsLimits limit root items → p < length text → is_space (byte text p) ≡ false → byte text p ≢ 60
       → FaultFrom opens es limit text declared Front text (fault.UnknownToken p)
-  at_place : (k base b : ℕ) (src : List ℕ) (s : State) (f : Fault) → ContentPoint opens es text (λ p items. Front p items × RootBegins declared text p) k base src b s → FitsLimits limit s.stack s.done
-      → Stands limit es k base (opens k) src s b f → FaultFrom opens es limit text declared Front src f
+  at_place : (k open_around b : ℕ) (src : List ℕ) (s : State) (f : Fault) → ContentPoint opens es text (λ p items. Front p items × RootBegins declared text p) k open_around src b s → FitsLimits limit s.stack s.done
+      → Stands limit es k open_around (opens k) src s b f → FaultFrom opens es limit text declared Front src f
   -- in the value of an attribute or a declaration of the start tag at a place, or in a replacement text that is opened in it
-  in_value : (k base b p c n v e j l i stop d : ℕ) (src part : List ℕ) (s : State) (as' : List Attribute) (name : Name) (f : Fault)
-      → ContentPoint opens es text (λ p items. Front p items × RootBegins declared text p) k base src b s → FitsLimits limit s.stack s.done → TagBegins src s.at (is_content k s.stack)
+  in_value : (k open_around b p c n v e j l i stop d : ℕ) (src part : List ℕ) (s : State) (as' : List Attribute) (name : Name) (f : Fault)
+      → ContentPoint opens es text (λ p items. Front p items × RootBegins declared text p) k open_around src b s → FitsLimits limit s.stack s.done → TagBegins src s.at (is_content k s.stack)
       → TagTo (is_main k) (opens k) src s p b c as' → p < spaces_end src p → IsQName src (spaces_end src p) name n → IsEq src n v → IsLiteral src v e j
       → ValuePart opens es k src (v + 1) e c l part i stop d → InValue es l (opens l) part i stop d f → FaultFrom opens es limit text declared Front part f
   in_misc_behind : (p : ℕ) (items : Forest Item) (f : Fault) → Behind opens text Front p items → FitsLimits limit root items → InMisc text p f → FaultFrom opens es limit text declared Front text f

@@ -58,17 +58,17 @@ plain_attributes_of as' = filter (λ a. not (is_namespace_decl a.name)) as'
 
 -- a text in front: it takes in one that it touches (nothing ever stands below a text)
 abbrev pub glue : ℕ → ℕ → List ℕ → Bool → Forest Item → Forest Item → Forest Item
-glue a e v plain below Nil = Cons (Text a e v plain) below Nil
-glue a e v plain below (Cons (Text x y w p) children rest) = Cons (Text a e (v ++ w) false) (join below children) rest
-glue a e v plain below (Cons (Element x y t) children rest) = Cons (Text a e v plain) below (Cons (Element x y t) children rest)
-glue a e v plain below (Cons (Comment x y t) children rest) = Cons (Text a e v plain) below (Cons (Comment x y t) children rest)
-glue a e v plain below (Cons (PI x y t o) children rest) = Cons (Text a e v plain) below (Cons (PI x y t o) children rest)
+glue a e v borrowed below Nil = Cons (Text a e v borrowed) below Nil
+glue a e v borrowed below (Cons (Text x y w p) children rest) = Cons (Text a e (v ++ w) false) (join below children) rest
+glue a e v borrowed below (Cons (Element x y t) children rest) = Cons (Text a e v borrowed) below (Cons (Element x y t) children rest)
+glue a e v borrowed below (Cons (Comment x y t) children rest) = Cons (Text a e v borrowed) below (Cons (Comment x y t) children rest)
+glue a e v borrowed below (Cons (PI x y t o) children rest) = Cons (Text a e v borrowed) below (Cons (PI x y t o) children rest)
 
 -- Each longest row of touching pieces becomes one text, with the range of its first piece. It is a slice of the
 -- source only where it is one such piece.
 abbrev pub merge : Forest Item → Forest Item
 merge Nil = Nil
-merge (Cons (Text a e v plain) children rest) = glue a e v plain children (merge rest)
+merge (Cons (Text a e v borrowed) children rest) = glue a e v borrowed children (merge rest)
 merge (Cons (Element a e t) children rest) = Cons (Element a e t) children (merge rest)
 merge (Cons (Comment a e t) children rest) = Cons (Comment a e t) children (merge rest)
 merge (Cons (PI a e t o) children rest) = Cons (PI a e t o) children (merge rest)

@@ -35,8 +35,8 @@ from_placed opens es limit text declared Front source f utf8 (faults.FaultFrom.i
 from_placed opens es limit text declared Front source f utf8 (faults.FaultFrom.too_many_ahead p j items item front fits is over) = inl refl
 from_placed opens es limit text declared Front source f utf8 (faults.FaultFrom.no_root items front fits) = inl refl
 from_placed opens es limit text declared Front source f utf8 (faults.FaultFrom.unknown_ahead p items front fits inside no_space no_less) = inl refl
-from_placed opens es limit text declared Front source f utf8 (faults.FaultFrom.at_place k base b _ s _ place fits ill) = inr (stands_placed source utf8 limit es k base (opens k) s b f ill)
-from_placed opens es limit text declared Front source f utf8 (faults.FaultFrom.in_value k base b p c n v e j l i stop d src _ s as' name _ place fits tag to space named eq literal part ill) =
+from_placed opens es limit text declared Front source f utf8 (faults.FaultFrom.at_place k open_around b _ s _ place fits ill) = inr (stands_placed source utf8 limit es k open_around (opens k) s b f ill)
+from_placed opens es limit text declared Front source f utf8 (faults.FaultFrom.in_value k open_around b p c n v e j l i stop d src _ s as' name _ place fits tag to space named eq literal part ill) =
     inr (value_placed source utf8 es l (opens l) i stop d f ill)
 from_placed opens es limit text declared Front source f utf8 (faults.FaultFrom.in_misc_behind p items _ behind fits ill) = inl refl
 from_placed opens es limit text declared Front source f utf8 (faults.FaultFrom.too_many_behind p j items item behind fits is over) = inl refl

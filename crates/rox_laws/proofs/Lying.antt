@@ -80,15 +80,15 @@ abbrev IsOf : List ℕ → List Entity → List ℕ → Type 0
 IsOf text es source = (source ≡ text) ⊎ ((name : List ℕ) × (t : Replacement) × (text_of es name ≡ Some t) × (source ≡ t.source))
 
 module _ (opens : ℕ → Inclusion) (es : List Entity) (text : List ℕ) where
-  place_of : (Root : ℕ → Forest Item → Type 0) (k base b : ℕ) (src : List ℕ) (s : State) → ContentPoint opens es text Root k base src b s → IsOf text es src
-  place_of Root k base b src s (places.ContentPoint.begins p items is) = inl refl
-  place_of Root k base b src s (places.ContentPoint.goes _ _ l c _ t u before takes inner deep) = place_of Root k base l src t before
-  place_of Root k base b src s (places.ContentPoint.enters i at l c r stop p j from u front t before inner run parts named below refers may) = inr (_, t, refers.found, refl)
+  place_of : (Root : ℕ → Forest Item → Type 0) (k open_around b : ℕ) (src : List ℕ) (s : State) → ContentPoint opens es text Root k open_around src b s → IsOf text es src
+  place_of Root k open_around b src s (places.ContentPoint.begins p items is) = inl refl
+  place_of Root k open_around b src s (places.ContentPoint.goes _ _ l c _ t u before takes inner deep) = place_of Root k open_around l src t before
+  place_of Root k open_around b src s (places.ContentPoint.enters i at l c r stop p j from u front t before inner run parts named below refers may) = inr (_, t, refers.found, refl)
 
-  place_root : (Root : ℕ → Forest Item → Type 0) (k base b : ℕ) (src : List ℕ) (s : State) → ContentPoint opens es text Root k base src b s → (p : ℕ) × (items : Forest Item) × Root p items
-  place_root Root k base b src s (places.ContentPoint.begins p items is) = (p, items, is)
-  place_root Root k base b src s (places.ContentPoint.goes _ _ l c _ t u before takes inner deep) = place_root Root k base l src t before
-  place_root Root k base b src s (places.ContentPoint.enters i at l c r stop p j from u front t before inner run parts named below refers may) = place_root Root i at l from u before
+  place_root : (Root : ℕ → Forest Item → Type 0) (k open_around b : ℕ) (src : List ℕ) (s : State) → ContentPoint opens es text Root k open_around src b s → (p : ℕ) × (items : Forest Item) × Root p items
+  place_root Root k open_around b src s (places.ContentPoint.begins p items is) = (p, items, is)
+  place_root Root k open_around b src s (places.ContentPoint.goes _ _ l c _ t u before takes inner deep) = place_root Root k open_around l src t before
+  place_root Root k open_around b src s (places.ContentPoint.enters i at l c r stop p j from u front t before inner run parts named below refers may) = place_root Root i at l from u before
 
   part_of : (k : ℕ) (src : List ℕ) (start end b l : ℕ) (part : List ℕ) (i stop d : ℕ) → IsOf text es src → ValuePart opens es k src start end b l part i stop d → IsOf text es part
   part_of k src start end b l part i stop d of places.ValuePart.itself = of
@@ -100,12 +100,12 @@ module _ (opens : ℕ → Inclusion) (es : List Entity) (text : List ℕ) where
   from_of limit declared Front source f (faults.FaultFrom.too_many_ahead p j items item front fits is over) = inl refl
   from_of limit declared Front source f (faults.FaultFrom.no_root items front fits) = inl refl
   from_of limit declared Front source f (faults.FaultFrom.unknown_ahead p items front fits inside no_space no_less) = inl refl
-  from_of limit declared Front source f (faults.FaultFrom.at_place k base b _ s _ place fits ill) =
-      let root = place_root _ k base b source s place in
-      inr ((root.0, root.1, root.2.0), place_of _ k base b source s place)
-  from_of limit declared Front source f (faults.FaultFrom.in_value k base b p c n v e j l i stop d src _ s as' name _ place fits tag to space named eq literal part ill) =
-      let root = place_root _ k base b src s place in
-      inr ((root.0, root.1, root.2.0), part_of k src (v + 1) e c l source i stop d (place_of _ k base b src s place) part)
+  from_of limit declared Front source f (faults.FaultFrom.at_place k open_around b _ s _ place fits ill) =
+      let root = place_root _ k open_around b source s place in
+      inr ((root.0, root.1, root.2.0), place_of _ k open_around b source s place)
+  from_of limit declared Front source f (faults.FaultFrom.in_value k open_around b p c n v e j l i stop d src _ s as' name _ place fits tag to space named eq literal part ill) =
+      let root = place_root _ k open_around b src s place in
+      inr ((root.0, root.1, root.2.0), part_of k src (v + 1) e c l source i stop d (place_of _ k open_around b src s place) part)
   from_of limit declared Front source f (faults.FaultFrom.in_misc_behind p items _ behind fits ill) = inl refl
   from_of limit declared Front source f (faults.FaultFrom.too_many_behind p j items item behind fits is over) = inl refl
   from_of limit declared Front source f (faults.FaultFrom.unknown_behind p items behind fits inside no_space no_comment no_instruction) = inl refl

@@ -64,9 +64,9 @@ merge_nested from to (Cons (Comment a e t) c r) h = (h.0, h.1, h.2, merge_nested
 merge_nested from to (Cons (PI a e t o) c r) h = (h.0, h.1, h.2, merge_nested e to r h.3)
 
 -- a run is one text, or none
-piece_nested : (start stop : ℕ) (plain : Bool) (ss : List DataByte) → start < stop → Nested start stop (piece start stop plain ss)
-piece_nested start stop plain [] some = omega arith
-piece_nested start stop plain (s ∷ ss) some = (omega arith, some, refl, omega arith)
+piece_nested : (start stop : ℕ) (borrowed : Bool) (ss : List DataByte) → start < stop → Nested start stop (piece start stop borrowed ss)
+piece_nested start stop borrowed [] some = omega arith
+piece_nested start stop borrowed (s ∷ ss) some = (omega arith, some, refl, omega arith)
 
 parts_nested : (src : List ℕ) (start stop i b c : ℕ) (items : Forest Item) → start < stop → Parts true no_entities src start stop i b c items
     → Nested start stop items
@@ -115,7 +115,7 @@ parse_nested : (src : List ℕ) (tops : Forest Item) → ParseOf src false [] to
 parse_nested src tops q =
     let p = (parse_without src [] tops q).1 in
     let front = from_before 0 p.declared_to p.start p.before (omega arith) (top_nested src p.declared_to p.start p.before p.misc_before) in
-    let one = element_nested src p.start p.end 255 p.left p.one p.element in
+    let one = element_nested src p.start p.end 255 p.openings_left p.one p.element in
     let back = top_nested src p.end (length src) p.after p.misc_after in
     let all = nested_join 0 p.start (length src) p.before (join p.one p.after) front (nested_join p.start p.end (length src) p.one p.after one back) in
     subst (λ (f : Forest Item). Nested 0 (length src) f) (sym p.is_tree) all
@@ -125,7 +125,7 @@ parse_some : (src : List ℕ) (tops : Forest Item) → ParseOf src false [] tops
 parse_some src tops q =
     let p = (parse_without src [] tops q).1 in
     let back = nested_le p.end (length src) p.after (top_nested src p.end (length src) p.after p.misc_after) in
-    omega (arith, back, element_some p.start p.end 255 p.left p.one p.element)
+    omega (arith, back, element_some p.start p.end 255 p.openings_left p.one p.element)
   where
     element_some : (i j b c : ℕ) (one : Forest Item) → IsElement true no_entities src i j b c one → i < j
     element_some i j b c one (empty _ _ _ _ t tag) = tag_forward src i j b c true t tag

@@ -261,23 +261,23 @@ module _ (src : List ℕ) (utf8 : IsUtf8 src) where
   tag_placed main O s b f le (rows.InTag.ill_named p c j empty as' _ to ends few ill) =
       named_placed s.at _ to.name (plain_attributes_of as') f (omega arith) (attributes_start as' (written_start main O to.name_end p b c as' to.attributes)) ill
 
-  end_placed : (base : ℕ) (s : State) (f : Fault) → InEnd base src s f → IsPlaced src f
-  end_placed base s f (rows.InEnd.lacks p t _ is lacks) = lacks_placed src p t f (end_fits s.at p t is) lacks
-  end_placed base s f (rows.InEnd.other_name n j start name tag before up expected actual stack deep is other holds holds') = let two = (end_bytes src s.at is.opens).0 in omega arith
-  end_placed base s f (rows.InEnd.none_open n j name same is) = let two = (end_bytes src s.at is.opens).0 in omega arith
+  end_placed : (open_around : ℕ) (s : State) (f : Fault) → InEnd open_around src s f → IsPlaced src f
+  end_placed open_around s f (rows.InEnd.lacks p t _ is lacks) = lacks_placed src p t f (end_fits s.at p t is) lacks
+  end_placed open_around s f (rows.InEnd.other_name n j start name tag before up expected actual stack deep is other holds holds') = let two = (end_bytes src s.at is.opens).0 in omega arith
+  end_placed open_around s f (rows.InEnd.none_open n j name same is) = let two = (end_bytes src s.at is.opens).0 in omega arith
 
   begins_less : (i : ℕ) (inner : Bool) → TagBegins src i inner → i < length src
   begins_less i inner (of_root is) = within src i (λ z. omega arith)
   begins_less i inner (in_content is more no_bang no_ask no_slash) = within src i (λ z. omega arith)
 
-  pub stands_placed : (limit : ℕ) (es : List Entity) (k base : ℕ) (O : Inclusion) (s : State) (b : ℕ) (f : Fault) → Stands limit es k base O src s b f → IsPlaced src f
-  stands_placed limit es k base O s b f (rows.Stands.in_run _ inner before no_less ill) = run_placed es k O s.at b f before ill
-  stands_placed limit es k base O s b f (rows.Stands.in_section p t _ inner is lacks) = lacks_placed src p t f (section_fits s.at p t is) lacks
-  stands_placed limit es k base O s b f (rows.Stands.in_misc _ inner ill) = misc_placed s.at f ill
-  stands_placed limit es k base O s b f (rows.Stands.in_tag _ begins ill) = tag_placed _ O s b f (begins_less s.at _ begins) ill
-  stands_placed limit es k base O s b f (rows.Stands.in_end _ inner ill) = end_placed base s f ill
-  stands_placed limit es k base O s b f (rows.Stands.unknown inner is other) = let before = within src s.at (λ z. omega arith) in omega arith
-  stands_placed limit es k base O s b f (rows.Stands.unclosed start tag before up stack past in_main) = tt
-  stands_placed limit es k base O s b f (rows.Stands.unclosed_in_replacement deep past inner) = tt
-  stands_placed limit es k base O s b f (rows.Stands.too_many_nodes c t takes few few_pairs over) = tt
-  stands_placed limit es k base O s b f (rows.Stands.too_many_pieces stop p j c front t inner run parts well_named before refers few few_pairs over) = tt
+  pub stands_placed : (limit : ℕ) (es : List Entity) (k open_around : ℕ) (O : Inclusion) (s : State) (b : ℕ) (f : Fault) → Stands limit es k open_around O src s b f → IsPlaced src f
+  stands_placed limit es k open_around O s b f (rows.Stands.in_run _ inner before no_less ill) = run_placed es k O s.at b f before ill
+  stands_placed limit es k open_around O s b f (rows.Stands.in_section p t _ inner is lacks) = lacks_placed src p t f (section_fits s.at p t is) lacks
+  stands_placed limit es k open_around O s b f (rows.Stands.in_misc _ inner ill) = misc_placed s.at f ill
+  stands_placed limit es k open_around O s b f (rows.Stands.in_tag _ begins ill) = tag_placed _ O s b f (begins_less s.at _ begins) ill
+  stands_placed limit es k open_around O s b f (rows.Stands.in_end _ inner ill) = end_placed open_around s f ill
+  stands_placed limit es k open_around O s b f (rows.Stands.unknown inner is other) = let before = within src s.at (λ z. omega arith) in omega arith
+  stands_placed limit es k open_around O s b f (rows.Stands.unclosed start tag before up stack past in_main) = tt
+  stands_placed limit es k open_around O s b f (rows.Stands.unclosed_in_replacement deep past inner) = tt
+  stands_placed limit es k open_around O s b f (rows.Stands.too_many_nodes c t takes few few_pairs over) = tt
+  stands_placed limit es k open_around O s b f (rows.Stands.too_many_pieces stop p j c front t inner run parts well_named before refers few few_pairs over) = tt

@@ -122,9 +122,9 @@ some_signs src i stop ss below (from_reference _ n c rest r inside p) none = kep
     kept_some (b ∷ bs) some none = cc none
 
 -- a run is a text that is not empty
-piece_covers : (src : List ℕ) (i stop : ℕ) (plain : Bool) (ss : List DataByte) → (ss ≡ [] → ⊥) → Covers src i stop (piece i stop plain ss)
-piece_covers src i stop plain [] some = absurd (some refl)
-piece_covers src i stop plain (s ∷ ss) some = (refl, λ none. absurd (some_bytes s ss none), refl, refl)
+piece_covers : (src : List ℕ) (i stop : ℕ) (borrowed : Bool) (ss : List DataByte) → (ss ≡ [] → ⊥) → Covers src i stop (piece i stop borrowed ss)
+piece_covers src i stop borrowed [] some = absurd (some refl)
+piece_covers src i stop borrowed (s ∷ ss) some = (refl, λ none. absurd (some_bytes s ss none), refl, refl)
 
 parts_cover : (src : List ℕ) (i stop b c : ℕ) (items : Forest Item) → i < stop → Parts true no_entities src i stop i b c items → Covers src i stop items
 parts_cover src i stop b c items below (last_part _ _ ss part) = piece_covers src i stop _ ss (some_signs src i stop ss below part)
@@ -203,7 +203,7 @@ parse_sound : (src : List ℕ) (tops : Forest Item) → ParseOf src false [] top
 parse_sound src tops q =
     let p = (parse_without src [] tops q).1 in
     let front = top_sound src p.declared_to p.start p.before p.misc_before in
-    let one = element_sound src p.start p.end 255 p.left p.one p.element in
+    let one = element_sound src p.start p.end 255 p.openings_left p.one p.element in
     let back = top_sound src p.end (length src) p.after p.misc_after in
     subst (λ (f : Forest Item). EachNode (Sound src) f) (sym p.is_tree)
     (each_join (Sound src) p.before (join p.one p.after) front (each_join (Sound src) p.one p.after one back))

@@ -184,9 +184,9 @@ Has src (PI a e t o) = Unit {0}
 parts_have : (src : List ℕ) (start stop i b c : ℕ) (items : Forest Item) → Parts true no_entities src start stop i b c items → EachNode (Has src) items
 parts_have src start stop i b c items (last_part _ _ ss part) = a_piece _ ss
   where
-    a_piece : (plain : Bool) (ss : List DataByte) → EachNode (Has src) (piece start stop plain ss)
-    a_piece plain [] = tt
-    a_piece plain (s ∷ ss) = (tt, tt, tt)
+    a_piece : (borrowed : Bool) (ss : List DataByte) → EachNode (Has src) (piece start stop borrowed ss)
+    a_piece borrowed [] = tt
+    a_piece borrowed (s ∷ ss) = (tt, tt, tt)
 parts_have src start stop i b c items (then_entity _ p n j _ d _ ss inner more part reference unknown opens rest) = absurd opens
 
 misc_has : (src : List ℕ) (i j : ℕ) (item : Item) → IsMisc src i j item → Has src item
@@ -219,7 +219,7 @@ parse_has : (src : List ℕ) (tops : Forest Item) → ParseOf src false [] tops 
 parse_has src tops q =
     let p = (parse_without src [] tops q).1 in
     let front = top_has src p.declared_to p.start p.before p.misc_before in
-    let one = element_has src p.start p.end 255 p.left p.one p.element in
+    let one = element_has src p.start p.end 255 p.openings_left p.one p.element in
     let back = top_has src p.end (length src) p.after p.misc_after in
     subst (λ (f : Forest Item). EachNode (Has src) f) (sym p.is_tree)
     (each_join (Has src) p.before (join p.one p.after) front (each_join (Has src) p.one p.after one back))

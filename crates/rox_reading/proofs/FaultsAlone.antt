@@ -58,19 +58,19 @@ alone_elsewhere source (Err (refused request at message)) h = absurd (h.is (refu
 -- ---- values
 
 module _ (main : Bool) (es : List Entity) (open' : ValueInclusion) (opens_alone : (t : Replacement) (j l : ℕ) → Alone (List ℕ × ℕ) (open' t j l)) where
-  value_alone : (n : ℕ) (src : List ℕ) (stop i left : ℕ) → Alone (List ℕ × ℕ) (value_text main es open' n src stop i left)
+  value_alone : (n : ℕ) (src : List ℕ) (stop i openings_left : ℕ) → Alone (List ℕ × ℕ) (value_text main es open' n src stop i openings_left)
   unfolding value_text
-  value_alone zero src stop i left = good _
-  value_alone (suc n) src stop i left =
+  value_alone zero src stop i openings_left = good _
+  value_alone (suc n) src stop i openings_left =
       alone_cond (nat_lt i stop) _ _ (alone_after (value_bit_at main es src stop i) _ (λ x. bit x.0 x.1 (λ j l. value_alone n src stop j l))) (good _)
     where
-      bit : (b : Bit) (j : ℕ) → ((j l : ℕ) → Alone (List ℕ × ℕ) (value_text main es open' n src stop j l)) → Alone (List ℕ × ℕ) (after_value_bit open' (λ j l. value_text main es open' n src stop j l) left b j)
-      bit (bytes_of bs) j next = alone_bind _ _ (next j left) (λ rest. good _)
-      bit (opens t) j next = alone_bind _ _ (opens_alone t j left) (λ x. alone_bind _ _ (next j x.1) (λ rest. good _))
+      bit : (b : Bit) (j : ℕ) → ((j l : ℕ) → Alone (List ℕ × ℕ) (value_text main es open' n src stop j l)) → Alone (List ℕ × ℕ) (after_value_bit open' (λ j l. value_text main es open' n src stop j l) openings_left b j)
+      bit (bytes_of bs) j next = alone_bind _ _ (next j openings_left) (λ rest. good _)
+      bit (opens t) j next = alone_bind _ _ (opens_alone t j openings_left) (λ x. alone_bind _ _ (next j x.1) (λ rest. good _))
 
-  value_at_alone : (src : List ℕ) (i stop left : ℕ) → Alone _ (value_at main es open' src i stop left)
+  value_at_alone : (src : List ℕ) (i stop openings_left : ℕ) → Alone _ (value_at main es open' src i stop openings_left)
   unfolding value_at
-  value_at_alone src i stop left = alone_cond (is_verbatim_value (slice src i stop)) _ _ (good _) (alone_bind _ _ (value_alone (stop - i) src stop i left) (λ x. good _))
+  value_at_alone src i stop openings_left = alone_cond (is_verbatim_value (slice src i stop)) _ _ (good _) (alone_bind _ _ (value_alone (stop - i) src stop i openings_left) (λ x. good _))
 
 value_opener_alone : (es : List Entity) (d : ℕ) (main : Bool) (t : Replacement) (j l : ℕ) → Alone (List ℕ × ℕ) (value_opener es d main t j l)
 unfolding value_opener
@@ -80,51 +80,51 @@ value_opener_alone es (suc d) main t j l =
 
 -- ---- tags
 
-module _ (how : Values) (opens_alone : (t : Replacement) (j l : ℕ) → Alone (List ℕ × ℕ) (how.opener t j l)) where
-  attributes_alone : (n : ℕ) (cut : Fault) (known : List NamespaceDecl) (src : List ℕ) (i left : ℕ) (h : TagSoFar) → Alone (TagRest × ℕ) (attributes_at n how cut known src i left h)
+module _ (context : Values) (opens_alone : (t : Replacement) (j l : ℕ) → Alone (List ℕ × ℕ) (context.opener t j l)) where
+  attributes_alone : (n : ℕ) (cut : Fault) (known : List NamespaceDecl) (src : List ℕ) (i openings_left : ℕ) (h : TagSoFar) → Alone (TagRest × ℕ) (attributes_at n context cut known src i openings_left h)
   unfolding attributes_at
-  attributes_alone zero cut known src i left h = bad cut
-  attributes_alone (suc n) cut known src i left h =
+  attributes_alone zero cut known src i openings_left h = bad cut
+  attributes_alone (suc n) cut known src i openings_left h =
       alone_cond (nat_le (length src) i) _ _ (bad cut) (alone_after (tag_item_at src i) _ (λ x. turn x.0 x.1 (λ j l held. attributes_alone n cut known src j l held)))
     where
-      turn : (t : TagItem) (j : ℕ) → ((j l : ℕ) (held : TagSoFar) → Alone (TagRest × ℕ) (attributes_at n how cut known src j l held))
-          → Alone (TagRest × ℕ) (after_tag_item (λ j l held. attributes_at n how cut known src j l held) how known src left h t j)
+      turn : (t : TagItem) (j : ℕ) → ((j l : ℕ) (held : TagSoFar) → Alone (TagRest × ℕ) (attributes_at n context cut known src j l held))
+          → Alone (TagRest × ℕ) (after_tag_item (λ j l held. attributes_at n context cut known src j l held) context known src openings_left h t j)
       turn (more raw) j next =
-          alone_bind _ _ (value_at_alone how.main how.entities how.opener opens_alone src raw.value_start raw.value_end left) (λ v. alone_after (taken known (attribute_with raw v.0) h) _ (λ held. next j v.1 held))
+          alone_bind _ _ (value_at_alone context.main context.entities context.opener opens_alone src raw.value_start raw.value_end openings_left) (λ v. alone_after (taken known (attribute_with raw v.0) h) _ (λ held. next j v.1 held))
       turn opened j next = good _
       turn closed j next = good _
 
-  tag_alone : (cut : Fault) (above : List NamespaceDecl) (count : ℕ) (known : List NamespaceDecl) (src : List ℕ) (i left : ℕ) → Alone _ (tag_at how cut above count known src i left)
+  tag_alone : (cut : Fault) (above : List NamespaceDecl) (count : ℕ) (known : List NamespaceDecl) (src : List ℕ) (i openings_left : ℕ) → Alone _ (tag_at context cut above count known src i openings_left)
   unfolding tag_at
-  tag_alone cut above count known src i left =
+  tag_alone cut above count known src i openings_left =
       alone_after (qname_at src (i + 1)) _ (λ name. alone_cond (bytes_eq name.0.prefix (word_text word.Xmlns)) _ _ (bad _)
-      (alone_bind _ _ (attributes_alone (length src) cut known src name.1 left (record { own = []; attributes = [] }))
+      (alone_bind _ _ (attributes_alone (length src) cut known src name.1 openings_left (record { own = []; attributes = [] }))
       (λ x. alone_after (tag_tested (listed above x.0.held.own) count i name.0 x.0.held.attributes) _ (λ u. good _))))
 
 -- ---- content
 
-module _ (how : Context) (values_alone : (t : Replacement) (j l : ℕ) → Alone (List ℕ × ℕ) (how.values.opener t j l)) (opens_alone : (t : Replacement) (j : ℕ) (s : State) → Alone State (how.opener t j s)) where
-  parts_alone : (n : ℕ) (src : List ℕ) (start stop : ℕ) (s : State) → Alone State (data_parts how n src start stop s)
+module _ (context : Context) (values_alone : (t : Replacement) (j l : ℕ) → Alone (List ℕ × ℕ) (context.values.opener t j l)) (opens_alone : (t : Replacement) (j : ℕ) (s : State) → Alone State (context.opener t j s)) where
+  parts_alone : (n : ℕ) (src : List ℕ) (start stop : ℕ) (s : State) → Alone State (data_parts context n src start stop s)
   unfolding data_parts
   parts_alone zero src start stop s = good _
   parts_alone (suc n) src start stop s =
-      alone_after (data_part how.values.main how.values.entities (stop - s.at) src stop s.at) _ (λ x.
-      alone_after (with_piece how.limit s start stop (part_text how.values.main x.0)) _ (λ t. part x.1 t (λ u. parts_alone n src start stop u)))
+      alone_after (data_part context.values.main context.values.entities (stop - s.at) src stop s.at) _ (λ x.
+      alone_after (with_piece context.limit s start stop (part_text context.values.main x.0)) _ (λ t. part x.1 t (λ u. parts_alone n src start stop u)))
     where
-      part : (x : Next) (t : State) → ((u : State) → Alone State (data_parts how n src start stop u)) → Alone State (after_part how (λ u. data_parts how n src start stop u) stop t x)
+      part : (x : Next) (t : State) → ((u : State) → Alone State (data_parts context n src start stop u)) → Alone State (after_part context (λ u. data_parts context n src start stop u) stop t x)
       part at_end t next = good _
       part (opening r j) t next = alone_bind _ _ (opens_alone r j t) next
 
-  run_alone : (src : List ℕ) (s : State) → Alone State (character_data_step how src s)
+  run_alone : (src : List ℕ) (s : State) → Alone State (character_data_step context src s)
   unfolding character_data_step
   run_alone src s = alone_after (raw_character_data_at src s.at) _ (λ x. alone_cond (is_verbatim x.0) _ _ (alone_lifted _) (parts_alone (length src) src s.at x.1 s))
 
-  tag_step_alone : (src : List ℕ) (s : State) → Alone State (tag_step how src s)
+  tag_step_alone : (src : List ℕ) (s : State) → Alone State (tag_step context src s)
   unfolding tag_step
   tag_step_alone src s =
-      alone_bind _ _ (tag_alone how.values values_alone (cut_off_fault how.values.main s.stack) (scope_of s.stack) (attributes_so_far s.stack s.done) (distinct_pairs (pairs_so_far s.stack s.done)) src s.at s.left) (λ x. alone_lifted _)
+      alone_bind _ _ (tag_alone context.values values_alone (cut_off_fault context.values.main s.stack) (scope_of s.stack) (attributes_so_far s.stack s.done) (distinct_pairs (pairs_so_far s.stack s.done)) src s.at s.openings_left) (λ x. alone_lifted _)
 
-  step_alone : (src : List ℕ) (s : State) → Alone State (step how src s)
+  step_alone : (src : List ℕ) (s : State) → Alone State (step context src s)
   unfolding step
   step_alone src s =
       alone_cond (not (byte src s.at == 60)) _ _ (run_alone src s)
@@ -133,16 +133,16 @@ module _ (how : Context) (values_alone : (t : Replacement) (j l : ℕ) → Alone
       (alone_cond (byte src (s.at + 1) == 63) _ _ (alone_lifted _)
       (alone_cond (byte src (s.at + 1) == 47) _ _ (alone_lifted _) (tag_step_alone src s)))))
 
-  drive_alone : (n : ℕ) (src : List ℕ) (s : State) → Alone State (drive how n src s)
+  drive_alone : (n : ℕ) (src : List ℕ) (s : State) → Alone State (drive context n src s)
   unfolding drive
   drive_alone zero src s = alone_cond (is_root s.stack) _ _ (good _) (bad _)
   drive_alone (suc n) src s =
       alone_cond (is_root s.stack) _ _ (good _) (alone_cond (nat_lt s.at (length src)) _ _ (alone_bind _ _ (step_alone src s) (λ t. drive_alone n src t)) (bad _))
 
-  ends_alone : (s : State) → Alone State (text_ends how s)
-  ends_alone s = alone_cond (depth_of s.stack == how.base) _ _ (good _) (bad _)
+  ends_alone : (s : State) → Alone State (text_ends context s)
+  ends_alone s = alone_cond (depth_of s.stack == context.open_around) _ _ (good _) (bad _)
 
-  text_alone : (n : ℕ) (src : List ℕ) (s : State) → Alone State (drive_text how n src s)
+  text_alone : (n : ℕ) (src : List ℕ) (s : State) → Alone State (drive_text context n src s)
   unfolding drive_text
   text_alone zero src s = ends_alone s
   text_alone (suc n) src s = alone_cond (nat_lt s.at (length src)) _ _ (alone_bind _ _ (step_alone src s) (λ t. text_alone n src t)) (ends_alone s)
@@ -151,8 +151,8 @@ opener_alone : (limit : ℕ) (es : List Entity) (d : ℕ) (main : Bool) (t : Rep
 unfolding opener
 opener_alone limit es zero main t j s = bad _
 opener_alone limit es (suc d) main t j s =
-    alone_after (budget main j s.left) _ (λ r. alone_bind _ _
-    (alone_elsewhere t.source _ (text_alone (record { limit = limit; values = values_of es d false; base = depth_of s.stack; opener = opener limit es d false })
+    alone_after (budget main j s.openings_left) _ (λ r. alone_bind _ _
+    (alone_elsewhere t.source _ (text_alone (record { limit = limit; values = values_of es d false; open_around = depth_of s.stack; opener = opener limit es d false })
     (λ t j l. value_opener_alone es d false t j l) (λ t j s. opener_alone limit es d false t j s) (length t.source) t.source _)) (λ u. good _))
 
 -- the root element and what follows it

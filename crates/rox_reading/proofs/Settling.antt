@@ -151,7 +151,7 @@ module _ (limit : ℕ) (allow : Bool) (src : List ℕ) where
 
   -- where it begins
   abbrev pub start_at : ℕ → State
-  start_at i = record { at = i; done = Nil; stack = root; left = 255 }
+  start_at i = record { at = i; done = Nil; stack = root; openings_left = 255 }
 
   pub prolog_stops : (f : Fault) → prolog src (after_bom src) ≡ Err f → Stops whole_run [] (here f)
   unfolding reading

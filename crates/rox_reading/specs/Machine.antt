@@ -25,7 +25,7 @@ use Rattle.rox_reading.specs.State.{State, depth_of}
 pub record Context : Type 0 where
   pub limit : ℕ
   pub values : Values
-  pub base : ℕ
+  pub open_around : ℕ
   pub opener : Replacement → ℕ → State → Result State Refusal
 
 -- the state, if its nodes are within the limit
@@ -34,7 +34,7 @@ counted limit s = if nat_le (nodes_so_far s.stack s.done) limit then Ok s else E
 
 -- one more item without children, up to j
 abbrev pub with_item : ℕ → State → ℕ → Item → Result State Fault
-with_item limit s j item = counted limit (record { at = j; done = join s.done (leaf item); stack = s.stack; left = s.left })
+with_item limit s j item = counted limit (record { at = j; done = join s.done (leaf item); stack = s.stack; openings_left = s.openings_left })
 
 unfoldable pub comment_step : ℕ → List ℕ → State → Result State Fault
 comment_step limit src s = comment_at src s.at >>= λ x. with_item limit s x.1 (Comment s.at x.1 x.0)
@@ -53,25 +53,25 @@ with_piece limit s i j [] = Ok s
 with_piece limit s i j (b ∷ bs) = with_item limit s j (Text i j (b ∷ bs) false)
 
 abbrev pub at_place : ℕ → State → State
-at_place j s = record { at = j; done = s.done; stack = s.stack; left = s.left }
+at_place j s = record { at = j; done = s.done; stack = s.stack; openings_left = s.openings_left }
 
 -- after a part, with what reads the parts from the state behind a reference
 abbrev pub after_part : Context → (State → Result State Refusal) → ℕ → State → Next → Result State Refusal
-after_part how more stop s at_end = Ok (at_place stop s)
-after_part how more stop s (opening t j) = how.opener t j s >>= more
+after_part context more stop s at_end = Ok (at_place stop s)
+after_part context more stop s (opening t j) = context.opener t j s >>= more
 
 -- the parts of the run from start up to stop, from the state's place on; the number bounds them
 unfoldable pub data_parts : Context → ℕ → List ℕ → (start stop : ℕ) → State → Result State Refusal
-data_parts how zero src start stop s = Ok (at_place stop s)
-data_parts how (suc n) src start stop s =
-    lifted (data_part how.values.main how.values.entities (stop - s.at) src stop s.at) >>= λ x.
-    lifted (with_piece how.limit s start stop (part_text how.values.main x.0)) >>= λ t. after_part how (λ u. data_parts how n src start stop u) stop t x.1
+data_parts context zero src start stop s = Ok (at_place stop s)
+data_parts context (suc n) src start stop s =
+    lifted (data_part context.values.main context.values.entities (stop - s.at) src stop s.at) >>= λ x.
+    lifted (with_piece context.limit s start stop (part_text context.values.main x.0)) >>= λ t. after_part context (λ u. data_parts context n src start stop u) stop t x.1
 
 -- a run: a slice of the source where it has no `&` and no CR
 unfoldable pub character_data_step : Context → List ℕ → State → Result State Refusal
-character_data_step how src s =
+character_data_step context src s =
     lifted (raw_character_data_at src s.at) >>= λ x.
-    if is_verbatim x.0 then lifted (with_item how.limit s x.1 (Text s.at x.1 x.0 true)) else data_parts how (length src) src s.at x.1 s
+    if is_verbatim x.0 then lifted (with_item context.limit s x.1 (Text s.at x.1 x.0 true)) else data_parts context (length src) src s.at x.1 s
 
 -- a tag that is cut off by the end of the text right behind its name or an attribute
 abbrev pub cut_off_fault : (main : Bool) → Open → Fault
@@ -80,13 +80,13 @@ cut_off_fault true (inside start tag before up) = fault.UnclosedRootNode
 cut_off_fault false stack = fault.UnexpectedEndOfStream
 
 abbrev pub opened_by : ℕ → State → Tag → Bool → ℕ → ℕ → Result State Fault
-opened_by limit s t true left j = with_item limit (record { at = s.at; done = s.done; stack = s.stack; left = left }) j (Element s.at j t)
-opened_by limit s t false left j = counted limit (record { at = j; done = Nil; stack = inside s.at t s.done s.stack; left = left })
+opened_by limit s t true openings_left j = with_item limit (record { at = s.at; done = s.done; stack = s.stack; openings_left = openings_left }) j (Element s.at j t)
+opened_by limit s t false openings_left j = counted limit (record { at = j; done = Nil; stack = inside s.at t s.done s.stack; openings_left = openings_left })
 
 unfoldable pub tag_step : Context → List ℕ → State → Result State Refusal
-tag_step how src s =
-    tag_at how.values (cut_off_fault how.values.main s.stack) (scope_of s.stack) (attributes_so_far s.stack s.done) (distinct_pairs (pairs_so_far s.stack s.done)) src s.at s.left
-    >>= λ x. lifted (opened_by how.limit s x.0.tag x.0.empty x.0.left x.1)
+tag_step context src s =
+    tag_at context.values (cut_off_fault context.values.main s.stack) (scope_of s.stack) (attributes_so_far s.stack s.done) (distinct_pairs (pairs_so_far s.stack s.done)) src s.at s.openings_left
+    >>= λ x. lifted (opened_by context.limit s x.0.tag x.0.empty x.0.openings_left x.1)
 
 -- where a name is written that ends at n, in a tag whose name may begin at i: without the colon if there is no prefix
 abbrev pub name_span : Name → ℕ → ℕ → Span
@@ -97,52 +97,52 @@ same_qname m n = bytes_eq m.prefix n.prefix && bytes_eq m.local n.local
 
 -- an end tag of this name, which ends at n, from i to j
 unfoldable pub closed_by : ℕ → Name → ℕ → ℕ → Forest Item → Open → ℕ → Result State Fault
-closed_by i name n j done root left = Err (fault.UnexpectedEntityCloseTag i)
-closed_by i name n j done (inside start tag before up) left =
-    if same_qname tag.name name then Ok (record { at = j; done = join before (Cons (Element start j tag) (merge done) Nil); stack = up; left = left })
+closed_by i name n j done root openings_left = Err (fault.UnexpectedEntityCloseTag i)
+closed_by i name n j done (inside start tag before up) openings_left =
+    if same_qname tag.name name then Ok (record { at = j; done = join before (Cons (Element start j tag) (merge done) Nil); stack = up; openings_left = openings_left })
     else Err (fault.UnexpectedCloseTag (name_span tag.name (start + 1) tag.name_end) (name_span name (i + 2) n) i)
 
 -- it closes no element that was open before the text
 unfoldable pub end_step : Context → List ℕ → State → Result State Fault
-end_step how src s =
+end_step context src s =
     end_tag_at src s.at >>= λ x.
-    if nat_le (depth_of s.stack) how.base then Err (fault.UnexpectedEntityCloseTag s.at) else closed_by s.at x.0.name x.0.name_end x.1 s.done s.stack s.left
+    if nat_le (depth_of s.stack) context.open_around then Err (fault.UnexpectedEntityCloseTag s.at) else closed_by s.at x.0.name x.0.name_end x.1 s.done s.stack s.openings_left
 
 -- one construct of content
 unfoldable pub step : Context → List ℕ → State → Result State Refusal
-step how src s =
-    if not (slice_index src s.at == 60) then character_data_step how src s
+step context src s =
+    if not (slice_index src s.at == 60) then character_data_step context src s
     else if nat_le (length src) (s.at + 1) then Err (here (fault.UnknownToken s.at))
     else if slice_index src (s.at + 1) == 33 then
-    (if at word.CommentStart src s.at then lifted (comment_step how.limit src s)
-    else if at word.CDataStart src s.at then lifted (cdata_step how.limit src s)
+    (if at word.CommentStart src s.at then lifted (comment_step context.limit src s)
+    else if at word.CDataStart src s.at then lifted (cdata_step context.limit src s)
     else Err (here (fault.UnknownToken s.at)))
-    else if slice_index src (s.at + 1) == 63 then lifted (instruction_step how.limit src s)
-    else if slice_index src (s.at + 1) == 47 then lifted (end_step how src s)
-    else tag_step how src s
+    else if slice_index src (s.at + 1) == 63 then lifted (instruction_step context.limit src s)
+    else if slice_index src (s.at + 1) == 47 then lifted (end_step context src s)
+    else tag_step context src s
 
 -- content of the main text up to the end tag of the root element; the number bounds the steps
 unfoldable pub drive : Context → ℕ → List ℕ → State → Result State Refusal
-drive how zero src s = if is_root s.stack then Ok s else Err (here fault.UnclosedRootNode)
-drive how (suc n) src s =
+drive context zero src s = if is_root s.stack then Ok s else Err (here fault.UnclosedRootNode)
+drive context (suc n) src s =
     if is_root s.stack then Ok s
-    else if nat_lt s.at (length src) then (step how src s >>= λ t. drive how n src t)
+    else if nat_lt s.at (length src) then (step context src s >>= λ t. drive context n src t)
     else Err (here fault.UnclosedRootNode)
 
 -- a replacement text ends where no element is open that it opened
 abbrev pub text_ends : Context → State → Result State Refusal
-text_ends how s = if depth_of s.stack == how.base then Ok s else Err (here fault.UnexpectedEndOfStream)
+text_ends context s = if depth_of s.stack == context.open_around then Ok s else Err (here fault.UnexpectedEndOfStream)
 
 -- content of a replacement text up to its end; the number bounds the steps
 unfoldable pub drive_text : Context → ℕ → List ℕ → State → Result State Refusal
-drive_text how zero src s = text_ends how s
-drive_text how (suc n) src s = if nat_lt s.at (length src) then (step how src s >>= λ t. drive_text how n src t) else text_ends how s
+drive_text context zero src s = text_ends context s
+drive_text context (suc n) src s = if nat_lt s.at (length src) then (step context src s >>= λ t. drive_text context n src t) else text_ends context s
 
 -- ---- what a reference opens
 
 -- how many may be opened within a replacement text whose reference ends at `after`, where so many are left
-abbrev pub budget : (main : Bool) → (after left : ℕ) → Result ℕ Fault
-budget true after left = Ok 255
+abbrev pub budget : (main : Bool) → (after openings_left : ℕ) → Result ℕ Fault
+budget true after openings_left = Ok 255
 budget false after zero = Err (fault.EntityReferenceLoop after)
 budget false after (suc r) = Ok r
 
@@ -152,25 +152,25 @@ left_behind true before inner = before
 left_behind false before inner = inner
 
 -- a replacement text as a part of a value, where so many may still be open within one another
-unfoldable pub value_opener : List Entity → (deep : ℕ) → (main : Bool) → ValueInclusion
-value_opener es zero main t after left = Err (here (fault.EntityReferenceLoop after))
-value_opener es (suc d) main t after left =
-    lifted (budget main after left) >>= λ r.
+unfoldable pub value_opener : List Entity → (depth_left : ℕ) → (main : Bool) → ValueInclusion
+value_opener es zero main t after openings_left = Err (here (fault.EntityReferenceLoop after))
+value_opener es (suc d) main t after openings_left =
+    lifted (budget main after openings_left) >>= λ r.
     elsewhere t.source (value_text false es (value_opener es d false) (length t.source) t.source (length t.source) t.start r) >>= λ x.
-    Ok (x.0, left_behind main left x.1)
+    Ok (x.0, left_behind main openings_left x.1)
 
-abbrev pub values_of : List Entity → (deep : ℕ) → (main : Bool) → Values
+abbrev pub values_of : List Entity → (depth_left : ℕ) → (main : Bool) → Values
 values_of es d main = record { main = main; entities = es; opener = value_opener es d main }
 
 -- a replacement text in content
-unfoldable pub opener : ℕ → List Entity → (deep : ℕ) → (main : Bool) → Replacement → ℕ → State → Result State Refusal
+unfoldable pub opener : ℕ → List Entity → (depth_left : ℕ) → (main : Bool) → Replacement → ℕ → State → Result State Refusal
 opener limit es zero main t after s = Err (here (fault.EntityReferenceLoop after))
 opener limit es (suc d) main t after s =
-    lifted (budget main after s.left) >>= λ r.
-    elsewhere t.source (drive_text (record { limit = limit; values = values_of es d false; base = depth_of s.stack; opener = opener limit es d false }) (length t.source) t.source
-    (record { at = t.start; done = s.done; stack = s.stack; left = r })) >>= λ u.
-    Ok (record { at = after; done = u.done; stack = u.stack; left = left_behind main s.left u.left })
+    lifted (budget main after s.openings_left) >>= λ r.
+    elsewhere t.source (drive_text (record { limit = limit; values = values_of es d false; open_around = depth_of s.stack; opener = opener limit es d false }) (length t.source) t.source
+    (record { at = t.start; done = s.done; stack = s.stack; openings_left = r })) >>= λ u.
+    Ok (record { at = after; done = u.done; stack = u.stack; openings_left = left_behind main s.openings_left u.openings_left })
 
 -- the main text
 abbrev pub main_text : ℕ → List Entity → Context
-main_text limit es = record { limit = limit; values = values_of es most_deep true; base = 0; opener = opener limit es most_deep true }
+main_text limit es = record { limit = limit; values = values_of es most_deep true; open_around = 0; opener = opener limit es most_deep true }

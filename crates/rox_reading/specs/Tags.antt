@@ -55,7 +55,7 @@ taken known a h =
 -- an attribute with its value
 abbrev pub attribute_with : RawAttribute → ReadText → Attribute
 attribute_with raw v =
-    record { start = raw.start; name_end = raw.name_end; value_start = raw.value_start; end = raw.value_end + 1; name = raw.name; value = v.value; borrowed = v.plain }
+    record { start = raw.start; name_end = raw.name_end; value_start = raw.value_start; end = raw.value_end + 1; name = raw.name; value = v.value; borrowed = v.borrowed }
 
 -- the entities, and how a replacement text is read as a part of a value, in the main text or in another
 pub record Values : Type 0 where
@@ -67,23 +67,23 @@ pub record Values : Type 0 where
 pub record TagRest : Type 0 where
   pub held : TagSoFar
   pub empty : Bool
-  pub left : ℕ
+  pub openings_left : ℕ
 
 -- after a turn that ends at j, with what reads the attributes from there
 abbrev pub after_tag_item : (ℕ → ℕ → TagSoFar → Result (TagRest × ℕ) Refusal) → Values → List NamespaceDecl → List ℕ → ℕ → TagSoFar → TagItem → ℕ → Result (TagRest × ℕ) Refusal
-after_tag_item next how known src left h (more raw) j =
-    value_at how.main how.entities how.opener src raw.value_start raw.value_end left >>= λ v.
+after_tag_item next context known src openings_left h (more raw) j =
+    value_at context.main context.entities context.opener src raw.value_start raw.value_end openings_left >>= λ v.
     lifted (taken known (attribute_with raw v.0) h) >>= λ held. next j v.1 held
-after_tag_item next how known src left h opened j = Ok (record { held = h; empty = false; left = left }, j)
-after_tag_item next how known src left h closed j = Ok (record { held = h; empty = true; left = left }, j)
+after_tag_item next context known src openings_left h opened j = Ok (record { held = h; empty = false; openings_left = openings_left }, j)
+after_tag_item next context known src openings_left h closed j = Ok (record { held = h; empty = true; openings_left = openings_left }, j)
 
 -- attributes and declarations, and whether the tag is empty. The number bounds them; a tag that is cut off right behind
 -- its name or an attribute is refused by this fault.
 unfoldable pub attributes_at : ℕ → Values → Fault → List NamespaceDecl → List ℕ → ℕ → ℕ → TagSoFar → Result (TagRest × ℕ) Refusal
-attributes_at zero how cut known src i left h = Err (here cut)
-attributes_at (suc n) how cut known src i left h =
+attributes_at zero context cut known src i openings_left h = Err (here cut)
+attributes_at (suc n) context cut known src i openings_left h =
     if nat_le (length src) i then Err (here cut)
-    else lifted (tag_item_at src i) >>= λ x. after_tag_item (λ j l held. attributes_at n how cut known src j l held) how known src left h x.0 x.1
+    else lifted (tag_item_at src i) >>= λ x. after_tag_item (λ j l held. attributes_at n context cut known src j l held) context known src openings_left h x.0 x.1
 
 -- each prefix is known, and no expanded name comes twice; the first list holds those that are tested
 unfoldable pub names_tested : List NamespaceDecl → List Attribute → List Attribute → Result (Unit {0}) Fault
@@ -107,13 +107,13 @@ tag_tested scope count i name as' = tested_at scope count (i + 1) name as'
 pub record TagRead : Type 0 where
   pub tag : Tag
   pub empty : Bool
-  pub left : ℕ
+  pub openings_left : ℕ
 
 -- a start tag, from its `<`; above is what the parent lists
 unfoldable pub tag_at : Values → Fault → List NamespaceDecl → ℕ → List NamespaceDecl → List ℕ → ℕ → ℕ → Result (TagRead × ℕ) Refusal
-tag_at how cut above count known src i left =
+tag_at context cut above count known src i openings_left =
     lifted (qname_at src (i + 1)) >>= λ name.
     if bytes_eq name.0.prefix (word_text word.Xmlns) then Err (here (fault.InvalidElementNamePrefix (i + 1)))
-    else attributes_at (length src) how cut known src name.1 left (record { own = []; attributes = [] }) >>= λ x.
+    else attributes_at (length src) context cut known src name.1 openings_left (record { own = []; attributes = [] }) >>= λ x.
     lifted (tag_tested (listed above x.0.held.own) count i name.0 x.0.held.attributes) >>= λ _.
-    Ok (record { tag = record { name = name.0; name_end = name.1; declarations = x.0.held.own; attributes = x.0.held.attributes }; empty = x.0.empty; left = x.0.left }, x.1)
+    Ok (record { tag = record { name = name.0; name_end = name.1; declarations = x.0.held.own; attributes = x.0.held.attributes }; empty = x.0.empty; openings_left = x.0.openings_left }, x.1)

@@ -108,7 +108,7 @@ raw_character_data_at src i =
 pub record ReadText : Type 0 where
   pub value : List ℕ
   -- it is a slice of the source
-  pub plain : Bool
+  pub borrowed : Bool
 
 -- `&`, or white space that is no space
 abbrev pub is_special : ℕ → Bool
@@ -144,18 +144,18 @@ abbrev pub ValueInclusion : Type 0
 ValueInclusion = Replacement → ℕ → ℕ → Result (List ℕ × ℕ) Refusal
 
 abbrev pub after_value_bit : ValueInclusion → (ℕ → ℕ → Result (List ℕ × ℕ) Refusal) → ℕ → Bit → ℕ → Result (List ℕ × ℕ) Refusal
-after_value_bit opener more left (bytes_of bs) j = more j left >>= λ rest. Ok (bs ++ rest.0, rest.1)
-after_value_bit opener more left (opens t) j = opener t j left >>= λ x. more j x.1 >>= λ rest. Ok (x.0 ++ rest.0, rest.1)
+after_value_bit opener more openings_left (bytes_of bs) j = more j openings_left >>= λ rest. Ok (bs ++ rest.0, rest.1)
+after_value_bit opener more openings_left (opens t) j = opener t j openings_left >>= λ x. more j x.1 >>= λ rest. Ok (x.0 ++ rest.0, rest.1)
 
 -- what the value's bytes from i up to stop stand for, and how many may be opened after it; the number bounds the bits
 unfoldable pub value_text : (main : Bool) → List Entity → ValueInclusion → ℕ → List ℕ → ℕ → ℕ → ℕ → Result (List ℕ × ℕ) Refusal
-value_text main es opener zero src stop i left = Ok ([], left)
-value_text main es opener (suc n) src stop i left =
-    if nat_lt i stop then (lifted (value_bit_at main es src stop i) >>= λ x. after_value_bit opener (λ j l. value_text main es opener n src stop j l) left x.0 x.1)
-    else Ok ([], left)
+value_text main es opener zero src stop i openings_left = Ok ([], openings_left)
+value_text main es opener (suc n) src stop i openings_left =
+    if nat_lt i stop then (lifted (value_bit_at main es src stop i) >>= λ x. after_value_bit opener (λ j l. value_text main es opener n src stop j l) openings_left x.0 x.1)
+    else Ok ([], openings_left)
 
 -- the value of an attribute that stands from i up to stop
 unfoldable pub value_at : (main : Bool) → List Entity → ValueInclusion → List ℕ → ℕ → ℕ → ℕ → Result (ReadText × ℕ) Refusal
-value_at main es opener src i stop left =
-    if is_verbatim_value (slice_range src i stop) then Ok (record { value = slice_range src i stop; plain = true }, left)
-    else (value_text main es opener (stop - i) src stop i left >>= λ x. Ok (record { value = x.0; plain = false }, x.1))
+value_at main es opener src i stop openings_left =
+    if is_verbatim_value (slice_range src i stop) then Ok (record { value = slice_range src i stop; borrowed = true }, openings_left)
+    else (value_text main es opener (stop - i) src stop i openings_left >>= λ x. Ok (record { value = x.0; borrowed = false }, x.1))

@@ -59,12 +59,12 @@ begins_doctype src (Err f) = false
 -- whether the text has a document type declaration
 unfoldable pub has_doctype : ℕ → List ℕ → Bool
 has_doctype limit src =
-    begins_doctype src (prolog src (after_bom src) >>= λ i. misc limit (length src) src (record { at = i; done = Nil; stack = root; left = 255 }))
+    begins_doctype src (prolog src (after_bom src) >>= λ i. misc limit (length src) src (record { at = i; done = Nil; stack = root; openings_left = 255 }))
 
 -- a whole text: what is asked, and its top items, or why it is refused
 unfoldable pub reading : ℕ → (allow : Bool) → List Reply → List ℕ → Asks (Forest Item)
 reading limit allow replies src =
     asks_nothing (lifted (prolog src (after_bom src))) >>> λ i.
-    asks_nothing (lifted (misc limit (length src) src (record { at = i; done = Nil; stack = root; left = 255 }))) >>> λ s.
+    asks_nothing (lifted (misc limit (length src) src (record { at = i; done = Nil; stack = root; openings_left = 255 }))) >>> λ s.
     doctype limit allow src (record { state = s; entities = []; replies = replies }) >>> λ d.
     asks_nothing (body limit d.entities src d.state) >>> λ x. asks_nothing (lifted (finished src x))

@@ -74,7 +74,7 @@ near_looked p changes ends src i e utf8 start le cut all plain same free = recor
   cut = cut;
   chars = near_chars p src i e utf8 start le cut all plain;
   apart = λ k low high. free k (all k low high);
-  plain_is = sym (ap not (none_among p changes src i e (e - i) (omega arith) cut.0 all same));
+  verbatim_is = sym (ap not (none_among p changes src i e (e - i) (omega arith) cut.0 all same));
 }
 
 -- a character
@@ -90,7 +90,7 @@ char_looked changes ends src i j some cut chars wide same free here =
       cut = cut;
       chars = chars;
       apart = λ k low high. elim (cases_eq k i) [ inl same ↦ rw same here | inr other ↦ free k (wide k (omega arith) high) ];
-      plain_is = rw (first, drop_more src i 0 (omega (arith, cut.0)), none, or_false (changes (get_or src i 0))) refl;
+      verbatim_is = rw (first, drop_more src i 0 (omega (arith, cut.0)), none, or_false (changes (get_or src i 0))) refl;
     }
 
 -- one stretch behind another
@@ -103,7 +103,7 @@ looked_on changes ends src i j k a b utf8 start f g =
       cut = g.cut;
       chars = chars_joined src i j k utf8 start f.cut g.cut f.onward g.onward f.chars g.chars;
       apart = λ n low high. elim (cases_lt n j) [ inl before ↦ f.apart n low before | inr behind ↦ g.apart n behind high ];
-      plain_is = rw (parts, list_any-append changes (slice_range src i j) (slice_range src j k), f.plain_is, g.plain_is) (sym (not_either (list_any changes (slice_range src i j)) (list_any changes (slice_range src j k))));
+      verbatim_is = rw (parts, list_any-append changes (slice_range src i j) (slice_range src j k), f.verbatim_is, g.verbatim_is) (sym (not_either (list_any changes (slice_range src i j)) (list_any changes (slice_range src j k))));
     }
 
 -- ---- values
@@ -129,16 +129,16 @@ value_near src quote i e utf8 q start le within all stops =
     near_looked is_value_byte is_special (ends_value quote src) src i e utf8 start le (value_cut src e within stops) all value_is_plain value_same (λ k h. value_open quote _ q h)
 
 -- and a character behind them, and the bytes behind that
-pub value_on : (src : List ℕ) (quote i j n e : ℕ) (plain : Bool) → IsUtf8 src → (quote == 39 || quote == 34) ≡ true → IsCharBoundary src i → IsLookahead (ends_value quote src) is_special src i j plain
+pub value_on : (src : List ℕ) (quote i j n e : ℕ) (verbatim : Bool) → IsUtf8 src → (quote == 39 || quote == 34) ≡ true → IsCharBoundary src i → IsLookahead (ends_value quote src) is_special src i j verbatim
     → j < n → IsCharBoundary src n → AreChars src j n → ((k : ℕ) → j < k → k < n → 128 ≤ get_or src k 0) → ends_value quote src j ≡ false
     → n ≤ e → e ≤ length src → AllPass is_value_byte src n e → (e < length src → is_value_byte (get_or src e 0) ≡ false)
-    → IsLookahead (ends_value quote src) is_special src i e (plain && not (is_special (get_or src j 0)))
-value_on src quote i j n e plain utf8 q start f some cut chars wide here le within all stops =
+    → IsLookahead (ends_value quote src) is_special src i e (verbatim && not (is_special (get_or src j 0)))
+value_on src quote i j n e verbatim utf8 q start f some cut chars wide here le within all stops =
     let ends = ends_value quote src in
     let one = char_looked is_special ends src j n some cut chars wide wide_same (λ k h. wide_open quote _ q h) here in
-    let two = looked_on is_special ends src i j n plain _ utf8 start f one in
+    let two = looked_on is_special ends src i j n verbatim _ utf8 start f one in
     let three = looked_on is_special ends src i n e _ true utf8 start two (value_near src quote n e utf8 q cut le within all stops) in
-    rw (and_true (plain && not (is_special (get_or src j 0)))) at three
+    rw (and_true (verbatim && not (is_special (get_or src j 0)))) at three
 
 not_zero : (quote : ℕ) → (quote == 39 || quote == 34) ≡ true → 0 < quote
 not_zero quote q = grind (arith, nat_tests)
@@ -147,10 +147,10 @@ either_first : (q : ℕ) → (q == q || q == 60) ≡ true
 either_first q = grind (arith, nat_tests)
 
 -- what a value is read as whose quote stands behind it
-pub looked_value : (src : List ℕ) (quote i e : ℕ) (plain : Bool) → (quote == 39 || quote == 34) ≡ true → IsLookahead (ends_value quote src) is_special src i e plain → (get_or src e 0 == quote) ≡ true
+pub looked_value : (src : List ℕ) (quote i e : ℕ) (verbatim : Bool) → (quote == 39 || quote == 34) ≡ true → IsLookahead (ends_value quote src) is_special src i e verbatim → (get_or src e 0 == quote) ≡ true
     → raw_value_at quote src i ≡ Ok (slice_range src i e, e)
 unfolding raw_value_at chars_up_to
-looked_value src quote i e plain q f here =
+looked_value src quote i e verbatim q f here =
     let at : get_or src e 0 ≡ quote = eqb-true _ _ here in
     let within : e < length src = elim (cases_lt e (length src)) [ inl more ↦ more | inr past ↦ absurd (omega (arith, at, get_or_past src e 0 past, not_zero quote q)) ] in
     let found = near_found (λ b. not (b == quote || b == 60)) (λ c. c == quote || c == 60) src i e f.onward f.cut.0 (λ k low high. ap not (f.apart k low high)) (λ b h. not_true (b == quote || b == 60) h) (λ more. rw at (either_first quote)) in
@@ -185,16 +185,16 @@ run_near src i e utf8 start le within all stops =
 wide_no_run_end : (src : List ℕ) (k : ℕ) → 128 ≤ get_or src k 0 → ends_run src k ≡ false
 wide_no_run_end src k wide = no_run_end src k (ne_eqb (get_or src k 0) 60 (λ h. absurd (omega arith))) (λ h. absurd (omega arith))
 
-pub run_on : (src : List ℕ) (i j n e : ℕ) (plain : Bool) → IsUtf8 src → IsCharBoundary src i → IsLookahead (ends_run src) changes_run src i j plain
+pub run_on : (src : List ℕ) (i j n e : ℕ) (verbatim : Bool) → IsUtf8 src → IsCharBoundary src i → IsLookahead (ends_run src) changes_run src i j verbatim
     → j < n → IsCharBoundary src n → AreChars src j n → ((k : ℕ) → j < k → k < n → 128 ≤ get_or src k 0) → ends_run src j ≡ false
     → n ≤ e → e ≤ length src → AllPass is_text_byte src n e → (e < length src → is_text_byte (get_or src e 0) ≡ false)
-    → IsLookahead (ends_run src) changes_run src i e (plain && not (changes_run (get_or src j 0)))
-run_on src i j n e plain utf8 start f some cut chars wide here le within all stops =
+    → IsLookahead (ends_run src) changes_run src i e (verbatim && not (changes_run (get_or src j 0)))
+run_on src i j n e verbatim utf8 start f some cut chars wide here le within all stops =
     let ends = ends_run src in
     let one = char_looked changes_run ends src j n some cut chars wide wide_run (wide_no_run_end src) here in
-    let two = looked_on changes_run ends src i j n plain _ utf8 start f one in
+    let two = looked_on changes_run ends src i j n verbatim _ utf8 start f one in
     let three = looked_on changes_run ends src i n e _ true utf8 start two (run_near src n e utf8 cut le within all stops) in
-    rw (and_true (plain && not (changes_run (get_or src j 0)))) at three
+    rw (and_true (verbatim && not (changes_run (get_or src j 0)))) at three
 
 -- a mark stands in a slice only where it stands in the text
 mark_within : (mark src : List ℕ) (i e : ℕ) → 0 < length mark → e ≤ length src → i ≤ e → ((k : ℕ) → i ≤ k → k < e → stands mark src k ≡ false) → has_mark mark (slice_range src i e) ≡ false
@@ -207,10 +207,10 @@ mark_within mark src i e some within le none =
     rw all (le-ltb (length (slice_range src i e)) (length (slice_range src i e)) (omega arith))
 
 -- what a run is read as whose end stands there
-pub looked_run : (src : List ℕ) (i e : ℕ) (plain : Bool) → IsLookahead (ends_run src) changes_run src i e plain → (e < length src → get_or src e 0 ≡ 60)
+pub looked_run : (src : List ℕ) (i e : ℕ) (verbatim : Bool) → IsLookahead (ends_run src) changes_run src i e verbatim → (e < length src → get_or src e 0 ≡ 60)
     → (byte_from (λ c. c == 60) src i ≡ e) × (chars_up_to e src i ≡ Ok (slice_range src i e, e)) × (has_mark (word_text word.CDataEnd) (slice_range src i e) ≡ false)
 unfolding chars_up_to
-looked_run src i e plain f here =
+looked_run src i e verbatim f here =
     let found = near_found (λ b. not (b == 60)) (λ c. c == 60) src i e f.onward f.cut.0 (λ k low high. ap not (or_left _ _ (f.apart k low high))) (λ b h. not_true (b == 60) h) (λ more. eq-eqb _ _ (here more)) in
     let clear : has_mark (word_text word.CDataEnd) (slice_range src i e) ≡ false = mark_within (word_text word.CDataEnd) src i e (omega arith) f.cut.0 f.onward (λ k low high. or_more _ _ (f.apart k low high)) in
     (found, rw (f.chars, le-ltb e e (omega arith)) refl, clear)

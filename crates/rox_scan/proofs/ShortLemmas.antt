@@ -50,9 +50,9 @@ short_run src i e utf8 start le cut all here =
     (rw (end, short_chars src i e utf8 start le cut all, clear) refl, plain)
 
 -- and a run that a longer look passes
-pub longer_run : (src : List ℕ) (i e : ℕ) (plain : Bool) → IsLookahead (ends_run src) changes_run src i e plain → (e == length src || get_or src e 0 == 60) ≡ true → raw_character_data_at src i ≡ Ok (slice_range src i e, e)
+pub longer_run : (src : List ℕ) (i e : ℕ) (verbatim : Bool) → IsLookahead (ends_run src) changes_run src i e verbatim → (e == length src || get_or src e 0 == 60) ≡ true → raw_character_data_at src i ≡ Ok (slice_range src i e, e)
 unfolding raw_character_data_at
-longer_run src i e plain f here =
+longer_run src i e verbatim f here =
     let at : e < length src → get_or src e 0 ≡ 60 = λ more. eqb-true _ _ (or_second _ _ here (ne_eqb e (length src) (λ same. absurd (omega arith)))) in
-    let read = looked_run src i e plain f at in
+    let read = looked_run src i e verbatim f at in
     rw (read.0, read.1, read.2) refl

@@ -8,12 +8,12 @@ use Rattle.rox_grammar.specs.Search.{stands}
 use Rattle.rox_grammar.specs.Constructs.{AreChars, double_dash}
 
 -- from i up to j there are Chars alone, it ends at no place among them, and whether they stand for themselves
-pub record IsLookahead (ends : ℕ → Bool) (changes : ℕ → Bool) (src : List ℕ) (i j : ℕ) (plain : Bool) : Type 0 where
+pub record IsLookahead (ends : ℕ → Bool) (changes : ℕ → Bool) (src : List ℕ) (i j : ℕ) (verbatim : Bool) : Type 0 where
   pub onward : i ≤ j
   pub cut : IsCharBoundary src j
   pub chars : AreChars src i j
   pub apart : (k : ℕ) → i ≤ k → k < j → ends k ≡ false
-  pub plain_is : plain ≡ not (list_any changes (slice_range src i j))
+  pub verbatim_is : verbatim ≡ not (list_any changes (slice_range src i j))
 
 -- a value ends at its quote or a `<`; it is changed at each special byte
 abbrev pub ends_value : ℕ → List ℕ → ℕ → Bool

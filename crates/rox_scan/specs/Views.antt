@@ -35,7 +35,7 @@ pub record HasValue (text : List ℕ) (a : RawAttribute) : Type 0 where
   pub until : IsCharBoundary text a.value_end
   pub is : a.value.now ≡ slice_range text a.value_start a.value_end
   -- it says whether it has nothing to change
-  pub plain : a.plain ≡ is_verbatim_value a.value.now
+  pub verbatim : a.is_verbatim ≡ is_verbatim_value a.value.now
 
 -- the same of an attribute that a start tag holds next
 abbrev pub TagItemHasValue : List ℕ → TagItem → Type 0

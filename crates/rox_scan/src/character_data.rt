@@ -65,11 +65,11 @@ fn changes_run(byte: u8) -> bool
 /// A run of character data as far as it is in order, up to a `<`, a `]]>` or the end.
 pub fn scan_character_data(text: &str, at: usize) -> Lookahead
     requires { IsCharBoundary text.now at }
-    ensures looked { IsLookahead (longer.ends_run text.now) longer.changes_run text.now at result.end result.plain }
+    ensures looked { IsLookahead (longer.ends_run text.now) longer.changes_run text.now at result.end result.is_verbatim }
     ensures stops { result.end < length text.now → longer.ends_run text.now result.end ≡ false → begins is_char text.now result.end ≡ false }
 {
     let bytes = text.as_bytes();
-    let mut plain = true;
+    let mut is_verbatim = true;
     let mut end = skip_set::<TextByte>(text, at);
     while end < bytes.len() {
         let here = bytes[end];
@@ -80,10 +80,10 @@ pub fn scan_character_data(text: &str, at: usize) -> Lookahead
         if next == end {
             break;
         }
-        plain &= !changes_run(here);
+        is_verbatim &= !changes_run(here);
         end = skip_set::<TextByte>(text, next);
     }
-    Lookahead { end, plain }
+    Lookahead { end, is_verbatim }
 }
 
 /// Whether the bytes are a run's text as they stand: they have no `&` and no CR.
@@ -94,11 +94,11 @@ fn is_verbatim(bytes: &[u8]) -> bool
     before_either(bytes, b'&', b'\r') == bytes.len()
 }
 
-/// A run of character data as it stands. `plain` says that it has no reference and no carriage return.
+/// A run of character data as it stands. `is_verbatim` says that it has no reference and no carriage return.
 #[derive(Clone, Copy)]
 pub struct RawCharacterData<'input> {
     pub text: &'input str,
-    pub plain: bool,
+    pub is_verbatim: bool,
 }
 
 /// A run of character data, up to the next `<` or the end (XML 1.0 section 2.4), as it stands: of Chars, and without `]]>`,
@@ -107,7 +107,7 @@ pub fn raw_character_data<'input>(
     cursor: &mut Cursor<'input>,
 ) -> Result<RawCharacterData<'input>, Fault>
     ensures value { Reads (λ raw. raw.text.now) cursor.new result (spec.raw_character_data_at cursor.old.text.now cursor.old.pos) }
-    ensures plain { IfOk result (λ raw. raw.plain ≡ content.is_verbatim raw.text.now) }
+    ensures verbatim { IfOk result (λ raw. raw.is_verbatim ≡ content.is_verbatim raw.text.now) }
     ensures source { cursor.new.text ≡ cursor.old.text }
     ensures cut { OnOk result (IsCharBoundary cursor.old.text.now cursor.new.pos) }
 {
@@ -118,7 +118,7 @@ pub fn raw_character_data<'input>(
         cursor.pos = look.end;
         return Ok(RawCharacterData {
             text: &text[start..look.end],
-            plain: look.plain,
+            is_verbatim: look.is_verbatim,
         });
     }
     faulty_character_data(cursor)
@@ -132,7 +132,7 @@ fn faulty_character_data<'input>(
     cursor: &mut Cursor<'input>,
 ) -> Result<RawCharacterData<'input>, Fault>
     ensures value { Reads (λ raw. raw.text.now) cursor.new result (spec.raw_character_data_at cursor.old.text.now cursor.old.pos) }
-    ensures plain { IfOk result (λ raw. raw.plain ≡ content.is_verbatim raw.text.now) }
+    ensures verbatim { IfOk result (λ raw. raw.is_verbatim ≡ content.is_verbatim raw.text.now) }
     ensures source { cursor.new.text ≡ cursor.old.text }
     ensures cut { OnOk result (IsCharBoundary cursor.old.text.now cursor.new.pos) }
 {
@@ -143,6 +143,6 @@ fn faulty_character_data<'input>(
     }
     Ok(RawCharacterData {
         text: raw,
-        plain: is_verbatim(raw.as_bytes()),
+        is_verbatim: is_verbatim(raw.as_bytes()),
     })
 }

@@ -19,7 +19,7 @@ use crate::runs::{Class, XmlChar, char_at};
 #[derive(Clone, Copy)]
 pub struct Lookahead {
     pub end: usize,
-    pub plain: bool,
+    pub is_verbatim: bool,
 }
 
 /// The place behind the Char that begins at `at`, or `at` where a character begins that is none.
@@ -70,11 +70,11 @@ pub fn is_special(byte: u8) -> bool
 pub fn scan_value(text: &str, at: usize, quote: u8) -> Lookahead
     requires cut { IsCharBoundary text.now at }
     requires quote { (quote == 39 || quote == 34) ≡ true }
-    ensures looked { IsLookahead (longer.ends_value quote text.now) reading.is_special text.now at result.end result.plain }
+    ensures looked { IsLookahead (longer.ends_value quote text.now) reading.is_special text.now at result.end result.is_verbatim }
     ensures stops { result.end < length text.now → (longer.ends_value quote text.now result.end || slice_index text.now result.end == 38) ≡ false → begins is_char text.now result.end ≡ false }
 {
     let bytes = text.as_bytes();
-    let mut plain = true;
+    let mut is_verbatim = true;
     let mut end = skip_set::<ValueByte>(text, at);
     while end < bytes.len() {
         let here = bytes[end];
@@ -85,10 +85,10 @@ pub fn scan_value(text: &str, at: usize, quote: u8) -> Lookahead
         if next == end {
             break;
         }
-        plain &= !is_special(here);
+        is_verbatim &= !is_special(here);
         end = skip_set::<ValueByte>(text, next);
     }
-    Lookahead { end, plain }
+    Lookahead { end, is_verbatim }
 }
 
 /// A comment as far as it is in order, up to two dashes or the end.
@@ -116,9 +116,9 @@ pub fn comment_end(text: &str, at: usize) -> usize
 pub fn is_verbatim_value(bytes: &[u8]) -> bool
     ensures { result ≡ content.is_verbatim_value bytes.now }
 {
-    let mut plain = true;
+    let mut is_verbatim = true;
     for byte in bytes {
-        plain &= !is_special(*byte);
+        is_verbatim &= !is_special(*byte);
     }
-    plain
+    is_verbatim
 }

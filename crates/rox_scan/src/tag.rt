@@ -25,7 +25,7 @@ pub struct EndTag<'input> {
 }
 
 /// An attribute before its value is looked at. Its name stands from `start` up to `name_end`, and its value from
-/// `value_start` up to `value_end`, where the closing quote stands. `plain` says that it has no reference and no white space but
+/// `value_start` up to `value_end`, where the closing quote stands. `is_verbatim` says that it has no reference and no white space but
 /// spaces.
 #[derive(Clone, Copy)]
 pub struct RawAttribute<'input> {
@@ -35,14 +35,14 @@ pub struct RawAttribute<'input> {
     pub value_start: usize,
     pub value_end: usize,
     pub value: &'input str,
-    pub plain: bool,
+    pub is_verbatim: bool,
 }
 
-/// An attribute's value as it is written. `plain` says that it has no reference and no white space but spaces.
+/// An attribute's value as it is written. `is_verbatim` says that it has no reference and no white space but spaces.
 #[derive(Clone, Copy)]
 struct RawValue<'input> {
     text: &'input str,
-    plain: bool,
+    is_verbatim: bool,
 }
 
 /// What a start tag holds next: an attribute, or its end `>` or `/>`.
@@ -81,7 +81,7 @@ impl<'input> Cursor<'input> {
         ensures source { self.new.text ≡ self.old.text }
         ensures onward { self.old.pos ≤ self.new.pos }
         ensures text { IfOk result (λ x. x.text.now ≡ slice_range self.old.text.now self.old.pos self.new.pos) }
-        ensures plain { IfOk result (λ x. x.plain ≡ is_verbatim_value x.text.now) }
+        ensures verbatim { IfOk result (λ x. x.is_verbatim ≡ is_verbatim_value x.text.now) }
     {
         let start = self.pos;
         let near = skip_set::<ValueByte>(self.text, start);
@@ -89,13 +89,13 @@ impl<'input> Cursor<'input> {
             self.pos = near;
             return Ok(RawValue {
                 text: &self.text[start..near],
-                plain: true,
+                is_verbatim: true,
             });
         }
-        let plain = self.value_by_characters(quote)?;
+        let is_verbatim = self.value_by_characters(quote)?;
         Ok(RawValue {
             text: &self.text[start..self.pos],
-            plain,
+            is_verbatim,
         })
     }
 
@@ -108,12 +108,12 @@ impl<'input> Cursor<'input> {
         ensures value { Reads (λ _. slice_range self.old.text.now self.old.pos self.new.pos) self.new result (spec.raw_value_at quote self.old.text.now self.old.pos) }
         ensures source { self.new.text ≡ self.old.text }
         ensures onward { self.old.pos ≤ self.new.pos }
-        ensures plain { IfOk result (λ plain. plain ≡ is_verbatim_value (slice_range self.old.text.now self.old.pos self.new.pos)) }
+        ensures verbatim { IfOk result (λ verbatim. verbatim ≡ is_verbatim_value (slice_range self.old.text.now self.old.pos self.new.pos)) }
     {
         let look = scan_value(self.text, self.pos, quote);
         if is_at(self.text, look.end, quote) {
             self.pos = look.end;
-            return Ok(look.plain);
+            return Ok(look.is_verbatim);
         }
         self.slow_value(quote)
     }
@@ -126,7 +126,7 @@ impl<'input> Cursor<'input> {
         ensures value { Reads (λ _. slice_range self.old.text.now self.old.pos self.new.pos) self.new result (spec.raw_value_at quote self.old.text.now self.old.pos) }
         ensures source { self.new.text ≡ self.old.text }
         ensures onward { self.old.pos ≤ self.new.pos }
-        ensures plain { IfOk result (λ plain. plain ≡ is_verbatim_value (slice_range self.old.text.now self.old.pos self.new.pos)) }
+        ensures verbatim { IfOk result (λ verbatim. verbatim ≡ is_verbatim_value (slice_range self.old.text.now self.old.pos self.new.pos)) }
     {
         let end = either_from(self.text, self.pos, quote, b'<');
         if end >= self.text.len() {
@@ -164,7 +164,7 @@ impl<'input> Cursor<'input> {
             value_start,
             value_end,
             value: value.text,
-            plain: value.plain,
+            is_verbatim: value.is_verbatim,
         })
     }
 

@@ -27,18 +27,18 @@ use Rattle.rox_tables.proofs.Hiding.{others_more, others_none, others_xml, absen
 use Rattle.rox_tables.proofs.Sharing.{same_listed, listed_then}
 use Rattle.rox_tables.proofs.Ropes.{scope_places, row_places, length-lists, places_in-grown, places_in-listed, lists-grown, lists-listed, scopes_more}
 
-pub listed_is : (names : List NamespaceDecl) (listed after : List ℕ) (old new : List Scope) (a : ℕ) (ds es : List NamespaceDecl) → IsListed names listed old after new a ds → ds ≡ es → IsListed names listed old after new a es
-listed_is names listed after old new a ds es x is = subst (IsListed names listed old after new a) is x
+pub listed_is : (namespaces : List NamespaceDecl) (listed after : List ℕ) (old new : List Scope) (a : ℕ) (ds es : List NamespaceDecl) → IsListed namespaces listed old after new a ds → ds ≡ es → IsListed namespaces listed old after new a es
+listed_is namespaces listed after old new a ds es x is = subst (IsListed namespaces listed old after new a) is x
 
 -- ---- what the element declares is hidden
 
-pub hides_none : (names : List NamespaceDecl) (listed : List ℕ) (scopes : List Scope) (i own : ℕ) → AreScopes (length listed) scopes → i < length scopes
-    → IsListed names listed scopes listed scopes i (others (entries names (slice_range listed own own)) false (entries names (places_in listed scopes i)))
-hides_none names listed scopes i own h lt =
+pub hides_none : (namespaces : List NamespaceDecl) (listed : List ℕ) (scopes : List Scope) (i own : ℕ) → AreScopes (length listed) scopes → i < length scopes
+    → IsListed namespaces listed scopes listed scopes i (others (entries namespaces (slice_range listed own own)) false (entries namespaces (places_in listed scopes i)))
+hides_none namespaces listed scopes i own h lt =
     let none : own - own ≡ 0 = omega arith in
     let nothing : slice_range listed own own ≡ [] = ap (λ n. take n (drop own listed)) none in
-    let ds = entries names (places_in listed scopes i) in
-    same_listed names listed scopes i (others (entries names (slice_range listed own own)) false ds) h lt (sym (ap (λ xs. others (entries names xs) false ds) nothing ∙ others_none ds))
+    let ds = entries namespaces (places_in listed scopes i) in
+    same_listed namespaces listed scopes i (others (entries namespaces (slice_range listed own own)) false ds) h lt (sym (ap (λ xs. others (entries namespaces xs) false ds) nothing ∙ others_none ds))
 
 pub hides_more : (rows : List Namespace) (listed : List ℕ) (old mid new : List Scope) (own turn place left next : ℕ) (item : Namespace) (p : Option (List ℕ)) (ds : List NamespaceDecl)
     → own ≤ turn → turn < length listed → ArePlaces (length rows) listed → place ≡ get_or listed turn 0 → p ≡ (namespace_view (get_or rows place item)).prefix
@@ -46,55 +46,55 @@ pub hides_more : (rows : List Namespace) (listed : List ℕ) (old mid new : List
     → IsListed (map namespace_view rows) listed mid listed new next (unlisted p (entries (map namespace_view rows) (places_in listed mid left)))
     → IsListed (map namespace_view rows) listed old listed new next (others (entries (map namespace_view rows) (slice_range listed own (turn + 1))) false ds)
 hides_more rows listed old mid new own turn place left next item p ds le lt ok same is x y =
-    let names = map namespace_view rows in
+    let namespaces = map namespace_view rows in
     let seen = slice_range listed own turn in
     let last = get_or listed turn 0 in
     let here : place < length rows = subst (λ i. i < length rows) (sym same) (place_at (length rows) listed turn 0 ok lt) in
-    let prefix : p ≡ (namespace_at names last).prefix = is ∙ ap (λ (d : NamespaceDecl). d.prefix) (sym (namespace_at-get rows place item here)) ∙ ap (λ i. (namespace_at names i).prefix) same in
-    let more : entries names (slice_range listed own (turn + 1)) ≡ entries names seen ++ namespace_at names last ∷ [] =
-    ap (entries names) (slice-more listed own turn 0 le lt) ∙ map-append (namespace_at names) seen (last ∷ []) in
-    listed_is names listed listed old new next (unlisted p (entries names (places_in listed mid left))) (others (entries names (slice_range listed own (turn + 1))) false ds)
-    (listed_then names listed old mid new left next (others (entries names seen) false ds) (unlisted p (entries names (places_in listed mid left))) x y)
-    (ap (unlisted p) x.lists ∙ ap (λ q. unlisted q (others (entries names seen) false ds)) prefix ∙ others_more (entries names seen) (namespace_at names last) ds ∙ ap (λ xs. others xs false ds) (sym more))
+    let prefix : p ≡ (namespace_at namespaces last).prefix = is ∙ ap (λ (d : NamespaceDecl). d.prefix) (sym (namespace_at-get rows place item here)) ∙ ap (λ i. (namespace_at namespaces i).prefix) same in
+    let more : entries namespaces (slice_range listed own (turn + 1)) ≡ entries namespaces seen ++ namespace_at namespaces last ∷ [] =
+    ap (entries namespaces) (slice-more listed own turn 0 le lt) ∙ map-append (namespace_at namespaces) seen (last ∷ []) in
+    listed_is namespaces listed listed old new next (unlisted p (entries namespaces (places_in listed mid left))) (others (entries namespaces (slice_range listed own (turn + 1))) false ds)
+    (listed_then namespaces listed old mid new left next (others (entries namespaces seen) false ds) (unlisted p (entries namespaces (places_in listed mid left))) x y)
+    (ap (unlisted p) x.lists ∙ ap (λ q. unlisted q (others (entries namespaces seen) false ds)) prefix ∙ others_more (entries namespaces seen) (namespace_at namespaces last) ds ∙ ap (λ xs. others xs false ds) (sym more))
 
 pub hides_all : (listed : List ℕ) (own turn : ℕ) → length listed ≤ turn → slice_range listed own turn ≡ drop own listed
 hides_all listed own turn le = take_all (turn - own) (drop own listed) (rw length-drop (omega arith))
 
 -- all of it, and `xml` too if the flag says so
-pub hides_xml : (names : List NamespaceDecl) (listed : List ℕ) (old mid new : List Scope) (own turn left next : ℕ) (xml : Bool) (ds : List NamespaceDecl) → length listed ≤ turn → xml ≡ true
-    → IsListed names listed old listed mid left (others (entries names (slice_range listed own turn)) false ds)
-    → IsListed names listed mid listed new next (unlisted (Some (word_text Xml)) (entries names (places_in listed mid left)))
-    → IsListed names listed old listed new next (others (entries names (drop own listed)) xml ds)
-hides_xml names listed old mid new own turn left next xml ds le on x y =
+pub hides_xml : (namespaces : List NamespaceDecl) (listed : List ℕ) (old mid new : List Scope) (own turn left next : ℕ) (xml : Bool) (ds : List NamespaceDecl) → length listed ≤ turn → xml ≡ true
+    → IsListed namespaces listed old listed mid left (others (entries namespaces (slice_range listed own turn)) false ds)
+    → IsListed namespaces listed mid listed new next (unlisted (Some (word_text Xml)) (entries namespaces (places_in listed mid left)))
+    → IsListed namespaces listed old listed new next (others (entries namespaces (drop own listed)) xml ds)
+hides_xml namespaces listed old mid new own turn left next xml ds le on x y =
     let seen = slice_range listed own turn in
-    let mine = entries names (drop own listed) in
-    listed_is names listed listed old new next (unlisted (Some (word_text Xml)) (entries names (places_in listed mid left))) (others mine xml ds)
-    (listed_then names listed old mid new left next (others (entries names seen) false ds) (unlisted (Some (word_text Xml)) (entries names (places_in listed mid left))) x y)
-    (ap (unlisted (Some (word_text Xml))) x.lists ∙ others_xml (entries names seen) ds ∙ ap (λ xs. others (entries names xs) true ds) (hides_all listed own turn le) ∙ ap (λ b. others mine b ds) (sym on))
+    let mine = entries namespaces (drop own listed) in
+    listed_is namespaces listed listed old new next (unlisted (Some (word_text Xml)) (entries namespaces (places_in listed mid left))) (others mine xml ds)
+    (listed_then namespaces listed old mid new left next (others (entries namespaces seen) false ds) (unlisted (Some (word_text Xml)) (entries namespaces (places_in listed mid left))) x y)
+    (ap (unlisted (Some (word_text Xml))) x.lists ∙ others_xml (entries namespaces seen) ds ∙ ap (λ xs. others (entries namespaces xs) true ds) (hides_all listed own turn le) ∙ ap (λ b. others mine b ds) (sym on))
 
-pub hides_own : (names : List NamespaceDecl) (listed : List ℕ) (old mid : List Scope) (own turn left : ℕ) (xml : Bool) (ds : List NamespaceDecl) → length listed ≤ turn → xml ≡ false
-    → IsListed names listed old listed mid left (others (entries names (slice_range listed own turn)) false ds) → IsListed names listed old listed mid left (others (entries names (drop own listed)) xml ds)
-hides_own names listed old mid own turn left xml ds le off x =
-    listed_is names listed listed old mid left (others (entries names (slice_range listed own turn)) false ds) (others (entries names (drop own listed)) xml ds) x
-    (ap (λ xs. others (entries names xs) false ds) (hides_all listed own turn le) ∙ ap (λ b. others (entries names (drop own listed)) b ds) (sym off))
+pub hides_own : (namespaces : List NamespaceDecl) (listed : List ℕ) (old mid : List Scope) (own turn left : ℕ) (xml : Bool) (ds : List NamespaceDecl) → length listed ≤ turn → xml ≡ false
+    → IsListed namespaces listed old listed mid left (others (entries namespaces (slice_range listed own turn)) false ds) → IsListed namespaces listed old listed mid left (others (entries namespaces (drop own listed)) xml ds)
+hides_own namespaces listed old mid own turn left xml ds le off x =
+    listed_is namespaces listed listed old mid left (others (entries namespaces (slice_range listed own turn)) false ds) (others (entries namespaces (drop own listed)) xml ds) x
+    (ap (λ xs. others (entries namespaces xs) false ds) (hides_all listed own turn le) ∙ ap (λ b. others (entries namespaces (drop own listed)) b ds) (sym off))
 
 -- a prefix without a place is not among what is left
-pub absent_bound : (names : List NamespaceDecl) (f : Option (List ℕ) → Option ℕ) (own ds left : List NamespaceDecl) (xml : Bool) (p : Option (List ℕ)) → IsBound names f ds → left ≡ others own xml ds → f p ≡ None
+pub absent_bound : (namespaces : List NamespaceDecl) (f : Option (List ℕ) → Option ℕ) (own ds left : List NamespaceDecl) (xml : Bool) (p : Option (List ℕ)) → IsBound namespaces f ds → left ≡ others own xml ds → f p ≡ None
     → is_declared p left ≡ false
-absent_bound names f own ds left xml p h e none =
-    ap (is_declared p) e ∙ absent_others own xml p ds (declared_none ds p (sym (h.uris p) ∙ ap (option_map (λ i. (namespace_at names i).uri)) none))
+absent_bound namespaces f own ds left xml p h e none =
+    ap (is_declared p) e ∙ absent_others own xml p ds (declared_none ds p (sym (h.uris p) ∙ ap (option_map (λ i. (namespace_at namespaces i).uri)) none))
 
 -- ---- rows of both
 
-pub joined_within : (names : List NamespaceDecl) (listed after : List ℕ) (mid next : List Scope) (rest first : ℕ) (ds : List NamespaceDecl) → IsListed names listed mid after next first ds → rest < length mid → rest < length next
-joined_within names listed after mid next rest first ds y h = let n = ap length y.rows_grown ∙ length-append mid y.more_rows in omega arith
+pub joined_within : (namespaces : List NamespaceDecl) (listed after : List ℕ) (mid next : List Scope) (rest first : ℕ) (ds : List NamespaceDecl) → IsListed namespaces listed mid after next first ds → rest < length mid → rest < length next
+joined_within namespaces listed after mid next rest first ds y h = let n = ap length y.rows_grown ∙ length-append mid y.more_rows in omega arith
 
-pub joined_listed : (names : List NamespaceDecl) (listed after : List ℕ) (old mid next new : List Scope) (rest first i : ℕ) (os ds : List NamespaceDecl) → IsListed names listed old listed mid rest os → IsListed names listed mid after next first ds
-    → IsRope next new i (λ l. places_in l next first ++ places_in l next rest) → IsListed names listed old after new i (ds ++ os)
-joined_listed names listed after old mid next new rest first i os ds x y z =
-    let kept : entries names (places_in after next rest) ≡ os =
-    ap (λ ss. entries names (places_in after ss rest)) y.rows_grown ∙ ap (entries names) (places_in-grown after mid y.more_rows rest x.within)
-    ∙ ap (λ ls. entries names (places_in ls mid rest)) y.grown ∙ ap (entries names) (places_in-listed listed y.more mid rest x.scopes_are) ∙ x.lists in
+pub joined_listed : (namespaces : List NamespaceDecl) (listed after : List ℕ) (old mid next new : List Scope) (rest first i : ℕ) (os ds : List NamespaceDecl) → IsListed namespaces listed old listed mid rest os → IsListed namespaces listed mid after next first ds
+    → IsRope next new i (λ l. places_in l next first ++ places_in l next rest) → IsListed namespaces listed old after new i (ds ++ os)
+joined_listed namespaces listed after old mid next new rest first i os ds x y z =
+    let kept : entries namespaces (places_in after next rest) ≡ os =
+    ap (λ ss. entries namespaces (places_in after ss rest)) y.rows_grown ∙ ap (entries namespaces) (places_in-grown after mid y.more_rows rest x.within)
+    ∙ ap (λ ls. entries namespaces (places_in ls mid rest)) y.grown ∙ ap (entries namespaces) (places_in-listed listed y.more mid rest x.scopes_are) ∙ x.lists in
     record {
       more = y.more;
       grown = y.grown;
@@ -103,24 +103,24 @@ joined_listed names listed after old mid next new rest first i os ds x y z =
       rows_grown = z.grown ∙ ap (λ xs. xs ++ z.more) y.rows_grown ∙ append_assoc mid y.more_rows z.more ∙ ap (λ xs. xs ++ (y.more_rows ++ z.more)) x.rows_grown ∙ append_assoc old x.more_rows (y.more_rows ++ z.more);
       scopes_are = record { rows = z.rows; within = z.ends (length after) y.scopes_are.within };
       within = z.within;
-      lists = ap (entries names) (z.lists after y.scopes_are) ∙ map-append (namespace_at names) (places_in after next first) (places_in after next rest)
-          ∙ ap (λ xs. xs ++ entries names (places_in after next rest)) y.lists ∙ ap (λ xs. ds ++ xs) kept;
+      lists = ap (entries namespaces) (z.lists after y.scopes_are) ∙ map-append (namespace_at namespaces) (places_in after next first) (places_in after next rest)
+          ∙ ap (λ xs. xs ++ entries namespaces (places_in after next rest)) y.lists ∙ ap (λ xs. ds ++ xs) kept;
     }
 
 -- ---- the tables
 
-pub lists_then : (names : List NamespaceDecl) (listed after : List ℕ) (scopes rows : List Scope) (i : ℕ) (ds : List NamespaceDecl) → AreScopes (length listed) scopes → IsListed names listed scopes after rows i ds
-    → (more : List (List NamespaceDecl)) × (lists_of names after rows ≡ lists_of names listed scopes ++ more)
-lists_then names listed after scopes rows i ds h x =
-    let g = lists-grown names after scopes x.more_rows in
-    (g.0, ap (lists_of names after) x.rows_grown ∙ g.1 ∙ ap (λ xs. xs ++ g.0) (ap (λ ls. lists_of names ls scopes) x.grown ∙ lists-listed names listed x.more scopes h))
+pub lists_then : (namespaces : List NamespaceDecl) (listed after : List ℕ) (scopes rows : List Scope) (i : ℕ) (ds : List NamespaceDecl) → AreScopes (length listed) scopes → IsListed namespaces listed scopes after rows i ds
+    → (more : List (List NamespaceDecl)) × (lists_of namespaces after rows ≡ lists_of namespaces listed scopes ++ more)
+lists_then namespaces listed after scopes rows i ds h x =
+    let g = lists-grown namespaces after scopes x.more_rows in
+    (g.0, ap (lists_of namespaces after) x.rows_grown ∙ g.1 ∙ ap (λ xs. xs ++ g.0) (ap (λ ls. lists_of namespaces ls scopes) x.grown ∙ lists-listed namespaces listed x.more scopes h))
 
 -- the places of prefixes stay
-pub kept_then : (names : List NamespaceDecl) (listed after : List ℕ) (scopes rows : List Scope) (i : ℕ) (ds : List NamespaceDecl) (x : PrefixBindings) → AreScopes (length listed) scopes → IsListed names listed scopes after rows i ds
-    → AreBindingsOf names (lists_of names listed scopes) x → AreBindingsOf names (lists_of names after rows) x
-kept_then names listed after scopes rows i ds x h y kept =
-    let l = lists_then names listed after scopes rows i ds h y in
-    keeps_grown names names (lists_of names listed scopes) (lists_of names after rows) x [] l.0 (sym (append-nil names)) l.1 kept
+pub kept_then : (namespaces : List NamespaceDecl) (listed after : List ℕ) (scopes rows : List Scope) (i : ℕ) (ds : List NamespaceDecl) (x : PrefixBindings) → AreScopes (length listed) scopes → IsListed namespaces listed scopes after rows i ds
+    → AreBindingsOf namespaces (lists_of namespaces listed scopes) x → AreBindingsOf namespaces (lists_of namespaces after rows) x
+kept_then namespaces listed after scopes rows i ds x h y kept =
+    let l = lists_then namespaces listed after scopes rows i ds h y in
+    keeps_grown namespaces namespaces (lists_of namespaces listed scopes) (lists_of namespaces after rows) x [] l.0 (sym (append-nil namespaces)) l.1 kept
 
 pub few_here : (scopes : List Scope) (i : ℕ) (s : Stretch) (t : Scope) → i < length scopes → scope.Few s ≡ get_or scopes i t → is_few_at scopes i ≡ true
 few_here [] i s t lt h = absurd (omega arith)
@@ -130,39 +130,39 @@ few_here (scope.Concat b ∷ ss) zero s t lt h = cc h
 few_here (x ∷ ss) (suc i) s t lt h = few_here ss i s t (omega arith) h
 
 -- what a row of few lists
-pub few_lists : (names : List NamespaceDecl) (ls : List ℕ) (scopes : List Scope) (i : ℕ) (s : Stretch) → AreRows scopes → i < length scopes → scope.Few s ≡ get_or scopes i (scope.Few s)
-    → entries names (slice_range ls s.from s.until) ≡ scope_at (lists_of names ls scopes) i
-few_lists names ls scopes i s rows lt e = sym (scope_places names ls scopes i ∙ ap (entries names) (row_places ls scopes i (scope.Few s) rows lt e))
+pub few_lists : (namespaces : List NamespaceDecl) (ls : List ℕ) (scopes : List Scope) (i : ℕ) (s : Stretch) → AreRows scopes → i < length scopes → scope.Few s ≡ get_or scopes i (scope.Few s)
+    → entries namespaces (slice_range ls s.from s.until) ≡ scope_at (lists_of namespaces ls scopes) i
+few_lists namespaces ls scopes i s rows lt e = sym (scope_places namespaces ls scopes i ∙ ap (entries namespaces) (row_places ls scopes i (scope.Few s) rows lt e))
 
 -- it has become the innermost
-pub stood_in : (names seen : List Namespace) (ls seen_ls : List ℕ) (scopes seen_scopes : List Scope) (x y : PrefixBindings) (i : ℕ) → seen ≡ names → seen_ls ≡ ls → seen_scopes ≡ scopes
+pub stood_in : (namespaces seen : List Namespace) (ls seen_ls : List ℕ) (scopes seen_scopes : List Scope) (x y : PrefixBindings) (i : ℕ) → seen ≡ namespaces → seen_ls ≡ ls → seen_scopes ≡ scopes
     → (AreBindingsOf (map namespace_view seen) (lists_of (map namespace_view seen) seen_ls seen_scopes) x
     → AreBindingsOf (map namespace_view seen) (lists_of (map namespace_view seen) seen_ls seen_scopes) y × IsBound (map namespace_view seen) (bound_place y) (scope_at (lists_of (map namespace_view seen) seen_ls seen_scopes) i))
-    → AreBindingsOf (map namespace_view names) (lists_of (map namespace_view names) ls scopes) x
-    → AreBindingsOf (map namespace_view names) (lists_of (map namespace_view names) ls scopes) y × IsBound (map namespace_view names) (bound_place y) (scope_at (lists_of (map namespace_view names) ls scopes) i)
-stood_in names seen ls seen_ls scopes seen_scopes x y i n l s f = rw (sym n, sym l, sym s) f
+    → AreBindingsOf (map namespace_view namespaces) (lists_of (map namespace_view namespaces) ls scopes) x
+    → AreBindingsOf (map namespace_view namespaces) (lists_of (map namespace_view namespaces) ls scopes) y × IsBound (map namespace_view namespaces) (bound_place y) (scope_at (lists_of (map namespace_view namespaces) ls scopes) i)
+stood_in namespaces seen ls seen_ls scopes seen_scopes x y i n l s f = rw (sym n, sym l, sym s) f
 
-pub entered_in : (names seen : List Namespace) (ls seen_ls : List ℕ) (x y : PrefixBindings) (from until i : ℕ) (xml : Bool) → seen ≡ names → seen_ls ≡ ls
+pub entered_in : (namespaces seen : List Namespace) (ls seen_ls : List ℕ) (x y : PrefixBindings) (from until i : ℕ) (xml : Bool) → seen ≡ namespaces → seen_ls ≡ ls
     → ((lists : List (List NamespaceDecl)) (above : List NamespaceDecl) → AreBindingsOf (map namespace_view seen) lists x → IsBound (map namespace_view seen) (bound_place x) above
     → IsEntered (entries (map namespace_view seen) (reverse (slice_range seen_ls from until))) xml above lists i → AreBindingsOf (map namespace_view seen) lists y × IsBound (map namespace_view seen) (bound_place y) (scope_at lists i))
-    → (lists : List (List NamespaceDecl)) (above : List NamespaceDecl) → AreBindingsOf (map namespace_view names) lists x → IsBound (map namespace_view names) (bound_place x) above
-    → IsEntered (entries (map namespace_view names) (reverse (slice_range ls from until))) xml above lists i → AreBindingsOf (map namespace_view names) lists y × IsBound (map namespace_view names) (bound_place y) (scope_at lists i)
-entered_in names seen ls seen_ls x y from until i xml n l f = rw (sym n, sym l) f
+    → (lists : List (List NamespaceDecl)) (above : List NamespaceDecl) → AreBindingsOf (map namespace_view namespaces) lists x → IsBound (map namespace_view namespaces) (bound_place x) above
+    → IsEntered (entries (map namespace_view namespaces) (reverse (slice_range ls from until))) xml above lists i → AreBindingsOf (map namespace_view namespaces) lists y × IsBound (map namespace_view namespaces) (bound_place y) (scope_at lists i)
+entered_in namespaces seen ls seen_ls x y from until i xml n l f = rw (sym n, sym l) f
 
-pub entered : (names : List NamespaceDecl) (listed after : List ℕ) (scopes rows : List Scope) (i own from until : ℕ) (xml : Bool) (above : List NamespaceDecl) → after ≡ listed ++ reverse (drop own listed) → from ≡ length listed → until ≡ length after
-    → IsListed names listed scopes after rows i (entries names (drop own listed) ++ others (entries names (drop own listed)) xml above)
-    → IsEntered (entries names (reverse (slice_range after from until))) xml above (lists_of names after rows) i
-entered names listed after scopes rows i own from until xml above grown begins ends x =
+pub entered : (namespaces : List NamespaceDecl) (listed after : List ℕ) (scopes rows : List Scope) (i own from until : ℕ) (xml : Bool) (above : List NamespaceDecl) → after ≡ listed ++ reverse (drop own listed) → from ≡ length listed → until ≡ length after
+    → IsListed namespaces listed scopes after rows i (entries namespaces (drop own listed) ++ others (entries namespaces (drop own listed)) xml above)
+    → IsEntered (entries namespaces (reverse (slice_range after from until))) xml above (lists_of namespaces after rows) i
+entered namespaces listed after scopes rows i own from until xml above grown begins ends x =
     let back = reverse (drop own listed) in
-    let n = length-lists names after rows in
+    let n = length-lists namespaces after rows in
     let slice : slice_range after from until ≡ back =
     ap (slice_range after from) ends ∙ slice-rest after from ∙ ap (λ k. drop k after) begins ∙ ap (drop (length listed)) grown ∙ drop-append_seam listed back in
     let mine : reverse (slice_range after from until) ≡ drop own listed = ap (reverse {A = ℕ}) slice ∙ reverse-reverse (drop own listed) in
     let here : i < length rows = x.within in
-    let within : i < length (lists_of names after rows) = omega arith in
+    let within : i < length (lists_of namespaces after rows) = omega arith in
     record {
       within = within;
-      made = scope_places names after rows i ∙ x.lists ∙ ap (λ xs. entries names xs ++ others (entries names xs) xml above) (sym mine);
+      made = scope_places namespaces after rows i ∙ x.lists ∙ ap (λ xs. entries namespaces xs ++ others (entries namespaces xs) xml above) (sym mine);
     }
 
 -- what the scope lists that has this place
@@ -172,14 +172,14 @@ pub has_scope : (o n : ElementTables) (above own i : ℕ) (xml : Bool) → n.nam
     (entries (map namespace_view o.namespaces.items.items) (drop own o.listed.items) ++ others (entries (map namespace_view o.namespaces.items.items) (drop own o.listed.items)) xml (scope_at (lists_in o) above))
     → HasScope o n above own xml i
 has_scope o n above own i xml same ok scopes le once own_once kept present x =
-    let names = map namespace_view o.namespaces.items.items in
-    let mine = entries names (drop own o.listed.items) in
+    let namespaces = map namespace_view o.namespaces.items.items in
+    let mine = entries namespaces (drop own o.listed.items) in
     let names_are = ap (λ v. map namespace_view v.items.items) same in
     let m = length-map o.namespaces.items.items namespace_view in
     let h = scopes_more own (length o.listed.items) o.scopes.items le scopes in
-    let l = lists_then names o.listed.items n.listed.items o.scopes.items n.scopes.items i (mine ++ others mine xml (scope_at (lists_in o) above)) h x in
+    let l = lists_then namespaces o.listed.items n.listed.items o.scopes.items n.scopes.items i (mine ++ others mine xml (scope_at (lists_in o) above)) h x in
     let lists : scope_at (lists_in n) i ≡ mine ++ others mine xml (scope_at (lists_in o) above) =
-    ap (λ ns. scope_at (lists_of ns n.listed.items n.scopes.items) i) names_are ∙ scope_places names n.listed.items n.scopes.items i ∙ x.lists in
+    ap (λ ns. scope_at (lists_of ns n.listed.items n.scopes.items) i) names_are ∙ scope_places namespaces n.listed.items n.scopes.items i ∙ x.lists in
     record {
       more = l.0;
       lists_more = ap (λ ns. lists_of ns n.listed.items n.scopes.items) names_are ∙ l.1;
@@ -193,10 +193,10 @@ has_scope o n above own i xml same ok scopes le once own_once kept present x =
     }
 
 -- nothing is declared
-pub nothing_listed : (names : List NamespaceDecl) (listed : List ℕ) (scopes : List Scope) (above own : ℕ) (xml : Bool) → AreScopes own scopes → own ≤ length listed → above < length scopes → length listed ≤ own → xml ≡ false
-    → IsListed names listed scopes listed scopes above (entries names (drop own listed) ++ others (entries names (drop own listed)) xml (scope_at (lists_of names listed scopes) above))
-nothing_listed names listed scopes above own xml h le lt none off =
-    let ds = scope_at (lists_of names listed scopes) above in
+pub nothing_listed : (namespaces : List NamespaceDecl) (listed : List ℕ) (scopes : List Scope) (above own : ℕ) (xml : Bool) → AreScopes own scopes → own ≤ length listed → above < length scopes → length listed ≤ own → xml ≡ false
+    → IsListed namespaces listed scopes listed scopes above (entries namespaces (drop own listed) ++ others (entries namespaces (drop own listed)) xml (scope_at (lists_of namespaces listed scopes) above))
+nothing_listed namespaces listed scopes above own xml h le lt none off =
+    let ds = scope_at (lists_of namespaces listed scopes) above in
     let nothing : drop own listed ≡ [] = drop_of_length-le listed none in
-    same_listed names listed scopes above (entries names (drop own listed) ++ others (entries names (drop own listed)) xml ds) (scopes_more own (length listed) scopes le h) lt
-    (sym (scope_places names listed scopes above) ∙ sym (ap (λ xs. entries names xs ++ others (entries names xs) xml ds) nothing ∙ ap (λ b. others [] b ds) off ∙ others_none ds))
+    same_listed namespaces listed scopes above (entries namespaces (drop own listed) ++ others (entries namespaces (drop own listed)) xml ds) (scopes_more own (length listed) scopes le h) lt
+    (sym (scope_places namespaces listed scopes above) ∙ sym (ap (λ xs. entries namespaces xs ++ others (entries namespaces xs) xml ds) nothing ∙ ap (λ b. others [] b ds) off ∙ others_none ds))

@@ -81,13 +81,13 @@ or_same true = refl
 or_same false = refl
 
 -- the declaration of `xml`
-pub declares_prefix_xml : (known : List NamespaceDecl) (before : List ℕ) (names : List NamespaceDecl) (listed : List ℕ) (xml : Bool) (a : Attribute) (h : TagSoFar) → Declares known before names listed xml h.own
+pub declares_prefix_xml : (known : List NamespaceDecl) (before : List ℕ) (namespaces : List NamespaceDecl) (listed : List ℕ) (xml : Bool) (a : Attribute) (h : TagSoFar) → Declares known before namespaces listed xml h.own
     → uri_tested a ≡ Ok tt → is_declared (namespace_decl_of a).prefix h.own ≡ false → is_xml (namespace_decl_of a).prefix ≡ true
-    → Declared known before names listed (Ok true) h (declared known a h)
-declares_prefix_xml known before names listed xml a h d uri new is =
+    → Declared known before namespaces listed (Ok true) h (declared known a h)
+declares_prefix_xml known before namespaces listed xml a h d uri new is =
     let one = namespace_decl_of a in
     let same : listable_of (h.own ++ one ∷ []) ≡ listable_of h.own = listable-push h.own one ∙ ap (λ xs. listable_of h.own ++ xs) (listable-xml one is) ∙ append-nil (listable_of h.own) in
-    let pairs : with_new known (listable_of (h.own ++ one ∷ [])) ≡ names = ap (with_new known) same ∙ sym d.names_are in (
+    let pairs : with_new known (listable_of (h.own ++ one ∷ [])) ≡ namespaces = ap (with_new known) same ∙ sym d.names_are in (
       h.own ++ one ∷ [],
       declared_new known a h uri new (rw pairs d.few),
       record {
@@ -102,20 +102,20 @@ declares_prefix_xml known before names listed xml a h d uri new is =
     )
 
 -- another one, whose place is pushed onto the listed places
-pub declares_other : (known : List NamespaceDecl) (before : List ℕ) (names next : List NamespaceDecl) (listed after : List ℕ) (xml : Bool) (a : Attribute) (h : TagSoFar) (place : ℕ)
-    → Declares known before names listed xml h.own → uri_tested a ≡ Ok tt → is_declared (namespace_decl_of a).prefix h.own ≡ false → is_xml (namespace_decl_of a).prefix ≡ false
-    → next ≡ with_new names (namespace_decl_of a ∷ []) → length next ≤ most_pairs → place < length next → namespace_at next place ≡ namespace_decl_of a → after ≡ listed ++ place ∷ []
+pub declares_other : (known : List NamespaceDecl) (before : List ℕ) (namespaces next : List NamespaceDecl) (listed after : List ℕ) (xml : Bool) (a : Attribute) (h : TagSoFar) (place : ℕ)
+    → Declares known before namespaces listed xml h.own → uri_tested a ≡ Ok tt → is_declared (namespace_decl_of a).prefix h.own ≡ false → is_xml (namespace_decl_of a).prefix ≡ false
+    → next ≡ with_new namespaces (namespace_decl_of a ∷ []) → length next ≤ most_pairs → place < length next → namespace_at next place ≡ namespace_decl_of a → after ≡ listed ++ place ∷ []
     → Declared known before next after (Ok xml) h (declared known a h)
-declares_other known before names next listed after xml a h place d uri new is grown few here at push =
+declares_other known before namespaces next listed after xml a h place d uri new is grown few here at push =
     let one = namespace_decl_of a in
     let more : listable_of (h.own ++ one ∷ []) ≡ listable_of h.own ++ one ∷ [] = listable-push h.own one ∙ ap (λ xs. listable_of h.own ++ xs) (listable-other one is) in
     let pairs : with_new known (listable_of (h.own ++ one ∷ [])) ≡ next =
     ap (with_new known) more ∙ with_new-append known (listable_of h.own) (one ∷ []) ∙ ap (λ ns. with_new ns (one ∷ [])) (sym d.names_are) ∙ sym grown in
-    let front = with_new-front names (one ∷ []) in
-    let next_is : next ≡ names ++ front.0 = grown ∙ front.1 in
-    let long : length next ≡ length names + length front.0 = ap length next_is ∙ length-append names front.0 in
-    let stays : entries next d.mine ≡ entries names d.mine =
-    ap (λ ns. entries ns d.mine) next_is ∙ map_same (namespace_at (names ++ front.0)) (namespace_at names) (λ i. i < length names) d.mine (namespace_at-append names front.0) d.places in (
+    let front = with_new-front namespaces (one ∷ []) in
+    let next_is : next ≡ namespaces ++ front.0 = grown ∙ front.1 in
+    let long : length next ≡ length namespaces + length front.0 = ap length next_is ∙ length-append namespaces front.0 in
+    let stays : entries next d.mine ≡ entries namespaces d.mine =
+    ap (λ ns. entries ns d.mine) next_is ∙ map_same (namespace_at (namespaces ++ front.0)) (namespace_at namespaces) (λ i. i < length namespaces) d.mine (namespace_at-append namespaces front.0) d.places in (
       h.own ++ one ∷ [],
       declared_new known a h uri new (rw pairs few),
       record {
@@ -124,14 +124,14 @@ declares_other known before names next listed after xml a h place d uri new is g
         xml_is = d.xml_is ∙ or_same (declares_xml h.own) ∙ sym (xml-push h.own one false is);
         mine = d.mine ++ place ∷ [];
         listed_are = push ∙ ap (λ xs. xs ++ place ∷ []) d.listed_are ∙ append_assoc before d.mine (place ∷ []);
-        places = all_append (λ i. i < length next) d.mine (place ∷ []) (all_weaker (λ i. i < length names) (λ i. i < length next) d.mine (λ i h. omega arith) d.places) (here, tt);
+        places = all_append (λ i. i < length next) d.mine (place ∷ []) (all_weaker (λ i. i < length namespaces) (λ i. i < length next) d.mine (λ i h. omega arith) d.places) (here, tt);
         same = entries-push next d.mine place ∙ ap (λ xs. xs ++ namespace_at next place ∷ []) (stays ∙ d.same) ∙ ap (λ x. listable_of h.own ++ x ∷ []) at ∙ sym more;
       },
     )
   where
-    entries-push : (names : List NamespaceDecl) (places : List ℕ) (p : ℕ) → entries names (places ++ p ∷ []) ≡ entries names places ++ namespace_at names p ∷ []
-    entries-push names [] p = refl
-    entries-push names (x ∷ xs) p = ap (λ ys. namespace_at names x ∷ ys) (entries-push names xs p)
+    entries-push : (namespaces : List NamespaceDecl) (places : List ℕ) (p : ℕ) → entries namespaces (places ++ p ∷ []) ≡ entries namespaces places ++ namespace_at namespaces p ∷ []
+    entries-push namespaces [] p = refl
+    entries-push namespaces (x ∷ xs) p = ap (λ ys. namespace_at namespaces x ∷ ys) (entries-push namespaces xs p)
 
 -- what is listed from where the tag began
 pub own_places : (before listed mine : List ℕ) (own : ℕ) → own ≡ length before → listed ≡ before ++ mine → drop own listed ≡ mine
@@ -142,35 +142,35 @@ own_places before listed mine own o l = ap (drop own) l ∙ ap (λ n. drop n (be
     dropped (x ∷ xs) ys = dropped xs ys
 
 -- those listed from where the tag began are what it declares
-pub own_listed : (known : List NamespaceDecl) (before : List ℕ) (names seen_names : List NamespaceDecl) (listed seen : List ℕ) (xml : Bool) (ds : List NamespaceDecl) (own : ℕ)
-    → own ≡ length before → seen_names ≡ names → seen ≡ listed → Declares known before names listed xml ds
+pub own_listed : (known : List NamespaceDecl) (before : List ℕ) (namespaces seen_names : List NamespaceDecl) (listed seen : List ℕ) (xml : Bool) (ds : List NamespaceDecl) (own : ℕ)
+    → own ≡ length before → seen_names ≡ namespaces → seen ≡ listed → Declares known before namespaces listed xml ds
     → entries seen_names (slice_range seen own (length seen)) ≡ listable_of ds
-own_listed known before names seen_names listed seen xml ds own o n s d =
+own_listed known before namespaces seen_names listed seen xml ds own o n s d =
     ap (λ ns. entries ns (slice_range seen own (length seen))) n
-    ∙ ap (entries names) (slice-rest seen own ∙ own_places before seen d.mine own o (s ∙ d.listed_are)) ∙ d.same
+    ∙ ap (entries namespaces) (slice-rest seen own ∙ own_places before seen d.mine own o (s ∙ d.listed_are)) ∙ d.same
 
 pub fails_by : {X Y : Type 0} (e : Failure) (r : Result X Failure) (read : Result Y Fault) → r ≡ Err e → ((f : Fault) → r ≡ Err (failure.Fault f) → read ≡ Err f) → Fails e read
 fails_by failure.Memory r read is go = tt
 fails_by (failure.Fault f) r read is go = go f is
 
 -- one pair too many
-pub many_pairs : (known : List NamespaceDecl) (before : List ℕ) (names : List NamespaceDecl) (listed : List ℕ) (xml : Bool) (a : Attribute) (h : TagSoFar)
-    → Declares known before names listed xml h.own → is_xml (namespace_decl_of a).prefix ≡ false → most_pairs < length (with_new names (namespace_decl_of a ∷ []))
+pub many_pairs : (known : List NamespaceDecl) (before : List ℕ) (namespaces : List NamespaceDecl) (listed : List ℕ) (xml : Bool) (a : Attribute) (h : TagSoFar)
+    → Declares known before namespaces listed xml h.own → is_xml (namespace_decl_of a).prefix ≡ false → most_pairs < length (with_new namespaces (namespace_decl_of a ∷ []))
     → most_pairs < length (with_new known (listable_of (h.own ++ namespace_decl_of a ∷ [])))
-many_pairs known before names listed xml a h d is many =
+many_pairs known before namespaces listed xml a h d is many =
     let one = namespace_decl_of a in
     let more : listable_of (h.own ++ one ∷ []) ≡ listable_of h.own ++ one ∷ [] = listable-push h.own one ∙ ap (λ xs. listable_of h.own ++ xs) (listable-other one is) in
-    let pairs : with_new known (listable_of (h.own ++ one ∷ [])) ≡ with_new names (one ∷ []) =
+    let pairs : with_new known (listable_of (h.own ++ one ∷ [])) ≡ with_new namespaces (one ∷ []) =
     ap (with_new known) more ∙ with_new-append known (listable_of h.own) (one ∷ []) ∙ ap (λ ns. with_new ns (one ∷ [])) (sym d.names_are) in
     rw pairs many
 
 -- the tag declares nothing
-pub nothing_declared : (known : List NamespaceDecl) (before : List ℕ) (names : List NamespaceDecl) (listed : List ℕ) (xml : Bool) (ds : List NamespaceDecl) (own : ℕ) → own ≡ length before
-    → length listed ≤ own → xml ≡ false → Declares known before names listed xml ds → ds ≡ []
-nothing_declared known before names listed xml ds own o short off d =
+pub nothing_declared : (known : List NamespaceDecl) (before : List ℕ) (namespaces : List NamespaceDecl) (listed : List ℕ) (xml : Bool) (ds : List NamespaceDecl) (own : ℕ) → own ≡ length before
+    → length listed ≤ own → xml ≡ false → Declares known before namespaces listed xml ds → ds ≡ []
+nothing_declared known before namespaces listed xml ds own o short off d =
     let n : length listed ≡ length before + length d.mine = ap length d.listed_are ∙ length-append before d.mine in
     let none : d.mine ≡ [] = empty d.mine (omega arith) in
-    declares_nothing ds (sym d.same ∙ ap (entries names) none) (sym d.xml_is ∙ off)
+    declares_nothing ds (sym d.same ∙ ap (entries namespaces) none) (sym d.xml_is ∙ off)
   where
     empty : (xs : List ℕ) → length xs ≤ 0 → xs ≡ []
     empty [] h = refl
@@ -180,11 +180,11 @@ pub lists_above : (above ds : List NamespaceDecl) → ds ≡ [] → above ≡ li
 lists_above above ds e = sym (ap (listed above) e ∙ listed-none above)
 
 -- what the scope that it makes lists
-pub scope_declared : (known : List NamespaceDecl) (before : List ℕ) (names : List NamespaceDecl) (old : List ℕ) (xml : Bool) (ds above lists : List NamespaceDecl) (own : ℕ) → own ≡ length before → Declares known before names old xml ds
-    → lists ≡ entries names (drop own old) ++ others (entries names (drop own old)) xml above → lists ≡ listed above ds
-scope_declared known before names old xml ds above lists own o d is =
+pub scope_declared : (known : List NamespaceDecl) (before : List ℕ) (namespaces : List NamespaceDecl) (old : List ℕ) (xml : Bool) (ds above lists : List NamespaceDecl) (own : ℕ) → own ≡ length before → Declares known before namespaces old xml ds
+    → lists ≡ entries namespaces (drop own old) ++ others (entries namespaces (drop own old)) xml above → lists ≡ listed above ds
+scope_declared known before namespaces old xml ds above lists own o d is =
     let mine : drop own old ≡ d.mine = own_places before old d.mine own o d.listed_are in
-    is ∙ ap (λ xs. entries names xs ++ others (entries names xs) xml above) mine ∙ ap (λ xs. xs ++ others xs xml above) d.same ∙ ap (λ b. listable_of ds ++ others (listable_of ds) b above) d.xml_is
+    is ∙ ap (λ xs. entries namespaces xs ++ others (entries namespaces xs) xml above) mine ∙ ap (λ xs. xs ++ others xs xml above) d.same ∙ ap (λ b. listable_of ds ++ others (listable_of ds) b above) d.xml_is
     ∙ sym (listed-others above ds)
 
 -- the listed places with one more, where the table has a pair more or is as before
@@ -200,36 +200,36 @@ places_after old rows listed after d place grown here push ok =
 pub remembers_after : (old rows : List Namespace) (listed : List ℕ) (d : NamespaceDecl) (own : ℕ) (keys : List Key) → map namespace_view rows ≡ with_new (map namespace_view old) (d ∷ [])
     → ArePlaces (length old) listed → IsPrefixSet (map namespace_view old) (drop own listed) keys → IsPrefixSet (map namespace_view rows) (drop own listed) keys
 remembers_after old rows listed d own keys grown ok h =
-    let names = map namespace_view old in
-    let front = with_new-front names (d ∷ []) in
+    let namespaces = map namespace_view old in
+    let front = with_new-front namespaces (d ∷ []) in
     let was = length-map old namespace_view in
-    let mine : ArePlaces (length names) (drop own listed) = rw was (all_drop (λ i. i < length old) own listed ok) in
-    let stays : entries (map namespace_view rows) (drop own listed) ≡ entries names (drop own listed) =
-    ap (λ ns. entries ns (drop own listed)) (grown ∙ front.1) ∙ map_same (namespace_at (names ++ front.0)) (namespace_at names) (λ i. i < length names) (drop own listed) (namespace_at-append names front.0) mine in
-    remembers_same names (map namespace_view rows) (drop own listed) keys stays h
+    let mine : ArePlaces (length namespaces) (drop own listed) = rw was (all_drop (λ i. i < length old) own listed ok) in
+    let stays : entries (map namespace_view rows) (drop own listed) ≡ entries namespaces (drop own listed) =
+    ap (λ ns. entries ns (drop own listed)) (grown ∙ front.1) ∙ map_same (namespace_at (namespaces ++ front.0)) (namespace_at namespaces) (λ i. i < length namespaces) (drop own listed) (namespace_at-append namespaces front.0) mine in
+    remembers_same namespaces (map namespace_view rows) (drop own listed) keys stays h
 
 -- each prefix is listed once, where one more is listed
 pub once_after : (old rows : List Namespace) (listed after : List ℕ) (d : NamespaceDecl) (place own : ℕ) → map namespace_view rows ≡ with_new (map namespace_view old) (d ∷ [])
     → after ≡ listed ++ place ∷ [] → own ≤ length listed → ArePlaces (length old) listed → namespace_at (map namespace_view rows) place ≡ d
     → is_declared d.prefix (entries (map namespace_view old) (drop own listed)) ≡ false → PrefixesOnce (entries (map namespace_view old) (drop own listed)) → PrefixesOnce (entries (map namespace_view rows) (drop own after))
 once_after old rows listed after d place own grown push own_in ok is absent once =
-    let names = map namespace_view old in
-    let front = with_new-front names (d ∷ []) in
+    let namespaces = map namespace_view old in
+    let front = with_new-front namespaces (d ∷ []) in
     let was = length-map old namespace_view in
-    let mine : ArePlaces (length names) (drop own listed) = rw was (all_drop (λ i. i < length old) own listed ok) in
-    let stays : entries (map namespace_view rows) (drop own listed) ≡ entries names (drop own listed) =
-    ap (λ ns. entries ns (drop own listed)) (grown ∙ front.1) ∙ map_same (namespace_at (names ++ front.0)) (namespace_at names) (λ i. i < length names) (drop own listed) (namespace_at-append names front.0) mine in
-    let whole : entries (map namespace_view rows) (drop own after) ≡ entries names (drop own listed) ++ d ∷ [] =
+    let mine : ArePlaces (length namespaces) (drop own listed) = rw was (all_drop (λ i. i < length old) own listed ok) in
+    let stays : entries (map namespace_view rows) (drop own listed) ≡ entries namespaces (drop own listed) =
+    ap (λ ns. entries ns (drop own listed)) (grown ∙ front.1) ∙ map_same (namespace_at (namespaces ++ front.0)) (namespace_at namespaces) (λ i. i < length namespaces) (drop own listed) (namespace_at-append namespaces front.0) mine in
+    let whole : entries (map namespace_view rows) (drop own after) ≡ entries namespaces (drop own listed) ++ d ∷ [] =
     ap (λ xs. entries (map namespace_view rows) (drop own xs)) push ∙ ap (entries (map namespace_view rows)) (drop-append-le own listed (place ∷ []) own_in)
     ∙ map-append (namespace_at (map namespace_view rows)) (drop own listed) (place ∷ [])
     ∙ ap (λ x. entries (map namespace_view rows) (drop own listed) ++ x ∷ []) is ∙ ap (λ xs. xs ++ d ∷ []) stays in
-    subst PrefixesOnce (sym whole) (once_more (entries names (drop own listed)) d once absent)
+    subst PrefixesOnce (sym whole) (once_more (entries namespaces (drop own listed)) d once absent)
 
 -- nothing is listed yet
-pub once_none : (names : List NamespaceDecl) (listed : List ℕ) (own : ℕ) → own ≡ length listed → PrefixesOnce (entries names (drop own listed))
-once_none names listed own e = subst (λ n. PrefixesOnce (entries names (drop n listed))) (sym e) (all listed)
+pub once_none : (namespaces : List NamespaceDecl) (listed : List ℕ) (own : ℕ) → own ≡ length listed → PrefixesOnce (entries namespaces (drop own listed))
+once_none namespaces listed own e = subst (λ n. PrefixesOnce (entries namespaces (drop n listed))) (sym e) (all listed)
   where
-    all : (xs : List ℕ) → PrefixesOnce (entries names (drop (length xs) xs))
+    all : (xs : List ℕ) → PrefixesOnce (entries namespaces (drop (length xs) xs))
     all [] = tt
     all (x ∷ xs) = all xs
 
@@ -252,7 +252,7 @@ lists_after old rows listed after d place own scopes grown push here ok h =
 -- the places of prefixes, where a scope is more
 pub kept_listed : (a b : ElementTables) → b.namespaces ≡ a.namespaces → b.present ≡ a.present → (more : List (List NamespaceDecl)) × (lists_in b ≡ lists_in a ++ more) → HasBindings a → HasBindings b
 kept_listed a b n p (more, l) h =
-    let names = map namespace_view a.namespaces.items.items in
+    let namespaces = map namespace_view a.namespaces.items.items in
     let next = map namespace_view b.namespaces.items.items in
-    let same : next ≡ names ++ [] = ap (λ v. map namespace_view v.items.items) n ∙ sym (append-nil names) in
-    keeps_grown names next (lists_in a) (lists_in b) b.present [] more same l (subst (AreBindingsOf names (lists_in a)) (sym p) h)
+    let same : next ≡ namespaces ++ [] = ap (λ v. map namespace_view v.items.items) n ∙ sym (append-nil namespaces) in
+    keeps_grown namespaces next (lists_in a) (lists_in b) b.present [] more same l (subst (AreBindingsOf namespaces (lists_in a)) (sym p) h)

@@ -55,8 +55,8 @@ pub finds_in : (t : ElementTables) (few : Option (Bor (List ℕ))) (scope : ℕ)
 unfolding HasBindingsOf
 finds_in t None scope few many h = finds_bound (map namespace_view t.namespaces.items.items) t.present (scope_at (lists_in t) scope) (h many)
 finds_in t (Some ps) scope few many h =
-    let names = map namespace_view t.namespaces.items.items in
-    finds_few names ps.now t.present (scope_at (lists_in t) scope) (scope_places names t.listed.items t.scopes.items scope ∙ ap (entries names) (sym few))
+    let namespaces = map namespace_view t.namespaces.items.items in
+    finds_few namespaces ps.now t.present (scope_at (lists_in t) scope) (scope_places namespaces t.listed.items t.scopes.items scope ∙ ap (entries namespaces) (sym few))
 
 -- ---- as the slices of the tables say it
 
@@ -76,6 +76,6 @@ found_for t scopes listed few scope s l =
     (subst (λ xs. IfSome few (λ p. p.now ≡ places_in xs t.scopes.items scope) → IfNone few (is_few_at t.scopes.items scope ≡ false) → HasBindingsOf t scope → FindsBinding (map namespace_view t.namespaces.items.items) (places_view few) t.present (scope_at (lists_in t) scope)) (sym l)
     (finds_in t few scope))
 
-pub seen_by : (t : ElementTables) (names : List Namespace) (few : Option (List ℕ)) (ds : List NamespaceDecl) → names ≡ t.namespaces.items.items
-    → FindsBinding (map namespace_view t.namespaces.items.items) few t.present ds → FindsBinding (map namespace_view names) few t.present ds
-seen_by t names few ds n h = subst (λ ns. FindsBinding (map namespace_view ns) few t.present ds) (sym n) h
+pub seen_by : (t : ElementTables) (namespaces : List Namespace) (few : Option (List ℕ)) (ds : List NamespaceDecl) → namespaces ≡ t.namespaces.items.items
+    → FindsBinding (map namespace_view t.namespaces.items.items) few t.present ds → FindsBinding (map namespace_view namespaces) few t.present ds
+seen_by t namespaces few ds n h = subst (λ ns. FindsBinding (map namespace_view ns) few t.present ds) (sym n) h

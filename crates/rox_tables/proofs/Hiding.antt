@@ -41,22 +41,22 @@ once_filtered f (d ∷ ds) (n, h) = one (f d) (filtered_none f d.prefix ds n) (o
     one false m r = r
 
 -- the one with this prefix is left out alone
-pub unlisted_one : (names : List NamespaceDecl) (places : List ℕ) (i : ℕ) (p : Option (List ℕ)) → PrefixesOnce (entries names places) → i < length places → same_prefix (namespace_at names (get_or places i 0)).prefix p ≡ true
-    → entries names (cut i places) ≡ unlisted p (entries names places)
-unlisted_one names [] i p h lt s = absurd (omega arith)
-unlisted_one names (x ∷ xs) zero p (n, h) lt s =
-    let same : (namespace_at names x).prefix ≡ p = same_prefix-true _ _ s in
-    rw s (sym (unlisted_none p (entries names xs) (ap (λ q. is_declared q (entries names xs)) (sym same) ∙ n)))
-unlisted_one names (x ∷ xs) (suc i) p (n, h) lt s =
-    let other : same_prefix (namespace_at names x).prefix p ≡ false = apart xs i n (omega arith) s in
+pub unlisted_one : (namespaces : List NamespaceDecl) (places : List ℕ) (i : ℕ) (p : Option (List ℕ)) → PrefixesOnce (entries namespaces places) → i < length places → same_prefix (namespace_at namespaces (get_or places i 0)).prefix p ≡ true
+    → entries namespaces (cut i places) ≡ unlisted p (entries namespaces places)
+unlisted_one namespaces [] i p h lt s = absurd (omega arith)
+unlisted_one namespaces (x ∷ xs) zero p (n, h) lt s =
+    let same : (namespace_at namespaces x).prefix ≡ p = same_prefix-true _ _ s in
+    rw s (sym (unlisted_none p (entries namespaces xs) (ap (λ q. is_declared q (entries namespaces xs)) (sym same) ∙ n)))
+unlisted_one namespaces (x ∷ xs) (suc i) p (n, h) lt s =
+    let other : same_prefix (namespace_at namespaces x).prefix p ≡ false = apart xs i n (omega arith) s in
     let next : suc i + 1 ≡ suc (i + 1) = omega arith in
-    rw (other, next) (ap (λ ys. namespace_at names x ∷ ys) (unlisted_one names xs i p h (omega arith) s))
+    rw (other, next) (ap (λ ys. namespace_at namespaces x ∷ ys) (unlisted_one namespaces xs i p h (omega arith) s))
   where
-    apart : (xs : List ℕ) (i : ℕ) → is_declared (namespace_at names x).prefix (entries names xs) ≡ false → i < length xs → same_prefix (namespace_at names (get_or xs i 0)).prefix p ≡ true → same_prefix (namespace_at names x).prefix p ≡ false
+    apart : (xs : List ℕ) (i : ℕ) → is_declared (namespace_at namespaces x).prefix (entries namespaces xs) ≡ false → i < length xs → same_prefix (namespace_at namespaces (get_or xs i 0)).prefix p ≡ true → same_prefix (namespace_at namespaces x).prefix p ≡ false
     apart [] i n lt s = absurd (omega arith)
     apart (y ∷ ys) zero n lt s =
-        let same : (namespace_at names y).prefix ≡ p = same_prefix-true _ _ s in
-        ap (same_prefix (namespace_at names x).prefix) (sym same) ∙ same_prefix-sym (namespace_at names x).prefix (namespace_at names y).prefix ∙ (or_parts _ _ n).0
+        let same : (namespace_at namespaces y).prefix ≡ p = same_prefix-true _ _ s in
+        ap (same_prefix (namespace_at namespaces x).prefix) (sym same) ∙ same_prefix-sym (namespace_at namespaces x).prefix (namespace_at namespaces y).prefix ∙ (or_parts _ _ n).0
     apart (y ∷ ys) (suc i) n lt s = apart ys i (or_parts _ _ n).1 (omega arith) s
 
 -- one more that is not declared yet

@@ -42,21 +42,21 @@ neither : (a b : Bool) → (a || b) ≡ false → (a ≡ false) × (b ≡ false)
 neither false b h = (refl, h)
 neither true b h = cc h
 
-placed : (names : List NamespaceDecl) (d : NamespaceDecl) → IfSome (place_of names d) (λ i. (i < length names) × (namespace_at names i ≡ d) × (has_pair names d ≡ true))
+placed : (namespaces : List NamespaceDecl) (d : NamespaceDecl) → IfSome (place_of namespaces d) (λ i. (i < length namespaces) × (namespace_at namespaces i ≡ d) × (has_pair namespaces d ≡ true))
 placed [] d = tt
-placed (n ∷ names) d = by (same_pair n d) refl (place_of names d) (placed names d)
+placed (n ∷ namespaces) d = by (same_pair n d) refl (place_of namespaces d) (placed namespaces d)
   where
-    by : (b : Bool) → same_pair n d ≡ b → (o : Option ℕ) → IfSome o (λ i. (i < length names) × (namespace_at names i ≡ d) × (has_pair names d ≡ true))
-        → IfSome (cond b (Some 0) (option_map suc o)) (λ i. (i < suc (length names)) × (namespace_at (n ∷ names) i ≡ d) × (has_pair (n ∷ names) d ≡ true))
+    by : (b : Bool) → same_pair n d ≡ b → (o : Option ℕ) → IfSome o (λ i. (i < length namespaces) × (namespace_at namespaces i ≡ d) × (has_pair namespaces d ≡ true))
+        → IfSome (cond b (Some 0) (option_map suc o)) (λ i. (i < suc (length namespaces)) × (namespace_at (n ∷ namespaces) i ≡ d) × (has_pair (n ∷ namespaces) d ≡ true))
     by true e o h = (omega arith, same_pair-true n d e, rw e refl)
     by false e None h = tt
     by false e (Some i) (lt, is, has) = (omega arith, is, or_right (same_pair n d) _ has)
 
-unplaced : (names : List NamespaceDecl) (d : NamespaceDecl) → IfNone (place_of names d) (has_pair names d ≡ false)
+unplaced : (namespaces : List NamespaceDecl) (d : NamespaceDecl) → IfNone (place_of namespaces d) (has_pair namespaces d ≡ false)
 unplaced [] d = refl
-unplaced (n ∷ names) d = by (same_pair n d) refl (place_of names d) (unplaced names d)
+unplaced (n ∷ namespaces) d = by (same_pair n d) refl (place_of namespaces d) (unplaced namespaces d)
   where
-    by : (b : Bool) → same_pair n d ≡ b → (o : Option ℕ) → IfNone o (has_pair names d ≡ false) → IfNone (cond b (Some 0) (option_map suc o)) (has_pair (n ∷ names) d ≡ false)
+    by : (b : Bool) → same_pair n d ≡ b → (o : Option ℕ) → IfNone o (has_pair namespaces d ≡ false) → IfNone (cond b (Some 0) (option_map suc o)) (has_pair (n ∷ namespaces) d ≡ false)
     by true e o h = tt
     by false e None h = rw (e, h) refl
     by false e (Some i) h = tt
@@ -64,8 +64,8 @@ unplaced (n ∷ names) d = by (same_pair n d) refl (place_of names d) (unplaced 
 pub placed_row : (rows : List Namespace) (d : NamespaceDecl) (i : ℕ) → Some i ≡ place_of (map namespace_view rows) d
     → (i < length rows) × (namespace_at (map namespace_view rows) i ≡ d) × (has_pair (map namespace_view rows) d ≡ true)
 placed_row rows d i e =
-    let names = map namespace_view rows in
-    let p = subst (λ (o : Option ℕ). IfSome o (λ i. (i < length names) × (namespace_at names i ≡ d) × (has_pair names d ≡ true))) (sym e) (placed names d) in
+    let namespaces = map namespace_view rows in
+    let p = subst (λ (o : Option ℕ). IfSome o (λ i. (i < length namespaces) × (namespace_at namespaces i ≡ d) × (has_pair namespaces d ≡ true))) (sym e) (placed namespaces d) in
     let l = length-map rows namespace_view in
     let lt = p.0 in
     (omega arith, p.1, p.2)
@@ -73,9 +73,9 @@ placed_row rows d i e =
 pub unplaced_row : (rows : List Namespace) (d : NamespaceDecl) → None ≡ place_of (map namespace_view rows) d → has_pair (map namespace_view rows) d ≡ false
 unplaced_row rows d e = subst (λ (o : Option ℕ). IfNone o (has_pair (map namespace_view rows) d ≡ false)) (sym e) (unplaced (map namespace_view rows) d)
 
-absent_place : (names : List NamespaceDecl) (d : NamespaceDecl) → has_pair names d ≡ false → place_of names d ≡ None
+absent_place : (namespaces : List NamespaceDecl) (d : NamespaceDecl) → has_pair namespaces d ≡ false → place_of namespaces d ≡ None
 absent_place [] d h = refl
-absent_place (n ∷ names) d h = let (one, rest) = neither (same_pair n d) (has_pair names d) h in rw (one, absent_place names d rest) refl
+absent_place (n ∷ namespaces) d h = let (one, rest) = neither (same_pair n d) (has_pair namespaces d) h in rw (one, absent_place namespaces d rest) refl
 
 -- ---- the first few of a table, and those behind them
 
@@ -84,52 +84,52 @@ inner_none None h = refl
 inner_none (Some i) h = cc h
 
 -- the first that is the same
-pub place_here : (names : List NamespaceDecl) (k : ℕ) (d : NamespaceDecl) → k < length names → place_of (take k names) d ≡ None → same_pair (namespace_at names k) d ≡ true → place_of names d ≡ Some k
+pub place_here : (namespaces : List NamespaceDecl) (k : ℕ) (d : NamespaceDecl) → k < length namespaces → place_of (take k namespaces) d ≡ None → same_pair (namespace_at namespaces k) d ≡ true → place_of namespaces d ≡ Some k
 place_here [] k d lt none same = absurd (omega arith)
-place_here (n ∷ names) zero d lt none same = rw same refl
-place_here (n ∷ names) (suc k) d lt none same = by (same_pair n d) refl (λ inner. place_here names k d (omega arith) inner same)
+place_here (n ∷ namespaces) zero d lt none same = rw same refl
+place_here (n ∷ namespaces) (suc k) d lt none same = by (same_pair n d) refl (λ inner. place_here namespaces k d (omega arith) inner same)
   where
-    by : (b : Bool) → same_pair n d ≡ b → (place_of (take k names) d ≡ None → place_of names d ≡ Some k) → place_of (n ∷ names) d ≡ Some (suc k)
+    by : (b : Bool) → same_pair n d ≡ b → (place_of (take k namespaces) d ≡ None → place_of namespaces d ≡ Some k) → place_of (n ∷ namespaces) d ≡ Some (suc k)
     by true e more = cc (rw e at none)
-    by false e more = rw (e, more (inner_none (place_of (take k names) d) (rw e at none))) refl
+    by false e more = rw (e, more (inner_none (place_of (take k namespaces) d) (rw e at none))) refl
 
 -- one more that is another
-pub place_on : (names : List NamespaceDecl) (k : ℕ) (d : NamespaceDecl) → k < length names → place_of (take k names) d ≡ None → same_pair (namespace_at names k) d ≡ false → place_of (take (suc k) names) d ≡ None
+pub place_on : (namespaces : List NamespaceDecl) (k : ℕ) (d : NamespaceDecl) → k < length namespaces → place_of (take k namespaces) d ≡ None → same_pair (namespace_at namespaces k) d ≡ false → place_of (take (suc k) namespaces) d ≡ None
 place_on [] k d lt none other = absurd (omega arith)
-place_on (n ∷ names) zero d lt none other = rw other refl
-place_on (n ∷ names) (suc k) d lt none other = by (same_pair n d) refl (λ inner. place_on names k d (omega arith) inner other)
+place_on (n ∷ namespaces) zero d lt none other = rw other refl
+place_on (n ∷ namespaces) (suc k) d lt none other = by (same_pair n d) refl (λ inner. place_on namespaces k d (omega arith) inner other)
   where
-    by : (b : Bool) → same_pair n d ≡ b → (place_of (take k names) d ≡ None → place_of (take (suc k) names) d ≡ None) → place_of (take (suc (suc k)) (n ∷ names)) d ≡ None
+    by : (b : Bool) → same_pair n d ≡ b → (place_of (take k namespaces) d ≡ None → place_of (take (suc k) namespaces) d ≡ None) → place_of (take (suc (suc k)) (n ∷ namespaces)) d ≡ None
     by true e more = cc (rw e at none)
-    by false e more = rw (e, more (inner_none (place_of (take k names) d) (rw e at none))) refl
+    by false e more = rw (e, more (inner_none (place_of (take k namespaces) d) (rw e at none))) refl
 
-pub place_front : (k : ℕ) (names : List NamespaceDecl) (d : NamespaceDecl) (i : ℕ) → place_of (take k names) d ≡ Some i → place_of names d ≡ Some i
-place_front zero names d i h = cc h
+pub place_front : (k : ℕ) (namespaces : List NamespaceDecl) (d : NamespaceDecl) (i : ℕ) → place_of (take k namespaces) d ≡ Some i → place_of namespaces d ≡ Some i
+place_front zero namespaces d i h = cc h
 place_front (suc k) [] d i h = h
-place_front (suc k) (n ∷ names) d i h = by (same_pair n d) refl (place_of (take k names) d) refl (λ j is. place_front k names d j is)
+place_front (suc k) (n ∷ namespaces) d i h = by (same_pair n d) refl (place_of (take k namespaces) d) refl (λ j is. place_front k namespaces d j is)
   where
-    by : (b : Bool) → same_pair n d ≡ b → (o : Option ℕ) → place_of (take k names) d ≡ o → ((j : ℕ) → place_of (take k names) d ≡ Some j → place_of names d ≡ Some j) → place_of (n ∷ names) d ≡ Some i
+    by : (b : Bool) → same_pair n d ≡ b → (o : Option ℕ) → place_of (take k namespaces) d ≡ o → ((j : ℕ) → place_of (take k namespaces) d ≡ Some j → place_of namespaces d ≡ Some j) → place_of (n ∷ namespaces) d ≡ Some i
     by true e o is more = rw e (rw e at h)
     by false e None is more = cc (rw (e, is) at h)
     by false e (Some j) is more = rw (e, more j is) (rw (e, is) at h)
 
-pub place_back : (k : ℕ) (names : List NamespaceDecl) (d : NamespaceDecl) → place_of (take k names) d ≡ None → place_of names d ≡ option_map (λ i. k + i) (place_of (drop k names) d)
-place_back zero names d h = same_option (place_of names d)
+pub place_back : (k : ℕ) (namespaces : List NamespaceDecl) (d : NamespaceDecl) → place_of (take k namespaces) d ≡ None → place_of namespaces d ≡ option_map (λ i. k + i) (place_of (drop k namespaces) d)
+place_back zero namespaces d h = same_option (place_of namespaces d)
   where
     same_option : (o : Option ℕ) → o ≡ option_map (λ i. zero + i) o
     same_option None = refl
     same_option (Some i) = ap Some (omega arith)
 place_back (suc k) [] d h = refl
-place_back (suc k) (n ∷ names) d h = by (same_pair n d) refl (place_of (take k names) d) refl (λ is. place_back k names d is)
+place_back (suc k) (n ∷ namespaces) d h = by (same_pair n d) refl (place_of (take k namespaces) d) refl (λ is. place_back k namespaces d is)
   where
     next : (o : Option ℕ) → option_map suc (option_map (λ i. k + i) o) ≡ option_map (λ i. suc k + i) o
     next None = refl
     next (Some i) = ap Some (omega arith)
 
-    by : (b : Bool) → same_pair n d ≡ b → (o : Option ℕ) → place_of (take k names) d ≡ o → (place_of (take k names) d ≡ None → place_of names d ≡ option_map (λ i. k + i) (place_of (drop k names) d))
-        → place_of (n ∷ names) d ≡ option_map (λ i. suc k + i) (place_of (drop k names) d)
+    by : (b : Bool) → same_pair n d ≡ b → (o : Option ℕ) → place_of (take k namespaces) d ≡ o → (place_of (take k namespaces) d ≡ None → place_of namespaces d ≡ option_map (λ i. k + i) (place_of (drop k namespaces) d))
+        → place_of (n ∷ namespaces) d ≡ option_map (λ i. suc k + i) (place_of (drop k namespaces) d)
     by true e o is more = cc (rw e at h)
-    by false e None is more = rw (e, more is) (next (place_of (drop k names) d))
+    by false e None is more = rw (e, more is) (next (place_of (drop k namespaces) d))
     by false e (Some j) is more = cc (rw (e, is) at h)
 
 -- pairs that are equal as the code compares them
@@ -143,8 +143,8 @@ pub pair_eq : (d e : NamespaceDecl) → (option_eq bytes_eq d.prefix e.prefix &&
 pair_eq d e = ap (λ b. b && bytes_eq d.uri e.uri) (prefix_eq d.prefix e.prefix)
 
 -- where nothing stands behind the first few
-pub none_behind : (names : List NamespaceDecl) (d : NamespaceDecl) → length names ≤ few_pairs → place_behind names d ≡ None
-none_behind names d few = ap (λ ds. option_map (λ i. few_pairs + i) (place_of ds d)) (drop_all few_pairs names few)
+pub none_behind : (namespaces : List NamespaceDecl) (d : NamespaceDecl) → length namespaces ≤ few_pairs → place_behind namespaces d ≡ None
+none_behind namespaces d few = ap (λ ds. option_map (λ i. few_pairs + i) (place_of ds d)) (drop_all few_pairs namespaces few)
 
 -- where few are looked for one after another, and the others behind them
 
@@ -156,18 +156,18 @@ not_in : (rows : List Namespace) (d : NamespaceDecl) (k : ℕ) → k ≤ few_pai
     → place_of (map namespace_view rows) d ≡ place_behind (map namespace_view rows) d
 not_in rows d k few all none = by (cases_lt k few_pairs)
   where
-    names : List NamespaceDecl
-    names = map namespace_view rows
+    namespaces : List NamespaceDecl
+    namespaces = map namespace_view rows
 
-    front : place_of (take k names) d ≡ None
+    front : place_of (take k namespaces) d ≡ None
     front = ap (λ ds. place_of ds d) (take-map namespace_view k rows) ∙ sym none
 
-    by : (k < few_pairs) ⊎ (few_pairs ≤ k) → place_of names d ≡ place_behind names d
+    by : (k < few_pairs) ⊎ (few_pairs ≤ k) → place_of namespaces d ≡ place_behind namespaces d
     by (inl lt) =
         let l = length-map rows namespace_view in
         let short = all lt in
-        place_back k names d front ∙ ap (λ ds. option_map (λ i. k + i) (place_of ds d)) (drop_all k names (omega arith)) ∙ sym (none_behind names d (omega arith))
-    by (inr ge) = let same : k ≡ few_pairs = omega arith in subst (λ n. place_of names d ≡ option_map (λ i. n + i) (place_of (drop n names) d)) same (place_back k names d front)
+        place_back k namespaces d front ∙ ap (λ ds. option_map (λ i. k + i) (place_of ds d)) (drop_all k namespaces (omega arith)) ∙ sym (none_behind namespaces d (omega arith))
+    by (inr ge) = let same : k ≡ few_pairs = omega arith in subst (λ n. place_of namespaces d ≡ option_map (λ i. n + i) (place_of (drop n namespaces) d)) same (place_back k namespaces d front)
 
 pub row_behind : (rows : List Namespace) (d : NamespaceDecl) (k : ℕ) (o : Option ℕ) → k ≤ few_pairs → (k < few_pairs → length rows ≤ k) → None ≡ place_of (map namespace_view (take k rows)) d
     → o ≡ place_behind (map namespace_view rows) d
@@ -182,15 +182,15 @@ row_nowhere rows d k (Some i) few all none is = tt
 
 -- ---- a new pair
 
-place_push : (names : List NamespaceDecl) (e d : NamespaceDecl) → has_pair names e ≡ false → place_of (names ++ e ∷ []) d ≡ cond (same_pair e d) (Some (length names)) (place_of names d)
+place_push : (namespaces : List NamespaceDecl) (e d : NamespaceDecl) → has_pair namespaces e ≡ false → place_of (namespaces ++ e ∷ []) d ≡ cond (same_pair e d) (Some (length namespaces)) (place_of namespaces d)
 place_push [] e d h = refl
-place_push (n ∷ names) e d h = by (same_pair n d) refl (same_pair e d) refl (place_push names e d)
+place_push (n ∷ namespaces) e d h = by (same_pair n d) refl (same_pair e d) refl (place_push namespaces e d)
   where
-    parts : (same_pair n e ≡ false) × (has_pair names e ≡ false)
-    parts = neither (same_pair n e) (has_pair names e) h
+    parts : (same_pair n e ≡ false) × (has_pair namespaces e ≡ false)
+    parts = neither (same_pair n e) (has_pair namespaces e) h
 
-    by : (a : Bool) → same_pair n d ≡ a → (b : Bool) → same_pair e d ≡ b → (has_pair names e ≡ false → place_of (names ++ e ∷ []) d ≡ cond (same_pair e d) (Some (length names)) (place_of names d))
-        → cond a (Some 0) (option_map suc (place_of (names ++ e ∷ []) d)) ≡ cond b (Some (suc (length names))) (cond a (Some 0) (option_map suc (place_of names d)))
+    by : (a : Bool) → same_pair n d ≡ a → (b : Bool) → same_pair e d ≡ b → (has_pair namespaces e ≡ false → place_of (namespaces ++ e ∷ []) d ≡ cond (same_pair e d) (Some (length namespaces)) (place_of namespaces d))
+        → cond a (Some 0) (option_map suc (place_of (namespaces ++ e ∷ []) d)) ≡ cond b (Some (suc (length namespaces))) (cond a (Some 0) (option_map suc (place_of namespaces d)))
     by true x true y more = let again : same_pair n e ≡ true = subst (λ (v : NamespaceDecl). same_pair n v ≡ true) (sym (same_pair-true e d y)) x in cc (parts.0, again)
     by true x false y more = refl
     by false x true y more = ap (option_map suc) (rw y at (more parts.1))
@@ -238,29 +238,29 @@ was_ok (Ok x) e h = h
 was_ok (Err y) e h = cc e
 
 -- none of those behind is a pair that is new
-absent_behind : (k : ℕ) (names : List NamespaceDecl) (d : NamespaceDecl) → has_pair names d ≡ false → has_pair (drop k names) d ≡ false
-absent_behind zero names d h = h
+absent_behind : (k : ℕ) (namespaces : List NamespaceDecl) (d : NamespaceDecl) → has_pair namespaces d ≡ false → has_pair (drop k namespaces) d ≡ false
+absent_behind zero namespaces d h = h
 absent_behind (suc k) [] d h = refl
-absent_behind (suc k) (n ∷ names) d h = absent_behind k names d (neither (same_pair n d) (has_pair names d) h).1
+absent_behind (suc k) (n ∷ namespaces) d h = absent_behind k namespaces d (neither (same_pair n d) (has_pair namespaces d) h).1
 
 -- the map of a table with one more behind the first few
 pub found_more : (rows : List Namespace) (row : Namespace) (es : List (Key × ℕ)) (k : Key) → few_pairs ≤ length rows → ((d : NamespaceDecl) → place_among es d ≡ place_behind (map namespace_view rows) d)
     → has_pair (map namespace_view rows) (namespace_view k.namespace) ≡ false → namespace_view row ≡ namespace_view k.namespace
     → (d : NamespaceDecl) → place_among (insert_entry key_cmp es k (length rows)) d ≡ place_behind (map namespace_view (rows ++ row ∷ [])) d
 found_more rows row es k many h absent same d =
-    let names = map namespace_view rows in
+    let namespaces = map namespace_view rows in
     let mine = namespace_view k.namespace in
-    let behind = drop few_pairs names in
+    let behind = drop few_pairs namespaces in
     let l = length-map rows namespace_view in
-    let gone = absent_behind few_pairs names mine absent in
+    let gone = absent_behind few_pairs namespaces mine absent in
     let none : place_among es mine ≡ None = h mine ∙ ap (option_map (λ i. few_pairs + i)) (absent_place behind mine gone) in
-    let rest : few_pairs + length behind ≡ length rows = let r = length-drop few_pairs names in omega arith in
+    let rest : few_pairs + length behind ≡ length rows = let r = length-drop few_pairs namespaces in omega arith in
     among_inserted k (length rows) d es none
     ∙ ap (λ o. cond (same_pair d mine) (Some (length rows)) o) (h d)
     ∙ rw (same_pair-sym d mine, sym rest) (inside (same_pair mine d) (length behind) (place_of behind d))
     ∙ sym (ap (option_map (λ i. few_pairs + i)) (place_push behind mine d gone))
-    ∙ ap (λ ds. option_map (λ i. few_pairs + i) (place_of ds d)) (sym (drop-append-le few_pairs names (mine ∷ []) (omega arith)))
-    ∙ ap (λ ds. place_behind ds d) (sym (map-append namespace_view rows (row ∷ []) ∙ ap (λ x. names ++ x ∷ []) same))
+    ∙ ap (λ ds. option_map (λ i. few_pairs + i) (place_of ds d)) (sym (drop-append-le few_pairs namespaces (mine ∷ []) (omega arith)))
+    ∙ ap (λ ds. place_behind ds d) (sym (map-append namespace_view rows (row ∷ []) ∙ ap (λ x. namespaces ++ x ∷ []) same))
   where
     inside : (b : Bool) (i : ℕ) (o : Option ℕ) → cond b (Some (few_pairs + i)) (option_map (λ j. few_pairs + j) o) ≡ option_map (λ j. few_pairs + j) (cond b (Some i) o)
     inside true i o = refl
@@ -285,6 +285,6 @@ row_last (Ok i) rows new d more last =
     let n = ap length more ∙ length-append (map namespace_view rows) (d ∷ []) in
     (omega arith, rw (more, last, ← l) (namespace_at-last (map namespace_view rows) d))
   where
-    namespace_at-last : (names : List NamespaceDecl) (d : NamespaceDecl) → namespace_at (names ++ d ∷ []) (length names) ≡ d
+    namespace_at-last : (namespaces : List NamespaceDecl) (d : NamespaceDecl) → namespace_at (namespaces ++ d ∷ []) (length namespaces) ≡ d
     namespace_at-last [] d = refl
-    namespace_at-last (n ∷ names) d = namespace_at-last names d
+    namespace_at-last (n ∷ namespaces) d = namespace_at-last namespaces d

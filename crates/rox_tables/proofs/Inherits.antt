@@ -36,11 +36,11 @@ step : (rows : List Namespace) (old : List ℕ) (own : ℕ) (xml : Bool) (from t
     ≡ others (entries (map namespace_view rows) (drop own old)) xml (entries (map namespace_view rows) (slice_range old from turn))
     ++ others (entries (map namespace_view rows) (drop own old)) xml (namespace_at (map namespace_view rows) (get_or old turn 0) ∷ [])
 step rows old own xml from turn le lt =
-    let names = map namespace_view rows in
-    let mine = entries names (drop own old) in
-    ap (λ xs. others mine xml (entries names xs)) (slice-more old from turn 0 le lt)
-    ∙ ap (others mine xml) (map-append (namespace_at names) (slice_range old from turn) (get_or old turn 0 ∷ []))
-    ∙ filter-append (λ d. not (is_declared d.prefix mine || (xml && is_xml d.prefix))) (entries names (slice_range old from turn)) (namespace_at names (get_or old turn 0) ∷ [])
+    let namespaces = map namespace_view rows in
+    let mine = entries namespaces (drop own old) in
+    ap (λ xs. others mine xml (entries namespaces xs)) (slice-more old from turn 0 le lt)
+    ∙ ap (others mine xml) (map-append (namespace_at namespaces) (slice_range old from turn) (get_or old turn 0 ∷ []))
+    ∙ filter-append (λ d. not (is_declared d.prefix mine || (xml && is_xml d.prefix))) (entries namespaces (slice_range old from turn)) (namespace_at namespaces (get_or old turn 0) ∷ [])
 
 -- it is not declared, and is listed
 pub lists : (rows : List Namespace) (old : List ℕ) (own : ℕ) (xml : Bool) (from turn end place : ℕ) (now next : List ℕ) → Inherited rows old own xml from turn end now
@@ -48,18 +48,18 @@ pub lists : (rows : List Namespace) (old : List ℕ) (own : ℕ) (xml : Bool) (f
     → (is_declared (namespace_at (map namespace_view rows) place).prefix (entries (map namespace_view rows) (drop own old)) || (xml && is_xml (namespace_at (map namespace_view rows) place).prefix)) ≡ false
     → next ≡ now ++ place ∷ [] → Inherited rows old own xml from (turn + 1) end next
 lists rows old own xml from turn end place now next h ok le lt is other push =
-    let names = map namespace_view rows in
-    let mine = entries names (drop own old) in
+    let namespaces = map namespace_view rows in
+    let mine = entries namespaces (drop own old) in
     let here : place < length rows = rw is (place_at (length rows) old turn 0 ok lt) in
-    let one : others mine xml (namespace_at names (get_or old turn 0) ∷ []) ≡ namespace_at names place ∷ [] =
-    ap (λ p. others mine xml (namespace_at names p ∷ [])) (sym is) ∙ rw other refl in
+    let one : others mine xml (namespace_at namespaces (get_or old turn 0) ∷ []) ≡ namespace_at namespaces place ∷ [] =
+    ap (λ p. others mine xml (namespace_at namespaces p ∷ [])) (sym is) ∙ rw other refl in
     record {
       end_is = h.end_is;
       more = h.more ++ place ∷ [];
       now_is = push ∙ ap (λ xs. xs ++ place ∷ []) h.now_is ∙ append_assoc old h.more (place ∷ []);
       places = all_append (λ i. i < length rows) h.more (place ∷ []) h.places (here, tt);
-      same = map-append (namespace_at names) h.more (place ∷ []) ∙ ap (λ xs. xs ++ namespace_at names place ∷ []) h.same
-          ∙ ap (λ xs. others mine xml (entries names (slice_range old from turn)) ++ xs) (sym one) ∙ sym (step rows old own xml from turn le lt);
+      same = map-append (namespace_at namespaces) h.more (place ∷ []) ∙ ap (λ xs. xs ++ namespace_at namespaces place ∷ []) h.same
+          ∙ ap (λ xs. others mine xml (entries namespaces (slice_range old from turn)) ++ xs) (sym one) ∙ sym (step rows old own xml from turn le lt);
     }
 
 -- it is declared, and is not listed
@@ -68,16 +68,16 @@ pub skips : (rows : List Namespace) (old : List ℕ) (own : ℕ) (xml : Bool) (f
     → (is_declared (namespace_at (map namespace_view rows) place).prefix (entries (map namespace_view rows) (drop own old)) || (xml && is_xml (namespace_at (map namespace_view rows) place).prefix)) ≡ true
     → Inherited rows old own xml from (turn + 1) end now
 skips rows old own xml from turn end place now h le lt is mine' =
-    let names = map namespace_view rows in
-    let mine = entries names (drop own old) in
-    let none : others mine xml (namespace_at names (get_or old turn 0) ∷ []) ≡ [] =
-    ap (λ p. others mine xml (namespace_at names p ∷ [])) (sym is) ∙ rw mine' refl in
+    let namespaces = map namespace_view rows in
+    let mine = entries namespaces (drop own old) in
+    let none : others mine xml (namespace_at namespaces (get_or old turn 0) ∷ []) ≡ [] =
+    ap (λ p. others mine xml (namespace_at namespaces p ∷ [])) (sym is) ∙ rw mine' refl in
     record {
       end_is = h.end_is;
       more = h.more;
       now_is = h.now_is;
       places = h.places;
-      same = h.same ∙ sym (step rows old own xml from turn le lt ∙ ap (λ xs. others mine xml (entries names (slice_range old from turn)) ++ xs) none ∙ append-nil _);
+      same = h.same ∙ sym (step rows old own xml from turn le lt ∙ ap (λ xs. others mine xml (entries namespaces (slice_range old from turn)) ++ xs) none ∙ append-nil _);
     }
 
 get_or-any : {A : Type 0} (xs : List A) (k : ℕ) (d e : A) → k < length xs → get_or xs k d ≡ get_or xs k e
@@ -92,14 +92,14 @@ pub looked : (rows : List Namespace) (old : List ℕ) (own : ℕ) (xml : Bool) (
     → (place ≡ get_or old turn 0)
     × (r ≡ (is_declared (namespace_at (map namespace_view rows) place).prefix (entries (map namespace_view rows) (drop own old)) || (xml && is_xml (namespace_at (map namespace_view rows) place).prefix)))
 looked rows old own xml from turn end place now seen item r h ok within lt same is test =
-    let names = map namespace_view rows in
+    let namespaces = map namespace_view rows in
     let p : place ≡ get_or old turn 0 = is ∙ ap (λ xs. get_or xs turn place) h.now_is ∙ get_or-front old h.more turn place lt ∙ get_or-any old turn place 0 lt in
     let here : place < length rows = rw p (place_at (length rows) old turn 0 ok lt) in
-    let e : namespace_at names place ≡ namespace_view (get_or rows place item) = namespace_at-get rows place item here in
+    let e : namespace_at namespaces place ≡ namespace_view (get_or rows place item) = namespace_at-get rows place item here in
     let mine : slice_range seen own end ≡ drop own old =
     ap (λ xs. slice_range xs own end) (same ∙ h.now_is) ∙ ap (slice_range (old ++ h.more) own) h.end_is
     ∙ slice-append old h.more own (length old) within (omega arith) ∙ slice-rest old own in (
       p,
-      test ∙ ap (λ xs. is_declared (namespace_view (get_or rows place item)).prefix (entries names xs) || (xml && is_xml (namespace_view (get_or rows place item)).prefix)) mine
-          ∙ ap (λ (d : NamespaceDecl). is_declared d.prefix (entries names (drop own old)) || (xml && is_xml d.prefix)) (sym e),
+      test ∙ ap (λ xs. is_declared (namespace_view (get_or rows place item)).prefix (entries namespaces xs) || (xml && is_xml (namespace_view (get_or rows place item)).prefix)) mine
+          ∙ ap (λ (d : NamespaceDecl). is_declared d.prefix (entries namespaces (drop own old)) || (xml && is_xml d.prefix)) (sym e),
     )

@@ -45,10 +45,10 @@ pub known_none : (scope : List NamespaceDecl) (n : Name) → bytes_eq n.prefix [
 known_none scope n e x h = let d = declared_none scope (Some n.prefix) h in rw (e, x, d) refl
 
 -- an element whose prefix has a URI may have its name, and is in that namespace
-pub element_some : (names scope : List NamespaceDecl) (n : Name) (place : ℕ) → bytes_eq n.prefix [] ≡ false → uri_of scope (Some n.prefix) ≡ Some (namespace_at names place).uri
-    → (Some (namespace_at names place).uri ≡ element_namespace scope n) × (may_name scope n ≡ true)
-element_some names scope n place e h =
-    let d = declared_some scope (Some n.prefix) (namespace_at names place).uri h in
+pub element_some : (namespaces scope : List NamespaceDecl) (n : Name) (place : ℕ) → bytes_eq n.prefix [] ≡ false → uri_of scope (Some n.prefix) ≡ Some (namespace_at namespaces place).uri
+    → (Some (namespace_at namespaces place).uri ≡ element_namespace scope n) × (may_name scope n ≡ true)
+element_some namespaces scope n place e h =
+    let d = declared_some scope (Some n.prefix) (namespace_at namespaces place).uri h in
     (sym h ∙ ap (uri_of scope) (sym (some_if n.prefix e)), rw (e, d) refl)
 
 -- and one whose prefix has none may not
@@ -56,18 +56,18 @@ pub element_none : (scope : List NamespaceDecl) (n : Name) → bytes_eq n.prefix
 element_none scope n e h = let d = declared_none scope (Some n.prefix) h in rw (e, d) refl
 
 -- rows of attributes have an expanded name exactly where the names have that they were made of
-pub repeated_is : (names scope : List NamespaceDecl) (s : AttributeNamespace) (n : Name) (done : List AttributeRow) (before : List Attribute)
-    → attribute_uri names s ≡ attribute_namespace scope n → map (attribute names) done ≡ map (attribute_in scope) before
-    → list_any (has_expanded names s n.local) (map (λ r. r.0) done) ≡ list_any (λ e. same_expanded scope e.name n) before
-repeated_is names scope s n [] [] is h = refl
-repeated_is names scope s n [] (b ∷ bs) is h = cc h
-repeated_is names scope s n (d ∷ ds) [] is h = cc h
-repeated_is names scope s n (d ∷ ds) (b ∷ bs) is h =
-    let first : attribute names d ≡ attribute_in scope b = cc h in
-    let rest : map (attribute names) ds ≡ map (attribute_in scope) bs = cc h in
-    let space : attribute_uri names d.0.namespace ≡ attribute_namespace scope b.name = ap (λ (r : tree.Attribute). r.namespace) first in
+pub repeated_is : (namespaces scope : List NamespaceDecl) (s : AttributeNamespace) (n : Name) (done : List AttributeRow) (before : List Attribute)
+    → attribute_uri namespaces s ≡ attribute_namespace scope n → map (attribute namespaces) done ≡ map (attribute_in scope) before
+    → list_any (has_expanded namespaces s n.local) (map (λ r. r.0) done) ≡ list_any (λ e. same_expanded scope e.name n) before
+repeated_is namespaces scope s n [] [] is h = refl
+repeated_is namespaces scope s n [] (b ∷ bs) is h = cc h
+repeated_is namespaces scope s n (d ∷ ds) [] is h = cc h
+repeated_is namespaces scope s n (d ∷ ds) (b ∷ bs) is h =
+    let first : attribute namespaces d ≡ attribute_in scope b = cc h in
+    let rest : map (attribute namespaces) ds ≡ map (attribute_in scope) bs = cc h in
+    let space : attribute_uri namespaces d.0.namespace ≡ attribute_namespace scope b.name = ap (λ (r : tree.Attribute). r.namespace) first in
     let local : d.0.local.now ≡ b.name.local = ap (λ (r : tree.Attribute). r.local) first in
-    rw (space, local, is, repeated_is names scope s n ds bs is rest) refl
+    rw (space, local, is, repeated_is namespaces scope s n ds bs is rest) refl
 
 -- ---- what a test of one name says of all
 

@@ -49,22 +49,22 @@ uri_of-append [] ys p h = refl
 uri_of-append (x ∷ xs) ys p h = chosen (same_prefix x.prefix p) _ _ _ h (λ t h. cc h) (λ f h. rw f (uri_of-append xs ys p h))
 
 -- the first of those from i on, where those before have another prefix
-pub uri_here : (names : List NamespaceDecl) (places : List ℕ) (i d : ℕ) (p : Option (List ℕ)) → i < length places → uri_of (entries names (take i places)) p ≡ None
-    → same_prefix (namespace_at names (get_or places i d)).prefix p ≡ true → uri_of (entries names places) p ≡ Some (namespace_at names (get_or places i d)).uri
-uri_here names places i d p lt none same =
+pub uri_here : (namespaces : List NamespaceDecl) (places : List ℕ) (i d : ℕ) (p : Option (List ℕ)) → i < length places → uri_of (entries namespaces (take i places)) p ≡ None
+    → same_prefix (namespace_at namespaces (get_or places i d)).prefix p ≡ true → uri_of (entries namespaces places) p ≡ Some (namespace_at namespaces (get_or places i d)).uri
+uri_here namespaces places i d p lt none same =
     let parts : places ≡ take i places ++ get_or places i d ∷ drop (i + 1) places =
     sym (take-append-drop i places) ∙ ap (λ xs. take i places ++ xs) (rw (add-one, drop-cons places i d) refl) in
-    let m : entries names places ≡ entries names (take i places) ++ (namespace_at names (get_or places i d) ∷ entries names (drop (i + 1) places)) =
-    ap (entries names) parts ∙ map-append (namespace_at names) (take i places) (get_or places i d ∷ drop (i + 1) places) in
-    ap (λ xs. uri_of xs p) m ∙ uri_of-append (entries names (take i places)) (namespace_at names (get_or places i d) ∷ entries names (drop (i + 1) places)) p none
+    let m : entries namespaces places ≡ entries namespaces (take i places) ++ (namespace_at namespaces (get_or places i d) ∷ entries namespaces (drop (i + 1) places)) =
+    ap (entries namespaces) parts ∙ map-append (namespace_at namespaces) (take i places) (get_or places i d ∷ drop (i + 1) places) in
+    ap (λ xs. uri_of xs p) m ∙ uri_of-append (entries namespaces (take i places)) (namespace_at namespaces (get_or places i d) ∷ entries namespaces (drop (i + 1) places)) p none
     ∙ rw same refl
 
-pub uri_none_more : (names : List NamespaceDecl) (places : List ℕ) (i d : ℕ) (p : Option (List ℕ)) → i < length places → uri_of (entries names (take i places)) p ≡ None
-    → same_prefix (namespace_at names (get_or places i d)).prefix p ≡ false → uri_of (entries names (take (i + 1) places)) p ≡ None
-uri_none_more names places i d p lt none other =
-    let m : entries names (take (i + 1) places) ≡ entries names (take i places) ++ namespace_at names (get_or places i d) ∷ [] =
-    ap (entries names) (take_more places i d lt) ∙ map-append (namespace_at names) (take i places) (get_or places i d ∷ []) in
-    ap (λ xs. uri_of xs p) m ∙ uri_of-append (entries names (take i places)) (namespace_at names (get_or places i d) ∷ []) p none ∙ rw other refl
+pub uri_none_more : (namespaces : List NamespaceDecl) (places : List ℕ) (i d : ℕ) (p : Option (List ℕ)) → i < length places → uri_of (entries namespaces (take i places)) p ≡ None
+    → same_prefix (namespace_at namespaces (get_or places i d)).prefix p ≡ false → uri_of (entries namespaces (take (i + 1) places)) p ≡ None
+uri_none_more namespaces places i d p lt none other =
+    let m : entries namespaces (take (i + 1) places) ≡ entries namespaces (take i places) ++ namespace_at namespaces (get_or places i d) ∷ [] =
+    ap (entries namespaces) (take_more places i d lt) ∙ map-append (namespace_at namespaces) (take i places) (get_or places i d ∷ []) in
+    ap (λ xs. uri_of xs p) m ∙ uri_of-append (entries namespaces (take i places)) (namespace_at namespaces (get_or places i d) ∷ []) p none ∙ rw other refl
 
 -- a prefix is declared exactly where it has a URI
 pub declared-uri : (ds : List NamespaceDecl) (p : Option (List ℕ)) → is_declared p ds ≡ is_some (uri_of ds p)

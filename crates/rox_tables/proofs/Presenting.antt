@@ -37,10 +37,10 @@ restored-same : (rs : List ShadowedBinding) (f g : Places) (p : Option (List ℕ
 restored-same [] f g p h = h
 restored-same (x ∷ rs) f g p h = ap (λ (v : Option ℕ). cond (same_prefix (prefix_view x.prefix) p) (bound_namespace x.before) v) (restored-same rs f g p h)
 
-bound-same : (names : List NamespaceDecl) (f g : Places) (ds : List NamespaceDecl) → ((p : Option (List ℕ)) → f p ≡ g p) → IsBound names f ds → IsBound names g ds
-bound-same names f g ds same h = record {
-  within = λ p. subst (OptionWithin (length names)) (same p) (h.within p);
-  uris = λ p. ap (option_map (λ i. (namespace_at names i).uri)) (sym (same p)) ∙ h.uris p;
+bound-same : (namespaces : List NamespaceDecl) (f g : Places) (ds : List NamespaceDecl) → ((p : Option (List ℕ)) → f p ≡ g p) → IsBound namespaces f ds → IsBound namespaces g ds
+bound-same namespaces f g ds same h = record {
+  within = λ p. subst (OptionWithin (length namespaces)) (same p) (h.within p);
+  uris = λ p. ap (option_map (λ i. (namespace_at namespaces i).uri)) (sym (same p)) ∙ h.uris p;
 }
 
 -- ---- one more is replaced
@@ -53,67 +53,67 @@ replaced_one r f g place p before is = by_cases (same_prefix (prefix_view r.pref
     by_cases true e = rw e (before ∙ ap f (same_prefix-true (prefix_view r.prefix) p e))
     by_cases false e = rw e (rw e at is)
 
-pub stacked_put : (names : List NamespaceDecl) (lists : List (List NamespaceDecl)) (es : List ShadowedBinding) (r : ShadowedBinding) (f g : Places) (place : Option ℕ) (least : ℕ) (ls : List ScopeFrame)
+pub stacked_put : (namespaces : List NamespaceDecl) (lists : List (List NamespaceDecl)) (es : List ShadowedBinding) (r : ShadowedBinding) (f g : Places) (place : Option ℕ) (least : ℕ) (ls : List ScopeFrame)
     → bound_namespace r.before ≡ f (prefix_view r.prefix) → ((p : Option (List ℕ)) → g p ≡ cond (same_prefix (prefix_view r.prefix) p) place (f p))
-    → Stacked names lists es f least ls → Stacked names lists (es ++ r ∷ []) g least ls
-stacked_put names lists es r f g place least [] before is h = tt
-stacked_put names lists es r f g place least (l ∷ ls) before is (low, high, within, bound, rest) =
+    → Stacked namespaces lists es f least ls → Stacked namespaces lists (es ++ r ∷ []) g least ls
+stacked_put namespaces lists es r f g place least [] before is h = tt
+stacked_put namespaces lists es r f g place least (l ∷ ls) before is (low, high, within, bound, rest) =
     let n = length-append es (r ∷ []) in
     let same : (p : Option (List ℕ)) → restored (drop l.count es) f p ≡ restored (drop l.count (es ++ r ∷ [])) g p = λ p.
     sym (ap (λ xs. restored xs g p) (drop-append-le l.count es (r ∷ []) high) ∙ restored-append (drop l.count es) r g p
     ∙ restored-same (drop l.count es) (restored (r ∷ []) g) f p (replaced_one r f g place p before (is p))) in
-    (low, omega arith, within, bound-same names _ _ _ same bound, stacked_put names lists es r f g place l.count ls before is rest)
+    (low, omega arith, within, bound-same namespaces _ _ _ same bound, stacked_put namespaces lists es r f g place l.count ls before is rest)
 
 -- ---- the last one is taken back
 
-pub stacked_back : (names : List NamespaceDecl) (lists : List (List NamespaceDecl)) (es : List ShadowedBinding) (r : ShadowedBinding) (f g : Places) (least : ℕ) (ls : List ScopeFrame)
+pub stacked_back : (namespaces : List NamespaceDecl) (lists : List (List NamespaceDecl)) (es : List ShadowedBinding) (r : ShadowedBinding) (f g : Places) (least : ℕ) (ls : List ScopeFrame)
     → ((p : Option (List ℕ)) → g p ≡ cond (same_prefix (prefix_view r.prefix) p) (bound_namespace r.before) (f p)) → AllByRecursion (λ l. l.count ≤ length es) ls
-    → Stacked names lists (es ++ r ∷ []) f least ls → Stacked names lists es g least ls
-stacked_back names lists es r f g least [] is few h = tt
-stacked_back names lists es r f g least (l ∷ ls) is (here, few) (low, high, within, bound, rest) =
+    → Stacked namespaces lists (es ++ r ∷ []) f least ls → Stacked namespaces lists es g least ls
+stacked_back namespaces lists es r f g least [] is few h = tt
+stacked_back namespaces lists es r f g least (l ∷ ls) is (here, few) (low, high, within, bound, rest) =
     let same : (p : Option (List ℕ)) → restored (drop l.count (es ++ r ∷ [])) f p ≡ restored (drop l.count es) g p = λ p.
     ap (λ xs. restored xs f p) (drop-append-le l.count es (r ∷ []) here) ∙ restored-append (drop l.count es) r f p
     ∙ restored-same (drop l.count es) (restored (r ∷ []) f) g p (sym (is p)) in
-    (low, here, within, bound-same names _ _ _ same bound, stacked_back names lists es r f g l.count ls is few rest)
+    (low, here, within, bound-same namespaces _ _ _ same bound, stacked_back namespaces lists es r f g l.count ls is few rest)
 
 -- ---- the innermost scope
 
-least_below : (names : List NamespaceDecl) (lists : List (List NamespaceDecl)) (es : List ShadowedBinding) (f : Places) (least : ℕ) (ls : List ScopeFrame) (l : ScopeFrame) → Stacked names lists es f least (ls ++ l ∷ []) → least ≤ l.count
-least_below names lists es f least [] l h = h.0
-least_below names lists es f least (x ∷ ls) l h = let a = h.0 in let b = least_below names lists es f x.count ls l h.4 in omega arith
+least_below : (namespaces : List NamespaceDecl) (lists : List (List NamespaceDecl)) (es : List ShadowedBinding) (f : Places) (least : ℕ) (ls : List ScopeFrame) (l : ScopeFrame) → Stacked namespaces lists es f least (ls ++ l ∷ []) → least ≤ l.count
+least_below namespaces lists es f least [] l h = h.0
+least_below namespaces lists es f least (x ∷ ls) l h = let a = h.0 in let b = least_below namespaces lists es f x.count ls l h.4 in omega arith
 
 -- it has the most before it
-pub counts_below : (names : List NamespaceDecl) (lists : List (List NamespaceDecl)) (es : List ShadowedBinding) (f : Places) (least n : ℕ) (ls : List ScopeFrame) (l : ScopeFrame) → l.count ≤ n → Stacked names lists es f least (ls ++ l ∷ [])
+pub counts_below : (namespaces : List NamespaceDecl) (lists : List (List NamespaceDecl)) (es : List ShadowedBinding) (f : Places) (least n : ℕ) (ls : List ScopeFrame) (l : ScopeFrame) → l.count ≤ n → Stacked namespaces lists es f least (ls ++ l ∷ [])
     → AllByRecursion (λ x. x.count ≤ n) (ls ++ l ∷ [])
-counts_below names lists es f least n [] l le h = (le, tt)
-counts_below names lists es f least n (x ∷ ls) l le h =
-    let b = least_below names lists es f x.count ls l h.4 in
-    (omega arith, counts_below names lists es f x.count n ls l le h.4)
+counts_below namespaces lists es f least n [] l le h = (le, tt)
+counts_below namespaces lists es f least n (x ∷ ls) l le h =
+    let b = least_below namespaces lists es f x.count ls l h.4 in
+    (omega arith, counts_below namespaces lists es f x.count n ls l le h.4)
 
-pub stacked_pop : (names : List NamespaceDecl) (lists : List (List NamespaceDecl)) (es : List ShadowedBinding) (f : Places) (least : ℕ) (ls : List ScopeFrame) (l : ScopeFrame) → Stacked names lists es f least (ls ++ l ∷ []) → Stacked names lists es f least ls
-stacked_pop names lists es f least [] l h = tt
-stacked_pop names lists es f least (x ∷ ls) l (low, high, within, bound, rest) = (low, high, within, bound, stacked_pop names lists es f x.count ls l rest)
+pub stacked_pop : (namespaces : List NamespaceDecl) (lists : List (List NamespaceDecl)) (es : List ShadowedBinding) (f : Places) (least : ℕ) (ls : List ScopeFrame) (l : ScopeFrame) → Stacked namespaces lists es f least (ls ++ l ∷ []) → Stacked namespaces lists es f least ls
+stacked_pop namespaces lists es f least [] l h = tt
+stacked_pop namespaces lists es f least (x ∷ ls) l (low, high, within, bound, rest) = (low, high, within, bound, stacked_pop namespaces lists es f x.count ls l rest)
 
-pub stacked_popped : (names : List NamespaceDecl) (lists : List (List NamespaceDecl)) (es : List ShadowedBinding) (f : Places) (ls : List ScopeFrame) (o : Option ScopeFrame) → Stacked names lists es f 0 (ls ++ option_to_list o) → Stacked names lists es f 0 ls
-stacked_popped names lists es f ls None h = subst (Stacked names lists es f 0) (append-nil ls) h
-stacked_popped names lists es f ls (Some l) h = stacked_pop names lists es f 0 ls l h
+pub stacked_popped : (namespaces : List NamespaceDecl) (lists : List (List NamespaceDecl)) (es : List ShadowedBinding) (f : Places) (ls : List ScopeFrame) (o : Option ScopeFrame) → Stacked namespaces lists es f 0 (ls ++ option_to_list o) → Stacked namespaces lists es f 0 ls
+stacked_popped namespaces lists es f ls None h = subst (Stacked namespaces lists es f 0) (append-nil ls) h
+stacked_popped namespaces lists es f ls (Some l) h = stacked_pop namespaces lists es f 0 ls l h
 
 -- its places are these, where nothing was replaced behind it
-pub stacked_last : (names : List NamespaceDecl) (lists : List (List NamespaceDecl)) (es : List ShadowedBinding) (f : Places) (least : ℕ) (ls : List ScopeFrame) (l : ScopeFrame) → l.count ≡ length es → Stacked names lists es f least (ls ++ l ∷ [])
-    → IsBound names f (scope_at lists l.scope)
-stacked_last names lists es f least [] l e h =
+pub stacked_last : (namespaces : List NamespaceDecl) (lists : List (List NamespaceDecl)) (es : List ShadowedBinding) (f : Places) (least : ℕ) (ls : List ScopeFrame) (l : ScopeFrame) → l.count ≡ length es → Stacked namespaces lists es f least (ls ++ l ∷ [])
+    → IsBound namespaces f (scope_at lists l.scope)
+stacked_last namespaces lists es f least [] l e h =
     let none : drop l.count es ≡ [] = drop_of_length-le es (omega arith) in
-    bound-same names (restored (drop l.count es) f) f _ (λ p. ap (λ xs. restored xs f p) none) h.3
-stacked_last names lists es f least (x ∷ ls) l e h = stacked_last names lists es f x.count ls l e h.4
+    bound-same namespaces (restored (drop l.count es) f) f _ (λ p. ap (λ xs. restored xs f p) none) h.3
+stacked_last namespaces lists es f least (x ∷ ls) l e h = stacked_last namespaces lists es f x.count ls l e h.4
 
-pub stacked_push : (names : List NamespaceDecl) (lists : List (List NamespaceDecl)) (es : List ShadowedBinding) (f : Places) (least : ℕ) (ls : List ScopeFrame) (l : ScopeFrame) → l.count ≡ length es → least ≤ length es
-    → l.scope < length lists → IsBound names f (scope_at lists l.scope)
-    → Stacked names lists es f least ls → Stacked names lists es f least (ls ++ l ∷ [])
-stacked_push names lists es f least [] l e low within bound h =
+pub stacked_push : (namespaces : List NamespaceDecl) (lists : List (List NamespaceDecl)) (es : List ShadowedBinding) (f : Places) (least : ℕ) (ls : List ScopeFrame) (l : ScopeFrame) → l.count ≡ length es → least ≤ length es
+    → l.scope < length lists → IsBound namespaces f (scope_at lists l.scope)
+    → Stacked namespaces lists es f least ls → Stacked namespaces lists es f least (ls ++ l ∷ [])
+stacked_push namespaces lists es f least [] l e low within bound h =
     let none : drop l.count es ≡ [] = drop_of_length-le es (omega arith) in
-    (omega arith, omega arith, within, bound-same names f (restored (drop l.count es) f) _ (λ p. ap (λ xs. restored xs f p) (sym none)) bound, tt)
-stacked_push names lists es f least (x ∷ ls) l e low within bound (a, b, w, x-bound, rest) =
-    (a, b, w, x-bound, stacked_push names lists es f x.count ls l e b within bound rest)
+    (omega arith, omega arith, within, bound-same namespaces f (restored (drop l.count es) f) _ (λ p. ap (λ xs. restored xs f p) (sym none)) bound, tt)
+stacked_push namespaces lists es f least (x ∷ ls) l e low within bound (a, b, w, x-bound, rest) =
+    (a, b, w, x-bound, stacked_push namespaces lists es f x.count ls l e b within bound rest)
 
 -- ---- a prefix that is given a place
 
@@ -166,15 +166,15 @@ innermost_at ls l count scope same = innermost_last ls l count scope ∙ ap (λ 
 pub innermost_not : (ls : List ScopeFrame) (l : ScopeFrame) (count scope : ℕ) → l.count ≢ count → is_innermost (ls ++ l ∷ []) count scope ≡ false
 innermost_not ls l count scope other = innermost_last ls l count scope ∙ ap (λ (b : Bool). b && (l.scope == scope)) (ne_eqb l.count count other)
 
-pub keeps_by : (names : List NamespaceDecl) (lists : List (List NamespaceDecl)) (x : PrefixBindings) (es : List ShadowedBinding) (ls : List ScopeFrame) → x.replaced.items ≡ es → x.layers.items ≡ ls
-    → Stacked names lists es (bound_place x) 0 ls → AreBindingsOf names lists x
-keeps_by names lists x es ls e l h =
-    record { stacked = subst (λ xs. Stacked names lists xs (bound_place x) 0 x.layers.items) (sym e) (subst (λ ys. Stacked names lists es (bound_place x) 0 ys) (sym l) h) }
+pub keeps_by : (namespaces : List NamespaceDecl) (lists : List (List NamespaceDecl)) (x : PrefixBindings) (es : List ShadowedBinding) (ls : List ScopeFrame) → x.replaced.items ≡ es → x.layers.items ≡ ls
+    → Stacked namespaces lists es (bound_place x) 0 ls → AreBindingsOf namespaces lists x
+keeps_by namespaces lists x es ls e l h =
+    record { stacked = subst (λ xs. Stacked namespaces lists xs (bound_place x) 0 x.layers.items) (sym e) (subst (λ ys. Stacked namespaces lists es (bound_place x) 0 ys) (sym l) h) }
 
 -- ---- what is found of a list
 
-pub bound_uris : (names : List NamespaceDecl) (f : Places) (ds es : List NamespaceDecl) → ((p : Option (List ℕ)) → uri_of ds p ≡ uri_of es p) → IsBound names f ds → IsBound names f es
-bound_uris names f ds es same h = record { within = h.within; uris = λ p. h.uris p ∙ same p }
+pub bound_uris : (namespaces : List NamespaceDecl) (f : Places) (ds es : List NamespaceDecl) → ((p : Option (List ℕ)) → uri_of ds p ≡ uri_of es p) → IsBound namespaces f ds → IsBound namespaces f es
+bound_uris namespaces f ds es same h = record { within = h.within; uris = λ p. h.uris p ∙ same p }
 
 -- the first of two that is there
 abbrev first : Option (List ℕ) → Option (List ℕ) → Option (List ℕ)
@@ -209,29 +209,29 @@ uri_filter test (d ∷ ds) p = by_cases (test d.prefix) (same_prefix d.prefix p)
     by_cases true false t s h = rw (t, s) h
     by_cases false false t s h = rw (t, s) h
 
-pub bound_hidden : (names ds : List NamespaceDecl) (f g : Places) → ((p : Option (List ℕ)) → g p ≡ cond (same_prefix (Some (word_text Xml)) p) None (f p)) → IsBound names f ds
-    → IsBound names g (filter (λ d. not (true && is_xml d.prefix)) ds)
-bound_hidden names ds f g is h = record {
-  within = λ p. subst (OptionWithin (length names)) (sym (is p)) (hidden (same_prefix (Some (word_text Xml)) p) (f p) (h.within p));
-  uris = λ p. ap (option_map (λ i. (namespace_at names i).uri)) (is p) ∙ mapped (same_prefix (Some (word_text Xml)) p) (f p)
+pub bound_hidden : (namespaces ds : List NamespaceDecl) (f g : Places) → ((p : Option (List ℕ)) → g p ≡ cond (same_prefix (Some (word_text Xml)) p) None (f p)) → IsBound namespaces f ds
+    → IsBound namespaces g (filter (λ d. not (true && is_xml d.prefix)) ds)
+bound_hidden namespaces ds f g is h = record {
+  within = λ p. subst (OptionWithin (length namespaces)) (sym (is p)) (hidden (same_prefix (Some (word_text Xml)) p) (f p) (h.within p));
+  uris = λ p. ap (option_map (λ i. (namespace_at namespaces i).uri)) (is p) ∙ mapped (same_prefix (Some (word_text Xml)) p) (f p)
       ∙ ap (λ u. cond (same_prefix (Some (word_text Xml)) p) None u) (h.uris p) ∙ ap (λ b. cond b None (uri_of ds p)) (same_prefix-sym (Some (word_text Xml)) p)
       ∙ sym (uri_filter (λ q. true && is_xml q) ds p);
 }
   where
-    hidden : (b : Bool) (o : Option ℕ) → OptionWithin (length names) o → OptionWithin (length names) (cond b None o)
+    hidden : (b : Bool) (o : Option ℕ) → OptionWithin (length namespaces) o → OptionWithin (length namespaces) (cond b None o)
     hidden true o h = tt
     hidden false o h = h
 
-    mapped : (b : Bool) (o : Option ℕ) → option_map (λ i. (namespace_at names i).uri) (cond b None o) ≡ cond b None (option_map (λ i. (namespace_at names i).uri) o)
+    mapped : (b : Bool) (o : Option ℕ) → option_map (λ i. (namespace_at namespaces i).uri) (cond b None o) ≡ cond b None (option_map (λ i. (namespace_at namespaces i).uri) o)
     mapped true o = refl
     mapped false o = refl
 
-pub bound_unhidden : (names ds : List NamespaceDecl) (f : Places) → IsBound names f ds → IsBound names f (filter (λ d. not (false && is_xml d.prefix)) ds)
-bound_unhidden names ds f h = bound_uris names f ds _ (λ p. sym (uri_filter (λ q. false && is_xml q) ds p)) h
+pub bound_unhidden : (namespaces ds : List NamespaceDecl) (f : Places) → IsBound namespaces f ds → IsBound namespaces f (filter (λ d. not (false && is_xml d.prefix)) ds)
+bound_unhidden namespaces ds f h = bound_uris namespaces f ds _ (λ p. sym (uri_filter (λ q. false && is_xml q) ds p)) h
 
 -- what is hidden either way
-pub bound_others : (names own ds : List NamespaceDecl) (xml : Bool) (f : Places) → IsBound names f (own ++ filter (λ d. not (xml && is_xml d.prefix)) ds) → IsBound names f (own ++ others own xml ds)
-bound_others names own ds xml f h = bound_uris names f _ _ same h
+pub bound_others : (namespaces own ds : List NamespaceDecl) (xml : Bool) (f : Places) → IsBound namespaces f (own ++ filter (λ d. not (xml && is_xml d.prefix)) ds) → IsBound namespaces f (own ++ others own xml ds)
+bound_others namespaces own ds xml f h = bound_uris namespaces f _ _ same h
   where
     rest : (p : Option (List ℕ)) (o : Option (List ℕ)) → uri_of own p ≡ o → first o (uri_of (filter (λ d. not (xml && is_xml d.prefix)) ds) p) ≡ first o (uri_of (others own xml ds) p)
     rest p (Some u) e = refl
@@ -243,19 +243,19 @@ bound_others names own ds xml f h = bound_uris names f _ _ same h
     same p = uri_first own _ p ∙ rest p (uri_of own p) refl ∙ sym (uri_first own _ p)
 
 -- one more in front
-pub bound_more : (names ds : List NamespaceDecl) (f g : Places) (place : ℕ) → place < length names → ((p : Option (List ℕ)) → g p ≡ cond (same_prefix (namespace_at names place).prefix p) (Some place) (f p))
-    → IsBound names f ds → IsBound names g (namespace_at names place ∷ ds)
-bound_more names ds f g place here is h = record {
-  within = λ p. subst (OptionWithin (length names)) (sym (is p)) (inside (same_prefix (namespace_at names place).prefix p) (f p) (h.within p));
-  uris = λ p. ap (option_map (λ i. (namespace_at names i).uri)) (is p) ∙ mapped (same_prefix (namespace_at names place).prefix p) (f p)
-      ∙ ap (λ u. cond (same_prefix (namespace_at names place).prefix p) (Some (namespace_at names place).uri) u) (h.uris p);
+pub bound_more : (namespaces ds : List NamespaceDecl) (f g : Places) (place : ℕ) → place < length namespaces → ((p : Option (List ℕ)) → g p ≡ cond (same_prefix (namespace_at namespaces place).prefix p) (Some place) (f p))
+    → IsBound namespaces f ds → IsBound namespaces g (namespace_at namespaces place ∷ ds)
+bound_more namespaces ds f g place here is h = record {
+  within = λ p. subst (OptionWithin (length namespaces)) (sym (is p)) (inside (same_prefix (namespace_at namespaces place).prefix p) (f p) (h.within p));
+  uris = λ p. ap (option_map (λ i. (namespace_at namespaces i).uri)) (is p) ∙ mapped (same_prefix (namespace_at namespaces place).prefix p) (f p)
+      ∙ ap (λ u. cond (same_prefix (namespace_at namespaces place).prefix p) (Some (namespace_at namespaces place).uri) u) (h.uris p);
 }
   where
-    inside : (b : Bool) (o : Option ℕ) → OptionWithin (length names) o → OptionWithin (length names) (cond b (Some place) o)
+    inside : (b : Bool) (o : Option ℕ) → OptionWithin (length namespaces) o → OptionWithin (length namespaces) (cond b (Some place) o)
     inside true o h = here
     inside false o h = h
 
-    mapped : (b : Bool) (o : Option ℕ) → option_map (λ i. (namespace_at names i).uri) (cond b (Some place) o) ≡ cond b (Some (namespace_at names place).uri) (option_map (λ i. (namespace_at names i).uri) o)
+    mapped : (b : Bool) (o : Option ℕ) → option_map (λ i. (namespace_at namespaces i).uri) (cond b (Some place) o) ≡ cond b (Some (namespace_at namespaces place).uri) (option_map (λ i. (namespace_at namespaces i).uri) o)
     mapped true o = refl
     mapped false o = refl
 
@@ -268,35 +268,35 @@ pub bound_here : (rows : List Namespace) (listed : List ℕ) (i : ℕ) (item : N
     → ((p : Option (List ℕ)) → g p ≡ cond (same_prefix (namespace_view (get_or rows (get_or listed i 0) item)).prefix p) (Some (get_or listed i 0)) (f p))
     → IsBound (map namespace_view rows) f ds → IsBound (map namespace_view rows) g (namespace_at (map namespace_view rows) (get_or listed i 0) ∷ ds)
 bound_here rows listed i item ds f g ok inside is h =
-    let names = map namespace_view rows in
+    let namespaces = map namespace_view rows in
     let place = get_or listed i 0 in
     let here : place < length rows = place_at (length rows) listed i 0 ok inside in
-    let here2 : place < length names = rw (length-map rows namespace_view) here in
-    let e : namespace_view (get_or rows place item) ≡ namespace_at names place = sym (namespace_at-get rows place item here) in
-    bound_more names _ f g place here2 (λ p. is p ∙ ap (λ (d : NamespaceDecl). cond (same_prefix d.prefix p) (Some place) (f p)) e) h
+    let here2 : place < length namespaces = rw (length-map rows namespace_view) here in
+    let e : namespace_view (get_or rows place item) ≡ namespace_at namespaces place = sym (namespace_at-get rows place item here) in
+    bound_more namespaces _ f g place here2 (λ p. is p ∙ ap (λ (d : NamespaceDecl). cond (same_prefix d.prefix p) (Some place) (f p)) e) h
 
 -- from the back of these places on: none, one more, all
-pub bound_none : (names : List NamespaceDecl) (places : List ℕ) (f : Places) → IsBound names f [] → IsBound names f (entries names (drop (length places - 0) places))
-bound_none names places f h =
+pub bound_none : (namespaces : List NamespaceDecl) (places : List ℕ) (f : Places) → IsBound namespaces f [] → IsBound namespaces f (entries namespaces (drop (length places - 0) places))
+bound_none namespaces places f h =
     let none : drop (length places - 0) places ≡ [] = drop_of_length-le places (omega arith) in
-    subst (λ xs. IsBound names f (entries names xs)) (sym none) h
+    subst (λ xs. IsBound namespaces f (entries namespaces xs)) (sym none) h
 
-pub bound_from : (names : List NamespaceDecl) (places : List ℕ) (turn : ℕ) (g : Places) (place : ℕ) → turn < length places → place ≡ get_or places (length places - 1 - turn) 0
-    → IsBound names g (namespace_at names place ∷ entries names (drop (length places - turn) places)) → IsBound names g (entries names (drop (length places - (turn + 1)) places))
-bound_from names places turn g place lt at h =
+pub bound_from : (namespaces : List NamespaceDecl) (places : List ℕ) (turn : ℕ) (g : Places) (place : ℕ) → turn < length places → place ≡ get_or places (length places - 1 - turn) 0
+    → IsBound namespaces g (namespace_at namespaces place ∷ entries namespaces (drop (length places - turn) places)) → IsBound namespaces g (entries namespaces (drop (length places - (turn + 1)) places))
+bound_from namespaces places turn g place lt at h =
     let i = length places - 1 - turn in
     let inside : i < length places = omega arith in
     let first : length places - (turn + 1) ≡ i = omega arith in
     let then : length places - turn ≡ i + 1 = omega arith in
-    let all : entries names (drop (length places - (turn + 1)) places) ≡ namespace_at names place ∷ entries names (drop (length places - turn) places) =
-    ap (λ k. entries names (drop k places)) first ∙ ap (entries names) (drop_one places i 0 inside) ∙ ap (λ p. namespace_at names p ∷ entries names (drop (i + 1) places)) (sym at)
-    ∙ ap (λ k. namespace_at names place ∷ entries names (drop k places)) (sym then) in
-    subst (IsBound names g) (sym all) h
+    let all : entries namespaces (drop (length places - (turn + 1)) places) ≡ namespace_at namespaces place ∷ entries namespaces (drop (length places - turn) places) =
+    ap (λ k. entries namespaces (drop k places)) first ∙ ap (entries namespaces) (drop_one places i 0 inside) ∙ ap (λ p. namespace_at namespaces p ∷ entries namespaces (drop (i + 1) places)) (sym at)
+    ∙ ap (λ k. namespace_at namespaces place ∷ entries namespaces (drop k places)) (sym then) in
+    subst (IsBound namespaces g) (sym all) h
 
-pub bound_all : (names : List NamespaceDecl) (places : List ℕ) (turn : ℕ) (f : Places) → length places ≤ turn → IsBound names f (entries names (drop (length places - turn) places)) → IsBound names f (entries names places)
-bound_all names places turn f le h =
+pub bound_all : (namespaces : List NamespaceDecl) (places : List ℕ) (turn : ℕ) (f : Places) → length places ≤ turn → IsBound namespaces f (entries namespaces (drop (length places - turn) places)) → IsBound namespaces f (entries namespaces places)
+bound_all namespaces places turn f le h =
     let none : length places - turn ≡ 0 = omega arith in
-    subst (λ n. IsBound names f (entries names (drop n places))) none h
+    subst (λ n. IsBound namespaces f (entries namespaces (drop n places))) none h
 
 -- a stretch from its back: nothing, and one more
 pub reverse_none : (xs : List ℕ) (i : ℕ) → reverse (slice_range xs i i) ≡ []
@@ -307,39 +307,39 @@ reverse_more xs i j le lt = ap reverse (slice-more xs i j 0 le lt) ∙ reverse-a
 
 -- ---- tables that grow
 
-bound_grown : (names more : List NamespaceDecl) (f : Places) (ds : List NamespaceDecl) → IsBound names f ds → IsBound (names ++ more) f ds
-bound_grown names more f ds h = record {
+bound_grown : (namespaces more : List NamespaceDecl) (f : Places) (ds : List NamespaceDecl) → IsBound namespaces f ds → IsBound (namespaces ++ more) f ds
+bound_grown namespaces more f ds h = record {
   within = λ p. inside (f p) (h.within p);
   uris = λ p. same (f p) (h.within p) ∙ h.uris p;
 }
   where
-    inside : (o : Option ℕ) → OptionWithin (length names) o → OptionWithin (length (names ++ more)) o
+    inside : (o : Option ℕ) → OptionWithin (length namespaces) o → OptionWithin (length (namespaces ++ more)) o
     inside None w = tt
-    inside (Some i) w = let n = length-append names more in omega arith
+    inside (Some i) w = let n = length-append namespaces more in omega arith
 
-    same : (o : Option ℕ) → OptionWithin (length names) o → option_map (λ i. (namespace_at (names ++ more) i).uri) o ≡ option_map (λ i. (namespace_at names i).uri) o
+    same : (o : Option ℕ) → OptionWithin (length namespaces) o → option_map (λ i. (namespace_at (namespaces ++ more) i).uri) o ≡ option_map (λ i. (namespace_at namespaces i).uri) o
     same None w = refl
-    same (Some i) w = ap (λ (d : NamespaceDecl). Some d.uri) (namespace_at-append names more i w)
+    same (Some i) w = ap (λ (d : NamespaceDecl). Some d.uri) (namespace_at-append namespaces more i w)
 
-stacked_grown : (names more : List NamespaceDecl) (lists more-lists : List (List NamespaceDecl)) (es : List ShadowedBinding) (f : Places) (least : ℕ) (ls : List ScopeFrame)
-    → Stacked names lists es f least ls → Stacked (names ++ more) (lists ++ more-lists) es f least ls
-stacked_grown names more lists more-lists es f least [] h = tt
-stacked_grown names more lists more-lists es f least (l ∷ ls) (low, high, within, bound, rest) =
+stacked_grown : (namespaces more : List NamespaceDecl) (lists more-lists : List (List NamespaceDecl)) (es : List ShadowedBinding) (f : Places) (least : ℕ) (ls : List ScopeFrame)
+    → Stacked namespaces lists es f least ls → Stacked (namespaces ++ more) (lists ++ more-lists) es f least ls
+stacked_grown namespaces more lists more-lists es f least [] h = tt
+stacked_grown namespaces more lists more-lists es f least (l ∷ ls) (low, high, within, bound, rest) =
     let n = length-append lists more-lists in
     let same : scope_at (lists ++ more-lists) l.scope ≡ scope_at lists l.scope = scope_at-append lists more-lists l.scope within in (
       low,
       high,
       omega arith,
-      subst (IsBound (names ++ more) (restored (drop l.count es) f)) (sym same) (bound_grown names more (restored (drop l.count es) f) (scope_at lists l.scope) bound),
-      stacked_grown names more lists more-lists es f l.count ls rest,
+      subst (IsBound (namespaces ++ more) (restored (drop l.count es) f)) (sym same) (bound_grown namespaces more (restored (drop l.count es) f) (scope_at lists l.scope) bound),
+      stacked_grown namespaces more lists more-lists es f l.count ls rest,
     )
 
 -- the same scopes, in tables that have grown
-pub keeps_grown : (names next : List NamespaceDecl) (lists after : List (List NamespaceDecl)) (x : PrefixBindings) (more : List NamespaceDecl) (more-lists : List (List NamespaceDecl)) → next ≡ names ++ more
-    → after ≡ lists ++ more-lists → AreBindingsOf names lists x → AreBindingsOf next after x
-keeps_grown names next lists after x more more-lists n l h = record {
+pub keeps_grown : (namespaces next : List NamespaceDecl) (lists after : List (List NamespaceDecl)) (x : PrefixBindings) (more : List NamespaceDecl) (more-lists : List (List NamespaceDecl)) → next ≡ namespaces ++ more
+    → after ≡ lists ++ more-lists → AreBindingsOf namespaces lists x → AreBindingsOf next after x
+keeps_grown namespaces next lists after x more more-lists n l h = record {
   stacked = subst (λ ns. Stacked ns after x.replaced.items (bound_place x) 0 x.layers.items) (sym n)
-      (subst (λ xs. Stacked (names ++ more) xs x.replaced.items (bound_place x) 0 x.layers.items) (sym l) (stacked_grown names more lists more-lists x.replaced.items (bound_place x) 0 x.layers.items h.stacked));
+      (subst (λ xs. Stacked (namespaces ++ more) xs x.replaced.items (bound_place x) 0 x.layers.items) (sym l) (stacked_grown namespaces more lists more-lists x.replaced.items (bound_place x) 0 x.layers.items h.stacked));
 }
 
 -- ---- what is looked up
@@ -353,9 +353,9 @@ looked_few rows places p None there absent = (tt, sym absent)
 looked_few rows places p (Some i) there absent = (there.0, sym there.1)
 
 -- by the places of prefixes
-pub finds_bound : (names : List NamespaceDecl) (x : PrefixBindings) (ds : List NamespaceDecl) → IsBound names (bound_place x) ds → FindsBinding names None x ds
-finds_bound names x ds h = record { uris = h.uris }
+pub finds_bound : (namespaces : List NamespaceDecl) (x : PrefixBindings) (ds : List NamespaceDecl) → IsBound namespaces (bound_place x) ds → FindsBinding namespaces None x ds
+finds_bound namespaces x ds h = record { uris = h.uris }
 
 -- among the places that are listed
-pub finds_few : (names : List NamespaceDecl) (places : List ℕ) (x : PrefixBindings) (ds : List NamespaceDecl) → ds ≡ entries names places → FindsBinding names (Some places) x ds
-finds_few names places x ds is = record { uris = λ p. ap (λ xs. uri_of xs p) (sym is) }
+pub finds_few : (namespaces : List NamespaceDecl) (places : List ℕ) (x : PrefixBindings) (ds : List NamespaceDecl) → ds ≡ entries namespaces places → FindsBinding namespaces (Some places) x ds
+finds_few namespaces places x ds is = record { uris = λ p. ap (λ xs. uri_of xs p) (sym is) }

@@ -67,29 +67,29 @@ has_inserted [] k p = or_swap (same_prefix (prefix_view k) p) false
 has_inserted (x ∷ xs) k p = with_key xs x k p (key_cmp k x) refl (has_inserted xs k p)
 
 -- few are not kept
-pub remembers_few : (names : List NamespaceDecl) (places : List ℕ) (keys : List Key) → length places < 17 → IsPrefixSet names places keys
+pub remembers_few : (namespaces : List NamespaceDecl) (places : List ℕ) (keys : List Key) → length places < 17 → IsPrefixSet namespaces places keys
 unfolding IsPrefixSet
-remembers_few names places keys short = λ many. absurd (omega arith)
+remembers_few namespaces places keys short = λ many. absurd (omega arith)
 
-pub remembers_many : (names : List NamespaceDecl) (places : List ℕ) (keys : List Key) → ((p : Option (List ℕ)) → has_prefix p keys ≡ is_declared p (entries names places)) → IsPrefixSet names places keys
+pub remembers_many : (namespaces : List NamespaceDecl) (places : List ℕ) (keys : List Key) → ((p : Option (List ℕ)) → has_prefix p keys ≡ is_declared p (entries namespaces places)) → IsPrefixSet namespaces places keys
 unfolding IsPrefixSet
-remembers_many names places keys h = λ many. h
+remembers_many namespaces places keys h = λ many. h
 
-pub remembered : (names : List NamespaceDecl) (places : List ℕ) (keys : List Key) (p : Option (List ℕ)) → IsPrefixSet names places keys → 16 < length places → has_prefix p keys ≡ is_declared p (entries names places)
+pub remembered : (namespaces : List NamespaceDecl) (places : List ℕ) (keys : List Key) (p : Option (List ℕ)) → IsPrefixSet namespaces places keys → 16 < length places → has_prefix p keys ≡ is_declared p (entries namespaces places)
 unfolding IsPrefixSet
-remembered names places keys p h many = h many p
+remembered namespaces places keys p h many = h many p
 
 -- the same places in a table that has grown
-pub remembers_same : (names more : List NamespaceDecl) (places : List ℕ) (keys : List Key) → entries more places ≡ entries names places → IsPrefixSet names places keys → IsPrefixSet more places keys
+pub remembers_same : (namespaces more : List NamespaceDecl) (places : List ℕ) (keys : List Key) → entries more places ≡ entries namespaces places → IsPrefixSet namespaces places keys → IsPrefixSet more places keys
 unfolding IsPrefixSet
-remembers_same names more places keys e h = λ many p. h many p ∙ ap (is_declared p) (sym e)
+remembers_same namespaces more places keys e h = λ many p. h many p ∙ ap (is_declared p) (sym e)
 
 -- one more place
-pub declared_push : (names : List NamespaceDecl) (places : List ℕ) (place : ℕ) (p : Option (List ℕ))
-    → is_declared p (entries names (places ++ place ∷ [])) ≡ (is_declared p (entries names places) || same_prefix (namespace_at names place).prefix p)
-declared_push names places place p =
-    ap (is_declared p) (map-append (namespace_at names) places (place ∷ [])) ∙ list_any-append (λ d. same_prefix d.prefix p) (entries names places) (namespace_at names place ∷ [])
-    ∙ ap (λ b. is_declared p (entries names places) || b) (or_last (same_prefix (namespace_at names place).prefix p))
+pub declared_push : (namespaces : List NamespaceDecl) (places : List ℕ) (place : ℕ) (p : Option (List ℕ))
+    → is_declared p (entries namespaces (places ++ place ∷ [])) ≡ (is_declared p (entries namespaces places) || same_prefix (namespace_at namespaces place).prefix p)
+declared_push namespaces places place p =
+    ap (is_declared p) (map-append (namespace_at namespaces) places (place ∷ [])) ∙ list_any-append (λ d. same_prefix d.prefix p) (entries namespaces places) (namespace_at namespaces place ∷ [])
+    ∙ ap (λ b. is_declared p (entries namespaces places) || b) (or_last (same_prefix (namespace_at namespaces place).prefix p))
   where
     or_last : (b : Bool) → (b || false) ≡ b
     or_last true = refl
@@ -102,30 +102,30 @@ pub declared_next : (rows : List Namespace) (places : List ℕ) (i : ℕ) (item 
     → next ≡ (old || is_declared p (entries (map namespace_view rows) (take (i + 1) places)))
 declared_next rows places i item p old now next ok lt before more =
     let place = get_or places i 0 in
-    let names = map namespace_view rows in
+    let namespaces = map namespace_view rows in
     let one = same_prefix (namespace_view (get_or rows place item)).prefix p in
-    let e : namespace_at names place ≡ namespace_view (get_or rows place item) = namespace_at-get rows place item (place_at (length rows) places i 0 ok lt) in
-    let all : is_declared p (entries names (take (i + 1) places)) ≡ (is_declared p (entries names (take i places)) || one) =
-    ap (λ xs. is_declared p (entries names xs)) (take_more places i 0 lt) ∙ declared_push names (take i places) place p
-    ∙ ap (λ (d : NamespaceDecl). is_declared p (entries names (take i places)) || same_prefix d.prefix p) e in
+    let e : namespace_at namespaces place ≡ namespace_view (get_or rows place item) = namespace_at-get rows place item (place_at (length rows) places i 0 ok lt) in
+    let all : is_declared p (entries namespaces (take (i + 1) places)) ≡ (is_declared p (entries namespaces (take i places)) || one) =
+    ap (λ xs. is_declared p (entries namespaces xs)) (take_more places i 0 lt) ∙ declared_push namespaces (take i places) place p
+    ∙ ap (λ (d : NamespaceDecl). is_declared p (entries namespaces (take i places)) || same_prefix d.prefix p) e in
     more ∙ ap (λ b. b || one) before ∙ sym (or_assoc old _ one) ∙ ap (λ b. old || b) (sym all)
 
 -- a set of all of them
-pub remembers_all : (names : List NamespaceDecl) (places : List ℕ) (empty keys : List Key) → empty ≡ []
-    → ((p : Option (List ℕ)) → has_prefix p keys ≡ (has_prefix p empty || is_declared p (entries names places))) → IsPrefixSet names places keys
+pub remembers_all : (namespaces : List NamespaceDecl) (places : List ℕ) (empty keys : List Key) → empty ≡ []
+    → ((p : Option (List ℕ)) → has_prefix p keys ≡ (has_prefix p empty || is_declared p (entries namespaces places))) → IsPrefixSet namespaces places keys
 unfolding IsPrefixSet
-remembers_all names places empty keys e h = λ many p. h p ∙ ap (λ ks. has_prefix p ks || is_declared p (entries names places)) e
+remembers_all namespaces places empty keys e h = λ many p. h p ∙ ap (λ ks. has_prefix p ks || is_declared p (entries namespaces places)) e
 
 -- a set with one more of many
-pub remembers_more : (names : List NamespaceDecl) (before own : List ℕ) (place : ℕ) (prefix : Option (List ℕ)) (old keys : List Key)
-    → own ≡ before ++ place ∷ [] → (namespace_at names place).prefix ≡ prefix → 17 < length own → IsPrefixSet names before old
-    → ((p : Option (List ℕ)) → has_prefix p keys ≡ (has_prefix p old || same_prefix prefix p)) → IsPrefixSet names own keys
+pub remembers_more : (namespaces : List NamespaceDecl) (before own : List ℕ) (place : ℕ) (prefix : Option (List ℕ)) (old keys : List Key)
+    → own ≡ before ++ place ∷ [] → (namespace_at namespaces place).prefix ≡ prefix → 17 < length own → IsPrefixSet namespaces before old
+    → ((p : Option (List ℕ)) → has_prefix p keys ≡ (has_prefix p old || same_prefix prefix p)) → IsPrefixSet namespaces own keys
 unfolding IsPrefixSet
-remembers_more names before own place prefix old keys is at long h more = λ many p.
+remembers_more namespaces before own place prefix old keys is at long h more = λ many p.
     let n : length own ≡ length before + 1 = ap length is ∙ length-append before (place ∷ []) in
-    more p ∙ ap (λ b. b || same_prefix prefix p) (h (omega arith) p) ∙ ap (λ q. is_declared p (entries names before) || same_prefix q p) (sym at)
-    ∙ sym (declared_push names before place p) ∙ ap (λ xs. is_declared p (entries names xs)) (sym is)
+    more p ∙ ap (λ b. b || same_prefix prefix p) (h (omega arith) p) ∙ ap (λ q. is_declared p (entries namespaces before) || same_prefix q p) (sym at)
+    ∙ sym (declared_push namespaces before place p) ∙ ap (λ xs. is_declared p (entries namespaces xs)) (sym is)
 
 -- nothing is declared yet
-pub remembers_none : (names : List NamespaceDecl) (listed : List ℕ) (own : ℕ) (keys : List Key) → own ≡ length listed → IsPrefixSet names (drop own listed) keys
-remembers_none names listed own keys e = remembers_few names (drop own listed) keys (rw length-drop (omega arith))
+pub remembers_none : (namespaces : List NamespaceDecl) (listed : List ℕ) (own : ℕ) (keys : List Key) → own ≡ length listed → IsPrefixSet namespaces (drop own listed) keys
+remembers_none namespaces listed own keys e = remembers_few namespaces (drop own listed) keys (rw length-drop (omega arith))

@@ -29,8 +29,8 @@ pub record Moving (n : ℕ) (initial : List UnresolvedAttribute) (old : List Att
   pub long : length now ≡ length initial
 
 -- In this scope the rows show these attributes, and those from k on are still to be tested.
-pub record Resolving (names scope : List NamespaceDecl) (initial : List UnresolvedAttribute) (old : List AttributeRow) (k : ℕ) (table : List AttributeRow) : Type 0 where
-  pub shown : map (attribute names) (drop (length old) table) ≡ map (attribute_in scope) (map unresolved_view (take k initial))
+pub record Resolving (namespaces scope : List NamespaceDecl) (initial : List UnresolvedAttribute) (old : List AttributeRow) (k : ℕ) (table : List AttributeRow) : Type 0 where
+  pub shown : map (attribute namespaces) (drop (length old) table) ≡ map (attribute_in scope) (map unresolved_view (take k initial))
   pub tested : names_tested scope [] (map unresolved_view initial) ≡ names_tested scope (map unresolved_view (take k initial)) (map unresolved_view (drop k initial))
 
 -- no name is left to be tested
@@ -42,17 +42,17 @@ behind : (old done table : List AttributeRow) → table ≡ old ++ done → drop
 behind old done table is = ap (drop (length old)) is ∙ drop-append_seam old done
 
 -- where all are moved
-pub ends : (n : ℕ) (names scope : List NamespaceDecl) (initial : List UnresolvedAttribute) (old : List AttributeRow) (k : ℕ) (now : List UnresolvedAttribute) (table : List AttributeRow)
-    → Moving n initial old k now table → Resolving names scope initial old k table → length initial ≤ k
+pub ends : (n : ℕ) (namespaces scope : List NamespaceDecl) (initial : List UnresolvedAttribute) (old : List AttributeRow) (k : ℕ) (now : List UnresolvedAttribute) (table : List AttributeRow)
+    → Moving n initial old k now table → Resolving namespaces scope initial old k table → length initial ≤ k
     → (names_tested scope [] (map unresolved_view initial) ≡ Ok tt)
     × ((more : List AttributeRow) × (table ≡ old ++ more)
-    × (map (attribute names) more ≡ map (attribute_in scope) (map unresolved_view initial))
+    × (map (attribute namespaces) more ≡ map (attribute_in scope) (map unresolved_view initial))
     × AllByRecursion (λ a. NamespaceWithin n a.0.namespace) more)
-ends n names scope initial old k now table m h le =
+ends n namespaces scope initial old k now table m h le =
     let all : take k initial ≡ initial = take_all k initial le in
     let none : drop k initial ≡ [] = drop_of_length-le initial le in (
       h.tested ∙ ap (λ xs. names_tested scope (map unresolved_view (take k initial)) (map unresolved_view xs)) none ∙ nothing_left scope (map unresolved_view (take k initial)),
-      (m.done, m.table_is, ap (map (attribute names)) (sym (behind old m.done table m.table_is)) ∙ h.shown ∙ ap (λ xs. map (attribute_in scope) (map unresolved_view xs)) all, m.within),
+      (m.done, m.table_is, ap (map (attribute namespaces)) (sym (behind old m.done table m.table_is)) ∙ h.shown ∙ ap (λ xs. map (attribute_in scope) (map unresolved_view xs)) all, m.within),
     )
 
 -- the attribute that stands at k
@@ -76,19 +76,19 @@ stands_at initial now k t left long lt is =
     }
 
 -- a name that is refused is that of the fault of all
-pub refuses : (n : ℕ) (names scope : List NamespaceDecl) (initial : List UnresolvedAttribute) (old : List AttributeRow) (k : ℕ) (now : List UnresolvedAttribute) (table : List AttributeRow) (t : UnresolvedAttribute) (f : Fault)
-    → Moving n initial old k now table → Resolving names scope initial old k table → k < length now → t ≡ get_or now k t
-    → ((before rest : List Attribute) → map (attribute names) (drop (length old) table) ≡ map (attribute_in scope) before → names_tested scope before (unresolved_view t ∷ rest) ≡ Err f)
+pub refuses : (n : ℕ) (namespaces scope : List NamespaceDecl) (initial : List UnresolvedAttribute) (old : List AttributeRow) (k : ℕ) (now : List UnresolvedAttribute) (table : List AttributeRow) (t : UnresolvedAttribute) (f : Fault)
+    → Moving n initial old k now table → Resolving namespaces scope initial old k table → k < length now → t ≡ get_or now k t
+    → ((before rest : List Attribute) → map (attribute namespaces) (drop (length old) table) ≡ map (attribute_in scope) before → names_tested scope before (unresolved_view t ∷ rest) ≡ Err f)
     → names_tested scope [] (map unresolved_view initial) ≡ Err f
-refuses n names scope initial old k now table t f m h lt is step =
+refuses n namespaces scope initial old k now table t f m h lt is step =
     let st = stands_at initial now k t m.left m.long lt is in
     h.tested ∙ ap (λ ys. names_tested scope (map unresolved_view (take k initial)) (map unresolved_view ys)) st.rest
     ∙ step (map unresolved_view (take k initial)) (map unresolved_view (drop (k + 1) initial)) h.shown
 
 -- the row of an attribute shows it
-row_shown : (names scope : List NamespaceDecl) (t : UnresolvedAttribute) (s : AttributeNamespace) → attribute_uri names s ≡ attribute_namespace scope (name_view t.name)
-    → attribute names (row_of_unresolved t s) ≡ attribute_in scope (unresolved_view t)
-row_shown names scope t s h = ap (λ (o : Option (List ℕ)).
+row_shown : (namespaces scope : List NamespaceDecl) (t : UnresolvedAttribute) (s : AttributeNamespace) → attribute_uri namespaces s ≡ attribute_namespace scope (name_view t.name)
+    → attribute namespaces (row_of_unresolved t s) ≡ attribute_in scope (unresolved_view t)
+row_shown namespaces scope t s h = ap (λ (o : Option (List ℕ)).
     let r : tree.Attribute = record { start = t.start; name_end = t.name_end; value_start = t.value_start; end = t.end; namespace = o; local = t.name.local.now; value = storage_bytes t.value; borrowed = is_borrowed t.value } in r) h
 
 -- one more attribute that is moved
@@ -106,15 +106,15 @@ moves n initial old k now table t u x s row more m lt is within made grown =
     }
 
 -- and tested
-pub resolves : (n : ℕ) (names scope : List NamespaceDecl) (initial : List UnresolvedAttribute) (old : List AttributeRow) (k : ℕ) (now : List UnresolvedAttribute) (table : List AttributeRow)
+pub resolves : (n : ℕ) (namespaces scope : List NamespaceDecl) (initial : List UnresolvedAttribute) (old : List AttributeRow) (k : ℕ) (now : List UnresolvedAttribute) (table : List AttributeRow)
     (t u : UnresolvedAttribute) (s : AttributeNamespace) (row : AttributeRow) (more : List AttributeRow)
-    → Moving n initial old k now table → Resolving names scope initial old k table → k < length now → t ≡ get_or now k t
-    → ((before rest : List Attribute) → map (attribute names) (drop (length old) table) ≡ map (attribute_in scope) before
+    → Moving n initial old k now table → Resolving namespaces scope initial old k table → k < length now → t ≡ get_or now k t
+    → ((before rest : List Attribute) → map (attribute namespaces) (drop (length old) table) ≡ map (attribute_in scope) before
     → names_tested scope before (unresolved_view t ∷ rest) ≡ names_tested scope (before ++ unresolved_view t ∷ []) rest)
-    → attribute_uri names s ≡ attribute_namespace scope (name_view t.name)
+    → attribute_uri namespaces s ≡ attribute_namespace scope (name_view t.name)
     → u ≡ get_or now k u → row ≡ row_of_unresolved u s → more ≡ table ++ row ∷ []
-    → Resolving names scope initial old (k + 1) more
-resolves n names scope initial old k now table t u s row more m h lt is step space looked made grown =
+    → Resolving namespaces scope initial old (k + 1) more
+resolves n namespaces scope initial old k now table t u s row more m h lt is step space looked made grown =
     let st = stands_at initial now k t m.left m.long lt is in
     let before = map unresolved_view (take k initial) in
     let rest = map unresolved_view (drop (k + 1) initial) in
@@ -126,8 +126,8 @@ resolves n names scope initial old k now table t u s row more m h lt is step spa
     behind old (m.done ++ row ∷ []) more (grown ∙ ap (λ xs. xs ++ row ∷ []) m.table_is ∙ append_assoc old m.done (row ∷ []))
     ∙ ap (λ xs. xs ++ row ∷ []) (sym (behind old m.done table m.table_is)) in
     record {
-      shown = ap (map (attribute names)) now_behind ∙ map-append (attribute names) (drop (length old) table) (row ∷ []) ∙ ap (λ xs. xs ++ attribute names row ∷ []) h.shown
-          ∙ ap (λ (r : tree.Attribute). map (attribute_in scope) before ++ r ∷ []) (ap (attribute names) made_of ∙ row_shown names scope t s space)
+      shown = ap (map (attribute namespaces)) now_behind ∙ map-append (attribute namespaces) (drop (length old) table) (row ∷ []) ∙ ap (λ xs. xs ++ attribute namespaces row ∷ []) h.shown
+          ∙ ap (λ (r : tree.Attribute). map (attribute_in scope) before ++ r ∷ []) (ap (attribute namespaces) made_of ∙ row_shown namespaces scope t s space)
           ∙ sym (map-append (attribute_in scope) before (unresolved_view t ∷ [])) ∙ ap (map (attribute_in scope)) (sym views);
       tested = h.tested ∙ ap (λ ys. names_tested scope before (map unresolved_view ys)) st.rest
           ∙ step before rest h.shown
@@ -144,16 +144,16 @@ starts n initial old = record {
   long = refl;
 }
 
-pub resolves_first : (names scope : List NamespaceDecl) (initial : List UnresolvedAttribute) (old : List AttributeRow) → Resolving names scope initial old 0 old
-resolves_first names scope initial old = record { shown = ap (map (attribute names)) (behind old [] old (sym (append-nil old))); tested = refl }
+pub resolves_first : (namespaces scope : List NamespaceDecl) (initial : List UnresolvedAttribute) (old : List AttributeRow) → Resolving namespaces scope initial old 0 old
+resolves_first namespaces scope initial old = record { shown = ap (map (attribute namespaces)) (behind old [] old (sym (append-nil old))); tested = refl }
 
 -- why a name is not taken is why all are not, unless memory ran out
-pub refuses_or : (n : ℕ) (names scope : List NamespaceDecl) (initial : List UnresolvedAttribute) (old : List AttributeRow) (k : ℕ) (now : List UnresolvedAttribute) (table : List AttributeRow) (t : UnresolvedAttribute) (e : Failure)
-    → Moving n initial old k now table → Resolving names scope initial old k table → k < length now → t ≡ get_or now k t
-    → ((before rest : List Attribute) → map (attribute names) (drop (length old) table) ≡ map (attribute_in scope) before → Fails e (names_tested scope before (unresolved_view t ∷ rest)))
+pub refuses_or : (n : ℕ) (namespaces scope : List NamespaceDecl) (initial : List UnresolvedAttribute) (old : List AttributeRow) (k : ℕ) (now : List UnresolvedAttribute) (table : List AttributeRow) (t : UnresolvedAttribute) (e : Failure)
+    → Moving n initial old k now table → Resolving namespaces scope initial old k table → k < length now → t ≡ get_or now k t
+    → ((before rest : List Attribute) → map (attribute namespaces) (drop (length old) table) ≡ map (attribute_in scope) before → Fails e (names_tested scope before (unresolved_view t ∷ rest)))
     → Fails e (names_tested scope [] (map unresolved_view initial))
-refuses_or n names scope initial old k now table t failure.Memory m h lt is step = tt
-refuses_or n names scope initial old k now table t (failure.Fault f) m h lt is step = refuses n names scope initial old k now table t f m h lt is step
+refuses_or n namespaces scope initial old k now table t failure.Memory m h lt is step = tt
+refuses_or n namespaces scope initial old k now table t (failure.Fault f) m h lt is step = refuses n namespaces scope initial old k now table t f m h lt is step
 
 -- what is read again is the same
 pub read_again : (now : List UnresolvedAttribute) (k : ℕ) (t u : UnresolvedAttribute) → k < length now → t ≡ get_or now k t → u ≡ get_or now k u → u ≡ t

@@ -51,13 +51,13 @@ pub length-places : (listed : List ℕ) (scopes : List Scope) → length (places
 length-places listed scopes = let f = places_front listed [] scopes in ap length f.1 ∙ f.2
 
 -- how many there are
-pub length-lists : (names : List NamespaceDecl) (ls : List ℕ) (scopes : List Scope) → length (lists_of names ls scopes) ≡ length scopes
-length-lists names ls scopes = length-map (places_of ls scopes) (map (namespace_at names)) ∙ length-places ls scopes
+pub length-lists : (namespaces : List NamespaceDecl) (ls : List ℕ) (scopes : List Scope) → length (lists_of namespaces ls scopes) ≡ length scopes
+length-lists namespaces ls scopes = length-map (places_of ls scopes) (map (namespace_at namespaces)) ∙ length-places ls scopes
 
-pub lists-grown : (names : List NamespaceDecl) (ls : List ℕ) (scopes more : List Scope) → (rest : List (List NamespaceDecl)) × (lists_of names ls (scopes ++ more) ≡ lists_of names ls scopes ++ rest)
-lists-grown names ls scopes more =
+pub lists-grown : (namespaces : List NamespaceDecl) (ls : List ℕ) (scopes more : List Scope) → (rest : List (List NamespaceDecl)) × (lists_of namespaces ls (scopes ++ more) ≡ lists_of namespaces ls scopes ++ rest)
+lists-grown namespaces ls scopes more =
     let g = places-grown ls scopes more in
-    (map (map (namespace_at names)) g.0, ap (map (map (namespace_at names))) g.1 ∙ map-append (map (namespace_at names)) (places_of ls scopes) g.0)
+    (map (map (namespace_at namespaces)) g.0, ap (map (map (namespace_at namespaces))) g.1 ∙ map-append (map (namespace_at namespaces)) (places_of ls scopes) g.0)
 
 pub places_in-grown : (ls : List ℕ) (scopes more : List Scope) (i : ℕ) → i < length scopes → places_in ls (scopes ++ more) i ≡ places_in ls scopes i
 places_in-grown ls scopes more i h =
@@ -66,10 +66,10 @@ places_in-grown ls scopes more i h =
     ap (λ xs. listed_at xs i) g.1 ∙ listed_at-append (places_of ls scopes) g.0 i (omega arith)
 
 -- what a scope lists stands at its places
-pub scope_places : (names : List NamespaceDecl) (ls : List ℕ) (scopes : List Scope) (i : ℕ) → scope_at (lists_of names ls scopes) i ≡ entries names (places_in ls scopes i)
-scope_places names ls scopes i = each (places_of ls scopes) i
+pub scope_places : (namespaces : List NamespaceDecl) (ls : List ℕ) (scopes : List Scope) (i : ℕ) → scope_at (lists_of namespaces ls scopes) i ≡ entries namespaces (places_in ls scopes i)
+scope_places namespaces ls scopes i = each (places_of ls scopes) i
   where
-    each : (ps : List (List ℕ)) (i : ℕ) → scope_at (map (map (namespace_at names)) ps) i ≡ entries names (listed_at ps i)
+    each : (ps : List (List ℕ)) (i : ℕ) → scope_at (map (map (namespace_at namespaces)) ps) i ≡ entries namespaces (listed_at ps i)
     each [] i = refl
     each (p ∷ ps) zero = refl
     each (p ∷ ps) (suc i) = each ps i
@@ -241,8 +241,8 @@ places-listed ls more done (s ∷ ss) (p, h) = ap (λ x. places_on (ls ++ more) 
 pub places_in-listed : (ls more : List ℕ) (scopes : List Scope) (i : ℕ) → AreScopes (length ls) scopes → places_in (ls ++ more) scopes i ≡ places_in ls scopes i
 places_in-listed ls more scopes i h = ap (λ xs. listed_at xs i) (places-listed ls more [] scopes h.within)
 
-pub lists-listed : (names : List NamespaceDecl) (ls more : List ℕ) (scopes : List Scope) → AreScopes (length ls) scopes → lists_of names (ls ++ more) scopes ≡ lists_of names ls scopes
-lists-listed names ls more scopes h = ap (map (map (namespace_at names))) (places-listed ls more [] scopes h.within)
+pub lists-listed : (namespaces : List NamespaceDecl) (ls more : List ℕ) (scopes : List Scope) → AreScopes (length ls) scopes → lists_of namespaces (ls ++ more) scopes ≡ lists_of namespaces ls scopes
+lists-listed namespaces ls more scopes h = ap (map (map (namespace_at namespaces))) (places-listed ls more [] scopes h.within)
 
 pub all_reverse : (n : ℕ) (xs : List ℕ) → ArePlaces n xs → ArePlaces n (reverse xs)
 all_reverse n [] h = tt
@@ -267,14 +267,14 @@ pub all_places : (n : ℕ) (ls : List ℕ) (scopes : List Scope) (i : ℕ) → A
 all_places n ls scopes i h = all_at n (places_of ls scopes) i (places_on_places n ls [] scopes h tt)
 
 -- what scopes list stays as the table of namespaces grows
-lists-names : (names more : List NamespaceDecl) (ls : List ℕ) (scopes : List Scope) → ArePlaces (length names) ls → lists_of (names ++ more) ls scopes ≡ lists_of names ls scopes
-lists-names names more ls scopes h =
-    map_same (map (namespace_at (names ++ more))) (map (namespace_at names)) (ArePlaces (length names)) (places_of ls scopes)
-    (λ xs a. map_same (namespace_at (names ++ more)) (namespace_at names) (λ i. i < length names) xs (namespace_at-append names more) a) (places_on_places (length names) ls [] scopes h tt)
+lists-namespaces : (namespaces more : List NamespaceDecl) (ls : List ℕ) (scopes : List Scope) → ArePlaces (length namespaces) ls → lists_of (namespaces ++ more) ls scopes ≡ lists_of namespaces ls scopes
+lists-namespaces namespaces more ls scopes h =
+    map_same (map (namespace_at (namespaces ++ more))) (map (namespace_at namespaces)) (ArePlaces (length namespaces)) (places_of ls scopes)
+    (λ xs a. map_same (namespace_at (namespaces ++ more)) (namespace_at namespaces) (λ i. i < length namespaces) xs (namespace_at-append namespaces more) a) (places_on_places (length namespaces) ls [] scopes h tt)
 
-pub lists-append : (names more : List NamespaceDecl) (ls moreL : List ℕ) (scopes : List Scope) → ArePlaces (length names) ls → AreScopes (length ls) scopes
-    → lists_of (names ++ more) (ls ++ moreL) scopes ≡ lists_of names ls scopes
-lists-append names more ls moreL scopes all h = lists-listed (names ++ more) ls moreL scopes h ∙ lists-names names more ls scopes all
+pub lists-append : (namespaces more : List NamespaceDecl) (ls moreL : List ℕ) (scopes : List Scope) → ArePlaces (length namespaces) ls → AreScopes (length ls) scopes
+    → lists_of (namespaces ++ more) (ls ++ moreL) scopes ≡ lists_of namespaces ls scopes
+lists-append namespaces more ls moreL scopes all h = lists-listed (namespaces ++ more) ls moreL scopes h ∙ lists-namespaces namespaces more ls scopes all
 
 -- ---- rows made from others
 

@@ -83,26 +83,26 @@ any_inserted cmp P [] k h = or_swap (P k) false
 any_inserted cmp P (x ∷ xs) k h = one_more cmp P xs x k (cmp k x) refl (no_first _ _ h) (any_inserted cmp P xs k (or_no _ _ h))
 
 -- no attribute, no key
-pub sees_none : (names : List NamespaceDecl) (keys : List Key) → keys ≡ [] → HasExpandedNames names keys []
+pub sees_none : (namespaces : List NamespaceDecl) (keys : List Key) → keys ≡ [] → HasExpandedNames namespaces keys []
 unfolding HasExpandedNames
-sees_none names keys e = λ local uri. ap (has_key local uri) e
+sees_none namespaces keys e = λ local uri. ap (has_key local uri) e
 
 -- what a set answers of a name
-pub sees_is : (names : List NamespaceDecl) (keys : List Key) (done : List AttributeData) (s : AttributeNamespace) (local : List ℕ) (uri : Option (List ℕ)) → HasExpandedNames names keys done → uri ≡ attribute_uri names s
-    → has_key local uri keys ≡ list_any (has_expanded names s local) done
+pub sees_is : (namespaces : List NamespaceDecl) (keys : List Key) (done : List AttributeData) (s : AttributeNamespace) (local : List ℕ) (uri : Option (List ℕ)) → HasExpandedNames namespaces keys done → uri ≡ attribute_uri namespaces s
+    → has_key local uri keys ≡ list_any (has_expanded namespaces s local) done
 unfolding HasExpandedNames
-sees_is names keys done s local uri h is = h local uri ∙ ap (λ (u : Option (List ℕ)). list_any (λ a. same_prefix (attribute_uri names a.namespace) u && bytes_eq a.local.now local) done) is
+sees_is namespaces keys done s local uri h is = h local uri ∙ ap (λ (u : Option (List ℕ)). list_any (λ a. same_prefix (attribute_uri namespaces a.namespace) u && bytes_eq a.local.now local) done) is
 
 -- one more
-pub sees_more : (names : List NamespaceDecl) (keys more : List Key) (done : List AttributeData) (a : AttributeData) (k : Key) → HasExpandedNames names keys done
+pub sees_more : (namespaces : List NamespaceDecl) (keys more : List Key) (done : List AttributeData) (a : AttributeData) (k : Key) → HasExpandedNames namespaces keys done
     → ((l : List ℕ) (u : Option (List ℕ)) → has_key l u more ≡ (has_key l u keys || is_key l u k))
-    → prefix_view k.1 ≡ attribute_uri names a.namespace → k.0.now ≡ a.local.now
-    → HasExpandedNames names more (done ++ a ∷ [])
+    → prefix_view k.1 ≡ attribute_uri namespaces a.namespace → k.0.now ≡ a.local.now
+    → HasExpandedNames namespaces more (done ++ a ∷ [])
 unfolding HasExpandedNames
-sees_more names keys more done a k h grown uri local = λ l u.
-    let test : AttributeData → Bool = λ b. same_prefix (attribute_uri names b.namespace) u && bytes_eq b.local.now l in
+sees_more namespaces keys more done a k h grown uri local = λ l u.
+    let test : AttributeData → Bool = λ b. same_prefix (attribute_uri namespaces b.namespace) u && bytes_eq b.local.now l in
     grown l u ∙ ap (λ b. b || is_key l u k) (h l u)
-    ∙ ap (λ b. list_any test done || b) (ap (λ v. same_prefix v u && bytes_eq k.0.now l) uri ∙ ap (λ v. same_prefix (attribute_uri names a.namespace) u && bytes_eq v l) local ∙ sym (or_swap (test a) false ∙ refl))
+    ∙ ap (λ b. list_any test done || b) (ap (λ v. same_prefix v u && bytes_eq k.0.now l) uri ∙ ap (λ v. same_prefix (attribute_uri namespaces a.namespace) u && bytes_eq v l) local ∙ sym (or_swap (test a) false ∙ refl))
     ∙ sym (list_any-append test done (a ∷ []))
 
 -- ---- the rows behind those of other tags
@@ -110,18 +110,18 @@ sees_more names keys more done a k h grown uri local = λ l u.
 abbrev pub data_of : (old table : List AttributeRow) → List AttributeData
 data_of old table = map (λ (r : AttributeRow). r.0) (drop (length old) table)
 
-pub sees_start : (names : List NamespaceDecl) (keys : List Key) (old : List AttributeRow) → keys ≡ [] → HasExpandedNames names keys (data_of old old)
-sees_start names keys old e =
-    subst (HasExpandedNames names keys) (ap (map (λ (r : AttributeRow). r.0)) (sym (drop_of_length-le old (omega arith)))) (sees_none names keys e)
+pub sees_start : (namespaces : List NamespaceDecl) (keys : List Key) (old : List AttributeRow) → keys ≡ [] → HasExpandedNames namespaces keys (data_of old old)
+sees_start namespaces keys old e =
+    subst (HasExpandedNames namespaces keys) (ap (map (λ (r : AttributeRow). r.0)) (sym (drop_of_length-le old (omega arith)))) (sees_none namespaces keys e)
 
-pub sees_next : (names : List NamespaceDecl) (keys more : List Key) (old done : List AttributeRow) (table new : List AttributeRow) (row : AttributeRow)
-    → table ≡ old ++ done → new ≡ table ++ row ∷ [] → HasExpandedNames names keys (data_of old table)
-    → (HasExpandedNames names keys (data_of old table) → HasExpandedNames names more (data_of old table ++ row.0 ∷ []))
-    → HasExpandedNames names more (data_of old new)
-sees_next names keys more old done table new row is grown h step =
+pub sees_next : (namespaces : List NamespaceDecl) (keys more : List Key) (old done : List AttributeRow) (table new : List AttributeRow) (row : AttributeRow)
+    → table ≡ old ++ done → new ≡ table ++ row ∷ [] → HasExpandedNames namespaces keys (data_of old table)
+    → (HasExpandedNames namespaces keys (data_of old table) → HasExpandedNames namespaces more (data_of old table ++ row.0 ∷ []))
+    → HasExpandedNames namespaces more (data_of old new)
+sees_next namespaces keys more old done table new row is grown h step =
     let first : drop (length old) table ≡ done = ap (drop (length old)) is ∙ drop-append_seam old done in
     let all : drop (length old) new ≡ done ++ row ∷ [] =
     ap (drop (length old)) (grown ∙ ap (λ xs. xs ++ row ∷ []) is ∙ append_assoc old done (row ∷ [])) ∙ drop-append_seam old (done ++ row ∷ []) in
-    subst (HasExpandedNames names more)
+    subst (HasExpandedNames namespaces more)
     (ap (λ xs. map (λ (r : AttributeRow). r.0) xs ++ row.0 ∷ []) first ∙ sym (map-append (λ (r : AttributeRow). r.0) done (row ∷ [])) ∙ ap (map (λ (r : AttributeRow). r.0)) (sym all))
     (step h)

@@ -52,9 +52,9 @@ turn_ends old from turn end now h le =
     h.now_is ∙ ap (λ xs. old ++ xs) (take_all turn (reverse (drop from old)) (omega arith))
 
 -- a row that reads it from its back
-pub turned_listed : (names : List NamespaceDecl) (old new : List ℕ) (scopes after : List Scope) (s : Stretch) (i from : ℕ) → new ≡ old ++ reverse (drop from old) → s.from ≡ length old → s.until ≡ length new
-    → AreScopes (length old) scopes → after ≡ scopes ++ scope.Back s ∷ [] → i ≡ length scopes → IsListed names old scopes new after i (entries names (drop from old))
-turned_listed names old new scopes after s i from grown begins ends h push last =
+pub turned_listed : (namespaces : List NamespaceDecl) (old new : List ℕ) (scopes after : List Scope) (s : Stretch) (i from : ℕ) → new ≡ old ++ reverse (drop from old) → s.from ≡ length old → s.until ≡ length new
+    → AreScopes (length old) scopes → after ≡ scopes ++ scope.Back s ∷ [] → i ≡ length scopes → IsListed namespaces old scopes new after i (entries namespaces (drop from old))
+turned_listed namespaces old new scopes after s i from grown begins ends h push last =
     let more = reverse (drop from old) in
     let n : length new ≡ length old + length more = ap length grown ∙ length-append old more in
     let l = ap length push ∙ length-append scopes (scope.Back s ∷ []) in
@@ -65,18 +65,18 @@ turned_listed names old new scopes after s i from grown begins ends h push last 
     record {
       more = more;
       grown = grown;
-      places = λ h. let n = length names in subst (ArePlaces n) (sym grown) (all_append (λ i. i < n) old more h (all_reverse n (drop from old) (all_drop (λ i. i < n) from old h)));
+      places = λ h. let n = length namespaces in subst (ArePlaces n) (sym grown) (all_append (λ i. i < n) old more h (all_reverse n (drop from old) (all_drop (λ i. i < n) from old h)));
       more_rows = scope.Back s ∷ [];
       rows_grown = push;
       scopes_are = scopes_push (length new) scopes after (scope.Back s) push (scopes_more (length old) (length new) scopes (omega arith) h) le wide;
       within = omega arith;
-      lists = ap (entries names) (pushed_places new scopes after (scope.Back s) i push last ∙ ap (reverse {A = ℕ}) slice ∙ reverse-reverse (drop from old));
+      lists = ap (entries namespaces) (pushed_places new scopes after (scope.Back s) i push last ∙ ap (reverse {A = ℕ}) slice ∙ reverse-reverse (drop from old));
     }
 
 -- a row of few
-pub few_listed : (names : List NamespaceDecl) (old : List ℕ) (scopes after : List Scope) (s : Stretch) (i : ℕ) → s.from ≤ length old → s.until ≡ length old
-    → AreScopes (length old) scopes → after ≡ scopes ++ scope.Few s ∷ [] → i ≡ length scopes → IsListed names old scopes old after i (entries names (drop s.from old))
-few_listed names old scopes after s i le ends h push last =
+pub few_listed : (namespaces : List NamespaceDecl) (old : List ℕ) (scopes after : List Scope) (s : Stretch) (i : ℕ) → s.from ≤ length old → s.until ≡ length old
+    → AreScopes (length old) scopes → after ≡ scopes ++ scope.Few s ∷ [] → i ≡ length scopes → IsListed namespaces old scopes old after i (entries namespaces (drop s.from old))
+few_listed namespaces old scopes after s i le ends h push last =
     let l = ap length push ∙ length-append scopes (scope.Few s ∷ []) in
     let ordered : s.from ≤ s.until = omega arith in
     let wide : s.until ≤ length old = omega arith in
@@ -88,7 +88,7 @@ few_listed names old scopes after s i le ends h push last =
       rows_grown = push;
       scopes_are = scopes_push (length old) scopes after (scope.Few s) push h ordered wide;
       within = omega arith;
-      lists = ap (entries names) (pushed_places old scopes after (scope.Few s) i push last ∙ ap (slice_range old s.from) ends ∙ slice-rest old s.from);
+      lists = ap (entries namespaces) (pushed_places old scopes after (scope.Few s) i push last ∙ ap (slice_range old s.from) ends ∙ slice-rest old s.from);
     }
 
 -- more places behind others
@@ -102,9 +102,9 @@ pub within_behind : {A : Type 0} (old mid more : List A) (i : ℕ) → mid ≡ o
 within_behind old mid more i grown h = let n = ap length grown ∙ length-append old more in omega arith
 
 -- behind what was inherited
-pub inherits_listed : (names : List NamespaceDecl) (old mid new more : List ℕ) (scopes after : List Scope) (i own : ℕ) (ds : List NamespaceDecl) → own ≤ length old → mid ≡ old ++ more → (ArePlaces (length names) old → ArePlaces (length names) mid)
-    → entries names more ≡ ds → IsListed names mid scopes new after i (entries names (drop own mid)) → IsListed names old scopes new after i (entries names (drop own old) ++ ds)
-inherits_listed names old mid new more scopes after i own ds le grown places is x = record {
+pub inherits_listed : (namespaces : List NamespaceDecl) (old mid new more : List ℕ) (scopes after : List Scope) (i own : ℕ) (ds : List NamespaceDecl) → own ≤ length old → mid ≡ old ++ more → (ArePlaces (length namespaces) old → ArePlaces (length namespaces) mid)
+    → entries namespaces more ≡ ds → IsListed namespaces mid scopes new after i (entries namespaces (drop own mid)) → IsListed namespaces old scopes new after i (entries namespaces (drop own old) ++ ds)
+inherits_listed namespaces old mid new more scopes after i own ds le grown places is x = record {
   more = more ++ x.more;
   grown = x.grown ∙ ap (λ xs. xs ++ x.more) grown ∙ append_assoc old more x.more;
   places = λ h. x.places (places h);
@@ -112,15 +112,15 @@ inherits_listed names old mid new more scopes after i own ds le grown places is 
   rows_grown = x.rows_grown;
   scopes_are = x.scopes_are;
   within = x.within;
-  lists = x.lists ∙ ap (λ xs. entries names (drop own xs)) grown ∙ ap (entries names) (drop-append-le own old more le) ∙ map-append (namespace_at names) (drop own old) more
-      ∙ ap (λ xs. entries names (drop own old) ++ xs) is;
+  lists = x.lists ∙ ap (λ xs. entries namespaces (drop own xs)) grown ∙ ap (entries namespaces) (drop-append-le own old more le) ∙ map-append (namespace_at namespaces) (drop own old) more
+      ∙ ap (λ xs. entries namespaces (drop own old) ++ xs) is;
 }
 
 -- ---- what is hidden
 
-pub same_listed : (names : List NamespaceDecl) (listed : List ℕ) (scopes : List Scope) (i : ℕ) (ds : List NamespaceDecl) → AreScopes (length listed) scopes → i < length scopes → entries names (places_in listed scopes i) ≡ ds
-    → IsListed names listed scopes listed scopes i ds
-same_listed names listed scopes i ds h lt is = record {
+pub same_listed : (namespaces : List NamespaceDecl) (listed : List ℕ) (scopes : List Scope) (i : ℕ) (ds : List NamespaceDecl) → AreScopes (length listed) scopes → i < length scopes → entries namespaces (places_in listed scopes i) ≡ ds
+    → IsListed namespaces listed scopes listed scopes i ds
+same_listed namespaces listed scopes i ds h lt is = record {
   more = [];
   grown = sym (append-nil listed);
   places = λ h. h;
@@ -131,9 +131,9 @@ same_listed names listed scopes i ds h lt is = record {
   lists = is;
 }
 
-pub rope_listed : (names : List NamespaceDecl) (listed : List ℕ) (scopes after : List Scope) (i : ℕ) (f : List ℕ → List ℕ) (ds : List NamespaceDecl) → AreScopes (length listed) scopes → IsRope scopes after i f
-    → entries names (f listed) ≡ ds → IsListed names listed scopes listed after i ds
-rope_listed names listed scopes after i f ds h x is = record {
+pub rope_listed : (namespaces : List NamespaceDecl) (listed : List ℕ) (scopes after : List Scope) (i : ℕ) (f : List ℕ → List ℕ) (ds : List NamespaceDecl) → AreScopes (length listed) scopes → IsRope scopes after i f
+    → entries namespaces (f listed) ≡ ds → IsListed namespaces listed scopes listed after i ds
+rope_listed namespaces listed scopes after i f ds h x is = record {
   more = [];
   grown = sym (append-nil listed);
   places = λ h. h;
@@ -141,13 +141,13 @@ rope_listed names listed scopes after i f ds h x is = record {
   rows_grown = x.grown;
   scopes_are = record { rows = x.rows; within = x.ends (length listed) h.within };
   within = x.within;
-  lists = ap (entries names) (x.lists listed h) ∙ is;
+  lists = ap (entries namespaces) (x.lists listed h) ∙ is;
 }
 
 -- rows behind rows, of the same listed places
-pub listed_then : (names : List NamespaceDecl) (listed : List ℕ) (old mid new : List Scope) (a b : ℕ) (ds es : List NamespaceDecl) → IsListed names listed old listed mid a ds → IsListed names listed mid listed new b es
-    → IsListed names listed old listed new b es
-listed_then names listed old mid new a b ds es x y = record {
+pub listed_then : (namespaces : List NamespaceDecl) (listed : List ℕ) (old mid new : List Scope) (a b : ℕ) (ds es : List NamespaceDecl) → IsListed namespaces listed old listed mid a ds → IsListed namespaces listed mid listed new b es
+    → IsListed namespaces listed old listed new b es
+listed_then namespaces listed old mid new a b ds es x y = record {
   more = [];
   grown = sym (append-nil listed);
   places = λ h. h;

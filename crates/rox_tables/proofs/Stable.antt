@@ -52,25 +52,25 @@ slice-append xs ys i j ordered within =
 
 -- ---- entries
 
-pub namespace_at-append : (names more : List NamespaceDecl) (i : ℕ) → i < length names → namespace_at (names ++ more) i ≡ namespace_at names i
+pub namespace_at-append : (namespaces more : List NamespaceDecl) (i : ℕ) → i < length namespaces → namespace_at (namespaces ++ more) i ≡ namespace_at namespaces i
 namespace_at-append [] more i h = absurd (omega arith)
 namespace_at-append (d ∷ ds) more zero h = refl
 namespace_at-append (d ∷ ds) more (suc i) h = namespace_at-append ds more i (omega arith)
 
-pub attribute_uri-append : (names more : List NamespaceDecl) (a : AttributeNamespace) → NamespaceWithin (length names) a → attribute_uri (names ++ more) a ≡ attribute_uri names a
-attribute_uri-append names more space.None h = refl
-attribute_uri-append names more space.Xml h = refl
-attribute_uri-append names more (space.Listed i) h = ap (λ (d : NamespaceDecl). Some d.uri) (namespace_at-append names more i h)
+pub attribute_uri-append : (namespaces more : List NamespaceDecl) (a : AttributeNamespace) → NamespaceWithin (length namespaces) a → attribute_uri (namespaces ++ more) a ≡ attribute_uri namespaces a
+attribute_uri-append namespaces more space.None h = refl
+attribute_uri-append namespaces more space.Xml h = refl
+attribute_uri-append namespaces more (space.Listed i) h = ap (λ (d : NamespaceDecl). Some d.uri) (namespace_at-append namespaces more i h)
 
-pub attribute-append : (names more : List NamespaceDecl) (a : AttributeRow) → NamespaceWithin (length names) a.0.namespace → attribute (names ++ more) a ≡ attribute names a
-attribute-append names more a h = ap (λ (o : Option (List ℕ)).
+pub attribute-append : (namespaces more : List NamespaceDecl) (a : AttributeRow) → NamespaceWithin (length namespaces) a.0.namespace → attribute (namespaces ++ more) a ≡ attribute namespaces a
+attribute-append namespaces more a h = ap (λ (o : Option (List ℕ)).
     let r : tree.Attribute = record { start = a.1.start; name_end = a.1.name_end; value_start = a.1.value_start; end = a.1.end; namespace = o; local = a.0.local.now; value = storage_bytes a.0.value; borrowed = is_borrowed a.0.value } in r)
-    (attribute_uri-append names more a.0.namespace h)
+    (attribute_uri-append namespaces more a.0.namespace h)
 
-uri-append : (names more : List NamespaceDecl) (o : Option ℕ) → OptionWithin (length names) o
-    → option_map (λ i. (namespace_at (names ++ more) i).uri) o ≡ option_map (λ i. (namespace_at names i).uri) o
-uri-append names more None h = refl
-uri-append names more (Some i) h = ap (λ (d : NamespaceDecl). Some d.uri) (namespace_at-append names more i h)
+uri-append : (namespaces more : List NamespaceDecl) (o : Option ℕ) → OptionWithin (length namespaces) o
+    → option_map (λ i. (namespace_at (namespaces ++ more) i).uri) o ≡ option_map (λ i. (namespace_at namespaces i).uri) o
+uri-append namespaces more None h = refl
+uri-append namespaces more (Some i) h = ap (λ (d : NamespaceDecl). Some d.uri) (namespace_at-append namespaces more i h)
 
 -- ---- scopes
 
@@ -81,31 +81,31 @@ scope_at-append (l ∷ ls) more (suc i) h = scope_at-append ls more i (omega ari
 
 -- ---- rows
 
-pub node-append : (as' moreA : List AttributeRow) (names moreN : List NamespaceDecl) (ls moreL : List (List NamespaceDecl)) (start end : ℕ) (k : NodeKind)
-    → AllByRecursion (λ a. NamespaceWithin (length names) a.0.namespace) as' → KindWithin (length as') (length names) (length ls) k
-    → node (as' ++ moreA) (names ++ moreN) (ls ++ moreL) start end k ≡ node as' names ls start end k
-node-append as' moreA names moreN ls moreL start end kind.Root ha h = refl
-node-append as' moreA names moreN ls moreL start end (kind.Element e) ha (a, b, c, n) =
+pub node-append : (as' moreA : List AttributeRow) (namespaces moreN : List NamespaceDecl) (ls moreL : List (List NamespaceDecl)) (start end : ℕ) (k : NodeKind)
+    → AllByRecursion (λ a. NamespaceWithin (length namespaces) a.0.namespace) as' → KindWithin (length as') (length namespaces) (length ls) k
+    → node (as' ++ moreA) (namespaces ++ moreN) (ls ++ moreL) start end k ≡ node as' namespaces ls start end k
+node-append as' moreA namespaces moreN ls moreL start end kind.Root ha h = refl
+node-append as' moreA namespaces moreN ls moreL start end (kind.Element e) ha (a, b, c, n) =
     let listed_is : scope_at (ls ++ moreL) e.scope ≡ scope_at ls e.scope = scope_at-append ls moreL e.scope c in
-    let attributes_are : map (attribute (names ++ moreN)) (slice_range (as' ++ moreA) e.attributes_from e.attributes_until) ≡ map (attribute names) (slice_range as' e.attributes_from e.attributes_until) =
-    ap (map (attribute (names ++ moreN))) (slice-append as' moreA e.attributes_from e.attributes_until a b)
-    ∙ map_same (attribute (names ++ moreN)) (attribute names) (λ a. NamespaceWithin (length names) a.0.namespace) (slice_range as' e.attributes_from e.attributes_until) (attribute-append names moreN)
-    (all_slice (λ a. NamespaceWithin (length names) a.0.namespace) as' e.attributes_from e.attributes_until ha) in
-    let o = uri-append names moreN e.namespace n in
-    ap (λ (u : Option (List ℕ)). tree.Element start end u e.local.now (scope_at (ls ++ moreL) e.scope) (map (attribute (names ++ moreN)) (slice_range (as' ++ moreA) e.attributes_from e.attributes_until))) o
-    ∙ ap (λ (l : List NamespaceDecl). tree.Element start end (option_map (λ i. (namespace_at names i).uri) e.namespace) e.local.now l (map (attribute (names ++ moreN)) (slice_range (as' ++ moreA) e.attributes_from e.attributes_until))) listed_is
-    ∙ ap (λ (l : List tree.Attribute). tree.Element start end (option_map (λ i. (namespace_at names i).uri) e.namespace) e.local.now (scope_at ls e.scope) l) attributes_are
-node-append as' moreA names moreN ls moreL start end (kind.Text v) ha h = refl
-node-append as' moreA names moreN ls moreL start end (kind.Comment t) ha h = refl
-node-append as' moreA names moreN ls moreL start end (kind.PI p) ha h = refl
+    let attributes_are : map (attribute (namespaces ++ moreN)) (slice_range (as' ++ moreA) e.attributes_from e.attributes_until) ≡ map (attribute namespaces) (slice_range as' e.attributes_from e.attributes_until) =
+    ap (map (attribute (namespaces ++ moreN))) (slice-append as' moreA e.attributes_from e.attributes_until a b)
+    ∙ map_same (attribute (namespaces ++ moreN)) (attribute namespaces) (λ a. NamespaceWithin (length namespaces) a.0.namespace) (slice_range as' e.attributes_from e.attributes_until) (attribute-append namespaces moreN)
+    (all_slice (λ a. NamespaceWithin (length namespaces) a.0.namespace) as' e.attributes_from e.attributes_until ha) in
+    let o = uri-append namespaces moreN e.namespace n in
+    ap (λ (u : Option (List ℕ)). tree.Element start end u e.local.now (scope_at (ls ++ moreL) e.scope) (map (attribute (namespaces ++ moreN)) (slice_range (as' ++ moreA) e.attributes_from e.attributes_until))) o
+    ∙ ap (λ (l : List NamespaceDecl). tree.Element start end (option_map (λ i. (namespace_at namespaces i).uri) e.namespace) e.local.now l (map (attribute (namespaces ++ moreN)) (slice_range (as' ++ moreA) e.attributes_from e.attributes_until))) listed_is
+    ∙ ap (λ (l : List tree.Attribute). tree.Element start end (option_map (λ i. (namespace_at namespaces i).uri) e.namespace) e.local.now (scope_at ls e.scope) l) attributes_are
+node-append as' moreA namespaces moreN ls moreL start end (kind.Text v) ha h = refl
+node-append as' moreA namespaces moreN ls moreL start end (kind.Comment t) ha h = refl
+node-append as' moreA namespaces moreN ls moreL start end (kind.PI p) ha h = refl
 
 -- the rows show the same over tables that have grown
-pub lines-append : (as' moreA : List AttributeRow) (names moreN : List NamespaceDecl) (ls moreL : List (List NamespaceDecl)) (rows : List NodeData)
-    → AllByRecursion (λ a. NamespaceWithin (length names) a.0.namespace) as' → AllByRecursion (λ r. KindWithin (length as') (length names) (length ls) r.kind) rows
-    → map (row_view (as' ++ moreA) (names ++ moreN) (ls ++ moreL)) rows ≡ map (row_view as' names ls) rows
-lines-append as' moreA names moreN ls moreL rows ha h =
-    map_same (row_view (as' ++ moreA) (names ++ moreN) (ls ++ moreL)) (row_view as' names ls) (λ r. KindWithin (length as') (length names) (length ls) r.kind) rows
-    (λ r k. ap (λ n. let x : RowView = record { parent = r.parent; next = r.next; depth = r.depth; node = n } in x) (node-append as' moreA names moreN ls moreL r.start r.end r.kind ha k)) h
+pub lines-append : (as' moreA : List AttributeRow) (namespaces moreN : List NamespaceDecl) (ls moreL : List (List NamespaceDecl)) (rows : List NodeData)
+    → AllByRecursion (λ a. NamespaceWithin (length namespaces) a.0.namespace) as' → AllByRecursion (λ r. KindWithin (length as') (length namespaces) (length ls) r.kind) rows
+    → map (row_view (as' ++ moreA) (namespaces ++ moreN) (ls ++ moreL)) rows ≡ map (row_view as' namespaces ls) rows
+lines-append as' moreA namespaces moreN ls moreL rows ha h =
+    map_same (row_view (as' ++ moreA) (namespaces ++ moreN) (ls ++ moreL)) (row_view as' namespaces ls) (λ r. KindWithin (length as') (length namespaces) (length ls) r.kind) rows
+    (λ r k. ap (λ n. let x : RowView = record { parent = r.parent; subtree_end = r.subtree_end; depth = r.depth; node = n } in x) (node-append as' moreA namespaces moreN ls moreL r.start r.end r.kind ha k)) h
 
 -- ---- what a row names stays in the tables
 

@@ -39,19 +39,19 @@ restored [] places prefix = places prefix
 restored (r ∷ rs) places prefix = if same_prefix (prefix_view r.prefix) prefix then bound_namespace r.before else restored rs places prefix
 
 -- these are the places of what is listed
-pub record IsBound (names : List NamespaceDecl) (places : Option (List ℕ) → Option ℕ) (listed : List NamespaceDecl) : Type 0 where
-  pub within : (prefix : Option (List ℕ)) → OptionWithin (length names) (places prefix)
-  pub uris : (prefix : Option (List ℕ)) → option_map (λ i. (namespace_at names i).uri) (places prefix) ≡ uri_of listed prefix
+pub record IsBound (namespaces : List NamespaceDecl) (places : Option (List ℕ) → Option ℕ) (listed : List NamespaceDecl) : Type 0 where
+  pub within : (prefix : Option (List ℕ)) → OptionWithin (length namespaces) (places prefix)
+  pub uris : (prefix : Option (List ℕ)) → option_map (λ i. (namespace_at namespaces i).uri) (places prefix) ≡ uri_of listed prefix
 
 -- each of these scopes, the outermost first, has its places where what was replaced behind it is taken back
 abbrev pub Stacked : List NamespaceDecl → List (List NamespaceDecl) → List ShadowedBinding → (Option (List ℕ) → Option ℕ) → (least : ℕ) → List ScopeFrame → Type 0
-Stacked names lists replaced places least [] = Unit {0}
-Stacked names lists replaced places least (l ∷ ls) =
-    (least ≤ l.count) × (l.count ≤ length replaced) × (l.scope < length lists) × IsBound names (restored (drop l.count replaced) places) (scope_at lists l.scope)
-    × Stacked names lists replaced places l.count ls
+Stacked namespaces lists replaced places least [] = Unit {0}
+Stacked namespaces lists replaced places least (l ∷ ls) =
+    (least ≤ l.count) × (l.count ≤ length replaced) × (l.scope < length lists) × IsBound namespaces (restored (drop l.count replaced) places) (scope_at lists l.scope)
+    × Stacked namespaces lists replaced places l.count ls
 
-pub record AreBindingsOf (names : List NamespaceDecl) (lists : List (List NamespaceDecl)) (x : PrefixBindings) : Type 0 where
-  pub stacked : Stacked names lists x.replaced.items (bound_place x) 0 x.layers.items
+pub record AreBindingsOf (namespaces : List NamespaceDecl) (lists : List (List NamespaceDecl)) (x : PrefixBindings) : Type 0 where
+  pub stacked : Stacked namespaces lists x.replaced.items (bound_place x) 0 x.layers.items
 
 -- whether the innermost of these scopes is this one, and so many places were replaced up to it
 abbrev pub is_innermost : List ScopeFrame → (count scope : ℕ) → Bool
@@ -75,9 +75,9 @@ LooksWithin n None x = (prefix : Option (List ℕ)) → OptionWithin n (bound_pl
 
 -- the URI that is looked up for a prefix, or for the default
 abbrev pub looked_up : List NamespaceDecl → Option (List ℕ) → PrefixBindings → Option (List ℕ) → Option (List ℕ)
-looked_up names (Some places) x prefix = uri_of (entries names places) prefix
-looked_up names None x prefix = option_map (λ i. (namespace_at names i).uri) (bound_place x prefix)
+looked_up namespaces (Some places) x prefix = uri_of (entries namespaces places) prefix
+looked_up namespaces None x prefix = option_map (λ i. (namespace_at namespaces i).uri) (bound_place x prefix)
 
 -- it is the one that is listed
-pub record FindsBinding (names : List NamespaceDecl) (few : Option (List ℕ)) (x : PrefixBindings) (listed : List NamespaceDecl) : Type 0 where
-  pub uris : (prefix : Option (List ℕ)) → looked_up names few x prefix ≡ uri_of listed prefix
+pub record FindsBinding (namespaces : List NamespaceDecl) (few : Option (List ℕ)) (x : PrefixBindings) (listed : List NamespaceDecl) : Type 0 where
+  pub uris : (prefix : Option (List ℕ)) → looked_up namespaces few x prefix ≡ uri_of listed prefix

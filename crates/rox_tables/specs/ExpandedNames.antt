@@ -26,7 +26,7 @@ has_key local uri keys = list_any (is_key local uri) keys
 
 -- the keys are the expanded names of these attributes
 unfoldable pub HasExpandedNames : List NamespaceDecl → List Key → List AttributeData → Type 0
-HasExpandedNames names keys done = (local : List ℕ) (uri : Option (List ℕ)) → has_key local uri keys ≡ list_any (λ a. same_prefix (attribute_uri names a.namespace) uri && bytes_eq a.local.now local) done
+HasExpandedNames namespaces keys done = (local : List ℕ) (uri : Option (List ℕ)) → has_key local uri keys ≡ list_any (λ a. same_prefix (attribute_uri namespaces a.namespace) uri && bytes_eq a.local.now local) done
 
 -- what a test of one name says of all, unless memory ran out
 abbrev pub TestedOr : List NamespaceDecl → List Attribute → Attribute → List Attribute → Result AttributeNamespace Failure → Type 0

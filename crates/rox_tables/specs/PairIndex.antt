@@ -28,7 +28,7 @@ key_total = on_total (λ k. namespace_view k.namespace) pair_total
 -- the place of a pair in a table: that of the first that is the same
 abbrev pub place_of : List NamespaceDecl → NamespaceDecl → Option ℕ
 place_of [] d = None
-place_of (n ∷ names) d = if same_pair n d then Some 0 else option_map suc (place_of names d)
+place_of (n ∷ namespaces) d = if same_pair n d then Some 0 else option_map suc (place_of namespaces d)
 
 -- how many pairs of a table are looked for one after another
 abbrev pub few_pairs : ℕ
@@ -36,7 +36,7 @@ few_pairs = 16
 
 -- the place of a pair that stands behind these
 abbrev pub place_behind : List NamespaceDecl → NamespaceDecl → Option ℕ
-place_behind names d = option_map (λ i. few_pairs + i) (place_of (drop few_pairs names) d)
+place_behind namespaces d = option_map (λ i. few_pairs + i) (place_of (drop few_pairs namespaces) d)
 
 -- the place that the entries of a map give a pair
 abbrev pub place_among : List (Key × ℕ) → NamespaceDecl → Option ℕ

@@ -11,4 +11,4 @@ has_prefix prefix keys = list_any (λ k. same_prefix (prefix_view k) prefix) key
 
 -- the keys are the prefixes at these places, if they are many
 unfoldable pub IsPrefixSet : List NamespaceDecl → List ℕ → List (Option (Bor (List ℕ))) → Type 0
-IsPrefixSet names places keys = 16 < length places → (prefix : Option (List ℕ)) → has_prefix prefix keys ≡ is_declared prefix (entries names places)
+IsPrefixSet namespaces places keys = 16 < length places → (prefix : Option (List ℕ)) → has_prefix prefix keys ≡ is_declared prefix (entries namespaces places)

@@ -18,7 +18,7 @@ row_of_unresolved t s = (
 
 -- an attribute's row has this expanded name: the URI of this namespace, and this local name
 abbrev pub has_expanded : List NamespaceDecl → AttributeNamespace → List ℕ → AttributeData → Bool
-has_expanded names s local a = same_prefix (attribute_uri names a.namespace) (attribute_uri names s) && bytes_eq a.local.now local
+has_expanded namespaces s local a = same_prefix (attribute_uri namespaces a.namespace) (attribute_uri namespaces s) && bytes_eq a.local.now local
 
 -- what a test of one name says of all: the rest is tested behind it, or this is the fault
 abbrev pub Tested : List NamespaceDecl → List Attribute → Attribute → List Attribute → Result AttributeNamespace Fault → Type 0

@@ -16,12 +16,12 @@ pub record IsRope (old new : List Scope) (scope : ℕ) (list : List ℕ → List
   pub lists : (listed : List ℕ) → AreScopes (length listed) old → places_in listed new scope ≡ list listed
 
 -- More places may be listed, and more rows be there: the row at this place lists these.
-pub record IsListed (names : List NamespaceDecl) (listed : List ℕ) (scopes : List Scope) (after : List ℕ) (rows : List Scope) (scope : ℕ) (ds : List NamespaceDecl) : Type 0 where
+pub record IsListed (namespaces : List NamespaceDecl) (listed : List ℕ) (scopes : List Scope) (after : List ℕ) (rows : List Scope) (scope : ℕ) (ds : List NamespaceDecl) : Type 0 where
   pub more : List ℕ
   pub grown : after ≡ listed ++ more
-  pub places : ArePlaces (length names) listed → ArePlaces (length names) after
+  pub places : ArePlaces (length namespaces) listed → ArePlaces (length namespaces) after
   pub more_rows : List Scope
   pub rows_grown : rows ≡ scopes ++ more_rows
   pub scopes_are : AreScopes (length after) rows
   pub within : scope < length rows
-  pub lists : entries names (places_in after rows scope) ≡ ds
+  pub lists : entries namespaces (places_in after rows scope) ≡ ds

@@ -23,7 +23,7 @@ use Rattle.rox_tables.specs.declared.rows.tables.Tables.{Tables}
 -- one row: where its node stands, and the node
 pub record RowView : Type 0 where
   pub parent : ℕ
-  pub next : ℕ
+  pub subtree_end : ℕ
   pub depth : ℕ
   pub node : Node
 
@@ -31,7 +31,7 @@ pub record RowView : Type 0 where
 abbrev pub preorder_rows : ℕ → ℕ → ℕ → Forest Node → List RowView
 preorder_rows parent depth at Nil = []
 preorder_rows parent depth at (Cons node children rest) =
-    record { parent = parent; next = at + 1 + size children; depth = depth; node = node }
+    record { parent = parent; subtree_end = at + 1 + size children; depth = depth; node = node }
     ∷ (preorder_rows at (depth + 1) (at + 1) children ++ preorder_rows parent depth (at + 1 + size children) rest)
 
 abbrev pub namespace_view : Namespace → NamespaceDecl
@@ -44,9 +44,9 @@ namespace_at (d ∷ ds) Prim.Native.Nat.zero = d
 namespace_at (d ∷ ds) (Prim.Native.Nat.suc i) = namespace_at ds i
 
 abbrev pub attribute_uri : List NamespaceDecl → AttributeNamespace → Option (List ℕ)
-attribute_uri names space.None = None
-attribute_uri names space.Xml = Some xml_uri
-attribute_uri names (space.Listed i) = Some (namespace_at names i).uri
+attribute_uri namespaces space.None = None
+attribute_uri namespaces space.Xml = Some xml_uri
+attribute_uri namespaces (space.Listed i) = Some (namespace_at namespaces i).uri
 
 -- an attribute's row: what it is, and where it stands
 abbrev pub AttributeRow : Type 0
@@ -56,12 +56,12 @@ abbrev pub attribute_rows : AttributeTable → List AttributeRow
 attribute_rows t = zip t.items.items t.places.items
 
 abbrev pub attribute : List NamespaceDecl → AttributeRow → tree.Attribute
-attribute names a = record {
+attribute namespaces a = record {
   start = a.1.start;
   name_end = a.1.name_end;
   value_start = a.1.value_start;
   end = a.1.end;
-  namespace = attribute_uri names a.0.namespace;
+  namespace = attribute_uri namespaces a.0.namespace;
   local = a.0.local.now;
   value = storage_bytes a.0.value;
   borrowed = is_borrowed a.0.value;
@@ -89,7 +89,7 @@ places_of listed scopes = places_on listed [] scopes
 
 -- what each scope lists
 abbrev pub lists_of : List NamespaceDecl → List ℕ → List Scope → List (List NamespaceDecl)
-lists_of names listed scopes = map (map (namespace_at names)) (places_of listed scopes)
+lists_of namespaces listed scopes = map (map (namespace_at namespaces)) (places_of listed scopes)
 
 -- what the scope at this place lists
 abbrev pub scope_at : List (List NamespaceDecl) → ℕ → List NamespaceDecl
@@ -99,17 +99,17 @@ scope_at (l ∷ ls) (Prim.Native.Nat.suc i) = scope_at ls i
 
 -- the node of a row, over the tables of attributes and namespaces and what scopes list
 abbrev pub node : List AttributeRow → List NamespaceDecl → List (List NamespaceDecl) → (start end : ℕ) → NodeKind → Node
-node attributes names lists start end kind.Root = tree.Root end
-node attributes names lists start end (kind.Element e) =
-    tree.Element start end (option_map (λ i. (namespace_at names i).uri) e.namespace) e.local.now (scope_at lists e.scope)
-    (map (attribute names) (slice_range attributes e.attributes_from e.attributes_until))
-node attributes names lists start end (kind.Text value) = tree.Text start end (storage_bytes value) (is_borrowed value)
-node attributes names lists start end (kind.Comment text) = tree.Comment start end (storage_bytes text)
-node attributes names lists start end (kind.PI pi) = tree.PI start end pi.target.now (option_map (λ v. v.now) pi.value)
+node attributes namespaces lists start end kind.Root = tree.Root end
+node attributes namespaces lists start end (kind.Element e) =
+    tree.Element start end (option_map (λ i. (namespace_at namespaces i).uri) e.namespace) e.local.now (scope_at lists e.scope)
+    (map (attribute namespaces) (slice_range attributes e.attributes_from e.attributes_until))
+node attributes namespaces lists start end (kind.Text value) = tree.Text start end (storage_bytes value) (is_borrowed value)
+node attributes namespaces lists start end (kind.Comment text) = tree.Comment start end (storage_bytes text)
+node attributes namespaces lists start end (kind.PI pi) = tree.PI start end pi.target.now (option_map (λ v. v.now) pi.value)
 
 abbrev pub row_view : List AttributeRow → List NamespaceDecl → List (List NamespaceDecl) → NodeData → RowView
-row_view attributes names lists row =
-    record { parent = row.parent; next = row.next; depth = row.depth; node = node attributes names lists row.start row.end row.kind }
+row_view attributes namespaces lists row =
+    record { parent = row.parent; subtree_end = row.subtree_end; depth = row.depth; node = node attributes namespaces lists row.start row.end row.kind }
 
 -- the namespaces that an attribute's or an element's row names are in the table
 abbrev pub NamespaceWithin : ℕ → AttributeNamespace → Type 0
@@ -122,13 +122,13 @@ OptionWithin n None = Unit {0}
 OptionWithin n (Some i) = i < n
 
 -- what a row names is in the tables, of these lengths, and a comment is a slice of the input
-abbrev pub KindWithin : (attributes names scopes : ℕ) → NodeKind → Type 0
-KindWithin attributes names scopes kind.Root = Unit {0}
-KindWithin attributes names scopes (kind.Element e) =
-    (e.attributes_from ≤ e.attributes_until) × (e.attributes_until ≤ attributes) × (e.scope < scopes) × OptionWithin names e.namespace
-KindWithin attributes names scopes (kind.Text value) = Unit {0}
-KindWithin attributes names scopes (kind.Comment text) = is_borrowed text ≡ true
-KindWithin attributes names scopes (kind.PI pi) = Unit {0}
+abbrev pub KindWithin : (attributes namespaces scopes : ℕ) → NodeKind → Type 0
+KindWithin attributes namespaces scopes kind.Root = Unit {0}
+KindWithin attributes namespaces scopes (kind.Element e) =
+    (e.attributes_from ≤ e.attributes_until) × (e.attributes_until ≤ attributes) × (e.scope < scopes) × OptionWithin namespaces e.namespace
+KindWithin attributes namespaces scopes (kind.Text value) = Unit {0}
+KindWithin attributes namespaces scopes (kind.Comment text) = is_borrowed text ≡ true
+KindWithin attributes namespaces scopes (kind.PI pi) = Unit {0}
 
 -- how many a row lists
 abbrev pub count_of : Scope → ℕ

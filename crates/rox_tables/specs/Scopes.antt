@@ -19,7 +19,7 @@ pair prefix uri = record { prefix = prefix; uri = uri }
 
 -- the declarations at these places of a table
 abbrev pub entries : List NamespaceDecl → List ℕ → List NamespaceDecl
-entries names places = map (namespace_at names) places
+entries namespaces places = map (namespace_at namespaces) places
 
 -- the places that the scope at this place lists
 abbrev pub places_in : List ℕ → List Scope → ℕ → List ℕ

@@ -30,16 +30,16 @@ unresolved_view t = record {
 
 -- The table of pairs, the listed places and the flag for `xml` are those of these declarations, where the table was
 -- `known` and the places `before` when the tag began.
-pub record Declares (known : List NamespaceDecl) (before : List ℕ) (names : List NamespaceDecl) (listed : List ℕ) (xml : Bool) (own : List NamespaceDecl) : Type 0 where
-  pub names_are : names ≡ with_new known (listable_of own)
-  pub few : length names ≤ most_pairs
+pub record Declares (known : List NamespaceDecl) (before : List ℕ) (namespaces : List NamespaceDecl) (listed : List ℕ) (xml : Bool) (own : List NamespaceDecl) : Type 0 where
+  pub names_are : namespaces ≡ with_new known (listable_of own)
+  pub few : length namespaces ≤ most_pairs
   pub xml_is : xml ≡ declares_xml own
   pub mine : List ℕ
   pub listed_are : listed ≡ before ++ mine
-  pub places : ArePlaces (length names) mine
-  pub same : entries names mine ≡ listable_of own
+  pub places : ArePlaces (length namespaces) mine
+  pub same : entries namespaces mine ≡ listable_of own
 
 -- what a declaration makes of that
-abbrev pub Declared : (known : List NamespaceDecl) (before : List ℕ) (names : List NamespaceDecl) (listed : List ℕ) → Result Bool Failure → TagSoFar → Result TagSoFar Fault → Type 0
-Declared known before names listed (Ok xml) h read = (own : List NamespaceDecl) × (read ≡ Ok (record { own = own; attributes = h.attributes })) × Declares known before names listed xml own
-Declared known before names listed (Err e) h read = Fails e read
+abbrev pub Declared : (known : List NamespaceDecl) (before : List ℕ) (namespaces : List NamespaceDecl) (listed : List ℕ) → Result Bool Failure → TagSoFar → Result TagSoFar Fault → Type 0
+Declared known before namespaces listed (Ok xml) h read = (own : List NamespaceDecl) × (read ≡ Ok (record { own = own; attributes = h.attributes })) × Declares known before namespaces listed xml own
+Declared known before namespaces listed (Err e) h read = Fails e read

@@ -45,9 +45,9 @@ merge_apart (Cons (Element a e t) c r) (n, h) = (refl, n, merge_apart r h)
 merge_apart (Cons (Comment a e t) c r) (n, h) = (refl, n, merge_apart r h)
 merge_apart (Cons (PI a e t o) c r) (n, h) = (refl, n, merge_apart r h)
 
-piece_below : (start stop : ℕ) (plain : Bool) (ss : List DataByte) → Below (piece start stop plain ss)
-piece_below start stop plain [] = tt
-piece_below start stop plain (s ∷ ss) = (refl, tt)
+piece_below : (start stop : ℕ) (borrowed : Bool) (ss : List DataByte) → Below (piece start stop borrowed ss)
+piece_below start stop borrowed [] = tt
+piece_below start stop borrowed (s ∷ ss) = (refl, tt)
 
 -- a comment or an instruction in front
 misc_below : (src : List ℕ) (i j : ℕ) (item : Item) (more : Forest Item) → IsMisc src i j item → Below more → Below (Cons item Nil more)
@@ -133,7 +133,7 @@ top_doctype src i j dtd items asked es back (doctype _ k _ front more _ _ is res
 pub parse_apart : (src : List ℕ) (dtd : Bool) (asked : List Asked) (tree : Forest Item) → ParseOf src dtd asked tree → Apart tree
 parse_apart src dtd asked tree p =
     let after : Apart (join p.after Nil) = top_misc src p.end (length src) p.after Nil p.misc_after tt in
-    let one = top_element true (included_in_main p.entities) (opens_apart p.entities most_deep true) src p.start p.end 255 p.left p.one p.after p.element (subst (λ (f : Forest Item). Apart f) (join-nil p.after) after) in
+    let one = top_element true (included_in_main p.entities) (opens_apart p.entities most_deep true) src p.start p.end 255 p.openings_left p.one p.after p.element (subst (λ (f : Forest Item). Apart f) (join-nil p.after) after) in
     let nodes = top_doctype src p.begun p.start dtd p.nodes asked p.entities (join p.one p.after) p.doctype one in
     let all = top_misc src p.declared_to p.begun p.before (join p.nodes (join p.one p.after)) p.misc_before nodes in
     subst (λ (f : Forest Item). Apart f) (sym p.is_tree) all
@@ -149,6 +149,6 @@ any_behind (Cons (PI start end target value) c r) back h = any_behind r back h
 -- a parse has an element at its top
 pub parse_has : (src : List ℕ) (dtd : Bool) (asked : List Asked) (tree : Forest Item) → ParseOf src dtd asked tree → AnyElement tree
 parse_has src dtd asked tree p =
-    let one = top_is true (included_in_main p.entities) (opens_apart p.entities most_deep true) src p.start p.end 255 p.left p.one p.after p.element in
+    let one = top_is true (included_in_main p.entities) (opens_apart p.entities most_deep true) src p.start p.end 255 p.openings_left p.one p.after p.element in
     subst (λ (f : Forest Item). AnyElement f) (sym p.is_tree)
     (any_behind p.before (join p.nodes (join p.one p.after)) (any_behind p.nodes (join p.one p.after) one))

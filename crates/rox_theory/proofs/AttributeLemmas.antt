@@ -182,13 +182,13 @@ literal_stop src v e j l = rw (literal_closes src v e j l) (quote_stop (byte src
 value_cut : (src : List ℕ) → IsUtf8 src → (v e j : ℕ) → IsLiteral src v e j → IsCharBoundary src (v + 1)
 value_cut src utf8 v e j l = let q = quote_ascii (byte src v) l.quote in cut_behind src v (byte src v) (v + 1) utf8 refl (omega arith) (omega arith) refl
 
-module _ (how : Values) (O : Inclusion) (agrees : AgreesValue how.entities O how.opener) (src : List ℕ) (utf8 : IsUtf8 src) where
+module _ (context : Values) (O : Inclusion) (agrees : AgreesValue context.entities O context.opener) (src : List ℕ) (utf8 : IsUtf8 src) where
   -- an attribute whose value is read stands there
-  pub attribute_sound : (i j b c : ℕ) (raw : RawAttribute) (x : ReadText) → RawStands src i j raw → value_at how.main how.entities how.opener src raw.value_start raw.value_end b ≡ Ok (x, c)
-      → IsAttribute how.main O src i j b c (attribute_with raw x)
+  pub attribute_sound : (i j b c : ℕ) (raw : RawAttribute) (x : ReadText) → RawStands src i j raw → value_at context.main context.entities context.opener src raw.value_start raw.value_end b ≡ Ok (x, c)
+      → IsAttribute context.main O src i j b c (attribute_with raw x)
   attribute_sound i j b c raw x r h =
       let closes = r.literal.closes in
-      let value = value_sound how.entities src utf8 raw.value_end (omega arith) (λ z. literal_stop src r.v raw.value_end j r.literal) how.main O how.opener agrees (r.v + 1) b c x
+      let value = value_sound context.entities src utf8 raw.value_end (omega arith) (λ z. literal_stop src r.v raw.value_end j r.literal) context.main O context.opener agrees (r.v + 1) b c x
       (literal_le src r.v raw.value_end j r.literal) (literal_plain src r.v raw.value_end j r.literal) (rw r.value_start at h) in
       record {
         starts = r.starts;
@@ -206,25 +206,25 @@ module _ (how : Values) (O : Inclusion) (agrees : AgreesValue how.entities O how
   -- the attribute is read from i up to j, and then its value
   abbrev pub AttributeReads : ℕ → ℕ → ℕ → ℕ → Attribute → Type 0
   AttributeReads i j b c a =
-      (raw : RawAttribute) × (x : ReadText) × RawStands src i j raw × (value_at how.main how.entities how.opener src raw.value_start raw.value_end b ≡ Ok (x, c)) × (a ≡ attribute_with raw x)
+      (raw : RawAttribute) × (x : ReadText) × RawStands src i j raw × (value_at context.main context.entities context.opener src raw.value_start raw.value_end b ≡ Ok (x, c)) × (a ≡ attribute_with raw x)
 
   -- an attribute that stands there is read
-  pub attribute_complete : (i j b c : ℕ) (a : Attribute) → IsAttribute how.main O src i j b c a → AttributeReads i j b c a
+  pub attribute_complete : (i j b c : ℕ) (a : Attribute) → IsAttribute context.main O src i j b c a → AttributeReads i j b c a
   attribute_complete i j b c a h =
       let closes = h.literal.closes in
-      let value = value_complete how.entities src utf8 h.e (omega arith) (λ z. literal_stop src h.v h.e j h.literal) how.main O how.opener agrees (h.v + 1) b c a.value
+      let value = value_complete context.entities src utf8 h.e (omega arith) (λ z. literal_stop src h.v h.e j h.literal) context.main O context.opener agrees (h.v + 1) b c a.value
       (literal_le src h.v h.e j h.literal) (value_cut src utf8 h.v h.e j h.literal) (λ z. h.literal.chars) h.value in
       let start = h.value_start in
       let borrowed = h.borrowed in
-      let read : value_at how.main how.entities how.opener src a.value_start h.e b ≡ Ok (record { value = a.value; plain = a.borrowed }, c) = rw (start, borrowed) value in
+      let read : value_at context.main context.entities context.opener src a.value_start h.e b ≡ Ok (record { value = a.value; borrowed = a.borrowed }, c) = rw (start, borrowed) value in
       let end : a.end ≡ h.e + 1 = h.end ∙ h.literal.next in (
         record { start = a.start; name = a.name; name_end = a.name_end; value_start = a.value_start; value_end = h.e },
-        record { value = a.value; plain = a.borrowed },
+        record { value = a.value; borrowed = a.borrowed },
         record { starts = h.starts; is_name = h.is_name; v = h.v; eq = h.eq; value_start = start; literal = h.literal },
         read,
         ap (λ (k : ℕ). record { start = a.start; name_end = a.name_end; value_start = a.value_start; end = k; name = a.name; value = a.value; borrowed = a.borrowed }) end,
       )
 
   -- an attribute has a byte
-  pub attribute_le : (i j b c : ℕ) (a : Attribute) → IsAttribute how.main O src i j b c a → i < j
+  pub attribute_le : (i j b c : ℕ) (a : Attribute) → IsAttribute context.main O src i j b c a → i < j
   attribute_le i j b c a h = let r = attribute_complete i j b c a h in raw_le src i j r.0 r.2

@@ -240,7 +240,7 @@ doctype_items src i j dtd items asked es utf8 (doctype _ k _ front more _ _ is r
 pub parse_items : (src : List ℕ) (dtd : Bool) (asked : List Asked) (tree : Forest Item) → IsUtf8 src → ParseOf src dtd asked tree → ItemsChars tree
 parse_items src dtd asked tree utf8 p =
     let texts = texts_agree src utf8 p.begun p.start dtd p.nodes asked p.entities p.doctype in
-    let one = element_items true (included_in_main p.entities) (opens_chars p.entities texts most_deep true) src utf8 p.start p.end 255 p.left p.one p.element in
+    let one = element_items true (included_in_main p.entities) (opens_chars p.entities texts most_deep true) src utf8 p.start p.end 255 p.openings_left p.one p.element in
     let nodes = doctype_items src p.begun p.start dtd p.nodes asked p.entities utf8 p.doctype in
     let after = misc_items src p.end (length src) p.after utf8 p.misc_after in
     let before = misc_items src p.declared_to p.begun p.before utf8 p.misc_before in

@@ -134,9 +134,9 @@ text_front false v ss h rest =
 text_front true v ss h rest = subst (λ (w : List ℕ). IsCharText w) (sym (kept_stay v ss)) (texts_joined v (line_ends ss) h rest)
 
 -- the text of a part
-pub piece_items : (i j : ℕ) (plain : Bool) (ss : List DataByte) → SignChars ss → ItemsChars (piece i j plain ss)
-piece_items i j plain [] h = tt
-piece_items i j plain (s ∷ ss) h = (h, tt, tt)
+pub piece_items : (i j : ℕ) (borrowed : Bool) (ss : List DataByte) → SignChars ss → ItemsChars (piece i j borrowed ss)
+piece_items i j borrowed [] h = tt
+piece_items i j borrowed (s ∷ ss) h = (h, tt, tt)
 
 -- ---- items
 

@@ -21,7 +21,7 @@ use Rattle.rox_theory.proofs.Following.{few_opened, few_opened_in_value}
 -- ---- in a value
 
 -- a replacement text as a part of a value, with the number of those that were opened before it and after it
-unfoldable counter : List Entity → (deep : ℕ) → ValueInclusion
+unfoldable counter : List Entity → (depth_left : ℕ) → ValueInclusion
 counter es zero t after b = Err (here (fault.EntityReferenceLoop after))
 counter es (suc d) t after b = value_text false es (counter es d) (length t.source) t.source (length t.source) t.start (b + 1)
 

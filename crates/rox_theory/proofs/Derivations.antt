@@ -29,7 +29,7 @@ module _ (O : Inclusion) (src : List ℕ) where
       (join items more, m, p, e, r, front m r more is, end, rw join_assoc at rest)
 
   -- one construct in front
-  takes_completes : (s t u : State) → StepsOver true O src 0 s t → is_root s.stack ≡ false → Completes t.at t.left t.done t.stack u → Completes s.at s.left s.done s.stack u
+  takes_completes : (s t u : State) → StepsOver true O src 0 s t → is_root s.stack ≡ false → Completes t.at t.openings_left t.done t.stack u → Completes s.at s.openings_left s.done s.stack u
   takes_completes s t u (takes_run i j b c items done stack is parts) inner h =
       extends i j b c done items stack u inner (λ l d more content. run i j l b c d items more is parts content) h
   takes_completes s t u (takes_cdata i e j b done stack is) inner h =
@@ -53,22 +53,22 @@ module _ (O : Inclusion) (src : List ℕ) where
   at_root i b done (inside start tag before up) h = cc h
 
   -- a chain is what completes its first state
-  drives_completes : (s u : State) → Drives O src s u → Completes s.at s.left s.done s.stack u
-  drives_completes s u (arrives _ h) = at_root s.at s.left s.done s.stack h
+  drives_completes : (s u : State) → Drives O src s u → Completes s.at s.openings_left s.done s.stack u
+  drives_completes s u (arrives _ h) = at_root s.at s.openings_left s.done s.stack h
   drives_completes s u (goes _ t _ inner takes rest) = takes_completes s t u takes inner (drives_completes t u rest)
 
   -- the root element, from its tag and what follows it
   pub root_element : (i j b c : ℕ) (before : Forest Item) (tag : Tag) (is_empty : Bool) (u : State) → IsTag true O src i j b c is_empty tag → Drives O src (after (state i before root b) j tag is_empty c) u
-      → (one : Forest Item) × IsElement true O src i u.at b u.left one × (u ≡ state u.at (join before one) root u.left)
+      → (one : Forest Item) × IsElement true O src i u.at b u.openings_left one × (u ≡ state u.at (join before one) root u.openings_left)
   root_element i j b c before tag true u is drives =
       let h : u ≡ state j (join before (leaf (Element i j tag))) root c = drives_completes (after (state i before root b) j tag true c) u drives in
-      let P : State → Type 0 = λ u. (one : Forest Item) × IsElement true O src i u.at b u.left one × (u ≡ state u.at (join before one) root u.left) in
+      let P : State → Type 0 = λ u. (one : Forest Item) × IsElement true O src i u.at b u.openings_left one × (u ≡ state u.at (join before one) root u.openings_left) in
       subst P (sym h) (leaf (Element i j tag), empty i j b c tag is, refl)
   root_element i j b c before tag false u is drives = nested (drives_completes (after (state i before root b) j tag false c) u drives)
     where
       -- its content follows, and its end
-      nested : Completes j c Nil (inside i tag before root) u → (one : Forest Item) × IsElement true O src i u.at b u.left one × (u ≡ state u.at (join before one) root u.left)
+      nested : Completes j c Nil (inside i tag before root) u → (one : Forest Item) × IsElement true O src i u.at b u.openings_left one × (u ≡ state u.at (join before one) root u.openings_left)
       nested (kids, m, p, e, r, content, end, h) =
-          let P : State → Type 0 = λ u. (one : Forest Item) × IsElement true O src i u.at b u.left one × (u ≡ state u.at (join before one) root u.left) in
+          let P : State → Type 0 = λ u. (one : Forest Item) × IsElement true O src i u.at b u.openings_left one × (u ≡ state u.at (join before one) root u.openings_left) in
           let one : Forest Item = Cons (Element i e tag) (merge kids) Nil in
           subst P (sym h) (one, nest i j m p e b c r tag kids is content end, refl)

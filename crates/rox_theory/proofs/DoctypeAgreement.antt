@@ -131,7 +131,7 @@ pub record StepRead (most : ℕ) (src : List ℕ) (d : Dtd) (asked : List Asked)
   pub items : Forest Item
   pub es : List Entity
   pub found : (IsDoctype src d.state.at e.state.at items asked es × IsCharBoundary src e.state.at) ⊎ (length src ≤ e.state.at)
-  pub state_is : e.state ≡ state e.state.at (join d.state.done items) d.state.stack d.state.left
+  pub state_is : e.state ≡ state e.state.at (join d.state.done items) d.state.stack d.state.openings_left
   pub entities_are : e.entities ≡ d.entities ++ es
   pub fine : IsValidState most e.state
 
@@ -198,15 +198,15 @@ module _ (src : List ℕ) (utf8 : IsUtf8 src) where
 -- ---- what stands there is read
 
 module _ (src : List ℕ) (utf8 : IsUtf8 src) where
-  step_complete : (limit i j : ℕ) (items done : Forest Item) (stack : Open) (left : ℕ) (asked : List Asked) (more es : List Entity) → IsDoctype src i j items asked more → IsValidState limit (state j (join done items) stack left)
-      → Answered (step_run limit src (here_at i done stack left es)) asked (here_at j (join done items) stack left (es ++ more))
-  step_complete limit i j items done stack left asked more es (no_subset _ s begins closes) fine =
-      rw (join-nil, append-nil) (doctype_plain limit src (here_at i done stack left es) tt s (doctype_head_complete src i s utf8 begins) (within src s (λ z. omega arith)) closes)
-  step_complete limit i j items done stack left asked more es (with_subset _ s k _ _ _ begins bracket rest ends closes) fine =
+  step_complete : (limit i j : ℕ) (items done : Forest Item) (stack : Open) (openings_left : ℕ) (asked : List Asked) (more es : List Entity) → IsDoctype src i j items asked more → IsValidState limit (state j (join done items) stack openings_left)
+      → Answered (step_run limit src (here_at i done stack openings_left es)) asked (here_at j (join done items) stack openings_left (es ++ more))
+  step_complete limit i j items done stack openings_left asked more es (no_subset _ s begins closes) fine =
+      rw (join-nil, append-nil) (doctype_plain limit src (here_at i done stack openings_left es) tt s (doctype_head_complete src i s utf8 begins) (within src s (λ z. omega arith)) closes)
+  step_complete limit i j items done stack openings_left asked more es (with_subset _ s k _ _ _ begins bracket rest ends closes) fine =
       let inside = within src s (λ z. omega arith) in
-      let fine' = fine_there limit (state (spaces_end src (k + 1) + 1) (join done items) stack left) (state k (join done items) stack left) refl refl fine in
-      doctype_subset limit src (here_at i done stack left es) tt s (doctype_head_complete src i s utf8 begins) inside asked (here_at (spaces_end src (k + 1) + 1) (join done items) stack left (es ++ more)) bracket
-      (subset_complete src utf8 limit i stack left (length src) (s + 1) k items done asked more es rest ends closes fine' (omega arith))
+      let fine' = fine_there limit (state (spaces_end src (k + 1) + 1) (join done items) stack openings_left) (state k (join done items) stack openings_left) refl refl fine in
+      doctype_subset limit src (here_at i done stack openings_left es) tt s (doctype_head_complete src i s utf8 begins) inside asked (here_at (spaces_end src (k + 1) + 1) (join done items) stack openings_left (es ++ more)) bracket
+      (subset_complete src utf8 limit i stack openings_left (length src) (s + 1) k items done asked more es rest ends closes fine' (omega arith))
 
   -- past the end nothing follows it
   pub misc_past : (n limit : ℕ) (s t : State) → length src ≤ s.at → misc limit n src s ≡ Ok t → length src ≤ t.at

@@ -1,5 +1,5 @@
 -- A replacement text as a chain of constructs over the state of the text around it, which is not nested: the chain adds to the items and the
--- open elements that there are. Its own elements are those above `base`.
+-- open elements that there are. Its own elements are those above `open_around`.
 use Rattle.std.proofs.Common.{arith, subst, sym}
 use Rattle.std.specs.Prelude.{◌≡◌, ℕ, zero, suc, ◌+◌, ◌<◌, ◌==◌, not, Bool, true, false, List, length, refl}
 use Rattle.std.specs.List.{list_any}
@@ -13,7 +13,7 @@ use Rattle.rox_reading.specs.State.{State, depth_of}
 use Rattle.rox_reading.proofs.Forests.{join-nil, join_assoc}
 use Rattle.rox_theory.proofs.Leaves.{state}
 
-module _ (main : Bool) (O : Inclusion) (src : List ℕ) (base : ℕ) where
+module _ (main : Bool) (O : Inclusion) (src : List ℕ) (open_around : ℕ) where
   -- one construct, by the grammar alone
   pub data StepsOver : State → State → Type 0 where
     takes_run : (i j b c : ℕ) (items done : Forest Item) (stack : Open) → IsCharacterData src i j → Parts main O src i j i b c items
@@ -24,18 +24,18 @@ module _ (main : Bool) (O : Inclusion) (src : List ℕ) (base : ℕ) where
     takes_empty : (i j b c : ℕ) (t : Tag) (done : Forest Item) (stack : Open) → IsTag main O src i j b c true t
         → StepsOver (state i done stack b) (state j (join done (leaf (Element i j t))) stack c)
     takes_start : (i j b c : ℕ) (t : Tag) (done : Forest Item) (stack : Open) → IsTag main O src i j b c false t → StepsOver (state i done stack b) (state j Nil (inside i t done stack) c)
-    takes_end : (i p j b start : ℕ) (t : Tag) (done before : Forest Item) (up : Open) → base < depth_of up + 1 → IsEnd src i t.name p j
+    takes_end : (i p j b start : ℕ) (t : Tag) (done before : Forest Item) (up : Open) → open_around < depth_of up + 1 → IsEnd src i t.name p j
         → StepsOver (state i done (inside start t before up) b) (state j (join before (Cons (Element start j t) (merge done) Nil)) up b)
 
   -- the constructs from a state on, up to the end of the text
   pub data Chain : State → State → Type 0 where
-    arrives : (s : State) → s.at ≡ length src → depth_of s.stack ≡ base → Chain s s
+    arrives : (s : State) → s.at ≡ length src → depth_of s.stack ≡ open_around → Chain s s
     goes : (s t u : State) → StepsOver s t → Chain t u → Chain s u
 
   mutual
     -- content in front
     pub content_chain : (i l b c : ℕ) (items : Forest Item) → Content main O src i l b c items → (done : Forest Item) (stack : Open) (u : State)
-        → base < depth_of stack + 1 → Chain (state l (join done items) stack c) u → Chain (state i done stack b) u
+        → open_around < depth_of stack + 1 → Chain (state l (join done items) stack c) u → Chain (state i done stack b) u
     content_chain i l b c items (ends _ _) done stack u own rest = rw join-nil at rest
     content_chain i l b d items (run _ j _ _ c _ front more is parts inner) done stack u own rest =
         goes _ _ u (takes_run i j b c front done stack is parts) (content_chain j l c d more inner (join done front) stack u own (rw (← join_assoc) at rest))
@@ -47,7 +47,7 @@ module _ (main : Bool) (O : Inclusion) (src : List ℕ) (base : ℕ) where
         element_chain i j b c one is done stack u own (content_chain j l c d more inner (join done one) stack u own (rw (← join_assoc) at rest))
 
     element_chain : (i j b c : ℕ) (one : Forest Item) → IsElement main O src i j b c one → (done : Forest Item) (stack : Open) (u : State)
-        → base < depth_of stack + 1 → Chain (state j (join done one) stack c) u → Chain (state i done stack b) u
+        → open_around < depth_of stack + 1 → Chain (state j (join done one) stack c) u → Chain (state i done stack b) u
     element_chain i j b c one (empty _ _ _ _ t is) done stack u own rest = goes _ _ u (takes_empty i j b c t done stack is) rest
     element_chain i j b d one (nest _ k m p _ _ c _ t kids is inner end) done stack u own rest =
         goes _ _ u (takes_start i k b c t done stack is)
@@ -55,7 +55,7 @@ module _ (main : Bool) (O : Inclusion) (src : List ℕ) (base : ℕ) where
 
   -- how the text has to go on from a state with so many own elements open
   abbrev pub Completes : (own : ℕ) → ℕ → ℕ → Forest Item → Open → State → Type 0
-  Completes zero i b done stack u = (more : Forest Item) × Content main O src i (length src) b u.left more × (u ≡ state (length src) (join done more) stack u.left)
+  Completes zero i b done stack u = (more : Forest Item) × Content main O src i (length src) b u.openings_left more × (u ≡ state (length src) (join done more) stack u.openings_left)
   Completes (suc n) i b done root u = ⊥
   Completes (suc n) i b done (inside start t before up) u =
       (more : Forest Item) × (m : ℕ) × (p : ℕ) × (e : ℕ) × (r : ℕ) × Content main O src i m b r more × IsEnd src m t.name p e
@@ -65,14 +65,14 @@ module _ (main : Bool) (O : Inclusion) (src : List ℕ) (base : ℕ) where
   extends : (own i j b c : ℕ) (done items : Forest Item) (stack : Open) (u : State)
       → ((l d : ℕ) (more : Forest Item) → Content main O src j l c d more → Content main O src i l b d (join items more))
       → Completes own j c (join done items) stack u → Completes own i b done stack u
-  extends zero i j b c done items stack u front (more, is, same) = (join items more, front (length src) u.left more is, rw join_assoc at same)
+  extends zero i j b c done items stack u front (more, is, same) = (join items more, front (length src) u.openings_left more is, rw join_assoc at same)
   extends (suc n) i j b c done items root u front h = absurd h
   extends (suc n) i j b c done items (inside start t before up) u front (more, m, p, e, r, is, end, rest) =
       (join items more, m, p, e, r, front m r more is, end, rw join_assoc at rest)
 
   -- one construct in front
-  pub takes_completes : (own : ℕ) (s t u : State) → StepsOver s t → depth_of s.stack ≡ base + own
-      → ((next : ℕ) → depth_of t.stack ≡ base + next → Completes next t.at t.left t.done t.stack u) → Completes own s.at s.left s.done s.stack u
+  pub takes_completes : (own : ℕ) (s t u : State) → StepsOver s t → depth_of s.stack ≡ open_around + own
+      → ((next : ℕ) → depth_of t.stack ≡ open_around + next → Completes next t.at t.openings_left t.done t.stack u) → Completes own s.at s.openings_left s.done s.stack u
   takes_completes own s t u (takes_run i j b c items done stack is parts) deep h =
       extends own i j b c done items stack u (λ l d more content. run i j l b c d items more is parts content) (h own deep)
   takes_completes own s t u (takes_cdata i e j b done stack is) deep h =
@@ -92,15 +92,15 @@ module _ (main : Bool) (O : Inclusion) (src : List ℕ) (base : ℕ) where
       (Nil, i, p, j, b, ends i b, end, rw join-nil (h n (omega (arith, deep))))
 
   -- a chain is what completes its first state
-  pub chain_completes : (own : ℕ) (s u : State) → Chain s u → depth_of s.stack ≡ base + own → Completes own s.at s.left s.done s.stack u
+  pub chain_completes : (own : ℕ) (s u : State) → Chain s u → depth_of s.stack ≡ open_around + own → Completes own s.at s.openings_left s.done s.stack u
   chain_completes zero s u (arrives _ here same) deep =
-      (Nil, subst (λ (l : ℕ). Content main O src s.at l s.left s.left Nil) here (ends s.at s.left), rw (join-nil, sym here) refl)
+      (Nil, subst (λ (l : ℕ). Content main O src s.at l s.openings_left s.openings_left Nil) here (ends s.at s.openings_left), rw (join-nil, sym here) refl)
   chain_completes (suc n) s u (arrives _ here same) deep = absurd (omega (arith, deep, same))
   chain_completes own s u (goes _ t _ takes rest) deep = takes_completes own s t u takes deep (λ next deep'. chain_completes next t u rest deep')
 
 -- a replacement text that is read from a state on, in which so many elements are open, is content, and the other way round
 pub text_sound : (O : Inclusion) (src : List ℕ) (i b : ℕ) (done : Forest Item) (stack : Open) (u : State) → Chain false O src (depth_of stack) (state i done stack b) u
-    → (items : Forest Item) × Content false O src i (length src) b u.left items × (u ≡ state (length src) (join done items) stack u.left)
+    → (items : Forest Item) × Content false O src i (length src) b u.openings_left items × (u ≡ state (length src) (join done items) stack u.openings_left)
 text_sound O src i b done stack u chain = chain_completes false O src (depth_of stack) zero (state i done stack b) u chain (omega arith)
 
 pub text_complete : (O : Inclusion) (src : List ℕ) (i b c : ℕ) (done items : Forest Item) (stack : Open) → Content false O src i (length src) b c items

@@ -17,7 +17,7 @@ pub use Rattle.rox_theory.specs.ValidState.{state}
 
 -- one more item without children, up to j
 abbrev pub with_leaf : State → ℕ → Item → State
-with_leaf s j item = record { at = j; done = join s.done (leaf item); stack = s.stack; left = s.left }
+with_leaf s j item = record { at = j; done = join s.done (leaf item); stack = s.stack; openings_left = s.openings_left }
 
 -- what is within the limit is the state itself
 pub counted_fits : (limit : ℕ) (s t : State) → counted limit s ≡ Ok t → (s ≡ t) × (nodes_so_far s.stack s.done ≤ limit)

@@ -17,7 +17,7 @@ pub record Measure (of : Forest Item → ℕ) : Type 0 where
   pub none : of Nil ≡ 0
   pub joined : (f g : Forest Item) → of (join f g) ≤ of f + of g
   pub element : (i j : ℕ) (t : Tag) (kids : Forest Item) → of (Cons (Element i j t) kids Nil) ≤ 1 + most_of t.attributes + of kids
-  pub text : (i j : ℕ) (v : List ℕ) (plain : Bool) (n : ℕ) → 1 ≤ n → length v ≤ n → of (leaf (Text i j v plain)) ≤ n
+  pub text : (i j : ℕ) (v : List ℕ) (borrowed : Bool) (n : ℕ) → 1 ≤ n → length v ≤ n → of (leaf (Text i j v borrowed)) ≤ n
   pub comment : (i j : ℕ) (v : List ℕ) → of (leaf (Comment i j v)) ≤ 1
   pub instruction : (i j : ℕ) (target : List ℕ) (v : Option (List ℕ)) → of (leaf (PI i j target v)) ≤ 1
   pub merged : (f : Forest Item) → of (merge f) ≤ of f
@@ -41,15 +41,15 @@ bytes_join : (f g : Forest Item) → bytes_in (join f g) ≡ bytes_in f + bytes_
 bytes_join Nil g = omega arith
 bytes_join (Cons item kids rest) g = let h = bytes_join rest g in omega (arith, h)
 
-bytes_glue : (a e : ℕ) (v : List ℕ) (plain : Bool) (below f : Forest Item) → bytes_in (glue a e v plain below f) ≡ length v + (bytes_in below + bytes_in f)
-bytes_glue a e v plain below Nil = refl
-bytes_glue a e v plain below (Cons (Text x y w p) kids rest) =
+bytes_glue : (a e : ℕ) (v : List ℕ) (borrowed : Bool) (below f : Forest Item) → bytes_in (glue a e v borrowed below f) ≡ length v + (bytes_in below + bytes_in f)
+bytes_glue a e v borrowed below Nil = refl
+bytes_glue a e v borrowed below (Cons (Text x y w p) kids rest) =
     let l = length-append v w in
     let j = bytes_join below kids in
     omega (arith, l, j)
-bytes_glue a e v plain below (Cons (Element x y t) kids rest) = refl
-bytes_glue a e v plain below (Cons (Comment x y t) kids rest) = refl
-bytes_glue a e v plain below (Cons (PI x y t o) kids rest) = refl
+bytes_glue a e v borrowed below (Cons (Element x y t) kids rest) = refl
+bytes_glue a e v borrowed below (Cons (Comment x y t) kids rest) = refl
+bytes_glue a e v borrowed below (Cons (PI x y t o) kids rest) = refl
 
 bytes_merge : (f : Forest Item) → bytes_in (merge f) ≡ bytes_in f
 bytes_merge Nil = refl
@@ -67,7 +67,7 @@ by_bytes =
       none = refl;
       joined = λ f g. let h = bytes_join f g in omega (arith, h);
       element = λ i j t kids. let h = values_most t.attributes in omega (arith, h);
-      text = λ i j v plain n some le. omega (arith, le);
+      text = λ i j v borrowed n some le. omega (arith, le);
       comment = λ i j v. omega arith;
       instruction = λ i j target v. omega arith;
       merged = λ f. let h = bytes_merge f in omega (arith, h);
@@ -86,12 +86,12 @@ attributes_most : (as' : List Attribute) → length as' ≤ most_of as'
 attributes_most [] = omega arith
 attributes_most (a ∷ as') = let h = attributes_most as' in omega (arith, h)
 
-count_glue : (a e : ℕ) (v : List ℕ) (plain : Bool) (below f : Forest Item) → count_in (glue a e v plain below f) ≤ 1 + (count_in below + count_in f)
-count_glue a e v plain below Nil = omega arith
-count_glue a e v plain below (Cons (Text x y w p) kids rest) = let j = count_join below kids in omega (arith, j)
-count_glue a e v plain below (Cons (Element x y t) kids rest) = omega arith
-count_glue a e v plain below (Cons (Comment x y t) kids rest) = omega arith
-count_glue a e v plain below (Cons (PI x y t o) kids rest) = omega arith
+count_glue : (a e : ℕ) (v : List ℕ) (borrowed : Bool) (below f : Forest Item) → count_in (glue a e v borrowed below f) ≤ 1 + (count_in below + count_in f)
+count_glue a e v borrowed below Nil = omega arith
+count_glue a e v borrowed below (Cons (Text x y w p) kids rest) = let j = count_join below kids in omega (arith, j)
+count_glue a e v borrowed below (Cons (Element x y t) kids rest) = omega arith
+count_glue a e v borrowed below (Cons (Comment x y t) kids rest) = omega arith
+count_glue a e v borrowed below (Cons (PI x y t o) kids rest) = omega arith
 
 count_merge : (f : Forest Item) → count_in (merge f) ≤ count_in f
 count_merge Nil = omega arith
@@ -109,7 +109,7 @@ by_count =
       none = refl;
       joined = λ f g. let h = count_join f g in omega (arith, h);
       element = λ i j t kids. let h = attributes_most t.attributes in omega (arith, h);
-      text = λ i j v plain n some le. omega (arith, some);
+      text = λ i j v borrowed n some le. omega (arith, some);
       comment = λ i j v. omega arith;
       instruction = λ i j target v. omega arith;
       merged = count_merge;

@@ -29,53 +29,53 @@ use Rattle.rox_theory.proofs.TagOnce.{tag_once}
 use Rattle.rox_theory.proofs.Chains as chains
 use Rattle.rox_theory.proofs.Chains.{Drives, root_drives}
 
-module _ (how : Values) (O : Inclusion) (agrees : AgreesValue how.entities O how.opener) (once : OpensOnce O) (src : List ℕ) (utf8 : IsUtf8 src) where
+module _ (context : Values) (O : Inclusion) (agrees : AgreesValue context.entities O context.opener) (once : OpensOnce O) (src : List ℕ) (utf8 : IsUtf8 src) where
   -- an end tag closes the innermost open element
   abbrev Closes : ℕ → ℕ → Forest Item → Open → State → Type 0
-  Closes left j done root t = ⊥
-  Closes left j done (inside start tag before up) t = t ≡ closed j done start tag before up left
+  Closes openings_left j done root t = ⊥
+  Closes openings_left j done (inside start tag before up) t = t ≡ closed j done start tag before up openings_left
 
   -- one construct, by its kind
   abbrev OneBy : Kind → State → State → Type 0
-  OneBy a_run s t = (j : ℕ) × (c : ℕ) × (items : Forest Item) × IsCharacterData src s.at j × Parts how.main O src s.at j s.at s.left c items × (t ≡ state j (join s.done items) s.stack c)
+  OneBy a_run s t = (j : ℕ) × (c : ℕ) × (items : Forest Item) × IsCharacterData src s.at j × Parts context.main O src s.at j s.at s.openings_left c items × (t ≡ state j (join s.done items) s.stack c)
   OneBy a_comment s t = (j : ℕ) × (text : List ℕ) × (comment_at src s.at ≡ Ok (text, j)) × (t ≡ with_leaf s j (Comment s.at j text))
   OneBy a_cdata s t = (j : ℕ) × (text : List ℕ) × (cdata_at src s.at ≡ Ok (text, j)) × (t ≡ with_leaf s j (Text s.at j (line_ends (literals text)) (not (list_any (λ b. b == 13) text))))
   OneBy an_instruction s t = (j : ℕ) × (x : Instruction) × (instruction_at src s.at ≡ Ok (x, j)) × (t ≡ with_leaf s j (PI s.at j x.target x.value))
-  OneBy an_end s t = (j : ℕ) × (x : EndTag) × (end_tag_at src s.at ≡ Ok (x, j)) × Closes s.left j s.done s.stack t
-  OneBy a_tag s t = (j : ℕ) × (c : ℕ) × (tag : Tag) × (empty : Bool) × IsTag how.main O src s.at j s.left c empty tag × (t ≡ after s j tag empty c)
+  OneBy an_end s t = (j : ℕ) × (x : EndTag) × (end_tag_at src s.at ≡ Ok (x, j)) × Closes s.openings_left j s.done s.stack t
+  OneBy a_tag s t = (j : ℕ) × (c : ℕ) × (tag : Tag) × (empty : Bool) × IsTag context.main O src s.at j s.openings_left c empty tag × (t ≡ after s j tag empty c)
   OneBy nothing s t = ⊥
 
   -- of the kind that stands there
   by_kind : (k : Kind) (s t : State) → kind_at src s.at ≡ k → OneBy k s t → OneBy (kind_at src s.at) s t
   by_kind k s t is h = subst (λ (k : Kind). OneBy k s t) (sym is) h
 
-  takes_by : (base : ℕ) (s t : State) → StepsOver how.main O src base s t → OneBy (kind_at src s.at) s t
-  takes_by base s t (takes_run i j b c items done stack is parts) = by_kind a_run s t (run_kind src i (run_within src i j is).1) (j, c, items, is, parts, refl)
-  takes_by base s t (takes_cdata i e j b done stack is) = by_kind a_cdata s t (cdata_kind src i is.opens) (j, slice src (i + 9) e, cdata_complete src i e j is, refl)
-  takes_by base s t (takes_misc i j b item done stack is) = misc_by item is
+  takes_by : (open_around : ℕ) (s t : State) → StepsOver context.main O src open_around s t → OneBy (kind_at src s.at) s t
+  takes_by open_around s t (takes_run i j b c items done stack is parts) = by_kind a_run s t (run_kind src i (run_within src i j is).1) (j, c, items, is, parts, refl)
+  takes_by open_around s t (takes_cdata i e j b done stack is) = by_kind a_cdata s t (cdata_kind src i is.opens) (j, slice src (i + 9) e, cdata_complete src i e j is, refl)
+  takes_by open_around s t (takes_misc i j b item done stack is) = misc_by item is
     where
       misc_by : (item : Item) → IsMisc src i j item → OneBy (kind_at src i) (state i done stack b) (with_leaf (state i done stack b) j item)
       misc_by item (comment _ e _ is) = by_kind a_comment (state i done stack b) _ (comment_kind src i is.opens) (j, slice src (i + 4) e, comment_complete src i e j is, refl)
       misc_by item (instruction _ n e _ is) = by_kind an_instruction (state i done stack b) _ (instruction_kind src i is.opens)
           (j, record { target = slice src (i + 2) n; value = none_if_empty (slice src (spaces_end src n) e) }, instruction_complete src i n e j is, refl)
-  takes_by base s t (takes_empty i j b c tag done stack is) = by_kind a_tag s t (tag_kind src i is.begins (name_byte src (i + 1) tag.name tag.name_end is.is_name)) (j, c, tag, true, is, refl)
-  takes_by base s t (takes_start i j b c tag done stack is) = by_kind a_tag s t (tag_kind src i is.begins (name_byte src (i + 1) tag.name tag.name_end is.is_name)) (j, c, tag, false, is, refl)
-  takes_by base s t (takes_end i p j b start tag done before up deep end) = by_kind an_end s t (end_kind src i end.opens) (j, record { name = tag.name; name_end = p }, end_complete src i j p tag.name end, refl)
+  takes_by open_around s t (takes_empty i j b c tag done stack is) = by_kind a_tag s t (tag_kind src i is.begins (name_byte src (i + 1) tag.name tag.name_end is.is_name)) (j, c, tag, true, is, refl)
+  takes_by open_around s t (takes_start i j b c tag done stack is) = by_kind a_tag s t (tag_kind src i is.begins (name_byte src (i + 1) tag.name tag.name_end is.is_name)) (j, c, tag, false, is, refl)
+  takes_by open_around s t (takes_end i p j b start tag done before up deep end) = by_kind an_end s t (end_kind src i end.opens) (j, record { name = tag.name; name_end = p }, end_complete src i j p tag.name end, refl)
 
-  closes_once : (left j : ℕ) (done : Forest Item) (stack : Open) (t u : State) → Closes left j done stack t → Closes left j done stack u → t ≡ u
-  closes_once left j done root t u h k = absurd h
-  closes_once left j done (inside start tag before up) t u h k = h ∙ sym k
+  closes_once : (openings_left j : ℕ) (done : Forest Item) (stack : Open) (t u : State) → Closes openings_left j done stack t → Closes openings_left j done stack u → t ≡ u
+  closes_once openings_left j done root t u h k = absurd h
+  closes_once openings_left j done (inside start tag before up) t u h k = h ∙ sym k
 
   pub tags_once : (s t u : State) → OneBy a_tag s t → OneBy a_tag s u → t ≡ u
   tags_once s t u (j, c, tag, empty, is, to) (k, d, tag', empty', is', to') =
-      let same = tag_once how O agrees src utf8 s.at j k s.left c d tag tag' empty empty' is is' in
+      let same = tag_once context O agrees src utf8 s.at j k s.openings_left c d tag tag' empty empty' is is' in
       to ∙ ap (λ (j : ℕ). after s j tag empty c) same.0 ∙ ap (λ (c : ℕ). after s k tag empty c) same.1 ∙ ap (λ (e : Bool). after s k tag e d) same.2 ∙ ap (λ (tag : Tag). after s k tag empty' d) same.3 ∙ sym to'
 
   by_once : (k : Kind) (s t u : State) → OneBy k s t → OneBy k s u → t ≡ u
   by_once a_run s t u (j, c, items, run, parts, to) (k, d, more, run', parts', to') =
       let at : k ≡ j = run'.end ∙ sym run.end in
-      let parts'' : Parts how.main O src s.at j s.at s.left d more = subst (λ (k : ℕ). Parts how.main O src s.at k s.at s.left d more) at parts' in
-      let same = parts_once how.main O once src s.at j s.at s.left c d items more parts parts'' in
+      let parts'' : Parts context.main O src s.at j s.at s.openings_left d more = subst (λ (k : ℕ). Parts context.main O src s.at k s.at s.openings_left d more) at parts' in
+      let same = parts_once context.main O once src s.at j s.at s.openings_left c d items more parts parts'' in
       to ∙ ap (λ (f : Forest Item). state j (join s.done f) s.stack c) same.0 ∙ ap (λ (c : ℕ). state j (join s.done more) s.stack c) same.1 ∙ ap (λ (j : ℕ). state j (join s.done more) s.stack d) (sym at) ∙ sym to'
   by_once a_comment s t u (j, text, read, to) (k, text', read', to') =
       let same = ok_one (text, j) (text', k) (comment_at src s.at) read read' in
@@ -89,39 +89,39 @@ module _ (how : Values) (O : Inclusion) (agrees : AgreesValue how.entities O how
   by_once an_end s t u (j, x, read, to) (k, x', read', to') =
       let same = ok_one (x, j) (x', k) (end_tag_at src s.at) read read' in
       let at : k ≡ j = sym (ap (λ (x : EndTag × ℕ). x.1) same) in
-      closes_once s.left j s.done s.stack t u to (subst (λ (k : ℕ). Closes s.left k s.done s.stack u) at to')
+      closes_once s.openings_left j s.done s.stack t u to (subst (λ (k : ℕ). Closes s.openings_left k s.done s.stack u) at to')
   by_once a_tag s t u h k = tags_once s t u h k
   by_once nothing s t u h k = absurd h
 
   -- one construct stands at a place
-  pub takes_once : (base : ℕ) (s t u : State) → StepsOver how.main O src base s t → StepsOver how.main O src base s u → t ≡ u
-  takes_once base s t u h k = by_once (kind_at src s.at) s t u (takes_by base s t h) (takes_by base s u k)
+  pub takes_once : (open_around : ℕ) (s t u : State) → StepsOver context.main O src open_around s t → StepsOver context.main O src open_around s u → t ≡ u
+  takes_once open_around s t u h k = by_once (kind_at src s.at) s t u (takes_by open_around s t h) (takes_by open_around s u k)
 
 -- ---- replacement texts
 
-module _ (how : Values) (O : Inclusion) (src : List ℕ) where
+module _ (context : Values) (O : Inclusion) (src : List ℕ) where
   -- one construct begins in the text
-  takes_within : (base : ℕ) (s t : State) → StepsOver how.main O src base s t → s.at < length src
-  takes_within base s t (takes_run i j b c items done stack is parts) = (run_within src i j is).0
-  takes_within base s t (takes_cdata i e j b done stack is) = omega (arith, (cdata_bytes src i is.opens).0)
-  takes_within base s t (takes_misc i j b item done stack (comment _ e _ is)) = omega (arith, (comment_bytes src i is.opens).0)
-  takes_within base s t (takes_misc i j b item done stack (instruction _ n e _ is)) = omega (arith, (instruction_bytes src i is.opens).0)
-  takes_within base s t (takes_empty i j b c tag done stack is) = omega (arith, (name_byte src (i + 1) tag.name tag.name_end is.is_name).within)
-  takes_within base s t (takes_start i j b c tag done stack is) = omega (arith, (name_byte src (i + 1) tag.name tag.name_end is.is_name).within)
-  takes_within base s t (takes_end i p j b start tag done before up deep end) = omega (arith, (end_bytes src i end.opens).0)
+  takes_within : (open_around : ℕ) (s t : State) → StepsOver context.main O src open_around s t → s.at < length src
+  takes_within open_around s t (takes_run i j b c items done stack is parts) = (run_within src i j is).0
+  takes_within open_around s t (takes_cdata i e j b done stack is) = omega (arith, (cdata_bytes src i is.opens).0)
+  takes_within open_around s t (takes_misc i j b item done stack (comment _ e _ is)) = omega (arith, (comment_bytes src i is.opens).0)
+  takes_within open_around s t (takes_misc i j b item done stack (instruction _ n e _ is)) = omega (arith, (instruction_bytes src i is.opens).0)
+  takes_within open_around s t (takes_empty i j b c tag done stack is) = omega (arith, (name_byte src (i + 1) tag.name tag.name_end is.is_name).within)
+  takes_within open_around s t (takes_start i j b c tag done stack is) = omega (arith, (name_byte src (i + 1) tag.name tag.name_end is.is_name).within)
+  takes_within open_around s t (takes_end i p j b start tag done before up deep end) = omega (arith, (end_bytes src i end.opens).0)
 
 module _ (es : List Entity) (opener : ValueInclusion) (O : Inclusion) (agrees : AgreesValue es O opener) (once : OpensOnce O) (src : List ℕ) (utf8 : IsUtf8 src) where
   abbrev within : Values
   within = record { main = false; entities = es; opener = opener }
 
   -- there is one chain up to the end
-  chain_once : (base : ℕ) (s t u : State) → Chain false O src base s t → Chain false O src base s u → t ≡ u
-  chain_once base s t u (arrives _ at deep) (arrives _ at' deep') = refl
-  chain_once base s t u (arrives _ at deep) (goes _ v _ takes rest) = absurd (omega (arith, at, takes_within within O src base s v takes))
-  chain_once base s t u (goes _ v _ takes rest) (arrives _ at deep) = absurd (omega (arith, at, takes_within within O src base s v takes))
-  chain_once base s t u (goes _ v _ takes rest) (goes _ w _ takes' rest') =
-      let e : w ≡ v = takes_once within O agrees once src utf8 base s w v takes' takes in
-      chain_once base v t u rest (subst (λ (w : State). Chain false O src base w u) e rest')
+  chain_once : (open_around : ℕ) (s t u : State) → Chain false O src open_around s t → Chain false O src open_around s u → t ≡ u
+  chain_once open_around s t u (arrives _ at deep) (arrives _ at' deep') = refl
+  chain_once open_around s t u (arrives _ at deep) (goes _ v _ takes rest) = absurd (omega (arith, at, takes_within within O src open_around s v takes))
+  chain_once open_around s t u (goes _ v _ takes rest) (arrives _ at deep) = absurd (omega (arith, at, takes_within within O src open_around s v takes))
+  chain_once open_around s t u (goes _ v _ takes rest) (goes _ w _ takes' rest') =
+      let e : w ≡ v = takes_once within O agrees once src utf8 open_around s w v takes' takes in
+      chain_once open_around v t u rest (subst (λ (w : State). Chain false O src open_around w u) e rest')
 
   -- a text is content in one way, and as many may be opened behind it
   pub text_once : (i b c d : ℕ) (items more : Forest Item) → Content false O src i (length src) b c items → Content false O src i (length src) b d more → (items ≡ more) × (c ≡ d)
@@ -129,7 +129,7 @@ module _ (es : List Entity) (opener : ValueInclusion) (O : Inclusion) (agrees : 
       let first = text_complete O src i b c Nil items root x in
       let second = text_complete O src i b d Nil more root y in
       let one = chain_once 0 (state i Nil root b) (state (length src) items root c) (state (length src) more root d) first second in
-      (ap (λ (s : State). s.done) one, ap (λ (s : State). s.left) one)
+      (ap (λ (s : State). s.done) one, ap (λ (s : State). s.openings_left) one)
 
 -- what is spent leaves one budget within the text, and one behind it
 spends_once : (main : Bool) (b r l c q m d : ℕ) → Spends main b r l c → Spends main b q m d → r ≡ q

@@ -113,17 +113,17 @@ module _ (src : List ℕ) (utf8 : IsUtf8 src) where
         → (d ≡ e) × (a ≡ b) × (t ≡ u)
     one_parse d e a b t u p q permits permits' answers =
         let declared = ok_one p.declared_to q.declared_to (prolog src (after_bom src)) (prolog_complete src utf8 (after_bom src) p.declared_to p.declaration) (prolog_complete src utf8 (after_bom src) q.declared_to q.declaration) in
-        let stops = element_stops true (included_in_main p.entities) src p.start p.end 255 p.left p.one p.element in
-        let stops' = element_stops true (included_in_main q.entities) src q.start q.end 255 q.left q.one q.element in
+        let stops = element_stops true (included_in_main p.entities) src p.start p.end 255 p.openings_left p.one p.element in
+        let stops' = element_stops true (included_in_main q.entities) src q.start q.end 255 q.openings_left q.one q.element in
         let before = one_misc p.declared_to q.declared_to p.begun q.begun p.before q.before declared p.misc_before (begins_stop src p.begun p.start d p.nodes a p.entities p.doctype stops.2)
         q.misc_before (begins_stop src q.begun q.start e q.nodes b q.entities q.doctype stops'.2) in
         let kind : d ≡ e = sym (dtd_begins src p.begun p.start d p.nodes a p.entities p.doctype stops.1) ∙ ap (at word.DoctypeStart src) before.0 ∙ dtd_begins src q.begun q.start e q.nodes b q.entities q.doctype stops'.1 in
         let declares = one_doctype p.begun q.begun p.start q.start d e p.nodes q.nodes a b p.entities q.entities before.0 answers (named_there d a t p) (named_there e b u q)
         p.doctype stops.2 stops.1 permits q.doctype stops'.2 stops'.1 permits' in
         let texts = doctypes.texts p.begun p.start d p.nodes a p.entities p.doctype permits in
-        let other : IsElement true (included_in_main p.entities) src p.start q.end 255 q.left q.one =
-        subst (λ (es : List Entity). IsElement true (included_in_main es) src p.start q.end 255 q.left q.one) (sym declares.3) (subst (λ (i : ℕ). IsElement true (included_in_main q.entities) src i q.end 255 q.left q.one) (sym declares.1) q.element) in
-        let element = element_once p.entities texts src utf8 p.start p.end q.end 255 p.left q.left p.one q.one p.element other in
+        let other : IsElement true (included_in_main p.entities) src p.start q.end 255 q.openings_left q.one =
+        subst (λ (es : List Entity). IsElement true (included_in_main es) src p.start q.end 255 q.openings_left q.one) (sym declares.3) (subst (λ (i : ℕ). IsElement true (included_in_main q.entities) src i q.end 255 q.openings_left q.one) (sym declares.1) q.element) in
+        let element = element_once p.entities texts src utf8 p.start p.end q.end 255 p.openings_left q.openings_left p.one q.one p.element other in
         let after = one_misc p.end q.end (length src) (length src) p.after q.after element.0 p.misc_after (end_stops src) q.misc_after (end_stops src) in
         (kind, declares.0, p.is_tree ∙ rw (before.1, declares.2, element.1, after.1) refl ∙ sym q.is_tree)
 

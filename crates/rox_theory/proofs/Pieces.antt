@@ -68,17 +68,17 @@ module _ (text : List ℕ) (es : List Entity) where
     content : (name : List ℕ) (b : ℕ) (items : Forest Item) (c : ℕ) (is : O.content name b items c) → Made items (opened.content name b items c is)
 
   module _ (src : List ℕ) (known : IsSourceIn text es src) where
-    piece_made : (start stop : ℕ) (plain : Bool) (ss : List DataByte) → Made (piece start stop plain ss) (written_in src (piece start stop plain ss))
-    piece_made start stop plain [] = (refl, tt)
-    piece_made start stop plain (s ∷ ss) = (refl, (known, λ none. absurd (some_bytes s ss none), tt, tt))
+    piece_made : (start stop : ℕ) (borrowed : Bool) (ss : List DataByte) → Made (piece start stop borrowed ss) (written_in src (piece start stop borrowed ss))
+    piece_made start stop borrowed [] = (refl, tt)
+    piece_made start stop borrowed (s ∷ ss) = (refl, (known, λ none. absurd (some_bytes s ss none), tt, tt))
 
     misc_made : (i j : ℕ) (item : Item) → IsMisc src i j item → Made (leaf item) (written_in src (leaf item))
     misc_made i j item (comment _ e _ is) = (refl, (known, tt, tt, tt))
     misc_made i j item (instruction _ n e _ is) = (refl, (known, tt, tt, tt))
 
-    section_made : (i e j : ℕ) (plain : Bool) → IsCData src i e j
-        → Made (leaf (Text i j (line_ends (literals (slice src (i + 9) e))) plain)) (written_in src (leaf (Text i j (line_ends (literals (slice src (i + 9) e))) plain)))
-    section_made i e j plain is = (refl, (known, λ none. empty_section src i e j is (no_bytes (slice src (i + 9) e) none), tt, tt))
+    section_made : (i e j : ℕ) (borrowed : Bool) → IsCData src i e j
+        → Made (leaf (Text i j (line_ends (literals (slice src (i + 9) e))) borrowed)) (written_in src (leaf (Text i j (line_ends (literals (slice src (i + 9) e))) borrowed)))
+    section_made i e j borrowed is = (refl, (known, λ none. empty_section src i e j is (no_bytes (slice src (i + 9) e) none), tt, tt))
 
     module _ (main : Bool) (O : Inclusion) (opened : Writes O) (opens : OpensMade O opened) where
       parts_made : (start stop i b c : ℕ) (items : Forest Item) (is : Parts main O src start stop i b c items) → Made items (parts_pieces main O opened src start stop i b c items is)
@@ -160,7 +160,7 @@ parse_made src dtd asked tree p =
     let known : IsSourceIn src p.entities src = inl refl in
     let before = all_made src p.entities src known p.declared_to p.begun p.before p.misc_before in
     let nodes = doctype_made src p.entities src known p.begun p.start dtd p.nodes asked p.entities p.doctype in
-    let one = element_made src p.entities src known true (included_in_main p.entities) (writes p.entities most_deep true) (opens_made src p.entities most_deep true) p.start p.end 255 p.left p.one p.element in
+    let one = element_made src p.entities src known true (included_in_main p.entities) (writes p.entities most_deep true) (opens_made src p.entities most_deep true) p.start p.end 255 p.openings_left p.one p.element in
     let after = all_made src p.entities src known p.end (length src) p.after p.misc_after in
     let back = made_join src p.entities p.one p.after _ _ one after in
     let more = made_join src p.entities p.nodes (join p.one p.after) _ _ nodes back in

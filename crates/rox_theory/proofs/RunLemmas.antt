@@ -58,112 +58,112 @@ with_some limit s i j b v bs is = rw is refl
 pub record IsPiece (s t : State) (i j : ℕ) (ss : List DataByte) : Type 0 where
   pub done : t.done ≡ join s.done (piece i j false ss)
   pub stack : t.stack ≡ s.stack
-  pub left : t.left ≡ s.left
+  pub openings_left : t.openings_left ≡ s.openings_left
 
 pub piece_read : (limit most : ℕ) (s t : State) (i j : ℕ) (ss : List DataByte) → limit ≤ most → IsValidState most s → with_piece limit s i j (line_ends ss) ≡ Ok t → IsPiece s t i j ss × IsValidState most t
 piece_read limit most s t i j [] more fine h =
     let e : s ≡ t = ok_same _ _ h in
-    (record { done = sym (ap (λ (s : State). s.done) e) ∙ sym (join-nil s.done); stack = sym (ap (λ (s : State). s.stack) e); left = sym (ap (λ (s : State). s.left) e) }, subst (IsValidState most) e fine)
+    (record { done = sym (ap (λ (s : State). s.done) e) ∙ sym (join-nil s.done); stack = sym (ap (λ (s : State). s.stack) e); openings_left = sym (ap (λ (s : State). s.openings_left) e) }, subst (IsValidState most) e fine)
 piece_read limit most s t i j (x ∷ ss) more fine h =
     let some = some_line_ends x ss in
     let item = Text i j (line_ends (x ∷ ss)) false in
     let h' = sym (with_some limit s i j some.0 (line_ends (x ∷ ss)) some.1 some.2) ∙ h in
     let r = item_read limit most s t j item more refl refl tt fine h' in
-    (record { done = ap (λ (s : State). s.done) r.0; stack = ap (λ (s : State). s.stack) r.0; left = ap (λ (s : State). s.left) r.0 }, r.1)
+    (record { done = ap (λ (s : State). s.done) r.0; stack = ap (λ (s : State). s.stack) r.0; openings_left = ap (λ (s : State). s.openings_left) r.0 }, r.1)
 
-read_piece : (limit : ℕ) (s : State) (i j : ℕ) (ss : List DataByte) → IsValidState limit (state j (join s.done (piece i j false ss)) s.stack s.left)
+read_piece : (limit : ℕ) (s : State) (i j : ℕ) (ss : List DataByte) → IsValidState limit (state j (join s.done (piece i j false ss)) s.stack s.openings_left)
     → (t : State) × (with_piece limit s i j (line_ends ss) ≡ Ok t) × IsPiece s t i j ss
-read_piece limit s i j [] fine = (s, refl, record { done = sym (join-nil s.done); stack = refl; left = refl })
+read_piece limit s i j [] fine = (s, refl, record { done = sym (join-nil s.done); stack = refl; openings_left = refl })
 read_piece limit s i j (x ∷ ss) fine =
     let some = some_line_ends x ss in
     let item = Text i j (line_ends (x ∷ ss)) false in
-    (with_leaf s j item, with_some limit s i j some.0 (line_ends (x ∷ ss)) some.1 some.2 ∙ read_item limit s j item fine, record { done = refl; stack = refl; left = refl })
+    (with_leaf s j item, with_some limit s i j some.0 (line_ends (x ∷ ss)) some.1 some.2 ∙ read_item limit s j item fine, record { done = refl; stack = refl; openings_left = refl })
 
 -- ---- parts
 
-module _ (how : Context) (O : Inclusion) (agrees : AgreesContent how.values.entities how.limit O how.opener) (src : List ℕ) (utf8 : IsUtf8 src) (start stop : ℕ) (long : stop ≤ length src)
+module _ (context : Context) (O : Inclusion) (agrees : AgreesContent context.values.entities context.limit O context.opener) (src : List ℕ) (utf8 : IsUtf8 src) (start stop : ℕ) (long : stop ≤ length src)
     (closes : stop < length src → IsStop (byte src stop)) (marked : is_verbatim (slice src start stop) ≡ false) where
   -- the parts from i on
   abbrev PartsFrom : ℕ → ℕ → ℕ → Forest Item → Type 0
-  PartsFrom i b c items = Parts how.values.main O src start stop i b c items
+  PartsFrom i b c items = Parts context.values.main O src start stop i b c items
 
   -- what they are that are read from a state to another
   abbrev pub PartsStand : ℕ → State → State → Type 0
-  PartsStand most s u = (items : Forest Item) × (c : ℕ) × PartsFrom s.at s.left c items × (u ≡ state stop (join s.done items) s.stack c) × IsValidState most u
+  PartsStand most s u = (items : Forest Item) × (c : ℕ) × PartsFrom s.at s.openings_left c items × (u ≡ state stop (join s.done items) s.stack c) × IsValidState most u
 
   -- parts begin at the stop or before
   parts_le : (i b c : ℕ) (items : Forest Item) → PartsFrom i b c items → i ≤ stop
-  parts_le i b c items (last_part _ _ ss part) = part_le how.values.main src stop i ss part
+  parts_le i b c items (last_part _ _ ss part) = part_le context.values.main src stop i ss part
   parts_le i b d items (then_entity _ p n j _ c _ ss front more part r none opened rest) =
-      omega (arith, part_le how.values.main src p i ss part, reference_opens src p n j r, parts_le j c d more rest)
+      omega (arith, part_le context.values.main src p i ss part, reference_opens src p n j r, parts_le j c d more rest)
 
   -- past the stop there are no signs
-  part_none : (i : ℕ) (ss : List DataByte) → stop ≤ i → Part how.values.main src stop i ss → ss ≡ []
+  part_none : (i : ℕ) (ss : List DataByte) → stop ≤ i → Part context.values.main src stop i ss → ss ≡ []
   part_none i ss past part_ends = refl
   part_none i ss past (as_written _ rest lt no_amp q) = absurd (omega arith)
   part_none i ss past (from_reference _ n c rest r inside q) = absurd (omega (arith, character_opens src i c n r))
 
   -- the last part
-  last_stands : (most : ℕ) (s t u : State) (ss : List DataByte) → Part how.values.main src stop s.at ss → IsPiece s t start stop ss → IsValidState most t → u ≡ at_place stop t → PartsStand most s u
+  last_stands : (most : ℕ) (s t u : State) (ss : List DataByte) → Part context.values.main src stop s.at ss → IsPiece s t start stop ss → IsValidState most t → u ≡ at_place stop t → PartsStand most s u
   last_stands most s t u ss part is fine same =
-      let p : PartsFrom s.at s.left s.left (piece start stop false ss) = subst (λ (f : Bool). PartsFrom s.at s.left s.left (piece start stop f ss)) marked (last_part s.at s.left ss part) in
-      let done = is.done in let stack = is.stack in let left = is.left in
-      (piece start stop false ss, s.left, p, same ∙ rw (done, stack, left) refl, subst (IsValidState most) (sym same) (fine_there most t (at_place stop t) refl refl fine))
+      let p : PartsFrom s.at s.openings_left s.openings_left (piece start stop false ss) = subst (λ (f : Bool). PartsFrom s.at s.openings_left s.openings_left (piece start stop f ss)) marked (last_part s.at s.openings_left ss part) in
+      let done = is.done in let stack = is.stack in let openings_left = is.openings_left in
+      (piece start stop false ss, s.openings_left, p, same ∙ rw (done, stack, openings_left) refl, subst (IsValidState most) (sym same) (fine_there most t (at_place stop t) refl refl fine))
 
   -- a part and a replacement text in front
-  entity_stands : (most : ℕ) (s t v u : State) (p n j : ℕ) (ss : List DataByte) (items : Forest Item) (c : ℕ) → Part how.values.main src p s.at ss → IsPiece s t start stop ss
-      → IsReference src p n j → predefined (slice src (p + 1) n) ≡ None → O.content (slice src (p + 1) n) t.left items c → v ≡ state j (join t.done items) t.stack c → PartsStand most v u → PartsStand most s u
+  entity_stands : (most : ℕ) (s t v u : State) (p n j : ℕ) (ss : List DataByte) (items : Forest Item) (c : ℕ) → Part context.values.main src p s.at ss → IsPiece s t start stop ss
+      → IsReference src p n j → predefined (slice src (p + 1) n) ≡ None → O.content (slice src (p + 1) n) t.openings_left items c → v ≡ state j (join t.done items) t.stack c → PartsStand most v u → PartsStand most s u
   entity_stands most s t v u p n j ss items c part is r none opened same (more, d, rest, last, fine) =
-      let done = is.done in let stack = is.stack in let left = is.left in
+      let done = is.done in let stack = is.stack in let openings_left = is.openings_left in
       let v_at : v.at ≡ j = ap (λ (s : State). s.at) same in
-      let v_left : v.left ≡ c = ap (λ (s : State). s.left) same in
+      let v_left : v.openings_left ≡ c = ap (λ (s : State). s.openings_left) same in
       let v_stack : v.stack ≡ s.stack = ap (λ (s : State). s.stack) same ∙ stack in
       let v_done : v.done ≡ join (join s.done (piece start stop false ss)) items = ap (λ (s : State). s.done) same ∙ ap (λ (f : Forest Item). join f items) done in
-      let rest' : PartsFrom j c d more = subst (λ (b : ℕ). PartsFrom j b d more) v_left (subst (λ (i : ℕ). PartsFrom i v.left d more) v_at rest) in
-      let opened' = subst (λ (b : ℕ). O.content (slice src (p + 1) n) b items c) left opened in
+      let rest' : PartsFrom j c d more = subst (λ (b : ℕ). PartsFrom j b d more) v_left (subst (λ (i : ℕ). PartsFrom i v.openings_left d more) v_at rest) in
+      let opened' = subst (λ (b : ℕ). O.content (slice src (p + 1) n) b items c) openings_left opened in
       let all : join v.done more ≡ join s.done (join (piece start stop false ss) (join items more)) =
       ap (λ (f : Forest Item). join f more) v_done ∙ join_assoc (join s.done (piece start stop false ss)) items more ∙ join_assoc s.done (piece start stop false ss) (join items more) in
-      (join (piece start stop false ss) (join items more), d, then_entity s.at p n j s.left c d ss items more part r none opened' rest', last ∙ rw (all, v_stack) refl, fine)
+      (join (piece start stop false ss) (join items more), d, then_entity s.at p n j s.openings_left c d ss items more part r none opened' rest', last ∙ rw (all, v_stack) refl, fine)
 
   -- what is read behind a part
-  after_stands : (most : ℕ) (s t u : State) (p : ℕ) (ss : List DataByte) (next : Next) (more : State → Result State Refusal) → how.limit ≤ most → Ends how.values.entities src stop p next → Part how.values.main src p s.at ss
+  after_stands : (most : ℕ) (s t u : State) (p : ℕ) (ss : List DataByte) (next : Next) (more : State → Result State Refusal) → context.limit ≤ most → Ends context.values.entities src stop p next → Part context.values.main src p s.at ss
       → IsPiece s t start stop ss → IsValidState most t → s.at ≤ p → ((v : State) → p < v.at → v.at ≤ stop → IsValidState most v → more v ≡ Ok u → PartsStand most v u)
-      → after_part how more stop t next ≡ Ok u → PartsStand most s u
+      → after_part context more stop t next ≡ Ok u → PartsStand most s u
   after_stands most s t u p ss next more limits (ends_run _ same) part is fine le ih h =
-      last_stands most s t u ss (subst (λ (m : ℕ). Part how.values.main src m s.at ss) same part) is fine (sym (ok_same _ _ h))
+      last_stands most s t u ss (subst (λ (m : ℕ). Part context.values.main src m s.at ss) same part) is fine (sym (ok_same _ _ h))
   after_stands most s t u p ss next more limits (ends_entity _ n j text r none to found) part is fine le ih h =
-      bind_ok (how.opener text j t) _ _ h (λ v opened h.
+      bind_ok (context.opener text j t) _ _ h (λ v opened h.
       let o = agrees.sound most (slice src (p + 1) n) text j t v limits found fine opened in
       let at : v.at ≡ j = ap (λ (s : State). s.at) o.3 in
       let moves = reference_opens src p n j r in
       entity_stands most s t v u p n j ss o.0 o.1 part is r none o.2 o.3 (ih v (omega (arith, moves.2)) (omega arith) o.4 h))
 
   -- parts that are read stand there
-  pub run_parts_sound : (n most : ℕ) (s u : State) → how.limit ≤ most → s.at ≤ stop → stop ≤ s.at + n → IsValidState most s → data_parts how n src start stop s ≡ Ok u → PartsStand most s u
+  pub run_parts_sound : (n most : ℕ) (s u : State) → context.limit ≤ most → s.at ≤ stop → stop ≤ s.at + n → IsValidState most s → data_parts context n src start stop s ≡ Ok u → PartsStand most s u
   unfolding data_parts
   run_parts_sound zero most s u limits to enough fine h =
       let e : stop ≡ s.at = omega arith in
-      last_stands most s s u [] (subst (λ (m : ℕ). Part how.values.main src stop m []) e part_ends) (record { done = sym (join-nil s.done); stack = refl; left = refl }) fine (sym (ok_same _ _ h))
+      last_stands most s s u [] (subst (λ (m : ℕ). Part context.values.main src stop m []) e part_ends) (record { done = sym (join-nil s.done); stack = refl; openings_left = refl }) fine (sym (ok_same _ _ h))
   run_parts_sound (suc n) most s u limits to enough fine h =
-      bind_lifted (data_part how.values.main how.values.entities (stop - s.at) src stop s.at) _ _ h (λ x read h.
-      bind_lifted (with_piece how.limit s start stop (part_text how.values.main x.0)) _ _ h (λ t added h.
-      let part = run_part_sound how.values.entities src utf8 stop long closes how.values.main (stop - s.at) s.at x to (omega arith) read in
-      let text = texts_line_ends how.values.main x.0 part.1.0 part.1.2 in
-      let piece = piece_read how.limit most s t start stop part.1.0 limits fine (sym (ap (with_piece how.limit s start stop) text) ∙ added) in
-      let le = part_le how.values.main src part.0 s.at part.1.0 part.1.1 in
-      after_stands most s t u part.0 part.1.0 x.1 (λ v. data_parts how n src start stop v) limits part.2 part.1.1 piece.0 piece.1 le
+      bind_lifted (data_part context.values.main context.values.entities (stop - s.at) src stop s.at) _ _ h (λ x read h.
+      bind_lifted (with_piece context.limit s start stop (part_text context.values.main x.0)) _ _ h (λ t added h.
+      let part = run_part_sound context.values.entities src utf8 stop long closes context.values.main (stop - s.at) s.at x to (omega arith) read in
+      let text = texts_line_ends context.values.main x.0 part.1.0 part.1.2 in
+      let piece = piece_read context.limit most s t start stop part.1.0 limits fine (sym (ap (with_piece context.limit s start stop) text) ∙ added) in
+      let le = part_le context.values.main src part.0 s.at part.1.0 part.1.1 in
+      after_stands most s t u part.0 part.1.0 x.1 (λ v. data_parts context n src start stop v) limits part.2 part.1.1 piece.0 piece.1 le
       (λ v from to' fine' h. run_parts_sound n most v u limits to' (omega arith) fine' h) h))
 
   -- a part is read, and what is behind it
-  part_on : (n i : ℕ) (s t u : State) (bs : List ℕ) (next : Next) → s.at ≡ i → data_part how.values.main how.values.entities (stop - i) src stop i ≡ Ok (bs, next)
-      → with_piece how.limit s start stop (part_text how.values.main bs) ≡ Ok t → after_part how (λ v. data_parts how n src start stop v) stop t next ≡ Ok u → data_parts how (suc n) src start stop s ≡ Ok u
+  part_on : (n i : ℕ) (s t u : State) (bs : List ℕ) (next : Next) → s.at ≡ i → data_part context.values.main context.values.entities (stop - i) src stop i ≡ Ok (bs, next)
+      → with_piece context.limit s start stop (part_text context.values.main bs) ≡ Ok t → after_part context (λ v. data_parts context n src start stop v) stop t next ≡ Ok u → data_parts context (suc n) src start stop s ≡ Ok u
   unfolding data_parts
   part_on n i s t u bs next at read added after =
-      let read' = subst (λ (m : ℕ). data_part how.values.main how.values.entities (stop - m) src stop m ≡ Ok (bs, next)) (sym at) read in
+      let read' = subst (λ (m : ℕ). data_part context.values.main context.values.entities (stop - m) src stop m ≡ Ok (bs, next)) (sym at) read in
       rw (read', added) after
 
   -- nothing is left to be read
-  none_on : (s : State) → data_parts how zero src start stop s ≡ Ok (at_place stop s)
+  none_on : (s : State) → data_parts context zero src start stop s ≡ Ok (at_place stop s)
   unfolding data_parts
   none_on s = refl
 
@@ -176,46 +176,46 @@ module _ (how : Context) (O : Inclusion) (agrees : AgreesContent how.values.enti
       ap (λ (f : Forest Item). state stop f t.stack d) all ∙ ap (λ (o : Open). state stop (join s.done (join one (join front more))) o d) stack
 
   -- a replacement text is read, and what is behind it
-  opened_on : (text : Replacement) (j : ℕ) (t v u : State) (more : State → Result State Refusal) → how.opener text j t ≡ Ok v → more v ≡ Ok u → after_part how more stop t (opening text j) ≡ Ok u
+  opened_on : (text : Replacement) (j : ℕ) (t v u : State) (more : State → Result State Refusal) → context.opener text j t ≡ Ok v → more v ≡ Ok u → after_part context more stop t (opening text j) ≡ Ok u
   opened_on text j t v u more opened rest = rw opened rest
 
   -- parts that stand there are read, if the limits allow what they lead to
-  pub run_parts_complete : (n i b c : ℕ) (items : Forest Item) (s : State) → s.at ≡ i → s.left ≡ b → stop ≤ i + n → PartsFrom i b c items → IsValidState how.limit (state stop (join s.done items) s.stack c)
-      → data_parts how n src start stop s ≡ Ok (state stop (join s.done items) s.stack c)
-  run_parts_complete zero i b c items s at left enough (last_part _ _ ss part) fine =
+  pub run_parts_complete : (n i b c : ℕ) (items : Forest Item) (s : State) → s.at ≡ i → s.openings_left ≡ b → stop ≤ i + n → PartsFrom i b c items → IsValidState context.limit (state stop (join s.done items) s.stack c)
+      → data_parts context n src start stop s ≡ Ok (state stop (join s.done items) s.stack c)
+  run_parts_complete zero i b c items s at openings_left enough (last_part _ _ ss part) fine =
       let none = part_none i ss (omega arith) part in
-      none_on s ∙ rw (none, left) (rw join-nil refl)
-  run_parts_complete zero i b d items s at left enough (then_entity _ p n j _ c _ ss front more part r none opened rest) fine =
-      absurd (omega (arith, part_le how.values.main src p i ss part, reference_opens src p n j r, parts_le j c d more rest))
-  run_parts_complete (suc n) i b c items s at left enough (last_part _ _ ss part) fine =
-      let to = part_le how.values.main src stop i ss part in
-      let q = run_part_complete how.values.entities src utf8 stop long closes how.values.main (stop - i) i stop ss at_end to (omega arith) part (ends_run stop refl) in
-      let text = texts_line_ends how.values.main q.0 ss q.2 in
-      let fine' : IsValidState how.limit (state stop (join s.done (piece start stop false ss)) s.stack s.left) = rw (marked, ← left) at fine in
-      let t = read_piece how.limit s start stop ss fine' in
-      let done = t.2.done in let stack = t.2.stack in let left' = t.2.left in
-      part_on n i s t.0 _ q.0 at_end at q.1 (ap (with_piece how.limit s start stop) text ∙ t.1) (rw (marked, done, stack, left', left) refl)
-  run_parts_complete (suc n) i b d items s at left enough (then_entity _ p m j _ c _ ss front more part r none opened rest) fine =
-      let to = part_le how.values.main src p i ss part in
+      none_on s ∙ rw (none, openings_left) (rw join-nil refl)
+  run_parts_complete zero i b d items s at openings_left enough (then_entity _ p n j _ c _ ss front more part r none opened rest) fine =
+      absurd (omega (arith, part_le context.values.main src p i ss part, reference_opens src p n j r, parts_le j c d more rest))
+  run_parts_complete (suc n) i b c items s at openings_left enough (last_part _ _ ss part) fine =
+      let to = part_le context.values.main src stop i ss part in
+      let q = run_part_complete context.values.entities src utf8 stop long closes context.values.main (stop - i) i stop ss at_end to (omega arith) part (ends_run stop refl) in
+      let text = texts_line_ends context.values.main q.0 ss q.2 in
+      let fine' : IsValidState context.limit (state stop (join s.done (piece start stop false ss)) s.stack s.openings_left) = rw (marked, ← openings_left) at fine in
+      let t = read_piece context.limit s start stop ss fine' in
+      let done = t.2.done in let stack = t.2.stack in let openings_left' = t.2.openings_left in
+      part_on n i s t.0 _ q.0 at_end at q.1 (ap (with_piece context.limit s start stop) text ∙ t.1) (rw (marked, done, stack, openings_left', openings_left) refl)
+  run_parts_complete (suc n) i b d items s at openings_left enough (then_entity _ p m j _ c _ ss front more part r none opened rest) fine =
+      let to = part_le context.values.main src p i ss part in
       let moves = reference_opens src p m j r in
       let inside = parts_le j c d more rest in
       let whole : join s.done (join (piece start stop false ss) (join front more)) ≡ join (join (join s.done (piece start stop false ss)) front) more =
       sym (join_assoc s.done (piece start stop false ss) (join front more)) ∙ sym (join_assoc (join s.done (piece start stop false ss)) front more) in
-      let fine2 : IsValidState how.limit (state stop (join (join (join s.done (piece start stop false ss)) front) more) s.stack d) = rw whole at fine in
-      let fine1 = fine_before how.limit j stop c d (join (join s.done (piece start stop false ss)) front) more s.stack fine2 in
-      let fine0 = fine_before how.limit stop j s.left c (join s.done (piece start stop false ss)) front s.stack fine1 in
-      let t = read_piece how.limit s start stop ss fine0 in
-      let done = t.2.done in let stack = t.2.stack in let left' = t.2.left in
-      let opened' : O.content (slice src (p + 1) m) t.0.left front c = rw (left', left) opened in
-      let fine1' : IsValidState how.limit (state j (join t.0.done front) t.0.stack c) = rw (done, stack) fine1 in
+      let fine2 : IsValidState context.limit (state stop (join (join (join s.done (piece start stop false ss)) front) more) s.stack d) = rw whole at fine in
+      let fine1 = fine_before context.limit j stop c d (join (join s.done (piece start stop false ss)) front) more s.stack fine2 in
+      let fine0 = fine_before context.limit stop j s.openings_left c (join s.done (piece start stop false ss)) front s.stack fine1 in
+      let t = read_piece context.limit s start stop ss fine0 in
+      let done = t.2.done in let stack = t.2.stack in let openings_left' = t.2.openings_left in
+      let opened' : O.content (slice src (p + 1) m) t.0.openings_left front c = rw (openings_left', openings_left) opened in
+      let fine1' : IsValidState context.limit (state j (join t.0.done front) t.0.stack c) = rw (done, stack) fine1 in
       let text = agrees.complete (slice src (p + 1) m) j c front t.0 opened' fine1' in
-      let q = run_part_complete how.values.entities src utf8 stop long closes how.values.main (stop - i) i p ss (opening text.0 j) (omega arith) (omega arith) part (ends_entity p m j text.0 r none inside text.1) in
-      let spelled = texts_line_ends how.values.main q.0 ss q.2 in
+      let q = run_part_complete context.values.entities src utf8 stop long closes context.values.main (stop - i) i p ss (opening text.0 j) (omega arith) (omega arith) part (ends_entity p m j text.0 r none inside text.1) in
+      let spelled = texts_line_ends context.values.main q.0 ss q.2 in
       let v = state j (join t.0.done front) t.0.stack c in
-      let fine2' : IsValidState how.limit (state stop (join v.done more) v.stack d) = rw (done, stack) fine2 in
+      let fine2' : IsValidState context.limit (state stop (join v.done more) v.stack d) = rw (done, stack) fine2 in
       let ih = run_parts_complete n j c d more v refl refl (omega (arith, moves.2)) rest fine2' in
       let last = behind_all s t.0 (piece start stop false ss) front more d done stack in
-      part_on n i s t.0 _ q.0 (opening text.0 j) at q.1 (ap (with_piece how.limit s start stop) spelled ∙ t.1) (opened_on text.0 j t.0 v _ (λ w. data_parts how n src start stop w) text.2 (ih ∙ ap Ok last))
+      part_on n i s t.0 _ q.0 (opening text.0 j) at q.1 (ap (with_piece context.limit s start stop) spelled ∙ t.1) (opened_on text.0 j t.0 v _ (λ w. data_parts context n src start stop w) text.2 (ih ∙ ap Ok last))
 
 -- ---- whole runs
 
@@ -286,42 +286,42 @@ plain_text true bs h = refl
 plain_text false bs h = plain_ends bs h
 
 -- a part that is not empty gives a text
-pub piece_whole : (i j : ℕ) (plain : Bool) (ss : List DataByte) (v : List ℕ) → line_ends ss ≡ v → 0 < length v → piece i j plain ss ≡ leaf (Text i j v plain)
-piece_whole i j plain [] v is some = absurd (omega (arith, ap length is))
-piece_whole i j plain (x ∷ ss) v is some = ap (λ (w : List ℕ). leaf (Text i j w plain)) is
+pub piece_whole : (i j : ℕ) (borrowed : Bool) (ss : List DataByte) (v : List ℕ) → line_ends ss ≡ v → 0 < length v → piece i j borrowed ss ≡ leaf (Text i j v borrowed)
+piece_whole i j borrowed [] v is some = absurd (omega (arith, ap length is))
+piece_whole i j borrowed (x ∷ ss) v is some = ap (λ (w : List ℕ). leaf (Text i j w borrowed)) is
 
-module _ (how : Context) (O : Inclusion) (agrees : AgreesContent how.values.entities how.limit O how.opener) (src : List ℕ) (utf8 : IsUtf8 src) where
+module _ (context : Context) (O : Inclusion) (agrees : AgreesContent context.values.entities context.limit O context.opener) (src : List ℕ) (utf8 : IsUtf8 src) where
   -- a run with what it leads to
   abbrev pub RunStands : ℕ → State → State → Type 0
-  RunStands most s u = (j : ℕ) × (items : Forest Item) × (c : ℕ) × IsCharacterData src s.at j × Parts how.values.main O src s.at j s.at s.left c items × (u ≡ state j (join s.done items) s.stack c) × IsValidState most u
+  RunStands most s u = (j : ℕ) × (items : Forest Item) × (c : ℕ) × IsCharacterData src s.at j × Parts context.values.main O src s.at j s.at s.openings_left c items × (u ≡ state j (join s.done items) s.stack c) × IsValidState most u
 
   -- no byte of a plain run is `&` or CR
-  plain_bytes : (i j k : ℕ) → j ≤ length src → is_verbatim (slice src i j) ≡ true → i ≤ k → k < j → (byte src k ≢ 38) × (how.values.main ≡ true → byte src k ≢ 13)
+  plain_bytes : (i j k : ℕ) → j ≤ length src → is_verbatim (slice src i j) ≡ true → i ≤ k → k < j → (byte src k ≢ 38) × (context.values.main ≡ true → byte src k ≢ 13)
   plain_bytes i j k inside plain from below =
       let both = or_parts (eqb (byte src k) 38) (eqb (byte src k) 13) (slice_none ordinary src i j k inside (not-true _ plain) from below) in
       (eqb-false _ _ both.0, λ z. eqb-false _ _ both.1)
 
   -- the part of a plain run
-  pub plain_part : (i j b : ℕ) → IsCharacterData src i j → is_verbatim (slice src i j) ≡ true → Parts how.values.main O src i j i b b (leaf (Text i j (slice src i j) true))
+  pub plain_part : (i j b : ℕ) → IsCharacterData src i j → is_verbatim (slice src i j) ≡ true → Parts context.values.main O src i j i b b (leaf (Text i j (slice src i j) true))
   plain_part i j b run plain =
       let some = run.some in
       let inside = run_inside src i j run in
-      let s = stretch_on how.values.entities src utf8 j inside.0 inside.1 how.values.main j (j - i) i j [] (omega arith) (omega arith) inside.0 (λ k from below. plain_bytes i j k inside.0 plain from below)
-      (nothing_from how.values.entities src utf8 j inside.0 inside.1 how.values.main j) in
-      let text : line_ends s.0 ≡ slice src i j = sym (texts_line_ends how.values.main (slice src i j ++ []) s.0 s.2) ∙ ap (part_text how.values.main) (append-nil (slice src i j)) ∙ plain_text how.values.main (slice src i j) plain in
+      let s = stretch_on context.values.entities src utf8 j inside.0 inside.1 context.values.main j (j - i) i j [] (omega arith) (omega arith) inside.0 (λ k from below. plain_bytes i j k inside.0 plain from below)
+      (nothing_from context.values.entities src utf8 j inside.0 inside.1 context.values.main j) in
+      let text : line_ends s.0 ≡ slice src i j = sym (texts_line_ends context.values.main (slice src i j ++ []) s.0 s.2) ∙ ap (part_text context.values.main) (append-nil (slice src i j)) ∙ plain_text context.values.main (slice src i j) plain in
       let long = slice_length src i j (omega arith) inside.0 in
       let e : piece i j (is_verbatim (slice src i j)) s.0 ≡ leaf (Text i j (slice src i j) true) = ap (λ (f : Bool). piece i j f s.0) plain ∙ piece_whole i j true s.0 (slice src i j) text (omega arith) in
-      subst (λ (f : Forest Item). Parts how.values.main O src i j i b b f) e (last_part i b s.0 s.1)
+      subst (λ (f : Forest Item). Parts context.values.main O src i j i b b f) e (last_part i b s.0 s.1)
 
   -- a plain run has no other parts
-  part_plain : (i j b c : ℕ) (items : Forest Item) → IsCharacterData src i j → is_verbatim (slice src i j) ≡ true → Parts how.values.main O src i j i b c items → (items ≡ leaf (Text i j (slice src i j) true)) × (b ≡ c)
+  part_plain : (i j b c : ℕ) (items : Forest Item) → IsCharacterData src i j → is_verbatim (slice src i j) ≡ true → Parts context.values.main O src i j i b c items → (items ≡ leaf (Text i j (slice src i j) true)) × (b ≡ c)
   part_plain i j b c items run plain (last_part _ _ ss part) =
       let some = run.some in
       let inside = run_inside src i j run in
-      let o = stretch_off how.values.entities src utf8 j inside.0 inside.1 how.values.main j (j - i) i j ss (omega arith) (omega arith) inside.0 (λ k from below. plain_bytes i j k inside.0 plain from below) part in
-      let none = empty_part how.values.main j j o.0 (omega arith) o.1 in
-      let text' = o.2 [] (subst (Texts how.values.main []) (sym none) (no_texts how.values.entities src utf8 j inside.0 inside.1 how.values.main)) in
-      let text : line_ends ss ≡ slice src i j = sym (texts_line_ends how.values.main (slice src i j ++ []) ss text') ∙ ap (part_text how.values.main) (append-nil (slice src i j)) ∙ plain_text how.values.main (slice src i j) plain in
+      let o = stretch_off context.values.entities src utf8 j inside.0 inside.1 context.values.main j (j - i) i j ss (omega arith) (omega arith) inside.0 (λ k from below. plain_bytes i j k inside.0 plain from below) part in
+      let none = empty_part context.values.main j j o.0 (omega arith) o.1 in
+      let text' = o.2 [] (subst (Texts context.values.main []) (sym none) (no_texts context.values.entities src utf8 j inside.0 inside.1 context.values.main)) in
+      let text : line_ends ss ≡ slice src i j = sym (texts_line_ends context.values.main (slice src i j ++ []) ss text') ∙ ap (part_text context.values.main) (append-nil (slice src i j)) ∙ plain_text context.values.main (slice src i j) plain in
       let long = slice_length src i j (omega arith) inside.0 in
       (ap (λ (f : Bool). piece i j f ss) plain ∙ piece_whole i j true ss (slice src i j) text (omega arith), refl)
     where
@@ -332,14 +332,14 @@ module _ (how : Context) (O : Inclusion) (agrees : AgreesContent how.values.enti
   part_plain i j b d items run plain (then_entity _ p n m _ c _ ss front more part r none opened rest) =
       let inside = run_inside src i j run in
       let o = reference_opens src p n m r in
-      absurd ((plain_bytes i j p inside.0 plain (part_le how.values.main src p i ss part) (omega (arith, o.2, rest_le m c d more rest))).0 o.0)
+      absurd ((plain_bytes i j p inside.0 plain (part_le context.values.main src p i ss part) (omega (arith, o.2, rest_le m c d more rest))).0 o.0)
     where
-      rest_le : (k b c : ℕ) (items : Forest Item) → Parts how.values.main O src i j k b c items → k ≤ j
-      rest_le k b c items (last_part _ _ ss part) = part_le how.values.main src j k ss part
-      rest_le k b d items (then_entity _ p n m _ c _ ss front more part r none opened rest) = omega (arith, part_le how.values.main src p k ss part, reference_opens src p n m r, rest_le m c d more rest)
+      rest_le : (k b c : ℕ) (items : Forest Item) → Parts context.values.main O src i j k b c items → k ≤ j
+      rest_le k b c items (last_part _ _ ss part) = part_le context.values.main src j k ss part
+      rest_le k b d items (then_entity _ p n m _ c _ ss front more part r none opened rest) = omega (arith, part_le context.values.main src p k ss part, reference_opens src p n m r, rest_le m c d more rest)
 
   -- a run that is read stands there
-  pub run_sound : (most : ℕ) (s u : State) → how.limit ≤ most → s.at < length src → byte src s.at ≢ 60 → IsValidState most s → character_data_step how src s ≡ Ok u → RunStands most s u
+  pub run_sound : (most : ℕ) (s u : State) → context.limit ≤ most → s.at < length src → byte src s.at ≢ 60 → IsValidState most s → character_data_step context src s ≡ Ok u → RunStands most s u
   unfolding character_data_step
   run_sound most s u limits here other fine h =
       bind_lifted (raw_character_data_at src s.at) _ _ h (λ x read h.
@@ -349,38 +349,38 @@ module _ (how : Context) (O : Inclusion) (agrees : AgreesContent how.values.enti
       chosen (is_verbatim x.0) _ _ _ h
       (λ plain h.
       let plain' : is_verbatim (slice src s.at x.1) ≡ true = rw (raw.1) at plain in
-      bind_lifted_only (with_item how.limit s x.1 (Text s.at x.1 x.0 true)) u h (λ added.
-      let r = item_read how.limit most s u x.1 (Text s.at x.1 x.0 true) limits refl refl tt fine added in (
+      bind_lifted_only (with_item context.limit s x.1 (Text s.at x.1 x.0 true)) u h (λ added.
+      let r = item_read context.limit most s u x.1 (Text s.at x.1 x.0 true) limits refl refl tt fine added in (
         x.1,
         leaf (Text s.at x.1 (slice src s.at x.1) true),
-        s.left,
+        s.openings_left,
         raw.0,
-        plain_part s.at x.1 s.left raw.0 plain',
+        plain_part s.at x.1 s.openings_left raw.0 plain',
         r.0 ∙ ap (λ (v : List ℕ). with_leaf s x.1 (Text s.at x.1 v true)) raw.1,
         r.1,
       )))
       (λ marked h.
       let marked' : is_verbatim (slice src s.at x.1) ≡ false = rw (raw.1) at marked in
-      let p = run_parts_sound how O agrees src utf8 s.at x.1 inside.0 inside.1 marked' (length src) most s u limits (omega arith) (omega (arith, inside.0)) fine h in
+      let p = run_parts_sound context O agrees src utf8 s.at x.1 inside.0 inside.1 marked' (length src) most s u limits (omega arith) (omega (arith, inside.0)) fine h in
       (x.1, p.0, p.1, raw.0, p.2, p.3, p.4)))
 
   -- a run that stands there is read, if the limits allow what it leads to
-  pub run_complete : (j c : ℕ) (items : Forest Item) (s : State) → IsCharacterData src s.at j → Parts how.values.main O src s.at j s.at s.left c items → IsValidState how.limit (state j (join s.done items) s.stack c)
-      → character_data_step how src s ≡ Ok (state j (join s.done items) s.stack c)
+  pub run_complete : (j c : ℕ) (items : Forest Item) (s : State) → IsCharacterData src s.at j → Parts context.values.main O src s.at j s.at s.openings_left c items → IsValidState context.limit (state j (join s.done items) s.stack c)
+      → character_data_step context src s ≡ Ok (state j (join s.done items) s.stack c)
   unfolding character_data_step
   run_complete j c items s run parts fine =
       let raw = raw_complete src s.at j run in
       let inside = run_inside src s.at j run in
-      elim (cases_Bool (is_verbatim (slice src s.at j))) as (λ z. character_data_step how src s ≡ Ok (state j (join s.done items) s.stack c)) [
+      elim (cases_Bool (is_verbatim (slice src s.at j))) as (λ z. character_data_step context src s ≡ Ok (state j (join s.done items) s.stack c)) [
         | inl plain ↦ (
-            let p = part_plain s.at j s.left c items run plain parts in
-            let items_are = p.0 in let left = p.1 in
+            let p = part_plain s.at j s.openings_left c items run plain parts in
+            let items_are = p.0 in let openings_left = p.1 in
             let same : with_leaf s j (Text s.at j (slice src s.at j) true) ≡ state j (join s.done items) s.stack c =
-            ap (λ (f : Forest Item). state j (join s.done f) s.stack s.left) (sym items_are) ∙ ap (λ (n : ℕ). state j (join s.done items) s.stack n) left in
-            let fine' = subst (IsValidState how.limit) (sym same) fine in
-            let one = read_item how.limit s j (Text s.at j (slice src s.at j) true) fine' in
+            ap (λ (f : Forest Item). state j (join s.done f) s.stack s.openings_left) (sym items_are) ∙ ap (λ (n : ℕ). state j (join s.done items) s.stack n) openings_left in
+            let fine' = subst (IsValidState context.limit) (sym same) fine in
+            let one = read_item context.limit s j (Text s.at j (slice src s.at j) true) fine' in
             rw (raw, plain, one) (ap Ok same))
         | inr marked ↦ (
-            let all = run_parts_complete how O agrees src utf8 s.at j inside.0 inside.1 marked (length src) s.at s.left c items s refl refl (omega (arith, inside.0)) parts fine in
+            let all = run_parts_complete context O agrees src utf8 s.at j inside.0 inside.1 marked (length src) s.at s.openings_left c items s refl refl (omega (arith, inside.0)) parts fine in
             rw (raw, marked) all)
       ]

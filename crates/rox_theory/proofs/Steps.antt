@@ -16,12 +16,12 @@ use Rattle.rox_theory.proofs.Leaves.{state, with_leaf, Adds}
 
 -- after a start tag up to j, by whether the element is empty
 abbrev pub after : State → ℕ → Tag → Bool → ℕ → State
-after s j t true left = state j (join s.done (leaf (Element s.at j t))) s.stack left
-after s j t false left = state j Nil (inside s.at t s.done s.stack) left
+after s j t true openings_left = state j (join s.done (leaf (Element s.at j t))) s.stack openings_left
+after s j t false openings_left = state j Nil (inside s.at t s.done s.stack) openings_left
 
 -- after an end tag up to j
 abbrev pub closed : ℕ → Forest Item → ℕ → Tag → Forest Item → Open → ℕ → State
-closed j done start tag before up left = state j (join before (Cons (Element start j tag) (merge done) Nil)) up left
+closed j done start tag before up openings_left = state j (join before (Cons (Element start j tag) (merge done) Nil)) up openings_left
 
 -- and what is fine with it was fine before
 pub fine_leaf : (limit : ℕ) (s : State) (j : ℕ) (item : Item) → IsValidState limit (with_leaf s j item) → IsValidState limit s × Adds s item
@@ -40,8 +40,8 @@ fine_leaf limit s j item fine =
     )
 
 -- so does a start tag
-pub opened_fine : (limit : ℕ) (s : State) (j : ℕ) (tag : Tag) (end left : ℕ) → IsValidState limit s → Adds s (Element s.at end tag) → nodes_so_far s.stack s.done + 1 ≤ limit → IsValidState limit (after s j tag false left)
-opened_fine limit s j tag end left fine adds nodes =
+pub opened_fine : (limit : ℕ) (s : State) (j : ℕ) (tag : Tag) (end openings_left : ℕ) → IsValidState limit s → Adds s (Element s.at end tag) → nodes_so_far s.stack s.done + 1 ≤ limit → IsValidState limit (after s j tag false openings_left)
+opened_fine limit s j tag end openings_left fine adds nodes =
     record {
       nodes = omega (arith, nodes);
       attributes = omega (arith, adds.attributes);
@@ -50,8 +50,8 @@ opened_fine limit s j tag end left fine adds nodes =
     }
 
 -- and what is fine behind it was fine before
-pub fine_opened : (limit : ℕ) (s : State) (j : ℕ) (tag : Tag) (end left : ℕ) → IsValidState limit (after s j tag false left) → IsValidState limit s × Adds s (Element s.at end tag)
-fine_opened limit s j tag end left fine =
+pub fine_opened : (limit : ℕ) (s : State) (j : ℕ) (tag : Tag) (end openings_left : ℕ) → IsValidState limit (after s j tag false openings_left) → IsValidState limit s × Adds s (Element s.at end tag)
+fine_opened limit s j tag end openings_left fine =
     let all : length (distinct_pairs (pairs_so_far s.stack s.done ++ listable tag)) ≤ most_pairs = rw (append-nil (listable tag)) at fine.pairs in (
       record {
         nodes = omega (arith, fine.nodes);
@@ -68,9 +68,9 @@ closed_pairs : (j : ℕ) (done : Forest Item) (start : ℕ) (tag : Tag) (before 
 closed_pairs j done start tag before up = pairs-item up before (Element start j tag) (merge done) ∙ rw (pairs-merge done) refl
 
 -- an end tag keeps a state fine
-pub closed_fine : (limit i j left : ℕ) (done : Forest Item) (start : ℕ) (tag : Tag) (before : Forest Item) (up : Open)
-    → IsValidState limit (state i done (inside start tag before up) left) → IsValidState limit (closed j done start tag before up left)
-closed_fine limit i j left done start tag before up fine =
+pub closed_fine : (limit i j openings_left : ℕ) (done : Forest Item) (start : ℕ) (tag : Tag) (before : Forest Item) (up : Open)
+    → IsValidState limit (state i done (inside start tag before up) openings_left) → IsValidState limit (closed j done start tag before up openings_left)
+closed_fine limit i j openings_left done start tag before up fine =
     record {
       nodes = omega (arith, fine.nodes, nodes-element up before start j tag (merge done));
       attributes = omega (arith, fine.attributes, attributes-item up before (Element start j tag) (merge done), attribute_count-merge done);
@@ -79,9 +79,9 @@ closed_fine limit i j left done start tag before up fine =
     }
 
 -- and what is fine behind it was fine before
-pub fine_closed : (limit i j left : ℕ) (done : Forest Item) (start : ℕ) (tag : Tag) (before : Forest Item) (up : Open)
-    → IsValidState limit (closed j done start tag before up left) → IsValidState limit (state i done (inside start tag before up) left)
-fine_closed limit i j left done start tag before up fine =
+pub fine_closed : (limit i j openings_left : ℕ) (done : Forest Item) (start : ℕ) (tag : Tag) (before : Forest Item) (up : Open)
+    → IsValidState limit (closed j done start tag before up openings_left) → IsValidState limit (state i done (inside start tag before up) openings_left)
+fine_closed limit i j openings_left done start tag before up fine =
     let named = item-named up before (Element start j tag) (merge done) fine.named in
     record {
       nodes = omega (arith, fine.nodes, nodes-element up before start j tag (merge done));

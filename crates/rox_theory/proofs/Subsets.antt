@@ -144,7 +144,7 @@ pub record SubsetRead (most : ℕ) (src : List ℕ) (d : Dtd) (asked : List Aske
   pub items : Forest Item
   pub es : List Entity
   pub found : Closes src d.state.at e.state.at items asked es ⊎ (length src ≤ e.state.at)
-  pub state_is : e.state ≡ state e.state.at (join d.state.done items) d.state.stack d.state.left
+  pub state_is : e.state ≡ state e.state.at (join d.state.done items) d.state.stack d.state.openings_left
   pub entities_are : e.entities ≡ d.entities ++ es
   pub fine : IsValidState most e.state
 
@@ -166,7 +166,7 @@ found_front src i j l one first es front items asked more (inr cut) = inr cut
 
 -- what comes of it with something in front
 outcome_front : (most : ℕ) (src : List ℕ) (d e : Dtd) (one : Forest Item) (first : List Asked) (es : List Entity) → Fronts src d.state.at e.state.at one first es
-    → e.state ≡ state e.state.at (join d.state.done one) d.state.stack d.state.left → e.entities ≡ d.entities ++ es → HasLater src d.state.at first → (r : Asks Dtd) → SubsetOutcome most src e r
+    → e.state ≡ state e.state.at (join d.state.done one) d.state.stack d.state.openings_left → e.entities ≡ d.entities ++ es → HasLater src d.state.at first → (r : Asks Dtd) → SubsetOutcome most src e r
     → SubsetOutcome most src d (having_asked first r)
 outcome_front most src d e one first es front state_is entities_are has (asked, Err x) h =
     (has_front src d.state.at e.state.at one first es front has asked h.0, refusal_front src d.state.at e.state.at one first es front asked x h.1)
@@ -174,13 +174,13 @@ outcome_front most src d e one first es front state_is entities_are has (asked, 
     let r = h.1 in
     let done : e.state.done ≡ join d.state.done one = ap (λ (s : State). s.done) state_is in
     let stack : e.state.stack ≡ d.state.stack = ap (λ (s : State). s.stack) state_is in
-    let left : e.state.left ≡ d.state.left = ap (λ (s : State). s.left) state_is in (
+    let openings_left : e.state.openings_left ≡ d.state.openings_left = ap (λ (s : State). s.openings_left) state_is in (
       has_front src d.state.at e.state.at one first es front has asked h.0,
       record {
         items = join one r.items;
         es = es ++ r.es;
         found = found_front src d.state.at e.state.at x.state.at one first es front r.items asked r.es r.found;
-        state_is = r.state_is ∙ rw (done, stack, left) (ap (λ (f : Forest Item). state x.state.at f d.state.stack d.state.left) (join_assoc d.state.done one r.items));
+        state_is = r.state_is ∙ rw (done, stack, openings_left) (ap (λ (f : Forest Item). state x.state.at f d.state.stack d.state.openings_left) (join_assoc d.state.done one r.items));
         entities_are = r.entities_are ∙ ap (λ (l : List Entity). l ++ r.es) entities_are ∙ append_assoc d.entities es r.es;
         fine = r.fine;
       },
@@ -245,7 +245,7 @@ module _ (src : List ℕ) (utf8 : IsUtf8 src) where
         let moves = entity_moves src utf8 i e.state.at first o.es o.is in
         let front = entity_front d.state.at e.state.at first o.es cut o.is in
         let has = once_later d.state.at first cut (declared_asks src utf8 i e.state.at first o.es o.is) in
-        let state_is : e.state ≡ state e.state.at (join d.state.done Nil) d.state.stack d.state.left = o.state_is ∙ rw join-nil refl in
+        let state_is : e.state ≡ state e.state.at (join d.state.done Nil) d.state.stack d.state.openings_left = o.state_is ∙ rw join-nil refl in
         let fine' : IsValidState most e.state = subst (IsValidState most) (sym o.state_is) (fine_there most d.state (at_place e.state.at d.state) refl refl fine) in
         let rest = go e moves.3 fine' o.texts (omega (arith, enough, far, moves.1)) in
         outcome_front most src d e Nil first o.es front state_is o.entities_are has (subset limit start n src e) rest
@@ -260,14 +260,14 @@ module _ (src : List ℕ) (utf8 : IsUtf8 src) where
         let front = item_front d.state.at j item cut is in
         let front' : Fronts src d.state.at t.at (leaf item) [] [] = subst (λ (k : ℕ). Fronts src d.state.at k (leaf item) [] []) (sym there) front in
         let moves = misc_moves src utf8 i j item is in
-        let state_is : t ≡ state t.at (join d.state.done (leaf item)) d.state.stack d.state.left = read.0 ∙ ap (λ (k : ℕ). state k (join d.state.done (leaf item)) d.state.stack d.state.left) (sym there) in
+        let state_is : t ≡ state t.at (join d.state.done (leaf item)) d.state.stack d.state.openings_left = read.0 ∙ ap (λ (k : ℕ). state k (join d.state.done (leaf item)) d.state.stack d.state.openings_left) (sym there) in
         let rest = go e (subst (IsCharBoundary src) (sym there) next) read.1 texts (omega (arith, enough, far, moves, there)) in
         outcome_front most src d e (leaf item) [] [] front' state_is (sym (append-nil d.entities)) not_yet (subset limit start n src e) rest
     by_turn r (turn_passed j is) =
         let e = with_state d (at_place j d.state) in
         let moves = passed_moves i j is in
         let front = passed_front d.state.at j cut is in
-        let state_is : at_place j d.state ≡ state j (join d.state.done Nil) d.state.stack d.state.left = rw join-nil refl in
+        let state_is : at_place j d.state ≡ state j (join d.state.done Nil) d.state.stack d.state.openings_left = rw join-nil refl in
         let rest = go e moves.2 (fine_there most d.state (at_place j d.state) refl refl fine) texts (omega (arith, enough, far, moves.0)) in
         outcome_front most src d e Nil [] [] front state_is (sym (append-nil d.entities)) not_yet (subset limit start n src e) rest
     by_turn r (turn_closed bracket closes) =

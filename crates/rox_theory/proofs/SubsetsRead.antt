@@ -36,7 +36,7 @@ use Rattle.rox_theory.proofs.Subsets.{passed_moves}
 
 -- reading stands here
 abbrev pub here_at : ℕ → Forest Item → Open → ℕ → List Entity → Dtd
-here_at i done stack left es = record { state = state i done stack left; entities = es; replies = [] }
+here_at i done stack openings_left es = record { state = state i done stack openings_left; entities = es; replies = [] }
 
 -- ---- which word stands there
 
@@ -67,9 +67,9 @@ module _ (src : List ℕ) (utf8 : IsUtf8 src) where
   subset_le i k items asked es (skipped_declaration _ j _ _ _ _ is rest) = omega (arith, (passed_moves src utf8 i j is).0, subset_le j k items asked es rest)
   subset_le i k items asked es (an_entity _ j _ _ first more one others is rest) = omega (arith, (entity_moves src utf8 i j first one is).1, subset_le j k items more others rest)
 
-  module _ (limit start : ℕ) (stack : Open) (left : ℕ) where
+  module _ (limit start : ℕ) (stack : Open) (openings_left : ℕ) where
     abbrev here_run : ℕ → ℕ → Forest Item → List Entity → List Reply → Asks Dtd
-    here_run n i done es rs = subset limit start n src (left_with rs (here_at i done stack left es))
+    here_run n i done es rs = subset limit start n src (left_with rs (here_at i done stack openings_left es))
 
     -- white space in front is passed
     space_step : (n i : ℕ) (done : Forest Item) (es : List Entity) (rs : List Reply) → is_space (byte src i) ≡ true → i + 1 < length src → here_run (suc n) i done es rs ≡ here_run (suc n) (i + 1) done es rs
@@ -82,7 +82,7 @@ module _ (src : List ℕ) (utf8 : IsUtf8 src) where
 
     -- the end of the declaration
     end_read : (n i : ℕ) (done : Forest Item) (es : List Entity) → byte src i ≡ 93 → byte src (spaces_end src (i + 1)) ≡ 62
-        → Answered (here_run (suc n) i done es) [] (here_at (spaces_end src (i + 1) + 1) done stack left es)
+        → Answered (here_run (suc n) i done es) [] (here_at (spaces_end src (i + 1) + 1) done stack openings_left es)
     end_read n i done es bracket closes =
         let inside = within src i (λ z. omega arith) in
         let e : spaces_end src i ≡ i = run_stops is_space src i inside (omega arith) (rw bracket refl) in
@@ -91,14 +91,14 @@ module _ (src : List ℕ) (utf8 : IsUtf8 src) where
         let is : byte src (spaces_end src i) ≡ 93 = rw e bracket in
         let more : spaces_end src (spaces_end src i + 1) < length src = rw e (within src (spaces_end src (i + 1)) (λ z. omega arith)) in
         let ends : byte src (spaces_end src (spaces_end src i + 1)) ≡ 62 = rw e closes in
-        let r = turn.turn_end (here_run (suc n) i done es) [] limit start (suc n) n src (here_at i done stack left es) (none_yet limit start (suc n) src (here_at i done stack left es)) refl inside
+        let r = turn.turn_end (here_run (suc n) i done es) [] limit start (suc n) n src (here_at i done stack openings_left es) (none_yet limit start (suc n) src (here_at i done stack openings_left es)) refl inside
         (none word.EntityStart (omega arith) refl) (none word.CommentStart (omega arith) refl) (none word.PIStart (omega arith) refl)
         (or_from _ _ (none word.ElementStart (omega arith) refl) (or_from _ _ (none word.AttlistStart (omega arith) refl) (none word.NotationStart (omega arith) refl))) is more ends in
-        subst (λ (k : ℕ). Answered (here_run (suc n) i done es) [] (here_at (spaces_end src (k + 1) + 1) done stack left es)) e r
+        subst (λ (k : ℕ). Answered (here_run (suc n) i done es) [] (here_at (spaces_end src (k + 1) + 1) done stack openings_left es)) e r
 
     -- a comment or an instruction
-    item_read : (n i j : ℕ) (item : Item) (done : Forest Item) (es : List Entity) → IsMisc src i j item → IsValidState limit (state j (join done (leaf item)) stack left)
-        → Continues (here_run (suc n) i done es) [] limit start n src (here_at j (join done (leaf item)) stack left es)
+    item_read : (n i j : ℕ) (item : Item) (done : Forest Item) (es : List Entity) → IsMisc src i j item → IsValidState limit (state j (join done (leaf item)) stack openings_left)
+        → Continues (here_run (suc n) i done es) [] limit start n src (here_at j (join done (leaf item)) stack openings_left es)
     unfolding comment_step instruction_step
     item_read n i j item done es (comment _ c _ is) fine =
         let inside = misc_within src utf8 i j item (comment i c j is) in
@@ -106,11 +106,11 @@ module _ (src : List ℕ) (utf8 : IsUtf8 src) where
         let e : spaces_end src i ≡ i = no_spaces src i bytes.1 in
         let no_entity : at word.EntityStart src (spaces_end src i) ≡ false = rw e (words_apart word.EntityStart word.CommentStart src i 2 (omega arith) (omega arith) (λ h. omega arith) is.opens) in
         let opens : at word.CommentStart src (spaces_end src i) ≡ true = rw e is.opens in
-        let s = state i done stack left in
+        let s = state i done stack openings_left in
         let one = read_item limit s j item fine in
         let step : comment_step limit src s ≡ Ok (with_leaf s j item) = rw (comment_complete src i c j is) one in
-        let step' : comment_step limit src (state (spaces_end src i) done stack left) ≡ Ok (with_leaf s j item) = rw e step in
-        turn.turn_comment (here_run (suc n) i done es) [] limit start (suc n) n src (here_at i done stack left es) (none_yet limit start (suc n) src (here_at i done stack left es)) refl inside no_entity
+        let step' : comment_step limit src (state (spaces_end src i) done stack openings_left) ≡ Ok (with_leaf s j item) = rw e step in
+        turn.turn_comment (here_run (suc n) i done es) [] limit start (suc n) n src (here_at i done stack openings_left es) (none_yet limit start (suc n) src (here_at i done stack openings_left es)) refl inside no_entity
         (with_leaf s j item) opens step'
     item_read n i j item done es (instruction _ t c _ is) fine =
         let inside = misc_within src utf8 i j item (instruction i t c j is) in
@@ -119,17 +119,17 @@ module _ (src : List ℕ) (utf8 : IsUtf8 src) where
         let no_entity : at word.EntityStart src (spaces_end src i) ≡ false = rw e (words_apart word.EntityStart word.PIStart src i 1 (omega arith) (omega arith) (λ h. omega arith) is.opens) in
         let no_comment : at word.CommentStart src (spaces_end src i) ≡ false = rw e (words_apart word.CommentStart word.PIStart src i 1 (omega arith) (omega arith) (λ h. omega arith) is.opens) in
         let opens : at word.PIStart src (spaces_end src i) ≡ true = rw e is.opens in
-        let s = state i done stack left in
+        let s = state i done stack openings_left in
         let one = read_item limit s j item fine in
         let step : instruction_step limit src s ≡ Ok (with_leaf s j item) = rw (instruction_complete src i t c j is) one in
-        let step' : instruction_step limit src (state (spaces_end src i) done stack left) ≡ Ok (with_leaf s j item) = rw e step in
-        turn.turn_instruction (here_run (suc n) i done es) [] limit start (suc n) n src (here_at i done stack left es) (none_yet limit start (suc n) src (here_at i done stack left es)) refl inside no_entity no_comment
+        let step' : instruction_step limit src (state (spaces_end src i) done stack openings_left) ≡ Ok (with_leaf s j item) = rw e step in
+        turn.turn_instruction (here_run (suc n) i done es) [] limit start (suc n) n src (here_at i done stack openings_left es) (none_yet limit start (suc n) src (here_at i done stack openings_left es)) refl inside no_entity no_comment
         (with_leaf s j item) opens step'
 
     -- a declaration that is passed over: its word, which is none of those before it
     passed_by : (w : Word) (n i j : ℕ) (done : Forest Item) (es : List Entity) (p : IsPassedOver src i j) → at w src i ≡ true → at word.EntityStart src i ≡ false → at word.CommentStart src i ≡ false
         → at word.PIStart src i ≡ false → 0 < length (word_text w) → byte (word_text w) 0 ≡ 60
-        → (at word.ElementStart src i || (at word.AttlistStart src i || at word.NotationStart src i)) ≡ true → Continues (here_run (suc n) i done es) [] limit start n src (here_at j done stack left es)
+        → (at word.ElementStart src i || (at word.AttlistStart src i || at word.NotationStart src i)) ≡ true → Continues (here_run (suc n) i done es) [] limit start n src (here_at j done stack openings_left es)
     passed_by w n i j done es p opens no_entity no_comment no_instruction some first skipped =
         let here = word_byte w src i 60 some first opens in
         let inside = within src i (λ z. omega arith) in
@@ -140,16 +140,16 @@ module _ (src : List ℕ) (utf8 : IsUtf8 src) where
         let no_comment' : at word.CommentStart src (spaces_end src i) ≡ false = rw e no_comment in
         let no_instruction' : at word.PIStart src (spaces_end src i) ≡ false = rw e no_instruction in
         let skipped' : (at word.ElementStart src (spaces_end src i) || (at word.AttlistStart src (spaces_end src i) || at word.NotationStart src (spaces_end src i))) ≡ true = rw e skipped in
-        let r = turn.turn_passed (here_run (suc n) i done es) [] limit start (suc n) n src (here_at i done stack left es) (none_yet limit start (suc n) src (here_at i done stack left es)) refl inside
+        let r = turn.turn_passed (here_run (suc n) i done es) [] limit start (suc n) n src (here_at i done stack openings_left es) (none_yet limit start (suc n) src (here_at i done stack openings_left es)) refl inside
         no_entity' no_comment' no_instruction' skipped' closes in
-        subst (λ (k : ℕ). Continues (here_run (suc n) i done es) [] limit start n src (here_at k done stack left es)) next r
+        subst (λ (k : ℕ). Continues (here_run (suc n) i done es) [] limit start n src (here_at k done stack openings_left es)) next r
 
-    passed_read : (n i j : ℕ) (done : Forest Item) (es : List Entity) → IsPassedOver src i j → Continues (here_run (suc n) i done es) [] limit start n src (here_at j done stack left es)
-    passed_read n i j done es p = elim p.opens as (λ _. Continues (here_run (suc n) i done es) [] limit start n src (here_at j done stack left es)) [
+    passed_read : (n i j : ℕ) (done : Forest Item) (es : List Entity) → IsPassedOver src i j → Continues (here_run (suc n) i done es) [] limit start n src (here_at j done stack openings_left es)
+    passed_read n i j done es p = elim p.opens as (λ _. Continues (here_run (suc n) i done es) [] limit start n src (here_at j done stack openings_left es)) [
       | inl is ↦ passed_by word.ElementStart n i j done es p is (words_apart word.EntityStart word.ElementStart src i 3 (omega arith) (omega arith) (λ h. omega arith) is)
           (words_apart word.CommentStart word.ElementStart src i 2 (omega arith) (omega arith) (λ h. omega arith) is) (words_apart word.PIStart word.ElementStart src i 1 (omega arith) (omega arith) (λ h. omega arith) is)
           (omega arith) refl (or_left _ _ is)
-      | inr others ↦ elim others as (λ _. Continues (here_run (suc n) i done es) [] limit start n src (here_at j done stack left es)) [
+      | inr others ↦ elim others as (λ _. Continues (here_run (suc n) i done es) [] limit start n src (here_at j done stack openings_left es)) [
         | inl is ↦ passed_by word.AttlistStart n i j done es p is (words_apart word.EntityStart word.AttlistStart src i 2 (omega arith) (omega arith) (λ h. omega arith) is)
             (words_apart word.CommentStart word.AttlistStart src i 2 (omega arith) (omega arith) (λ h. omega arith) is) (words_apart word.PIStart word.AttlistStart src i 1 (omega arith) (omega arith) (λ h. omega arith) is)
             (omega arith) refl (or_right _ _ (or_left _ _ is))
@@ -161,7 +161,7 @@ module _ (src : List ℕ) (utf8 : IsUtf8 src) where
 
     -- a declaration of an entity
     entity_read : (n i j : ℕ) (first : List Asked) (one es : List Entity) (done : Forest Item) → IsEntityDeclaration src i j first one
-        → Continues (here_run (suc n) i done es) first limit start n src (here_at j done stack left (es ++ one))
+        → Continues (here_run (suc n) i done es) first limit start n src (here_at j done stack openings_left (es ++ one))
     entity_read n i j first one es done is =
         let opens = is.begins.opens in
         let here = word_byte word.EntityStart src i 60 (omega arith) refl opens in
@@ -169,14 +169,14 @@ module _ (src : List ℕ) (utf8 : IsUtf8 src) where
         let e : spaces_end src i ≡ i = no_spaces src i here in
         let opens' : at word.EntityStart src (spaces_end src i) ≡ true = rw e opens in
         let is' : IsEntityDeclaration src (spaces_end src i) j first one = rw e is in
-        let d = here_at i done stack left es in
-        turn.turn_entity (here_run (suc n) i done es) [] limit start (suc n) n src d (none_yet limit start (suc n) src d) refl inside first (here_at j done stack left (es ++ one)) opens'
+        let d = here_at i done stack openings_left es in
+        turn.turn_entity (here_run (suc n) i done es) [] limit start (suc n) n src d (none_yet limit start (suc n) src d) refl inside first (here_at j done stack openings_left (es ++ one)) opens'
         (entity_complete src utf8 (spaced src d) j first one is')
 
     -- the items and the end of the declaration
     pub subset_complete : (n i k : ℕ) (items done : Forest Item) (asked : List Asked) (more es : List Entity) → Subset src i k items asked more → byte src k ≡ 93 → byte src (spaces_end src (k + 1)) ≡ 62
-        → IsValidState limit (state k (join done items) stack left) → length src ≤ i + n
-        → Answered (here_run n i done es) asked (here_at (spaces_end src (k + 1) + 1) (join done items) stack left (es ++ more))
+        → IsValidState limit (state k (join done items) stack openings_left) → length src ≤ i + n
+        → Answered (here_run n i done es) asked (here_at (spaces_end src (k + 1) + 1) (join done items) stack openings_left (es ++ more))
     subset_complete zero i k items done asked more es rest bracket closes fine enough =
         let inside = within src k (λ z. omega arith) in
         absurd (omega (arith, subset_le i k items asked more rest))
@@ -187,20 +187,20 @@ module _ (src : List ℕ) (utf8 : IsUtf8 src) where
         let next = subset_complete (suc n) (i + 1) k items done asked more es rest bracket closes fine (omega arith) in
         λ rs. space_step n i done es _ is (omega arith) ∙ next rs
     subset_complete (suc n) i k items done asked more es (an_item _ j _ item others _ _ is rest) bracket closes fine enough =
-        let all : IsValidState limit (state k (join (join done (leaf item)) others) stack left) = subst (λ (f : Forest Item). IsValidState limit (state k f stack left)) (sym (join_assoc done (leaf item) others)) fine in
+        let all : IsValidState limit (state k (join (join done (leaf item)) others) stack openings_left) = subst (λ (f : Forest Item). IsValidState limit (state k f stack openings_left)) (sym (join_assoc done (leaf item) others)) fine in
         let moves = misc_moves src utf8 i j item is in
-        let one = item_read n i j item done es is (fine_before limit j k left left (join done (leaf item)) others stack all) in
+        let one = item_read n i j item done es is (fine_before limit j k openings_left openings_left (join done (leaf item)) others stack all) in
         let next = subset_complete n j k others (join done (leaf item)) asked more es rest bracket closes all (omega (arith, enough, moves)) in
-        let whole = continued (here_run (suc n) i done es) [] asked limit start n src (here_at j (join done (leaf item)) stack left es)
-        (here_at (spaces_end src (k + 1) + 1) (join (join done (leaf item)) others) stack left (es ++ more)) one next in
-        subst (λ (f : Forest Item). Answered (here_run (suc n) i done es) asked (here_at (spaces_end src (k + 1) + 1) f stack left (es ++ more))) (join_assoc done (leaf item) others) whole
+        let whole = continued (here_run (suc n) i done es) [] asked limit start n src (here_at j (join done (leaf item)) stack openings_left es)
+        (here_at (spaces_end src (k + 1) + 1) (join (join done (leaf item)) others) stack openings_left (es ++ more)) one next in
+        subst (λ (f : Forest Item). Answered (here_run (suc n) i done es) asked (here_at (spaces_end src (k + 1) + 1) f stack openings_left (es ++ more))) (join_assoc done (leaf item) others) whole
     subset_complete (suc n) i k items done asked more es (skipped_declaration _ j _ _ _ _ is rest) bracket closes fine enough =
         let moves = (passed_moves src utf8 i j is).0 in
         let next = subset_complete n j k items done asked more es rest bracket closes fine (omega (arith, enough, moves)) in
-        continued (here_run (suc n) i done es) [] asked limit start n src (here_at j done stack left es) (here_at (spaces_end src (k + 1) + 1) (join done items) stack left (es ++ more)) (passed_read n i j done es is) next
+        continued (here_run (suc n) i done es) [] asked limit start n src (here_at j done stack openings_left es) (here_at (spaces_end src (k + 1) + 1) (join done items) stack openings_left (es ++ more)) (passed_read n i j done es is) next
     subset_complete (suc n) i k items done asked more es (an_entity _ j _ _ first later one others is rest) bracket closes fine enough =
         let moves = (entity_moves src utf8 i j first one is).1 in
         let next = subset_complete n j k items done later others (es ++ one) rest bracket closes fine (omega (arith, enough, moves)) in
-        let whole = continued (here_run (suc n) i done es) first later limit start n src (here_at j done stack left (es ++ one))
-        (here_at (spaces_end src (k + 1) + 1) (join done items) stack left ((es ++ one) ++ others)) (entity_read n i j first one es done is) next in
-        subst (λ (l : List Entity). Answered (here_run (suc n) i done es) (first ++ later) (here_at (spaces_end src (k + 1) + 1) (join done items) stack left l)) (append_assoc es one others) whole
+        let whole = continued (here_run (suc n) i done es) first later limit start n src (here_at j done stack openings_left (es ++ one))
+        (here_at (spaces_end src (k + 1) + 1) (join done items) stack openings_left ((es ++ one) ++ others)) (entity_read n i j first one es done is) next in
+        subst (λ (l : List Entity). Answered (here_run (suc n) i done es) (first ++ later) (here_at (spaces_end src (k + 1) + 1) (join done items) stack openings_left l)) (append_assoc es one others) whole

@@ -58,10 +58,10 @@ tested_complete scope count i name as' few distinct may =
 abbrev pub none_yet : TagSoFar
 none_yet = record { own = []; attributes = [] }
 
-module _ (how : Values) (O : Inclusion) (agrees : AgreesValue how.entities O how.opener) (src : List ℕ) (utf8 : IsUtf8 src) where
+module _ (context : Values) (O : Inclusion) (agrees : AgreesValue context.entities O context.opener) (src : List ℕ) (utf8 : IsUtf8 src) where
   -- a tag stands there, is well named, and is within the limits after so many attributes and these pairs
   pub record TagStands (above : List NamespaceDecl) (count : ℕ) (known : List NamespaceDecl) (i j b : ℕ) (x : TagRead) : Type 0 where
-    pub is_tag : IsTag how.main O src i j b x.left x.empty x.tag
+    pub is_tag : IsTag context.main O src i j b x.openings_left x.empty x.tag
     pub well_named : IsWellNamed (listed above x.tag.declarations) x.tag
     pub attributes : count + length x.tag.attributes ≤ most_attributes
     pub pairs : length (with_new known (listable x.tag)) ≤ most_pairs
@@ -69,18 +69,18 @@ module _ (how : Values) (O : Inclusion) (agrees : AgreesValue how.entities O how
   -- the rest of a tag, from i on, where it holds these
   abbrev pub RestStands : List NamespaceDecl → ℕ → ℕ → TagSoFar → TagRest × ℕ → Type 0
   RestStands known i b h x =
-      (written : List Attribute) × (last : ℕ) × Attributes how.main O src i last b x.0.left written × TagEnds src last x.0.empty x.1 × (all_taken known written h ≡ Ok x.0.held)
+      (written : List Attribute) × (last : ℕ) × Attributes context.main O src i last b x.0.openings_left written × TagEnds src last x.0.empty x.1 × (all_taken known written h ≡ Ok x.0.held)
 
   -- a turn and the rest that are read stand there
   after_sound : (known : List NamespaceDecl) (next : ℕ → ℕ → TagSoFar → Result (TagRest × ℕ) Refusal) → ((j l : ℕ) (held : TagSoFar) (x : TagRest × ℕ) → next j l held ≡ Ok x → RestStands known j l held x)
-      → (i b : ℕ) (h : TagSoFar) (t : TagItem) (j : ℕ) (x : TagRest × ℕ) → TurnStands src i t j → after_tag_item next how known src b h t j ≡ Ok x → RestStands known i b h x
+      → (i b : ℕ) (h : TagSoFar) (t : TagItem) (j : ℕ) (x : TagRest × ℕ) → TurnStands src i t j → after_tag_item next context known src b h t j ≡ Ok x → RestStands known i b h x
   after_sound known next rest i b h (more raw) j x stands is =
-      bind_ok (value_at how.main how.entities how.opener src raw.value_start raw.value_end b) _ _ is (λ v read is.
+      bind_ok (value_at context.main context.entities context.opener src raw.value_start raw.value_end b) _ _ is (λ v read is.
       bind_lifted (taken known (attribute_with raw v.0) h) _ _ is (λ held first is.
       let r = rest j v.1 held x is in (
         attribute_with raw v.0 ∷ r.0,
         r.1,
-        one_more i j r.1 b v.1 x.0.left (attribute_with raw v.0) r.0 stands.0 (attribute_sound how O agrees src utf8 (spaces_end src i) j b v.1 raw v.0 stands.1 read) r.2,
+        one_more i j r.1 b v.1 x.0.openings_left (attribute_with raw v.0) r.0 stands.0 (attribute_sound context O agrees src utf8 (spaces_end src i) j b v.1 raw v.0 stands.1 read) r.2,
         r.3,
         rw first r.4,
       )))
@@ -90,44 +90,44 @@ module _ (how : Values) (O : Inclusion) (agrees : AgreesValue how.entities O how
       subst (λ (y : TagRest × ℕ). RestStands known i b h y) (ok_same _ _ is) ([], i, no_more i b, stands, refl)
 
   -- the rest of a tag that is read stands there
-  pub rest_sound : (n : ℕ) (cut : Fault) (known : List NamespaceDecl) (i b : ℕ) (h : TagSoFar) (x : TagRest × ℕ) → attributes_at n how cut known src i b h ≡ Ok x → RestStands known i b h x
+  pub rest_sound : (n : ℕ) (cut : Fault) (known : List NamespaceDecl) (i b : ℕ) (h : TagSoFar) (x : TagRest × ℕ) → attributes_at n context cut known src i b h ≡ Ok x → RestStands known i b h x
   unfolding attributes_at
   rest_sound zero cut known i b h x is = cc is
   rest_sound (suc n) cut known i b h x is =
       chosen (leb (length src) i) _ _ _ is (λ out is. cc) (λ inside is. bind_lifted (tag_item_at src i) _ _ is (λ t turn is.
-      after_sound known (λ j l held. attributes_at n how cut known src j l held) (λ j l held y. rest_sound n cut known j l held y) i b h t.0 t.1 x (turn_sound src utf8 i t turn) is))
+      after_sound known (λ j l held. attributes_at n context cut known src j l held) (λ j l held y. rest_sound n cut known j l held y) i b h t.0 t.1 x (turn_sound src utf8 i t turn) is))
 
   -- attributes go forwards
-  pub attributes_le : (i j b c : ℕ) (as' : List Attribute) → Attributes how.main O src i j b c as' → i ≤ j
+  pub attributes_le : (i j b c : ℕ) (as' : List Attribute) → Attributes context.main O src i j b c as' → i ≤ j
   attributes_le i j b c as' (no_more _ _) = omega arith
   attributes_le i j b c as' (one_more _ k _ _ d _ a rest some first p) =
-      let one = attribute_le how O agrees src utf8 (spaces_end src i) k b d a first in
+      let one = attribute_le context O agrees src utf8 (spaces_end src i) k b d a first in
       let ih = attributes_le k j d c rest p in
       omega arith
 
   -- the rest of a tag that stands there is read
   rest_complete : (n : ℕ) (cut : Fault) (known : List NamespaceDecl) (i last b c : ℕ) (written : List Attribute) (empty : Bool) (j : ℕ) (h held : TagSoFar)
-      → length src ≤ i + n → Attributes how.main O src i last b c written → TagEnds src last empty j → all_taken known written h ≡ Ok held
-      → attributes_at n how cut known src i b h ≡ Ok (record { held = held; empty = empty; left = c }, j)
+      → length src ≤ i + n → Attributes context.main O src i last b c written → TagEnds src last empty j → all_taken known written h ≡ Ok held
+      → attributes_at n context cut known src i b h ≡ Ok (record { held = held; empty = empty; openings_left = c }, j)
   unfolding attributes_at
   rest_complete zero cut known i last b c written empty j h held enough (no_more _ _) ends is = absurd (omega (arith, (ends_inside src last empty j ends).0))
   rest_complete zero cut known i last b c written empty j h held enough (one_more _ k _ _ d _ a rest some first p) ends is =
-      let one = attribute_le how O agrees src utf8 (spaces_end src i) k b d a first in
+      let one = attribute_le context O agrees src utf8 (spaces_end src i) k b d a first in
       let more = attributes_le k last d c rest p in
       absurd (omega (arith, (ends_inside src last empty j ends).0))
   rest_complete (suc n) cut known i last b c written true j h held enough (no_more _ _) ends is =
       let inside = lt-leb (length src) i (ends_inside src i true j ends).0 in
       let t = end_complete src i true j ends in
-      rw (inside, t) (ap (λ (k : TagSoFar). Ok (record { held = k; empty = true; left = b }, j)) (ok_same _ _ is))
+      rw (inside, t) (ap (λ (k : TagSoFar). Ok (record { held = k; empty = true; openings_left = b }, j)) (ok_same _ _ is))
   rest_complete (suc n) cut known i last b c written false j h held enough (no_more _ _) ends is =
       let inside = lt-leb (length src) i (ends_inside src i false j ends).0 in
       let t = end_complete src i false j ends in
-      rw (inside, t) (ap (λ (k : TagSoFar). Ok (record { held = k; empty = false; left = b }, j)) (ok_same _ _ is))
+      rw (inside, t) (ap (λ (k : TagSoFar). Ok (record { held = k; empty = false; openings_left = b }, j)) (ok_same _ _ is))
   rest_complete (suc n) cut known i last b c written empty j h held enough (one_more _ k _ _ d _ a rest some first p) ends is =
-      let one = attribute_le how O agrees src utf8 (spaces_end src i) k b d a first in
+      let one = attribute_le context O agrees src utf8 (spaces_end src i) k b d a first in
       let further = attributes_le k last d c rest p in
       let inside = lt-leb (length src) i (omega (arith, (ends_inside src last empty j ends).0)) in
-      let read = attribute_complete how O agrees src utf8 (spaces_end src i) k b d a first in
+      let read = attribute_complete context O agrees src utf8 (spaces_end src i) k b d a first in
       let raw = read.0 in
       let t = more_complete src i k raw some read.2 in
       let value = read.3 in
@@ -139,12 +139,12 @@ module _ (how : Values) (O : Inclusion) (agrees : AgreesValue how.entities O how
 
   -- a tag that is read stands there, well named and within the limits
   pub tag_sound : (cut : Fault) (above : List NamespaceDecl) (count : ℕ) (known : List NamespaceDecl) (i j b : ℕ) (x : TagRead) → byte src i ≡ 60
-      → length known ≤ most_pairs → tag_at how cut above count known src i b ≡ Ok (x, j) → TagStands above count known i j b x × (i < j)
+      → length known ≤ most_pairs → tag_at context cut above count known src i b ≡ Ok (x, j) → TagStands above count known i j b x × (i < j)
   unfolding tag_at
   tag_sound cut above count known i j b y begins few h =
       bind_lifted (qname_at src (i + 1)) _ _ h (λ n named h.
       chosen (bytes_eq n.0.prefix (word_text word.Xmlns)) _ _ _ h (λ reserved h. cc) (λ free h.
-      bind_ok (attributes_at (length src) how cut known src n.1 b none_yet) _ _ h (λ x rest h.
+      bind_ok (attributes_at (length src) context cut known src n.1 b none_yet) _ _ h (λ x rest h.
       bind_lifted (tag_tested (listed above x.0.held.own) count i n.0 x.0.held.attributes) _ _ h (λ u tested h.
       let name = qname_sound src (i + 1) n named in
       let r = rest_sound (length src) cut known n.1 b none_yet x rest in
@@ -153,7 +153,7 @@ module _ (how : Values) (O : Inclusion) (agrees : AgreesValue how.entities O how
       let declarable = rw (← all.own) at all.declarable in
       let pairs = all.pairs few in
       let name_le = qname_le src (i + 1) n.0 n.1 name in
-      let attributes_le' = attributes_le n.1 r.1 b x.0.left r.0 r.2 in
+      let attributes_le' = attributes_le n.1 r.1 b x.0.openings_left r.0 r.2 in
       let ends_le = ends_inside src r.1 x.0.empty x.1 r.3 in
       subst (λ (z : TagRead × ℕ). TagStands above count known i z.1 b z.0 × (i < z.1)) (ok_same _ _ h) (
         record {
@@ -167,8 +167,8 @@ module _ (how : Values) (O : Inclusion) (agrees : AgreesValue how.entities O how
 
   -- a tag that stands there, well named and within the limits, is read
   pub tag_complete : (cut : Fault) (above : List NamespaceDecl) (count : ℕ) (known : List NamespaceDecl) (i j b c : ℕ) (t : Tag) (empty : Bool)
-      → IsTag how.main O src i j b c empty t → IsWellNamed (listed above t.declarations) t → count + length t.attributes ≤ most_attributes
-      → length (with_new known (listable t)) ≤ most_pairs → tag_at how cut above count known src i b ≡ Ok (record { tag = t; empty = empty; left = c }, j)
+      → IsTag context.main O src i j b c empty t → IsWellNamed (listed above t.declarations) t → count + length t.attributes ≤ most_attributes
+      → length (with_new known (listable t)) ≤ most_pairs → tag_at context cut above count known src i b ≡ Ok (record { tag = t; empty = empty; openings_left = c }, j)
   unfolding tag_at
   tag_complete cut above count known i j b c t empty tag well few pairs =
       let name = qname_complete src (i + 1) t.name t.name_end tag.is_name in

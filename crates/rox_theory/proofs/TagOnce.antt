@@ -36,29 +36,29 @@ pub same_more : (r s : RawAttribute) → more r ≡ more s → r ≡ s
 unfolding raw_of
 same_more r s e = ap (raw_of r) e
 
-module _ (how : Values) (O : Inclusion) (agrees : AgreesValue how.entities O how.opener) (src : List ℕ) (utf8 : IsUtf8 src) where
+module _ (context : Values) (O : Inclusion) (agrees : AgreesValue context.entities O context.opener) (src : List ℕ) (utf8 : IsUtf8 src) where
   abbrev pub Reads : ℕ → ℕ → ℕ → ℕ → Attribute → Type 0
-  Reads i j b c a = AttributeReads how O agrees src utf8 i j b c a
+  Reads i j b c a = AttributeReads context O agrees src utf8 i j b c a
 
   -- a turn of a tag that is an attribute
-  pub turn_is : (i j b c : ℕ) (a : Attribute) → IsAttribute how.main O src (spaces_end src i) j b c a → (spaces : i < spaces_end src i)
+  pub turn_is : (i j b c : ℕ) (a : Attribute) → IsAttribute context.main O src (spaces_end src i) j b c a → (spaces : i < spaces_end src i)
       → (r : Reads (spaces_end src i) j b c a) × (tag_item_at src i ≡ Ok (more r.0, j))
   turn_is i j b c a is spaces =
-      let r = attribute_complete how O agrees src utf8 (spaces_end src i) j b c a is in
+      let r = attribute_complete context O agrees src utf8 (spaces_end src i) j b c a is in
       (r, more_complete src i j r.0 spaces r.2)
 
   -- an attribute is read in one way
   pub one_attribute : (j k i b c d : ℕ) (a e : Attribute) → (r : Reads i j b c a) → (s : Reads i k b d e) → r.0 ≡ s.0 → (a ≡ e) × (c ≡ d)
   one_attribute j k i b c d a e r s same =
-      let read : value_at how.main how.entities how.opener src r.0.value_start r.0.value_end b ≡ Ok (s.1, d) =
-      subst (λ (raw : RawAttribute). value_at how.main how.entities how.opener src raw.value_start raw.value_end b ≡ Ok (s.1, d)) (sym same) s.3 in
-      let value = ok_one (r.1, c) (s.1, d) (value_at how.main how.entities how.opener src r.0.value_start r.0.value_end b) r.3 read in (
+      let read : value_at context.main context.entities context.opener src r.0.value_start r.0.value_end b ≡ Ok (s.1, d) =
+      subst (λ (raw : RawAttribute). value_at context.main context.entities context.opener src raw.value_start raw.value_end b ≡ Ok (s.1, d)) (sym same) s.3 in
+      let value = ok_one (r.1, c) (s.1, d) (value_at context.main context.entities context.opener src r.0.value_start r.0.value_end b) r.3 read in (
         r.4 ∙ ap (λ (raw : RawAttribute). attribute_with raw r.1) same ∙ ap (λ (x : ReadText × ℕ). attribute_with s.0 x.0) value ∙ sym s.4,
         ap (λ (x : ReadText × ℕ). x.1) value,
       )
 
   -- the attributes, and the end of their tag
-  one_list : (i l m j k b c d : ℕ) (as' bs : List Attribute) (x y : Bool) → Attributes how.main O src i l b c as' → Attributes how.main O src i m b d bs → TagEnds src l x j → TagEnds src m y k
+  one_list : (i l m j k b c d : ℕ) (as' bs : List Attribute) (x y : Bool) → Attributes context.main O src i l b c as' → Attributes context.main O src i m b d bs → TagEnds src l x j → TagEnds src m y k
       → (as' ≡ bs) × (j ≡ k) × (x ≡ y) × (c ≡ d)
   one_list i l m j k b c d as' bs x y (no_more _ _) (no_more _ _) end end' =
       let same = ok_one (cond x closed opened, j) (cond y closed opened, k) (tag_item_at src i) (end_complete src i x j end) (end_complete src i y k end') in
@@ -77,20 +77,20 @@ module _ (how : Values) (O : Inclusion) (agrees : AgreesValue how.entities O how
       let same = ok_one (more turn.0.0, n) (more turn'.0.0, o) (tag_item_at src i) turn.1 turn'.1 in
       let one = one_attribute n o (spaces_end src i) b f g a a' turn.0 turn'.0 (same_more turn.0.0 turn'.0.0 (ap (λ (p : TagItem × ℕ). p.0) same)) in
       let at : o ≡ n = sym (ap (λ (p : TagItem × ℕ). p.1) same) in
-      let others'' : Attributes how.main O src n m f d rest' = subst (λ (p : ℕ). Attributes how.main O src p m f d rest') at (subst (λ (f : ℕ). Attributes how.main O src o m f d rest') (sym one.1) others') in
+      let others'' : Attributes context.main O src n m f d rest' = subst (λ (p : ℕ). Attributes context.main O src p m f d rest') at (subst (λ (f : ℕ). Attributes context.main O src o m f d rest') (sym one.1) others') in
       let next = one_list n l m j k f c d rest rest' x y others others'' end end' in
       (rw (one.0, next.0) refl, next.1, next.2, next.3)
 
   -- a tag is read in one way, and as many texts may be opened behind it
-  pub tag_once : (i j k b c d : ℕ) (s t : Tag) (x y : Bool) → IsTag how.main O src i j b c x s → IsTag how.main O src i k b d y t → (j ≡ k) × (c ≡ d) × (x ≡ y) × (s ≡ t)
+  pub tag_once : (i j k b c d : ℕ) (s t : Tag) (x y : Bool) → IsTag context.main O src i j b c x s → IsTag context.main O src i k b d y t → (j ≡ k) × (c ≡ d) × (x ≡ y) × (s ≡ t)
   tag_once i j k b c d s t x y p q =
       let named = ok_one (s.name, s.name_end) (t.name, t.name_end) (qname_at src (i + 1)) (qname_complete src (i + 1) s.name s.name_end p.is_name) (qname_complete src (i + 1) t.name t.name_end q.is_name) in
       let name : s.name ≡ t.name = ap (λ (n : Name × ℕ). n.0) named in
       let at : s.name_end ≡ t.name_end = ap (λ (n : Name × ℕ). n.1) named in
-      let list = one_list t.name_end p.last q.last j k b c d p.written q.written x y (subst (λ (n : ℕ). Attributes how.main O src n p.last b c p.written) at p.attributes) q.attributes p.ends q.ends in
+      let list = one_list t.name_end p.last q.last j k b c d p.written q.written x y (subst (λ (n : ℕ). Attributes context.main O src n p.last b c p.written) at p.attributes) q.attributes p.ends q.ends in
       let declarations : s.declarations ≡ t.declarations = p.declares ∙ ap namespace_decls_of list.0 ∙ sym q.declares in
       let attributes : s.attributes ≡ t.attributes = p.has ∙ ap plain_attributes_of list.0 ∙ sym q.has in
       (list.1, list.3, list.2, rw (name, at, declarations, attributes) refl)
 
-  pub one_tag : (i j k b c d : ℕ) (s t : Tag) (x y : Bool) → IsTag how.main O src i j b c x s → IsTag how.main O src i k b d y t → (j ≡ k) × (s ≡ t) × (x ≡ y)
+  pub one_tag : (i j k b c d : ℕ) (s t : Tag) (x y : Bool) → IsTag context.main O src i j b c x s → IsTag context.main O src i k b d y t → (j ≡ k) × (s ≡ t) × (x ≡ y)
   one_tag i j k b c d s t x y p q = let once = tag_once i j k b c d s t x y p q in (once.0, once.3, once.2)

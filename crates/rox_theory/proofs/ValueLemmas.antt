@@ -489,23 +489,23 @@ module _ (es : List Entity) (src : List ℕ) (utf8 : IsUtf8 src) (stop : ℕ) (l
 
     -- the value of an attribute that is read stands there
     pub value_sound : (i b c : ℕ) (x : ReadText) → i ≤ stop → ((k : ℕ) → i ≤ k → k < stop → byte src k ≢ 60) → value_at main es opener src i stop b ≡ Ok (x, c)
-        → ValueFrom i b c x.value × (x.plain ≡ is_verbatim_value (slice src i stop))
+        → ValueFrom i b c x.value × (x.borrowed ≡ is_verbatim_value (slice src i stop))
     unfolding value_at
     value_sound i b c x to no_tag h = chosen (is_verbatim_value (slice src i stop)) _ _ _ h
         (λ plain h.
         let s = stretch_on (stop - i) i stop b b [] (omega arith) (omega arith) (λ k from below. (stays (byte src k) (slice_none is_special src i stop k long (not-true _ plain) from below), no_tag k from below)) (value_ends b) in
         let s' : ValueFrom i b b (slice src i stop) = subst (λ (w : List ℕ). ValueFrom i b b w) (append-nil (slice src i stop)) s in
-        subst (λ (y : ReadText × ℕ). ValueFrom i b y.1 y.0.value × (y.0.plain ≡ is_verbatim_value (slice src i stop))) (ok_same _ _ h) (s', sym plain))
+        subst (λ (y : ReadText × ℕ). ValueFrom i b y.1 y.0.value × (y.0.borrowed ≡ is_verbatim_value (slice src i stop))) (ok_same _ _ h) (s', sym plain))
         (λ marked h. bind_ok (value_text main es opener (stop - i) src stop i b) _ _ h (λ v read h.
         let s = value_text_sound (stop - i) i b v.1 v.0 to (omega arith) (λ is. no_tag) read in
-        subst (λ (y : ReadText × ℕ). ValueFrom i b y.1 y.0.value × (y.0.plain ≡ is_verbatim_value (slice src i stop))) (ok_same _ _ h) (s, sym marked)))
+        subst (λ (y : ReadText × ℕ). ValueFrom i b y.1 y.0.value × (y.0.borrowed ≡ is_verbatim_value (slice src i stop))) (ok_same _ _ h) (s, sym marked)))
 
     -- the value of an attribute that stands there is read
     pub value_complete : (i b c : ℕ) (v : List ℕ) → i ≤ stop → IsCharBoundary src i → (main ≡ false → AreChars src i stop) → ValueFrom i b c v
-        → value_at main es opener src i stop b ≡ Ok (record { value = v; plain = is_verbatim_value (slice src i stop) }, c)
+        → value_at main es opener src i stop b ≡ Ok (record { value = v; borrowed = is_verbatim_value (slice src i stop) }, c)
     unfolding value_at
     value_complete i b c v to cut are p =
-        elim (cases_Bool (is_verbatim_value (slice src i stop))) as (λ s. value_at main es opener src i stop b ≡ Ok (record { value = v; plain = is_verbatim_value (slice src i stop) }, c)) [
+        elim (cases_Bool (is_verbatim_value (slice src i stop))) as (λ s. value_at main es opener src i stop b ≡ Ok (record { value = v; borrowed = is_verbatim_value (slice src i stop) }, c)) [
           | inl plain ↦ (
               let o = stretch_off (stop - i) i stop b c v (omega arith) (omega arith) (λ k from below. stays (byte src k) (slice_none is_special src i stop k long (not-true _ plain) from below)) p in
               let z = nothing_left stop b c o.0 (omega arith) o.1 in

@@ -15,17 +15,17 @@ use Rattle.rox_theory.proofs.Measures.{Measure, most_of, fewer}
 
 module _ (of : Forest Item → ℕ) (is_measure : Measure of) where
   -- the text of a part
-  pub piece_most : (i j : ℕ) (plain : Bool) (ss : List DataByte) → of (piece i j plain ss) ≤ length ss
-  piece_most i j plain [] = let h = is_measure.none in omega (arith, h)
-  piece_most i j plain (s ∷ ss) = is_measure.text i j (line_ends (s ∷ ss)) plain (length (s ∷ ss)) (omega arith) (ends_shorten (s ∷ ss))
+  pub piece_most : (i j : ℕ) (borrowed : Bool) (ss : List DataByte) → of (piece i j borrowed ss) ≤ length ss
+  piece_most i j borrowed [] = let h = is_measure.none in omega (arith, h)
+  piece_most i j borrowed (s ∷ ss) = is_measure.text i j (line_ends (s ∷ ss)) borrowed (length (s ∷ ss)) (omega arith) (ends_shorten (s ∷ ss))
 
   -- a section's, of so many bytes
-  pub section_most : (src : List ℕ) (i e j : ℕ) (plain : Bool) → i + 9 ≤ e → of (leaf (Text i j (line_ends (literals (slice src (i + 9) e))) plain)) + i ≤ e
-  section_most src i e j plain h =
+  pub section_most : (src : List ℕ) (i e j : ℕ) (borrowed : Bool) → i + 9 ≤ e → of (leaf (Text i j (line_ends (literals (slice src (i + 9) e))) borrowed)) + i ≤ e
+  section_most src i e j borrowed h =
       let a = ends_shorten (literals (slice src (i + 9) e)) in
       let s = signs_length false (slice src (i + 9) e) in
       let z = slice_short src (i + 9) e in
-      let t = is_measure.text i j (line_ends (literals (slice src (i + 9) e))) plain (e - i) (omega (arith, h)) (omega (arith, h, a, s, z)) in
+      let t = is_measure.text i j (line_ends (literals (slice src (i + 9) e))) borrowed (e - i) (omega (arith, h)) (omega (arith, h, a, s, z)) in
       omega (arith, t, h)
 
   pub misc_most : (src : List ℕ) (i j : ℕ) (item : Item) → IsMisc src i j item → of (leaf item) + i ≤ j

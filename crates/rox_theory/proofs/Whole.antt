@@ -57,13 +57,13 @@ module _ (src : List ℕ) (utf8 : IsUtf8 src) where
   -- what is read up to the end
   record Found (most : ℕ) (es : List Entity) (i : ℕ) (before : Forest Item) (t : Forest Item) : Type 0 where
     pub end : ℕ
-    pub left : ℕ
+    pub openings_left : ℕ
     pub one : Forest Item
-    pub element : IsElement true (included_in_main es) src i end 255 left one
+    pub element : IsElement true (included_in_main es) src i end 255 openings_left one
     pub after : Forest Item
     pub misc_after : Misc src end (length src) after
     pub is_tree : t ≡ join (join before one) after
-    pub fine : IsValidState most (state (length src) t root left)
+    pub fine : IsValidState most (state (length src) t root openings_left)
 
   -- a text that is read has come to its end
   finished_is : (v : State) (t : Forest Item) → finished src (v, true) ≡ Ok t → (length src ≤ v.at) × (v.done ≡ t)
@@ -93,11 +93,11 @@ module _ (src : List ℕ) (utf8 : IsUtf8 src) where
   unfolding body
   body_sound limit most es i before t x more texts fine h last =
       let s = state i before root 255 in
-      let how = main_text limit es in
+      let context = main_text limit es in
       let agree = steps limit es texts in
       chosen (byte src i == 60) _ _ _ h
-      (λ here h. bind_ok (tag_step how src s) _ _ h (λ v read h. bind_ok (drive how (length src) src v) _ _ h (λ u driven h. bind_lifted (misc limit (length src) src u) _ _ h (λ w rest h.
-      let tag = tag_read how (included_in_main es) (values_agree es texts most_deep true) (openers_agree limit es texts most_deep true) src utf8 most s v more (eqb-true _ _ here) fine read in
+      (λ here h. bind_ok (tag_step context src s) _ _ h (λ v read h. bind_ok (drive context (length src) src v) _ _ h (λ u driven h. bind_lifted (misc limit (length src) src u) _ _ h (λ w rest h.
+      let tag = tag_read context (included_in_main es) (values_agree es texts most_deep true) (openers_agree limit es texts most_deep true) src utf8 most s v more (eqb-true _ _ here) fine read in
       let chain = drive_sound limit es src agree (length src) most v u more tag.1 driven in
       let begun = tag.0 in
       let chain' : Drives (included_in_main es) src (after s begun.0 begun.2 begun.3 begun.1) u = subst (λ (v : State). Drives (included_in_main es) src v u) begun.5 chain.0 in
@@ -105,20 +105,20 @@ module _ (src : List ℕ) (utf8 : IsUtf8 src) where
       let e : (w, true) ≡ x = ok_same _ _ h in
       let done = finished_is w t (rw (← e) at last) in
       let u_is = element.2 in
-      let cut = ends_cut src u.at utf8 (element_ends true (included_in_main es) src i u.at 255 u.left element.0 element.1) in
-      let behind = misc_sound src utf8 (length src) limit most u.left u.at (join before element.0) w more cut (subst (IsValidState most) u_is chain.1) (subst (λ (u : State). misc limit (length src) src u ≡ Ok w) u_is rest) in
+      let cut = ends_cut src u.at utf8 (element_ends true (included_in_main es) src i u.at 255 u.openings_left element.0 element.1) in
+      let behind = misc_sound src utf8 (length src) limit most u.openings_left u.at (join before element.0) w more cut (subst (IsValidState most) u_is chain.1) (subst (λ (u : State). misc limit (length src) src u ≡ Ok w) u_is rest) in
       let at_end : w.at ≡ length src = let far = behind.4.0 in let near = done.0 in omega arith in
       let tree : t ≡ join (join before element.0) behind.0 = sym done.1 ∙ ap (λ (s : State). s.done) behind.2 in
-      let all : IsValidState most (state w.at (join (join before element.0) behind.0) root u.left) = subst (IsValidState most) behind.2 behind.3 in
+      let all : IsValidState most (state w.at (join (join before element.0) behind.0) root u.openings_left) = subst (IsValidState most) behind.2 behind.3 in
       record {
         end = u.at;
-        left = u.left;
+        openings_left = u.openings_left;
         one = element.0;
         element = element.1;
         after = behind.0;
         misc_after = subst (λ (k : ℕ). Misc src u.at k behind.0) at_end behind.1;
         is_tree = tree;
-        fine = fine_there most (state w.at (join (join before element.0) behind.0) root u.left) (state (length src) t root u.left) (sym tree) refl all;
+        fine = fine_there most (state w.at (join (join before element.0) behind.0) root u.openings_left) (state (length src) t root u.openings_left) (sym tree) refl all;
       }))))
       (λ none h. let e : (s, false) ≡ x = ok_same _ _ h in absurd (unfinished s t (rw (← e) at last)))
 
@@ -148,9 +148,9 @@ module _ (src : List ℕ) (utf8 : IsUtf8 src) where
         let tree : t ≡ join ahead.0 (join dtd.1 (join found.one found.after)) = found.is_tree ∙ ap (λ (f : Forest Item). join f found.after) (join_assoc ahead.0 dtd.1 found.one)
         ∙ join_assoc ahead.0 (join dtd.1 found.one) found.after ∙ ap (join ahead.0) (join_assoc dtd.1 found.one found.after) in
         let merged : merge t ≡ t = ap merge tree
-        ∙ tops_merged true (included_in_main d.entities) src i s.at d.state.at found.end (length src) 255 found.left dtd.0 ahead.0 dtd.1 found.one found.after asked d.entities ahead.1 dtd.2 found.element found.misc_after ∙ sym tree in
+        ∙ tops_merged true (included_in_main d.entities) src i s.at d.state.at found.end (length src) 255 found.openings_left dtd.0 ahead.0 dtd.1 found.one found.after asked d.entities ahead.1 dtd.2 found.element found.misc_after ∙ sym tree in
         let sizes : size t ≡ size ahead.0 + (size dtd.1 + (size found.one + size found.after)) = size_four t ahead.0 dtd.1 found.one found.after tree in
-        let some = element_size src d.state.at found.end 255 found.left d.entities found.one found.element in
+        let some = element_size src d.state.at found.end 255 found.openings_left d.entities found.one found.element in
         let counted : 1 + size t ≤ most = subst (λ (f : Forest Item). 1 + size f ≤ most) merged found.fine.nodes in (
           dtd.0,
           record {
@@ -164,7 +164,7 @@ module _ (src : List ℕ) (utf8 : IsUtf8 src) where
             entities = d.entities;
             doctype = dtd.2;
             end = found.end;
-            left = found.left;
+            openings_left = found.openings_left;
             one = found.one;
             element = found.element;
             after = found.after;
@@ -177,9 +177,9 @@ module _ (src : List ℕ) (utf8 : IsUtf8 src) where
         )))))
 
   -- at the end the text is read
-  finishes : (done : Forest Item) (left : ℕ) → finished src (state (length src) done root left, true) ≡ Ok done
+  finishes : (done : Forest Item) (openings_left : ℕ) → finished src (state (length src) done root openings_left, true) ≡ Ok done
   unfolding finished
-  finishes done left = rw (le-ltb (length src) (length src) (omega arith)) refl
+  finishes done openings_left = rw (le-ltb (length src) (length src) (omega arith)) refl
 
   -- what stands there from the root element on is read
   body_complete : (limit : ℕ) (es : List Entity) (i j c : ℕ) (before one behind : Forest Item) → AreTexts es → IsElement true (included_in_main es) src i j 255 c one → Misc src j (length src) behind
@@ -187,37 +187,37 @@ module _ (src : List ℕ) (utf8 : IsUtf8 src) where
       → body limit es src (state i before root 255) ≡ Ok (state (length src) (join (join before one) behind) root c, true)
   unfolding body
   body_complete limit es i j c before one behind texts element last fine =
-      let how = main_text limit es in
+      let context = main_text limit es in
       let agree = steps limit es texts in
       let s = state i before root 255 in
       let u = state j (join before one) root c in
       let chain = root_drives (included_in_main es) src i j 255 c one before element in
       let there : IsValidState limit u = fine_before limit j (length src) c c (join before one) behind root fine in
       let next = drives_back limit es src agree (after s chain.0 chain.2 chain.3 chain.1) u chain.5 there in
-      let read = read_tag how (included_in_main es) (values_agree es texts most_deep true) (openers_agree limit es texts most_deep true) src utf8 s chain.0 chain.1 chain.2 chain.3 chain.4 next in
+      let read = read_tag context (included_in_main es) (values_agree es texts most_deep true) (openers_agree limit es texts most_deep true) src utf8 s chain.0 chain.1 chain.2 chain.3 chain.4 next in
       let driven = drive_complete limit es src agree (length src) (after s chain.0 chain.2 chain.3 chain.1) u chain.5 there (omega arith) in
       let rest = misc_complete src utf8 (length src) limit c j (length src) behind (join before one) last (end_stops src) (omega (arith, fine.nodes)) (omega arith) in
       rw (eq-eqb _ _ (element_stops true (included_in_main es) src i j 255 c one element).0, read, driven, rest) refl
 
   -- what the limits allow of a parse they allow where its text has been read
   parse_fine : (limit : ℕ) (dtd : Bool) (asked : List Asked) (t : Forest Item) (p : ParseOf src dtd asked t) → IsWithinLimits limit t
-      → IsValidState limit (state (length src) (join (join (join p.before p.nodes) p.one) p.after) root p.left) × (t ≡ join (join (join p.before p.nodes) p.one) p.after)
+      → IsValidState limit (state (length src) (join (join (join p.before p.nodes) p.one) p.after) root p.openings_left) × (t ≡ join (join (join p.before p.nodes) p.one) p.after)
   parse_fine limit dtd asked t p within =
       let tree : t ≡ join (join (join p.before p.nodes) p.one) p.after =
       p.is_tree ∙ ap (join p.before) (sym (join_assoc p.nodes p.one p.after)) ∙ sym (join_assoc p.before (join p.nodes p.one) p.after) ∙ ap (λ (f : Forest Item). join f p.after) (sym (join_assoc p.before p.nodes p.one)) in
       let merged = parse_merged src dtd asked t p in
       let counted : 1 + size (merge t) ≤ limit = rw merged (omega (arith, within.nodes)) in
-      let whole : IsValidState limit (state (length src) t root p.left) = record { nodes = counted; attributes = within.attributes; pairs = within.namespaces; named = p.well_named } in
-      (subst (λ (f : Forest Item). IsValidState limit (state (length src) f root p.left)) tree whole, tree)
+      let whole : IsValidState limit (state (length src) t root p.openings_left) = record { nodes = counted; attributes = within.attributes; pairs = within.namespaces; named = p.well_named } in
+      (subst (λ (f : Forest Item). IsValidState limit (state (length src) f root p.openings_left)) tree whole, tree)
 
   -- what comes before a document type declaration is read, and one begins behind it, if there is one
   before_read : (limit : ℕ) (dtd : Bool) (asked : List Asked) (t : Forest Item) (p : ParseOf src dtd asked t) → IsWithinLimits limit t
       → (prolog src (after_bom src) ≡ Ok p.declared_to) × (misc limit (length src) src (state p.declared_to Nil root 255) ≡ Ok (state p.begun p.before root 255)) × (at word.DoctypeStart src p.begun ≡ dtd)
   before_read limit dtd asked t p within =
-      let stops = element_stops true (included_in_main p.entities) src p.start p.end 255 p.left p.one p.element in
+      let stops = element_stops true (included_in_main p.entities) src p.start p.end 255 p.openings_left p.one p.element in
       let fine = (parse_fine limit dtd asked t p within).0 in
-      let behind = fine_before limit p.end (length src) p.left p.left (join (join p.before p.nodes) p.one) p.after root fine in
-      let element = fine_before limit p.start p.end 255 p.left (join p.before p.nodes) p.one root behind in
+      let behind = fine_before limit p.end (length src) p.openings_left p.openings_left (join (join p.before p.nodes) p.one) p.after root fine in
+      let element = fine_before limit p.start p.end 255 p.openings_left (join p.before p.nodes) p.one root behind in
       let front = fine_before limit p.begun p.start 255 255 p.before p.nodes root element in (
         prolog_complete src utf8 (after_bom src) p.declared_to p.declaration,
         misc_complete src utf8 (length src) limit 255 p.declared_to p.begun p.before Nil p.misc_before (begins_stop src p.begun p.start dtd p.nodes asked p.entities p.doctype stops.2)
@@ -245,12 +245,12 @@ module _ (src : List ℕ) (utf8 : IsUtf8 src) where
         let b = before_read limit dtd asked t p within in
         let f = parse_fine limit dtd asked t p within in
         let fine = f.0 in
-        let stops = element_stops true (included_in_main p.entities) src p.start p.end 255 p.left p.one p.element in
-        let behind = fine_before limit p.end (length src) p.left p.left (join (join p.before p.nodes) p.one) p.after root fine in
-        let element = fine_before limit p.start p.end 255 p.left (join p.before p.nodes) p.one root behind in
+        let stops = element_stops true (included_in_main p.entities) src p.start p.end 255 p.openings_left p.one p.element in
+        let behind = fine_before limit p.end (length src) p.openings_left p.openings_left (join (join p.before p.nodes) p.one) p.after root fine in
+        let element = fine_before limit p.start p.end 255 p.openings_left (join p.before p.nodes) p.one root behind in
         let declared = doctypes.complete limit p.begun p.start dtd p.before p.nodes asked p.entities more p.doctype stops.2 stops.1 permits element in
-        let main = body_complete limit p.entities p.start p.end p.left (join p.before p.nodes) p.one p.after (parse_texts dtd asked t p permits) p.element p.misc_after fine in
-        let done = finishes (join (join (join p.before p.nodes) p.one) p.after) p.left in
+        let main = body_complete limit p.entities p.start p.end p.openings_left (join p.before p.nodes) p.one p.after (parse_texts dtd asked t p permits) p.element p.misc_after fine in
+        let done = finishes (join (join (join p.before p.nodes) p.one) p.after) p.openings_left in
         let e : asked ++ [] ≡ asked = append-nil asked in
         rw (b.0, b.1, declared, main, done, e) (ap (λ (f : Forest Item). (asked, Ok f)) (sym f.1))
 

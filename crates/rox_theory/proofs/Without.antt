@@ -17,8 +17,8 @@ no_doctype_there src i j items asked es (no_doctype _) = (refl, refl, refl, refl
 pub parse_without : (src : List ℕ) (asked : List Asked) (tree : Forest Item) → ParseOf src false asked tree → (asked ≡ []) × ParseWithout src tree
 parse_without src asked tree p =
     let none = no_doctype_there src p.begun p.start p.nodes asked p.entities p.doctype in
-    let one = element_without src p.start p.end 255 p.left p.one
-    (subst (λ (es : List Entity). IsElement true (included_in_main es) src p.start p.end 255 p.left p.one) none.3 p.element) in (
+    let one = element_without src p.start p.end 255 p.openings_left p.one
+    (subst (λ (es : List Entity). IsElement true (included_in_main es) src p.start p.end 255 p.openings_left p.one) none.3 p.element) in (
       none.2,
       record {
         declared_to = p.declared_to;
@@ -27,7 +27,7 @@ parse_without src asked tree p =
         before = p.before;
         misc_before = subst (λ (k : ℕ). Misc src p.declared_to k p.before) none.0 p.misc_before;
         end = p.end;
-        left = one.0;
+        openings_left = one.0;
         one = p.one;
         element = one.1;
         after = p.after;
@@ -43,7 +43,7 @@ element_with es src i j b c one is = let x = element_count true no_entities (inc
 
 pub parse_with : (src : List ℕ) (tree : Forest Item) → ParseWithout src tree → ParseOf src false [] tree
 parse_with src tree p =
-    let one = element_with [] src p.start p.end 255 p.left p.one p.element in
+    let one = element_with [] src p.start p.end 255 p.openings_left p.one p.element in
     record {
       declared_to = p.declared_to;
       declaration = p.declaration;
@@ -55,7 +55,7 @@ parse_with src tree p =
       entities = [];
       doctype = no_doctype p.start;
       end = p.end;
-      left = one.0;
+      openings_left = one.0;
       one = p.one;
       element = one.1;
       after = p.after;

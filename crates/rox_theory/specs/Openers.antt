@@ -27,6 +27,6 @@ pub record AgreesValue (es : List Entity) (O : Inclusion) (opener : ValueInclusi
 -- reading goes on; the place of the state does not matter.
 pub record AgreesContent (es : List Entity) (limit : ℕ) (O : Inclusion) (opener : Replacement → ℕ → State → Result State Refusal) : Type 0 where
   pub sound : (most : ℕ) (name : List ℕ) (t : Replacement) (after : ℕ) (s u : State) → limit ≤ most → text_of es name ≡ Some t → IsValidState most s → opener t after s ≡ Ok u
-      → (items : Forest Item) × (c : ℕ) × O.content name s.left items c × (u ≡ state after (join s.done items) s.stack c) × IsValidState most u
-  pub complete : (name : List ℕ) (after c : ℕ) (items : Forest Item) (s : State) → O.content name s.left items c → IsValidState limit (state after (join s.done items) s.stack c)
+      → (items : Forest Item) × (c : ℕ) × O.content name s.openings_left items c × (u ≡ state after (join s.done items) s.stack c) × IsValidState most u
+  pub complete : (name : List ℕ) (after c : ℕ) (items : Forest Item) (s : State) → O.content name s.openings_left items c → IsValidState limit (state after (join s.done items) s.stack c)
       → (t : Replacement) × (text_of es name ≡ Some t) × (opener t after s ≡ Ok (state after (join s.done items) s.stack c))

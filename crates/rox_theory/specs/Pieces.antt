@@ -49,7 +49,7 @@ module _ (main : Bool) (O : Inclusion) (opened : Writes O) (src : List ℕ) wher
     content_pieces i j b d items (node _ k _ _ c _ one more is rest) = join (element_pieces i k b c one is) (content_pieces k j c d more rest)
 
 -- what a reference opens is written in its replacement text, and where that refers to others in theirs
-abbrev pub writes : (es : List Entity) (left : ℕ) (main : Bool) → Writes (Includes es left main)
+abbrev pub writes : (es : List Entity) (openings_left : ℕ) (main : Bool) → Writes (Includes es openings_left main)
 writes es zero main = record { content = λ name b items c none. absurd none }
 writes es (suc d) main =
     record {
@@ -62,7 +62,7 @@ abbrev pub pieces_of : (src : List ℕ) (dtd : Bool) (asked : List Asked) (tree 
 pieces_of src dtd asked tree p =
     join (written_in src p.before)
     (join (written_in src p.nodes)
-    (join (element_pieces true (included_in_main p.entities) (writes p.entities most_deep true) src p.start p.end 255 p.left p.one p.element) (written_in src p.after)))
+    (join (element_pieces true (included_in_main p.entities) (writes p.entities most_deep true) src p.start p.end 255 p.openings_left p.one p.element) (written_in src p.after)))
 
 -- These items, where below each of them every longest row of touching texts becomes one text: its value is theirs joined, and its
 -- range is that of the first. (At the top of a document there are no texts.)

@@ -23,4 +23,4 @@ pub record IsValidState (limit : ℕ) (s : State) : Type 0 where
 
 -- a state of these parts
 abbrev pub state : ℕ → Forest Item → Open → ℕ → State
-state i done stack left = record { at = i; done = done; stack = stack; left = left }
+state i done stack openings_left = record { at = i; done = done; stack = stack; openings_left = openings_left }

@@ -16,9 +16,9 @@ pub record ParseWithout (src : List ℕ) (tree : Forest Item) : Type 0 where
   pub before : Forest Item
   pub misc_before : Misc src declared_to start before
   pub end : ℕ
-  pub left : ℕ
+  pub openings_left : ℕ
   pub one : Forest Item
-  pub element : IsElement true no_entities src start end 255 left one
+  pub element : IsElement true no_entities src start end 255 openings_left one
   pub after : Forest Item
   pub misc_after : Misc src end (length src) after
   pub is_tree : tree ≡ join before (join one after)

@@ -50,14 +50,14 @@ joined front new j (Ok (bytes_of bs, k)) next h =
 joined front new j (Ok (opens t, k)) next h = absurd (apart t new (pair_ok (opens t) (bytes_of new) k j h).0)
 joined front new j (Err f) next h = cc h
 
-value_joined : (opener : ValueInclusion) (left : ℕ) (front new : List ℕ) (j : ℕ) (read : Read Bit) (next : ℕ → ℕ → Result (List ℕ × ℕ) Refusal) → behind front read ≡ Ok (bytes_of new, j)
-    → text_behind front (lifted read >>= λ x. after_value_bit opener next left x.0 x.1) ≡ text_behind new (next j left)
-value_joined opener left front new j (Ok (bytes_of bs, k)) next h =
+value_joined : (opener : ValueInclusion) (openings_left : ℕ) (front new : List ℕ) (j : ℕ) (read : Read Bit) (next : ℕ → ℕ → Result (List ℕ × ℕ) Refusal) → behind front read ≡ Ok (bytes_of new, j)
+    → text_behind front (lifted read >>= λ x. after_value_bit opener next openings_left x.0 x.1) ≡ text_behind new (next j openings_left)
+value_joined opener openings_left front new j (Ok (bytes_of bs, k)) next h =
     let same = pair_ok (bytes_of (front ++ bs)) (bytes_of new) k j h in
     let xs : front ++ bs ≡ new = bytes_same (front ++ bs) new same.0 in
-    appended front bs (next k left) ∙ rw (xs, same.1) refl
-value_joined opener left front new j (Ok (opens t, k)) next h = absurd (apart t new (pair_ok (opens t) (bytes_of new) k j h).0)
-value_joined opener left front new j (Err f) next h = cc h
+    appended front bs (next k openings_left) ∙ rw (xs, same.1) refl
+value_joined opener openings_left front new j (Ok (opens t, k)) next h = absurd (apart t new (pair_ok (opens t) (bytes_of new) k j h).0)
+value_joined opener openings_left front new j (Err f) next h = cc h
 
 -- a text that is opened, and what follows it
 value_opened : (front new : List ℕ) (l : ℕ) (read : Result (List ℕ × ℕ) Refusal) (next : ℕ → Result (List ℕ × ℕ) Refusal) → text_behind front read ≡ Ok (new, l)
@@ -107,52 +107,52 @@ run_fails main es (failure.Fault f) front done whole n src stop i same some more
 -- ---- a value
 
 -- a bit of it
-pub value_more : (main : Bool) (es : List Entity) (opener : ValueInclusion) (left : ℕ) (front new : List ℕ) (n m : ℕ) (src : List ℕ) (stop i j : ℕ) → m + 1 ≡ n → i < stop
+pub value_more : (main : Bool) (es : List Entity) (opener : ValueInclusion) (openings_left : ℕ) (front new : List ℕ) (n m : ℕ) (src : List ℕ) (stop i j : ℕ) → m + 1 ≡ n → i < stop
     → behind front (value_bit_at main es src stop i) ≡ Ok (bytes_of new, j)
-    → text_behind new (value_text main es opener m src stop j left) ≡ text_behind front (value_text main es opener n src stop i left)
+    → text_behind new (value_text main es opener m src stop j openings_left) ≡ text_behind front (value_text main es opener n src stop i openings_left)
 unfolding value_text
-value_more main es opener left front new n m src stop i j one more h =
-    rw (← one, add-one, lt-ltb i stop more) (sym (value_joined opener left front new j (value_bit_at main es src stop i) (λ k l. value_text main es opener m src stop k l) h))
+value_more main es opener openings_left front new n m src stop i j one more h =
+    rw (← one, add-one, lt-ltb i stop more) (sym (value_joined opener openings_left front new j (value_bit_at main es src stop i) (λ k l. value_text main es opener m src stop k l) h))
 
 -- a replacement text that was opened
-pub value_opens : (main : Bool) (es : List Entity) (opener : ValueInclusion) (left l : ℕ) (front new : List ℕ) (n m : ℕ) (src : List ℕ) (stop i j : ℕ) (t : Replacement) → m + 1 ≡ n → i < stop
-    → value_bit_at main es src stop i ≡ Ok (opens t, j) → text_behind front (opener t j left) ≡ Ok (new, l)
-    → text_behind new (value_text main es opener m src stop j l) ≡ text_behind front (value_text main es opener n src stop i left)
+pub value_opens : (main : Bool) (es : List Entity) (opener : ValueInclusion) (openings_left l : ℕ) (front new : List ℕ) (n m : ℕ) (src : List ℕ) (stop i j : ℕ) (t : Replacement) → m + 1 ≡ n → i < stop
+    → value_bit_at main es src stop i ≡ Ok (opens t, j) → text_behind front (opener t j openings_left) ≡ Ok (new, l)
+    → text_behind new (value_text main es opener m src stop j l) ≡ text_behind front (value_text main es opener n src stop i openings_left)
 unfolding value_text
-value_opens main es opener left l front new n m src stop i j t one more is h =
-    rw (← one, add-one, lt-ltb i stop more, is) (sym (value_opened front new l (opener t j left) (λ l. value_text main es opener m src stop j l) h))
+value_opens main es opener openings_left l front new n m src stop i j t one more is h =
+    rw (← one, add-one, lt-ltb i stop more, is) (sym (value_opened front new l (opener t j openings_left) (λ l. value_text main es opener m src stop j l) h))
 
-pub value_fault : (main : Bool) (es : List Entity) (opener : ValueInclusion) (left : ℕ) (front : List ℕ) (n : ℕ) (src : List ℕ) (stop i : ℕ) (f : Fault) → 0 < n → i < stop → value_bit_at main es src stop i ≡ Err f
-    → text_behind front (value_text main es opener n src stop i left) ≡ Err (refusal.here f)
+pub value_fault : (main : Bool) (es : List Entity) (opener : ValueInclusion) (openings_left : ℕ) (front : List ℕ) (n : ℕ) (src : List ℕ) (stop i : ℕ) (f : Fault) → 0 < n → i < stop → value_bit_at main es src stop i ≡ Err f
+    → text_behind front (value_text main es opener n src stop i openings_left) ≡ Err (refusal.here f)
 unfolding value_text
-value_fault main es opener left front zero src stop i f some more h = absurd (omega arith)
-value_fault main es opener left front (suc n) src stop i f some more h = rw (lt-ltb i stop more, h) refl
+value_fault main es opener openings_left front zero src stop i f some more h = absurd (omega arith)
+value_fault main es opener openings_left front (suc n) src stop i f some more h = rw (lt-ltb i stop more, h) refl
 
-pub value_done : (main : Bool) (es : List Entity) (opener : ValueInclusion) (left : ℕ) (front : List ℕ) (n : ℕ) (src : List ℕ) (stop i : ℕ) → stop ≤ i → text_behind front (value_text main es opener n src stop i left) ≡ Ok (front, left)
+pub value_done : (main : Bool) (es : List Entity) (opener : ValueInclusion) (openings_left : ℕ) (front : List ℕ) (n : ℕ) (src : List ℕ) (stop i : ℕ) → stop ≤ i → text_behind front (value_text main es opener n src stop i openings_left) ≡ Ok (front, openings_left)
 unfolding value_text
-value_done main es opener left front zero src stop i past = nothing_behind front left
-value_done main es opener left front (suc n) src stop i past = rw (le-ltb i stop past) (nothing_behind front left)
+value_done main es opener openings_left front zero src stop i past = nothing_behind front openings_left
+value_done main es opener openings_left front (suc n) src stop i past = rw (le-ltb i stop past) (nothing_behind front openings_left)
 
-pub value_out : (main : Bool) (es : List Entity) (opener : ValueInclusion) (left : ℕ) (front : List ℕ) (n : ℕ) (src : List ℕ) (stop i : ℕ) → n ≡ 0 → text_behind front (value_text main es opener n src stop i left) ≡ Ok (front, left)
+pub value_out : (main : Bool) (es : List Entity) (opener : ValueInclusion) (openings_left : ℕ) (front : List ℕ) (n : ℕ) (src : List ℕ) (stop i : ℕ) → n ≡ 0 → text_behind front (value_text main es opener n src stop i openings_left) ≡ Ok (front, openings_left)
 unfolding value_text
-value_out main es opener left front n src stop i none = rw none (nothing_behind front left)
+value_out main es opener openings_left front n src stop i none = rw none (nothing_behind front openings_left)
 
 -- a bit that fails
-pub value_fails : (main : Bool) (es : List Entity) (opener : ValueInclusion) (left : ℕ) (e : Failure) (front done : List ℕ) (whole : Result (List ℕ × ℕ) Refusal) (n : ℕ) (src : List ℕ) (stop i : ℕ)
-    → text_behind done (value_text main es opener n src stop i left) ≡ text_behind front whole → 0 < n → i < stop → Fails e (value_bit_at main es src stop i) → IsRefusal (of_failure e) whole
-value_fails main es opener left failure.Memory front done whole n src stop i same some more h = tt
-value_fails main es opener left (failure.Fault f) front done whole n src stop i same some more h =
-    fault_behind front whole (refusal.here f) (sym same ∙ value_fault main es opener left done n src stop i f some more h)
+pub value_fails : (main : Bool) (es : List Entity) (opener : ValueInclusion) (openings_left : ℕ) (e : Failure) (front done : List ℕ) (whole : Result (List ℕ × ℕ) Refusal) (n : ℕ) (src : List ℕ) (stop i : ℕ)
+    → text_behind done (value_text main es opener n src stop i openings_left) ≡ text_behind front whole → 0 < n → i < stop → Fails e (value_bit_at main es src stop i) → IsRefusal (of_failure e) whole
+value_fails main es opener openings_left failure.Memory front done whole n src stop i same some more h = tt
+value_fails main es opener openings_left (failure.Fault f) front done whole n src stop i same some more h =
+    fault_behind front whole (refusal.here f) (sym same ∙ value_fault main es opener openings_left done n src stop i f some more h)
 
 -- a replacement text that is refused
 opened_refused : {A : Type 0} (front : List ℕ) (read : Result (List ℕ × ℕ) Refusal) (next : List ℕ × ℕ → Result (List ℕ × A) Refusal) (e : Refusal) → read ≡ Err e → text_behind front (read >>= next) ≡ Err e
 opened_refused front read next e h = rw h refl
 
-value_opens_err : (main : Bool) (es : List Entity) (opener : ValueInclusion) (left : ℕ) (front : List ℕ) (n : ℕ) (src : List ℕ) (stop i j : ℕ) (t : Replacement) (e : Refusal) → 0 < n → i < stop
-    → value_bit_at main es src stop i ≡ Ok (opens t, j) → opener t j left ≡ Err e → text_behind front (value_text main es opener n src stop i left) ≡ Err e
+value_opens_err : (main : Bool) (es : List Entity) (opener : ValueInclusion) (openings_left : ℕ) (front : List ℕ) (n : ℕ) (src : List ℕ) (stop i j : ℕ) (t : Replacement) (e : Refusal) → 0 < n → i < stop
+    → value_bit_at main es src stop i ≡ Ok (opens t, j) → opener t j openings_left ≡ Err e → text_behind front (value_text main es opener n src stop i openings_left) ≡ Err e
 unfolding value_text
-value_opens_err main es opener left front zero src stop i j t e some more is h = absurd (omega arith)
-value_opens_err main es opener left front (suc n) src stop i j t e some more is h = rw (lt-ltb i stop more, is, h) refl
+value_opens_err main es opener openings_left front zero src stop i j t e some more is h = absurd (omega arith)
+value_opens_err main es opener openings_left front (suc n) src stop i j t e some more is h = rw (lt-ltb i stop more, is, h) refl
 
 pub refuses_by : {A B : Type 0} (e : ParseError) (one : Result A Refusal) (other : Result B Refusal) → ((r : Refusal) → one ≡ Err r → other ≡ Err r) → IsRefusal e one → IsRefusal e other
 refuses_by refused.Memory one other f h = tt
@@ -160,8 +160,8 @@ refuses_by (refused.Fault g) one other f h = f _ h
 refuses_by (refused.FaultIn s g) one other f h = f _ h
 refuses_by (refused.Resolver at message) one other f (request, h) = (request, f _ h)
 
-pub value_opens_fails : (main : Bool) (es : List Entity) (opener : ValueInclusion) (left : ℕ) (e : ParseError) (front done : List ℕ) (whole : Result (List ℕ × ℕ) Refusal) (n : ℕ) (src : List ℕ) (stop i j : ℕ) (t : Replacement)
-    → text_behind done (value_text main es opener n src stop i left) ≡ text_behind front whole → 0 < n → i < stop → value_bit_at main es src stop i ≡ Ok (opens t, j)
-    → IsRefusal e (opener t j left) → IsRefusal e whole
-value_opens_fails main es opener left e front done whole n src stop i j t same some more is h =
-    refuses_by e (opener t j left) whole (λ r err. fault_behind front whole r (sym same ∙ value_opens_err main es opener left done n src stop i j t r some more is err)) h
+pub value_opens_fails : (main : Bool) (es : List Entity) (opener : ValueInclusion) (openings_left : ℕ) (e : ParseError) (front done : List ℕ) (whole : Result (List ℕ × ℕ) Refusal) (n : ℕ) (src : List ℕ) (stop i j : ℕ) (t : Replacement)
+    → text_behind done (value_text main es opener n src stop i openings_left) ≡ text_behind front whole → 0 < n → i < stop → value_bit_at main es src stop i ≡ Ok (opens t, j)
+    → IsRefusal e (opener t j openings_left) → IsRefusal e whole
+value_opens_fails main es opener openings_left e front done whole n src stop i j t same some more is h =
+    refuses_by e (opener t j openings_left) whole (λ r err. fault_behind front whole r (sym same ∙ value_opens_err main es opener openings_left done n src stop i j t r some more is err)) h

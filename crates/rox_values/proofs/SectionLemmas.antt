@@ -75,11 +75,11 @@ any_there (x ∷ xs) h =
     ]
 
 -- a section without CR
-pub section_plain : (raw : List ℕ) → position_or_len (λ c. c == 13) raw ≡ length raw → section_text raw ≡ record { value = raw; plain = true }
+pub section_plain : (raw : List ℕ) → position_or_len (λ c. c == 13) raw ≡ length raw → section_text raw ≡ record { value = raw; borrowed = true }
 section_plain raw h =
     let all : line_ends (literals raw) ≡ raw = rw (take_all (length raw) raw (omega arith), drop_all (length raw) raw (omega arith), append-nil) at (stretch raw (length raw) (sym h)) in
     rw (any_before raw h, all) refl
 
 -- and with one, once its text is read
-pub section_changed : (raw text : List ℕ) → position_or_len (λ c. c == 13) raw ≢ length raw → text ≡ line_ends (literals raw) → section_text raw ≡ record { value = text; plain = false }
+pub section_changed : (raw text : List ℕ) → position_or_len (λ c. c == 13) raw ≢ length raw → text ≡ line_ends (literals raw) → section_text raw ≡ record { value = text; borrowed = false }
 section_changed raw text h is = rw (any_there raw h, is) refl

@@ -16,43 +16,43 @@ use Rattle.rox_values.specs.declared.parse_error.ParseError.TheVariants as refus
 use Rattle.rox_values.proofs.PartLemmas.{pair_ok}
 
 -- it may not be opened
-pub opens_err : (es : List Entity) (deep : ℕ) (main : Bool) (t : Replacement) (after left : ℕ) (f : Fault) → opened_at deep main after left ≡ Err f → value_opener es deep main t after left ≡ Err (refusal.here f)
+pub opens_err : (es : List Entity) (depth_left : ℕ) (main : Bool) (t : Replacement) (after openings_left : ℕ) (f : Fault) → opened_at depth_left main after openings_left ≡ Err f → value_opener es depth_left main t after openings_left ≡ Err (refusal.here f)
 unfolding value_opener
-opens_err es zero main t after left f h = cc h
-opens_err es (suc d) main t after left f h = rw h refl
+opens_err es zero main t after openings_left f h = cc h
+opens_err es (suc d) main t after openings_left f h = rw h refl
 
 -- what it is read as, within its own source
 abbrev pub inner_value : List Entity → ℕ → Replacement → ℕ → Result (List ℕ × ℕ) Refusal
 inner_value es d t r = value_text false es (value_opener es d false) (length t.source) t.source (length t.source) t.start r
 
-abbrev behind_it : (main : Bool) → (left : ℕ) → List ℕ → Result (List ℕ × ℕ) Refusal → Result (List ℕ × ℕ) Refusal
-behind_it main left source read = elsewhere source read >>= λ x. Ok (x.0, left_behind main left x.1)
+abbrev behind_it : (main : Bool) → (openings_left : ℕ) → List ℕ → Result (List ℕ × ℕ) Refusal → Result (List ℕ × ℕ) Refusal
+behind_it main openings_left source read = elsewhere source read >>= λ x. Ok (x.0, left_behind main openings_left x.1)
 
-opens_ok : (es : List Entity) (deep d : ℕ) (main : Bool) (t : Replacement) (after left r : ℕ) → d ≡ deep - 1 → opened_at deep main after left ≡ Ok r
-    → value_opener es deep main t after left ≡ behind_it main left t.source (inner_value es d t r)
+opens_ok : (es : List Entity) (depth_left d : ℕ) (main : Bool) (t : Replacement) (after openings_left r : ℕ) → d ≡ depth_left - 1 → opened_at depth_left main after openings_left ≡ Ok r
+    → value_opener es depth_left main t after openings_left ≡ behind_it main openings_left t.source (inner_value es d t r)
 unfolding value_opener
-opens_ok es zero d main t after left r below h = cc h
-opens_ok es (suc k) d main t after left r below h = let e : d ≡ k = omega arith in rw (h, e) refl
+opens_ok es zero d main t after openings_left r below h = cc h
+opens_ok es (suc k) d main t after openings_left r below h = let e : d ≡ k = omega arith in rw (h, e) refl
 
-appended : (front new : List ℕ) (source : List ℕ) (main : Bool) (left inner : ℕ) (read : Result (List ℕ × ℕ) Refusal) → text_behind front read ≡ Ok (new, inner)
-    → text_behind front (behind_it main left source read) ≡ Ok (new, left_behind main left inner)
-appended front new source main left inner (Ok x) h = let same = pair_ok (front ++ x.0) new x.1 inner h in rw (same.0, same.1) refl
-appended front new source main left inner (Err e) h = cc h
+appended : (front new : List ℕ) (source : List ℕ) (main : Bool) (openings_left inner : ℕ) (read : Result (List ℕ × ℕ) Refusal) → text_behind front read ≡ Ok (new, inner)
+    → text_behind front (behind_it main openings_left source read) ≡ Ok (new, left_behind main openings_left inner)
+appended front new source main openings_left inner (Ok x) h = let same = pair_ok (front ++ x.0) new x.1 inner h in rw (same.0, same.1) refl
+appended front new source main openings_left inner (Err e) h = cc h
 
 -- it was read
-pub opens_reads : (es : List Entity) (deep d : ℕ) (main : Bool) (t : Replacement) (after left r inner : ℕ) (front new : List ℕ) → d ≡ deep - 1 → opened_at deep main after left ≡ Ok r
-    → text_behind front (inner_value es d t r) ≡ Ok (new, inner) → text_behind front (value_opener es deep main t after left) ≡ Ok (new, left_behind main left inner)
-opens_reads es deep d main t after left r inner front new below h read =
-    ap (text_behind front) (opens_ok es deep d main t after left r below h) ∙ appended front new t.source main left inner (inner_value es d t r) read
+pub opens_reads : (es : List Entity) (depth_left d : ℕ) (main : Bool) (t : Replacement) (after openings_left r inner : ℕ) (front new : List ℕ) → d ≡ depth_left - 1 → opened_at depth_left main after openings_left ≡ Ok r
+    → text_behind front (inner_value es d t r) ≡ Ok (new, inner) → text_behind front (value_opener es depth_left main t after openings_left) ≡ Ok (new, left_behind main openings_left inner)
+opens_reads es depth_left d main t after openings_left r inner front new below h read =
+    ap (text_behind front) (opens_ok es depth_left d main t after openings_left r below h) ∙ appended front new t.source main openings_left inner (inner_value es d t r) read
 
-refused_there : (source : Bor (List ℕ)) (main : Bool) (left : ℕ) (e : ParseError) (read : Result (List ℕ × ℕ) Refusal) → IsRefusal e read → IsRefusal (seen_from source e) (behind_it main left source.now read)
-refused_there source main left refused.Memory read h = tt
-refused_there source main left (refused.Fault f) read h = rw h refl
-refused_there source main left (refused.FaultIn s f) read h = rw h refl
-refused_there source main left (refused.Resolver at message) read (request, h) = (request, rw h refl)
+refused_there : (source : Bor (List ℕ)) (main : Bool) (openings_left : ℕ) (e : ParseError) (read : Result (List ℕ × ℕ) Refusal) → IsRefusal e read → IsRefusal (seen_from source e) (behind_it main openings_left source.now read)
+refused_there source main openings_left refused.Memory read h = tt
+refused_there source main openings_left (refused.Fault f) read h = rw h refl
+refused_there source main openings_left (refused.FaultIn s f) read h = rw h refl
+refused_there source main openings_left (refused.Resolver at message) read (request, h) = (request, rw h refl)
 
 -- it was refused
-pub opens_refuses : (es : List Entity) (deep d : ℕ) (main : Bool) (source : Bor (List ℕ)) (start after left r : ℕ) (e : ParseError) → d ≡ deep - 1 → opened_at deep main after left ≡ Ok r
-    → IsRefusal e (inner_value es d (record { source = source.now; start = start }) r) → IsRefusal (seen_from source e) (value_opener es deep main (record { source = source.now; start = start }) after left)
-opens_refuses es deep d main source start after left r e below h read =
-    rw (opens_ok es deep d main (record { source = source.now; start = start }) after left r below h) (refused_there source main left e (inner_value es d (record { source = source.now; start = start }) r) read)
+pub opens_refuses : (es : List Entity) (depth_left d : ℕ) (main : Bool) (source : Bor (List ℕ)) (start after openings_left r : ℕ) (e : ParseError) → d ≡ depth_left - 1 → opened_at depth_left main after openings_left ≡ Ok r
+    → IsRefusal e (inner_value es d (record { source = source.now; start = start }) r) → IsRefusal (seen_from source e) (value_opener es depth_left main (record { source = source.now; start = start }) after openings_left)
+opens_refuses es depth_left d main source start after openings_left r e below h read =
+    rw (opens_ok es depth_left d main (record { source = source.now; start = start }) after openings_left r below h) (refused_there source main openings_left e (inner_value es d (record { source = source.now; start = start }) r) read)

@@ -7,4 +7,4 @@ use Rattle.rox_values.specs.DeclaredEntities.{values_in}
 use Rattle.rox_values.specs.declared.context.Context.{Context}
 
 abbrev pub context_of : ℕ → List Entity → Context → machine.Context
-context_of limit es how = record { limit = limit; values = values_in es how; base = how.base; opener = opener limit es how.deep how.main }
+context_of limit es context = record { limit = limit; values = values_in es context; open_around = context.open_around; opener = opener limit es context.depth_left context.main }

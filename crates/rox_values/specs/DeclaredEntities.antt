@@ -24,12 +24,12 @@ pub record AreDeclared (es : List Entity) (e : Entities) : Type 0 where
 
 -- how values are read, where these are declared
 abbrev pub values_in : List Entity → Context → Values
-values_in es how = values_of es how.deep how.main
+values_in es context = values_of es context.depth_left context.main
 
 -- how many may be opened within a replacement text whose reference ends at `after`, where so many may be open within one another
-abbrev pub opened_at : (deep : ℕ) → (main : Bool) → (after left : ℕ) → Result ℕ Fault
-opened_at zero main after left = Err (fault.EntityReferenceLoop after)
-opened_at (suc d) main after left = budget main after left
+abbrev pub opened_at : (depth_left : ℕ) → (main : Bool) → (after openings_left : ℕ) → Result ℕ Fault
+opened_at zero main after openings_left = Err (fault.EntityReferenceLoop after)
+opened_at (suc d) main after openings_left = budget main after openings_left
 
 -- a text is opened, or this fault
 abbrev pub Opens : Result (Context × ℕ) Fault → Result ℕ Fault → Type 0

@@ -37,8 +37,8 @@ HasItsName src (reference.Entity span name) = name.now ≡ slice_range src span.
 
 -- a text, with what the buffer holds where it had to be changed
 abbrev pub piece_view : TextValue → List ℕ → reading.ReadText
-piece_view (piece.Plain s) buffer = record { value = s.now; plain = true }
-piece_view piece.Changed buffer = record { value = buffer; plain = false }
+piece_view (piece.Plain s) buffer = record { value = s.now; borrowed = true }
+piece_view piece.Changed buffer = record { value = buffer; borrowed = false }
 
 -- what a bit gives, behind what stands before it
 abbrev pub bit_behind : List ℕ → reading.Bit → reading.Bit
@@ -89,7 +89,7 @@ AppendsPart old new after (Err e) read = Fails e read
 
 -- and a value, or a part of one, behind which so many replacement texts may be opened
 abbrev pub AppendsValue : List ℕ → List ℕ → Result ℕ ParseError → Result (List ℕ × ℕ) Refusal → Type 0
-AppendsValue old new (Ok left) read = text_behind old read ≡ Ok (new, left)
+AppendsValue old new (Ok openings_left) read = text_behind old read ≡ Ok (new, openings_left)
 AppendsValue old new (Err e) read = IsRefusal e read
 
 -- a value was read
@@ -99,7 +99,7 @@ GivesValue view (Err e) read = IsRefusal e read
 
 -- XML 2.7, 2.11: the text of a CDATA section, a slice of the source if it has no CR
 abbrev pub section_text : List ℕ → reading.ReadText
-section_text raw = record { value = line_ends (literals raw); plain = not (list_any (λ b. b == 13) raw) }
+section_text raw = record { value = line_ends (literals raw); borrowed = not (list_any (λ b. b == 13) raw) }
 
 -- what a section's text from i on stands for, where no CR comes right before it
 abbrev pub section_rest : List ℕ → ℕ → List ℕ

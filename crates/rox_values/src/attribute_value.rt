@@ -104,22 +104,22 @@ fn character_in_value(
 #[tactic(auto, unfolding(rox_reading::specs::Values::value_reference_at))]
 fn expand_in_value<'input>(
     cursor: &mut Cursor<'input>,
-    how: Context<'_, 'input>,
+    context: Context<'_, 'input>,
     out: &mut String,
 ) -> Result<Option<Cursor<'input>>, Failure>
     requires { slice_index cursor.old.text.now cursor.old.pos ≡ 38 }
-    ensures value { (es : List Entity) → AreDeclared es how.entry.entities.now
-        → AppendsBit (string_bytes out.old) (string_bytes out.new) cursor.new result (spec.value_reference_at how.entry.main es cursor.old.text.now cursor.old.pos) }
+    ensures value { (es : List Entity) → AreDeclared es context.entry.entities.now
+        → AppendsBit (string_bytes out.old) (string_bytes out.new) cursor.new result (spec.value_reference_at context.entry.main es cursor.old.text.now cursor.old.pos) }
     ensures source { cursor.new.text ≡ cursor.old.text }
 {
     let start = cursor.pos;
     match read_reference(cursor)? {
         Reference::Character(character) => {
-            character_in_value(character, start, how.main, out)?;
+            character_in_value(character, start, context.main, out)?;
             Ok(None)
         }
         Reference::Entity(span, name) => {
-            let text = found(how, name, span, start)?;
+            let text = found(context, name, span, start)?;
             Ok(Some(text))
         }
     }
@@ -203,24 +203,24 @@ fn main_stretch(cursor: &mut Cursor<'_>, stop: usize, out: &mut String) -> Resul
 fn value_bit<'input>(
     cursor: &mut Cursor<'input>,
     stop: usize,
-    how: Context<'_, 'input>,
+    context: Context<'_, 'input>,
     out: &mut String,
 ) -> Result<Option<Cursor<'input>>, Failure>
     requires before { cursor.old.pos < stop }
     requires cut { IsCharBoundary cursor.old.text.now stop }
-    ensures value { (es : List Entity) → AreDeclared es how.entry.entities.now
-        → AppendsBit (string_bytes out.old) (string_bytes out.new) cursor.new result (spec.value_bit_at how.entry.main es cursor.old.text.now stop cursor.old.pos) }
+    ensures value { (es : List Entity) → AreDeclared es context.entry.entities.now
+        → AppendsBit (string_bytes out.old) (string_bytes out.new) cursor.new result (spec.value_bit_at context.entry.main es cursor.old.text.now stop cursor.old.pos) }
     ensures source { cursor.new.text ≡ cursor.old.text }
 {
     let here = cursor.text.as_bytes()[cursor.pos];
     if here == b'&' {
-        return expand_in_value(cursor, how, out);
+        return expand_in_value(cursor, context, out);
     }
     if is_special(here) {
         white_space(cursor, stop, out)?;
         return Ok(None);
     }
-    if how.main {
+    if context.main {
         main_stretch(cursor, stop, out)?;
         return Ok(None);
     }
@@ -235,23 +235,23 @@ fn value_text<'input>(
     cursor: &mut Cursor<'input>,
     stop: usize,
     bits: usize,
-    how: Context<'_, 'input>,
-    mut left: u32,
+    context: Context<'_, 'input>,
+    mut openings_left: u32,
     out: &mut String,
 ) -> Result<u32, ParseError<'input>>
     requires { IsCharBoundary cursor.old.text.now stop }
-    ensures { (es : List Entity) → AreDeclared es how.entry.entities.now
-        → AppendsValue (string_bytes out.old) (string_bytes out.new) result (spec.value_text how.entry.main es (value_opener es how.entry.deep how.entry.main) bits cursor.old.text.now stop cursor.old.pos left) }
+    ensures { (es : List Entity) → AreDeclared es context.entry.entities.now
+        → AppendsValue (string_bytes out.old) (string_bytes out.new) result (spec.value_text context.entry.main es (value_opener es context.entry.depth_left context.entry.main) bits cursor.old.text.now stop cursor.old.pos openings_left) }
 {
     'bits: for _turn in 0..bits {
         if cursor.pos >= stop {
-            return Ok(left);
+            return Ok(openings_left);
         }
-        if let Some(text) = value_bit(cursor, stop, how, out)? {
-            left = open_value(text, cursor.pos, how, left, out)?;
+        if let Some(text) = value_bit(cursor, stop, context, out)? {
+            openings_left = open_value(text, cursor.pos, context, openings_left, out)?;
         }
     }
-    Ok(left)
+    Ok(openings_left)
 }
 
 /// Appends a replacement text as a part of a value (XML 1.0 section 4.4.5). The reference ends at `after`. Answers how many may
@@ -262,18 +262,18 @@ fn value_text<'input>(
 fn open_value<'input>(
     text: Cursor<'input>,
     after: usize,
-    how: Context<'_, 'input>,
-    left: u32,
+    context: Context<'_, 'input>,
+    openings_left: u32,
     out: &mut String,
 ) -> Result<u32, ParseError<'input>>
-    ensures { (es : List Entity) → AreDeclared es how.entry.entities.now
-        → AppendsValue (string_bytes out.old) (string_bytes out.new) result (value_opener es how.entry.deep how.entry.main (replacement_view text.entry) after left) }
+    ensures { (es : List Entity) → AreDeclared es context.entry.entities.now
+        → AppendsValue (string_bytes out.old) (string_bytes out.new) result (value_opener es context.entry.depth_left context.entry.main (replacement_view text.entry) after openings_left) }
 {
-    let (within, inner) = how.opened(after, left, 0)?;
+    let (within, inner) = context.opened(after, openings_left, 0)?;
     let mut cursor = text;
     let end = text.text.len();
     match value_text(&mut cursor, end, end, within, inner, out) {
-        Ok(inner) => Ok(how.left_behind(left, inner)),
+        Ok(inner) => Ok(context.left_behind(openings_left, inner)),
         Err(refused) => Err(refused.within(text.text)),
     }
 }
@@ -286,20 +286,27 @@ fn open_value<'input>(
 pub fn value<'input>(
     text: &'input str,
     raw: &RawAttribute<'input>,
-    how: Context<'_, 'input>,
-    left: u32,
+    context: Context<'_, 'input>,
+    openings_left: u32,
     scratch: &mut String,
 ) -> Result<(TextValue<'input>, u32), ParseError<'input>>
     requires { HasValue text.now raw.now }
-    ensures { (es : List Entity) → AreDeclared es how.entry.entities.now → GivesValue (λ p. piece_view p (string_bytes scratch.new)) result
-        (spec.value_at how.entry.main es (value_opener es how.entry.deep how.entry.main) text.entry.now raw.now.value_start raw.now.value_end left) }
+    ensures { (es : List Entity) → AreDeclared es context.entry.entities.now → GivesValue (λ p. piece_view p (string_bytes scratch.new)) result
+        (spec.value_at context.entry.main es (value_opener es context.entry.depth_left context.entry.main) text.entry.now raw.now.value_start raw.now.value_end openings_left) }
 {
-    if raw.plain {
-        return Ok((TextValue::Plain(raw.value), left));
+    if raw.is_verbatim {
+        return Ok((TextValue::Plain(raw.value), openings_left));
     }
     scratch.clear();
     let mut cursor = Cursor::at(text, raw.value_start);
     let bits = raw.value_end.saturating_sub(raw.value_start);
-    let left = value_text(&mut cursor, raw.value_end, bits, how, left, scratch)?;
-    Ok((TextValue::Changed, left))
+    let openings_left = value_text(
+        &mut cursor,
+        raw.value_end,
+        bits,
+        context,
+        openings_left,
+        scratch,
+    )?;
+    Ok((TextValue::Changed, openings_left))
 }

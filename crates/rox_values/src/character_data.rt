@@ -20,11 +20,11 @@ use rox_scan::search::{byte_from, either_from};
 #[tactic(auto, unfolding(rox_reading::specs::Values::expansion_at))]
 fn expand<'input>(
     cursor: &mut Cursor<'input>,
-    how: Context<'_, 'input>,
+    context: Context<'_, 'input>,
     out: &mut String,
 ) -> Result<Option<Cursor<'input>>, Failure>
     requires { slice_index cursor.old.text.now cursor.old.pos ≡ 38 }
-    ensures value { (es : List Entity) → AreDeclared es how.entry.entities.now
+    ensures value { (es : List Entity) → AreDeclared es context.entry.entities.now
         → AppendsBit (string_bytes out.old) (string_bytes out.new) cursor.new result (spec.expansion_at es cursor.old.text.now cursor.old.pos) }
     ensures source { cursor.new.text ≡ cursor.old.text }
 {
@@ -35,7 +35,7 @@ fn expand<'input>(
             Ok(None)
         }
         Reference::Entity(span, name) => {
-            let text = found(how, name, span, start)?;
+            let text = found(context, name, span, start)?;
             Ok(Some(text))
         }
     }
@@ -82,20 +82,20 @@ fn inner_data(cursor: &mut Cursor<'_>, stop: usize, out: &mut String) -> Result<
 fn data_bit<'input>(
     cursor: &mut Cursor<'input>,
     stop: usize,
-    how: Context<'_, 'input>,
+    context: Context<'_, 'input>,
     out: &mut String,
 ) -> Result<Option<Cursor<'input>>, Failure>
     requires before { cursor.old.pos < stop }
     requires cut { IsCharBoundary cursor.old.text.now stop }
-    ensures value { (es : List Entity) → AreDeclared es how.entry.entities.now
-        → AppendsBit (string_bytes out.old) (string_bytes out.new) cursor.new result (spec.data_bit_at how.entry.main es cursor.old.text.now stop cursor.old.pos) }
+    ensures value { (es : List Entity) → AreDeclared es context.entry.entities.now
+        → AppendsBit (string_bytes out.old) (string_bytes out.new) cursor.new result (spec.data_bit_at context.entry.main es cursor.old.text.now stop cursor.old.pos) }
     ensures source { cursor.new.text ≡ cursor.old.text }
 {
     let here = cursor.text.as_bytes()[cursor.pos];
     if here == b'&' {
-        return expand(cursor, how, out);
+        return expand(cursor, context, out);
     }
-    if !how.main {
+    if !context.main {
         inner_data(cursor, stop, out)?;
         return Ok(None);
     }
@@ -112,19 +112,19 @@ fn data_bit<'input>(
 pub fn data_part<'input>(
     cursor: &mut Cursor<'input>,
     stop: usize,
-    how: Context<'_, 'input>,
+    context: Context<'_, 'input>,
     out: &mut String,
 ) -> Result<Option<Cursor<'input>>, Failure>
     requires { IsCharBoundary cursor.old.text.now stop }
-    ensures value { (es : List Entity) → AreDeclared es how.entry.entities.now
-        → AppendsPart (string_bytes out.old) (string_bytes out.new) cursor.new result (spec.data_part how.entry.main es (stop - cursor.old.pos) cursor.old.text.now stop cursor.old.pos) }
+    ensures value { (es : List Entity) → AreDeclared es context.entry.entities.now
+        → AppendsPart (string_bytes out.old) (string_bytes out.new) cursor.new result (spec.data_part context.entry.main es (stop - cursor.old.pos) cursor.old.text.now stop cursor.old.pos) }
     ensures source { cursor.new.text ≡ cursor.old.text }
 {
     'bits: for _turn in cursor.pos..stop {
         if cursor.pos >= stop {
             return Ok(None);
         }
-        if let Some(text) = data_bit(cursor, stop, how, out)? {
+        if let Some(text) = data_bit(cursor, stop, context, out)? {
             return Ok(Some(text));
         }
     }

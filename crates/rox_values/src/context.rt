@@ -19,21 +19,21 @@ pub struct Context<'e, 'input> {
     /// It is the main text, and no replacement text.
     pub main: bool,
     /// How many replacement texts may be opened within one another.
-    pub deep: u32,
+    pub depth_left: u32,
     /// How many elements are open around it.
-    pub base: usize,
+    pub open_around: usize,
     pub entities: &'e Entities<'input>,
 }
 
 impl<'e, 'input> Context<'e, 'input> {
     /// How the main text is read.
     pub fn main_text(entities: &'e Entities<'input>) -> Context<'e, 'input>
-        ensures { result ≡ record { main = true; deep = MOST_DEEP; base = 0; entities = entities.entry } }
+        ensures { result ≡ record { main = true; depth_left = MOST_DEEP; open_around = 0; entities = entities.entry } }
     {
         Context {
             main: true,
-            deep: MOST_DEEP,
-            base: 0,
+            depth_left: MOST_DEEP,
+            open_around: 0,
             entities,
         }
     }
@@ -43,29 +43,29 @@ impl<'e, 'input> Context<'e, 'input> {
     pub fn opened(
         self,
         after: usize,
-        left: u32,
-        base: usize,
+        openings_left: u32,
+        open_around: usize,
     ) -> Result<(Context<'e, 'input>, u32), Fault>
-        ensures value { Opens result (opened_at self.entry.deep self.entry.main after left) }
-        ensures how { IfOk result (λ x. x.0 ≡ record { main = false; deep = self.entry.deep - 1; base = base; entities = self.entry.entities }) }
-        ensures deeper { IfOk result (λ x. x.0.deep < self.entry.deep) }
+        ensures value { Opens result (opened_at self.entry.depth_left self.entry.main after openings_left) }
+        ensures context { IfOk result (λ x. x.0 ≡ record { main = false; depth_left = self.entry.depth_left - 1; open_around = open_around; entities = self.entry.entities }) }
+        ensures deeper { IfOk result (λ x. x.0.depth_left < self.entry.depth_left) }
     {
-        if self.deep == 0 {
+        if self.depth_left == 0 {
             return Err(Fault::EntityReferenceLoop(after));
         }
         let within = Context {
             main: false,
-            deep: self.deep - 1,
-            base,
+            depth_left: self.depth_left - 1,
+            open_around,
             entities: self.entities,
         };
         if self.main {
             return Ok((within, MOST_WITHIN));
         }
-        if left == 0 {
+        if openings_left == 0 {
             return Err(Fault::EntityReferenceLoop(after));
         }
-        Ok((within, left - 1))
+        Ok((within, openings_left - 1))
     }
 
     /// How many may be opened behind the reference, where so many could before it, and are left behind the text that it opened.

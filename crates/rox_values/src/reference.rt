@@ -203,14 +203,14 @@ pub fn read_reference<'input>(cursor: &mut Cursor<'input>) -> Result<Reference<'
 #[cold]
 #[inline(never)]
 pub(crate) fn found<'input>(
-    how: Context<'_, 'input>,
+    context: Context<'_, 'input>,
     name: &str,
     span: Span,
     start: usize,
 ) -> Result<Cursor<'input>, Fault>
-    ensures { (es : List Entity) → AreDeclared es how.entry.entities.now → FindsEntity result (reading.entity_bit (text_of es name.now) start span) }
+    ensures { (es : List Entity) → AreDeclared es context.entry.entities.now → FindsEntity result (reading.entity_bit (text_of es name.now) start span) }
 {
-    match how.entities.get(name) {
+    match context.entities.get(name) {
         Some(text) => Ok(text),
         None => Err(Fault::UnknownEntityReference(span, start)),
     }

@@ -17,12 +17,12 @@ use Rattle.roxmltree.specs.Kinds.{type_of}
 use Rattle.roxmltree.specs.StoredText.{content_in}
 use Rattle.roxmltree.proofs.Rows.{row_line, in_rows}
 
-bare_node : (az : List AttributeRow) (names : List NamespaceDecl) (lists : List (List NamespaceDecl)) (start end : ℕ) (k : NodeKind) → stripped_row start end k ≡ stripped (node az names lists start end k)
-bare_node az names lists start end kind.Root = refl
-bare_node az names lists start end (kind.Element e) = refl
-bare_node az names lists start end (kind.Text value) = refl
-bare_node az names lists start end (kind.Comment text) = refl
-bare_node az names lists start end (kind.PI pi) = refl
+bare_node : (az : List AttributeRow) (namespaces : List NamespaceDecl) (lists : List (List NamespaceDecl)) (start end : ℕ) (k : NodeKind) → stripped_row start end k ≡ stripped (node az namespaces lists start end k)
+bare_node az namespaces lists start end kind.Root = refl
+bare_node az namespaces lists start end (kind.Element e) = refl
+bare_node az namespaces lists start end (kind.Text value) = refl
+bare_node az namespaces lists start end (kind.Comment text) = refl
+bare_node az namespaces lists start end (kind.PI pi) = refl
 
 -- a row's node is the tree's
 pub row_item : (t : Tables) (f : Forest Node) (i : ℕ) (x : NodeData) → HoldsTree t f → i < size f → x ≡ get_or t.nodes.items i x → stripped_row x.start x.end x.kind ≡ stripped (place f i).item
@@ -108,12 +108,12 @@ text_content_bare (Comment start end text) = refl
 text_content_bare (PI start end target value) = refl
 
 -- what a text's or a comment's row says of its text
-content_kind : (az : List AttributeRow) (names : List NamespaceDecl) (lists : List (List NamespaceDecl)) (a n l start end : ℕ) (k : NodeKind) → KindWithin a n l k → content_in k ≡ content_of (node az names lists start end k)
-content_kind az names lists a n l start end kind.Root w = refl
-content_kind az names lists a n l start end (kind.Element e) w = refl
-content_kind az names lists a n l start end (kind.Text value) w = refl
-content_kind az names lists a n l start end (kind.Comment text) w = ap (λ b. Some (storage_bytes text, b)) w
-content_kind az names lists a n l start end (kind.PI pi) w = refl
+content_kind : (az : List AttributeRow) (namespaces : List NamespaceDecl) (lists : List (List NamespaceDecl)) (a n l start end : ℕ) (k : NodeKind) → KindWithin a n l k → content_in k ≡ content_of (node az namespaces lists start end k)
+content_kind az namespaces lists a n l start end kind.Root w = refl
+content_kind az namespaces lists a n l start end (kind.Element e) w = refl
+content_kind az namespaces lists a n l start end (kind.Text value) w = refl
+content_kind az namespaces lists a n l start end (kind.Comment text) w = ap (λ b. Some (storage_bytes text, b)) w
+content_kind az namespaces lists a n l start end (kind.PI pi) w = refl
 
 -- what a row names is in the tables
 pub row_within : (t : Tables) (f : Forest Node) (i : ℕ) (x : NodeData) → HoldsTree t f → i < size f → x ≡ get_or t.nodes.items i x → KindWithin (length (attribute_rows t.attributes)) (length t.namespaces.items) (length t.scopes.items) x.kind

@@ -40,11 +40,11 @@ last_row as' ps i j x p e o n w =
     ∙ ap (λ r. slice_range (zip as' ps) i (j - 1) ++ r ∷ []) (row_at as' ps (j - 1) x p e (omega arith))
 
 -- how many attributes a stretch has
-pub length_left : (names : List NamespaceDecl) (as' : List AttributeData) (ps : List AttributePlaces) (i j : ℕ)
-    → length ps ≡ length as' → i ≤ j → j ≤ length as' → length (map (attribute names) (slice_range (zip as' ps) i j)) ≡ j - i
-length_left names as' ps i j e o w =
+pub length_left : (namespaces : List NamespaceDecl) (as' : List AttributeData) (ps : List AttributePlaces) (i j : ℕ)
+    → length ps ≡ length as' → i ≤ j → j ≤ length as' → length (map (attribute namespaces) (slice_range (zip as' ps) i j)) ≡ j - i
+length_left namespaces as' ps i j e o w =
     let l = length_rows as' ps e in
-    length_stretch (attribute names) (zip as' ps) i j o (omega arith)
+    length_stretch (attribute namespaces) (zip as' ps) i j o (omega arith)
 
 -- what holds of each row's data holds of each of the column
 pub all_column : (n : ℕ) (t : AttributeTable) → AllByRecursion (λ (r : AttributeRow). NamespaceWithin n r.0.namespace) (attribute_rows t) → AllByRecursion (λ a. NamespaceWithin n a.namespace) t.items.items

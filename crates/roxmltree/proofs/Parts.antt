@@ -41,26 +41,26 @@ row_listed t f i x e h l r k =
     ∙ ap (λ v. listed_of (node (attribute_rows t.attributes) (names_of t) (scopes_of t) x.start x.end v)) (sym k) ∙ ap listed_of (row_node t f i x h l r)
 
 -- a row that is no element's
-none_namespace : (az : List AttributeRow) (names : List NamespaceDecl) (lists : List (List NamespaceDecl)) (start end : ℕ) (k : NodeKind) → ((e : ElementData) → k ≡ kind.Element e → ⊥) → namespace_of (node az names lists start end k) ≡ None
-none_namespace az names lists start end kind.Root n = refl
-none_namespace az names lists start end (kind.Element e) n = absurd (n e refl)
-none_namespace az names lists start end (kind.Text value) n = refl
-none_namespace az names lists start end (kind.Comment text) n = refl
-none_namespace az names lists start end (kind.PI pi) n = refl
+none_namespace : (az : List AttributeRow) (namespaces : List NamespaceDecl) (lists : List (List NamespaceDecl)) (start end : ℕ) (k : NodeKind) → ((e : ElementData) → k ≡ kind.Element e → ⊥) → namespace_of (node az namespaces lists start end k) ≡ None
+none_namespace az namespaces lists start end kind.Root n = refl
+none_namespace az namespaces lists start end (kind.Element e) n = absurd (n e refl)
+none_namespace az namespaces lists start end (kind.Text value) n = refl
+none_namespace az namespaces lists start end (kind.Comment text) n = refl
+none_namespace az namespaces lists start end (kind.PI pi) n = refl
 
-none_attributes : (az : List AttributeRow) (names : List NamespaceDecl) (lists : List (List NamespaceDecl)) (start end : ℕ) (k : NodeKind) → ((e : ElementData) → k ≡ kind.Element e → ⊥) → attributes_of (node az names lists start end k) ≡ []
-none_attributes az names lists start end kind.Root n = refl
-none_attributes az names lists start end (kind.Element e) n = absurd (n e refl)
-none_attributes az names lists start end (kind.Text value) n = refl
-none_attributes az names lists start end (kind.Comment text) n = refl
-none_attributes az names lists start end (kind.PI pi) n = refl
+none_attributes : (az : List AttributeRow) (namespaces : List NamespaceDecl) (lists : List (List NamespaceDecl)) (start end : ℕ) (k : NodeKind) → ((e : ElementData) → k ≡ kind.Element e → ⊥) → attributes_of (node az namespaces lists start end k) ≡ []
+none_attributes az namespaces lists start end kind.Root n = refl
+none_attributes az namespaces lists start end (kind.Element e) n = absurd (n e refl)
+none_attributes az namespaces lists start end (kind.Text value) n = refl
+none_attributes az namespaces lists start end (kind.Comment text) n = refl
+none_attributes az namespaces lists start end (kind.PI pi) n = refl
 
-none_listed : (az : List AttributeRow) (names : List NamespaceDecl) (lists : List (List NamespaceDecl)) (start end : ℕ) (k : NodeKind) → ((e : ElementData) → k ≡ kind.Element e → ⊥) → listed_of (node az names lists start end k) ≡ []
-none_listed az names lists start end kind.Root n = refl
-none_listed az names lists start end (kind.Element e) n = absurd (n e refl)
-none_listed az names lists start end (kind.Text value) n = refl
-none_listed az names lists start end (kind.Comment text) n = refl
-none_listed az names lists start end (kind.PI pi) n = refl
+none_listed : (az : List AttributeRow) (namespaces : List NamespaceDecl) (lists : List (List NamespaceDecl)) (start end : ℕ) (k : NodeKind) → ((e : ElementData) → k ≡ kind.Element e → ⊥) → listed_of (node az namespaces lists start end k) ≡ []
+none_listed az namespaces lists start end kind.Root n = refl
+none_listed az namespaces lists start end (kind.Element e) n = absurd (n e refl)
+none_listed az namespaces lists start end (kind.Text value) n = refl
+none_listed az namespaces lists start end (kind.Comment text) n = refl
+none_listed az namespaces lists start end (kind.PI pi) n = refl
 
 pub row_no_namespace : (t : Tables) (f : Forest Node) (i : ℕ) (x : NodeData) → HoldsTree t f → i < size f → x ≡ get_or t.nodes.items i x → ((e : ElementData) → x.kind ≡ kind.Element e → ⊥) → None ≡ namespace_of (place f i).item
 row_no_namespace t f i x h l r n =

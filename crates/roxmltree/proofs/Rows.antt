@@ -18,7 +18,7 @@ top (q ∷ up) = q
 
 -- the row of a place
 abbrev pub place_line : Place → RowView
-place_line p = record { parent = top p.above; next = p.id + p.count; depth = length p.above; node = p.item }
+place_line p = record { parent = top p.above; subtree_end = p.id + p.count; depth = length p.above; node = p.item }
 
 -- the rows of a forest are those of its places
 pub preorder_rows-places : (up left : List ℕ) (b : ℕ) (f : Forest Node) → map place_line (places up left b f) ≡ preorder_rows (top up) (length up) b f
@@ -109,8 +109,8 @@ top_none [] e = refl
 top_none (q ∷ up) e = absurd (omega arith)
 
 -- What the row of a node says: the id past its subtree, how many nodes are above it, and its parent.
-pub row_next : (t : Tables) (f : Forest Node) (i : ℕ) (x : NodeData) → HoldsTree t f → i < size f → x ≡ get_or t.nodes.items i x → x.next ≡ i + (place f i).count
-row_next t f i x h l e = rw (place_id f i l) at (ap (λ r. r.next) (row_line t f i x h (in_rows t f i h l) e))
+pub row_next : (t : Tables) (f : Forest Node) (i : ℕ) (x : NodeData) → HoldsTree t f → i < size f → x ≡ get_or t.nodes.items i x → x.subtree_end ≡ i + (place f i).count
+row_next t f i x h l e = rw (place_id f i l) at (ap (λ r. r.subtree_end) (row_line t f i x h (in_rows t f i h l) e))
 
 pub row_depth : (t : Tables) (f : Forest Node) (i : ℕ) (x : NodeData) → HoldsTree t f → i < size f → x ≡ get_or t.nodes.items i x → x.depth ≡ length (place f i).above
 row_depth t f i x h l e = ap (λ r. r.depth) (row_line t f i x h (in_rows t f i h l) e)

@@ -13,7 +13,7 @@ use Rattle.roxmltree.specs.declared.tree.Document.TheInside.{Inside}
 -- of each row how many nodes are below it, and its node; the first row has this id
 abbrev pub nodes_from : ℕ → List RowView → List (ℕ × Node)
 nodes_from id [] = []
-nodes_from id (row ∷ rows) = (row.next - (id + 1), row.node) ∷ nodes_from (id + 1) rows
+nodes_from id (row ∷ rows) = (row.subtree_end - (id + 1), row.node) ∷ nodes_from (id + 1) rows
 
 -- the tree of the tables
 abbrev pub tree_in : Tables → Forest Node

@@ -19,25 +19,25 @@ namespace_decls_code = coded_list namespace_decl_code
 
 -- an attribute as callers see it
 abbrev pub attribute_of : Attribute → tree.Attribute
-attribute_of a = attribute (map namespace_view a.names.now) (a.data.now, a.places.now)
+attribute_of a = attribute (map namespace_view a.namespaces.now) (a.data.now, a.places.now)
 
 -- those that are left
 abbrev pub attributes_left : attributes.Inside → List tree.Attribute
-attributes_left a = map (attribute (map namespace_view a.names.now)) (slice_range (zip a.items.now a.places.now) a.from a.until)
+attributes_left a = map (attribute (map namespace_view a.namespaces.now)) (slice_range (zip a.items.now a.places.now) a.from a.until)
 
 -- they are a stretch of two columns, and each of these has its namespace in the table
 pub record AttributesWithin (a : attributes.Inside) : Type 0 where
   pub even : length a.places.now ≡ length a.items.now
   pub ordered : a.from ≤ a.until
   pub within : a.until ≤ length a.items.now
-  pub each : AllByRecursion (λ d. NamespaceWithin (length a.names.now) d.namespace) a.items.now
+  pub each : AllByRecursion (λ d. NamespaceWithin (length a.namespaces.now) d.namespace) a.items.now
 
 -- the places that are left of those that the scope lists
 abbrev pub places_left : namespaces.Inside → List ℕ
 places_left n = slice_range (places_in n.listed.now n.scopes.now n.scope) n.from n.until
 
 abbrev pub namespaces_left : namespaces.Inside → List NamespaceDecl
-namespaces_left n = map (namespace_at (map namespace_view n.names.now)) (places_left n)
+namespaces_left n = map (namespace_at (map namespace_view n.namespaces.now)) (places_left n)
 
 -- they are a stretch of these, and each place that is listed is in the table
 pub record NamespacesWithin (n : namespaces.Inside) : Type 0 where
@@ -45,4 +45,4 @@ pub record NamespacesWithin (n : namespaces.Inside) : Type 0 where
   pub within : n.until ≤ length (places_in n.listed.now n.scopes.now n.scope)
   pub is_row : n.from < n.until → n.scope < length n.scopes.now
   pub scopes : AreScopes (length n.listed.now) n.scopes.now
-  pub each : ArePlaces (length n.names.now) n.listed.now
+  pub each : ArePlaces (length n.namespaces.now) n.listed.now

@@ -17,8 +17,8 @@ use std::ops::Range;
 pub struct Attribute<'a, 'input> {
     data: &'a AttributeData<'input>,
     places: &'a AttributePlaces,
-    names: &'a [Namespace<'input>],
-    ghost within: { namespace_bound data.now.namespace ≤ length names.now },
+    namespaces: &'a [Namespace<'input>],
+    ghost within: { namespace_bound data.now.namespace ≤ length namespaces.now },
 }
 
 impl<'a, 'input> Attribute<'a, 'input> {
@@ -35,8 +35,8 @@ impl<'a, 'input> Attribute<'a, 'input> {
             AttributeNamespace::None => None,
             AttributeNamespace::Xml => Some(NS_XML_URI),
             AttributeNamespace::Listed(place) => {
-                let names = self.names;
-                Some(names[place as usize].uri())
+                let namespaces = self.namespaces;
+                Some(namespaces[place as usize].uri())
             }
         }
     }
@@ -139,7 +139,7 @@ impl fmt::Debug for Attribute<'_, '_> {
 pub struct Attributes<'a, 'input> {
     pub(crate) items: &'a [AttributeData<'input>],
     pub(crate) places: &'a [AttributePlaces],
-    pub(crate) names: &'a [Namespace<'input>],
+    pub(crate) namespaces: &'a [Namespace<'input>],
     pub(crate) from: usize,
     pub(crate) until: usize,
 }
@@ -170,18 +170,18 @@ impl<'a, 'input> Attributes<'a, 'input> {
         places: &'a [AttributePlaces],
         from: usize,
         until: usize,
-        names: &'a [Namespace<'input>],
+        namespaces: &'a [Namespace<'input>],
     ) -> Attributes<'a, 'input>
         requires even { length places.now ≡ length items.now }
         requires ordered { from ≤ until }
         requires within { until ≤ length items.now }
-        requires named { AllByRecursion (λ a. NamespaceWithin (length names.now) a.namespace) items.now }
-        ensures { result ≡ map (attribute (map namespace_view names.now)) (slice_range (zip items.now places.now) from until) }
+        requires named { AllByRecursion (λ a. NamespaceWithin (length namespaces.now) a.namespace) items.now }
+        ensures { result ≡ map (attribute (map namespace_view namespaces.now)) (slice_range (zip items.now places.now) from until) }
     {
         Attributes {
             items,
             places,
-            names,
+            namespaces,
             from,
             until,
         }
@@ -218,7 +218,7 @@ impl<'a, 'input> Iterator for Attributes<'a, 'input> {
         Some(Attribute {
             data: &self.items[place],
             places: &self.places[place],
-            names: self.names,
+            namespaces: self.namespaces,
         })
     }
 
@@ -248,7 +248,7 @@ impl<'a, 'input> DoubleEndedIterator for Attributes<'a, 'input> {
         Some(Attribute {
             data: &self.items[place],
             places: &self.places[place],
-            names: self.names,
+            namespaces: self.namespaces,
         })
     }
 }

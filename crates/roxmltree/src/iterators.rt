@@ -273,7 +273,7 @@ impl<'a, 'input> Iterator for Children<'a, 'input> {
             document,
             id: self.from,
         };
-        self.from = NodeId(document.row(front.id).next);
+        self.from = NodeId(document.row(front.id).subtree_end);
         Some(front)
     }
 }

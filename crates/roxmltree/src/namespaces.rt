@@ -13,7 +13,7 @@ use std::marker::Model;
 pub struct NamespaceIter<'a, 'input> {
     pub(crate) scopes: &'a [Scope],
     pub(crate) listed: &'a [u16],
-    pub(crate) names: &'a [Namespace<'input>],
+    pub(crate) namespaces: &'a [Namespace<'input>],
     pub(crate) scope: u32,
     pub(crate) from: usize,
     pub(crate) until: usize,
@@ -44,19 +44,19 @@ impl<'a, 'input> NamespaceIter<'a, 'input> {
     pub(crate) fn of_scope(
         scopes: &'a [Scope],
         listed: &'a [u16],
-        names: &'a [Namespace<'input>],
+        namespaces: &'a [Namespace<'input>],
         scope: u32,
     ) -> NamespaceIter<'a, 'input>
         requires is_row { scope < length scopes.now }
         requires scopes { AreScopes (length listed.now) scopes.now }
-        requires named { ArePlaces (length names.now) listed.now }
-        ensures value { result ≡ map (namespace_at (map namespace_view names.now)) (places_in listed.now scopes.now scope) }
+        requires named { ArePlaces (length namespaces.now) listed.now }
+        ensures value { result ≡ map (namespace_at (map namespace_view namespaces.now)) (places_in listed.now scopes.now scope) }
         ensures few { length result < 2 ^ 64 }
     {
         NamespaceIter {
             scopes,
             listed,
-            names,
+            namespaces,
             scope,
             from: 0,
             until: count(scopes, scope),
@@ -71,7 +71,7 @@ impl<'a, 'input> NamespaceIter<'a, 'input> {
         NamespaceIter {
             scopes: &[],
             listed: &[],
-            names: &[],
+            namespaces: &[],
             scope: 0,
             from: 0,
             until: 0,
@@ -103,10 +103,10 @@ impl<'a, 'input> Iterator for NamespaceIter<'a, 'input> {
         if self.from == self.until {
             return None;
         }
-        let names = self.names;
+        let namespaces = self.namespaces;
         let place = place_at(self.scopes, self.listed, self.scope, self.from);
         self.from += 1;
-        Some(&names[place as usize])
+        Some(&namespaces[place as usize])
     }
 
     fn size_hint(&self) -> (usize, Option<usize>)
@@ -129,11 +129,11 @@ impl<'a, 'input> DoubleEndedIterator for NamespaceIter<'a, 'input> {
         if self.from == self.until {
             return None;
         }
-        let names = self.names;
+        let namespaces = self.namespaces;
         let last = self.until - 1;
         let place = place_at(self.scopes, self.listed, self.scope, last);
         self.until = last;
-        Some(&names[place as usize])
+        Some(&namespaces[place as usize])
     }
 }
 

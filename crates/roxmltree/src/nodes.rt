@@ -138,8 +138,8 @@ impl<'a, 'input> Node<'a, 'input> {
         ensures { GivesNode self.now (first_child (tree_of self.now) (id_of self.now)) result }
     {
         let document = self.document;
-        let next = document.row(self.id).next;
-        if next - self.id.0 > 1 {
+        let subtree_end = document.row(self.id).subtree_end;
+        if subtree_end - self.id.0 > 1 {
             Some(Node {
                 document,
                 id: NodeId(self.id.0 + 1),
@@ -157,7 +157,7 @@ impl<'a, 'input> Node<'a, 'input> {
     {
         let document = self.document;
         let row = document.row(self.id);
-        let id = NodeId(row.next);
+        let id = NodeId(row.subtree_end);
         if (id.0 as usize) < document.count() && document.row(id).depth == row.depth {
             Some(Node { document, id })
         } else {
@@ -188,10 +188,10 @@ impl<'a, 'input> Node<'a, 'input> {
     {
         let document = self.document;
         let row = document.row(self.id);
-        if row.next - self.id.0 > 1 {
+        if row.subtree_end - self.id.0 > 1 {
             let last = Node {
                 document,
-                id: NodeId(row.next - 1),
+                id: NodeId(row.subtree_end - 1),
             };
             Some(last.climb(row.depth + 1))
         } else {
@@ -230,7 +230,7 @@ impl<'a, 'input> Node<'a, 'input> {
         Children {
             document,
             from: NodeId(self.id.0 + 1),
-            until: NodeId(row.next),
+            until: NodeId(row.subtree_end),
             depth: row.depth + 1,
         }
     }
@@ -243,7 +243,7 @@ impl<'a, 'input> Node<'a, 'input> {
         ensures few { length result < 2 ^ 32 }
     {
         let document = self.document;
-        let until = document.row(self.id).next;
+        let until = document.row(self.id).subtree_end;
         Descendants {
             document,
             from: self.id,

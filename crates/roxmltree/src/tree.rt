@@ -93,7 +93,7 @@ impl<'input> Document<'input> {
         requires { number id < size self.now.tree }
         ensures no_parent { result.now.depth ≡ 0 → parent self.now.tree (number id) ≡ None }
         ensures parent { 0 < result.now.depth → parent self.now.tree (number id) ≡ Some result.now.parent }
-        ensures next { result.now.next ≡ number id + (place self.now.tree (number id)).count }
+        ensures subtree_end { result.now.subtree_end ≡ number id + (place self.now.tree (number id)).count }
         ensures depth { result.now.depth ≡ length (place self.now.tree (number id)).above }
         ensures item { stripped_row result.now.start result.now.end result.now.kind ≡ stripped (node_at self.now.tree (number id)) }
         ensures content { content_in result.now.kind ≡ content_of (node_at self.now.tree (number id)) }
@@ -199,14 +199,14 @@ impl<'input> Document<'input> {
     {
         let items = self.tables.attributes.items.as_slice();
         let places = self.tables.attributes.places.as_slice();
-        let names = self.tables.namespaces.as_slice();
+        let namespaces = self.tables.namespaces.as_slice();
         match &self.tables.nodes[id.0 as usize].kind {
             NodeKind::Element(element) => {
                 let from = element.attributes_from as usize;
                 let until = element.attributes_until as usize;
-                Attributes::part(items, places, from, until, names)
+                Attributes::part(items, places, from, until, namespaces)
             }
-            _ => Attributes::part(items, places, 0, 0, names),
+            _ => Attributes::part(items, places, 0, 0, namespaces),
         }
     }
 
@@ -222,7 +222,7 @@ impl<'input> Document<'input> {
         };
         let scopes = self.tables.scopes.as_slice();
         let listed = self.tables.listed.as_slice();
-        let names = self.tables.namespaces.as_slice();
-        NamespaceIter::of_scope(scopes, listed, names, element.scope)
+        let namespaces = self.tables.namespaces.as_slice();
+        NamespaceIter::of_scope(scopes, listed, namespaces, element.scope)
     }
 }

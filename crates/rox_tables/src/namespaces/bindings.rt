@@ -57,7 +57,7 @@ impl<'input> PrefixBindings<'input> {
 
     /// Of no scope.
     pub fn new(alloc: Global) -> PrefixBindings<'input>
-        ensures { (names : List NamespaceDecl) (lists : List (List NamespaceDecl)) → AreBindingsOf names lists result }
+        ensures { (namespaces : List NamespaceDecl) (lists : List (List NamespaceDecl)) → AreBindingsOf namespaces lists result }
     {
         PrefixBindings {
             default: None,
@@ -103,7 +103,7 @@ impl<'input> PrefixBindings<'input> {
     /// The same, so that it can be taken back.
     fn put(&mut self, prefix: Option<&'input str>, place: Option<Binding>) -> Result<(), Failure>
         ensures present { OnOk result ((p : Option (List ℕ)) → place_in self.new p ≡ (if same_prefix (prefix_view prefix.entry) p then place else place_in self.old p)) }
-        ensures keeps { OnOk result ((names : List NamespaceDecl) (lists : List (List NamespaceDecl)) → AreBindingsOf names lists self.old → AreBindingsOf names lists self.new) }
+        ensures keeps { OnOk result ((namespaces : List NamespaceDecl) (lists : List (List NamespaceDecl)) → AreBindingsOf namespaces lists self.old → AreBindingsOf namespaces lists self.new) }
         ensures layers { self.new.layers ≡ self.old.layers }
         ensures err { IfErr result (λ e. e ≡ Failure.Memory) }
     {
@@ -117,8 +117,8 @@ impl<'input> PrefixBindings<'input> {
     fn take_back(&mut self, count: usize) -> Result<(), Failure>
         ensures back { OnOk result (count < length self.old.replaced.items → length self.new.replaced.items + 1 ≡ length self.old.replaced.items) }
         ensures same { length self.old.replaced.items ≤ count → self.new ≡ self.old }
-        ensures keeps { OnOk result ((names : List NamespaceDecl) (lists : List (List NamespaceDecl)) (ls : List ScopeFrame) (l : ScopeFrame) → self.old.layers.items ≡ ls ++ l ∷ [] → l.count ≡ count
-            → AreBindingsOf names lists self.old → AreBindingsOf names lists self.new) }
+        ensures keeps { OnOk result ((namespaces : List NamespaceDecl) (lists : List (List NamespaceDecl)) (ls : List ScopeFrame) (l : ScopeFrame) → self.old.layers.items ≡ ls ++ l ∷ [] → l.count ≡ count
+            → AreBindingsOf namespaces lists self.old → AreBindingsOf namespaces lists self.new) }
         ensures layers { self.new.layers ≡ self.old.layers }
         ensures err { IfErr result (λ e. e ≡ Failure.Memory) }
     {
@@ -135,7 +135,7 @@ impl<'input> PrefixBindings<'input> {
     fn leave(&mut self) -> Result<(), Failure>
         ensures layers { OnOk result (self.new.layers.items ≡ take (length self.old.layers.items - 1) self.old.layers.items) }
         ensures back { OnOk result ((ls : List ScopeFrame) (l : ScopeFrame) → self.new.layers.items ≡ ls ++ l ∷ [] → l.count ≤ length self.old.replaced.items → length self.new.replaced.items ≡ l.count) }
-        ensures keeps { OnOk result ((names : List NamespaceDecl) (lists : List (List NamespaceDecl)) → AreBindingsOf names lists self.old → AreBindingsOf names lists self.new) }
+        ensures keeps { OnOk result ((namespaces : List NamespaceDecl) (lists : List (List NamespaceDecl)) → AreBindingsOf namespaces lists self.old → AreBindingsOf namespaces lists self.new) }
         ensures err { IfErr result (λ e. e ≡ Failure.Memory) }
     {
         let _ = self.layers.pop();
@@ -153,7 +153,7 @@ impl<'input> PrefixBindings<'input> {
     fn leave_inner(&mut self, scope: u32) -> Result<(), Failure>
         ensures innermost { OnOk result ((self.new.layers.items ≡ []) ⊎ (is_innermost self.new.layers.items (length self.new.replaced.items) scope ≡ true)) }
         ensures same { is_innermost self.old.layers.items (length self.old.replaced.items) scope ≡ true → self.new ≡ self.old }
-        ensures keeps { OnOk result ((names : List NamespaceDecl) (lists : List (List NamespaceDecl)) → AreBindingsOf names lists self.old → AreBindingsOf names lists self.new) }
+        ensures keeps { OnOk result ((namespaces : List NamespaceDecl) (lists : List (List NamespaceDecl)) → AreBindingsOf namespaces lists self.old → AreBindingsOf namespaces lists self.new) }
         ensures err { IfErr result (λ e. e ≡ Failure.Memory) }
     {
         for _turn in 0..self.layers.len() {
@@ -168,7 +168,7 @@ impl<'input> PrefixBindings<'input> {
     /// Whether this is the innermost scope.
     fn is_in(&self, scope: u32) -> bool
         ensures value { result ≡ is_innermost self.now.layers.items (length self.now.replaced.items) scope }
-        ensures bound { result ≡ true → (names : List NamespaceDecl) (lists : List (List NamespaceDecl)) → AreBindingsOf names lists self.now → IsBound names (bound_place self.now) (scope_at lists scope) }
+        ensures bound { result ≡ true → (namespaces : List NamespaceDecl) (lists : List (List NamespaceDecl)) → AreBindingsOf namespaces lists self.now → IsBound namespaces (bound_place self.now) (scope_at lists scope) }
     {
         match self.layers.last() {
             Some(layer) => layer.count == self.replaced.len() && layer.scope == scope,
@@ -178,8 +178,8 @@ impl<'input> PrefixBindings<'input> {
 
     /// Hides `xml`, if the flag says so.
     fn hide_xml(&mut self, xml: bool) -> Result<(), Failure>
-        ensures bound { OnOk result ((names ds : List NamespaceDecl) → IsBound names (bound_place self.old) ds → IsBound names (bound_place self.new) (filter (λ d. not (xml && is_xml d.prefix)) ds)) }
-        ensures keeps { OnOk result ((names : List NamespaceDecl) (lists : List (List NamespaceDecl)) → AreBindingsOf names lists self.old → AreBindingsOf names lists self.new) }
+        ensures bound { OnOk result ((namespaces ds : List NamespaceDecl) → IsBound namespaces (bound_place self.old) ds → IsBound namespaces (bound_place self.new) (filter (λ d. not (xml && is_xml d.prefix)) ds)) }
+        ensures keeps { OnOk result ((namespaces : List NamespaceDecl) (lists : List (List NamespaceDecl)) → AreBindingsOf namespaces lists self.old → AreBindingsOf namespaces lists self.new) }
         ensures layers { self.new.layers ≡ self.old.layers }
         ensures err { IfErr result (λ e. e ≡ Failure.Memory) }
     {
@@ -193,15 +193,15 @@ impl<'input> PrefixBindings<'input> {
     /// Gives the prefix of the namespace that is listed at this position its place.
     fn bind(
         &mut self,
-        names: &[Namespace<'input>],
+        namespaces: &[Namespace<'input>],
         listed: &[u16],
         position: usize,
     ) -> Result<(), Failure>
-        requires places { ArePlaces (length names.now) listed.now }
+        requires places { ArePlaces (length namespaces.now) listed.now }
         requires within { position < length listed.now }
-        ensures bound { OnOk result ((ds : List NamespaceDecl) → IsBound (map namespace_view names.now) (bound_place self.old) ds
-            → IsBound (map namespace_view names.now) (bound_place self.new) (namespace_at (map namespace_view names.now) (slice_index listed.now position) ∷ ds)) }
-        ensures keeps { OnOk result ((names : List NamespaceDecl) (lists : List (List NamespaceDecl)) → AreBindingsOf names lists self.old → AreBindingsOf names lists self.new) }
+        ensures bound { OnOk result ((ds : List NamespaceDecl) → IsBound (map namespace_view namespaces.now) (bound_place self.old) ds
+            → IsBound (map namespace_view namespaces.now) (bound_place self.new) (namespace_at (map namespace_view namespaces.now) (slice_index listed.now position) ∷ ds)) }
+        ensures keeps { OnOk result ((namespaces : List NamespaceDecl) (lists : List (List NamespaceDecl)) → AreBindingsOf namespaces lists self.old → AreBindingsOf namespaces lists self.new) }
         ensures layers { self.new.layers ≡ self.old.layers }
         ensures err { IfErr result (λ e. e ≡ Failure.Memory) }
     {
@@ -210,28 +210,28 @@ impl<'input> PrefixBindings<'input> {
             namespace,
             listed: position.min(u32::MAX as usize) as u32,
         };
-        self.put(names[namespace as usize].name, Some(place))?;
+        self.put(namespaces[namespace as usize].name, Some(place))?;
         Ok(())
     }
 
     /// Gives the prefixes of what is listed from `from` up to `until` their places, the last one where there are more.
     fn add(
         &mut self,
-        names: &[Namespace<'input>],
+        namespaces: &[Namespace<'input>],
         listed: &[u16],
         from: usize,
         until: usize,
     ) -> Result<(), Failure>
-        requires places { ArePlaces (length names.now) listed.now }
+        requires places { ArePlaces (length namespaces.now) listed.now }
         requires stretch { (from ≤ until) × (until ≤ length listed.now) }
-        ensures bound { OnOk result ((ds : List NamespaceDecl) → IsBound (map namespace_view names.now) (bound_place self.old) ds
-            → IsBound (map namespace_view names.now) (bound_place self.new) (entries (map namespace_view names.now) (reverse (slice_range listed.now from until)) ++ ds)) }
-        ensures keeps { OnOk result ((names : List NamespaceDecl) (lists : List (List NamespaceDecl)) → AreBindingsOf names lists self.old → AreBindingsOf names lists self.new) }
+        ensures bound { OnOk result ((ds : List NamespaceDecl) → IsBound (map namespace_view namespaces.now) (bound_place self.old) ds
+            → IsBound (map namespace_view namespaces.now) (bound_place self.new) (entries (map namespace_view namespaces.now) (reverse (slice_range listed.now from until)) ++ ds)) }
+        ensures keeps { OnOk result ((namespaces : List NamespaceDecl) (lists : List (List NamespaceDecl)) → AreBindingsOf namespaces lists self.old → AreBindingsOf namespaces lists self.new) }
         ensures layers { self.new.layers ≡ self.old.layers }
         ensures err { IfErr result (λ e. e ≡ Failure.Memory) }
     {
         for position in from..until {
-            self.bind(names, listed, position)?;
+            self.bind(namespaces, listed, position)?;
         }
         Ok(())
     }
@@ -239,32 +239,32 @@ impl<'input> PrefixBindings<'input> {
     /// Gives the prefixes of what a scope lists their places, the first one where there are more.
     fn add_all(
         &mut self,
-        names: &[Namespace<'input>],
+        namespaces: &[Namespace<'input>],
         listed: &[u16],
         scopes: &[Scope],
         scope: u32,
     ) -> Result<(), Failure>
-        requires places { ArePlaces (length names.now) listed.now }
+        requires places { ArePlaces (length namespaces.now) listed.now }
         requires scopes { AreScopes (length listed.now) scopes.now }
         requires within { scope < length scopes.now }
-        ensures bound { OnOk result (IsBound (map namespace_view names.now) (bound_place self.old) []
-            → IsBound (map namespace_view names.now) (bound_place self.new) (entries (map namespace_view names.now) (places_in listed.now scopes.now scope))) }
-        ensures keeps { OnOk result ((names : List NamespaceDecl) (lists : List (List NamespaceDecl)) → AreBindingsOf names lists self.old → AreBindingsOf names lists self.new) }
+        ensures bound { OnOk result (IsBound (map namespace_view namespaces.now) (bound_place self.old) []
+            → IsBound (map namespace_view namespaces.now) (bound_place self.new) (entries (map namespace_view namespaces.now) (places_in listed.now scopes.now scope))) }
+        ensures keeps { OnOk result ((namespaces : List NamespaceDecl) (lists : List (List NamespaceDecl)) → AreBindingsOf namespaces lists self.old → AreBindingsOf namespaces lists self.new) }
         ensures layers { self.new.layers ≡ self.old.layers }
         ensures err { IfErr result (λ e. e ≡ Failure.Memory) }
     {
         let count = count(scopes, scope);
         for turn in 0..count {
             let position = position_at(scopes, listed, scope, count - 1 - turn);
-            self.bind(names, listed, position)?;
+            self.bind(namespaces, listed, position)?;
         }
         Ok(())
     }
 
     /// Leaves all scopes.
     fn clear(&mut self)
-        ensures bound { (names : List NamespaceDecl) → IsBound names (bound_place self.new) [] }
-        ensures keeps { (names : List NamespaceDecl) (lists : List (List NamespaceDecl)) → AreBindingsOf names lists self.new }
+        ensures bound { (namespaces : List NamespaceDecl) → IsBound namespaces (bound_place self.new) [] }
+        ensures keeps { (namespaces : List NamespaceDecl) (lists : List (List NamespaceDecl)) → AreBindingsOf namespaces lists self.new }
     {
         self.default = None;
         self.prefixes.clear();
@@ -276,17 +276,17 @@ impl<'input> PrefixBindings<'input> {
     /// of memory.
     pub fn make_innermost(
         &mut self,
-        names: &[Namespace<'input>],
+        namespaces: &[Namespace<'input>],
         listed: &[u16],
         scopes: &[Scope],
         scope: u32,
     ) -> Result<(), Failure>
-        requires places { ArePlaces (length names.now) listed.now }
+        requires places { ArePlaces (length namespaces.now) listed.now }
         requires scopes { AreScopes (length listed.now) scopes.now }
         requires within { scope < length scopes.now }
-        ensures value { OnOk result (AreBindingsOf (map namespace_view names.now) (lists_of (map namespace_view names.now) listed.now scopes.now) self.old
-            → AreBindingsOf (map namespace_view names.now) (lists_of (map namespace_view names.now) listed.now scopes.now) self.new
-            × IsBound (map namespace_view names.now) (bound_place self.new) (scope_at (lists_of (map namespace_view names.now) listed.now scopes.now) scope)) }
+        ensures value { OnOk result (AreBindingsOf (map namespace_view namespaces.now) (lists_of (map namespace_view namespaces.now) listed.now scopes.now) self.old
+            → AreBindingsOf (map namespace_view namespaces.now) (lists_of (map namespace_view namespaces.now) listed.now scopes.now) self.new
+            × IsBound (map namespace_view namespaces.now) (bound_place self.new) (scope_at (lists_of (map namespace_view namespaces.now) listed.now scopes.now) scope)) }
         ensures same { is_innermost self.old.layers.items (length self.old.replaced.items) scope ≡ true → self.new ≡ self.old }
         ensures err { IfErr result (λ e. e ≡ Failure.Memory) }
     {
@@ -295,7 +295,7 @@ impl<'input> PrefixBindings<'input> {
             return Ok(());
         }
         self.clear();
-        self.add_all(names, listed, scopes, scope)?;
+        self.add_all(namespaces, listed, scopes, scope)?;
         let count = self.replaced.len();
         push(&mut self.layers, ScopeFrame { scope, count })?;
         Ok(())
@@ -305,22 +305,22 @@ impl<'input> PrefixBindings<'input> {
     /// its back, and `xml` if the flag says so. The only error is want of memory.
     pub fn enter(
         &mut self,
-        names: &[Namespace<'input>],
+        namespaces: &[Namespace<'input>],
         listed: &[u16],
         from: usize,
         until: usize,
         xml: bool,
         scope: u32,
     ) -> Result<(), Failure>
-        requires places { ArePlaces (length names.now) listed.now }
+        requires places { ArePlaces (length namespaces.now) listed.now }
         requires stretch { (from ≤ until) × (until ≤ length listed.now) }
-        ensures value { OnOk result ((lists : List (List NamespaceDecl)) (above : List NamespaceDecl) → AreBindingsOf (map namespace_view names.now) lists self.old → IsBound (map namespace_view names.now) (bound_place self.old) above
-            → IsEntered (entries (map namespace_view names.now) (reverse (slice_range listed.now from until))) xml above lists scope
-            → AreBindingsOf (map namespace_view names.now) lists self.new × IsBound (map namespace_view names.now) (bound_place self.new) (scope_at lists scope)) }
+        ensures value { OnOk result ((lists : List (List NamespaceDecl)) (above : List NamespaceDecl) → AreBindingsOf (map namespace_view namespaces.now) lists self.old → IsBound (map namespace_view namespaces.now) (bound_place self.old) above
+            → IsEntered (entries (map namespace_view namespaces.now) (reverse (slice_range listed.now from until))) xml above lists scope
+            → AreBindingsOf (map namespace_view namespaces.now) lists self.new × IsBound (map namespace_view namespaces.now) (bound_place self.new) (scope_at lists scope)) }
         ensures err { IfErr result (λ e. e ≡ Failure.Memory) }
     {
         self.hide_xml(xml)?;
-        self.add(names, listed, from, until)?;
+        self.add(namespaces, listed, from, until)?;
         let count = self.replaced.len();
         push(&mut self.layers, ScopeFrame { scope, count })?;
         Ok(())

@@ -126,51 +126,57 @@ impl<'input> UnresolvedAttribute<'input> {
 /// the default, already. Where they are many the set has their prefixes.
 #[inline]
 fn is_again<'a>(
-    names: &[Namespace<'a>],
+    namespaces: &[Namespace<'a>],
     own: &[u16],
-    many: &BTreeSet<Option<&'a str>>,
+    prefix_set: &BTreeSet<Option<&'a str>>,
     xml: bool,
     prefix: Option<&'a str>,
 ) -> bool
-    requires places { ArePlaces (length names.now) own.now }
-    requires many { IsPrefixSet (map namespace_view names.now) own.now many.now.keys }
-    ensures value { (ds : List NamespaceDecl) → xml ≡ declares_xml ds → entries (map namespace_view names.now) own.now ≡ listable_of ds
+    requires places { ArePlaces (length namespaces.now) own.now }
+    requires prefix_set { IsPrefixSet (map namespace_view namespaces.now) own.now prefix_set.now.keys }
+    ensures value { (ds : List NamespaceDecl) → xml ≡ declares_xml ds → entries (map namespace_view namespaces.now) own.now ≡ listable_of ds
         → result ≡ is_declared (prefix_view prefix.entry) ds }
-    ensures absent { result ≡ false → is_declared (prefix_view prefix.entry) (entries (map namespace_view names.now) own.now) ≡ false }
+    ensures absent { result ≡ false → is_declared (prefix_view prefix.entry) (entries (map namespace_view namespaces.now) own.now) ≡ false }
 {
-    is_own(names, own, many, xml, prefix)
+    is_own(namespaces, own, prefix_set, xml, prefix)
 }
 
 /// A declaration, which is listed unless it is that of `xml`; `own` is where the listed places of the tag begin, whose prefixes
 /// the set has where they are many. Answers whether the tag declares `xml` now.
 pub fn declare_namespace<'input>(
-    names: &mut NamespaceTable<'input>,
+    namespaces: &mut NamespaceTable<'input>,
     listed: &mut Vec<u16>,
-    many: &mut BTreeSet<Option<&'input str>>,
+    prefix_set: &mut BTreeSet<Option<&'input str>>,
     own: usize,
     xml: bool,
     taken: UnresolvedAttribute<'input>,
 ) -> Result<bool, Failure>
-    requires places { ArePlaces (length names.old.items.items) listed.old.items }
+    requires places { ArePlaces (length namespaces.old.items.items) listed.old.items }
     requires own { own ≤ length listed.old.items }
-    requires few { length names.old.items.items ≤ most_pairs }
-    requires many { IsPrefixSet (map namespace_view names.old.items.items) (drop own listed.old.items) many.old.keys }
-    requires once { PrefixesOnce (entries (map namespace_view names.old.items.items) (drop own listed.old.items)) }
-    ensures places { OnOk result (ArePlaces (length names.new.items.items) listed.new.items) }
+    requires few { length namespaces.old.items.items ≤ most_pairs }
+    requires prefix_set { IsPrefixSet (map namespace_view namespaces.old.items.items) (drop own listed.old.items) prefix_set.old.keys }
+    requires once { PrefixesOnce (entries (map namespace_view namespaces.old.items.items) (drop own listed.old.items)) }
+    ensures places { OnOk result (ArePlaces (length namespaces.new.items.items) listed.new.items) }
     ensures own { OnOk result (own ≤ length listed.new.items) }
-    ensures few { OnOk result (length names.new.items.items ≤ most_pairs) }
+    ensures few { OnOk result (length namespaces.new.items.items ≤ most_pairs) }
     ensures lists { OnOk result ((scopes : List Scope) → AreScopes own scopes
-        → lists_of (map namespace_view names.new.items.items) listed.new.items scopes ≡ lists_of (map namespace_view names.old.items.items) listed.old.items scopes) }
-    ensures grown { OnOk result ((lists : List (List NamespaceDecl)) (x : PrefixBindings) → AreBindingsOf (map namespace_view names.old.items.items) lists x → AreBindingsOf (map namespace_view names.new.items.items) lists x) }
-    ensures many { OnOk result (IsPrefixSet (map namespace_view names.new.items.items) (drop own listed.new.items) many.new.keys) }
-    ensures once { OnOk result (PrefixesOnce (entries (map namespace_view names.new.items.items) (drop own listed.new.items))) }
+        → lists_of (map namespace_view namespaces.new.items.items) listed.new.items scopes ≡ lists_of (map namespace_view namespaces.old.items.items) listed.old.items scopes) }
+    ensures grown { OnOk result ((lists : List (List NamespaceDecl)) (x : PrefixBindings) → AreBindingsOf (map namespace_view namespaces.old.items.items) lists x → AreBindingsOf (map namespace_view namespaces.new.items.items) lists x) }
+    ensures prefix_set { OnOk result (IsPrefixSet (map namespace_view namespaces.new.items.items) (drop own listed.new.items) prefix_set.new.keys) }
+    ensures once { OnOk result (PrefixesOnce (entries (map namespace_view namespaces.new.items.items) (drop own listed.new.items))) }
     ensures value { (known : List NamespaceDecl) (before : List ℕ) (h : TagSoFar) → own ≡ length before
-        → Declares known before (map namespace_view names.old.items.items) listed.old.items xml h.own
-        → Declared known before (map namespace_view names.new.items.items) listed.new.items result h (spec.declared known (unresolved_view taken.entry) h) }
+        → Declares known before (map namespace_view namespaces.old.items.items) listed.old.items xml h.own
+        → Declared known before (map namespace_view namespaces.new.items.items) listed.new.items result h (spec.declared known (unresolved_view taken.entry) h) }
 {
     taken.test_uri()?;
     let prefix = taken.declared_prefix();
-    if is_again(names.as_slice(), &listed[own..], many, xml, prefix) {
+    if is_again(
+        namespaces.as_slice(),
+        &listed[own..],
+        prefix_set,
+        xml,
+        prefix,
+    ) {
         return Err(Failure::Fault(Fault::DuplicatedNamespace(
             local_span(taken.name.local, taken.name_end),
             taken.start,
@@ -179,8 +185,8 @@ pub fn declare_namespace<'input>(
     if is_xml(prefix) {
         return Ok(true);
     }
-    let place = names.place(prefix, taken.value)?;
+    let place = namespaces.place(prefix, taken.value)?;
     listed.push(place)?;
-    add_prefix(many, names.as_slice(), &listed[own..], prefix)?;
+    add_prefix(prefix_set, namespaces.as_slice(), &listed[own..], prefix)?;
     Ok(xml)
 }

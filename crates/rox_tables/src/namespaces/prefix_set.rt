@@ -34,15 +34,15 @@ fn add<'a>(prefixes: &mut BTreeSet<Option<&'a str>>, prefix: Option<&'a str>) ->
 /// Puts those of the namespaces at these places among these.
 fn add_all<'a>(
     prefixes: &mut BTreeSet<Option<&'a str>>,
-    names: &[Namespace<'a>],
+    namespaces: &[Namespace<'a>],
     places: &[u16],
 ) -> Result<(), Failure>
-    requires { ArePlaces (length names.now) places.now }
-    ensures more { OnOk result ((p : Option (List ℕ)) → has_prefix p prefixes.new.keys ≡ (has_prefix p prefixes.old.keys || is_declared p (entries (map namespace_view names.now) places.now))) }
+    requires { ArePlaces (length namespaces.now) places.now }
+    ensures more { OnOk result ((p : Option (List ℕ)) → has_prefix p prefixes.new.keys ≡ (has_prefix p prefixes.old.keys || is_declared p (entries (map namespace_view namespaces.now) places.now))) }
     ensures err { IfErr result (λ e. e ≡ Failure.Memory) }
 {
     for place in places {
-        add(prefixes, names[*place as usize].name)?;
+        add(prefixes, namespaces[*place as usize].name)?;
     }
     Ok(())
 }
@@ -50,13 +50,13 @@ fn add_all<'a>(
 /// Keeps the prefix of the last of the places that a tag declares: in the set, where these are many.
 pub fn add_prefix<'a>(
     prefixes: &mut BTreeSet<Option<&'a str>>,
-    names: &[Namespace<'a>],
+    namespaces: &[Namespace<'a>],
     own: &[u16],
     prefix: Option<&'a str>,
 ) -> Result<(), Failure>
-    requires { ArePlaces (length names.now) own.now }
-    ensures value { OnOk result ((before : List ℕ) (place : ℕ) → own.now ≡ before ++ place ∷ [] → (namespace_at (map namespace_view names.now) place).prefix ≡ prefix_view prefix.entry
-        → IsPrefixSet (map namespace_view names.now) before prefixes.old.keys → IsPrefixSet (map namespace_view names.now) own.now prefixes.new.keys) }
+    requires { ArePlaces (length namespaces.now) own.now }
+    ensures value { OnOk result ((before : List ℕ) (place : ℕ) → own.now ≡ before ++ place ∷ [] → (namespace_at (map namespace_view namespaces.now) place).prefix ≡ prefix_view prefix.entry
+        → IsPrefixSet (map namespace_view namespaces.now) before prefixes.old.keys → IsPrefixSet (map namespace_view namespaces.now) own.now prefixes.new.keys) }
     ensures err { IfErr result (λ e. e ≡ Failure.Memory) }
 {
     if own.len() <= FEW {
@@ -67,6 +67,6 @@ pub fn add_prefix<'a>(
         return Ok(());
     }
     prefixes.clear();
-    add_all(prefixes, names, own)?;
+    add_all(prefixes, namespaces, own)?;
     Ok(())
 }

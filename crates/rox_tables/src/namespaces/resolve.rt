@@ -40,17 +40,17 @@ const FEW: usize = 16;
 /// the prefix is not known.
 #[inline]
 fn attribute_namespace(
-    names: &[Namespace<'_>],
+    namespaces: &[Namespace<'_>],
     few: Option<&[u16]>,
     present: &PrefixBindings<'_>,
     name: QName<'_>,
 ) -> Option<AttributeNamespace>
-    requires within { LooksWithin (length names.now) (places_view few) present.now }
-    ensures within { IfSome result (λ s. NamespaceWithin (length names.now) s) }
-    ensures there { (ds : List NamespaceDecl) → FindsBinding (map namespace_view names.now) (places_view few.entry) present.now ds
-        → IfSome result (λ s. attribute_uri (map namespace_view names.now) s ≡ tree.attribute_namespace ds (name_view name.entry)) }
-    ensures known { (ds : List NamespaceDecl) → FindsBinding (map namespace_view names.now) (places_view few.entry) present.now ds → IfSome result (λ _. is_known ds (name_view name.entry) ≡ true) }
-    ensures unknown { (ds : List NamespaceDecl) → FindsBinding (map namespace_view names.now) (places_view few.entry) present.now ds → IfNone result (is_known ds (name_view name.entry) ≡ false) }
+    requires within { LooksWithin (length namespaces.now) (places_view few) present.now }
+    ensures within { IfSome result (λ s. NamespaceWithin (length namespaces.now) s) }
+    ensures there { (ds : List NamespaceDecl) → FindsBinding (map namespace_view namespaces.now) (places_view few.entry) present.now ds
+        → IfSome result (λ s. attribute_uri (map namespace_view namespaces.now) s ≡ tree.attribute_namespace ds (name_view name.entry)) }
+    ensures known { (ds : List NamespaceDecl) → FindsBinding (map namespace_view namespaces.now) (places_view few.entry) present.now ds → IfSome result (λ _. is_known ds (name_view name.entry) ≡ true) }
+    ensures unknown { (ds : List NamespaceDecl) → FindsBinding (map namespace_view namespaces.now) (places_view few.entry) present.now ds → IfNone result (is_known ds (name_view name.entry) ≡ false) }
 {
     if name.prefix.is_empty() {
         return Some(AttributeNamespace::None);
@@ -58,7 +58,7 @@ fn attribute_namespace(
     if same_text(name.prefix, "xml") {
         return Some(AttributeNamespace::Xml);
     }
-    match find(names, few, present, Some(name.prefix)) {
+    match find(namespaces, few, present, Some(name.prefix)) {
         Some(place) => Some(AttributeNamespace::Listed(place)),
         None => None,
     }
@@ -66,49 +66,52 @@ fn attribute_namespace(
 
 /// The URI of an attribute's namespace.
 #[inline]
-fn namespace_uri<'a>(names: &'a [Namespace<'_>], namespace: AttributeNamespace) -> Option<&'a str>
-    requires { NamespaceWithin (length names.now) namespace }
-    ensures { prefix_view result ≡ attribute_uri (map namespace_view names.now) namespace }
+fn namespace_uri<'a>(
+    namespaces: &'a [Namespace<'_>],
+    namespace: AttributeNamespace,
+) -> Option<&'a str>
+    requires { NamespaceWithin (length namespaces.now) namespace }
+    ensures { prefix_view result ≡ attribute_uri (map namespace_view namespaces.now) namespace }
 {
     match namespace {
         AttributeNamespace::None => None,
         AttributeNamespace::Xml => Some(XML_URI),
-        AttributeNamespace::Listed(place) => Some(names[place as usize].uri.as_str()),
+        AttributeNamespace::Listed(place) => Some(namespaces[place as usize].uri.as_str()),
     }
 }
 
 /// Whether an attribute has this expanded name. Namespaces are equal where their URIs are.
 #[inline]
 fn has_expanded(
-    names: &[Namespace<'_>],
+    namespaces: &[Namespace<'_>],
     attribute: &AttributeData<'_>,
     namespace: AttributeNamespace,
     local: &str,
 ) -> bool
-    requires one { NamespaceWithin (length names.now) attribute.now.namespace }
-    requires other { NamespaceWithin (length names.now) namespace }
-    ensures { result ≡ has_expanded (map namespace_view names.now) namespace local.now attribute.now }
+    requires one { NamespaceWithin (length namespaces.now) attribute.now.namespace }
+    requires other { NamespaceWithin (length namespaces.now) namespace }
+    ensures { result ≡ has_expanded (map namespace_view namespaces.now) namespace local.now attribute.now }
 {
     same_text(attribute.local, local)
         && same_prefix(
-            namespace_uri(names, attribute.namespace),
-            namespace_uri(names, namespace),
+            namespace_uri(namespaces, attribute.namespace),
+            namespace_uri(namespaces, namespace),
         )
 }
 
 /// Whether one of these attributes has this expanded name.
 fn is_repeated(
-    names: &[Namespace<'_>],
+    namespaces: &[Namespace<'_>],
     done: &[AttributeData<'_>],
     namespace: AttributeNamespace,
     local: &str,
 ) -> bool
-    requires done { AllByRecursion (λ a. NamespaceWithin (length names.now) a.namespace) done.now }
-    requires other { NamespaceWithin (length names.now) namespace }
-    ensures { result ≡ list_any (has_expanded (map namespace_view names.now) namespace local.now) done.now }
+    requires done { AllByRecursion (λ a. NamespaceWithin (length namespaces.now) a.namespace) done.now }
+    requires other { NamespaceWithin (length namespaces.now) namespace }
+    ensures { result ≡ list_any (has_expanded (map namespace_view namespaces.now) namespace local.now) done.now }
 {
     for attribute in done {
-        if has_expanded(names, attribute, namespace, local) {
+        if has_expanded(namespaces, attribute, namespace, local) {
             return true;
         }
     }
@@ -118,25 +121,25 @@ fn is_repeated(
 /// The namespace of an attribute behind these of its tag: its prefix must be known, and its expanded name be none of theirs.
 #[inline(always)]
 fn tested_namespace(
-    names: &[Namespace<'_>],
+    namespaces: &[Namespace<'_>],
     few: Option<&[u16]>,
     present: &PrefixBindings<'_>,
     done: &[AttributeData<'_>],
     taken: &UnresolvedAttribute<'_>,
 ) -> Result<AttributeNamespace, Fault>
-    requires within { LooksWithin (length names.now) (places_view few) present.now }
-    requires done { AllByRecursion (λ a. NamespaceWithin (length names.now) a.namespace) done.now }
-    ensures within { IfOk result (λ s. NamespaceWithin (length names.now) s) }
-    ensures there { (ds : List NamespaceDecl) → FindsBinding (map namespace_view names.now) (places_view few.entry) present.now ds
-        → IfOk result (λ s. attribute_uri (map namespace_view names.now) s ≡ tree.attribute_namespace ds (name_view taken.now.name)) }
-    ensures tested { (ds : List NamespaceDecl) (rows : List AttributeRow) (before rest : List Attribute) → FindsBinding (map namespace_view names.now) (places_view few.entry) present.now ds
-        → map (λ r. r.0) rows ≡ done.now → map (attribute (map namespace_view names.now)) rows ≡ map (attribute_in ds) before → Tested ds before (unresolved_view taken.now) rest result }
+    requires within { LooksWithin (length namespaces.now) (places_view few) present.now }
+    requires done { AllByRecursion (λ a. NamespaceWithin (length namespaces.now) a.namespace) done.now }
+    ensures within { IfOk result (λ s. NamespaceWithin (length namespaces.now) s) }
+    ensures there { (ds : List NamespaceDecl) → FindsBinding (map namespace_view namespaces.now) (places_view few.entry) present.now ds
+        → IfOk result (λ s. attribute_uri (map namespace_view namespaces.now) s ≡ tree.attribute_namespace ds (name_view taken.now.name)) }
+    ensures tested { (ds : List NamespaceDecl) (rows : List AttributeRow) (before rest : List Attribute) → FindsBinding (map namespace_view namespaces.now) (places_view few.entry) present.now ds
+        → map (λ r. r.0) rows ≡ done.now → map (attribute (map namespace_view namespaces.now)) rows ≡ map (attribute_in ds) before → Tested ds before (unresolved_view taken.now) rest result }
 {
     let name = taken.name;
-    let Some(namespace) = attribute_namespace(names, few, present, name) else {
+    let Some(namespace) = attribute_namespace(namespaces, few, present, name) else {
         return Err(Fault::UnknownNamespace(prefix_span(name.prefix, taken.start), taken.start));
     };
-    if is_repeated(names, done, namespace, name.local) {
+    if is_repeated(namespaces, done, namespace, name.local) {
         return Err(Fault::DuplicatedAttribute(local_span(name.local, taken.name_end), taken.start));
     }
     Ok(namespace)
@@ -144,30 +147,30 @@ fn tested_namespace(
 
 /// The same of an attribute of a tag that has many: the names of those before it are `seen`, and its own is put there.
 fn seen_namespace<'a>(
-    names: &'a [Namespace<'_>],
+    namespaces: &'a [Namespace<'_>],
     few: Option<&[u16]>,
     present: &PrefixBindings<'_>,
     seen: &mut BTreeSet<(&'a str, Option<&'a str>)>,
     taken: &UnresolvedAttribute<'a>,
 ) -> Result<AttributeNamespace, Failure>
-    requires within { LooksWithin (length names.now) (places_view few) present.now }
-    ensures within { IfOk result (λ s. NamespaceWithin (length names.now) s) }
-    ensures there { (ds : List NamespaceDecl) → FindsBinding (map namespace_view names.now) (places_view few.entry) present.now ds
-        → IfOk result (λ s. attribute_uri (map namespace_view names.now) s ≡ tree.attribute_namespace ds (name_view taken.now.name)) }
-    ensures tested { (ds : List NamespaceDecl) (rows : List AttributeRow) (before rest : List Attribute) → FindsBinding (map namespace_view names.now) (places_view few.entry) present.now ds
-        → HasExpandedNames (map namespace_view names.now) seen.old.keys (map (λ r. r.0) rows) → map (attribute (map namespace_view names.now)) rows ≡ map (attribute_in ds) before
+    requires within { LooksWithin (length namespaces.now) (places_view few) present.now }
+    ensures within { IfOk result (λ s. NamespaceWithin (length namespaces.now) s) }
+    ensures there { (ds : List NamespaceDecl) → FindsBinding (map namespace_view namespaces.now) (places_view few.entry) present.now ds
+        → IfOk result (λ s. attribute_uri (map namespace_view namespaces.now) s ≡ tree.attribute_namespace ds (name_view taken.now.name)) }
+    ensures tested { (ds : List NamespaceDecl) (rows : List AttributeRow) (before rest : List Attribute) → FindsBinding (map namespace_view namespaces.now) (places_view few.entry) present.now ds
+        → HasExpandedNames (map namespace_view namespaces.now) seen.old.keys (map (λ r. r.0) rows) → map (attribute (map namespace_view namespaces.now)) rows ≡ map (attribute_in ds) before
         → TestedOr ds before (unresolved_view taken.now) rest result }
-    ensures more { IfOk result (λ s. (done : List AttributeData) (a : AttributeData) → HasExpandedNames (map namespace_view names.now) seen.old.keys done → a.namespace ≡ s → a.local ≡ taken.now.name.local
-        → HasExpandedNames (map namespace_view names.now) seen.new.keys (done ++ a ∷ [])) }
+    ensures more { IfOk result (λ s. (done : List AttributeData) (a : AttributeData) → HasExpandedNames (map namespace_view namespaces.now) seen.old.keys done → a.namespace ≡ s → a.local ≡ taken.now.name.local
+        → HasExpandedNames (map namespace_view namespaces.now) seen.new.keys (done ++ a ∷ [])) }
 {
     let name = taken.name;
-    let Some(namespace) = attribute_namespace(names, few, present, name) else {
+    let Some(namespace) = attribute_namespace(namespaces, few, present, name) else {
         return Err(Failure::Fault(Fault::UnknownNamespace(
             prefix_span(name.prefix, taken.start),
             taken.start,
         )));
     };
-    if is_repeated_name(seen, name.local, namespace_uri(names, namespace))? {
+    if is_repeated_name(seen, name.local, namespace_uri(namespaces, namespace))? {
         return Err(Failure::Fault(Fault::DuplicatedAttribute(
             local_span(name.local, taken.name_end),
             taken.start,
@@ -204,24 +207,24 @@ fn move_row<'input>(
 #[inline(never)]
 fn resolve_many<'input>(
     alloc: Global,
-    names: &[Namespace<'input>],
+    namespaces: &[Namespace<'input>],
     few: Option<&[u16]>,
     present: &PrefixBindings<'_>,
     taken: &mut Vec<UnresolvedAttribute<'input>>,
     attributes: &mut AttributeTable<'input>,
 ) -> Result<(), Failure>
-    requires within { LooksWithin (length names.now) (places_view few) present.now }
-    ensures ok { (ds : List NamespaceDecl) → FindsBinding (map namespace_view names.now) (places_view few.entry) present.now ds
+    requires within { LooksWithin (length namespaces.now) (places_view few) present.now }
+    ensures ok { (ds : List NamespaceDecl) → FindsBinding (map namespace_view namespaces.now) (places_view few.entry) present.now ds
         → OnOk result ((names_tested ds [] (map unresolved_view taken.old.items) ≡ Ok tt)
         × ((more : List AttributeRow) × (attribute_rows attributes.new ≡ attribute_rows attributes.old ++ more)
-        × (map (attribute (map namespace_view names.now)) more ≡ map (attribute_in ds) (map unresolved_view taken.old.items))
-        × AllByRecursion (λ a. NamespaceWithin (length names.now) a.0.namespace) more)) }
-    ensures err { (ds : List NamespaceDecl) → FindsBinding (map namespace_view names.now) (places_view few.entry) present.now ds
+        × (map (attribute (map namespace_view namespaces.now)) more ≡ map (attribute_in ds) (map unresolved_view taken.old.items))
+        × AllByRecursion (λ a. NamespaceWithin (length namespaces.now) a.0.namespace) more)) }
+    ensures err { (ds : List NamespaceDecl) → FindsBinding (map namespace_view namespaces.now) (places_view few.entry) present.now ds
         → IfErr result (λ e. Fails e (names_tested ds [] (map unresolved_view taken.old.items))) }
 {
     let mut seen = BTreeSet::new(alloc);
     for turn in 0..taken.len() {
-        let namespace = seen_namespace(names, few, present, &mut seen, &taken[turn])?;
+        let namespace = seen_namespace(namespaces, few, present, &mut seen, &taken[turn])?;
         let row = move_row(&mut taken[turn], namespace);
         attributes.push(row)?;
     }
@@ -233,28 +236,28 @@ fn resolve_many<'input>(
 #[inline(always)]
 pub fn resolve<'input>(
     alloc: Global,
-    names: &[Namespace<'input>],
+    namespaces: &[Namespace<'input>],
     few: Option<&[u16]>,
     present: &PrefixBindings<'_>,
     taken: &mut Vec<UnresolvedAttribute<'input>>,
     attributes: &mut AttributeTable<'input>,
 ) -> Result<(), Failure>
-    requires within { LooksWithin (length names.now) (places_view few) present.now }
-    ensures ok { (ds : List NamespaceDecl) → FindsBinding (map namespace_view names.now) (places_view few.entry) present.now ds
+    requires within { LooksWithin (length namespaces.now) (places_view few) present.now }
+    ensures ok { (ds : List NamespaceDecl) → FindsBinding (map namespace_view namespaces.now) (places_view few.entry) present.now ds
         → OnOk result ((names_tested ds [] (map unresolved_view taken.old.items) ≡ Ok tt)
         × ((more : List AttributeRow) × (attribute_rows attributes.new ≡ attribute_rows attributes.old ++ more)
-        × (map (attribute (map namespace_view names.now)) more ≡ map (attribute_in ds) (map unresolved_view taken.old.items))
-        × AllByRecursion (λ a. NamespaceWithin (length names.now) a.0.namespace) more)) }
-    ensures err { (ds : List NamespaceDecl) → FindsBinding (map namespace_view names.now) (places_view few.entry) present.now ds
+        × (map (attribute (map namespace_view namespaces.now)) more ≡ map (attribute_in ds) (map unresolved_view taken.old.items))
+        × AllByRecursion (λ a. NamespaceWithin (length namespaces.now) a.0.namespace) more)) }
+    ensures err { (ds : List NamespaceDecl) → FindsBinding (map namespace_view namespaces.now) (places_view few.entry) present.now ds
         → IfErr result (λ e. Fails e (names_tested ds [] (map unresolved_view taken.old.items))) }
 {
     if taken.len() > FEW {
-        return resolve_many(alloc, names, few, present, taken, attributes);
+        return resolve_many(alloc, namespaces, few, present, taken, attributes);
     }
     let from = attributes.len();
     for turn in 0..taken.len() {
         let namespace = tested_namespace(
-            names,
+            namespaces,
             few,
             present,
             &attributes.items[from..],
@@ -270,24 +273,24 @@ pub fn resolve<'input>(
 /// not known is refused.
 #[inline(always)]
 pub fn element_namespace(
-    names: &[Namespace<'_>],
+    namespaces: &[Namespace<'_>],
     few: Option<&[u16]>,
     present: &PrefixBindings<'_>,
     name: QName<'_>,
     at: usize,
 ) -> Result<Option<u16>, Fault>
-    requires within { LooksWithin (length names.now) (places_view few) present.now }
+    requires within { LooksWithin (length namespaces.now) (places_view few) present.now }
     requires small { at < 2 ^ 63 }
-    ensures within { IfOk result (λ o. OptionWithin (length names.now) o) }
-    ensures ok { (ds : List NamespaceDecl) → FindsBinding (map namespace_view names.now) (places_view few.entry) present.now ds
-        → IfOk result (λ o. (option_map (λ i. (namespace_at (map namespace_view names.now) i).uri) o ≡ tree.element_namespace ds (name_view name.entry)) × (may_name ds (name_view name.entry) ≡ true)) }
-    ensures err { (ds : List NamespaceDecl) → FindsBinding (map namespace_view names.now) (places_view few.entry) present.now ds
+    ensures within { IfOk result (λ o. OptionWithin (length namespaces.now) o) }
+    ensures ok { (ds : List NamespaceDecl) → FindsBinding (map namespace_view namespaces.now) (places_view few.entry) present.now ds
+        → IfOk result (λ o. (option_map (λ i. (namespace_at (map namespace_view namespaces.now) i).uri) o ≡ tree.element_namespace ds (name_view name.entry)) × (may_name ds (name_view name.entry) ≡ true)) }
+    ensures err { (ds : List NamespaceDecl) → FindsBinding (map namespace_view namespaces.now) (places_view few.entry) present.now ds
         → IfErr result (λ f. (f ≡ fault.UnknownNamespace (prefix_span (name_view name.entry) at) at) × (may_name ds (name_view name.entry) ≡ false)) }
 {
     if name.prefix.is_empty() {
-        return Ok(find_default(names, few, present));
+        return Ok(find_default(namespaces, few, present));
     }
-    match find(names, few, present, Some(name.prefix)) {
+    match find(namespaces, few, present, Some(name.prefix)) {
         Some(place) => Ok(Some(place)),
         None => Err(Fault::UnknownNamespace(prefix_span(name.prefix, at), at)),
     }

@@ -345,22 +345,22 @@ pub fn find(scopes: &[Scope], scope: u32, position: usize) -> Option<usize>
 
 /// The index of the first that a scope lists for this prefix, or for the default.
 fn first_of(
-    names: &[Namespace<'_>],
+    namespaces: &[Namespace<'_>],
     listed: &[u16],
     scopes: &[Scope],
     scope: u32,
     prefix: Option<&str>,
 ) -> Option<usize>
-    requires places { ArePlaces (length names.now) listed.now }
+    requires places { ArePlaces (length namespaces.now) listed.now }
     requires scopes { AreScopes (length listed.now) scopes.now }
     requires within { scope < length scopes.now }
     ensures there { IfSome result (λ i. (i < length (places_in listed.now scopes.now scope))
-        × (same_prefix (namespace_at (map namespace_view names.now) (slice_index (places_in listed.now scopes.now scope) i)).prefix (prefix_view prefix.entry) ≡ true)) }
-    ensures absent { IfNone result (is_declared (prefix_view prefix.entry) (entries (map namespace_view names.now) (places_in listed.now scopes.now scope)) ≡ false) }
+        × (same_prefix (namespace_at (map namespace_view namespaces.now) (slice_index (places_in listed.now scopes.now scope) i)).prefix (prefix_view prefix.entry) ≡ true)) }
+    ensures absent { IfNone result (is_declared (prefix_view prefix.entry) (entries (map namespace_view namespaces.now) (places_in listed.now scopes.now scope)) ≡ false) }
 {
     for index in 0..count(scopes, scope) {
         let place = place_at(scopes, listed, scope, index);
-        if same_prefix(names[place as usize].name, prefix) {
+        if same_prefix(namespaces[place as usize].name, prefix) {
             return Some(index);
         }
     }
@@ -370,25 +370,25 @@ fn first_of(
 /// The index of one that a scope lists for this prefix, or for the default. It is looked for first where the listed place at
 /// the position `guess` is.
 pub fn index_of(
-    names: &[Namespace<'_>],
+    namespaces: &[Namespace<'_>],
     listed: &[u16],
     scopes: &[Scope],
     scope: u32,
     prefix: Option<&str>,
     guess: usize,
 ) -> Option<usize>
-    requires places { ArePlaces (length names.now) listed.now }
+    requires places { ArePlaces (length namespaces.now) listed.now }
     requires scopes { AreScopes (length listed.now) scopes.now }
     requires within { scope < length scopes.now }
     ensures there { IfSome result (λ i. (i < length (places_in listed.now scopes.now scope))
-        × (same_prefix (namespace_at (map namespace_view names.now) (slice_index (places_in listed.now scopes.now scope) i)).prefix (prefix_view prefix.entry) ≡ true)) }
-    ensures absent { IfNone result (is_declared (prefix_view prefix.entry) (entries (map namespace_view names.now) (places_in listed.now scopes.now scope)) ≡ false) }
+        × (same_prefix (namespace_at (map namespace_view namespaces.now) (slice_index (places_in listed.now scopes.now scope) i)).prefix (prefix_view prefix.entry) ≡ true)) }
+    ensures absent { IfNone result (is_declared (prefix_view prefix.entry) (entries (map namespace_view namespaces.now) (places_in listed.now scopes.now scope)) ≡ false) }
 {
     if let Some(index) = find(scopes, scope, guess) {
         let place = place_at(scopes, listed, scope, index);
-        if same_prefix(names[place as usize].name, prefix) {
+        if same_prefix(namespaces[place as usize].name, prefix) {
             return Some(index);
         }
     }
-    first_of(names, listed, scopes, scope, prefix)
+    first_of(namespaces, listed, scopes, scope, prefix)
 }

@@ -36,14 +36,14 @@ pub fn same_prefix(one: Option<&str>, other: Option<&str>) -> bool
 }
 
 /// The first of these places whose namespace has this prefix, or is the default.
-pub fn place_of(names: &[Namespace<'_>], places: &[u16], prefix: Option<&str>) -> Option<u16>
-    requires { ArePlaces (length names.now) places.now }
-    ensures there { IfSome result (λ i. (i < length names.now)
-        × (uri_of (entries (map namespace_view names.now) places.now) (prefix_view prefix.entry) ≡ Some (namespace_at (map namespace_view names.now) i).uri)) }
-    ensures absent { IfNone result (uri_of (entries (map namespace_view names.now) places.now) (prefix_view prefix.entry) ≡ None) }
+pub fn place_of(namespaces: &[Namespace<'_>], places: &[u16], prefix: Option<&str>) -> Option<u16>
+    requires { ArePlaces (length namespaces.now) places.now }
+    ensures there { IfSome result (λ i. (i < length namespaces.now)
+        × (uri_of (entries (map namespace_view namespaces.now) places.now) (prefix_view prefix.entry) ≡ Some (namespace_at (map namespace_view namespaces.now) i).uri)) }
+    ensures absent { IfNone result (uri_of (entries (map namespace_view namespaces.now) places.now) (prefix_view prefix.entry) ≡ None) }
 {
     for place in places {
-        if same_prefix(names[*place as usize].name, prefix) {
+        if same_prefix(namespaces[*place as usize].name, prefix) {
             return Some(*place);
         }
     }
@@ -52,14 +52,14 @@ pub fn place_of(names: &[Namespace<'_>], places: &[u16], prefix: Option<&str>) -
 
 /// The first of these places whose namespace is the default.
 #[inline(always)]
-pub fn default_place(names: &[Namespace<'_>], places: &[u16]) -> Option<u16>
-    requires { ArePlaces (length names.now) places.now }
-    ensures there { IfSome result (λ i. (i < length names.now)
-        × (uri_of (entries (map namespace_view names.now) places.now) None ≡ Some (namespace_at (map namespace_view names.now) i).uri)) }
-    ensures absent { IfNone result (uri_of (entries (map namespace_view names.now) places.now) None ≡ None) }
+pub fn default_place(namespaces: &[Namespace<'_>], places: &[u16]) -> Option<u16>
+    requires { ArePlaces (length namespaces.now) places.now }
+    ensures there { IfSome result (λ i. (i < length namespaces.now)
+        × (uri_of (entries (map namespace_view namespaces.now) places.now) None ≡ Some (namespace_at (map namespace_view namespaces.now) i).uri)) }
+    ensures absent { IfNone result (uri_of (entries (map namespace_view namespaces.now) places.now) None ≡ None) }
 {
     for place in places {
-        if same_prefix(names[*place as usize].name, None) {
+        if same_prefix(namespaces[*place as usize].name, None) {
             return Some(*place);
         }
     }
@@ -83,17 +83,17 @@ pub fn few_places<'a>(scopes: &[Scope], listed: &'a [u16], scope: u32) -> Option
 /// The place of this prefix, or of the default: the first among these places, where they are few, and else as it is present.
 #[inline]
 pub fn find(
-    names: &[Namespace<'_>],
+    namespaces: &[Namespace<'_>],
     few: Option<&[u16]>,
     present: &PrefixBindings<'_>,
     prefix: Option<&str>,
 ) -> Option<u16>
-    requires { LooksWithin (length names.now) (places_view few) present.now }
-    ensures within { OptionWithin (length names.now) result }
-    ensures value { option_map (λ i. (namespace_at (map namespace_view names.now) i).uri) result ≡ looked_up (map namespace_view names.now) (places_view few.entry) present.now (prefix_view prefix.entry) }
+    requires { LooksWithin (length namespaces.now) (places_view few) present.now }
+    ensures within { OptionWithin (length namespaces.now) result }
+    ensures value { option_map (λ i. (namespace_at (map namespace_view namespaces.now) i).uri) result ≡ looked_up (map namespace_view namespaces.now) (places_view few.entry) present.now (prefix_view prefix.entry) }
 {
     match few {
-        Some(places) => place_of(names, places, prefix),
+        Some(places) => place_of(namespaces, places, prefix),
         None => match present.get(prefix) {
             Some(place) => Some(place.namespace),
             None => None,
@@ -104,16 +104,16 @@ pub fn find(
 /// The place of the default: the first among these places, where they are few, and else as it is present.
 #[inline(always)]
 pub fn find_default(
-    names: &[Namespace<'_>],
+    namespaces: &[Namespace<'_>],
     few: Option<&[u16]>,
     present: &PrefixBindings<'_>,
 ) -> Option<u16>
-    requires { LooksWithin (length names.now) (places_view few) present.now }
-    ensures within { OptionWithin (length names.now) result }
-    ensures value { option_map (λ i. (namespace_at (map namespace_view names.now) i).uri) result ≡ looked_up (map namespace_view names.now) (places_view few.entry) present.now None }
+    requires { LooksWithin (length namespaces.now) (places_view few) present.now }
+    ensures within { OptionWithin (length namespaces.now) result }
+    ensures value { option_map (λ i. (namespace_at (map namespace_view namespaces.now) i).uri) result ≡ looked_up (map namespace_view namespaces.now) (places_view few.entry) present.now None }
 {
     match few {
-        Some(places) => default_place(names, places),
+        Some(places) => default_place(namespaces, places),
         None => match present.get(None) {
             Some(place) => Some(place.namespace),
             None => None,
@@ -123,11 +123,11 @@ pub fn find_default(
 
 /// Whether one of these has this prefix, or is the default.
 #[tactic(auto, using(crate::proofs::Pairs::declared_some, crate::proofs::Pairs::declared_none))]
-pub fn is_declared(names: &[Namespace<'_>], places: &[u16], prefix: Option<&str>) -> bool
-    requires { ArePlaces (length names.now) places.now }
-    ensures { result ≡ is_declared (prefix_view prefix.entry) (entries (map namespace_view names.now) places.now) }
+pub fn is_declared(namespaces: &[Namespace<'_>], places: &[u16], prefix: Option<&str>) -> bool
+    requires { ArePlaces (length namespaces.now) places.now }
+    ensures { result ≡ is_declared (prefix_view prefix.entry) (entries (map namespace_view namespaces.now) places.now) }
 {
-    match place_of(names, places, prefix) {
+    match place_of(namespaces, places, prefix) {
         Some(_) => true,
         None => false,
     }
@@ -147,66 +147,66 @@ pub fn is_xml(prefix: Option<&str>) -> bool
 /// Whether one of these has this prefix, or is the default. Where they are many the set has their prefixes.
 #[inline]
 fn is_among<'a>(
-    names: &[Namespace<'a>],
+    namespaces: &[Namespace<'a>],
     own: &[u16],
-    many: &BTreeSet<Option<&'a str>>,
+    prefix_set: &BTreeSet<Option<&'a str>>,
     prefix: Option<&'a str>,
 ) -> bool
-    requires places { ArePlaces (length names.now) own.now }
-    requires many { IsPrefixSet (map namespace_view names.now) own.now many.now.keys }
-    ensures { result ≡ is_declared (prefix_view prefix.entry) (entries (map namespace_view names.now) own.now) }
+    requires places { ArePlaces (length namespaces.now) own.now }
+    requires prefix_set { IsPrefixSet (map namespace_view namespaces.now) own.now prefix_set.now.keys }
+    ensures { result ≡ is_declared (prefix_view prefix.entry) (entries (map namespace_view namespaces.now) own.now) }
 {
     if own.len() > FEW {
-        return has_prefix(many, prefix);
+        return has_prefix(prefix_set, prefix);
     }
-    is_declared(names, own, prefix)
+    is_declared(namespaces, own, prefix)
 }
 
 /// Whether an element that declares those at these places, and `xml` if the flag says so, declares this prefix. Where they are
 /// many the set has their prefixes.
 #[inline]
 pub fn is_own<'a>(
-    names: &[Namespace<'a>],
+    namespaces: &[Namespace<'a>],
     own: &[u16],
-    many: &BTreeSet<Option<&'a str>>,
+    prefix_set: &BTreeSet<Option<&'a str>>,
     xml: bool,
     prefix: Option<&'a str>,
 ) -> bool
-    requires places { ArePlaces (length names.now) own.now }
-    requires many { IsPrefixSet (map namespace_view names.now) own.now many.now.keys }
-    ensures { result ≡ (is_declared (prefix_view prefix.entry) (entries (map namespace_view names.now) own.now) || (xml && is_xml (prefix_view prefix.entry))) }
+    requires places { ArePlaces (length namespaces.now) own.now }
+    requires prefix_set { IsPrefixSet (map namespace_view namespaces.now) own.now prefix_set.now.keys }
+    ensures { result ≡ (is_declared (prefix_view prefix.entry) (entries (map namespace_view namespaces.now) own.now) || (xml && is_xml (prefix_view prefix.entry))) }
 {
-    is_among(names, own, many, prefix) || (xml && is_xml(prefix))
+    is_among(namespaces, own, prefix_set, prefix) || (xml && is_xml(prefix))
 }
 
 /// Lists, behind what an element declares itself, what its parent lists from `from` up to `until` and it does not declare.
 pub fn inherit<'a>(
-    names: &[Namespace<'a>],
+    namespaces: &[Namespace<'a>],
     listed: &mut Vec<u16>,
     own: usize,
-    many: &BTreeSet<Option<&'a str>>,
+    prefix_set: &BTreeSet<Option<&'a str>>,
     xml: bool,
     from: usize,
     until: usize,
 ) -> Result<(), Failure>
-    requires places { ArePlaces (length names.now) listed.old.items }
+    requires places { ArePlaces (length namespaces.now) listed.old.items }
     requires own { own ≤ length listed.old.items }
-    requires many { IsPrefixSet (map namespace_view names.now) (drop own listed.old.items) many.now.keys }
+    requires prefix_set { IsPrefixSet (map namespace_view namespaces.now) (drop own listed.old.items) prefix_set.now.keys }
     requires parent { (from ≤ until) × (until ≤ own) }
-    ensures ok { OnOk result ((more : List ℕ) × (listed.new.items ≡ listed.old.items ++ more) × ArePlaces (length names.now) more
-        × (entries (map namespace_view names.now) more
-        ≡ others (entries (map namespace_view names.now) (drop own listed.old.items)) xml (entries (map namespace_view names.now) (slice_range listed.old.items from until)))) }
+    ensures ok { OnOk result ((more : List ℕ) × (listed.new.items ≡ listed.old.items ++ more) × ArePlaces (length namespaces.now) more
+        × (entries (map namespace_view namespaces.now) more
+        ≡ others (entries (map namespace_view namespaces.now) (drop own listed.old.items)) xml (entries (map namespace_view namespaces.now) (slice_range listed.old.items from until)))) }
     ensures err { IfErr result (λ e. e ≡ Failure.Memory) }
 {
     let end = listed.len();
     for turn in from..until {
         let place = listed[turn];
         if !is_own(
-            names,
+            namespaces,
             &listed[own..end],
-            many,
+            prefix_set,
             xml,
-            names[place as usize].name,
+            namespaces[place as usize].name,
         ) {
             listed.push(place)?;
         }

@@ -23,7 +23,7 @@ use std::collections::BTreeSet;
 fn add_back(listed: &mut Vec<u16>, scopes: &mut Vec<Scope>, from: usize) -> Result<u32, Failure>
     requires from { from ≤ length listed.old.items }
     requires scopes { AreScopes (length listed.old.items) scopes.old.items }
-    ensures value { IfOk result (λ s. (names : List NamespaceDecl) → IsListed names listed.old.items scopes.old.items listed.new.items scopes.new.items s (entries names (drop from listed.old.items))) }
+    ensures value { IfOk result (λ s. (namespaces : List NamespaceDecl) → IsListed namespaces listed.old.items scopes.old.items listed.new.items scopes.new.items s (entries namespaces (drop from listed.old.items))) }
     ensures own { OnOk result (listed.new.items ≡ listed.old.items ++ reverse (drop from listed.old.items)) }
     ensures err { IfErr result (λ e. e ≡ Failure.Memory) }
 {
@@ -41,7 +41,7 @@ fn add_back(listed: &mut Vec<u16>, scopes: &mut Vec<Scope>, from: usize) -> Resu
 fn add_stretch(listed: &mut Vec<u16>, scopes: &mut Vec<Scope>, from: usize) -> Result<u32, Failure>
     requires from { from ≤ length listed.old.items }
     requires scopes { AreScopes (length listed.old.items) scopes.old.items }
-    ensures value { IfOk result (λ s. (names : List NamespaceDecl) → IsListed names listed.old.items scopes.old.items listed.new.items scopes.new.items s (entries names (drop from listed.old.items))) }
+    ensures value { IfOk result (λ s. (namespaces : List NamespaceDecl) → IsListed namespaces listed.old.items scopes.old.items listed.new.items scopes.new.items s (entries namespaces (drop from listed.old.items))) }
     ensures err { IfErr result (λ e. e ≡ Failure.Memory) }
 {
     let until = listed.len();
@@ -56,55 +56,55 @@ fn add_stretch(listed: &mut Vec<u16>, scopes: &mut Vec<Scope>, from: usize) -> R
 /// The scope of an element whose own declarations are those from `own` on, and `xml` if the flag says so, below one that lists
 /// few, those of the stretch. The set has the prefixes that it declares, where these are many.
 pub fn listed_below_few<'input>(
-    names: &[Namespace<'input>],
+    namespaces: &[Namespace<'input>],
     listed: &mut Vec<u16>,
     scopes: &mut Vec<Scope>,
-    many: &BTreeSet<Option<&'input str>>,
+    prefix_set: &BTreeSet<Option<&'input str>>,
     above: Stretch,
     own: usize,
     xml: bool,
 ) -> Result<u32, Failure>
-    requires places { ArePlaces (length names.now) listed.old.items }
+    requires places { ArePlaces (length namespaces.now) listed.old.items }
     requires scopes { AreScopes (length listed.old.items) scopes.old.items }
     requires own { own ≤ length listed.old.items }
-    requires many { IsPrefixSet (map namespace_view names.now) (drop own listed.old.items) many.now.keys }
+    requires prefix_set { IsPrefixSet (map namespace_view namespaces.now) (drop own listed.old.items) prefix_set.now.keys }
     requires above { (above.from ≤ above.until) × (above.until ≤ own) }
-    ensures value { IfOk result (λ s. IsListed (map namespace_view names.now) listed.old.items scopes.old.items listed.new.items scopes.new.items s
-        (entries (map namespace_view names.now) (drop own listed.old.items)
-        ++ others (entries (map namespace_view names.now) (drop own listed.old.items)) xml (entries (map namespace_view names.now) (slice_range listed.old.items above.from above.until)))) }
+    ensures value { IfOk result (λ s. IsListed (map namespace_view namespaces.now) listed.old.items scopes.old.items listed.new.items scopes.new.items s
+        (entries (map namespace_view namespaces.now) (drop own listed.old.items)
+        ++ others (entries (map namespace_view namespaces.now) (drop own listed.old.items)) xml (entries (map namespace_view namespaces.now) (slice_range listed.old.items above.from above.until)))) }
     ensures err { IfErr result (λ e. e ≡ Failure.Memory) }
 {
     let from = above.from as usize;
     let until = above.until as usize;
-    inherit(names, listed, own, many, xml, from, until)?;
+    inherit(namespaces, listed, own, prefix_set, xml, from, until)?;
     let place = add_stretch(listed, scopes, own)?;
     Ok(place)
 }
 
 /// What a scope lists but for this prefix, or the default.
 fn hide<'input>(
-    names: &[Namespace<'input>],
+    namespaces: &[Namespace<'input>],
     listed: &[u16],
     scopes: &mut Vec<Scope>,
     present: &PrefixBindings<'input>,
     scope: u32,
     prefix: Option<&str>,
 ) -> Result<u32, Failure>
-    requires places { ArePlaces (length names.now) listed.now }
+    requires places { ArePlaces (length namespaces.now) listed.now }
     requires scopes { AreScopes (length listed.now) scopes.old.items }
     requires within { scope < length scopes.old.items }
-    requires once { PrefixesOnce (entries (map namespace_view names.now) (places_in listed.now scopes.old.items scope)) }
+    requires once { PrefixesOnce (entries (map namespace_view namespaces.now) (places_in listed.now scopes.old.items scope)) }
     requires absent { bound_place present.now (prefix_view prefix) ≡ None
-        → is_declared (prefix_view prefix) (entries (map namespace_view names.now) (places_in listed.now scopes.old.items scope)) ≡ false }
-    ensures value { IfOk result (λ s. IsListed (map namespace_view names.now) listed.now scopes.old.items listed.now scopes.new.items s
-        (unlisted (prefix_view prefix.entry) (entries (map namespace_view names.now) (places_in listed.now scopes.old.items scope)))) }
+        → is_declared (prefix_view prefix) (entries (map namespace_view namespaces.now) (places_in listed.now scopes.old.items scope)) ≡ false }
+    ensures value { IfOk result (λ s. IsListed (map namespace_view namespaces.now) listed.now scopes.old.items listed.now scopes.new.items s
+        (unlisted (prefix_view prefix.entry) (entries (map namespace_view namespaces.now) (places_in listed.now scopes.old.items scope)))) }
     ensures err { IfErr result (λ e. e ≡ Failure.Memory) }
 {
     let Some(place) = present.get(prefix) else {
         return Ok(scope);
     };
     let guess = place.listed as usize;
-    let Some(index) = index_of(names, listed, scopes, scope, prefix, guess) else {
+    let Some(index) = index_of(namespaces, listed, scopes, scope, prefix, guess) else {
         return Ok(scope);
     };
     let left = without(scopes, scope, index)?;
@@ -113,7 +113,7 @@ fn hide<'input>(
 
 /// What a scope lists but for the prefixes of those that are listed from `own` on, and for `xml` if the flag says so.
 fn hide_own<'input>(
-    names: &[Namespace<'input>],
+    namespaces: &[Namespace<'input>],
     listed: &[u16],
     scopes: &mut Vec<Scope>,
     present: &PrefixBindings<'input>,
@@ -121,24 +121,24 @@ fn hide_own<'input>(
     own: usize,
     xml: bool,
 ) -> Result<u32, Failure>
-    requires places { ArePlaces (length names.now) listed.now }
+    requires places { ArePlaces (length namespaces.now) listed.now }
     requires scopes { AreScopes (length listed.now) scopes.old.items }
     requires within { scope < length scopes.old.items }
     requires own { own ≤ length listed.now }
-    requires once { PrefixesOnce (entries (map namespace_view names.now) (places_in listed.now scopes.old.items scope)) }
-    requires bound { IsBound (map namespace_view names.now) (bound_place present.now) (entries (map namespace_view names.now) (places_in listed.now scopes.old.items scope)) }
-    ensures value { IfOk result (λ s. IsListed (map namespace_view names.now) listed.now scopes.old.items listed.now scopes.new.items s
-        (others (entries (map namespace_view names.now) (drop own listed.now)) xml (entries (map namespace_view names.now) (places_in listed.now scopes.old.items scope)))) }
+    requires once { PrefixesOnce (entries (map namespace_view namespaces.now) (places_in listed.now scopes.old.items scope)) }
+    requires bound { IsBound (map namespace_view namespaces.now) (bound_place present.now) (entries (map namespace_view namespaces.now) (places_in listed.now scopes.old.items scope)) }
+    ensures value { IfOk result (λ s. IsListed (map namespace_view namespaces.now) listed.now scopes.old.items listed.now scopes.new.items s
+        (others (entries (map namespace_view namespaces.now) (drop own listed.now)) xml (entries (map namespace_view namespaces.now) (places_in listed.now scopes.old.items scope)))) }
     ensures err { IfErr result (λ e. e ≡ Failure.Memory) }
 {
     let mut left = scope;
     for turn in own..listed.len() {
         let place = listed[turn];
-        let prefix = names[place as usize].name;
-        left = hide(names, listed, scopes, present, left, prefix)?;
+        let prefix = namespaces[place as usize].name;
+        left = hide(namespaces, listed, scopes, present, left, prefix)?;
     }
     if xml {
-        left = hide(names, listed, scopes, present, left, Some("xml"))?;
+        left = hide(namespaces, listed, scopes, present, left, Some("xml"))?;
     }
     Ok(left)
 }
@@ -146,7 +146,7 @@ fn hide_own<'input>(
 /// The scope of an element whose own declarations are those from `own` on, and `xml` if the flag says so, below one of a scope
 /// that lists many, whose prefixes have their places.
 pub fn listed_below_many<'input>(
-    names: &[Namespace<'input>],
+    namespaces: &[Namespace<'input>],
     listed: &mut Vec<u16>,
     scopes: &mut Vec<Scope>,
     present: &PrefixBindings<'input>,
@@ -154,19 +154,19 @@ pub fn listed_below_many<'input>(
     own: usize,
     xml: bool,
 ) -> Result<u32, Failure>
-    requires places { ArePlaces (length names.now) listed.old.items }
+    requires places { ArePlaces (length namespaces.now) listed.old.items }
     requires scopes { AreScopes (length listed.old.items) scopes.old.items }
     requires above { above < length scopes.old.items }
     requires own { own ≤ length listed.old.items }
-    requires once { PrefixesOnce (entries (map namespace_view names.now) (places_in listed.old.items scopes.old.items above)) }
-    requires bound { IsBound (map namespace_view names.now) (bound_place present.now) (entries (map namespace_view names.now) (places_in listed.old.items scopes.old.items above)) }
-    ensures value { IfOk result (λ s. IsListed (map namespace_view names.now) listed.old.items scopes.old.items listed.new.items scopes.new.items s
-        (entries (map namespace_view names.now) (drop own listed.old.items)
-        ++ others (entries (map namespace_view names.now) (drop own listed.old.items)) xml (entries (map namespace_view names.now) (places_in listed.old.items scopes.old.items above)))) }
+    requires once { PrefixesOnce (entries (map namespace_view namespaces.now) (places_in listed.old.items scopes.old.items above)) }
+    requires bound { IsBound (map namespace_view namespaces.now) (bound_place present.now) (entries (map namespace_view namespaces.now) (places_in listed.old.items scopes.old.items above)) }
+    ensures value { IfOk result (λ s. IsListed (map namespace_view namespaces.now) listed.old.items scopes.old.items listed.new.items scopes.new.items s
+        (entries (map namespace_view namespaces.now) (drop own listed.old.items)
+        ++ others (entries (map namespace_view namespaces.now) (drop own listed.old.items)) xml (entries (map namespace_view namespaces.now) (places_in listed.old.items scopes.old.items above)))) }
     ensures own { OnOk result (listed.new.items ≡ listed.old.items ++ reverse (drop own listed.old.items)) }
     ensures err { IfErr result (λ e. e ≡ Failure.Memory) }
 {
-    let rest = hide_own(names, listed, scopes, present, above, own, xml)?;
+    let rest = hide_own(namespaces, listed, scopes, present, above, own, xml)?;
     let first = add_back(listed, scopes, own)?;
     let place = both(scopes, first, rest)?;
     Ok(place)
@@ -175,7 +175,7 @@ pub fn listed_below_many<'input>(
 /// The scope of an element below one with the scope `above`, which is a stretch of few, as it is for `scope_of_tag`.
 fn scope_below_few<'input>(
     elements: &mut ElementTables<'input>,
-    many: &BTreeSet<Option<&'input str>>,
+    prefix_set: &BTreeSet<Option<&'input str>>,
     above: u32,
     stretch: Stretch,
     own: usize,
@@ -183,14 +183,14 @@ fn scope_below_few<'input>(
 ) -> Result<u32, Failure>
     requires places { ArePlaces (length elements.old.namespaces.items.items) elements.old.listed.items }
     requires own { own ≤ length elements.old.listed.items }
-    requires many { IsPrefixSet (map namespace_view elements.old.namespaces.items.items) (drop own elements.old.listed.items) many.now.keys }
+    requires prefix_set { IsPrefixSet (map namespace_view elements.old.namespaces.items.items) (drop own elements.old.listed.items) prefix_set.now.keys }
     requires scopes { AreScopes own elements.old.scopes.items }
     requires above { above < length elements.old.scopes.items }
     requires few { Scope.Few stretch ≡ slice_index_or elements.old.scopes.items above (Scope.Few stretch) }
     requires once { PrefixesOnce (scope_at (lists_in elements.old) above) }
     requires own_once { PrefixesOnce (entries (map namespace_view elements.old.namespaces.items.items) (drop own elements.old.listed.items)) }
     requires kept { HasBindings elements.old }
-    ensures names { elements.new.namespaces ≡ elements.old.namespaces }
+    ensures namespaces { elements.new.namespaces ≡ elements.old.namespaces }
     ensures attributes { elements.new.attributes ≡ elements.old.attributes }
     ensures value { IfOk result (λ s. HasScope elements.old elements.new above own xml s) }
     ensures err { IfErr result (λ e. e ≡ Failure.Memory) }
@@ -199,7 +199,7 @@ fn scope_below_few<'input>(
         elements.namespaces.as_slice(),
         &mut elements.listed,
         &mut elements.scopes,
-        many,
+        prefix_set,
         stretch,
         own,
         xml,
@@ -230,7 +230,7 @@ fn scope_below_many<'input>(
     requires once { PrefixesOnce (scope_at (lists_in elements.old) above) }
     requires own_once { PrefixesOnce (entries (map namespace_view elements.old.namespaces.items.items) (drop own elements.old.listed.items)) }
     requires kept { HasBindings elements.old }
-    ensures names { elements.new.namespaces ≡ elements.old.namespaces }
+    ensures namespaces { elements.new.namespaces ≡ elements.old.namespaces }
     ensures attributes { elements.new.attributes ≡ elements.old.attributes }
     ensures value { IfOk result (λ s. HasScope elements.old elements.new above own xml s) }
     ensures err { IfErr result (λ e. e ≡ Failure.Memory) }
@@ -270,26 +270,26 @@ fn scope_below_many<'input>(
 #[inline(never)]
 fn scope_below<'input>(
     elements: &mut ElementTables<'input>,
-    many: &BTreeSet<Option<&'input str>>,
+    prefix_set: &BTreeSet<Option<&'input str>>,
     above: u32,
     own: usize,
     xml: bool,
 ) -> Result<u32, Failure>
     requires places { ArePlaces (length elements.old.namespaces.items.items) elements.old.listed.items }
     requires own { own ≤ length elements.old.listed.items }
-    requires many { IsPrefixSet (map namespace_view elements.old.namespaces.items.items) (drop own elements.old.listed.items) many.now.keys }
+    requires prefix_set { IsPrefixSet (map namespace_view elements.old.namespaces.items.items) (drop own elements.old.listed.items) prefix_set.now.keys }
     requires scopes { AreScopes own elements.old.scopes.items }
     requires above { above < length elements.old.scopes.items }
     requires once { PrefixesOnce (scope_at (lists_in elements.old) above) }
     requires own_once { PrefixesOnce (entries (map namespace_view elements.old.namespaces.items.items) (drop own elements.old.listed.items)) }
     requires kept { HasBindings elements.old }
-    ensures names { elements.new.namespaces ≡ elements.old.namespaces }
+    ensures namespaces { elements.new.namespaces ≡ elements.old.namespaces }
     ensures attributes { elements.new.attributes ≡ elements.old.attributes }
     ensures value { IfOk result (λ s. HasScope elements.old elements.new above own xml s) }
     ensures err { IfErr result (λ e. e ≡ Failure.Memory) }
 {
     if let Scope::Few(stretch) = elements.scopes[above as usize] {
-        return scope_below_few(elements, many, above, stretch, own, xml);
+        return scope_below_few(elements, prefix_set, above, stretch, own, xml);
     }
     scope_below_many(elements, above, own, xml)
 }
@@ -300,20 +300,20 @@ fn scope_below<'input>(
 #[inline(always)]
 pub fn scope_of_tag<'input>(
     elements: &mut ElementTables<'input>,
-    many: &BTreeSet<Option<&'input str>>,
+    prefix_set: &BTreeSet<Option<&'input str>>,
     above: u32,
     own: usize,
     xml: bool,
 ) -> Result<u32, Failure>
     requires places { ArePlaces (length elements.old.namespaces.items.items) elements.old.listed.items }
     requires own { own ≤ length elements.old.listed.items }
-    requires many { IsPrefixSet (map namespace_view elements.old.namespaces.items.items) (drop own elements.old.listed.items) many.now.keys }
+    requires prefix_set { IsPrefixSet (map namespace_view elements.old.namespaces.items.items) (drop own elements.old.listed.items) prefix_set.now.keys }
     requires scopes { AreScopes own elements.old.scopes.items }
     requires above { above < length elements.old.scopes.items }
     requires once { PrefixesOnce (scope_at (lists_in elements.old) above) }
     requires own_once { PrefixesOnce (entries (map namespace_view elements.old.namespaces.items.items) (drop own elements.old.listed.items)) }
     requires kept { HasBindings elements.old }
-    ensures names { elements.new.namespaces ≡ elements.old.namespaces }
+    ensures namespaces { elements.new.namespaces ≡ elements.old.namespaces }
     ensures attributes { elements.new.attributes ≡ elements.old.attributes }
     ensures value { IfOk result (λ s. HasScope elements.old elements.new above own xml s) }
     ensures err { IfErr result (λ e. e ≡ Failure.Memory) }
@@ -323,5 +323,5 @@ pub fn scope_of_tag<'input>(
             return Ok(above);
         }
     }
-    scope_below(elements, many, above, own, xml)
+    scope_below(elements, prefix_set, above, own, xml)
 }

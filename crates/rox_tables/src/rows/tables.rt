@@ -67,14 +67,14 @@ pub enum NodeKind<'input> {
     PI(PI<'input>),
 }
 
-/// A node: 80 bytes. `parent`, `next` and `depth` are its only links: the id of its parent (0 at the root node too), the id
+/// A node: 80 bytes. `parent`, `subtree_end` and `depth` are its only links: the id of its parent (0 at the root node too), the id
 /// past its last descendant, and how many nodes are above it.
 #[derive(Drop)]
 pub struct NodeData<'input> {
     pub start: usize,
     pub end: usize,
     pub parent: u32,
-    pub next: u32,
+    pub subtree_end: u32,
     pub depth: u32,
     pub kind: NodeKind<'input>,
 }

@@ -18,11 +18,11 @@ replaced : (main : Bool) (o : Open) → main ≡ false → fault.UnexpectedEndOf
 replaced true o m = cc m
 replaced false o m = refl
 
-pub returns-then-not-how : goal.returns-then-not-how
-returns-then-not-how c = λ end o done sh. replaced c.args.how.main o c.if-not-how.true
+pub returns-then-not-context : goal.returns-then-not-context
+returns-then-not-context c = λ end o done sh. replaced c.args.context.main o c.if-not-context.true
 
 pub returns-then-is_at_root : goal.returns-then-is_at_root
-returns-then-is_at_root c = λ end o done sh. at_root c.args.how.main o c.if-not-how.false (sym (c.if-is_at_root.ensures end o done sh))
+returns-then-is_at_root c = λ end o done sh. at_root c.args.context.main o c.if-not-context.false (sym (c.if-is_at_root.ensures end o done sh))
 
 pub returns-else-is_at_root : goal.returns-else-is_at_root
-returns-else-is_at_root c = λ end o done sh. not_at_root c.args.how.main o c.if-not-how.false (sym (c.if-is_at_root.ensures end o done sh))
+returns-else-is_at_root c = λ end o done sh. not_at_root c.args.context.main o c.if-not-context.false (sym (c.if-is_at_root.ensures end o done sh))

@@ -17,7 +17,7 @@ use Rattle.rox_build.proofs.Opening.{grown_by, is_node, is_opening, fine_by, fin
 use Rattle.rox_build.proofs.constructs.element.Goals as goal
 
 abbrev with_left : ℕ → State → State
-with_left left s = record { at = s.at; done = s.done; stack = s.stack; left = left }
+with_left openings_left s = record { at = s.at; done = s.done; stack = s.stack; openings_left = openings_left }
 
 pub start_tag-requires-clause-once : goal.start_tag-requires-clause-once
 start_tag-requires-clause-once c = c.scope-above.ensures.once c.requires.fine
@@ -25,12 +25,12 @@ start_tag-requires-clause-once c = c.scope-above.ensures.once c.requires.fine
 pub returns-in_err-tag-clause-value : goal.returns-in_err-tag-clause-value
 returns-in_err-tag-clause-value c = λ limit end es s declared h.
     let p = err_from_is_err_and c.from_residual.result c.from_residual.ensures.1 in
-    rw (p.1, p.2) (tag_fails (context_of limit es c.args.how) c.args.cursor.now.text.now s c.args.cursor.now.pos _ _ _ _ c.in_err-tag.field-0.0 h.here (c.cut_off_fault-cut.ensures end s.stack s.done h.shows)
-    (c.scope-above.ensures.value c.requires.fine end s.stack s.done h.shows) h.attributes h.names (rw h.left_is at (c.in_err-tag.ensures.value es declared)))
+    rw (p.1, p.2) (tag_fails (context_of limit es c.args.context) c.args.cursor.now.text.now s c.args.cursor.now.pos _ _ _ _ c.in_err-tag.field-0.0 h.here (c.cut_off_fault-cut.ensures end s.stack s.done h.shows)
+    (c.scope-above.ensures.value c.requires.fine end s.stack s.done h.shows) h.attributes h.namespaces (rw h.openings_left_is at (c.in_err-tag.ensures.value es declared)))
 
 pub returns-then-tag-clause-value : goal.returns-then-tag-clause-value
 returns-then-tag-clause-value c = λ limit end es s declared h.
-    let v = rw h.left_is at (c.in_ok-tag.ensures.value es declared) in
+    let v = rw h.openings_left_is at (c.in_ok-tag.ensures.value es declared) in
     let b = c.args.builder.now in
     let old = b.tables in
     let new = c.start_tag.new.elements in
@@ -42,15 +42,15 @@ returns-then-tag-clause-value c = λ limit end es s declared h.
     let shows = grown_shows end s.stack s.done b _ h.shows c.requires.fine.sound c.requires.fine.elements (grown_by old new t (scope_of s.stack) v.0 tg) refl refl refl refl in
     let node : IsNode new (scope_of s.stack) pos d.pos (kind.Element t.element) (Element s.at d.pos v.0) =
     subst (λ (n : ℕ). IsNode new (scope_of s.stack) pos d.pos (kind.Element t.element) (Element n d.pos v.0)) h.here (is_node old new t (scope_of s.stack) v.0 pos d.pos tg) in
-    let adds = c.leaf.ensures.value end d.pos (with_left t.left s) (Element s.at d.pos v.0) shows node in
-    rw (tag_is (context_of limit es c.args.how) c.args.cursor.now.text.now s pos _ _ _ _ v.0 t.empty t.left d.pos h.here (c.cut_off_fault-cut.ensures end s.stack s.done h.shows) sc h.attributes h.names v.1
-    ∙ ap (λ (e : Bool). lifted (opened_by limit s v.0 e t.left d.pos)) c.if-tag.true)
-    (subst (λ r. ScansTo limit end r d c.leaf.new.self (lifted (opened_by limit s v.0 true t.left d.pos))) c.in_ok-leaf.was
-    (empty_stepped limit end t.left s d old new b.nodes_limit c.leaf.new.self c.leaf.result t (scope_of s.stack) v.0 tg h.names h.attributes h.limit_is c.leaf.ensures.left c.leaf.ensures.tables c.leaf.ensures.limit adds))
+    let adds = c.leaf.ensures.value end d.pos (with_left t.openings_left s) (Element s.at d.pos v.0) shows node in
+    rw (tag_is (context_of limit es c.args.context) c.args.cursor.now.text.now s pos _ _ _ _ v.0 t.empty t.openings_left d.pos h.here (c.cut_off_fault-cut.ensures end s.stack s.done h.shows) sc h.attributes h.namespaces v.1
+    ∙ ap (λ (e : Bool). lifted (opened_by limit s v.0 e t.openings_left d.pos)) c.if-tag.true)
+    (subst (λ r. ScansTo limit end r d c.leaf.new.self (lifted (opened_by limit s v.0 true t.openings_left d.pos))) c.in_ok-leaf.was
+    (empty_stepped limit end t.openings_left s d old new b.nodes_limit c.leaf.new.self c.leaf.result t (scope_of s.stack) v.0 tg h.namespaces h.attributes h.limit_is c.leaf.ensures.openings_left c.leaf.ensures.tables c.leaf.ensures.limit adds))
 
 pub returns-in_err-leaf-clause-value : goal.returns-in_err-leaf-clause-value
 returns-in_err-leaf-clause-value c = λ limit end es s declared h.
-    let v = rw h.left_is at (c.in_ok-tag.ensures.value es declared) in
+    let v = rw h.openings_left_is at (c.in_ok-tag.ensures.value es declared) in
     let b = c.args.builder.now in
     let old = b.tables in
     let new = c.start_tag.new.elements in
@@ -62,20 +62,20 @@ returns-in_err-leaf-clause-value c = λ limit end es s declared h.
     let shows = grown_shows end s.stack s.done b _ h.shows c.requires.fine.sound c.requires.fine.elements (grown_by old new t (scope_of s.stack) v.0 tg) refl refl refl refl in
     let node : IsNode new (scope_of s.stack) pos d.pos (kind.Element t.element) (Element s.at d.pos v.0) =
     subst (λ (n : ℕ). IsNode new (scope_of s.stack) pos d.pos (kind.Element t.element) (Element n d.pos v.0)) h.here (is_node old new t (scope_of s.stack) v.0 pos d.pos tg) in
-    let adds = c.leaf.ensures.value end d.pos (with_left t.left s) (Element s.at d.pos v.0) shows node in
+    let adds = c.leaf.ensures.value end d.pos (with_left t.openings_left s) (Element s.at d.pos v.0) shows node in
     let p = err_from_is_err_and c.from_residual-in_err-leaf.result c.from_residual-in_err-leaf.ensures.1 in
     rw (
       p.1,
       p.2,
-      tag_is (context_of limit es c.args.how) c.args.cursor.now.text.now s pos _ _ _ _ v.0 t.empty t.left d.pos h.here (c.cut_off_fault-cut.ensures end s.stack s.done h.shows) sc h.attributes h.names v.1
-          ∙ ap (λ (e : Bool). lifted (opened_by limit s v.0 e t.left d.pos)) c.if-tag.true,
+      tag_is (context_of limit es c.args.context) c.args.cursor.now.text.now s pos _ _ _ _ v.0 t.empty t.openings_left d.pos h.here (c.cut_off_fault-cut.ensures end s.stack s.done h.shows) sc h.attributes h.namespaces v.1
+          ∙ ap (λ (e : Bool). lifted (opened_by limit s v.0 e t.openings_left d.pos)) c.if-tag.true,
     )
-    (refused_too c.in_err-leaf.field-0.0 (lifted (opened_by limit s v.0 true t.left d.pos)) (subst (λ r. ScansTo limit end r d c.leaf.new.self (lifted (opened_by limit s v.0 true t.left d.pos))) c.in_err-leaf.was
-    (empty_stepped limit end t.left s d old new b.nodes_limit c.leaf.new.self c.leaf.result t (scope_of s.stack) v.0 tg h.names h.attributes h.limit_is c.leaf.ensures.left c.leaf.ensures.tables c.leaf.ensures.limit adds)))
+    (refused_too c.in_err-leaf.field-0.0 (lifted (opened_by limit s v.0 true t.openings_left d.pos)) (subst (λ r. ScansTo limit end r d c.leaf.new.self (lifted (opened_by limit s v.0 true t.openings_left d.pos))) c.in_err-leaf.was
+    (empty_stepped limit end t.openings_left s d old new b.nodes_limit c.leaf.new.self c.leaf.result t (scope_of s.stack) v.0 tg h.namespaces h.attributes h.limit_is c.leaf.ensures.openings_left c.leaf.ensures.tables c.leaf.ensures.limit adds)))
 
 pub returns-clause-value : goal.returns-clause-value
 returns-clause-value c = λ limit end es s declared h.
-    let v = rw h.left_is at (c.in_ok-tag.ensures.value es declared) in
+    let v = rw h.openings_left_is at (c.in_ok-tag.ensures.value es declared) in
     let b = c.args.builder.now in
     let old = b.tables in
     let new = c.start_tag.new.elements in
@@ -85,15 +85,15 @@ returns-clause-value c = λ limit end es s declared h.
     let sc = c.scope-above.ensures.value c.requires.fine end s.stack s.done h.shows in
     let tg : Tagged old new t (scope_of s.stack) v.0 = subst (λ (a : List NamespaceDecl). Tagged old new t a v.0) sc v.2 in
     let shows = grown_shows end s.stack s.done b _ h.shows c.requires.fine.sound c.requires.fine.elements (grown_by old new t (scope_of s.stack) v.0 tg) refl refl refl refl in
-    let adds = c.open_element.ensures.value end d.pos t.left s v.0 shows (sym h.here) (is_opening old new t (scope_of s.stack) v.0 pos tg c.in_ok-tag.ensures.starts) in
-    rw (tag_is (context_of limit es c.args.how) c.args.cursor.now.text.now s pos _ _ _ _ v.0 t.empty t.left d.pos h.here (c.cut_off_fault-cut.ensures end s.stack s.done h.shows) sc h.attributes h.names v.1
-    ∙ ap (λ (e : Bool). lifted (opened_by limit s v.0 e t.left d.pos)) c.if-tag.false)
-    (subst (λ r. ScansTo limit end r d c.open_element.new.self (lifted (opened_by limit s v.0 false t.left d.pos))) c.in_ok-open_element.was
-    (open_stepped limit end t.left s d old new b.nodes_limit c.open_element.new.self c.open_element.result t (scope_of s.stack) v.0 tg h.names h.attributes h.limit_is c.open_element.ensures.left c.open_element.ensures.tables c.open_element.ensures.limit adds))
+    let adds = c.open_element.ensures.value end d.pos t.openings_left s v.0 shows (sym h.here) (is_opening old new t (scope_of s.stack) v.0 pos tg c.in_ok-tag.ensures.starts) in
+    rw (tag_is (context_of limit es c.args.context) c.args.cursor.now.text.now s pos _ _ _ _ v.0 t.empty t.openings_left d.pos h.here (c.cut_off_fault-cut.ensures end s.stack s.done h.shows) sc h.attributes h.namespaces v.1
+    ∙ ap (λ (e : Bool). lifted (opened_by limit s v.0 e t.openings_left d.pos)) c.if-tag.false)
+    (subst (λ r. ScansTo limit end r d c.open_element.new.self (lifted (opened_by limit s v.0 false t.openings_left d.pos))) c.in_ok-open_element.was
+    (open_stepped limit end t.openings_left s d old new b.nodes_limit c.open_element.new.self c.open_element.result t (scope_of s.stack) v.0 tg h.namespaces h.attributes h.limit_is c.open_element.ensures.openings_left c.open_element.ensures.tables c.open_element.ensures.limit adds))
 
 pub returns-in_err-open_element-clause-value : goal.returns-in_err-open_element-clause-value
 returns-in_err-open_element-clause-value c = λ limit end es s declared h.
-    let v = rw h.left_is at (c.in_ok-tag.ensures.value es declared) in
+    let v = rw h.openings_left_is at (c.in_ok-tag.ensures.value es declared) in
     let b = c.args.builder.now in
     let old = b.tables in
     let new = c.start_tag.new.elements in
@@ -103,20 +103,20 @@ returns-in_err-open_element-clause-value c = λ limit end es s declared h.
     let sc = c.scope-above.ensures.value c.requires.fine end s.stack s.done h.shows in
     let tg : Tagged old new t (scope_of s.stack) v.0 = subst (λ (a : List NamespaceDecl). Tagged old new t a v.0) sc v.2 in
     let shows = grown_shows end s.stack s.done b _ h.shows c.requires.fine.sound c.requires.fine.elements (grown_by old new t (scope_of s.stack) v.0 tg) refl refl refl refl in
-    let adds = c.open_element.ensures.value end d.pos t.left s v.0 shows (sym h.here) (is_opening old new t (scope_of s.stack) v.0 pos tg c.in_ok-tag.ensures.starts) in
+    let adds = c.open_element.ensures.value end d.pos t.openings_left s v.0 shows (sym h.here) (is_opening old new t (scope_of s.stack) v.0 pos tg c.in_ok-tag.ensures.starts) in
     let p = err_from_is_err_and c.from_residual-in_err-open_element.result c.from_residual-in_err-open_element.ensures.1 in
     rw (
       p.1,
       p.2,
-      tag_is (context_of limit es c.args.how) c.args.cursor.now.text.now s pos _ _ _ _ v.0 t.empty t.left d.pos h.here (c.cut_off_fault-cut.ensures end s.stack s.done h.shows) sc h.attributes h.names v.1
-          ∙ ap (λ (e : Bool). lifted (opened_by limit s v.0 e t.left d.pos)) c.if-tag.false,
+      tag_is (context_of limit es c.args.context) c.args.cursor.now.text.now s pos _ _ _ _ v.0 t.empty t.openings_left d.pos h.here (c.cut_off_fault-cut.ensures end s.stack s.done h.shows) sc h.attributes h.namespaces v.1
+          ∙ ap (λ (e : Bool). lifted (opened_by limit s v.0 e t.openings_left d.pos)) c.if-tag.false,
     )
-    (refused_too c.in_err-open_element.field-0.0 (lifted (opened_by limit s v.0 false t.left d.pos)) (subst (λ r. ScansTo limit end r d c.open_element.new.self (lifted (opened_by limit s v.0 false t.left d.pos))) c.in_err-open_element.was
-    (open_stepped limit end t.left s d old new b.nodes_limit c.open_element.new.self c.open_element.result t (scope_of s.stack) v.0 tg h.names h.attributes h.limit_is c.open_element.ensures.left c.open_element.ensures.tables c.open_element.ensures.limit adds)))
+    (refused_too c.in_err-open_element.field-0.0 (lifted (opened_by limit s v.0 false t.openings_left d.pos)) (subst (λ r. ScansTo limit end r d c.open_element.new.self (lifted (opened_by limit s v.0 false t.openings_left d.pos))) c.in_err-open_element.was
+    (open_stepped limit end t.openings_left s d old new b.nodes_limit c.open_element.new.self c.open_element.result t (scope_of s.stack) v.0 tg h.namespaces h.attributes h.limit_is c.open_element.ensures.openings_left c.open_element.ensures.tables c.open_element.ensures.limit adds)))
 
 pub returns-then-tag-clause-fine : goal.returns-then-tag-clause-fine
 returns-then-tag-clause-fine c =
-    let d = some_declare c.args.how.entities.now in
+    let d = some_declare c.args.context.entities.now in
     let v = c.in_ok-tag.ensures.value d.0 d.1 in
     let b = c.args.builder.now in
     subst (λ r. OnOk r (IsConsistent c.leaf.new.self.tables c.leaf.new.self.opened.items)) c.in_ok-leaf.was
@@ -125,7 +125,7 @@ returns-then-tag-clause-fine c =
 
 pub returns-clause-fine : goal.returns-clause-fine
 returns-clause-fine c =
-    let d = some_declare c.args.how.entities.now in
+    let d = some_declare c.args.context.entities.now in
     let v = c.in_ok-tag.ensures.value d.0 d.1 in
     let b = c.args.builder.now in
     subst (λ r. OnOk r (IsConsistent c.open_element.new.self.tables c.open_element.new.self.opened.items)) c.in_ok-open_element.was

@@ -19,10 +19,10 @@ use Rattle.rox_build.proofs.constructs.end_tag.Goals as goal
 pub returns-in_err-tag-clause-value : goal.returns-in_err-tag-clause-value
 returns-in_err-tag-clause-value c = λ limit end es s h.
     let p = err_from_is_err_and c.from_residual.result c.from_residual.ensures.1 in
-    rw (p.1, p.2) (ap lifted (end_fails (context_of limit es c.args.how) c.args.cursor.now.text.now s c.args.cursor.now.pos c.in_err-tag.field-0.0 h.here c.in_err-tag.ensures.value))
+    rw (p.1, p.2) (ap lifted (end_fails (context_of limit es c.args.context) c.args.cursor.now.text.now s c.args.cursor.now.pos c.in_err-tag.field-0.0 h.here c.in_err-tag.ensures.value))
 
-pub returns-then-len-how-clause-value : goal.returns-then-len-how-clause-value
-returns-then-len-how-clause-value c = λ limit end es s h.
+pub returns-then-len-context-clause-value : goal.returns-then-len-context-clause-value
+returns-then-len-context-clause-value c = λ limit end es s h.
     let src = c.args.cursor.now.text.now in
     let b = c.args.builder.now in
     let pos = c.args.cursor.now.pos in
@@ -30,8 +30,8 @@ returns-then-len-how-clause-value c = λ limit end es s h.
     let t = end_tag_view c.in_ok-tag.tag in
     let k = opened_deep end s.stack s.done b h.shows in
     let l = c.len.ensures in
-    let m = c.if-len-how.true in
-    ap lifted (end_below (context_of limit es c.args.how) src s pos j t h.here c.in_ok-tag.ensures.value (le-leb _ _ (omega arith)))
+    let m = c.if-len-context.true in
+    ap lifted (end_below (context_of limit es c.args.context) src s pos j t h.here c.in_ok-tag.ensures.value (le-leb _ _ (omega arith)))
 
 nothing_last : (os : List OpenElement) → slice_get os (length os - 1) ≡ None → os ≡ []
 nothing_last [] h = refl
@@ -46,8 +46,8 @@ returns-in_default-clause-value c = λ limit end es s h.
     let t = end_tag_view c.in_ok-tag.tag in
     let os = c.deref.result.now in
     let e : b.opened.items ≡ [] = sym c.deref.ensures.value ∙ nothing_last os (sym c.in_default.ensures.value) in
-    ap lifted (end_is (context_of limit es c.args.how) src s pos j t h.here c.in_ok-tag.ensures.value (let k = opened_deep end s.stack s.done b h.shows in let l = c.len.ensures in let m = c.if-len-how.false in lt-leb _ _ (omega arith))
-    ∙ closed_at_root b.tables s.stack pos t.name_end j t.name s.done s.left (sym (ap (opened_in b.tables) e) ∙ h.shows.open_rows))
+    ap lifted (end_is (context_of limit es c.args.context) src s pos j t h.here c.in_ok-tag.ensures.value (let k = opened_deep end s.stack s.done b h.shows in let l = c.len.ensures in let m = c.if-len-context.false in lt-leb _ _ (omega arith))
+    ∙ closed_at_root b.tables s.stack pos t.name_end j t.name s.done s.openings_left (sym (ap (opened_in b.tables) e) ∙ h.shows.open_rows))
 
 pub returns-then-not-same_qname-clause-value : goal.returns-then-not-same_qname-clause-value
 returns-then-not-same_qname-clause-value c = λ limit end es s h.
@@ -64,8 +64,8 @@ returns-then-not-same_qname-clause-value c = λ limit end es s h.
     let other = sym c.same_qname.ensures ∙ c.if-not-same_qname.true in
     let x = c.name_span-expected.ensures in
     let y = c.name_span-found.ensures in
-    ap lifted (end_is (context_of limit es c.args.how) src s pos j t h.here c.in_ok-tag.ensures.value (let k = opened_deep end s.stack s.done b h.shows in let l = c.len.ensures in let m = c.if-len-how.false in lt-leb _ _ (omega arith))
-    ∙ closed_other b.tables s.stack outer o pos t.name_end j t.name s.done s.left (sym (ap (opened_in b.tables) split) ∙ h.shows.open_rows) other)
+    ap lifted (end_is (context_of limit es c.args.context) src s pos j t h.here c.in_ok-tag.ensures.value (let k = opened_deep end s.stack s.done b h.shows in let l = c.len.ensures in let m = c.if-len-context.false in lt-leb _ _ (omega arith))
+    ∙ closed_other b.tables s.stack outer o pos t.name_end j t.name s.done s.openings_left (sym (ap (opened_in b.tables) split) ∙ h.shows.open_rows) other)
     ∙ sym (ap (λ (sp : Span). Err (here (fault.UnexpectedCloseTag sp c.name_span-found.result pos))) x ∙ ap (λ (sp : Span). Err (here (fault.UnexpectedCloseTag (name_span (name_view o.name) o.name_start o.name_end) sp pos))) y)
 
 pub returns-clause-value : goal.returns-clause-value
@@ -81,5 +81,5 @@ returns-clause-value c = λ limit end es s h.
     let outer = take (length os - 1) os in
     let split : b.opened.items ≡ outer ++ o ∷ [] = sym c.deref.ensures.value ∙ last_split os o k.3.0 (k.3.1 o) in
     let same = sym c.same_qname.ensures ∙ c.if-not-same_qname.false in
-    rw (end_is (context_of limit es c.args.how) src s pos d.pos t h.here c.in_ok-tag.ensures.value (let k = opened_deep end s.stack s.done b h.shows in let l = c.len.ensures in let m = c.if-len-how.false in lt-leb _ _ (omega arith)))
-    (closed_stepped limit end s c.args.cursor.now d b c.close.new.self outer o pos t.name_end t.name h split same c.close.ensures.tables c.close.ensures.limit c.close.ensures.left c.in_ok-close.ensures.ok)
+    rw (end_is (context_of limit es c.args.context) src s pos d.pos t h.here c.in_ok-tag.ensures.value (let k = opened_deep end s.stack s.done b h.shows in let l = c.len.ensures in let m = c.if-len-context.false in lt-leb _ _ (omega arith)))
+    (closed_stepped limit end s c.args.cursor.now d b c.close.new.self outer o pos t.name_end t.name h split same c.close.ensures.tables c.close.ensures.limit c.close.ensures.openings_left c.in_ok-close.ensures.ok)

@@ -16,7 +16,7 @@ pub returns-then-next-eq63-clause-value : goal.returns-then-next-eq63-clause-val
 returns-then-next-eq63-clause-value c = λ limit end es s declared h.
     let e = c.as_bytes-bytes.ensures.value in
     let i = c.args.cursor.now.pos in
-    rw (step_is_markup (context_of limit es c.args.how) c.args.cursor.now.text.now c.args.cursor.now.text.now s i 63 refl h.here c.requires.here c.requires.there (ap (λ (xs : List ℕ). slice_index xs (i + 1)) (sym e) ∙ c.if-next-eq63.true) (λ e. cc e))
+    rw (step_is_markup (context_of limit es c.args.context) c.args.cursor.now.text.now c.args.cursor.now.text.now s i 63 refl h.here c.requires.here c.requires.there (ap (λ (xs : List ℕ). slice_index xs (i + 1)) (sym e) ∙ c.if-next-eq63.true) (λ e. cc e))
     (c.in_ok-instruction.ensures.value limit end s h)
 
 pub returns-clause-value : goal.returns-clause-value
@@ -25,16 +25,16 @@ returns-clause-value c = λ limit end es s declared h.
     let i = c.args.cursor.now.pos in
     let b = slice_index c.as_bytes-bytes.result.now (i + 1) in
     let same = ap (λ (xs : List ℕ). slice_index xs (i + 1)) e in
-    let x = step_is_markup (context_of limit es c.args.how) c.args.cursor.now.text.now c.args.cursor.now.text.now s i b refl h.here c.requires.here c.requires.there (sym same) c.if-next-eq33.false in
+    let x = step_is_markup (context_of limit es c.args.context) c.args.cursor.now.text.now c.args.cursor.now.text.now s i b refl h.here c.requires.here c.requires.there (sym same) c.if-next-eq33.false in
     rw (x, ne_eqb b 63 c.if-next-eq63.false, ne_eqb b 47 (λ k. c.requires.no_end_tag (sym same ∙ k))) (c.in_ok-element.ensures.value limit end es s declared h)
 
 pub returns-in_err-comment_or_section-clause-value : goal.returns-in_err-comment_or_section-clause-value
 returns-in_err-comment_or_section-clause-value c = λ limit end es s declared h.
     let p = err_from_is_err_and c.from_residual.result c.from_residual.ensures.1 in
-    rw (p.1, p.2) (refused_too c.in_err-comment_or_section.field-0.0 _ (c.in_err-comment_or_section.ensures.value (context_of limit es c.args.how) end s h))
+    rw (p.1, p.2) (refused_too c.in_err-comment_or_section.field-0.0 _ (c.in_err-comment_or_section.ensures.value (context_of limit es c.args.context) end s h))
 
 pub returns-then-next-eq33-clause-value : goal.returns-then-next-eq33-clause-value
-returns-then-next-eq33-clause-value c = λ limit end es s declared h. c.in_ok-comment_or_section.ensures.value (context_of limit es c.args.how) end s h
+returns-then-next-eq33-clause-value c = λ limit end es s declared h. c.in_ok-comment_or_section.ensures.value (context_of limit es c.args.context) end s h
 
 pub returns-in_err-instruction-clause-value : goal.returns-in_err-instruction-clause-value
 returns-in_err-instruction-clause-value c = λ limit end es s declared h.
@@ -44,6 +44,6 @@ returns-in_err-instruction-clause-value c = λ limit end es s declared h.
     rw (
       p.1,
       p.2,
-      step_is_markup (context_of limit es c.args.how) c.args.cursor.now.text.now c.args.cursor.now.text.now s i 63 refl h.here c.requires.here c.requires.there (ap (λ (xs : List ℕ). slice_index xs (i + 1)) (sym e) ∙ c.if-next-eq63.true) (λ e. cc e),
+      step_is_markup (context_of limit es c.args.context) c.args.cursor.now.text.now c.args.cursor.now.text.now s i 63 refl h.here c.requires.here c.requires.there (ap (λ (xs : List ℕ). slice_index xs (i + 1)) (sym e) ∙ c.if-next-eq63.true) (λ e. cc e),
     )
     (refused_too c.in_err-instruction.field-0.0 _ (c.in_err-instruction.ensures.value limit end s h))

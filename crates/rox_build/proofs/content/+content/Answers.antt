@@ -33,9 +33,9 @@ character_data-returns-then-ends_character_data-clause-value t c = λ limit end 
     let cut = text_cut src e n.within n.stops in
     let here : e < length src → get_or src e 0 ≡ 60 = λ more. stands_here _ _ (sym c.ends_character_data.ensures ∙ c.if-ends_character_data.true) (ne_eqb e (length src) (λ same. absurd (omega arith))) in
     let r = short_run src i e c.args.cursor.now.utf8 c.args.cursor.now.cut n.onward cut n.passes here in
-    let text : ReadText = record { value = slice_range src i e; plain = true } in
-    rw (plain_run (context_of limit es c.args.how) src s i e (slice_range src i e) h.here r.0 r.1)
-    (text_stepped limit end s c.args.cursor.now _ b c.slice_piece.new.self (Ok c.in_ok-slice_piece.field-0) text h c.slice_piece.ensures.tables c.slice_piece.ensures.limit c.slice_piece.ensures.left
+    let text : ReadText = record { value = slice_range src i e; borrowed = true } in
+    rw (plain_run (context_of limit es c.args.context) src s i e (slice_range src i e) h.here r.0 r.1)
+    (text_stepped limit end s c.args.cursor.now _ b c.slice_piece.new.self (Ok c.in_ok-slice_piece.field-0) text h c.slice_piece.ensures.tables c.slice_piece.ensures.limit c.slice_piece.ensures.openings_left
     (rw c.range.ensures.value at (c.in_ok-slice_piece.ensures.value end e s h.shows)))
 
 pub character_data-returns-in_err-slice_piece-clause-value : goal.character_data-returns-in_err-slice_piece-clause-value
@@ -48,17 +48,17 @@ character_data-returns-in_err-slice_piece-clause-value t c = λ limit end es s d
     let cut = text_cut src e n.within n.stops in
     let here : e < length src → get_or src e 0 ≡ 60 = λ more. stands_here _ _ (sym c.ends_character_data.ensures ∙ c.if-ends_character_data.true) (ne_eqb e (length src) (λ same. absurd (omega arith))) in
     let r = short_run src i e c.args.cursor.now.utf8 c.args.cursor.now.cut n.onward cut n.passes here in
-    let text : ReadText = record { value = slice_range src i e; plain = true } in
+    let text : ReadText = record { value = slice_range src i e; borrowed = true } in
     let p = err_from_is_err_and c.from_residual.result c.from_residual.ensures.1 in
-    rw (p.1, p.2, plain_run (context_of limit es c.args.how) src s i e (slice_range src i e) h.here r.0 r.1)
+    rw (p.1, p.2, plain_run (context_of limit es c.args.context) src s i e (slice_range src i e) h.here r.0 r.1)
     (refused_too c.in_err-slice_piece.field-0.0 _
-    (text_stepped limit end s c.args.cursor.now (record { text = c.args.cursor.now.text; pos = e; utf8 = c.args.cursor.now.utf8; cut = cut }) b c.slice_piece.new.self (Err c.in_err-slice_piece.field-0.0) text h c.slice_piece.ensures.tables c.slice_piece.ensures.limit c.slice_piece.ensures.left
+    (text_stepped limit end s c.args.cursor.now (record { text = c.args.cursor.now.text; pos = e; utf8 = c.args.cursor.now.utf8; cut = cut }) b c.slice_piece.new.self (Err c.in_err-slice_piece.field-0.0) text h c.slice_piece.ensures.tables c.slice_piece.ensures.limit c.slice_piece.ensures.openings_left
     (rw c.range.ensures.value at (c.in_err-slice_piece.ensures.value end e s h.shows))))
 
 pub slow_character_data-returns-in_err-raw-clause-value : goal.slow_character_data-returns-in_err-raw-clause-value
 slow_character_data-returns-in_err-raw-clause-value t c = λ limit end es s declared h.
     let p = err_from_is_err_and c.from_residual.result c.from_residual.ensures.1 in
-    rw (p.1, p.2) (run_fails (context_of limit es c.args.how) c.args.cursor.now.text.now s c.args.cursor.now.pos c.in_err-raw.field-0.0 h.here c.in_err-raw.ensures.value)
+    rw (p.1, p.2) (run_fails (context_of limit es c.args.context) c.args.cursor.now.text.now s c.args.cursor.now.pos c.in_err-raw.field-0.0 h.here c.in_err-raw.ensures.value)
 
 pub slow_character_data-returns-then-raw-clause-value : goal.slow_character_data-returns-then-raw-clause-value
 slow_character_data-returns-then-raw-clause-value t c = λ limit end es s declared h.
@@ -66,10 +66,10 @@ slow_character_data-returns-then-raw-clause-value t c = λ limit end es s declar
     let b = c.args.builder.now in
     let raw = c.in_ok-raw.raw.text.now in
     let j = c.raw_character_data.new.cursor.pos in
-    let plain : is_verbatim raw ≡ true = sym c.in_ok-raw.ensures.plain ∙ c.if-raw.true in
-    let text : ReadText = record { value = raw; plain = true } in
-    rw (plain_run (context_of limit es c.args.how) src s c.args.cursor.now.pos j raw h.here c.in_ok-raw.ensures.value plain)
-    (text_stepped limit end s c.args.cursor.now c.raw_character_data.new.cursor b c.slice_piece.new.self (Ok c.in_ok-slice_piece.field-0) text h c.slice_piece.ensures.tables c.slice_piece.ensures.limit c.slice_piece.ensures.left
+    let plain : is_verbatim raw ≡ true = sym c.in_ok-raw.ensures.verbatim ∙ c.if-raw.true in
+    let text : ReadText = record { value = raw; borrowed = true } in
+    rw (plain_run (context_of limit es c.args.context) src s c.args.cursor.now.pos j raw h.here c.in_ok-raw.ensures.value plain)
+    (text_stepped limit end s c.args.cursor.now c.raw_character_data.new.cursor b c.slice_piece.new.self (Ok c.in_ok-slice_piece.field-0) text h c.slice_piece.ensures.tables c.slice_piece.ensures.limit c.slice_piece.ensures.openings_left
     (c.in_ok-slice_piece.ensures.value end j s h.shows))
 
 pub slow_character_data-returns-in_err-slice_piece-clause-value : goal.slow_character_data-returns-in_err-slice_piece-clause-value
@@ -78,12 +78,12 @@ slow_character_data-returns-in_err-slice_piece-clause-value t c = λ limit end e
     let b = c.args.builder.now in
     let raw = c.in_ok-raw.raw.text.now in
     let j = c.raw_character_data.new.cursor.pos in
-    let plain : is_verbatim raw ≡ true = sym c.in_ok-raw.ensures.plain ∙ c.if-raw.true in
-    let text : ReadText = record { value = raw; plain = true } in
+    let plain : is_verbatim raw ≡ true = sym c.in_ok-raw.ensures.verbatim ∙ c.if-raw.true in
+    let text : ReadText = record { value = raw; borrowed = true } in
     let p = err_from_is_err_and c.from_residual-in_err-slice_piece.result c.from_residual-in_err-slice_piece.ensures.1 in
-    rw (p.1, p.2, plain_run (context_of limit es c.args.how) src s c.args.cursor.now.pos j raw h.here c.in_ok-raw.ensures.value plain)
+    rw (p.1, p.2, plain_run (context_of limit es c.args.context) src s c.args.cursor.now.pos j raw h.here c.in_ok-raw.ensures.value plain)
     (refused_too c.in_err-slice_piece.field-0.0 _
-    (text_stepped limit end s c.args.cursor.now c.raw_character_data.new.cursor b c.slice_piece.new.self (Err c.in_err-slice_piece.field-0.0) text h c.slice_piece.ensures.tables c.slice_piece.ensures.limit c.slice_piece.ensures.left
+    (text_stepped limit end s c.args.cursor.now c.raw_character_data.new.cursor b c.slice_piece.new.self (Err c.in_err-slice_piece.field-0.0) text h c.slice_piece.ensures.tables c.slice_piece.ensures.limit c.slice_piece.ensures.openings_left
     (c.in_err-slice_piece.ensures.value end j s h.shows)))
 
 pub slow_character_data-returns-clause-value : goal.slow_character_data-returns-clause-value
@@ -92,9 +92,9 @@ slow_character_data-returns-clause-value t c = λ limit end es s declared h.
     let raw = c.in_ok-raw.raw.text.now in
     let j = c.raw_character_data.new.cursor.pos in
     let same = ap (λ t. t.now) c.in_ok-raw.ensures.source in
-    let other : is_verbatim raw ≡ false = sym c.in_ok-raw.ensures.plain ∙ c.if-raw.false in
-    rw (parted_run (context_of limit es c.args.how) src s c.args.cursor.now.pos j raw h.here c.in_ok-raw.ensures.value other, ← same)
-    (c.data_parts.ensures.value limit end es s declared (record { here = h.here; limit_is = h.limit_is; shows = h.shows; names = h.names; attributes = h.attributes; left_is = h.left_is }))
+    let other : is_verbatim raw ≡ false = sym c.in_ok-raw.ensures.verbatim ∙ c.if-raw.false in
+    rw (parted_run (context_of limit es c.args.context) src s c.args.cursor.now.pos j raw h.here c.in_ok-raw.ensures.value other, ← same)
+    (c.data_parts.ensures.value limit end es s declared (record { here = h.here; limit_is = h.limit_is; shows = h.shows; namespaces = h.namespaces; attributes = h.attributes; openings_left_is = h.openings_left_is }))
 
 -- a line end and bytes that stand for themselves
 pub slow_character_data-returns-then-is_line-clause-value : goal.slow_character_data-returns-then-is_line-clause-value
@@ -105,11 +105,11 @@ slow_character_data-returns-then-is_line-clause-value t c = λ limit end es s de
     let raw = c.in_ok-raw.raw.text.now in
     let j = c.raw_character_data.new.cursor.pos in
     let same = ap (λ t. t.now) c.in_ok-raw.ensures.source in
-    let other : is_verbatim raw ≡ false = sym c.in_ok-raw.ensures.plain ∙ c.if-raw.false in
+    let other : is_verbatim raw ≡ false = sym c.in_ok-raw.ensures.verbatim ∙ c.if-raw.false in
     let line : IsLine src i j = rw same at (c.is_line.ensures c.if-is_line.true) in
-    let text : ReadText = record { value = slice_range src (i + 1) j; plain = false } in
-    rw (parted_run (context_of limit es c.args.how) src s i j raw h.here c.in_ok-raw.ensures.value other, line_run (context_of limit es c.args.how) src s i j h.here c.if-how.true line)
-    (text_stepped limit end s c.args.cursor.now c.raw_character_data.new.cursor b c.changed_piece.new.builder (Ok c.in_ok-changed_piece.field-0) text h c.changed_piece.ensures.tables c.changed_piece.ensures.limit c.changed_piece.ensures.left
+    let text : ReadText = record { value = slice_range src (i + 1) j; borrowed = false } in
+    rw (parted_run (context_of limit es c.args.context) src s i j raw h.here c.in_ok-raw.ensures.value other, line_run (context_of limit es c.args.context) src s i j h.here c.if-context.true line)
+    (text_stepped limit end s c.args.cursor.now c.raw_character_data.new.cursor b c.changed_piece.new.builder (Ok c.in_ok-changed_piece.field-0) text h c.changed_piece.ensures.tables c.changed_piece.ensures.limit c.changed_piece.ensures.openings_left
     (rw (c.range.ensures.value, same) at (c.in_ok-changed_piece.ensures.value end j s h.shows)))
 
 pub slow_character_data-returns-in_err-changed_piece-clause-value : goal.slow_character_data-returns-in_err-changed_piece-clause-value
@@ -120,13 +120,13 @@ slow_character_data-returns-in_err-changed_piece-clause-value t c = λ limit end
     let raw = c.in_ok-raw.raw.text.now in
     let j = c.raw_character_data.new.cursor.pos in
     let same = ap (λ t. t.now) c.in_ok-raw.ensures.source in
-    let other : is_verbatim raw ≡ false = sym c.in_ok-raw.ensures.plain ∙ c.if-raw.false in
+    let other : is_verbatim raw ≡ false = sym c.in_ok-raw.ensures.verbatim ∙ c.if-raw.false in
     let line : IsLine src i j = rw same at (c.is_line.ensures c.if-is_line.true) in
-    let text : ReadText = record { value = slice_range src (i + 1) j; plain = false } in
+    let text : ReadText = record { value = slice_range src (i + 1) j; borrowed = false } in
     let p = err_from_is_err_and c.from_residual-in_err-changed_piece.result c.from_residual-in_err-changed_piece.ensures.1 in
-    rw (p.1, p.2, parted_run (context_of limit es c.args.how) src s i j raw h.here c.in_ok-raw.ensures.value other, line_run (context_of limit es c.args.how) src s i j h.here c.if-how.true line)
+    rw (p.1, p.2, parted_run (context_of limit es c.args.context) src s i j raw h.here c.in_ok-raw.ensures.value other, line_run (context_of limit es c.args.context) src s i j h.here c.if-context.true line)
     (refused_too c.in_err-changed_piece.field-0.0 _
-    (text_stepped limit end s c.args.cursor.now c.raw_character_data.new.cursor b c.changed_piece.new.builder (Err c.in_err-changed_piece.field-0.0) text h c.changed_piece.ensures.tables c.changed_piece.ensures.limit c.changed_piece.ensures.left
+    (text_stepped limit end s c.args.cursor.now c.raw_character_data.new.cursor b c.changed_piece.new.builder (Err c.in_err-changed_piece.field-0.0) text h c.changed_piece.ensures.tables c.changed_piece.ensures.limit c.changed_piece.ensures.openings_left
     (rw (c.range.ensures.value, same) at (c.in_err-changed_piece.ensures.value end j s h.shows))))
 
 -- ---- its parts
@@ -134,37 +134,37 @@ slow_character_data-returns-in_err-changed_piece-clause-value t c = λ limit end
 pub data_parts-returns-in_err-text-clause-value : goal.data_parts-returns-in_err-text-clause-value
 data_parts-returns-in_err-text-clause-value t c = λ limit end es s declared h.
     let src = c.args.cursor.now.text.now in
-    let how = context_of limit es c.args.how in
+    let context = context_of limit es c.args.context in
     let n = length src - c.loop-turn._turn in
     let one : n ≡ suc (n - 1) = omega arith in
     let s0 = ap (λ t. t.now) c.loop-turn.invariant.source in
     let g = c.loop-turn.invariant.reads limit end es s declared h in
     let p = err_from_is_err_and c.from_residual.result c.from_residual.ensures.1 in
-    rw (p.1, p.2) (parting_fails how end src c.args.start c.args.stop _ n (n - 1) c.loop-turn.cursor c.loop-turn.builder c.in_err-text.field-0.0 g one (rw s0 at (c.in_err-text.ensures.value limit end es g.s declared g.sees)))
+    rw (p.1, p.2) (parting_fails context end src c.args.start c.args.stop _ n (n - 1) c.loop-turn.cursor c.loop-turn.builder c.in_err-text.field-0.0 g one (rw s0 at (c.in_err-text.ensures.value limit end es g.s declared g.sees)))
 
 pub data_parts-returns-in_err-open_text-in-Some-clause-value : goal.data_parts-returns-in_err-open_text-in-Some-clause-value
 data_parts-returns-in_err-open_text-in-Some-clause-value t c = λ limit end es s declared h.
     let src = c.args.cursor.now.text.now in
-    let how = context_of limit es c.args.how in
+    let context = context_of limit es c.args.context in
     let n = length src - c.loop-turn._turn in
     let one : n ≡ suc (n - 1) = omega arith in
     let s0 = ap (λ t. t.now) c.loop-turn.invariant.source in
     let g = c.loop-turn.invariant.reads limit end es s declared h in
     let part = rw (s0, c.in-Some.is) at (c.in_ok-text.ensures.value limit end es g.s declared g.sees) in
     let p = err_from_is_err_and c.from_residual-in_err-open_text-in-Some.result c.from_residual-in_err-open_text-in-Some.ensures.1 in
-    rw (p.1, p.2) (parting_stops how end src c.args.start c.args.stop _ n (n - 1) c.loop-turn.cursor c.loop-turn.builder part.0 (replacement_view c.in-Some.text) c.part_piece.new.cursor.pos c.in_err-open_text-in-Some.field-0.0 g one part.1
+    rw (p.1, p.2) (parting_stops context end src c.args.start c.args.stop _ n (n - 1) c.loop-turn.cursor c.loop-turn.builder part.0 (replacement_view c.in-Some.text) c.part_piece.new.cursor.pos c.in_err-open_text-in-Some.field-0.0 g one part.1
     (c.in_err-open_text-in-Some.ensures.value limit end es part.0 declared part.2))
 
 pub data_parts-returns-in-None-clause-value : goal.data_parts-returns-in-None-clause-value
 data_parts-returns-in-None-clause-value t c = λ limit end es s declared h.
     let src = c.args.cursor.now.text.now in
-    let how = context_of limit es c.args.how in
+    let context = context_of limit es c.args.context in
     let n = length src - c.loop-turn._turn in
     let one : n ≡ suc (n - 1) = omega arith in
     let s0 = ap (λ t. t.now) c.loop-turn.invariant.source in
     let g = c.loop-turn.invariant.reads limit end es s declared h in
     let part = rw (s0, c.in-None.is) at (c.in_ok-text.ensures.value limit end es g.s declared g.sees) in
-    parting_ends how end src c.args.start c.args.stop _ n (n - 1) c.loop-turn.cursor _ c.loop-turn.builder c.part_piece.new.builder part.0 g one part.1 part.2 refl
+    parting_ends context end src c.args.start c.args.stop _ n (n - 1) c.loop-turn.cursor _ c.loop-turn.builder c.part_piece.new.builder part.0 g one part.1 part.2 refl
 
 pub data_parts-loop-turn-preserved : goal.data_parts-loop-turn-preserved
 data_parts-loop-turn-preserved t c = record {
@@ -172,7 +172,7 @@ data_parts-loop-turn-preserved t c = record {
   fine = c.in_ok-open_text-in-Some.ensures.fine;
   reads = λ limit end es s declared h.
       let src = c.args.cursor.now.text.now in
-      let how = context_of limit es c.args.how in
+      let context = context_of limit es c.args.context in
       let n = length src - c.loop-turn._turn in
       let one : n ≡ suc (length src - (c.loop-turn._turn + 1)) = omega arith in
       let s0 = ap (λ t. t.now) c.loop-turn.invariant.source in
@@ -181,8 +181,8 @@ data_parts-loop-turn-preserved t c = record {
       let text = replacement_view c.in-Some.text in
       let after = c.part_piece.new.cursor.pos in
       let opened = c.in_ok-open_text-in-Some.ensures.value limit end es part.0 declared part.2 in
-      parting_on how end src c.args.start c.args.stop _ n (length src - (c.loop-turn._turn + 1)) c.loop-turn.cursor c.part_piece.new.cursor c.loop-turn.builder c.open_text.new.builder part.0 opened.0 text after g one part.1 opened.1
-      (sym (opener_at limit es c.args.how.deep c.args.how.main text after part.0 opened.0 opened.1)) opened.2;
+      parting_on context end src c.args.start c.args.stop _ n (length src - (c.loop-turn._turn + 1)) c.loop-turn.cursor c.part_piece.new.cursor c.loop-turn.builder c.open_text.new.builder part.0 opened.0 text after g one part.1 opened.1
+      (sym (opener_at limit es c.args.context.depth_left c.args.context.main text after part.0 opened.0 opened.1)) opened.2;
 }
 
 pub data_parts-returns-clause-value : goal.data_parts-returns-clause-value
@@ -190,49 +190,49 @@ data_parts-returns-clause-value t c = λ limit end es s declared h.
     let src = c.args.cursor.now.text.now in
     let over = c.loop-turn-test.false in
     let none : length src - c.loop-turn._turn ≡ 0 = omega arith in
-    parting_out (context_of limit es c.args.how) end src c.args.start c.args.stop _ _ c.loop-turn.cursor _ c.loop-turn.builder (c.loop-turn.invariant.reads limit end es s declared h) none refl
+    parting_out (context_of limit es c.args.context) end src c.args.start c.args.stop _ _ c.loop-turn.cursor _ c.loop-turn.builder (c.loop-turn.invariant.reads limit end es s declared h) none refl
 
 -- ---- a replacement text
 
 pub open_text-returns-in_err-within-clause-value : goal.open_text-returns-in_err-within-clause-value
 open_text-returns-in_err-within-clause-value t c = λ limit end es s declared h.
     let p = err_from_is_err_and c.from_residual.result c.from_residual.ensures.1 in
-    rw (p.1, p.2) (opens_err limit es c.args.how.deep c.args.how.main (replacement_view c.args.text) c.args.after s c.in_err-within.field-0.0 (rw h.left_is at c.in_err-within.ensures.value))
+    rw (p.1, p.2) (opens_err limit es c.args.context.depth_left c.args.context.main (replacement_view c.args.text) c.args.after s c.in_err-within.field-0.0 (rw h.openings_left_is at c.in_err-within.ensures.value))
 
 pub open_text-returns-in-Ok-clause-value : goal.open_text-returns-in-Ok-clause-value
 open_text-returns-in-Ok-clause-value t c = λ limit end es s declared h.
     let b = c.args.builder.now in
-    let w = c.in_ok-within.ensures.how in
+    let w = c.in_ok-within.ensures.context in
     let k = b.opened.ok.0 in
     let deep = opened_depth limit end s b h in
     let base : c.len.result ≡ depth_of s.stack = omega arith in
     let text = replacement_view c.args.text in
     let read = rw (w, base) at (c.in-Ok.ensures.value limit end es (inner_state text s c.in_ok-within.inner) (rw w declared)
-    (record { limit_is = h.limit_is; shows = same_shows end s.stack s.done b _ h.shows refl refl refl refl refl; names = h.names; attributes = h.attributes; left_is = refl }) refl) in
+    (record { limit_is = h.limit_is; shows = same_shows end s.stack s.done b _ h.shows refl refl refl refl refl; namespaces = h.namespaces; attributes = h.attributes; openings_left_is = refl }) refl) in
     let u = read.0 in (
-      outer_state c.args.how.main c.args.after s u,
-      opens_reads limit es c.args.how.deep (c.args.how.deep - 1) c.args.how.main text c.args.after s u c.in_ok-within.inner refl (rw h.left_is at c.in_ok-within.ensures.value) read.1,
+      outer_state c.args.context.main c.args.after s u,
+      opens_reads limit es c.args.context.depth_left (c.args.context.depth_left - 1) c.args.context.main text c.args.after s u c.in_ok-within.inner refl (rw h.openings_left_is at c.in_ok-within.ensures.value) read.1,
       record {
         limit_is = read.2.limit_is;
         shows = same_shows end u.stack u.done c.content_text.new.builder _ read.2.shows refl refl refl refl refl;
-        names = read.2.names;
+        namespaces = read.2.namespaces;
         attributes = read.2.attributes;
-        left_is = rw (h.left_is, read.2.left_is) at c.left_behind-builder.ensures;
+        openings_left_is = rw (h.openings_left_is, read.2.openings_left_is) at c.left_behind-builder.ensures;
       },
     )
 
 pub open_text-returns-in-Err-clause-value : goal.open_text-returns-in-Err-clause-value
 open_text-returns-in-Err-clause-value t c = λ limit end es s declared h.
     let b = c.args.builder.now in
-    let w = c.in_ok-within.ensures.how in
+    let w = c.in_ok-within.ensures.context in
     let k = b.opened.ok.0 in
     let deep = opened_depth limit end s b h in
     let base : c.len.result ≡ depth_of s.stack = omega arith in
     let text = replacement_view c.args.text in
     let read = rw (w, base) at (c.in-Err.ensures.value limit end es (inner_state text s c.in_ok-within.inner) (rw w declared)
-    (record { limit_is = h.limit_is; shows = same_shows end s.stack s.done b _ h.shows refl refl refl refl refl; names = h.names; attributes = h.attributes; left_is = refl }) refl) in
+    (record { limit_is = h.limit_is; shows = same_shows end s.stack s.done b _ h.shows refl refl refl refl refl; namespaces = h.namespaces; attributes = h.attributes; openings_left_is = refl }) refl) in
     rw c.within.ensures
-    (opens_refuses limit es c.args.how.deep (c.args.how.deep - 1) c.args.how.main c.args.text.text c.args.text.pos c.args.after s c.in_ok-within.inner c.in-Err.refused refl (rw h.left_is at c.in_ok-within.ensures.value) read)
+    (opens_refuses limit es c.args.context.depth_left (c.args.context.depth_left - 1) c.args.context.main c.args.text.text c.args.text.pos c.args.after s c.in_ok-within.inner c.in-Err.refused refl (rw h.openings_left_is at c.in_ok-within.ensures.value) read)
 
 pub content_text-returns-then-is_at_end-clause-value : goal.content_text-returns-then-is_at_end-clause-value
 content_text-returns-then-is_at_end-clause-value t c = λ limit end es s declared h at.
@@ -240,7 +240,7 @@ content_text-returns-then-is_at_end-clause-value t c = λ limit end es s declare
     let s0 = ap (λ t. t.now) c.loop-turn.invariant.source in
     let g = c.loop-turn.invariant.reads limit end es s declared h at in
     let past : length src ≤ g.s.at = rw (s0, g.sees.here) at (leb-true _ _ (sym c.is_at_end.ensures ∙ c.if-is_at_end.true)) in
-    text_at_end (context_of limit es c.args.how) end src _ _ c.loop-turn.cursor c.loop-turn.builder c.text_end.result g past (c.text_end.ensures limit end es g.s (rests_of limit end g.s c.loop-turn.cursor c.loop-turn.builder g.sees))
+    text_at_end (context_of limit es c.args.context) end src _ _ c.loop-turn.cursor c.loop-turn.builder c.text_end.result g past (c.text_end.ensures limit end es g.s (rests_of limit end g.s c.loop-turn.cursor c.loop-turn.builder g.sees))
 
 pub content_text-returns-in_err-step-clause-value : goal.content_text-returns-in_err-step-clause-value
 content_text-returns-in_err-step-clause-value t c = λ limit end es s declared h at.
@@ -251,7 +251,7 @@ content_text-returns-in_err-step-clause-value t c = λ limit end es s declared h
     let g = c.loop-turn.invariant.reads limit end es s declared h at in
     let more : g.s.at < length src = rw (s0, g.sees.here) at (leb-false _ _ (sym c.is_at_end.ensures ∙ c.if-is_at_end.false)) in
     let p = err_from_is_err_and c.from_residual.result c.from_residual.ensures.1 in
-    rw (p.1, p.2) (text_fails (context_of limit es c.args.how) end src _ n (n - 1) c.loop-turn.cursor c.loop-turn.builder c.in_err-step.field-0.0 g one more (rw s0 at (c.in_err-step.ensures.value limit end es g.s declared g.sees)))
+    rw (p.1, p.2) (text_fails (context_of limit es c.args.context) end src _ n (n - 1) c.loop-turn.cursor c.loop-turn.builder c.in_err-step.field-0.0 g one more (rw s0 at (c.in_err-step.ensures.value limit end es g.s declared g.sees)))
 
 pub content_text-loop-turn-preserved : goal.content_text-loop-turn-preserved
 content_text-loop-turn-preserved t c = record {
@@ -265,7 +265,7 @@ content_text-loop-turn-preserved t c = record {
       let g = c.loop-turn.invariant.reads limit end es s declared h at in
       let more : g.s.at < length src = rw (s0, g.sees.here) at (leb-false _ _ (sym c.is_at_end.ensures ∙ c.if-is_at_end.false)) in
       let went = rw s0 at (c.in_ok-step.ensures.value limit end es g.s declared g.sees) in
-      text_on (context_of limit es c.args.how) end src _ n (length src - (c.loop-turn._turn + 1)) c.loop-turn.cursor _ c.loop-turn.builder _ _ g one more went;
+      text_on (context_of limit es c.args.context) end src _ n (length src - (c.loop-turn._turn + 1)) c.loop-turn.cursor _ c.loop-turn.builder _ _ g one more went;
 }
 
 pub content_text-returns-clause-value : goal.content_text-returns-clause-value
@@ -274,7 +274,7 @@ content_text-returns-clause-value t c = λ limit end es s declared h at.
     let g = c.loop-turn.invariant.reads limit end es s declared h at in
     let over = c.loop-turn-test.false in
     let none : length src - c.loop-turn._turn ≡ 0 = omega arith in
-    text_spent (context_of limit es c.args.how) end src _ _ c.loop-turn.cursor c.loop-turn.builder c.text_end-2.result g none (c.text_end-2.ensures limit end es g.s (rests_of limit end g.s c.loop-turn.cursor c.loop-turn.builder g.sees))
+    text_spent (context_of limit es c.args.context) end src _ _ c.loop-turn.cursor c.loop-turn.builder c.text_end-2.result g none (c.text_end-2.ensures limit end es g.s (rests_of limit end g.s c.loop-turn.cursor c.loop-turn.builder g.sees))
 
 -- ---- one construct
 
@@ -288,7 +288,7 @@ step-end_tag-requires-clause-here t c =
 
 pub step-returns-then-bytes-cursor-ne60-clause-value : goal.step-returns-then-bytes-cursor-ne60-clause-value
 step-returns-then-bytes-cursor-ne60-clause-value t c = λ limit end es s declared h.
-    rw (step_is_run (context_of limit es c.args.how) c.args.cursor.now.text.now _ s c.args.cursor.now.pos c.as_bytes-bytes.ensures.value h.here c.if-bytes-cursor-ne60.true) (c.character_data.ensures.value limit end es s declared h)
+    rw (step_is_run (context_of limit es c.args.context) c.args.cursor.now.text.now _ s c.args.cursor.now.pos c.as_bytes-bytes.ensures.value h.here c.if-bytes-cursor-ne60.true) (c.character_data.ensures.value limit end es s declared h)
 
 pub step-returns-in_err-end_tag-clause-value : goal.step-returns-in_err-end_tag-clause-value
 step-returns-in_err-end_tag-clause-value t c = λ limit end es s declared h.
@@ -296,11 +296,11 @@ step-returns-in_err-end_tag-clause-value t c = λ limit end es s declared h.
     rw (
       p.1,
       p.2,
-      step_is_markup (context_of limit es c.args.how) c.args.cursor.now.text.now _ s c.args.cursor.now.pos 47 c.as_bytes-bytes.ensures.value h.here c.if-bytes-cursor-ne60.false c.if-cursor-bytes.false c.if-next-eq47.true (λ e. cc e),
+      step_is_markup (context_of limit es c.args.context) c.args.cursor.now.text.now _ s c.args.cursor.now.pos 47 c.as_bytes-bytes.ensures.value h.here c.if-bytes-cursor-ne60.false c.if-cursor-bytes.false c.if-next-eq47.true (λ e. cc e),
     )
     (refused_too c.in_err-end_tag.field-0.0 _ (c.in_err-end_tag.ensures.value limit end es s h))
 
 pub step-returns-then-next-eq47-clause-value : goal.step-returns-then-next-eq47-clause-value
 step-returns-then-next-eq47-clause-value t c = λ limit end es s declared h.
-    rw (step_is_markup (context_of limit es c.args.how) c.args.cursor.now.text.now _ s c.args.cursor.now.pos 47 c.as_bytes-bytes.ensures.value h.here c.if-bytes-cursor-ne60.false c.if-cursor-bytes.false c.if-next-eq47.true (λ e. cc e))
+    rw (step_is_markup (context_of limit es c.args.context) c.args.cursor.now.text.now _ s c.args.cursor.now.pos 47 c.as_bytes-bytes.ensures.value h.here c.if-bytes-cursor-ne60.false c.if-cursor-bytes.false c.if-next-eq47.true (λ e. cc e))
     (c.in_ok-end_tag.ensures.value limit end es s h)

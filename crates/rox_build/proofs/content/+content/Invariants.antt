@@ -10,29 +10,29 @@ use Rattle.rox_build.proofs.TextLooping.{Texting}
 use Rattle.rox_build.proofs.content.+content.Given as goal
 
 abbrev pub decreases-open_text : goal.decreases-open_text
-decreases-open_text l = 8 * l.how.deep
+decreases-open_text l = 8 * l.context.depth_left
 
 abbrev pub decreases-data_parts : goal.decreases-data_parts
-decreases-data_parts l = 8 * l.how.deep + 1
+decreases-data_parts l = 8 * l.context.depth_left + 1
 
 abbrev pub decreases-slow_character_data : goal.decreases-slow_character_data
-decreases-slow_character_data l = 8 * l.how.deep + 2
+decreases-slow_character_data l = 8 * l.context.depth_left + 2
 
 abbrev pub decreases-character_data : goal.decreases-character_data
-decreases-character_data l = 8 * l.how.deep + 3
+decreases-character_data l = 8 * l.context.depth_left + 3
 
 abbrev pub decreases-step : goal.decreases-step
-decreases-step l = 8 * l.how.deep + 4
+decreases-step l = 8 * l.context.depth_left + 4
 
 abbrev pub decreases-content_text : goal.decreases-content_text
-decreases-content_text l = 8 * l.how.deep + 5
+decreases-content_text l = 8 * l.context.depth_left + 5
 
 abbrev pub invariant-data_parts-loop-turn : goal.invariant-data_parts-loop-turn
 invariant-data_parts-loop-turn l = record {
   source : l.cursor.text ≡ l.fn.cursor.text;
   fine : IsConsistent l.builder.tables l.builder.opened.items;
-  reads : (limit end : ℕ) (es : List Entity) (s : State) → AreDeclared es l.how.entities.now → IsInState limit end s l.fn.cursor l.fn.builder
-      → Parting (context_of limit es l.how) end l.fn.cursor.text.now l.start l.stop (data_parts (context_of limit es l.how) (length l.fn.cursor.text.now) l.fn.cursor.text.now l.start l.stop s)
+  reads : (limit end : ℕ) (es : List Entity) (s : State) → AreDeclared es l.context.entities.now → IsInState limit end s l.fn.cursor l.fn.builder
+      → Parting (context_of limit es l.context) end l.fn.cursor.text.now l.start l.stop (data_parts (context_of limit es l.context) (length l.fn.cursor.text.now) l.fn.cursor.text.now l.start l.stop s)
       (length l.fn.cursor.text.now - l._turn) l.cursor l.builder;
 }
 
@@ -40,6 +40,6 @@ abbrev pub invariant-content_text-loop-turn : goal.invariant-content_text-loop-t
 invariant-content_text-loop-turn l = record {
   source : l.cursor.text ≡ l.text.text;
   fine : IsConsistent l.builder.tables l.builder.opened.items;
-  reads : (limit end : ℕ) (es : List Entity) (s : State) → AreDeclared es l.how.entities.now → HoldsState limit end s l.fn.builder → s.at ≡ l.text.pos
-      → Texting (context_of limit es l.how) end l.text.text.now (drive_text (context_of limit es l.how) (length l.text.text.now) l.text.text.now s) (length l.text.text.now - l._turn) l.cursor l.builder;
+  reads : (limit end : ℕ) (es : List Entity) (s : State) → AreDeclared es l.context.entities.now → HoldsState limit end s l.fn.builder → s.at ≡ l.text.pos
+      → Texting (context_of limit es l.context) end l.text.text.now (drive_text (context_of limit es l.context) (length l.text.text.now) l.text.text.now s) (length l.text.text.now - l._turn) l.cursor l.builder;
 }

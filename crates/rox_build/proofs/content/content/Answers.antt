@@ -11,7 +11,7 @@ use Rattle.rox_build.proofs.content.content.Goals as goal
 pub returns-then-is_at_root-clause-value : goal.returns-then-is_at_root-clause-value
 returns-then-is_at_root-clause-value c = λ limit end es s declared sees.
     let g = c.loop-turn.invariant.reads limit end es s declared sees in
-    drive_done (context_of limit es c.args.how) end c.args.cursor.now.text.now _ _ c.loop-turn.cursor c.loop-turn.builder g (sym (c.is_at_root.ensures end g.s.stack g.s.done g.sees.shows) ∙ c.if-is_at_root.true)
+    drive_done (context_of limit es c.args.context) end c.args.cursor.now.text.now _ _ c.loop-turn.cursor c.loop-turn.builder g (sym (c.is_at_root.ensures end g.s.stack g.s.done g.sees.shows) ∙ c.if-is_at_root.true)
 
 pub returns-then-is_at_end-clause-value : goal.returns-then-is_at_end-clause-value
 returns-then-is_at_end-clause-value c = λ limit end es s declared sees.
@@ -20,7 +20,7 @@ returns-then-is_at_end-clause-value c = λ limit end es s declared sees.
     let g = c.loop-turn.invariant.reads limit end es s declared sees in
     let inner : is_root g.s.stack ≡ false = sym (c.is_at_root.ensures end g.s.stack g.s.done g.sees.shows) ∙ c.if-is_at_root.false in
     let past : length src ≤ g.s.at = rw (s0, g.sees.here) at (leb-true _ _ (sym c.is_at_end.ensures ∙ c.if-is_at_end.true)) in
-    drive_cut (context_of limit es c.args.how) end src _ _ c.loop-turn.cursor c.loop-turn.builder g inner past
+    drive_cut (context_of limit es c.args.context) end src _ _ c.loop-turn.cursor c.loop-turn.builder g inner past
 
 pub returns-in_err-step-clause-value : goal.returns-in_err-step-clause-value
 returns-in_err-step-clause-value c = λ limit end es s declared sees.
@@ -32,8 +32,8 @@ returns-in_err-step-clause-value c = λ limit end es s declared sees.
     let inner : is_root g.s.stack ≡ false = sym (c.is_at_root.ensures end g.s.stack g.s.done g.sees.shows) ∙ c.if-is_at_root.false in
     let inside : g.s.at < length src = rw (s0, g.sees.here) at (leb-false _ _ (sym c.is_at_end.ensures ∙ c.if-is_at_end.false)) in
     let q = err_from_is_err_and c.from_residual.result c.from_residual.ensures.1 in
-    let fails : IsRefusal c.in_err-step.field-0.0 (step (context_of limit es c.args.how) src g.s) = rw s0 at (c.in_err-step.ensures.value limit end es g.s declared g.sees) in
-    rw (q.1, q.2) (drive_fails (context_of limit es c.args.how) end src _ n (n - 1) c.loop-turn.cursor c.loop-turn.builder c.in_err-step.field-0.0 g one inner inside fails)
+    let fails : IsRefusal c.in_err-step.field-0.0 (step (context_of limit es c.args.context) src g.s) = rw s0 at (c.in_err-step.ensures.value limit end es g.s declared g.sees) in
+    rw (q.1, q.2) (drive_fails (context_of limit es c.args.context) end src _ n (n - 1) c.loop-turn.cursor c.loop-turn.builder c.in_err-step.field-0.0 g one inner inside fails)
 
 pub loop-turn-preserved : goal.loop-turn-preserved
 loop-turn-preserved c = record {
@@ -48,13 +48,13 @@ loop-turn-preserved c = record {
       let inner : is_root g.s.stack ≡ false = sym (c.is_at_root.ensures end g.s.stack g.s.done g.sees.shows) ∙ c.if-is_at_root.false in
       let inside : g.s.at < length src = rw (s0, g.sees.here) at (leb-false _ _ (sym c.is_at_end.ensures ∙ c.if-is_at_end.false)) in
       let stepped = rw s0 at (c.in_ok-step.ensures.value limit end es g.s declared g.sees) in
-      drives_on (context_of limit es c.args.how) end src _ n (length src - (c.loop-turn._turn + 1)) c.loop-turn.cursor _ c.loop-turn.builder _ _ g one inner inside stepped;
+      drives_on (context_of limit es c.args.context) end src _ n (length src - (c.loop-turn._turn + 1)) c.loop-turn.cursor _ c.loop-turn.builder _ _ g one inner inside stepped;
 }
 
 pub returns-then-is_at_root-2-clause-value : goal.returns-then-is_at_root-2-clause-value
 returns-then-is_at_root-2-clause-value c = λ limit end es s declared sees.
     let g = c.loop-turn.invariant.reads limit end es s declared sees in
-    drive_done (context_of limit es c.args.how) end c.args.cursor.now.text.now _ _ c.loop-turn.cursor c.loop-turn.builder g (sym (c.is_at_root-2.ensures end g.s.stack g.s.done g.sees.shows) ∙ c.if-is_at_root-2.true)
+    drive_done (context_of limit es c.args.context) end c.args.cursor.now.text.now _ _ c.loop-turn.cursor c.loop-turn.builder g (sym (c.is_at_root-2.ensures end g.s.stack g.s.done g.sees.shows) ∙ c.if-is_at_root-2.true)
 
 pub returns-else-is_at_root-2-clause-value : goal.returns-else-is_at_root-2-clause-value
 returns-else-is_at_root-2-clause-value c = λ limit end es s declared sees.
@@ -63,4 +63,4 @@ returns-else-is_at_root-2-clause-value c = λ limit end es s declared sees.
     let g = c.loop-turn.invariant.reads limit end es s declared sees in
     let inner : is_root g.s.stack ≡ false = sym (c.is_at_root-2.ensures end g.s.stack g.s.done g.sees.shows) ∙ c.if-is_at_root-2.false in
     let none : length src - c.loop-turn._turn ≡ 0 = omega arith in
-    drive_spent (context_of limit es c.args.how) end src _ _ c.loop-turn.cursor c.loop-turn.builder g inner none
+    drive_spent (context_of limit es c.args.context) end src _ _ c.loop-turn.cursor c.loop-turn.builder g inner none

@@ -12,6 +12,6 @@ abbrev pub invariant-loop-turn : goal.invariant-loop-turn
 invariant-loop-turn l = record {
   source : l.cursor.text ≡ l.fn.cursor.text;
   fine : IsConsistent l.builder.tables l.builder.opened.items;
-  reads : (limit end : ℕ) (es : List Entity) (s : State) → AreDeclared es l.fn.how.entities.now → IsInState limit end s l.fn.cursor l.fn.builder
-      → Driving (context_of limit es l.fn.how) end l.fn.cursor.text.now (drive (context_of limit es l.fn.how) (length l.fn.cursor.text.now) l.fn.cursor.text.now s) (length l.fn.cursor.text.now - l._turn) l.cursor l.builder;
+  reads : (limit end : ℕ) (es : List Entity) (s : State) → AreDeclared es l.fn.context.entities.now → IsInState limit end s l.fn.cursor l.fn.builder
+      → Driving (context_of limit es l.fn.context) end l.fn.cursor.text.now (drive (context_of limit es l.fn.context) (length l.fn.cursor.text.now) l.fn.cursor.text.now s) (length l.fn.cursor.text.now - l._turn) l.cursor l.builder;
 }

@@ -27,9 +27,9 @@ returns-then-is_at_end-clause-value c = λ limit end es s declared sees.
 pub returns-in_err-element-clause-value : goal.returns-in_err-element-clause-value
 returns-in_err-element-clause-value c = λ limit end es s declared sees.
     let src = c.args.cursor.now.text.now in
-    let w = context_of limit es c.main_text-how.result in
-    let main : w ≡ main_text limit es = ap (context_of limit es) c.main_text-how.ensures in
-    let held : AreDeclared es c.main_text-how.result.entities.now = subst (λ (h : Context). AreDeclared es h.entities.now) (sym c.main_text-how.ensures) declared in
+    let w = context_of limit es c.main_text-context.result in
+    let main : w ≡ main_text limit es = ap (context_of limit es) c.main_text-context.ensures in
+    let held : AreDeclared es c.main_text-context.result.entities.now = subst (λ (h : Context). AreDeclared es h.entities.now) (sym c.main_text-context.ensures) declared in
     let here : slice_index src s.at ≡ 60 = ap (λ (i : ℕ). slice_index src i) (sym sees.here) ∙ ap (λ (xs : List ℕ). slice_index xs c.args.cursor.now.pos) (sym c.as_bytes.ensures.value) ∙ c.if-as_bytes-cursor-ne60.false in
     let q = err_from_is_err_and c.from_residual.result c.from_residual.ensures.1 in
     rw (q.1, q.2) (tag_fails_body limit es w src s c.in_err-element.field-0.0 main here (c.in_err-element.ensures.value limit end es s held sees))
@@ -37,9 +37,9 @@ returns-in_err-element-clause-value c = λ limit end es s declared sees.
 pub returns-in_err-content-clause-value : goal.returns-in_err-content-clause-value
 returns-in_err-content-clause-value c = λ limit end es s declared sees.
     let src = c.args.cursor.now.text.now in
-    let w = context_of limit es c.main_text-how.result in
-    let main : w ≡ main_text limit es = ap (context_of limit es) c.main_text-how.ensures in
-    let held : AreDeclared es c.main_text-how.result.entities.now = subst (λ (h : Context). AreDeclared es h.entities.now) (sym c.main_text-how.ensures) declared in
+    let w = context_of limit es c.main_text-context.result in
+    let main : w ≡ main_text limit es = ap (context_of limit es) c.main_text-context.ensures in
+    let held : AreDeclared es c.main_text-context.result.entities.now = subst (λ (h : Context). AreDeclared es h.entities.now) (sym c.main_text-context.ensures) declared in
     let here : slice_index src s.at ≡ 60 = ap (λ (i : ℕ). slice_index src i) (sym sees.here) ∙ ap (λ (xs : List ℕ). slice_index xs c.args.cursor.now.pos) (sym c.as_bytes.ensures.value) ∙ c.if-as_bytes-cursor-ne60.false in
     let s1 = ap (λ t. t.now) c.in_ok-element.ensures.source in
     let e1 = c.in_ok-element.ensures.value limit end es s held sees in
@@ -50,9 +50,9 @@ returns-in_err-content-clause-value c = λ limit end es s declared sees.
 pub returns-in_err-misc-clause-value : goal.returns-in_err-misc-clause-value
 returns-in_err-misc-clause-value c = λ limit end es s declared sees.
     let src = c.args.cursor.now.text.now in
-    let w = context_of limit es c.main_text-how.result in
-    let main : w ≡ main_text limit es = ap (context_of limit es) c.main_text-how.ensures in
-    let held : AreDeclared es c.main_text-how.result.entities.now = subst (λ (h : Context). AreDeclared es h.entities.now) (sym c.main_text-how.ensures) declared in
+    let w = context_of limit es c.main_text-context.result in
+    let main : w ≡ main_text limit es = ap (context_of limit es) c.main_text-context.ensures in
+    let held : AreDeclared es c.main_text-context.result.entities.now = subst (λ (h : Context). AreDeclared es h.entities.now) (sym c.main_text-context.ensures) declared in
     let here : slice_index src s.at ≡ 60 = ap (λ (i : ℕ). slice_index src i) (sym sees.here) ∙ ap (λ (xs : List ℕ). slice_index xs c.args.cursor.now.pos) (sym c.as_bytes.ensures.value) ∙ c.if-as_bytes-cursor-ne60.false in
     let s1 = ap (λ t. t.now) c.in_ok-element.ensures.source in
     let e1 = c.in_ok-element.ensures.value limit end es s held sees in
@@ -66,9 +66,9 @@ returns-in_err-misc-clause-value c = λ limit end es s declared sees.
 pub returns-clause-value : goal.returns-clause-value
 returns-clause-value c = λ limit end es s declared sees.
     let src = c.args.cursor.now.text.now in
-    let w = context_of limit es c.main_text-how.result in
-    let main : w ≡ main_text limit es = ap (context_of limit es) c.main_text-how.ensures in
-    let held : AreDeclared es c.main_text-how.result.entities.now = subst (λ (h : Context). AreDeclared es h.entities.now) (sym c.main_text-how.ensures) declared in
+    let w = context_of limit es c.main_text-context.result in
+    let main : w ≡ main_text limit es = ap (context_of limit es) c.main_text-context.ensures in
+    let held : AreDeclared es c.main_text-context.result.entities.now = subst (λ (h : Context). AreDeclared es h.entities.now) (sym c.main_text-context.ensures) declared in
     let here : slice_index src s.at ≡ 60 = ap (λ (i : ℕ). slice_index src i) (sym sees.here) ∙ ap (λ (xs : List ℕ). slice_index xs c.args.cursor.now.pos) (sym c.as_bytes.ensures.value) ∙ c.if-as_bytes-cursor-ne60.false in
     let s1 = ap (λ t. t.now) c.in_ok-element.ensures.source in
     let e1 = c.in_ok-element.ensures.value limit end es s held sees in

@@ -28,7 +28,7 @@ returns-in_err-dtd-clause-refused g c =
     let cursor = c.start_of-cursor in
     let same = ap (λ t. t.now) cursor.ensures.source in
     let b = c.in_ok-builder.ensures in
-    let sees : IsInState limit (length src) (start_state cursor.result.pos) cursor.result c.in_ok-builder.builder = record { here = refl; limit_is = b.limit; shows = b.shows; names = b.empty.0; attributes = b.empty.1; left_is = b.left } in
+    let sees : IsInState limit (length src) (start_state cursor.result.pos) cursor.result c.in_ok-builder.builder = record { here = refl; limit_is = b.limit; shows = b.shows; namespaces = b.empty.0; attributes = b.empty.1; openings_left_is = b.openings_left } in
     let q = err_from_is_err_and c.from_residual-in_err-dtd.result c.from_residual-in_err-dtd.ensures.1 in
     let x = rw same at (c.in_err-dtd.ensures.value limit (length src) (cursor.ensures.place ∙ ap after_bom (sym same)) sees) in
     rw (q.1, q.2) (refusal_of limit c.args.options.allow_dtd allows src x.0 c.in_err-dtd.field-0.0 x.1 x.2)
@@ -40,7 +40,7 @@ returns-clause-ok g c =
     let cursor = c.start_of-cursor in
     let same = ap (λ t. t.now) cursor.ensures.source in
     let b = c.in_ok-builder.ensures in
-    let sees : IsInState limit (length src) (start_state cursor.result.pos) cursor.result c.in_ok-builder.builder = record { here = refl; limit_is = b.limit; shows = b.shows; names = b.empty.0; attributes = b.empty.1; left_is = b.left } in
+    let sees : IsInState limit (length src) (start_state cursor.result.pos) cursor.result c.in_ok-builder.builder = record { here = refl; limit_is = b.limit; shows = b.shows; namespaces = b.empty.0; attributes = b.empty.1; openings_left_is = b.openings_left } in
     let x = rw same at (c.in_ok-dtd.ensures.value limit (length src) (cursor.ensures.place ∙ ap after_bom (sym same)) sees) in
     record {
       asked = x.0;

@@ -16,7 +16,7 @@ returns-then-is_at_end-clause-took c = λ es known before h declared o hold.
     let s = ap (λ t. t.now) c.attributes.invariant.source in
     let g = c.attributes.invariant.reads es known before h declared o hold in
     let past : length src ≤ c.attributes.cursor.pos = rw s at (leb-true _ _ (sym c.is_at_end.ensures ∙ c.if-is_at_end.true)) in
-    going_cut (values_in es c.args.how) known before c.args.cut src _ _ c.attributes.cursor.pos c.attributes.left _ _ _ _ g past
+    going_cut (values_in es c.args.context) known before c.args.cut src _ _ c.attributes.cursor.pos c.attributes.openings_left _ _ _ _ g past
 
 pub returns-in_err-raw-clause-took : goal.returns-in_err-raw-clause-took
 returns-in_err-raw-clause-took c = λ es known before h declared o hold.
@@ -28,7 +28,7 @@ returns-in_err-raw-clause-took c = λ es known before h declared o hold.
     let is : tag_item_at src c.attributes.cursor.pos ≡ Err c.in_err-raw.field-0.0 = rw s at c.in_err-raw.ensures.value in
     let p = err_from_is_err_and c.from_residual.result c.from_residual.ensures.1 in
     let one : n ≡ suc (n - 1) = omega arith in
-    rw (p.1, p.2) (going_fails (values_in es c.args.how) known before c.args.cut src _ n (n - 1) c.attributes.cursor.pos c.attributes.left _ _ _ _ c.in_err-raw.field-0.0 g one inside is)
+    rw (p.1, p.2) (going_fails (values_in es c.args.context) known before c.args.cut src _ n (n - 1) c.attributes.cursor.pos c.attributes.openings_left _ _ _ _ c.in_err-raw.field-0.0 g one inside is)
 
 pub add_attribute-requires-clause-placed : goal.add_attribute-requires-clause-placed
 add_attribute-requires-clause-placed c =
@@ -64,8 +64,8 @@ returns-in_err-xml-in-More-clause-took c = λ es known before h declared o hold.
     let p = err_from_is_err_and c.from_residual-in_err-xml-in-More.result c.from_residual-in_err-xml-in-More.ensures.1 in
     let one : n ≡ suc (n - 1) = omega arith in
     let after = ap (λ t. t.now) c.tag_item.ensures.source ∙ s in
-    let took : IsRefusal c.in_err-xml-in-More.field-0.0 (one_more (values_in es c.args.how) known src (attribute_view c.in-More.raw) c.attributes.left g.h) = rw after at (c.in_err-xml-in-More.ensures.took es known before g.h declared o g.holding) in
-    let fails = going_stops (values_in es c.args.how) known before c.args.cut src _ n (n - 1) c.attributes.cursor.pos c.tag_item.new.self.pos c.attributes.left _ _ _ _ (attribute_view c.in-More.raw) c.in_err-xml-in-More.field-0.0 g one inside is took in
+    let took : IsRefusal c.in_err-xml-in-More.field-0.0 (one_more (values_in es c.args.context) known src (attribute_view c.in-More.raw) c.attributes.openings_left g.h) = rw after at (c.in_err-xml-in-More.ensures.took es known before g.h declared o g.holding) in
+    let fails = going_stops (values_in es c.args.context) known before c.args.cut src _ n (n - 1) c.attributes.cursor.pos c.tag_item.new.self.pos c.attributes.openings_left _ _ _ _ (attribute_view c.in-More.raw) c.in_err-xml-in-More.field-0.0 g one inside is took in
     rw (p.1, p.2) fails
 
 pub returns-in-Open-clause-took : goal.returns-in-Open-clause-took
@@ -77,7 +77,7 @@ returns-in-Open-clause-took c = λ es known before h declared o hold.
     let inside : c.attributes.cursor.pos < length src = rw s at (leb-false _ _ (sym c.is_at_end.ensures ∙ c.if-is_at_end.false)) in
     let is = rw s at c.in_ok-raw.ensures.value in
     let one : n ≡ suc (n - 1) = omega arith in
-    going_ends (values_in es c.args.how) known before c.args.cut src _ n (n - 1) c.attributes.cursor.pos c.tag_item.new.self.pos c.attributes.left _ _ _ false _ (tag_item_view c.in_ok-raw.field-0) g one inside is (ap tag_item_view c.in-Open.is)
+    going_ends (values_in es c.args.context) known before c.args.cut src _ n (n - 1) c.attributes.cursor.pos c.tag_item.new.self.pos c.attributes.openings_left _ _ _ false _ (tag_item_view c.in_ok-raw.field-0) g one inside is (ap tag_item_view c.in-Open.is)
 
 pub returns-in-Empty-clause-took : goal.returns-in-Empty-clause-took
 returns-in-Empty-clause-took c = λ es known before h declared o hold.
@@ -88,7 +88,7 @@ returns-in-Empty-clause-took c = λ es known before h declared o hold.
     let inside : c.attributes.cursor.pos < length src = rw s at (leb-false _ _ (sym c.is_at_end.ensures ∙ c.if-is_at_end.false)) in
     let is = rw s at c.in_ok-raw.ensures.value in
     let one : n ≡ suc (n - 1) = omega arith in
-    going_ends (values_in es c.args.how) known before c.args.cut src _ n (n - 1) c.attributes.cursor.pos c.tag_item.new.self.pos c.attributes.left _ _ _ true _ (tag_item_view c.in_ok-raw.field-0) g one inside is (ap tag_item_view c.in-Empty.is)
+    going_ends (values_in es c.args.context) known before c.args.cut src _ n (n - 1) c.attributes.cursor.pos c.tag_item.new.self.pos c.attributes.openings_left _ _ _ true _ (tag_item_view c.in_ok-raw.field-0) g one inside is (ap tag_item_view c.in-Empty.is)
 
 pub attributes-preserved : goal.attributes-preserved
 attributes-preserved c = record {
@@ -100,7 +100,7 @@ attributes-preserved c = record {
   kept = c.in_ok-xml-in-More.ensures.kept;
   scopes = c.in_ok-xml-in-More.ensures.scopes ∙ c.attributes.invariant.scopes;
   lists = c.in_ok-xml-in-More.ensures.lists ∙ c.attributes.invariant.lists;
-  many = c.in_ok-xml-in-More.ensures.many;
+  prefix_set = c.in_ok-xml-in-More.ensures.prefix_set;
   once = c.in_ok-xml-in-More.ensures.once;
   reads = λ es known before h declared o hold.
       let src = c.args.cursor.now.text.now in
@@ -114,7 +114,7 @@ attributes-preserved c = record {
       let one : n ≡ suc (length src - (c.attributes._turn + 1)) = omega arith in
       let after = ap (λ t. t.now) c.tag_item.ensures.source ∙ s in
       let took = rw after at (c.in_ok-xml-in-More.ensures.took es known before g.h declared o g.holding) in
-      going_on (values_in es c.args.how) known before c.args.cut src _ n (length src - (c.attributes._turn + 1)) c.attributes.cursor.pos c.tag_item.new.self.pos c.attributes.left _ _ _ _ _ _ _ _ _ (attribute_view c.in-More.raw) g one inside is took;
+      going_on (values_in es c.args.context) known before c.args.cut src _ n (length src - (c.attributes._turn + 1)) c.attributes.cursor.pos c.tag_item.new.self.pos c.attributes.openings_left _ _ _ _ _ _ _ _ _ (attribute_view c.in-More.raw) g one inside is took;
 }
 
 pub returns-clause-took : goal.returns-clause-took
@@ -123,4 +123,4 @@ returns-clause-took c = λ es known before h declared o hold.
     let g = c.attributes.invariant.reads es known before h declared o hold in
     let t = c.attributes-test.false in
     let none : length src - c.attributes._turn ≡ 0 = omega arith in
-    going_none (values_in es c.args.how) known before c.args.cut src _ _ c.attributes.cursor.pos c.attributes.left _ _ _ _ g none
+    going_none (values_in es c.args.context) known before c.args.cut src _ _ c.attributes.cursor.pos c.attributes.openings_left _ _ _ _ g none

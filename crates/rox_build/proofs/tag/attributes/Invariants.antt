@@ -22,10 +22,10 @@ invariant-attributes l = record {
   kept : HasBindings l.elements;
   scopes : l.elements.scopes ≡ l.fn.elements.scopes;
   lists : lists_in l.elements ≡ lists_in l.fn.elements;
-  many : IsPrefixSet (map namespace_view l.elements.namespaces.items.items) (drop l.own l.elements.listed.items) l.buffers.many.keys;
+  prefix_set : IsPrefixSet (map namespace_view l.elements.namespaces.items.items) (drop l.own l.elements.listed.items) l.buffers.prefix_set.keys;
   once : PrefixesOnce (entries (map namespace_view l.elements.namespaces.items.items) (drop l.own l.elements.listed.items));
-  reads : (es : List Entity) (known : List NamespaceDecl) (before : List ℕ) (h : TagSoFar) → AreDeclared es l.how.entities.now → l.own ≡ length before
+  reads : (es : List Entity) (known : List NamespaceDecl) (before : List ℕ) (h : TagSoFar) → AreDeclared es l.context.entities.now → l.own ≡ length before
       → HoldsTag known before (map namespace_view l.fn.elements.namespaces.items.items) l.fn.elements.listed.items false l.fn.buffers.taken.items h
-      → Going (values_in es l.how) known before l.cut l.fn.cursor.text.now (attributes_at (length l.fn.cursor.text.now) (values_in es l.how) l.cut known l.fn.cursor.text.now l.fn.cursor.pos l.fn.left h)
-      (length l.fn.cursor.text.now - l._turn) l.cursor.pos l.left (map namespace_view l.elements.namespaces.items.items) l.elements.listed.items l.xml l.buffers.taken.items;
+      → Going (values_in es l.context) known before l.cut l.fn.cursor.text.now (attributes_at (length l.fn.cursor.text.now) (values_in es l.context) l.cut known l.fn.cursor.text.now l.fn.cursor.pos l.fn.openings_left h)
+      (length l.fn.cursor.text.now - l._turn) l.cursor.pos l.openings_left (map namespace_view l.elements.namespaces.items.items) l.elements.listed.items l.xml l.buffers.taken.items;
 }

@@ -34,7 +34,7 @@ element_namespace-requires-clause-within c =
 pub returns-in_err-resolve-clause-err : goal.returns-in_err-resolve-clause-err
 returns-in_err-resolve-clause-err c =
     let t = c.args.elements.now in
-    let names = map namespace_view t.namespaces.items.items in
+    let namespaces = map namespace_view t.namespaces.items.items in
     let scope = scope_at (lists_in t) c.args.scope in
     let written = map unresolved_view c.args.taken.now.items in
     let count = length (attribute_rows t.attributes) in
@@ -50,7 +50,7 @@ returns-in_err-resolve-clause-err c =
 pub returns-in_err-namespace-clause-err : goal.returns-in_err-namespace-clause-err
 returns-in_err-namespace-clause-err c =
     let t = c.args.elements.now in
-    let names = map namespace_view t.namespaces.items.items in
+    let namespaces = map namespace_view t.namespaces.items.items in
     let scope = scope_at (lists_in t) c.args.scope in
     let written = map unresolved_view c.args.taken.now.items in
     let count = length (attribute_rows t.attributes) in
@@ -68,7 +68,7 @@ returns-in_err-namespace-clause-err c =
 pub returns-clause-tested : goal.returns-clause-tested
 returns-clause-tested c =
     let t = c.args.elements.now in
-    let names = map namespace_view t.namespaces.items.items in
+    let namespaces = map namespace_view t.namespaces.items.items in
     let scope = scope_at (lists_in t) c.args.scope in
     let written = map unresolved_view c.args.taken.now.items in
     let count = length (attribute_rows t.attributes) in
@@ -83,7 +83,7 @@ returns-clause-tested c =
 pub overflow_cast-result-2 : goal.overflow_cast-result-2
 overflow_cast-result-2 c =
     let t = c.args.elements.now in
-    let names = map namespace_view t.namespaces.items.items in
+    let namespaces = map namespace_view t.namespaces.items.items in
     let scope = scope_at (lists_in t) c.args.scope in
     let written = map unresolved_view c.args.taken.now.items in
     let count = length (attribute_rows t.attributes) in
@@ -102,7 +102,7 @@ overflow_cast-result-2 c =
 pub returns-clause-element : goal.returns-clause-element
 returns-clause-element c =
     let t = c.args.elements.now in
-    let names = map namespace_view t.namespaces.items.items in
+    let namespaces = map namespace_view t.namespaces.items.items in
     let scope = scope_at (lists_in t) c.args.scope in
     let written = map unresolved_view c.args.taken.now.items in
     let count = length (attribute_rows t.attributes) in
@@ -112,17 +112,17 @@ returns-clause-element c =
     let finds = found_for t c.deref.result.now c.deref-2.result.now c.few_places-few.result c.args.scope c.deref.ensures.value c.deref-2.ensures.value c.few_places-few.ensures.few c.few_places-few.ensures.many c.requires.present in
     let here = seen_by t c.as_slice.result.now (places_view c.few_places-few.result) scope c.as_slice.ensures.value finds in
     let here2 = seen_by t c.as_slice-2.result.now (places_view c.few_places-few.result) scope c.as_slice-2.ensures.value finds in
-    let seen : map namespace_view c.as_slice.result.now ≡ names = ap (map namespace_view) c.as_slice.ensures.value in
-    let seen2 : map namespace_view c.as_slice-2.result.now ≡ names = ap (map namespace_view) c.as_slice-2.ensures.value in
+    let seen : map namespace_view c.as_slice.result.now ≡ namespaces = ap (map namespace_view) c.as_slice.ensures.value in
+    let seen2 : map namespace_view c.as_slice-2.result.now ≡ namespaces = ap (map namespace_view) c.as_slice-2.ensures.value in
     let moved = (c.in_ok-resolve.ensures.ok scope here).1 in
     let named = c.in_ok-namespace.ensures.ok scope here2 in
     let o = c.in_ok-namespace.namespace in
-    let same : map (attribute names) moved.0 ≡ map (attribute_in scope) written =
+    let same : map (attribute namespaces) moved.0 ≡ map (attribute_in scope) written =
     ap (λ ns. map (attribute ns) moved.0) (sym seen) ∙ moved.2 in
-    let wide : length c.as_slice.result.now ≡ length names = ap length c.as_slice.ensures.value ∙ sym (length-map t.namespaces.items.items namespace_view) in
+    let wide : length c.as_slice.result.now ≡ length namespaces = ap length c.as_slice.ensures.value ∙ sym (length-map t.namespaces.items.items namespace_view) in
     let grown = ap length moved.1 ∙ length-append (attribute_rows t.attributes) moved.0 in
     let n = ap length same in
-    let a = length-map moved.0 (attribute names) in
+    let a = length-map moved.0 (attribute namespaces) in
     let b = length-map written (attribute_in scope) in
     record {
       attributes = record {

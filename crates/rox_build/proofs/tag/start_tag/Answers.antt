@@ -17,12 +17,12 @@ use Rattle.rox_tables.proofs.Remembering.{remembers_none}
 use Rattle.rox_build.proofs.Starting.{holds_nothing, tag_unread, tag_untested, tag_made, tagged, tested_fails, tested_passes}
 use Rattle.rox_build.proofs.tag.start_tag.Goals as goal
 
-pub attributes-requires-clause-many : goal.attributes-requires-clause-many
-attributes-requires-clause-many c =
+pub attributes-requires-clause-prefix_set : goal.attributes-requires-clause-prefix_set
+attributes-requires-clause-prefix_set c =
     let listed = c.args.elements.now.listed.items in
     let k = c.args.elements.now.listed.ok.0 in
     let own : c.len-own.result ≡ length listed = omega arith in
-    remembers_none (map namespace_view c.args.elements.now.namespaces.items.items) listed c.len-own.result c.args.buffers.now.many.keys own
+    remembers_none (map namespace_view c.args.elements.now.namespaces.items.items) listed c.len-own.result c.args.buffers.now.prefix_set.keys own
 
 pub attributes-requires-clause-scopes : goal.attributes-requires-clause-scopes
 attributes-requires-clause-scopes c =
@@ -68,7 +68,7 @@ returns-in_err-xml-clause-value c = λ es declared.
     let nothing = holds_nothing known old.listed.items _ few c.clear.ensures.items in
     let took = c.in_err-xml.ensures.took es known old.listed.items start declared own nothing in
     let p = err_from_is_err_and c.from_residual-in_err-xml.result c.from_residual-in_err-xml.ensures.1 in
-    rw (p.1, p.2) (tag_unread (values_in es c.args.how) c.args.cut above (length (attribute_rows old.attributes)) known src i c.args.left name n c.in_err-xml.field-0.0 is other (rw s2 at took))
+    rw (p.1, p.2) (tag_unread (values_in es c.args.context) c.args.cut above (length (attribute_rows old.attributes)) known src i c.args.openings_left name n c.in_err-xml.field-0.0 is other (rw s2 at took))
 
 pub returns-in_err-element-clause-value : goal.returns-in_err-element-clause-value
 returns-in_err-element-clause-value c = λ es declared.
@@ -90,7 +90,7 @@ returns-in_err-element-clause-value c = λ es declared.
     let nothing = holds_nothing known old.listed.items _ few c.clear.ensures.items in
     let took = c.in_ok-xml.ensures.took es known old.listed.items start declared own nothing in
     let h = took.0 in
-    let read : attributes_at (length src) (values_in es c.args.how) c.args.cut known src n c.args.left start ≡ Ok (record { held = h; empty = c.in_ok-xml.empty; left = c.in_ok-xml.left }, c.attributes.new.cursor.pos) = rw s2 at took.1 in
+    let read : attributes_at (length src) (values_in es c.args.context) c.args.cut known src n c.args.openings_left start ≡ Ok (record { held = h; empty = c.in_ok-xml.empty; openings_left = c.in_ok-xml.openings_left }, c.attributes.new.cursor.pos) = rw s2 at took.1 in
     let scopes : scope_in_tables c.scope_of_tag.new.elements c.in_ok-scope.scope ≡ listed above h.own =
     scope_declared known old.listed.items (map namespace_view c.attributes.new.elements.namespaces.items.items) c.attributes.new.elements.listed.items c.in_ok-xml.xml h.own
     (scope_in_tables c.attributes.new.elements c.args.above) (scope_in_tables c.scope_of_tag.new.elements c.in_ok-scope.scope) c.len-own.result own took.2.declares c.in_ok-scope.ensures.value.lists
@@ -101,7 +101,7 @@ returns-in_err-element-clause-value c = λ es declared.
     let p = err_from_is_err_and c.from_residual-in_err-element.result c.from_residual-in_err-element.ensures.1 in
     let fails : Fails c.in_err-element.field-0.0 (tag_tested (listed above h.own) (length (attribute_rows old.attributes)) i name h.attributes) =
     tested_fails c.in_err-element.field-0.0 (listed above h.own) (length (attribute_rows old.attributes)) i name h.attributes (rw (scopes, count, written, c.advance.ensures.place) at c.in_err-element.ensures.err) in
-    rw (p.1, p.2) (tag_untested (values_in es c.args.how) c.args.cut above (length (attribute_rows old.attributes)) known src i c.args.left name n c.attributes.new.cursor.pos h c.in_ok-xml.empty c.in_ok-xml.left c.in_err-element.field-0.0 is other read fails)
+    rw (p.1, p.2) (tag_untested (values_in es c.args.context) c.args.cut above (length (attribute_rows old.attributes)) known src i c.args.openings_left name n c.attributes.new.cursor.pos h c.in_ok-xml.empty c.in_ok-xml.openings_left c.in_err-element.field-0.0 is other read fails)
 
 pub returns-clause-value : goal.returns-clause-value
 returns-clause-value c = λ es declared.
@@ -123,7 +123,7 @@ returns-clause-value c = λ es declared.
     let nothing = holds_nothing known old.listed.items _ few c.clear.ensures.items in
     let took = c.in_ok-xml.ensures.took es known old.listed.items start declared own nothing in
     let h = took.0 in
-    let read : attributes_at (length src) (values_in es c.args.how) c.args.cut known src n c.args.left start ≡ Ok (record { held = h; empty = c.in_ok-xml.empty; left = c.in_ok-xml.left }, c.attributes.new.cursor.pos) = rw s2 at took.1 in
+    let read : attributes_at (length src) (values_in es c.args.context) c.args.cut known src n c.args.openings_left start ≡ Ok (record { held = h; empty = c.in_ok-xml.empty; openings_left = c.in_ok-xml.openings_left }, c.attributes.new.cursor.pos) = rw s2 at took.1 in
     let scopes : scope_in_tables c.scope_of_tag.new.elements c.in_ok-scope.scope ≡ listed above h.own =
     scope_declared known old.listed.items (map namespace_view c.attributes.new.elements.namespaces.items.items) c.attributes.new.elements.listed.items c.in_ok-xml.xml h.own
     (scope_in_tables c.attributes.new.elements c.args.above) (scope_in_tables c.scope_of_tag.new.elements c.in_ok-scope.scope) c.len-own.result own took.2.declares c.in_ok-scope.ensures.value.lists
@@ -134,8 +134,8 @@ returns-clause-value c = λ es declared.
     let fine : tag_tested (listed above h.own) (length (attribute_rows old.attributes)) i name h.attributes ≡ Ok tt =
     tested_passes (listed above h.own) (length (attribute_rows old.attributes)) i name h.attributes (rw (scopes, count, written, c.advance.ensures.place) at c.in_ok-element.ensures.tested) in (
       record { name = name; name_end = n; declarations = h.own; attributes = h.attributes },
-      tag_made (values_in es c.args.how) c.args.cut above (length (attribute_rows old.attributes)) known src i c.args.left name n c.attributes.new.cursor.pos h c.in_ok-xml.empty c.in_ok-xml.left is other read fine,
+      tag_made (values_in es c.args.context) c.args.cut above (length (attribute_rows old.attributes)) known src i c.args.openings_left name n c.attributes.new.cursor.pos h c.in_ok-xml.empty c.in_ok-xml.openings_left is other read fine,
       tagged old c.attributes.new.elements c.scope_of_tag.new.elements c.element_data.new.elements _ above name n h c.in_ok-xml.xml _ c.in_ok-scope.scope refl refl
-          c.in_ok-xml.ensures.attributes took.2 c.in_ok-xml.ensures.few c.in_ok-scope.ensures.names c.in_ok-scope.ensures.attributes c.in_ok-xml.ensures.lists (c.in_ok-scope.ensures.value.more, c.in_ok-scope.ensures.value.lists_more) c.in_ok-scope.ensures.value.places
-          c.in_ok-scope.ensures.value.scopes scopes c.in_ok-element.ensures.names c.in_ok-element.ensures.listed c.in_ok-element.ensures.scopes c.in_ok-element.ensures.element c.in_ok-scope.ensures.value.kept c.in_ok-element.ensures.present c.in_ok-scope.ensures.value.once,
+          c.in_ok-xml.ensures.attributes took.2 c.in_ok-xml.ensures.few c.in_ok-scope.ensures.namespaces c.in_ok-scope.ensures.attributes c.in_ok-xml.ensures.lists (c.in_ok-scope.ensures.value.more, c.in_ok-scope.ensures.value.lists_more) c.in_ok-scope.ensures.value.places
+          c.in_ok-scope.ensures.value.scopes scopes c.in_ok-element.ensures.namespaces c.in_ok-element.ensures.listed c.in_ok-element.ensures.scopes c.in_ok-element.ensures.element c.in_ok-scope.ensures.value.kept c.in_ok-element.ensures.present c.in_ok-scope.ensures.value.once,
     )

@@ -20,4 +20,4 @@ loop-end-preserved c =
     let here : ends_run src j ≡ false = rw (no_tag, ← c.is_mark_at.ensures, c.if-is_mark_at.false) refl in
     let some : j < c.after_char-next.result = omega (arith, a.onward, c.if-next-end.false) in
     let changed : c.changes_run.result ≡ changes_run (get_or src j 0) = c.changes_run.ensures ∙ ap changes_run read in
-    record { looked = rw changed (run_on src c.args.at j _ _ c.loop-end.plain c.utf8.text c.requires c.loop-end.invariant.looked some a.cut a.chars a.wide here n.onward n.within n.passes n.stops) }
+    record { looked = rw changed (run_on src c.args.at j _ _ c.loop-end.is_verbatim c.utf8.text c.requires c.loop-end.invariant.looked some a.cut a.chars a.wide here n.onward n.within n.passes n.stops) }

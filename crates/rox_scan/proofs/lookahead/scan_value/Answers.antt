@@ -25,7 +25,7 @@ loop-end-preserved c =
     let here : ends_value c.args.quote src j ≡ false = rw (other, no_tag) refl in
     let some : j < c.after_char-next.result = omega (arith, a.onward, c.if-next-end.false) in
     let changed : c.is_special.result ≡ is_special (get_or src j 0) = c.is_special.ensures ∙ ap is_special read in
-    record { looked = rw changed (value_on src c.args.quote c.args.at j _ _ c.loop-end.plain c.utf8.text c.requires.quote c.requires.cut c.loop-end.invariant.looked some a.cut a.chars a.wide here n.onward n.within n.passes n.stops) }
+    record { looked = rw changed (value_on src c.args.quote c.args.at j _ _ c.loop-end.is_verbatim c.utf8.text c.requires.quote c.requires.cut c.loop-end.invariant.looked some a.cut a.chars a.wide here n.onward n.within n.passes n.stops) }
 
 pub returns-after-loop-end-clause-looked : goal.returns-after-loop-end-clause-looked
 returns-after-loop-end-clause-looked c = c.loop-end.invariant.looked

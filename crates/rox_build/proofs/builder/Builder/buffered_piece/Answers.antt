@@ -16,7 +16,7 @@ returns-in_err-room-in-None-clause-value c = λ total at s sh.
     let p = err_from_is_err_and c.from_residual.result c.from_residual.ensures.1 in
     let b = c.args.self.now in
     let v : List ℕ = string_bytes c.args.self.now.buffers.scratch in
-    let t : State = record { at = at; done = join s.done (leaf (Text c.args.start c.args.end v false)); stack = s.stack; left = s.left } in
+    let t : State = record { at = at; done = join s.done (leaf (Text c.args.start c.args.end v false)); stack = s.stack; openings_left = s.openings_left } in
     let n = first_count total s.stack s.done b c.args.start c.args.end v false sh c.in-None.is in
     let e = c.in_err-room-in-None.ensures.err in
     let over = e.1 in
@@ -28,7 +28,7 @@ pub returns-in_ok-room-in-None-clause-value : goal.returns-in_ok-room-in-None-cl
 returns-in_ok-room-in-None-clause-value c = λ total at s sh.
     let b = c.args.self.now in
     let v : List ℕ = string_bytes c.args.self.now.buffers.scratch in
-    let t : State = record { at = at; done = join s.done (leaf (Text c.args.start c.args.end v false)); stack = s.stack; left = s.left } in
+    let t : State = record { at = at; done = join s.done (leaf (Text c.args.start c.args.end v false)); stack = s.stack; openings_left = s.openings_left } in
     let n = first_count total s.stack s.done b c.args.start c.args.end v false sh c.in-None.is in
     let room = c.in_ok-room-in-None.ensures.ok in
     let w = ap waiting c.in-None.is in
@@ -39,7 +39,7 @@ pub returns-in_ok-push_str-in-Slice-2-clause-value : goal.returns-in_ok-push_str
 returns-in_ok-push_str-in-Slice-2-clause-value c = λ total at s sh.
     let b = c.args.self.now in
     let v : List ℕ = string_bytes c.args.self.now.buffers.scratch in
-    let t : State = record { at = at; done = join s.done (leaf (Text c.args.start c.args.end v false)); stack = s.stack; left = s.left } in
+    let t : State = record { at = at; done = join s.done (leaf (Text c.args.start c.args.end v false)); stack = s.stack; openings_left = s.openings_left } in
     let was : pending_text b.pending (string_bytes b.joined) ≡ leaf (Text c.in-Slice.first c.in-Slice.until c.in-Slice.before.now true) = ap (λ (p : Pending). pending_text p (string_bytes b.joined)) c.in-Slice.is in
     let n = more_count total s.stack s.done b c.in-Slice.first c.in-Slice.until c.in-Slice.before.now true c.args.start c.args.end v false sh was in
     let w = ap waiting c.in-Slice.is in
@@ -57,7 +57,7 @@ pub returns-in_ok-push_str-in-Joined-clause-value : goal.returns-in_ok-push_str-
 returns-in_ok-push_str-in-Joined-clause-value c = λ total at s sh.
     let b = c.args.self.now in
     let v : List ℕ = string_bytes c.args.self.now.buffers.scratch in
-    let t : State = record { at = at; done = join s.done (leaf (Text c.args.start c.args.end v false)); stack = s.stack; left = s.left } in
+    let t : State = record { at = at; done = join s.done (leaf (Text c.args.start c.args.end v false)); stack = s.stack; openings_left = s.openings_left } in
     let was : pending_text b.pending (string_bytes b.joined) ≡ leaf (Text c.in-Joined.field-0 c.in-Joined.field-1 (string_bytes b.joined) false) = ap (λ (p : Pending). pending_text p (string_bytes b.joined)) c.in-Joined.is in
     let n = more_count total s.stack s.done b c.in-Joined.field-0 c.in-Joined.field-1 (string_bytes b.joined) false c.args.start c.args.end v false sh was in
     let w = ap waiting c.in-Joined.is in

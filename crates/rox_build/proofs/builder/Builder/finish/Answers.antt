@@ -15,4 +15,4 @@ returns-clause-ok c = λ end done sh sound.
     let whole : Tables = record { nodes = c.end_root.new.nodes; attributes = b.tables.attributes; namespaces = b.tables.namespaces.items; listed = b.tables.listed; scopes = b.tables.scopes } in
     same_held whole _ _ c.trim.ensures.items c.trim-2.ensures refl refl refl
     (finish_holds end done b whole st fine (omega arith)
-    (λ d. c.end_root.ensures.rows d ∙ ap (λ (n : ℕ). set b.nodes.items 0 (record (get_or b.nodes.items 0 d) { next = n })) count) refl refl refl refl)
+    (λ d. c.end_root.ensures.rows d ∙ ap (λ (n : ℕ). set b.nodes.items 0 (record (get_or b.nodes.items 0 d) { subtree_end = n })) count) refl refl refl refl)

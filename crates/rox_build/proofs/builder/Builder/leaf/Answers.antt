@@ -14,7 +14,7 @@ returns-clause-value c = λ total at s item sh is.
     let f = c.flush.new.self in
     let st = c.in_ok-flush.ensures.ok total s.stack s.done sh in
     let k : IsNode f.tables (scope_of s.stack) c.args.start c.args.end c.args.kind item = rw c.flush.ensures.tables is in
-    let t : State = record { at = at; done = join s.done (leaf item); stack = s.stack; left = s.left } in
+    let t : State = record { at = at; done = join s.done (leaf item); stack = s.stack; openings_left = s.openings_left } in
     let n = settled_count total s.stack s.done f st in
     let m = leaf_count s.stack s.done item is.no_text in
     let room = c.in_ok-room.ensures.ok in
@@ -32,7 +32,7 @@ returns-in_err-room-clause-value c = λ total at s item sh is.
     let p = err_from_is_err_and c.from_residual-in_err-room.result c.from_residual-in_err-room.ensures.1 in
     let f = c.flush.new.self in
     let st = c.in_ok-flush.ensures.ok total s.stack s.done sh in
-    let t : State = record { at = at; done = join s.done (leaf item); stack = s.stack; left = s.left } in
+    let t : State = record { at = at; done = join s.done (leaf item); stack = s.stack; openings_left = s.openings_left } in
     let n = settled_count total s.stack s.done f st in
     let m = leaf_count s.stack s.done item is.no_text in
     let e = c.in_err-room.ensures.err in

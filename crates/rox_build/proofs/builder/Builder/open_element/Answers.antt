@@ -14,12 +14,12 @@ use Rattle.rox_build.proofs.Showing.{row_open, open_shows, open_count, settled_c
 use Rattle.rox_build.proofs.builder.Builder.open_element.Goals as goal
 
 pub returns-clause-value : goal.returns-clause-value
-returns-clause-value c = λ total at left s t sh here is.
+returns-clause-value c = λ total at openings_left s t sh here is.
     let f = c.flush.new.self in
     let tag = c.args.tag.now in
     let st = c.in_ok-flush.ensures.ok total s.stack s.done sh in
     let op : IsOpening f.tables (scope_of s.stack) s.at tag t = rw (c.flush.ensures.tables, here) is in
-    let next : State = record { at = at; done = Nil; stack = inside s.at t s.done s.stack; left = left } in
+    let next : State = record { at = at; done = Nil; stack = inside s.at t s.done s.stack; openings_left = openings_left } in
     let n = settled_count total s.stack s.done f st in
     let m = open_count s.stack s.at t s.done in
     let room = c.in_ok-room.ensures.ok in
@@ -32,18 +32,18 @@ returns-clause-value c = λ total at left s t sh here is.
     let view : opened (lists_in f.tables) x ≡ record { row = x.row; name = t.name; name_start = s.at + 1; name_end = t.name_end; scope = listed (scope_of s.stack) t.declarations } =
     rw (op.name, op.name_start, op.name_end, op.scope) refl in
     let rows : c.push.new.to.items ≡ f.nodes.items ++ row_open f.tables 0 f.opened.items s.at k ∷ [] =
-    rw here (c.in_ok-push.ensures.items ∙ ap (λ (r : NodeData). f.nodes.items ++ record r { next = 0 } ∷ []) c.row-opening.ensures) in (
+    rw here (c.in_ok-push.ensures.items ∙ ap (λ (r : NodeData). f.nodes.items ++ record r { subtree_end = 0 } ∷ []) c.row-opening.ensures) in (
       next,
       counted_ok c.args.self.now.nodes_limit next (omega arith),
       open_shows total s.stack s.done f _ s.at k t x st op.node.is op.node.within place view rows refl c.in_ok-push-2.ensures.items refl,
     )
 
 pub returns-in_err-room-clause-value : goal.returns-in_err-room-clause-value
-returns-in_err-room-clause-value c = λ total at left s t sh here is.
+returns-in_err-room-clause-value c = λ total at openings_left s t sh here is.
     let p = err_from_is_err_and c.from_residual-in_err-room.result c.from_residual-in_err-room.ensures.1 in
     let f = c.flush.new.self in
     let st = c.in_ok-flush.ensures.ok total s.stack s.done sh in
-    let next : State = record { at = at; done = Nil; stack = inside s.at t s.done s.stack; left = left } in
+    let next : State = record { at = at; done = Nil; stack = inside s.at t s.done s.stack; openings_left = openings_left } in
     let n = settled_count total s.stack s.done f st in
     let m = open_count s.stack s.at t s.done in
     let e = c.in_err-room.ensures.err in

@@ -24,10 +24,10 @@ use Rattle.rox_tables.proofs.namespaces.namespace_decl.declare_namespace.Goals a
 pub is_again-requires : goal.is_again-requires
 is_again-requires c =
     let listed = c.args.listed.now.items in
-    let names = map namespace_view c.args.names.now.items.items in
+    let namespaces = map namespace_view c.args.namespaces.now.items.items in
     rw (c.as_slice.ensures.value, c.deref.ensures.value) (record {
-      places = all_slice (λ i. i < length c.args.names.now.items.items) listed c.args.own (length listed) c.requires.places;
-      many = subst (λ xs. IsPrefixSet names xs c.args.many.now.keys) (sym (slice-rest listed c.args.own)) c.requires.many;
+      places = all_slice (λ i. i < length c.args.namespaces.now.items.items) listed c.args.own (length listed) c.requires.places;
+      prefix_set = subst (λ xs. IsPrefixSet namespaces xs c.args.prefix_set.now.keys) (sym (slice-rest listed c.args.own)) c.requires.prefix_set;
     })
 
 pub returns-in_err-test_uri-clause-value : goal.returns-in_err-test_uri-clause-value
@@ -41,7 +41,7 @@ pub returns-then-is_again-clause-value : goal.returns-then-is_again-clause-value
 returns-then-is_again-clause-value c = λ known before h o d.
     let a = unresolved_view c.args.taken in
     let uri = sym c.test_uri.ensures ∙ c.in_ok-test_uri.was in
-    let mine = own_listed known before (map namespace_view c.args.names.now.items.items) (map namespace_view c.as_slice.result.now) c.args.listed.now.items c.deref.result.now c.args.xml h.own c.args.own
+    let mine = own_listed known before (map namespace_view c.args.namespaces.now.items.items) (map namespace_view c.as_slice.result.now) c.args.listed.now.items c.deref.result.now c.args.xml h.own c.args.own
     o (ap (map namespace_view) c.as_slice.ensures.value) c.deref.ensures.value d in
     let again : is_declared (namespace_decl_of a).prefix h.own ≡ true =
     ap (λ p. is_declared p h.own) (sym c.declared_prefix-prefix.ensures) ∙ sym (c.is_again.ensures.value h.own d.xml_is mine) ∙ c.if-is_again.true in
@@ -51,19 +51,19 @@ pub returns-then-is_xml-clause-value : goal.returns-then-is_xml-clause-value
 returns-then-is_xml-clause-value c = λ known before h o d.
     let a = unresolved_view c.args.taken in
     let uri = sym c.test_uri.ensures ∙ c.in_ok-test_uri.was in
-    let mine = own_listed known before (map namespace_view c.args.names.now.items.items) (map namespace_view c.as_slice.result.now) c.args.listed.now.items c.deref.result.now c.args.xml h.own c.args.own
+    let mine = own_listed known before (map namespace_view c.args.namespaces.now.items.items) (map namespace_view c.as_slice.result.now) c.args.listed.now.items c.deref.result.now c.args.xml h.own c.args.own
     o (ap (map namespace_view) c.as_slice.ensures.value) c.deref.ensures.value d in
     let new : is_declared (namespace_decl_of a).prefix h.own ≡ false =
     ap (λ p. is_declared p h.own) (sym c.declared_prefix-prefix.ensures) ∙ sym (c.is_again.ensures.value h.own d.xml_is mine) ∙ c.if-is_again.false in
     let is : is_xml (namespace_decl_of a).prefix ≡ true = ap is_xml (sym c.declared_prefix-prefix.ensures) ∙ sym c.is_xml.ensures ∙ c.if-is_xml.true in
-    declares_prefix_xml known before (map namespace_view c.args.names.now.items.items) c.args.listed.now.items c.args.xml a h d uri new is
+    declares_prefix_xml known before (map namespace_view c.args.namespaces.now.items.items) c.args.listed.now.items c.args.xml a h d uri new is
 
 pub returns-in_err-place-clause-value : goal.returns-in_err-place-clause-value
 returns-in_err-place-clause-value c = λ known before h o d.
     let a = unresolved_view c.args.taken in
     let p = err_from_is_err_and c.from_residual-in_err-place.result c.from_residual-in_err-place.ensures.1 in
     let uri = sym c.test_uri.ensures ∙ c.in_ok-test_uri.was in
-    let mine = own_listed known before (map namespace_view c.args.names.now.items.items) (map namespace_view c.as_slice.result.now) c.args.listed.now.items c.deref.result.now c.args.xml h.own c.args.own
+    let mine = own_listed known before (map namespace_view c.args.namespaces.now.items.items) (map namespace_view c.as_slice.result.now) c.args.listed.now.items c.deref.result.now c.args.xml h.own c.args.own
     o (ap (map namespace_view) c.as_slice.ensures.value) c.deref.ensures.value d in
     let prefix_is = c.declared_prefix-prefix.ensures in
     let new : is_declared (namespace_decl_of a).prefix h.own ≡ false =
@@ -72,42 +72,42 @@ returns-in_err-place-clause-value c = λ known before h o d.
     let one : pair (prefix_view c.declared_prefix-prefix.result) a.value ≡ namespace_decl_of a = ap (λ p. pair p a.value) prefix_is in
     rw (p.1, p.2) (fails_by c.in_err-place.field-0.0 c.place.result (declared known a h) c.in_err-place.was (λ f was.
     let k = c.place.ensures.fault f was in
-    let many : most_pairs < length (with_new (map namespace_view c.args.names.now.items.items) (namespace_decl_of a ∷ [])) =
-    subst (λ (x : NamespaceDecl). most_pairs < length (with_new (map namespace_view c.args.names.now.items.items) (x ∷ []))) one k.1 in
-    declared_many known a h uri new (many_pairs known before (map namespace_view c.args.names.now.items.items) c.args.listed.now.items c.args.xml a h d is many) ∙ ap (λ (x : Fault). Err x) (sym k.0)))
+    let many : most_pairs < length (with_new (map namespace_view c.args.namespaces.now.items.items) (namespace_decl_of a ∷ [])) =
+    subst (λ (x : NamespaceDecl). most_pairs < length (with_new (map namespace_view c.args.namespaces.now.items.items) (x ∷ []))) one k.1 in
+    declared_many known a h uri new (many_pairs known before (map namespace_view c.args.namespaces.now.items.items) c.args.listed.now.items c.args.xml a h d is many) ∙ ap (λ (x : Fault). Err x) (sym k.0)))
 
 pub returns-clause-value : goal.returns-clause-value
 returns-clause-value c = λ known before h o d.
     let a = unresolved_view c.args.taken in
     let uri = sym c.test_uri.ensures ∙ c.in_ok-test_uri.was in
-    let mine = own_listed known before (map namespace_view c.args.names.now.items.items) (map namespace_view c.as_slice.result.now) c.args.listed.now.items c.deref.result.now c.args.xml h.own c.args.own
+    let mine = own_listed known before (map namespace_view c.args.namespaces.now.items.items) (map namespace_view c.as_slice.result.now) c.args.listed.now.items c.deref.result.now c.args.xml h.own c.args.own
     o (ap (map namespace_view) c.as_slice.ensures.value) c.deref.ensures.value d in
     let prefix_is = c.declared_prefix-prefix.ensures in
     let new : is_declared (namespace_decl_of a).prefix h.own ≡ false =
     ap (λ p. is_declared p h.own) (sym prefix_is) ∙ sym (c.is_again.ensures.value h.own d.xml_is mine) ∙ c.if-is_again.false in
     let is : is_xml (namespace_decl_of a).prefix ≡ false = ap is_xml (sym prefix_is) ∙ sym c.is_xml.ensures ∙ c.if-is_xml.false in
     let one : pair (prefix_view c.declared_prefix-prefix.result) a.value ≡ namespace_decl_of a = ap (λ p. pair p a.value) prefix_is in
-    let names = map namespace_view c.args.names.now.items.items in
+    let namespaces = map namespace_view c.args.namespaces.now.items.items in
     let rows = c.place.new.self.items.items in
     let long = length-map rows namespace_view in
     let there = c.in_ok-place.ensures.there in
     let few : length (map namespace_view rows) ≤ most_pairs = rw long c.in_ok-place.ensures.few in
     let here : c.in_ok-place.place < length (map namespace_view rows) = rw long there.0 in
-    declares_other known before names (map namespace_view rows) c.args.listed.now.items c.push.new.self.items c.args.xml a h c.in_ok-place.place d uri new is
-    (c.in_ok-place.ensures.table ∙ ap (λ (x : NamespaceDecl). with_new names (x ∷ [])) one) few here (there.1 ∙ one) c.in_ok-push.ensures.items
+    declares_other known before namespaces (map namespace_view rows) c.args.listed.now.items c.push.new.self.items c.args.xml a h c.in_ok-place.place d uri new is
+    (c.in_ok-place.ensures.table ∙ ap (λ (x : NamespaceDecl). with_new namespaces (x ∷ [])) one) few here (there.1 ∙ one) c.in_ok-push.ensures.items
 
 pub returns-clause-places : goal.returns-clause-places
 returns-clause-places c =
-    places_after c.args.names.now.items.items c.place.new.self.items.items c.args.listed.now.items c.push.new.self.items (pair (prefix_view c.declared_prefix-prefix.result) (storage_bytes c.args.taken.value)) c.in_ok-place.place
+    places_after c.args.namespaces.now.items.items c.place.new.self.items.items c.args.listed.now.items c.push.new.self.items (pair (prefix_view c.declared_prefix-prefix.result) (storage_bytes c.args.taken.value)) c.in_ok-place.place
     c.in_ok-place.ensures.table c.in_ok-place.ensures.there.0 c.in_ok-push.ensures.items c.requires.places
 
 pub returns-clause-grown : goal.returns-clause-grown
 returns-clause-grown c = λ lists x h.
-    kept_after c.args.names.now.items.items c.place.new.self.items.items lists (pair (prefix_view c.declared_prefix-prefix.result) (storage_bytes c.args.taken.value)) x c.in_ok-place.ensures.table h
+    kept_after c.args.namespaces.now.items.items c.place.new.self.items.items lists (pair (prefix_view c.declared_prefix-prefix.result) (storage_bytes c.args.taken.value)) x c.in_ok-place.ensures.table h
 
 pub returns-clause-lists : goal.returns-clause-lists
 returns-clause-lists c = λ scopes h.
-    lists_after c.args.names.now.items.items c.place.new.self.items.items c.args.listed.now.items c.push.new.self.items (pair (prefix_view c.declared_prefix-prefix.result) (storage_bytes c.args.taken.value)) c.in_ok-place.place
+    lists_after c.args.namespaces.now.items.items c.place.new.self.items.items c.args.listed.now.items c.push.new.self.items (pair (prefix_view c.declared_prefix-prefix.result) (storage_bytes c.args.taken.value)) c.in_ok-place.place
     c.args.own scopes c.in_ok-place.ensures.table c.in_ok-push.ensures.items c.requires.own c.requires.places h
 
 pub add_prefix-requires : goal.add_prefix-requires
@@ -115,31 +115,31 @@ add_prefix-requires c =
     let rows = c.place.new.self.items.items in
     let after = c.push.new.self.items in
     rw (c.as_slice-2.ensures.value, c.deref-2.ensures.value) (all_slice (λ i. i < length rows) after c.args.own (length after)
-    (places_after c.args.names.now.items.items rows c.args.listed.now.items after (pair (prefix_view c.declared_prefix-prefix.result) (storage_bytes c.args.taken.value)) c.in_ok-place.place
+    (places_after c.args.namespaces.now.items.items rows c.args.listed.now.items after (pair (prefix_view c.declared_prefix-prefix.result) (storage_bytes c.args.taken.value)) c.in_ok-place.place
     c.in_ok-place.ensures.table c.in_ok-place.ensures.there.0 c.in_ok-push.ensures.items c.requires.places))
 
-pub returns-clause-many : goal.returns-clause-many
-returns-clause-many c =
+pub returns-clause-prefix_set : goal.returns-clause-prefix_set
+returns-clause-prefix_set c =
     let rows = c.place.new.self.items.items in
-    let names = map namespace_view rows in
+    let namespaces = map namespace_view rows in
     let listed = c.args.listed.now.items in
     let after = c.push.new.self.items in
     let before = drop c.args.own listed in
     let mine : drop c.args.own after ≡ before ++ c.in_ok-place.place ∷ [] = ap (drop c.args.own) c.in_ok-push.ensures.items ∙ drop-append-le c.args.own listed (c.in_ok-place.place ∷ []) c.requires.own in
     let seen : slice_range c.deref-2.result.now c.args.own (length c.deref-2.result.now) ≡ drop c.args.own after = slice-rest c.deref-2.result.now c.args.own ∙ ap (drop c.args.own) c.deref-2.ensures.value in
-    let old : IsPrefixSet names before c.args.many.now.keys =
-    remembers_after c.args.names.now.items.items rows listed (pair (prefix_view c.declared_prefix-prefix.result) (storage_bytes c.args.taken.value)) c.args.own c.args.many.now.keys c.in_ok-place.ensures.table c.requires.places c.requires.many in
+    let old : IsPrefixSet namespaces before c.args.prefix_set.now.keys =
+    remembers_after c.args.namespaces.now.items.items rows listed (pair (prefix_view c.declared_prefix-prefix.result) (storage_bytes c.args.taken.value)) c.args.own c.args.prefix_set.now.keys c.in_ok-place.ensures.table c.requires.places c.requires.prefix_set in
     let table = ap (map namespace_view) c.as_slice-2.ensures.value in
     let prefix_is = ap (λ (d : NamespaceDecl). d.prefix) c.in_ok-place.ensures.there.1 in
-    subst (λ xs. IsPrefixSet names xs c.add_prefix.new.prefixes.keys) seen
+    subst (λ xs. IsPrefixSet namespaces xs c.add_prefix.new.prefixes.keys) seen
     (subst (λ ns. IsPrefixSet ns (slice_range c.deref-2.result.now c.args.own (length c.deref-2.result.now)) c.add_prefix.new.prefixes.keys) table
     (c.in_ok-add_prefix.ensures.value before c.in_ok-place.place (seen ∙ mine)
     (subst (λ ns. (namespace_at ns c.in_ok-place.place).prefix ≡ prefix_view c.declared_prefix-prefix.result) (sym table) prefix_is)
-    (subst (λ ns. IsPrefixSet ns before c.args.many.now.keys) (sym table) old)))
+    (subst (λ ns. IsPrefixSet ns before c.args.prefix_set.now.keys) (sym table) old)))
 
 pub returns-clause-once : goal.returns-clause-once
 returns-clause-once c =
-    let old = c.args.names.now.items.items in
+    let old = c.args.namespaces.now.items.items in
     let listed = c.args.listed.now.items in
     let seen = c.deref.result.now in
     let one = pair (prefix_view c.declared_prefix-prefix.result) (storage_bytes c.args.taken.value) in

@@ -8,9 +8,9 @@ use Rattle.rox_tables.proofs.namespaces.resolve.element_namespace.Goals as goal
 
 pub returns-in-Some-clause-ok : goal.returns-in-Some-clause-ok
 returns-in-Some-clause-ok c = λ ds h.
-    let names = map namespace_view c.args.names.now in
+    let namespaces = map namespace_view c.args.namespaces.now in
     let filled : bytes_eq c.args.name.prefix.now [] ≡ false = empty_is c.args.name.prefix.now c.is_empty.result c.is_empty.ensures ∙ c.if-is_empty.false in
-    element_some names ds (name_view c.args.name) c.in-Some.place filled (sym (h.uris _) ∙ sym c.in-Some.ensures.value)
+    element_some namespaces ds (name_view c.args.name) c.in-Some.place filled (sym (h.uris _) ∙ sym c.in-Some.ensures.value)
 
 pub returns-in-None-clause-err : goal.returns-in-None-clause-err
 returns-in-None-clause-err c = λ ds h.

@@ -5,4 +5,4 @@ use Rattle.rox_tables.specs.ResolvedNames.{has_expanded}
 use Rattle.rox_tables.proofs.namespaces.resolve.is_repeated.Given as goal
 
 abbrev pub invariant-loop-attribute : goal.invariant-loop-attribute
-invariant-loop-attribute l = list_any (has_expanded (map namespace_view l.names) l.namespace l.local) (take l.attribute-index l.done) ≡ false
+invariant-loop-attribute l = list_any (has_expanded (map namespace_view l.namespaces) l.namespace l.local) (take l.attribute-index l.done) ≡ false

@@ -7,8 +7,8 @@ use Rattle.rox_tables.proofs.namespaces.resolve.namespace_uri.Goals as goal
 
 pub returns-in-Listed : goal.returns-in-Listed
 returns-in-Listed c =
-    let rows = c.args.names.now in
+    let rows = c.args.namespaces.now in
     let place = c.in-Listed.place in
     let lt : place < length rows = subst (λ (s : AttributeNamespace). NamespaceWithin (length rows) s) c.in-Listed.is c.requires in
-    ap Some (c.as_str.ensures ∙ ap (λ (d : NamespaceDecl). d.uri) (sym (namespace_at-get rows place c.index-names-place.result lt)))
+    ap Some (c.as_str.ensures ∙ ap (λ (d : NamespaceDecl). d.uri) (sym (namespace_at-get rows place c.index-namespaces-place.result lt)))
     ∙ ap (attribute_uri (map namespace_view rows)) (sym c.in-Listed.is)

@@ -8,9 +8,9 @@ use Rattle.rox_tables.proofs.namespaces.resolve.resolve_many.Goals as goal
 
 pub loop-turn-init : goal.loop-turn-init
 loop-turn-init c = record {
-  moving = starts (length c.args.names.now) c.args.taken.now.items (attribute_rows c.args.attributes.now);
-  resolving = λ ds h. resolves_first (map namespace_view c.args.names.now) ds c.args.taken.now.items (attribute_rows c.args.attributes.now);
-  sees = sees_start (map namespace_view c.args.names.now) c.new-seen.result.keys (attribute_rows c.args.attributes.now) c.new-seen.ensures.empty;
+  moving = starts (length c.args.namespaces.now) c.args.taken.now.items (attribute_rows c.args.attributes.now);
+  resolving = λ ds h. resolves_first (map namespace_view c.args.namespaces.now) ds c.args.taken.now.items (attribute_rows c.args.attributes.now);
+  sees = sees_start (map namespace_view c.args.namespaces.now) c.new-seen.result.keys (attribute_rows c.args.attributes.now) c.new-seen.ensures.empty;
 }
 
 pub returns-in_err-namespace-clause-err : goal.returns-in_err-namespace-clause-err
@@ -19,15 +19,15 @@ returns-in_err-namespace-clause-err c = λ ds h.
     let old = attribute_rows c.args.attributes.now in
     let here : l.turn < length l.taken.items = omega arith in
     let p = err_from_is_err_and c.from_residual.result c.from_residual.ensures.1 in
-    rw (p.1, p.2) (refuses_or (length c.args.names.now) (map namespace_view c.args.names.now) ds c.args.taken.now.items old l.turn l.taken.items (attribute_rows l.attributes)
+    rw (p.1, p.2) (refuses_or (length c.args.namespaces.now) (map namespace_view c.args.namespaces.now) ds c.args.taken.now.items old l.turn l.taken.items (attribute_rows l.attributes)
     c.index.result.now c.in_err-namespace.field-0.0 l.invariant.moving (l.invariant.resolving ds h) here c.index.ensures
     (λ before rest shown. c.in_err-namespace.ensures.tested ds (drop (length old) (attribute_rows l.attributes)) before rest h l.invariant.sees shown))
 
 pub loop-turn-preserved : goal.loop-turn-preserved
 loop-turn-preserved c =
     let l = c.loop-turn in
-    let n = length c.args.names.now in
-    let names = map namespace_view c.args.names.now in
+    let n = length c.args.namespaces.now in
+    let namespaces = map namespace_view c.args.namespaces.now in
     let initial = c.args.taken.now.items in
     let old = attribute_rows c.args.attributes.now in
     let here : l.turn < length l.taken.items = omega arith in
@@ -36,12 +36,12 @@ loop-turn-preserved c =
     record {
       moving = moves n initial old l.turn l.taken.items (attribute_rows l.attributes) c.index.result.now c.index_mut.result.now c.move_row-row.new.taken c.in_ok-namespace.namespace c.move_row-row.result (attribute_rows c.push.new.self)
           m here c.index.ensures c.in_ok-namespace.ensures.within c.move_row-row.ensures c.in_ok-push.ensures.rows;
-      resolving = λ ds h. resolves n names ds initial old l.turn l.taken.items (attribute_rows l.attributes)
+      resolving = λ ds h. resolves n namespaces ds initial old l.turn l.taken.items (attribute_rows l.attributes)
           c.index.result.now c.index_mut.result.now c.in_ok-namespace.namespace c.move_row-row.result (attribute_rows c.push.new.self)
           m (l.invariant.resolving ds h) here c.index.ensures
           (λ before rest shown. c.in_ok-namespace.ensures.tested ds (drop (length old) (attribute_rows l.attributes)) before rest h l.invariant.sees shown)
           (c.in_ok-namespace.ensures.there ds h) c.index_mut.ensures.value c.move_row-row.ensures c.in_ok-push.ensures.rows;
-      sees = sees_next names l.seen.keys c.seen_namespace.new.seen.keys old m.done (attribute_rows l.attributes) (attribute_rows c.push.new.self) c.move_row-row.result m.table_is c.in_ok-push.ensures.rows l.invariant.sees
+      sees = sees_next namespaces l.seen.keys c.seen_namespace.new.seen.keys old m.done (attribute_rows l.attributes) (attribute_rows c.push.new.self) c.move_row-row.result m.table_is c.in_ok-push.ensures.rows l.invariant.sees
           (λ h. c.in_ok-namespace.ensures.more _ c.move_row-row.result.0 h (ap (λ (r : AttributeRow). r.0.namespace) c.move_row-row.ensures)
           (ap (λ (r : AttributeRow). r.0.local) c.move_row-row.ensures ∙ ap (λ (t : UnresolvedAttribute). t.name.local) same));
     }
@@ -49,5 +49,5 @@ loop-turn-preserved c =
 pub returns-clause-ok : goal.returns-clause-ok
 returns-clause-ok c = λ ds h.
     let l = c.loop-turn in
-    ends (length c.args.names.now) (map namespace_view c.args.names.now) ds c.args.taken.now.items (attribute_rows c.args.attributes.now) l.turn l.taken.items (attribute_rows l.attributes)
+    ends (length c.args.namespaces.now) (map namespace_view c.args.namespaces.now) ds c.args.taken.now.items (attribute_rows c.args.attributes.now) l.turn l.taken.items (attribute_rows l.attributes)
     l.invariant.moving (l.invariant.resolving ds h) (omega arith)

@@ -8,7 +8,7 @@ use Rattle.rox_tables.proofs.namespaces.resolve.resolve_many.Given as goal
 
 abbrev pub invariant-loop-turn : goal.invariant-loop-turn
 invariant-loop-turn l = record {
-  moving : Moving (length l.names) l.fn.taken.items (attribute_rows l.fn.attributes) l.turn l.taken.items (attribute_rows l.attributes);
-  resolving : (ds : List NamespaceDecl) → FindsBinding (map namespace_view l.names) (places_view l.few) l.present ds → Resolving (map namespace_view l.names) ds l.fn.taken.items (attribute_rows l.fn.attributes) l.turn (attribute_rows l.attributes);
-  sees : HasExpandedNames (map namespace_view l.names) l.seen.keys (map (λ (r : AttributeRow). r.0) (drop (length (attribute_rows l.fn.attributes)) (attribute_rows l.attributes)));
+  moving : Moving (length l.namespaces) l.fn.taken.items (attribute_rows l.fn.attributes) l.turn l.taken.items (attribute_rows l.attributes);
+  resolving : (ds : List NamespaceDecl) → FindsBinding (map namespace_view l.namespaces) (places_view l.few) l.present ds → Resolving (map namespace_view l.namespaces) ds l.fn.taken.items (attribute_rows l.fn.attributes) l.turn (attribute_rows l.attributes);
+  sees : HasExpandedNames (map namespace_view l.namespaces) l.seen.keys (map (λ (r : AttributeRow). r.0) (drop (length (attribute_rows l.fn.attributes)) (attribute_rows l.attributes)));
 }

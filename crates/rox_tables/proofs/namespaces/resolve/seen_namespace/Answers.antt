@@ -15,25 +15,25 @@ returns-in_default-clause-tested c = λ ds rows before rest h seen shown.
 
 pub returns-then-branch-clause-tested : goal.returns-then-branch-clause-tested
 returns-then-branch-clause-tested c = λ ds rows before rest h seen shown.
-    let names = map namespace_view c.args.names.now in
+    let namespaces = map namespace_view c.args.namespaces.now in
     let a = unresolved_view c.args.taken.now in
-    let again = sym (repeated_is names ds c.in-Some.namespace a.name rows before (c.in-Some.ensures.there ds h) shown)
-    ∙ sym (sees_is names c.args.seen.now.keys _ c.in-Some.namespace a.name.local _ seen c.namespace_uri.ensures) ∙ sym c.in_ok-is_repeated_name.ensures.value ∙ c.if-branch.true in
+    let again = sym (repeated_is namespaces ds c.in-Some.namespace a.name rows before (c.in-Some.ensures.there ds h) shown)
+    ∙ sym (sees_is namespaces c.args.seen.now.keys _ c.in-Some.namespace a.name.local _ seen c.namespace_uri.ensures) ∙ sym c.in_ok-is_repeated_name.ensures.value ∙ c.if-branch.true in
     tested_again ds before a rest (c.in-Some.ensures.known ds h) again
     ∙ ap (λ (s : Span). Err (fault.DuplicatedAttribute s a.start)) (sym (c.local_span.ensures a.name refl))
 
 pub returns-clause-tested : goal.returns-clause-tested
 returns-clause-tested c = λ ds rows before rest h seen shown.
-    let names = map namespace_view c.args.names.now in
+    let namespaces = map namespace_view c.args.namespaces.now in
     let a = unresolved_view c.args.taken.now in
-    let first = sym (repeated_is names ds c.in-Some.namespace a.name rows before (c.in-Some.ensures.there ds h) shown)
-    ∙ sym (sees_is names c.args.seen.now.keys _ c.in-Some.namespace a.name.local _ seen c.namespace_uri.ensures) ∙ sym c.in_ok-is_repeated_name.ensures.value ∙ c.if-branch.false in
+    let first = sym (repeated_is namespaces ds c.in-Some.namespace a.name rows before (c.in-Some.ensures.there ds h) shown)
+    ∙ sym (sees_is namespaces c.args.seen.now.keys _ c.in-Some.namespace a.name.local _ seen c.namespace_uri.ensures) ∙ sym c.in_ok-is_repeated_name.ensures.value ∙ c.if-branch.false in
     tested_on ds before a rest (c.in-Some.ensures.known ds h) first
 
 pub returns-clause-more : goal.returns-clause-more
 returns-clause-more c = λ done a seen space local.
-    let names = map namespace_view c.args.names.now in
-    sees_more names c.args.seen.now.keys c.is_repeated_name.new.seen.keys done a (c.args.taken.now.name.local, c.namespace_uri.result) seen
+    let namespaces = map namespace_view c.args.namespaces.now in
+    sees_more namespaces c.args.seen.now.keys c.is_repeated_name.new.seen.keys done a (c.args.taken.now.name.local, c.namespace_uri.result) seen
     (c.in_ok-is_repeated_name.ensures.more c.if-branch.false)
-    (c.namespace_uri.ensures ∙ ap (Rattle.rox_tables.specs.Rows.attribute_uri names) (sym space))
+    (c.namespace_uri.ensures ∙ ap (Rattle.rox_tables.specs.Rows.attribute_uri namespaces) (sym space))
     (ap (λ (p : Rattle.std.proofs.Common.Bor (Rattle.std.proofs.Common.List Rattle.std.proofs.Common.ℕ)). p.now) (sym local))

@@ -16,17 +16,17 @@ returns-in_default-clause-tested c = λ ds rows before rest h column shown.
 
 pub returns-then-is_repeated-clause-tested : goal.returns-then-is_repeated-clause-tested
 returns-then-is_repeated-clause-tested c = λ ds rows before rest h column shown.
-    let names = map namespace_view c.args.names.now in
+    let namespaces = map namespace_view c.args.namespaces.now in
     let a = unresolved_view c.args.taken.now in
-    let again = sym (repeated_is names ds c.in-Some.namespace a.name rows before (c.in-Some.ensures.there ds h) shown)
-    ∙ ap (list_any (has_expanded names c.in-Some.namespace a.name.local)) column ∙ sym c.is_repeated.ensures ∙ c.if-is_repeated.true in
+    let again = sym (repeated_is namespaces ds c.in-Some.namespace a.name rows before (c.in-Some.ensures.there ds h) shown)
+    ∙ ap (list_any (has_expanded namespaces c.in-Some.namespace a.name.local)) column ∙ sym c.is_repeated.ensures ∙ c.if-is_repeated.true in
     tested_again ds before a rest (c.in-Some.ensures.known ds h) again
     ∙ ap (λ (s : Span). Err (fault.DuplicatedAttribute s a.start)) (sym (c.local_span.ensures a.name refl))
 
 pub returns-clause-tested : goal.returns-clause-tested
 returns-clause-tested c = λ ds rows before rest h column shown.
-    let names = map namespace_view c.args.names.now in
+    let namespaces = map namespace_view c.args.namespaces.now in
     let a = unresolved_view c.args.taken.now in
-    let first = sym (repeated_is names ds c.in-Some.namespace a.name rows before (c.in-Some.ensures.there ds h) shown)
-    ∙ ap (list_any (has_expanded names c.in-Some.namespace a.name.local)) column ∙ sym c.is_repeated.ensures ∙ c.if-is_repeated.false in
+    let first = sym (repeated_is namespaces ds c.in-Some.namespace a.name rows before (c.in-Some.ensures.there ds h) shown)
+    ∙ ap (list_any (has_expanded namespaces c.in-Some.namespace a.name.local)) column ∙ sym c.is_repeated.ensures ∙ c.if-is_repeated.false in
     tested_on ds before a rest (c.in-Some.ensures.known ds h) first

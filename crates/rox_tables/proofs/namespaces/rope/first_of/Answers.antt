@@ -7,19 +7,19 @@ use Rattle.rox_tables.specs.Scopes.{prefix_view, entries, places_in}
 use Rattle.rox_tables.proofs.Pairs.{namespace_at-get, uri_none_more, declared_none}
 use Rattle.rox_tables.proofs.namespaces.rope.first_of.Goals as goal
 
-pub bounds-names-place : goal.bounds-names-place
-bounds-names-place c = c.place_at-place.ensures.place _ c.requires.places
+pub bounds-namespaces-place : goal.bounds-namespaces-place
+bounds-namespaces-place c = c.place_at-place.ensures.place _ c.requires.places
 
-pub bounds-names-place-in-loop-index : goal.bounds-names-place-in-loop-index
-bounds-names-place-in-loop-index c = c.place_at-place.ensures.place _ c.requires.places
+pub bounds-namespaces-place-in-loop-index : goal.bounds-namespaces-place-in-loop-index
+bounds-namespaces-place-in-loop-index c = c.place_at-place.ensures.place _ c.requires.places
 
 pub returns-then-same_prefix-clause-there : goal.returns-then-same_prefix-clause-there
 returns-then-same_prefix-clause-there c =
-    let rows = c.args.names.now in
+    let rows = c.args.namespaces.now in
     let places = places_in c.args.listed.now c.args.scopes.now c.args.scope in
     let k = c.loop-index.index in
     let place = c.place_at-place.result in
-    let item = c.index-names-place.result in
+    let item = c.index-namespaces-place.result in
     let p = prefix_view c.args.prefix in
     let n : c.count-index-end.result ≡ length places = c.count-index-end.ensures.length c.args.listed.now c.requires.scopes in
     let here : place < length rows = c.place_at-place.ensures.place _ c.requires.places in
@@ -29,11 +29,11 @@ returns-then-same_prefix-clause-there c =
 
 pub loop-index-preserved : goal.loop-index-preserved
 loop-index-preserved c =
-    let rows = c.args.names.now in
+    let rows = c.args.namespaces.now in
     let places = places_in c.args.listed.now c.args.scopes.now c.args.scope in
     let k = c.loop-index.index in
     let place = c.place_at-place.result in
-    let item = c.index-names-place.result in
+    let item = c.index-namespaces-place.result in
     let p = prefix_view c.args.prefix in
     let n : c.count-index-end.result ≡ length places = c.count-index-end.ensures.length c.args.listed.now c.requires.scopes in
     let lt : k < length places = omega arith in
@@ -45,7 +45,7 @@ loop-index-preserved c =
 
 pub returns-clause-absent : goal.returns-clause-absent
 returns-clause-absent c =
-    let rows = c.args.names.now in
+    let rows = c.args.namespaces.now in
     let places = places_in c.args.listed.now c.args.scopes.now c.args.scope in
     let p = prefix_view c.args.prefix in
     let n : c.count-index-end.result ≡ length places = c.count-index-end.ensures.length c.args.listed.now c.requires.scopes in

@@ -13,18 +13,18 @@ place_at-place-requires-clause-index c =
     let k : c.in-Some.index < count_at c.args.scopes.now c.args.scope = c.in-Some.ensures in
     omega arith
 
-pub bounds-names-place : goal.bounds-names-place
-bounds-names-place c = c.place_at-place.ensures.place _ c.requires.places
+pub bounds-namespaces-place : goal.bounds-namespaces-place
+bounds-namespaces-place c = c.place_at-place.ensures.place _ c.requires.places
 
-pub bounds-names-place-in-Some : goal.bounds-names-place-in-Some
-bounds-names-place-in-Some c = c.place_at-place.ensures.place _ c.requires.places
+pub bounds-namespaces-place-in-Some : goal.bounds-namespaces-place-in-Some
+bounds-namespaces-place-in-Some c = c.place_at-place.ensures.place _ c.requires.places
 
 pub returns-then-same_prefix-clause-there : goal.returns-then-same_prefix-clause-there
 returns-then-same_prefix-clause-there c =
-    let rows = c.args.names.now in
+    let rows = c.args.namespaces.now in
     let places = places_in c.args.listed.now c.args.scopes.now c.args.scope in
     let place = c.place_at-place.result in
-    let item = c.index-names-place.result in
+    let item = c.index-namespaces-place.result in
     let p = prefix_view c.args.prefix in
     let n : count_at c.args.scopes.now c.args.scope ≡ length places = count_places c.args.listed.now c.args.scopes.now c.args.scope c.requires.scopes c.requires.within in
     let k : c.in-Some.index < count_at c.args.scopes.now c.args.scope = c.in-Some.ensures in

@@ -7,10 +7,10 @@ use Rattle.rox_tables.proofs.namespaces.scope.default_place.Goals as goal
 
 pub returns-then-same_prefix-clause-there : goal.returns-then-same_prefix-clause-there
 returns-then-same_prefix-clause-there c =
-    let rows = c.args.names.now in
+    let rows = c.args.namespaces.now in
     let places = c.args.places.now in
     let k = c.loop-place.place-index in
-    let item = c.index-names-place.result in
+    let item = c.index-namespaces-place.result in
     let p = None in
     let place = get_or places k 0 in
     let lt : k < length places = omega arith in
@@ -21,10 +21,10 @@ returns-then-same_prefix-clause-there c =
 
 pub loop-place-preserved : goal.loop-place-preserved
 loop-place-preserved c =
-    let rows = c.args.names.now in
+    let rows = c.args.namespaces.now in
     let places = c.args.places.now in
     let k = c.loop-place.place-index in
-    let item = c.index-names-place.result in
+    let item = c.index-namespaces-place.result in
     let p = None in
     let place = get_or places k 0 in
     let lt : k < length places = omega arith in

@@ -5,4 +5,4 @@ use Rattle.rox_tables.specs.Scopes.{entries}
 use Rattle.rox_tables.proofs.namespaces.scope.default_place.Given as goal
 
 abbrev pub invariant-loop-place : goal.invariant-loop-place
-invariant-loop-place l = uri_of (entries (map namespace_view l.names) (take l.place-index l.places)) None ≡ None
+invariant-loop-place l = uri_of (entries (map namespace_view l.namespaces) (take l.place-index l.places)) None ≡ None

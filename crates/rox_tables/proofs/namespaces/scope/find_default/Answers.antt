@@ -6,6 +6,6 @@ use Rattle.rox_tables.proofs.namespaces.scope.find_default.Goals as goal
 
 pub returns-in-Some-get-clause-within : goal.returns-in-Some-get-clause-within
 returns-in-Some-get-clause-within c =
-    let n = length c.args.names.now in
+    let n = length c.args.namespaces.now in
     let all = subst (λ o. LooksWithin n (places_view o) c.args.present.now) c.in-None.is c.requires in
     subst (λ (o : Option Binding). OptionWithin n (bound_namespace o)) (sym c.get.ensures ∙ c.in-Some-get.is) (all None)

@@ -7,4 +7,4 @@ use Rattle.rox_tables.proofs.namespaces.scope.is_among.Goals as goal
 pub returns-then-own-gt-FEW : goal.returns-then-own-gt-FEW
 returns-then-own-gt-FEW c =
     let many : 16 < length c.args.own.now = omega arith in
-    c.has_prefix.ensures ∙ remembered (map namespace_view c.args.names.now) c.args.own.now c.args.many.now.keys (prefix_view c.args.prefix) c.requires.many many
+    c.has_prefix.ensures ∙ remembered (map namespace_view c.args.namespaces.now) c.args.own.now c.args.prefix_set.now.keys (prefix_view c.args.prefix) c.requires.prefix_set many

@@ -10,13 +10,13 @@ loop-turn-preserved c =
     c.loop-turn.invariant c.requires.from lt c.index-place.ensures c.in_ok-push.ensures.items
 
 pub returns-clause-value : goal.returns-clause-value
-returns-clause-value c = λ names.
+returns-clause-value c = λ namespaces.
     let old = c.args.listed.now.items in
     let now = c.loop-turn.listed.items in
     let all : c.len-end.result - c.args.from ≤ c.loop-turn.turn = omega arith in
     let k = c.loop-turn.listed.ok.0 in
     let ends : c.len.result ≡ length now = omega arith in
     let s : Stretch = c.in_ok-turned.turned in
-    turned_listed names old now c.args.scopes.now.items c.add.new.scopes.items s c.in_ok-place.place c.args.from
+    turned_listed namespaces old now c.args.scopes.now.items c.add.new.scopes.items s c.in_ok-place.place c.args.from
     (turn_ends old c.args.from c.loop-turn.turn c.len-end.result now c.loop-turn.invariant all) (ap (λ x. x.from) c.in_ok-turned.ensures.value ∙ c.loop-turn.invariant.end_is)
     (ap (λ x. x.until) c.in_ok-turned.ensures.value ∙ ends) c.requires.scopes c.in_ok-place.ensures.items c.in_ok-place.ensures.value

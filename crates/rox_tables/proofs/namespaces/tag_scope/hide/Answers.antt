@@ -11,20 +11,20 @@ use Rattle.rox_tables.proofs.namespaces.tag_scope.hide.Goals as goal
 
 pub returns-in_default-clause-value : goal.returns-in_default-clause-value
 returns-in_default-clause-value c =
-    let names = map namespace_view c.args.names.now in
-    let ds = entries names (places_in c.args.listed.now c.args.scopes.now.items c.args.scope) in
+    let namespaces = map namespace_view c.args.namespaces.now in
+    let ds = entries namespaces (places_in c.args.listed.now c.args.scopes.now.items c.args.scope) in
     let p = prefix_view c.args.prefix in
-    same_listed names c.args.listed.now c.args.scopes.now.items c.args.scope _ c.requires.scopes c.requires.within
+    same_listed namespaces c.args.listed.now c.args.scopes.now.items c.args.scope _ c.requires.scopes c.requires.within
     (sym (unlisted_none p ds (c.requires.absent (ap bound_namespace (sym c.in_default.ensures)))))
 
 pub returns-in_default-index_of-clause-value : goal.returns-in_default-index_of-clause-value
 returns-in_default-index_of-clause-value c =
-    let names = map namespace_view c.args.names.now in
-    let ds = entries names (places_in c.args.listed.now c.args.scopes.now.items c.args.scope) in
+    let namespaces = map namespace_view c.args.namespaces.now in
+    let ds = entries namespaces (places_in c.args.listed.now c.args.scopes.now.items c.args.scope) in
     let p = prefix_view c.args.prefix in
     let absent : is_declared p ds ≡ false =
-    subst (λ ss. is_declared p (entries names (places_in c.args.listed.now ss c.args.scope)) ≡ false) c.deref.ensures.value c.in_default-index_of.ensures.absent in
-    same_listed names c.args.listed.now c.args.scopes.now.items c.args.scope _ c.requires.scopes c.requires.within (sym (unlisted_none p ds absent))
+    subst (λ ss. is_declared p (entries namespaces (places_in c.args.listed.now ss c.args.scope)) ≡ false) c.deref.ensures.value c.in_default-index_of.ensures.absent in
+    same_listed namespaces c.args.listed.now c.args.scopes.now.items c.args.scope _ c.requires.scopes c.requires.within (sym (unlisted_none p ds absent))
 
 pub without-requires-clause-index : goal.without-requires-clause-index
 without-requires-clause-index c =
@@ -35,13 +35,13 @@ without-requires-clause-index c =
 
 pub returns-clause-value : goal.returns-clause-value
 returns-clause-value c =
-    let names = map namespace_view c.args.names.now in
+    let namespaces = map namespace_view c.args.namespaces.now in
     let old = c.args.scopes.now.items in
     let index = c.in-Some-index_of.index in
     let p = prefix_view c.args.prefix in
     let places = places_in c.args.listed.now old c.args.scope in
     let less : index < length places = subst (λ ss. index < length (places_in c.args.listed.now ss c.args.scope)) c.deref.ensures.value c.in-Some-index_of.ensures.there.0 in
-    let same : same_prefix (namespace_at names (get_or places index 0)).prefix p ≡ true =
-    subst (λ ss. same_prefix (namespace_at names (get_or (places_in c.args.listed.now ss c.args.scope) index 0)).prefix p ≡ true) c.deref.ensures.value c.in-Some-index_of.ensures.there.1 in
-    rope_listed names c.args.listed.now old c.without.new.scopes.items c.in_ok-left.left (λ l. cut index (places_in l old c.args.scope)) _ c.requires.scopes c.in_ok-left.ensures.value
-    (unlisted_one names places index p c.requires.once less same)
+    let same : same_prefix (namespace_at namespaces (get_or places index 0)).prefix p ≡ true =
+    subst (λ ss. same_prefix (namespace_at namespaces (get_or (places_in c.args.listed.now ss c.args.scope) index 0)).prefix p ≡ true) c.deref.ensures.value c.in-Some-index_of.ensures.there.1 in
+    rope_listed namespaces c.args.listed.now old c.without.new.scopes.items c.in_ok-left.left (λ l. cut index (places_in l old c.args.scope)) _ c.requires.scopes c.in_ok-left.ensures.value
+    (unlisted_one namespaces places index p c.requires.once less same)

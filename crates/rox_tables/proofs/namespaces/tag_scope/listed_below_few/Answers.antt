@@ -13,10 +13,10 @@ add_stretch-requires-clause-scopes c = scopes_behind c.args.listed.now.items _ _
 
 pub returns-clause-value : goal.returns-clause-value
 returns-clause-value c =
-    let names = map namespace_view c.args.names.now in
+    let namespaces = map namespace_view c.args.namespaces.now in
     let old = c.args.listed.now.items in
     let mid = c.inherit.new.listed.items in
     let (more, grown, places, is) = c.in_ok-inherit.ensures.ok in
-    let n = length-map c.args.names.now namespace_view in
-    inherits_listed names old mid _ more c.args.scopes.now.items _ c.in_ok-place.place c.args.own _ c.requires.own grown
-    (λ h. places_behind (length names) old mid more grown h (subst (λ n. ArePlaces n more) (sym n) places)) is (c.in_ok-place.ensures.value names)
+    let n = length-map c.args.namespaces.now namespace_view in
+    inherits_listed namespaces old mid _ more c.args.scopes.now.items _ c.in_ok-place.place c.args.own _ c.requires.own grown
+    (λ h. places_behind (length namespaces) old mid more grown h (subst (λ n. ArePlaces n more) (sym n) places)) is (c.in_ok-place.ensures.value namespaces)

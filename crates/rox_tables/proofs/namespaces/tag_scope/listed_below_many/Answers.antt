@@ -7,13 +7,13 @@ use Rattle.rox_tables.proofs.namespaces.tag_scope.listed_below_many.Goals as goa
 
 pub returns-clause-value : goal.returns-clause-value
 returns-clause-value c =
-    let names = map namespace_view c.args.names.now in
+    let namespaces = map namespace_view c.args.namespaces.now in
     let listed = c.args.listed.now.items in
     let old = c.args.scopes.now.items in
     let mid = c.hide_own.new.scopes.items in
-    let ds = entries names (drop c.args.own listed) in
-    let os = others ds c.args.xml (entries names (places_in listed old c.args.above)) in
-    let x : IsListed names listed old listed mid c.in_ok-rest.rest os =
-    subst (λ l. IsListed names l old l mid c.in_ok-rest.rest (others (entries names (drop c.args.own l)) c.args.xml (entries names (places_in l old c.args.above)))) c.deref.ensures.value c.in_ok-rest.ensures.value in
-    joined_listed names listed c.add_back.new.listed.items old mid c.add_back.new.scopes.items c.both.new.scopes.items c.in_ok-rest.rest c.in_ok-first.first c.in_ok-place.place os ds
-    x (c.in_ok-first.ensures.value names) c.in_ok-place.ensures.value
+    let ds = entries namespaces (drop c.args.own listed) in
+    let os = others ds c.args.xml (entries namespaces (places_in listed old c.args.above)) in
+    let x : IsListed namespaces listed old listed mid c.in_ok-rest.rest os =
+    subst (λ l. IsListed namespaces l old l mid c.in_ok-rest.rest (others (entries namespaces (drop c.args.own l)) c.args.xml (entries namespaces (places_in l old c.args.above)))) c.deref.ensures.value c.in_ok-rest.ensures.value in
+    joined_listed namespaces listed c.add_back.new.listed.items old mid c.add_back.new.scopes.items c.both.new.scopes.items c.in_ok-rest.rest c.in_ok-first.first c.in_ok-place.place os ds
+    x (c.in_ok-first.ensures.value namespaces) c.in_ok-place.ensures.value

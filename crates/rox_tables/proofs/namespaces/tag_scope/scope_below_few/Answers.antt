@@ -16,47 +16,47 @@ listed_below_few-requires-clause-scopes c = scopes_more c.args.own (length c.arg
 pub returns-in-Few-clause-value : goal.returns-in-Few-clause-value
 returns-in-Few-clause-value c =
     let o = c.args.elements.now in
-    let names = map namespace_view o.namespaces.items.items in
+    let namespaces = map namespace_view o.namespaces.items.items in
     let listed = o.listed.items in
     let after = c.listed_below_few.new.listed.items in
     let rows = c.listed_below_few.new.scopes.items in
     let i = c.in_ok-scope.scope in
-    let mine = entries names (drop c.args.own listed) in
+    let mine = entries namespaces (drop c.args.own listed) in
     let s = c.args.stretch in
     let above = scope_at (lists_in o) c.args.above in
     let h = scopes_more c.args.own (length listed) o.scopes.items c.requires.own c.requires.scopes in
-    let x : IsListed names listed o.scopes.items after rows i (mine ++ others mine c.args.xml (entries names (slice_range listed s.from s.until))) =
+    let x : IsListed namespaces listed o.scopes.items after rows i (mine ++ others mine c.args.xml (entries namespaces (slice_range listed s.from s.until))) =
     subst (λ v. IsListed (map namespace_view v) listed o.scopes.items after rows i (entries (map namespace_view v) (drop c.args.own listed)
     ++ others (entries (map namespace_view v) (drop c.args.own listed)) c.args.xml (entries (map namespace_view v) (slice_range listed s.from s.until)))) c.as_slice.ensures.value c.in_ok-scope.ensures.value in
-    let y : IsListed names listed o.scopes.items after rows i (mine ++ others mine c.args.xml above) =
-    listed_is names listed after o.scopes.items rows i _ _ x (ap (λ ds. mine ++ others mine c.args.xml ds) (few_lists names listed o.scopes.items c.args.above s c.requires.scopes.rows c.requires.above c.requires.few)) in
+    let y : IsListed namespaces listed o.scopes.items after rows i (mine ++ others mine c.args.xml above) =
+    listed_is namespaces listed after o.scopes.items rows i _ _ x (ap (λ ds. mine ++ others mine c.args.xml ds) (few_lists namespaces listed o.scopes.items c.args.above s c.requires.scopes.rows c.requires.above c.requires.few)) in
     let t : ElementTables = record { attributes = o.attributes; namespaces = o.namespaces; listed = c.listed_below_few.new.listed; scopes = c.listed_below_few.new.scopes; present = o.present } in
     let few = few_here rows i c.in-Few.field-0 c.index.result.now y.within (sym c.in-Few.is ∙ c.index.ensures) in
     has_scope o t c.args.above c.args.own i c.args.xml refl c.requires.places c.requires.scopes c.requires.own c.requires.once c.requires.own_once
-    (kept_then names listed after o.scopes.items rows i _ o.present h y c.requires.kept) (present_few t i few) y
+    (kept_then namespaces listed after o.scopes.items rows i _ o.present h y c.requires.kept) (present_few t i few) y
 
 pub returns : goal.returns
 returns c =
     let o = c.args.elements.now in
-    let names = map namespace_view o.namespaces.items.items in
+    let namespaces = map namespace_view o.namespaces.items.items in
     let listed = o.listed.items in
     let after = c.listed_below_few.new.listed.items in
     let rows = c.listed_below_few.new.scopes.items in
     let i = c.in_ok-scope.scope in
-    let mine = entries names (drop c.args.own listed) in
+    let mine = entries namespaces (drop c.args.own listed) in
     let s = c.args.stretch in
     let above = scope_at (lists_in o) c.args.above in
     let h = scopes_more c.args.own (length listed) o.scopes.items c.requires.own c.requires.scopes in
-    let x : IsListed names listed o.scopes.items after rows i (mine ++ others mine c.args.xml (entries names (slice_range listed s.from s.until))) =
+    let x : IsListed namespaces listed o.scopes.items after rows i (mine ++ others mine c.args.xml (entries namespaces (slice_range listed s.from s.until))) =
     subst (λ v. IsListed (map namespace_view v) listed o.scopes.items after rows i (entries (map namespace_view v) (drop c.args.own listed)
     ++ others (entries (map namespace_view v) (drop c.args.own listed)) c.args.xml (entries (map namespace_view v) (slice_range listed s.from s.until)))) c.as_slice.ensures.value c.in_ok-scope.ensures.value in
-    let y : IsListed names listed o.scopes.items after rows i (mine ++ others mine c.args.xml above) =
-    listed_is names listed after o.scopes.items rows i _ _ x (ap (λ ds. mine ++ others mine c.args.xml ds) (few_lists names listed o.scopes.items c.args.above s c.requires.scopes.rows c.requires.above c.requires.few)) in
+    let y : IsListed namespaces listed o.scopes.items after rows i (mine ++ others mine c.args.xml above) =
+    listed_is namespaces listed after o.scopes.items rows i _ _ x (ap (λ ds. mine ++ others mine c.args.xml ds) (few_lists namespaces listed o.scopes.items c.args.above s c.requires.scopes.rows c.requires.above c.requires.few)) in
     let t : ElementTables = record { attributes = o.attributes; namespaces = o.namespaces; listed = c.listed_below_few.new.listed; scopes = c.listed_below_few.new.scopes; present = c.make_innermost.new.self } in
     let stood = stood_in o.namespaces.items.items c.as_slice-2.result.now after c.deref.result.now rows c.deref-2.result.now o.present c.make_innermost.new.self i c.as_slice-2.ensures.value c.deref.ensures.value c.deref-2.ensures.value
-    c.in_ok-make_innermost.ensures.value (kept_then names listed after o.scopes.items rows i _ o.present h y c.requires.kept) in
+    c.in_ok-make_innermost.ensures.value (kept_then namespaces listed after o.scopes.items rows i _ o.present h y c.requires.kept) in
     record {
-      names = refl;
+      namespaces = refl;
       attributes = refl;
       value = has_scope o t c.args.above c.args.own i c.args.xml refl c.requires.places c.requires.scopes c.requires.own c.requires.once c.requires.own_once stood.0 (present_by t i stood.1) y;
       err = tt;

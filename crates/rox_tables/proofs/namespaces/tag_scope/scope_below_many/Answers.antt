@@ -27,44 +27,44 @@ listed_below_many-requires-clause-scopes c = scopes_more c.args.own (length c.ar
 pub listed_below_many-requires-clause-once : goal.listed_below_many-requires-clause-once
 listed_below_many-requires-clause-once c =
     let o = c.args.elements.now in
-    let names = map namespace_view o.namespaces.items.items in
+    let namespaces = map namespace_view o.namespaces.items.items in
     subst (λ v. PrefixesOnce (entries (map namespace_view v) (places_in o.listed.items o.scopes.items c.args.above))) (sym c.as_slice-2.ensures.value)
-    (subst PrefixesOnce (scope_places names o.listed.items o.scopes.items c.args.above) c.requires.once)
+    (subst PrefixesOnce (scope_places namespaces o.listed.items o.scopes.items c.args.above) c.requires.once)
 
 pub listed_below_many-requires-clause-bound : goal.listed_below_many-requires-clause-bound
 listed_below_many-requires-clause-bound c =
     let o = c.args.elements.now in
-    let names = map namespace_view o.namespaces.items.items in
+    let namespaces = map namespace_view o.namespaces.items.items in
     let x = c.make_innermost.new.self in
     let stood = stood_in o.namespaces.items.items c.as_slice.result.now o.listed.items c.deref.result.now o.scopes.items c.deref-2.result.now o.present x c.args.above c.as_slice.ensures.value c.deref.ensures.value
     c.deref-2.ensures.value c.in_ok-make_innermost.ensures.value c.requires.kept in
     subst (λ v. IsBound (map namespace_view v) (bound_place x) (entries (map namespace_view v) (places_in o.listed.items o.scopes.items c.args.above))) (sym c.as_slice-2.ensures.value)
-    (subst (IsBound names (bound_place x)) (scope_places names o.listed.items o.scopes.items c.args.above) stood.1)
+    (subst (IsBound namespaces (bound_place x)) (scope_places namespaces o.listed.items o.scopes.items c.args.above) stood.1)
 
 pub returns-clause-value : goal.returns-clause-value
 returns-clause-value c =
     let o = c.args.elements.now in
-    let names = map namespace_view o.namespaces.items.items in
+    let namespaces = map namespace_view o.namespaces.items.items in
     let listed = o.listed.items in
     let after = c.listed_below_many.new.listed.items in
     let rows = c.listed_below_many.new.scopes.items in
     let i = c.in_ok-scope.scope in
-    let mine = entries names (drop c.args.own listed) in
+    let mine = entries namespaces (drop c.args.own listed) in
     let above = scope_at (lists_in o) c.args.above in
     let h = scopes_more c.args.own (length listed) o.scopes.items c.requires.own c.requires.scopes in
     let stood = stood_in o.namespaces.items.items c.as_slice.result.now listed c.deref.result.now o.scopes.items c.deref-2.result.now o.present c.make_innermost.new.self c.args.above c.as_slice.ensures.value c.deref.ensures.value
     c.deref-2.ensures.value c.in_ok-make_innermost.ensures.value c.requires.kept in
-    let x : IsListed names listed o.scopes.items after rows i (mine ++ others mine c.args.xml (entries names (places_in listed o.scopes.items c.args.above))) =
+    let x : IsListed namespaces listed o.scopes.items after rows i (mine ++ others mine c.args.xml (entries namespaces (places_in listed o.scopes.items c.args.above))) =
     subst (λ v. IsListed (map namespace_view v) listed o.scopes.items after rows i (entries (map namespace_view v) (drop c.args.own listed)
     ++ others (entries (map namespace_view v) (drop c.args.own listed)) c.args.xml (entries (map namespace_view v) (places_in listed o.scopes.items c.args.above)))) c.as_slice-2.ensures.value c.in_ok-scope.ensures.value in
-    let y : IsListed names listed o.scopes.items after rows i (mine ++ others mine c.args.xml above) =
-    listed_is names listed after o.scopes.items rows i _ _ x (ap (λ ds. mine ++ others mine c.args.xml ds) (sym (scope_places names listed o.scopes.items c.args.above))) in
+    let y : IsListed namespaces listed o.scopes.items after rows i (mine ++ others mine c.args.xml above) =
+    listed_is namespaces listed after o.scopes.items rows i _ _ x (ap (λ ds. mine ++ others mine c.args.xml ds) (sym (scope_places namespaces listed o.scopes.items c.args.above))) in
     let t : ElementTables = record { attributes = o.attributes; namespaces = o.namespaces; listed = c.listed_below_many.new.listed; scopes = c.listed_below_many.new.scopes; present = c.enter.new.self } in
     let k = o.listed.ok.0 in
     let m = c.listed_below_many.new.listed.ok.0 in
     let begins : c.len-from.result ≡ length listed = omega arith in
     let ends : c.len-2.result ≡ length after = omega arith in
     let inside = entered_in o.namespaces.items.items c.as_slice-3.result.now after c.deref-3.result.now c.make_innermost.new.self c.enter.new.self c.len-from.result c.len-2.result i c.args.xml c.as_slice-3.ensures.value
-    c.deref-3.ensures.value c.in_ok-enter.ensures.value (lists_of names after rows) above (kept_then names listed after o.scopes.items rows i _ c.make_innermost.new.self h y stood.0) stood.1
-    (entered names listed after o.scopes.items rows i c.args.own c.len-from.result c.len-2.result c.args.xml above c.in_ok-scope.ensures.own begins ends y) in
+    c.deref-3.ensures.value c.in_ok-enter.ensures.value (lists_of namespaces after rows) above (kept_then namespaces listed after o.scopes.items rows i _ c.make_innermost.new.self h y stood.0) stood.1
+    (entered namespaces listed after o.scopes.items rows i c.args.own c.len-from.result c.len-2.result c.args.xml above c.in_ok-scope.ensures.own begins ends y) in
     has_scope o t c.args.above c.args.own i c.args.xml refl c.requires.places c.requires.scopes c.requires.own c.requires.once c.requires.own_once inside.0 (present_by t i inside.1) y

@@ -7,20 +7,20 @@ use Rattle.roxmltree.proofs.Entries.{entry_is}
 use Rattle.roxmltree.proofs.Ends.{last_of}
 use Rattle.roxmltree.proofs.namespaces.NamespaceIterDoubleEndedIterator.next_back.Goals as goal
 
-pub bounds-names-place : goal.bounds-names-place
-bounds-names-place c = c.place_at-place.ensures.place _ c.self.invariant.each
+pub bounds-namespaces-place : goal.bounds-namespaces-place
+bounds-namespaces-place c = c.place_at-place.ensures.place _ c.self.invariant.each
 
 pub returns-clause-steps : goal.returns-clause-steps
 returns-clause-steps c =
     let d = c.self.inside in
     let v = c.self.invariant in
-    let names = d.names.now in
+    let namespaces = d.namespaces.now in
     let places = places_in d.listed.now d.scopes.now d.scope in
-    let f = namespace_at (map namespace_view names) in
+    let f = namespace_at (map namespace_view namespaces) in
     let rest = slice_range places d.from (d.until - 1) in
     let place = c.place_at-place.result in
-    let l : place < length names = c.place_at-place.ensures.place _ v.each in
+    let l : place < length namespaces = c.place_at-place.ensures.place _ v.each in
     sym c.self.view_is
     ∙ ap (map f) (last_of places d.from d.until 0 (omega arith) v.within)
     ∙ map-append f rest (_ ∷ [])
-    ∙ ap (λ x. map f rest ++ x ∷ []) (ap f (sym c.place_at-place.ensures.value) ∙ sym (entry_is names place c.index-names-place.result l c.index-names-place.is))
+    ∙ ap (λ x. map f rest ++ x ∷ []) (ap f (sym c.place_at-place.ensures.value) ∙ sym (entry_is namespaces place c.index-namespaces-place.result l c.index-namespaces-place.is))

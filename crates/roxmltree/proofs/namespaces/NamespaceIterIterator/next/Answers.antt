@@ -6,18 +6,18 @@ use Rattle.roxmltree.proofs.Entries.{entry_is}
 use Rattle.roxmltree.proofs.Ends.{first_of}
 use Rattle.roxmltree.proofs.namespaces.NamespaceIterIterator.next.Goals as goal
 
-pub bounds-names-place : goal.bounds-names-place
-bounds-names-place c = c.place_at-place.ensures.place _ c.self.invariant.each
+pub bounds-namespaces-place : goal.bounds-namespaces-place
+bounds-namespaces-place c = c.place_at-place.ensures.place _ c.self.invariant.each
 
 pub returns-clause-steps : goal.returns-clause-steps
 returns-clause-steps c =
     let d = c.self.inside in
     let v = c.self.invariant in
-    let names = d.names.now in
+    let namespaces = d.namespaces.now in
     let places = places_in d.listed.now d.scopes.now d.scope in
-    let f = namespace_at (map namespace_view names) in
+    let f = namespace_at (map namespace_view namespaces) in
     let place = c.place_at-place.result in
-    let l : place < length names = c.place_at-place.ensures.place _ v.each in
+    let l : place < length namespaces = c.place_at-place.ensures.place _ v.each in
     sym c.self.view_is
     ∙ ap (map f) (first_of places d.from d.until 0 (omega arith) v.within)
-    ∙ ap (λ x. x ∷ map f (slice_range places (d.from + 1) d.until)) (ap f (sym c.place_at-place.ensures.value) ∙ sym (entry_is names place c.index-names-place.result l c.index-names-place.is))
+    ∙ ap (λ x. x ∷ map f (slice_range places (d.from + 1) d.until)) (ap f (sym c.place_at-place.ensures.value) ∙ sym (entry_is namespaces place c.index-namespaces-place.result l c.index-namespaces-place.is))

@@ -30,7 +30,7 @@ part-requires-clause-within c =
 
 pub part-requires-clause-named : goal.part-requires-clause-named
 part-requires-clause-named c =
-    rw (c.as_slice-items.ensures.value, c.as_slice-names.ensures.value) (all_column (length c.self.inside.tables.namespaces.items) c.self.inside.tables.attributes c.self.invariant.holds.sound.attributes)
+    rw (c.as_slice-items.ensures.value, c.as_slice-namespaces.ensures.value) (all_column (length c.self.inside.tables.namespaces.items) c.self.inside.tables.attributes c.self.invariant.holds.sound.attributes)
 
 pub part-requires-in_default : goal.part-requires-in_default
 part-requires-in_default c =
@@ -38,14 +38,14 @@ part-requires-in_default c =
       even = rw (c.as_slice-places.ensures.value, c.as_slice-items.ensures.value) c.self.inside.tables.attributes.even;
       ordered = omega arith;
       within = omega arith;
-      named = rw (c.as_slice-items.ensures.value, c.as_slice-names.ensures.value) (all_column (length c.self.inside.tables.namespaces.items) c.self.inside.tables.attributes c.self.invariant.holds.sound.attributes);
+      named = rw (c.as_slice-items.ensures.value, c.as_slice-namespaces.ensures.value) (all_column (length c.self.inside.tables.namespaces.items) c.self.inside.tables.attributes c.self.invariant.holds.sound.attributes);
     }
 
 pub returns-in-Element : goal.returns-in-Element
 returns-in-Element c =
     let v : tree_in c.self.inside.tables ≡ c.args.self.now.tree = ap (λ d. d.tree) c.self.view_is in
     let l : c.args.id.0 < size (tree_in c.self.inside.tables) = rw v c.requires in
-    rw (c.part.ensures, c.as_slice-items.ensures.value, c.as_slice-places.ensures.value, c.as_slice-names.ensures.value, ← v) (row_attributes c.self.inside.tables (tree_in c.self.inside.tables) _ _ _ c.self.invariant.holds l c.index.ensures c.in-Element.is)
+    rw (c.part.ensures, c.as_slice-items.ensures.value, c.as_slice-places.ensures.value, c.as_slice-namespaces.ensures.value, ← v) (row_attributes c.self.inside.tables (tree_in c.self.inside.tables) _ _ _ c.self.invariant.holds l c.index.ensures c.in-Element.is)
 
 pub returns-in_default : goal.returns-in_default
 returns-in_default c =

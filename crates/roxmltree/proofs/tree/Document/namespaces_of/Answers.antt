@@ -21,13 +21,13 @@ pub of_scope-requires-clause-scopes : goal.of_scope-requires-clause-scopes
 of_scope-requires-clause-scopes c = rw (c.as_slice-scopes.ensures.value, c.as_slice-listed.ensures.value) c.self.invariant.holds.sound.scopes
 
 pub of_scope-requires-clause-named : goal.of_scope-requires-clause-named
-of_scope-requires-clause-named c = rw (c.as_slice-listed.ensures.value, c.as_slice-names.ensures.value) c.self.invariant.holds.sound.listed
+of_scope-requires-clause-named c = rw (c.as_slice-listed.ensures.value, c.as_slice-namespaces.ensures.value) c.self.invariant.holds.sound.listed
 
 pub returns-clause-value : goal.returns-clause-value
 returns-clause-value c =
     let v : tree_in c.self.inside.tables ≡ c.args.self.now.tree = ap (λ d. d.tree) c.self.view_is in
     let l : c.args.id.0 < size (tree_in c.self.inside.tables) = rw v c.requires in
-    rw (c.of_scope.ensures.value, c.as_slice-scopes.ensures.value, c.as_slice-listed.ensures.value, c.as_slice-names.ensures.value, ← v) (row_listed c.self.inside.tables (tree_in c.self.inside.tables) _ _ _ c.self.invariant.holds l c.index.ensures c.in-Element.is)
+    rw (c.of_scope.ensures.value, c.as_slice-scopes.ensures.value, c.as_slice-listed.ensures.value, c.as_slice-namespaces.ensures.value, ← v) (row_listed c.self.inside.tables (tree_in c.self.inside.tables) _ _ _ c.self.invariant.holds l c.index.ensures c.in-Element.is)
 
 pub returns-in_default-clause-value : goal.returns-in_default-clause-value
 returns-in_default-clause-value c =

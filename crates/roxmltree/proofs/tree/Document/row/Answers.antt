@@ -24,8 +24,8 @@ returns-clause-no_parent c = rw (← same_tree c) (row_no_parent c.self.inside.t
 pub returns-clause-parent : goal.returns-clause-parent
 returns-clause-parent c = rw (← same_tree c) (row_parent c.self.inside.tables (tree_in c.self.inside.tables) _ _ c.self.invariant.holds (in_tree c) c.index.ensures)
 
-pub returns-clause-next : goal.returns-clause-next
-returns-clause-next c = rw (← same_tree c) (row_next c.self.inside.tables (tree_in c.self.inside.tables) _ _ c.self.invariant.holds (in_tree c) c.index.ensures)
+pub returns-clause-subtree_end : goal.returns-clause-subtree_end
+returns-clause-subtree_end c = rw (← same_tree c) (row_next c.self.inside.tables (tree_in c.self.inside.tables) _ _ c.self.invariant.holds (in_tree c) c.index.ensures)
 
 pub returns-clause-depth : goal.returns-clause-depth
 returns-clause-depth c = rw (← same_tree c) (row_depth c.self.inside.tables (tree_in c.self.inside.tables) _ _ c.self.invariant.holds (in_tree c) c.index.ensures)

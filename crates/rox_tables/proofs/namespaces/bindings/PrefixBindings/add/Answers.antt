@@ -8,8 +8,8 @@ use Rattle.rox_tables.proofs.namespaces.bindings.PrefixBindings.add.Goals as goa
 pub loop-position-init : goal.loop-position-init
 loop-position-init c = record {
   bound = λ ds h.
-      subst (λ xs. IsBound (map namespace_view c.args.names.now) (bound_place c.args.self.now) (entries (map namespace_view c.args.names.now) xs ++ ds)) (sym (reverse_none c.args.listed.now c.args.from)) h;
-  keeps = λ names lists h. h;
+      subst (λ xs. IsBound (map namespace_view c.args.namespaces.now) (bound_place c.args.self.now) (entries (map namespace_view c.args.namespaces.now) xs ++ ds)) (sym (reverse_none c.args.listed.now c.args.from)) h;
+  keeps = λ namespaces lists h. h;
   layers = refl;
 }
 
@@ -20,8 +20,8 @@ loop-position-preserved c =
     let lt : l.position < length c.args.listed.now = omega arith in
     record {
       bound = λ ds h.
-          subst (λ xs. IsBound (map namespace_view c.args.names.now) (bound_place c.bind.new.self) (entries (map namespace_view c.args.names.now) xs ++ ds)) (sym (reverse_more c.args.listed.now c.args.from l.position low lt))
+          subst (λ xs. IsBound (map namespace_view c.args.namespaces.now) (bound_place c.bind.new.self) (entries (map namespace_view c.args.namespaces.now) xs ++ ds)) (sym (reverse_more c.args.listed.now c.args.from l.position low lt))
           (c.in_ok-bind.ensures.bound _ (l.invariant.bound ds h));
-      keeps = λ names lists h. c.in_ok-bind.ensures.keeps names lists (l.invariant.keeps names lists h);
+      keeps = λ namespaces lists h. c.in_ok-bind.ensures.keeps namespaces lists (l.invariant.keeps namespaces lists h);
       layers = c.in_ok-bind.ensures.layers ∙ l.invariant.layers;
     }

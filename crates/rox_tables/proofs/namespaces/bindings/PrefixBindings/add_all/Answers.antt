@@ -12,8 +12,8 @@ position_at-position-requires c =
 
 pub loop-turn-init : goal.loop-turn-init
 loop-turn-init c = record {
-  bound = λ h. bound_none (map namespace_view c.args.names.now) (places_in c.args.listed.now c.args.scopes.now c.args.scope) (bound_place c.args.self.now) h;
-  keeps = λ names lists h. h;
+  bound = λ h. bound_none (map namespace_view c.args.namespaces.now) (places_in c.args.listed.now c.args.scopes.now c.args.scope) (bound_place c.args.self.now) h;
+  keeps = λ namespaces lists h. h;
   layers = refl;
 }
 
@@ -25,8 +25,8 @@ loop-turn-preserved c =
     let lt : l.turn < length places = omega arith in
     let i : c.count-count.result - 1 - l.turn ≡ length places - 1 - l.turn = ap (λ k. k - 1 - l.turn) n in
     record {
-      bound = λ h. bound_from (map namespace_view c.args.names.now) places l.turn (bound_place c.bind.new.self) _ lt (c.position_at-position.ensures.value ∙ ap (λ k. get_or places k 0) i) (c.in_ok-bind.ensures.bound _ (l.invariant.bound h));
-      keeps = λ names lists h. c.in_ok-bind.ensures.keeps names lists (l.invariant.keeps names lists h);
+      bound = λ h. bound_from (map namespace_view c.args.namespaces.now) places l.turn (bound_place c.bind.new.self) _ lt (c.position_at-position.ensures.value ∙ ap (λ k. get_or places k 0) i) (c.in_ok-bind.ensures.bound _ (l.invariant.bound h));
+      keeps = λ namespaces lists h. c.in_ok-bind.ensures.keeps namespaces lists (l.invariant.keeps namespaces lists h);
       layers = c.in_ok-bind.ensures.layers ∙ l.invariant.layers;
     }
 
@@ -35,4 +35,4 @@ returns-clause-bound c = λ h.
     let l = c.loop-turn in
     let places = places_in c.args.listed.now c.args.scopes.now c.args.scope in
     let n : c.count-count.result ≡ length places = c.count-count.ensures.length c.args.listed.now c.requires.scopes in
-    bound_all (map namespace_view c.args.names.now) places l.turn (bound_place l.self) (omega arith) (l.invariant.bound h)
+    bound_all (map namespace_view c.args.namespaces.now) places l.turn (bound_place l.self) (omega arith) (l.invariant.bound h)

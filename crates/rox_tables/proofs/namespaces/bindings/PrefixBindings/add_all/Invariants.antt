@@ -7,8 +7,8 @@ use Rattle.rox_tables.proofs.namespaces.bindings.PrefixBindings.add_all.Given as
 
 abbrev pub invariant-loop-turn : goal.invariant-loop-turn
 invariant-loop-turn l = record {
-  bound : IsBound (map namespace_view l.names) (bound_place l.fn.self) []
-      → IsBound (map namespace_view l.names) (bound_place l.self) (entries (map namespace_view l.names) (drop (length (places_in l.listed l.scopes l.scope) - l.turn) (places_in l.listed l.scopes l.scope)));
-  keeps : (names : List NamespaceDecl) (lists : List (List NamespaceDecl)) → AreBindingsOf names lists l.fn.self → AreBindingsOf names lists l.self;
+  bound : IsBound (map namespace_view l.namespaces) (bound_place l.fn.self) []
+      → IsBound (map namespace_view l.namespaces) (bound_place l.self) (entries (map namespace_view l.namespaces) (drop (length (places_in l.listed l.scopes l.scope) - l.turn) (places_in l.listed l.scopes l.scope)));
+  keeps : (namespaces : List NamespaceDecl) (lists : List (List NamespaceDecl)) → AreBindingsOf namespaces lists l.fn.self → AreBindingsOf namespaces lists l.self;
   layers : l.self.layers ≡ l.fn.self.layers;
 }

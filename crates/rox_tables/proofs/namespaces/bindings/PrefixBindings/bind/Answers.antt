@@ -6,5 +6,5 @@ pub returns-clause-bound : goal.returns-clause-bound
 returns-clause-bound c = λ ds h.
     let old = c.args.self.now in
     let new = c.put.new.self in
-    bound_here c.args.names.now c.args.listed.now c.args.position c.index-names-namespace.result ds (bound_place old) (bound_place new) c.requires.places c.requires.within
+    bound_here c.args.namespaces.now c.args.listed.now c.args.position c.index-namespaces-namespace.result ds (bound_place old) (bound_place new) c.requires.places c.requires.within
     (found_put old new _ _ c.in_ok-put.ensures.present) h

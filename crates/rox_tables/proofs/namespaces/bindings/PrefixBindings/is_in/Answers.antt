@@ -17,7 +17,7 @@ returns-then-layer-len-clause-value c =
     sym (ap (λ ls. is_innermost ls (length x.replaced.items) c.args.scope) split ∙ innermost_at (take (length os - 1) os) l (length x.replaced.items) c.args.scope same)
 
 pub returns-then-layer-len-clause-bound : goal.returns-then-layer-len-clause-bound
-returns-then-layer-len-clause-bound c = λ same names lists h.
+returns-then-layer-len-clause-bound c = λ same namespaces lists h.
     let x = c.args.self.now in
     let os = c.deref.result.now in
     let k = c.in-Some.ensures.item in
@@ -25,8 +25,8 @@ returns-then-layer-len-clause-bound c = λ same names lists h.
     let ls = take (length os - 1) os in
     let split : x.layers.items ≡ ls ++ l ∷ [] = sym c.deref.ensures.value ∙ last_split os l k.3.0 (k.3.1 l) in
     let count : l.count ≡ length x.replaced.items = omega arith in
-    subst (λ (s : ℕ). IsBound names (bound_place x) (scope_at lists s)) (eqb-true _ _ same)
-    (stacked_last names lists x.replaced.items (bound_place x) 0 ls l count (subst (Stacked names lists x.replaced.items (bound_place x) 0) split h.stacked))
+    subst (λ (s : ℕ). IsBound namespaces (bound_place x) (scope_at lists s)) (eqb-true _ _ same)
+    (stacked_last namespaces lists x.replaced.items (bound_place x) 0 ls l count (subst (Stacked namespaces lists x.replaced.items (bound_place x) 0) split h.stacked))
 
 pub returns-else-layer-len-clause-value : goal.returns-else-layer-len-clause-value
 returns-else-layer-len-clause-value c =

@@ -12,8 +12,8 @@ loop-turn-init c =
     let x = c.in-Some.around.now in
     let n = old.layers.ok.0 in
     record {
-      keeps = λ names lists h. record {
-        stacked = stacked_popped names lists old.replaced.items (bound_place old) c.pop.new.self.items c.pop.result (subst (Stacked names lists old.replaced.items (bound_place old) 0) c.pop.ensures.items h.stacked);
+      keeps = λ namespaces lists h. record {
+        stacked = stacked_popped namespaces lists old.replaced.items (bound_place old) c.pop.new.self.items c.pop.result (subst (Stacked namespaces lists old.replaced.items (bound_place old) 0) c.pop.ensures.items h.stacked);
       };
       layers = rw n at c.pop.ensures.rest;
       back = λ few. refl;
@@ -27,7 +27,7 @@ loop-turn-preserved c =
     let inner = before.inner in
     let layers = ap (λ v. v.items) c.in_ok-take_back.ensures.layers in
     record {
-      keeps = λ names lists h. c.in_ok-take_back.ensures.keeps names lists inner.0 inner.1 inner.2 inner.3 (before.keeps names lists h);
+      keeps = λ namespaces lists h. c.in_ok-take_back.ensures.keeps namespaces lists inner.0 inner.1 inner.2 inner.3 (before.keeps namespaces lists h);
       layers = layers ∙ before.layers;
       back = λ few.
           let was = before.back few in

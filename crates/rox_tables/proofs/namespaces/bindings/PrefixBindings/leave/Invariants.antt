@@ -6,7 +6,7 @@ use Rattle.rox_tables.proofs.namespaces.bindings.PrefixBindings.leave.Given as g
 
 abbrev pub invariant-loop-turn : goal.invariant-loop-turn
 invariant-loop-turn l = record {
-  keeps : (names : List NamespaceDecl) (lists : List (List NamespaceDecl)) → AreBindingsOf names lists l.fn.self → AreBindingsOf names lists l.self;
+  keeps : (namespaces : List NamespaceDecl) (lists : List (List NamespaceDecl)) → AreBindingsOf namespaces lists l.fn.self → AreBindingsOf namespaces lists l.self;
   layers : l.self.layers.items ≡ take (length l.fn.self.layers.items - 1) l.fn.self.layers.items;
   back : l.count ≤ length l.fn.self.replaced.items → length l.self.replaced.items + l._turn ≡ length l.fn.self.replaced.items + l.count;
   inner : (ls : List ScopeFrame) × (x : ScopeFrame) × (l.self.layers.items ≡ ls ++ x ∷ []) × (x.count ≡ l.count);

@@ -9,7 +9,7 @@ loop-turn-preserved c =
     let left = l.invariant.left in
     let fewer = simp length-take at (ap length c.in_ok-leave.ensures.layers) in
     record {
-      keeps = λ names lists h. c.in_ok-leave.ensures.keeps names lists (l.invariant.keeps names lists h);
+      keeps = λ namespaces lists h. c.in_ok-leave.ensures.keeps namespaces lists (l.invariant.keeps namespaces lists h);
       same = λ here.
           let was = l.invariant.same here in
           let not_in = sym c.is_in.ensures.value ∙ c.if-is_in.false in

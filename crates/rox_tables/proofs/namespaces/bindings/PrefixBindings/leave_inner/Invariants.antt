@@ -5,7 +5,7 @@ use Rattle.rox_tables.proofs.namespaces.bindings.PrefixBindings.leave_inner.Give
 
 abbrev pub invariant-loop-turn : goal.invariant-loop-turn
 invariant-loop-turn l = record {
-  keeps : (names : List NamespaceDecl) (lists : List (List NamespaceDecl)) → AreBindingsOf names lists l.fn.self → AreBindingsOf names lists l.self;
+  keeps : (namespaces : List NamespaceDecl) (lists : List (List NamespaceDecl)) → AreBindingsOf namespaces lists l.fn.self → AreBindingsOf namespaces lists l.self;
   same : is_innermost l.fn.self.layers.items (length l.fn.self.replaced.items) l.scope ≡ true → l.self ≡ l.fn.self;
   left : length l.self.layers.items + l._turn ≡ length l.fn.self.layers.items;
 }
