@@ -67,8 +67,8 @@ pub enum NodeKind<'input> {
     PI(PI<'input>),
 }
 
-/// A node: 80 bytes. `parent`, `subtree_end` and `depth` are its only links: the id of its parent (0 at the root node too), the id
-/// past its last descendant, and how many nodes are above it.
+/// A node: 80 bytes. `parent`, `subtree_end` and `depth` are its only links: the id of its parent (0 at the root node too), the
+/// id past its last descendant, and how many nodes are above it.
 #[derive(Drop)]
 pub struct NodeData<'input> {
     pub start: usize,
