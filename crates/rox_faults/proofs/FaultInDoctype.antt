@@ -284,12 +284,12 @@ module _ (src : List ℕ) (utf8 : IsUtf8 src) where
   in_doctype_apart W limit i j before nodes after asked given es source f is few same (in_misc p items _ _ to fits ill) =
       let c = closed_there i j p items nodes asked given [] es is to (subst (λ (a : List Asked). SameAnswers a given) (sym (append-nil asked)) same) in
       let r = c.front in
-      let there = item_there src utf8 c.k c.bracket p r.rest r.more r.gs r.openings_left (misc_begins src utf8 p f ill) in
+      let there = item_there src utf8 c.k c.bracket p r.rest r.more r.gs r.left (misc_begins src utf8 p f ill) in
       absurd (misc_apart src utf8 p there.0 there.1 f there.3 ill)
   in_doctype_apart W limit i j before nodes after asked given es source f is few same (too_many p q items item _ to fits one over) =
       let c = closed_there i j p items nodes asked given [] es is to (subst (λ (a : List Asked). SameAnswers a given) (sym (append-nil asked)) same) in
       let r = c.front in
-      let there = item_there src utf8 c.k c.bracket p r.rest r.more r.gs r.openings_left (misc_opens src p q item one) in
+      let there = item_there src utf8 c.k c.bracket p r.rest r.more r.gs r.left (misc_opens src p q item one) in
       let item_is = (one_item src utf8 p q there.0 item there.1 one there.3).1 in
       let front = join (join before items) (leaf item) in
       let others = join there.2 after in
@@ -301,40 +301,40 @@ module _ (src : List ℕ) (utf8 : IsUtf8 src) where
   in_doctype_apart W limit i j before nodes after asked given es source f is few same (not_passed p items _ to fits opens past) =
       let c = closed_there i j p items nodes asked given [] es is to (subst (λ (a : List Asked). SameAnswers a given) (sym (append-nil asked)) same) in
       let r = c.front in
-      let there = passed_there src utf8 c.k c.bracket p r.rest r.more r.gs r.openings_left opens in
+      let there = passed_there src utf8 c.k c.bracket p r.rest r.more r.gs r.left opens in
       let end = there.1.end in let closes = there.1.closes in
       absurd (omega arith)
   in_doctype_apart W limit i j before nodes after asked given es source f is few same (in_entity p q items _ t _ to fits opens due' lack) =
       let c = closed_there i j p items nodes asked given [] es is to (subst (λ (a : List Asked). SameAnswers a given) (sym (append-nil asked)) same) in
       let r = c.front in
-      let there = entity_there src utf8 c.k c.bracket p r.rest r.more r.gs r.openings_left opens in
+      let there = entity_there src utf8 c.k c.bracket p r.rest r.more r.gs r.left opens in
       absurd (entity_apart p there.0 there.1 there.3 there.5 q t f due' lack)
   in_doctype_apart W limit i j before nodes after asked given es source f is few same (entity_open p n m d e parameter items before' first text _ to fits begins definition lack) =
       let c = closed_there i j p items nodes before' given first es is to same in
       let r = c.front in
-      let there = entity_there src utf8 c.k c.bracket p r.rest r.more r.gs r.openings_left begins.opens in
+      let there = entity_there src utf8 c.k c.bracket p r.rest r.more r.gs r.left begins.opens in
       absurd (end_stands p there.0 there.1 there.3 there.5 n m d e parameter first text f begins definition lack)
   in_doctype_apart W limit i j before nodes after asked given es source f is few same (entity_cut p n m d e x parameter items before' request answer text to fits begins external' cut gives) =
       let c = closed_there i j p items nodes before' given (record { request = request; answer = answer } ∷ []) es is to same in
       let r = c.front in
-      let there = entity_there src utf8 c.k c.bracket p r.rest r.more r.gs r.openings_left begins.opens in
+      let there = entity_there src utf8 c.k c.bracket p r.rest r.more r.gs r.left begins.opens in
       absurd (not_cut p there.0 there.1 there.3 there.5 n m d e x parameter request begins external' cut)
   in_doctype_apart W limit i j before nodes after asked given es source f is few same (in_answer p n m d e x q parameter items before' request answer t _ to fits begins external' may text opens due' lack) =
       let c = closed_there i j p items nodes before' given (record { request = request; answer = Some answer } ∷ []) es is to same in
       let r = c.front in
-      let there = entity_there src utf8 c.k c.bracket p r.rest r.more r.gs r.openings_left begins.opens in
+      let there = entity_there src utf8 c.k c.bracket p r.rest r.more r.gs r.left begins.opens in
       absurd (answer_apart p there.0 there.1 there.3 there.5 n m d e q parameter request answer there.2 t f begins external' (subst (SameAnswers (record { request = request; answer = Some answer } ∷ [])) there.7 r.same) opens due' lack)
   in_doctype_apart W limit i j before nodes after asked given es source f is few same (end_lacks p items _ _ to fits bracket lack) =
       let c = closed_there i j p items nodes asked given [] es is to (subst (λ (a : List Asked). SameAnswers a given) (sym (append-nil asked)) same) in
       let r = c.front in
-      let at_end = ended p c.k r.rest r.more r.gs c.bracket r.openings_left bracket in
+      let at_end = ended p c.k r.rest r.more r.gs c.bracket r.left bracket in
       absurd (lack_apart (spaces_end src (c.k + 1)) f (subst (λ (p : ℕ). IsMissing src (spaces_end src (p + 1)) doctype_end f) at_end lack) c.closes)
     where
       -- nothing that a subset holds begins with a bracket
       ended : (p k : ℕ) (rest : Forest Item) (more : List Asked) (gs : List Entity) → byte src k ≡ 93 → Subset src p k rest more gs → byte src p ≡ 93 → p ≡ k
-      ended p k rest more gs end openings_left here =
+      ended p k rest more gs end left here =
           let b : is_space (byte src p) ≡ is_space 93 = ap is_space here in
-          nothing_there src utf8 k end p rest more gs openings_left b (λ is. absurd (let l = item_less src p is in omega arith)) (λ is. absurd (let l = passed_less src p is in omega arith))
+          nothing_there src utf8 k end p rest more gs left b (λ is. absurd (let l = item_less src p is in omega arith)) (λ is. absurd (let l = passed_less src p is in omega arith))
           (false_from_ne_true _ (λ is. absurd (let l = entity_less src p is in omega arith)))
 
       lack_apart : (p : ℕ) (f : Fault) → IsMissing src p doctype_end f → byte src p ≡ 62 → ⊥
@@ -343,7 +343,7 @@ module _ (src : List ℕ) (utf8 : IsUtf8 src) where
   in_doctype_apart W limit i j before nodes after asked given es source f is few same (unknown p items _ to fits none inside) =
       let c = closed_there i j p items nodes asked given [] es is to (subst (λ (a : List Asked). SameAnswers a given) (sym (append-nil asked)) same) in
       let r = c.front in
-      let at_end = nothing_there src utf8 c.k c.bracket p r.rest r.more r.gs r.openings_left none.no_space (no_item p none) (no_passed p none) none.no_entity in
+      let at_end = nothing_there src utf8 c.k c.bracket p r.rest r.more r.gs r.left none.no_space (no_item p none) (no_passed p none) none.no_entity in
       absurd (none.no_bracket (ap (byte src) at_end ∙ c.bracket))
     where
       no_item : (p : ℕ) → NoItem src p → OpensItem src p → ⊥
@@ -357,13 +357,13 @@ module _ (src : List ℕ) (utf8 : IsUtf8 src) where
   in_doctype_apart W limit i j before nodes after asked given es source f is few same (no_root items _ to fits solid) =
       let c = closed_there i j (length src) items nodes asked given [] es is to (subst (λ (a : List Asked). SameAnswers a given) (sym (append-nil asked)) same) in
       let r = c.front in
-      absurd (past_end c.k r.rest r.more r.gs c.bracket r.openings_left)
+      absurd (past_end c.k r.rest r.more r.gs c.bracket r.left)
     where
       -- at the end of the text none is left
       past_end : (k : ℕ) (rest : Forest Item) (more : List Asked) (gs : List Entity) → byte src k ≡ 93 → Subset src (length src) k rest more gs → ⊥
-      past_end k rest more gs end openings_left =
+      past_end k rest more gs end left =
           let past : (b : ℕ) → 0 < b → byte src (length src) ≡ b → ⊥ = λ b some is. let l = within src (length src) (λ z. omega arith) in omega arith in
           let no_space : is_space (byte src (length src)) ≡ false = false_from_ne_true _ (λ white. let l = space_within src (length src) white in omega arith) in
-          let at_end = nothing_there src utf8 k end (length src) rest more gs openings_left no_space (λ is. past 60 (omega arith) (item_less src (length src) is)) (λ is. past 60 (omega arith) (passed_less src (length src) is))
+          let at_end = nothing_there src utf8 k end (length src) rest more gs left no_space (λ is. past 60 (omega arith) (item_less src (length src) is)) (λ is. past 60 (omega arith) (passed_less src (length src) is))
           (false_from_ne_true _ (λ is. past 60 (omega arith) (entity_less src (length src) is))) in
           past 93 (omega arith) (ap (byte src) at_end ∙ end)

@@ -187,7 +187,7 @@ pub reading_same : (limit : ℕ) (allow : Bool) (src : List ℕ) → SameWhole (
 unfolding reading
 reading_same limit allow src =
     same_behind_whole (lifted (prolog src (after_bom src))) _ (λ i.
-    same_behind_whole (lifted (misc limit (length src) src (record { at = i; done = Nil; stack = root; left = 255 }))) _ (λ s.
+    same_behind_whole (lifted (misc limit (length src) src (record { at = i; done = Nil; stack = root; openings_left = 255 }))) _ (λ s.
     same_body s))
   where
     same_body : (s : State) → SameWhole (λ rs. doctype limit allow src (record { state = s; entities = []; replies = rs }) >>> λ d. asks_nothing (body limit d.entities src d.state) >>> λ x. asks_nothing (lifted (finished src x)))
