@@ -25,8 +25,8 @@ pub struct EndTag<'input> {
 }
 
 /// An attribute before its value is looked at. Its name stands from `start` up to `name_end`, and its value from
-/// `value_start` up to `value_end`, where the closing quote stands. `is_verbatim` says that it has no reference and no white space but
-/// spaces.
+/// `value_start` up to `value_end`, where the closing quote stands. `is_verbatim` says that it has no reference and no
+/// white space but spaces.
 #[derive(Clone, Copy)]
 pub struct RawAttribute<'input> {
     pub start: usize,
