@@ -87,9 +87,11 @@ grown_shows end o done b u h sound elements g nodes opens waits joined =
     (λ r x. kind_more (length (attribute_rows t.attributes)) (length t.namespaces.items.items) (length t.scopes.items) (length (attribute_rows u.tables.attributes)) (length u.tables.namespaces.items.items) (length u.tables.scopes.items) r.kind k.0 k.1 k.2 x) h.within in
     record {
       front = h.front;
-      merged = rw (waits, joined) h.merged;
+      last = h.last;
+      merged = h.merged;
+      is_last = rw (waits, joined) h.is_last;
       clean = h.clean;
-      rows = rw nodes (rows ∙ h.rows);
+      rows = rw (waits, nodes) (rows ∙ h.rows);
       open_rows = rw opens (os ∙ h.open_rows);
       within = rw nodes w;
     }

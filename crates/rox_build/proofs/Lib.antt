@@ -16,5 +16,6 @@ pub mod Looping
 pub mod Wholes
 pub mod Asking
 pub mod Items
+pub mod PlainTags
 pub mod Rooted
 pub mod Documents

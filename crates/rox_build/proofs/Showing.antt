@@ -1,5 +1,5 @@
 -- What each change of the builder does to the items that it shows.
-use Rattle.std.proofs.Common.{◌≡◌, ℕ, zero, suc, ◌+◌, ◌-◌, ◌<◌, ◌≤◌, Bool, false, List, [], ◌∷◌, ◌++◌, length, map, set, get_or, take, refl, sym, ap, subst, ◌∙◌, arith, Ok, Err, append_assoc}
+use Rattle.std.proofs.Common.{◌≡◌, ℕ, zero, suc, ◌+◌, ◌-◌, ◌<◌, ◌≤◌, Bool, true, false, List, [], ◌∷◌, ◌++◌, length, map, set, get_or, take, refl, sym, ap, subst, ◌∙◌, arith, Ok, Err, append_assoc}
 use Rattle.std.specs.List.{AllByRecursion}
 use Rattle.std.proofs.Math.ListN.{get_or-map}
 use Rattle.std.proofs.lemmas.Bool.{le-leb, lt-leb}
@@ -16,9 +16,9 @@ use Rattle.rox_reading.specs.Machine.{counted}
 use Rattle.rox_reading.proofs.Forests.{is_text, add, join-nil, size-join, merge-piece, add-text, add_clean, merge-item, clean-item}
 use Rattle.rox_tables.specs.Rows.{RowView, row_view, preorder_rows, node, AttributeRow, attribute_rows}
 use Rattle.rox_build.specs.OpenRows.{top, depth_of, open_line, rows_to, so_far}
-use Rattle.rox_build.specs.PendingText.{waiting}
+use Rattle.rox_build.specs.PendingText.{text_of, waiting}
 use Rattle.rox_tables.specs.TagScopes.{lists_in}
-use Rattle.rox_build.specs.BuilderState.{OpenRow, opened, open_lines, last_row, pending_text, names_in, line_in, opened_in, IsRowWithin, Represents, RepresentsFlushed, IsNode}
+use Rattle.rox_build.specs.BuilderState.{OpenRow, opened, open_lines, last_row, IsPending, with_rows, names_in, line_in, opened_in, IsRowWithin, Represents, RepresentsFlushed, IsNode}
 use Rattle.rox_tables.specs.declared.rows.tables.NodeKind.{NodeKind}
 use Rattle.rox_tables.specs.declared.rows.tables.NodeKind.TheVariants as kind
 use Rattle.rox_tables.specs.declared.rows.tables.NodeData.{NodeData}
@@ -56,17 +56,37 @@ parent_is t o os h = ap last_row h ∙ last_row-open_lines o
 pub rows_count : (t : ElementTables) (end : ℕ) (o : Open) (front : Forest Item) (rows : List NodeData) → map (line_in t) rows ≡ so_far end o front → length rows ≡ top o + 1 + size front
 rows_count t end o front rows h = sym (length-map rows (line_in t)) ∙ ap length h ∙ length-so_far end o front
 
-size-pending : (p : Pending) (joined : List ℕ) → size (pending_text p joined) ≡ waiting p
-size-pending pending.None joined = refl
-size-pending (pending.Slice s e t) joined = refl
-size-pending (pending.Joined s e) joined = refl
+-- where nothing goes on
+pub nothing_last : (b : Builder) (joined : List ℕ) (last : Forest Item) → b.pending ≡ pending.None → IsPending b.pending joined last → last ≡ Nil
+nothing_last b joined last was h = subst (λ (p : Pending). IsPending p joined last) was h
 
-pub count_is : (end : ℕ) (o : Open) (done : Forest Item) (b : Builder) → Represents end o done b → length b.nodes.items + waiting b.pending ≡ nodes_so_far o done
-count_is end o done b h =
-    let n = rows_count b.tables end o h.front b.nodes.items h.rows in
-    let m = ap size h.merged ∙ size-join h.front (pending_text b.pending (string_bytes b.joined)) in
-    let p = size-pending b.pending (string_bytes b.joined) in
-    omega (arith, n, m, p, nodes_are o done)
+pub rows_none : (end : ℕ) (o : Open) (done : Forest Item) (b : Builder) (h : Represents end o done b) → b.pending ≡ pending.None → map (line_in b.tables) b.nodes.items ≡ so_far end o h.front
+rows_none end o done b h was = h.rows ∙ ap (λ (p : Pending). so_far end o (with_rows p h.front h.last)) was
+
+pub merged_none : (end : ℕ) (o : Open) (done : Forest Item) (b : Builder) (h : Represents end o done b) → b.pending ≡ pending.None → merge done ≡ h.front
+merged_none end o done b h was = h.merged ∙ ap (join h.front) (nothing_last b (string_bytes b.joined) h.last was h.is_last) ∙ join-nil h.front
+
+-- where the buffer has the text that may go on
+pub rows_joined : (end : ℕ) (o : Open) (done : Forest Item) (b : Builder) (x y : ℕ) (h : Represents end o done b) → b.pending ≡ pending.Joined x y
+    → map (line_in b.tables) b.nodes.items ≡ so_far end o h.front
+rows_joined end o done b x y h was = h.rows ∙ ap (λ (p : Pending). so_far end o (with_rows p h.front h.last)) was
+
+pub merged_joined : (end : ℕ) (o : Open) (done : Forest Item) (b : Builder) (x y : ℕ) (h : Represents end o done b) → b.pending ≡ pending.Joined x y
+    → merge done ≡ join h.front (leaf (Text x y (string_bytes b.joined) false))
+merged_joined end o done b x y h was =
+    let is : h.last ≡ leaf (Text x y (string_bytes b.joined) false) = subst (λ (p : Pending). IsPending p (string_bytes b.joined) h.last) was h.is_last in
+    h.merged ∙ ap (join h.front) is
+
+-- where its row is written
+pub rows_written : (end : ℕ) (o : Open) (done : Forest Item) (b : Builder) (h : Represents end o done b) → b.pending ≡ pending.Written
+    → map (line_in b.tables) b.nodes.items ≡ so_far end o (merge done)
+rows_written end o done b h was = h.rows ∙ ap (λ (p : Pending). so_far end o (with_rows p h.front h.last)) was ∙ ap (so_far end o) (sym h.merged)
+
+abbrev pub IsSlice : Forest Item → Type 0
+IsSlice last = (start : ℕ) × (end : ℕ) × (text : List ℕ) × (last ≡ leaf (Text start end text true))
+
+pub written_is : (end : ℕ) (o : Open) (done : Forest Item) (b : Builder) (h : Represents end o done b) → b.pending ≡ pending.Written → IsSlice h.last
+written_is end o done b h was = subst (λ (p : Pending). IsPending p (string_bytes b.joined) h.last) was h.is_last
 
 pub counted_ok : (limit : ℕ) (s : State) → nodes_so_far s.stack s.done ≤ limit → counted limit s ≡ Ok s
 counted_ok limit s h = let k = le-leb (nodes_so_far s.stack s.done) limit h in rw k refl
@@ -104,21 +124,33 @@ row_shows t end o front i rows os s e k h opens is =
 pub settled_none : (end : ℕ) (o : Open) (done : Forest Item) (b u : Builder) → Represents end o done b → b.pending ≡ pending.None → u.nodes ≡ b.nodes → u.tables ≡ b.tables → u.opened ≡ b.opened
     → u.pending ≡ pending.None → RepresentsFlushed end o done u
 settled_none end o done b u h was nodes tables opens empty =
-    let m : h.front ≡ merge done = sym (h.merged ∙ ap (λ (p : Pending). join h.front (pending_text p (string_bytes b.joined))) was ∙ join-nil h.front) in
+    let m : h.front ≡ merge done = sym (merged_none end o done b h was) in
     record {
-      rows = rw (nodes, tables) (h.rows ∙ ap (so_far end o) m);
+      rows = rw (nodes, tables) (rows_none end o done b h was ∙ ap (so_far end o) m);
       open_rows = rw (tables, opens) h.open_rows;
       within = rw (nodes, tables) h.within;
       empty = empty;
     }
 
-pub settled_some : (end : ℕ) (o : Open) (done : Forest Item) (b u : Builder) (s e : ℕ) (v : List ℕ) (p : Bool) (k : NodeKind) → Represents end o done b
-    → pending_text b.pending (string_bytes b.joined) ≡ leaf (Text s e v p) → node (attribute_rows b.tables.attributes) (names_in b.tables) (lists_in b.tables) s e k ≡ node_in (scope_of o) (Text s e v p)
+pub settled_written : (end : ℕ) (o : Open) (done : Forest Item) (b u : Builder) → Represents end o done b → b.pending ≡ pending.Written → u.nodes ≡ b.nodes → u.tables ≡ b.tables → u.opened ≡ b.opened
+    → u.pending ≡ pending.None → RepresentsFlushed end o done u
+settled_written end o done b u h was nodes tables opens empty =
+    record {
+      rows = rw (nodes, tables) (rows_written end o done b h was);
+      open_rows = rw (tables, opens) h.open_rows;
+      within = rw (nodes, tables) h.within;
+      empty = empty;
+    }
+
+pub settled_joined : (end : ℕ) (o : Open) (done : Forest Item) (b u : Builder) (s e : ℕ) (k : NodeKind) → Represents end o done b
+    → b.pending ≡ pending.Joined s e
+    → node (attribute_rows b.tables.attributes) (names_in b.tables) (lists_in b.tables) s e k ≡ node_in (scope_of o) (Text s e (string_bytes b.joined) false)
     → IsRowWithin b.tables k → u.nodes.items ≡ b.nodes.items ++ row_of b.tables b.nodes.items b.opened.items s e k ∷ [] → u.tables ≡ b.tables → u.opened ≡ b.opened
     → u.pending ≡ pending.None → RepresentsFlushed end o done u
-settled_some end o done b u s e v p k h was is within nodes tables opens empty =
-    let m : join h.front (leaf (Text s e v p)) ≡ merge done = sym (h.merged ∙ ap (join h.front) was) in
-    let r = row_shows b.tables end o h.front (Text s e v p) b.nodes.items b.opened.items s e k h.rows h.open_rows is in
+settled_joined end o done b u s e k h was is within nodes tables opens empty =
+    let i : Item = Text s e (string_bytes b.joined) false in
+    let m : join h.front (leaf i) ≡ merge done = sym (merged_joined end o done b s e h was) in
+    let r = row_shows b.tables end o h.front i b.nodes.items b.opened.items s e k (rows_joined end o done b s e h was) h.open_rows is in
     let w = all_append (λ (r : NodeData). IsRowWithin b.tables r.kind) b.nodes.items (row_of b.tables b.nodes.items b.opened.items s e k ∷ []) h.within (within, tt) in
     record {
       rows = rw (nodes, tables) (r ∙ ap (so_far end o) m);
@@ -126,6 +158,16 @@ settled_some end o done b u s e v p k h was is within nodes tables opens empty =
       within = rw (nodes, tables) w;
       empty = empty;
     }
+
+-- where none waits for its row
+pub settled : (end : ℕ) (o : Open) (done : Forest Item) (b u : Builder) → Represents end o done b → waiting b.pending ≡ 0 → u.nodes ≡ b.nodes → u.tables ≡ b.tables → u.opened ≡ b.opened
+    → u.pending ≡ pending.None → RepresentsFlushed end o done u
+settled end o done b u h none nodes tables opens empty = by_cases b.pending refl
+  where
+    by_cases : (p : Pending) → p ≡ b.pending → RepresentsFlushed end o done u
+    by_cases pending.None e = settled_none end o done b u h (sym e) nodes tables opens empty
+    by_cases pending.Written e = settled_written end o done b u h (sym e) nodes tables opens empty
+    by_cases (pending.Joined x y) e = absurd (let w : 1 ≡ 0 = ap waiting e ∙ none in omega arith)
 
 -- ---- items
 
@@ -138,9 +180,11 @@ leaf_shows end o done b u s e k i h is nodes tables opens same =
     let z : u.pending ≡ pending.None = same ∙ h.empty in
     record {
       front = join (merge done) (leaf i);
-      merged = merge-item done i Nil is.no_text ∙ sym (ap (λ (p : Pending). join (join (merge done) (leaf i)) (pending_text p (string_bytes u.joined))) z ∙ join-nil (join (merge done) (leaf i)));
+      last = Nil;
+      merged = merge-item done i Nil is.no_text ∙ sym (join-nil (join (merge done) (leaf i)));
+      is_last = rw z refl;
       clean = clean-item (merge done) i Nil is.no_text;
-      rows = rw (nodes, tables) r;
+      rows = rw (z, nodes, tables) r;
       open_rows = rw (tables, opens) h.open_rows;
       within = rw (nodes, tables) w;
     }
@@ -156,46 +200,137 @@ settled_count end o done b h = omega (arith, rows_count b.tables end o (merge do
 
 -- ---- text
 
-pub piece_first : (end : ℕ) (o : Open) (done : Forest Item) (b u : Builder) (s e : ℕ) (v : List ℕ) (p : Bool) → Represents end o done b → b.pending ≡ pending.None
-    → u.nodes ≡ b.nodes → u.tables ≡ b.tables → u.opened ≡ b.opened → pending_text u.pending (string_bytes u.joined) ≡ leaf (Text s e v p) → Represents end o (join done (leaf (Text s e v p))) u
-piece_first end o done b u s e v p h was nodes tables opens is =
-    let m : merge done ≡ h.front = h.merged ∙ ap (λ (p : Pending). join h.front (pending_text p (string_bytes b.joined))) was ∙ join-nil h.front in
+-- the first piece of a text, into the buffer
+pub piece_first : (end : ℕ) (o : Open) (done : Forest Item) (b u : Builder) (s e : ℕ) (v : List ℕ) → Represents end o done b → b.pending ≡ pending.None
+    → u.nodes ≡ b.nodes → u.tables ≡ b.tables → u.opened ≡ b.opened → u.pending ≡ pending.Joined s e → string_bytes u.joined ≡ v → Represents end o (join done (leaf (Text s e v false))) u
+piece_first end o done b u s e v h was nodes tables opens waits joined =
+    let m = merged_none end o done b h was in
     record {
       front = h.front;
-      merged = merge-piece done s e v p ∙ ap (add s e v p) m ∙ add_clean h.front s e v p h.clean ∙ sym (ap (join h.front) is);
+      last = leaf (Text s e v false);
+      merged = merge-piece done s e v false ∙ ap (add s e v false) m ∙ add_clean h.front s e v false h.clean;
+      is_last = rw (waits, joined) refl;
       clean = h.clean;
-      rows = rw (nodes, tables) h.rows;
+      rows = rw (waits, nodes, tables) (rows_none end o done b h was);
       open_rows = rw (tables, opens) h.open_rows;
       within = rw (nodes, tables) h.within;
     }
 
-pub piece_more : (end : ℕ) (o : Open) (done : Forest Item) (b u : Builder) (x y : ℕ) (w : List ℕ) (q : Bool) (s e : ℕ) (v : List ℕ) (p : Bool) → Represents end o done b
-    → pending_text b.pending (string_bytes b.joined) ≡ leaf (Text x y w q) → u.nodes ≡ b.nodes → u.tables ≡ b.tables → u.opened ≡ b.opened
-    → pending_text u.pending (string_bytes u.joined) ≡ leaf (Text x y (w ++ v) false) → Represents end o (join done (leaf (Text s e v p))) u
-piece_more end o done b u x y w q s e v p h was nodes tables opens is =
-    let m : merge done ≡ join h.front (leaf (Text x y w q)) = h.merged ∙ ap (join h.front) was in
+-- a slice of the source, whose row is written
+pub slice_first : (end : ℕ) (o : Open) (done : Forest Item) (b u : Builder) (s e : ℕ) (v : List ℕ) (k : NodeKind) → Represents end o done b → b.pending ≡ pending.None
+    → node (attribute_rows b.tables.attributes) (names_in b.tables) (lists_in b.tables) s e k ≡ node_in (scope_of o) (Text s e v true) → IsRowWithin b.tables k
+    → u.nodes.items ≡ b.nodes.items ++ row_of b.tables b.nodes.items b.opened.items s e k ∷ [] → u.tables ≡ b.tables → u.opened ≡ b.opened → u.pending ≡ pending.Written
+    → Represents end o (join done (leaf (Text s e v true))) u
+slice_first end o done b u s e v k h was is within nodes tables opens waits =
+    let i : Item = Text s e v true in
+    let m = merged_none end o done b h was in
+    let r = row_shows b.tables end o h.front i b.nodes.items b.opened.items s e k (rows_none end o done b h was) h.open_rows is in
+    let w = all_append (λ (r : NodeData). IsRowWithin b.tables r.kind) b.nodes.items (row_of b.tables b.nodes.items b.opened.items s e k ∷ []) h.within (within, tt) in
     record {
       front = h.front;
-      merged = merge-piece done s e v p ∙ ap (add s e v p) m ∙ add-text h.front x y w q s e v p ∙ sym (ap (join h.front) is);
+      last = leaf i;
+      merged = merge-piece done s e v true ∙ ap (add s e v true) m ∙ add_clean h.front s e v true h.clean;
+      is_last = rw waits (s, e, v, refl);
       clean = h.clean;
-      rows = rw (nodes, tables) h.rows;
+      rows = rw (waits, nodes, tables) r;
+      open_rows = rw (tables, opens) h.open_rows;
+      within = rw (nodes, tables) w;
+    }
+
+-- one more piece of what is in the buffer
+pub piece_more : (end : ℕ) (o : Open) (done : Forest Item) (b u : Builder) (x y s e : ℕ) (v : List ℕ) (p : Bool) → Represents end o done b
+    → b.pending ≡ pending.Joined x y → u.nodes ≡ b.nodes → u.tables ≡ b.tables → u.opened ≡ b.opened
+    → u.pending ≡ pending.Joined x y → string_bytes u.joined ≡ string_bytes b.joined ++ v → Represents end o (join done (leaf (Text s e v p))) u
+piece_more end o done b u x y s e v p h was nodes tables opens waits joined =
+    let w = string_bytes b.joined in
+    let m = merged_joined end o done b x y h was in
+    record {
+      front = h.front;
+      last = leaf (Text x y (w ++ v) false);
+      merged = merge-piece done s e v p ∙ ap (add s e v p) m ∙ add-text h.front x y w false s e v p;
+      is_last = rw (waits, joined) refl;
+      clean = h.clean;
+      rows = rw (waits, nodes, tables) (rows_joined end o done b x y h was);
       open_rows = rw (tables, opens) h.open_rows;
       within = rw (nodes, tables) h.within;
+    }
+
+-- the text of a row that shows a text
+text_in : (as' : List AttributeRow) (namespaces : List NamespaceDecl) (ls : List (List NamespaceDecl)) (s e x y : ℕ) (w : List ℕ) (k : NodeKind) → node as' namespaces ls s e k ≡ tree.Text x y w true
+    → (s ≡ x) × (e ≡ y) × (text_of k ≡ w)
+text_in as' namespaces ls s e x y w kind.Root h = cc h
+text_in as' namespaces ls s e x y w (kind.Element d) h = cc h
+text_in as' namespaces ls s e x y w (kind.Text v) h = (cc h, cc h, cc h)
+text_in as' namespaces ls s e x y w (kind.Comment t) h = cc h
+text_in as' namespaces ls s e x y w (kind.PI p) h = cc h
+
+-- the last row, where it shows a text, and the rows before it
+pub last_text : (t : ElementTables) (end : ℕ) (o : Open) (front : Forest Item) (rows : List NodeData) (last : NodeData) (x y : ℕ) (w : List ℕ)
+    → map (line_in t) (rows ++ last ∷ []) ≡ so_far end o (join front (leaf (Text x y w true)))
+    → (map (line_in t) rows ≡ so_far end o front) × (last.start ≡ x) × (last.end ≡ y) × (text_of last.kind ≡ w)
+last_text t end o front rows last x y w h =
+    let i : Item = Text x y w true in
+    let line = preorder_rows (top o) (depth_of o + 1) (top o + 1 + size front) (resolved (scope_of o) (leaf i)) in
+    let is : map (line_in t) rows ++ line_in t last ∷ [] ≡ so_far end o front ++ record { parent = top o; subtree_end = top o + 1 + size front + 1; depth = depth_of o + 1; node = node_in (scope_of o) i } ∷ [] =
+    sym (map-append (line_in t) rows (last ∷ [])) ∙ h ∙ so_far-join end o front (leaf i)
+    ∙ ap (λ xs. so_far end o front ++ xs) (leaf_line (top o) (depth_of o + 1) (top o + 1 + size front) (scope_of o) i) in
+    let both = same_from_push (map (line_in t) rows) (so_far end o front) (line_in t last) _ is in
+    let text = text_in (attribute_rows t.attributes) (names_in t) (lists_in t) last.start last.end x y w last.kind (ap (λ (l : RowView). l.node) both.1) in
+    (both.0, text.0, text.1, text.2)
+
+all_front : {X : Type 0} (P : X → Type 0) (xs : List X) (x : X) → AllByRecursion P (xs ++ x ∷ []) → AllByRecursion P xs
+all_front P [] x h = tt
+all_front P (y ∷ ys) x (p, h) = (p, all_front P ys x h)
+
+-- a piece that joins a text whose row is written: it is taken back
+pub slice_more : (end : ℕ) (o : Open) (done : Forest Item) (b u : Builder) (last : NodeData) (s e : ℕ) (v : List ℕ) (p : Bool) → Represents end o done b
+    → b.pending ≡ pending.Written → b.nodes.items ≡ u.nodes.items ++ last ∷ [] → u.tables ≡ b.tables → u.opened ≡ b.opened
+    → u.pending ≡ pending.Joined last.start last.end → string_bytes u.joined ≡ text_of last.kind ++ v → Represents end o (join done (leaf (Text s e v p))) u
+slice_more end o done b u last s e v p h was nodes tables opens waits joined =
+    let slice = written_is end o done b h was in
+    let x = slice.0 in let y = slice.1 in let w = slice.2 in
+    let m : merge done ≡ join h.front (leaf (Text x y w true)) = h.merged ∙ ap (join h.front) slice.3 in
+    let all : map (line_in b.tables) (u.nodes.items ++ last ∷ []) ≡ so_far end o (join h.front (leaf (Text x y w true))) =
+    ap (map (line_in b.tables)) (sym nodes) ∙ rows_written end o done b h was ∙ ap (so_far end o) m in
+    let text = last_text b.tables end o h.front u.nodes.items last x y w all in
+    let kept : AllByRecursion (λ (r : NodeData). IsRowWithin b.tables r.kind) (u.nodes.items ++ last ∷ []) = subst (AllByRecursion (λ (r : NodeData). IsRowWithin b.tables r.kind)) nodes h.within in
+    let all_within = all_front (λ (r : NodeData). IsRowWithin b.tables r.kind) u.nodes.items last kept in
+    let bytes : string_bytes u.joined ≡ w ++ v = joined ∙ ap (λ (l : List ℕ). l ++ v) text.3 in
+    record {
+      front = h.front;
+      last = leaf (Text x y (w ++ v) false);
+      merged = merge-piece done s e v p ∙ ap (add s e v p) m ∙ add-text h.front x y w true s e v p;
+      is_last = rw (waits, text.1, text.2, bytes) refl;
+      clean = h.clean;
+      rows = rw (waits, tables) text.0;
+      open_rows = rw (tables, opens) h.open_rows;
+      within = rw tables all_within;
     }
 
 pub first_count : (end : ℕ) (o : Open) (done : Forest Item) (b : Builder) (s e : ℕ) (v : List ℕ) (p : Bool) → Represents end o done b → b.pending ≡ pending.None
     → nodes_so_far o (join done (leaf (Text s e v p))) ≡ length b.nodes.items + 1
 first_count end o done b s e v p h was =
-    let m : merge done ≡ h.front = h.merged ∙ ap (λ (p : Pending). join h.front (pending_text p (string_bytes b.joined))) was ∙ join-nil h.front in
+    let m = merged_none end o done b h was in
     let k = ap size (merge-piece done s e v p ∙ ap (add s e v p) m ∙ add_clean h.front s e v p h.clean) ∙ size-join h.front (leaf (Text s e v p)) in
-    omega (arith, k, nodes_are o (join done (leaf (Text s e v p))), rows_count b.tables end o h.front b.nodes.items h.rows)
+    omega (arith, k, nodes_are o (join done (leaf (Text s e v p))), rows_count b.tables end o h.front b.nodes.items (rows_none end o done b h was))
 
-pub more_count : (end : ℕ) (o : Open) (done : Forest Item) (b : Builder) (x y : ℕ) (w : List ℕ) (q : Bool) (s e : ℕ) (v : List ℕ) (p : Bool) → Represents end o done b
-    → pending_text b.pending (string_bytes b.joined) ≡ leaf (Text x y w q) → nodes_so_far o (join done (leaf (Text s e v p))) ≡ length b.nodes.items + 1
-more_count end o done b x y w q s e v p h was =
-    let m : merge done ≡ join h.front (leaf (Text x y w q)) = h.merged ∙ ap (join h.front) was in
-    let k = ap size (merge-piece done s e v p ∙ ap (add s e v p) m ∙ add-text h.front x y w q s e v p) ∙ size-join h.front (leaf (Text x y (w ++ v) false)) in
-    omega (arith, k, nodes_are o (join done (leaf (Text s e v p))), rows_count b.tables end o h.front b.nodes.items h.rows)
+pub more_count : (end : ℕ) (o : Open) (done : Forest Item) (b : Builder) (x y s e : ℕ) (v : List ℕ) (p : Bool) → Represents end o done b
+    → b.pending ≡ pending.Joined x y → nodes_so_far o (join done (leaf (Text s e v p))) ≡ length b.nodes.items + 1
+more_count end o done b x y s e v p h was =
+    let w = string_bytes b.joined in
+    let m = merged_joined end o done b x y h was in
+    let k = ap size (merge-piece done s e v p ∙ ap (add s e v p) m ∙ add-text h.front x y w false s e v p) ∙ size-join h.front (leaf (Text x y (w ++ v) false)) in
+    omega (arith, k, nodes_are o (join done (leaf (Text s e v p))), rows_count b.tables end o h.front b.nodes.items (rows_joined end o done b x y h was))
+
+pub written_count : (end : ℕ) (o : Open) (done : Forest Item) (b : Builder) (s e : ℕ) (v : List ℕ) (p : Bool) → Represents end o done b
+    → b.pending ≡ pending.Written → nodes_so_far o (join done (leaf (Text s e v p))) ≡ length b.nodes.items
+written_count end o done b s e v p h was =
+    let slice = written_is end o done b h was in
+    let x = slice.0 in let y = slice.1 in let w = slice.2 in
+    let m : merge done ≡ join h.front (leaf (Text x y w true)) = h.merged ∙ ap (join h.front) slice.3 in
+    let k = ap size (merge-piece done s e v p ∙ ap (add s e v p) m ∙ add-text h.front x y w true s e v p) ∙ size-join h.front (leaf (Text x y (w ++ v) false)) in
+    let n = ap size m ∙ size-join h.front (leaf (Text x y w true)) in
+    omega (arith, k, n, nodes_are o (join done (leaf (Text s e v p))), rows_count b.tables end o (merge done) b.nodes.items (rows_written end o done b h was))
 
 -- ---- elements
 
@@ -217,9 +352,11 @@ open_shows end o done b u s k t x h is within place view nodes tables opens same
     ∙ ap (λ l. open_lines o ++ l ∷ []) v in
     record {
       front = Nil;
-      merged = sym (ap (λ (p : Pending). pending_text p (string_bytes u.joined)) z);
+      last = Nil;
+      merged = refl;
+      is_last = rw z refl;
       clean = tt;
-      rows = rw (nodes, tables) g;
+      rows = rw (z, nodes, tables) g;
       open_rows = rw (tables, opens) os;
       within = rw (nodes, tables) w;
     }
@@ -315,9 +452,11 @@ close_with end s e t before up done b u outer x d h was opens tables same change
     let w = within_set tt' b.nodes.items k new h.within (within_at tt' b.nodes.items k d h.within fine) in
     record {
       front = join (merge before) one;
-      merged = merge-item before (Element s e t) (merge done) refl ∙ sym (ap (λ (p : Pending). join (join (merge before) one) (pending_text p (string_bytes u.joined))) z ∙ join-nil (join (merge before) one));
+      last = Nil;
+      merged = merge-item before (Element s e t) (merge done) refl ∙ sym (join-nil (join (merge before) one));
+      is_last = rw z refl;
       clean = clean-item (merge before) (Element s e t) (merge done) refl;
-      rows = rw (set_is, tables) g;
+      rows = rw (z, set_is, tables) g;
       open_rows = rw (opens, tables) both.0;
       within = rw (set_is, tables) w;
     }

@@ -2,7 +2,9 @@
 use Rattle.std.proofs.lemmas.Bool.{lt-leb}
 use Rattle.rox_grammar.specs.Search.{stands}
 use Rattle.std.specs.List.{starts_with}
-use Rattle.rox_tables.specs.Rows.{attribute_rows, scope_at}
+use Rattle.rox_tables.specs.Rows.{AttributeRow, attribute_rows, row_view, scope_at}
+use Rattle.std.specs.List.{AllByRecursion}
+use Rattle.rox_tables.specs.declared.rows.tables.NodeData.{NodeData}
 use Rattle.rox_tables.specs.TagScopes.{lists_in}
 use Rattle.std.proofs.Common.{eqb, eq-eqb, ne_eqb, if◌then◌else◌, slice_index, ◌≡◌, ℕ, zero, suc, ◌+◌, ◌<◌, Bool, true, false, List, [], ◌∷◌, ◌++◌, length, map, leb, refl, sym, ap, subst, ◌∙◌, arith, Result, Ok, Err, append_assoc, length-append}
 use Rattle.std.proofs.lemmas.List.{append-nil, length-map, map-append, same_from_push}
@@ -30,7 +32,7 @@ use Rattle.rox_grammar.specs.Tree.{listed}
 use Rattle.rox_scan.specs.declared.cursor.Cursor.{Cursor}
 use Rattle.rox_grammar.specs.declared.failure.Failure.{Failure}
 use Rattle.rox_build.proofs.Lifting.{refuses}
-use Rattle.rox_build.specs.BuilderState.{OpenRow, opened, opened_in, open_lines, names_in, Represents, Adds, IsInState, ScansTo}
+use Rattle.rox_build.specs.BuilderState.{OpenRow, opened, opened_in, open_lines, line_in, names_in, IsRowWithin, Represents, Adds, IsInState, KeepsState, ScansTo}
 use Rattle.rox_build.specs.declared.builder.Builder.{Builder}
 
 pairs_last : (done : Forest Item) (i : Item) (c : Forest Item) → pairs (join done (Cons i c Nil)) ≡ pairs done ++ (own_pairs i ++ pairs c)
@@ -127,9 +129,11 @@ pub same_shows : (end : ℕ) (o : Open) (done : Forest Item) (b u : Builder) →
 same_shows end o done b u h nodes tables opens waits joined =
     record {
       front = h.front;
-      merged = rw (waits, joined) h.merged;
+      last = h.last;
+      merged = h.merged;
+      is_last = rw (waits, joined) h.is_last;
       clean = h.clean;
-      rows = rw (nodes, tables) h.rows;
+      rows = rw (waits, nodes, tables) h.rows;
       open_rows = rw (tables, opens) h.open_rows;
       within = rw (nodes, tables) h.within;
     }
@@ -278,3 +282,35 @@ two_stand (c ∷ d ∷ src) zero a b h x y = let k : eqb a c ≡ true = eq-eqb a
 two_stand (c ∷ d ∷ src) (suc i) a b h x y =
     let e : suc i + 1 ≡ suc (i + 1) = omega arith in
     two_stand (d ∷ src) i a b (omega arith) x (ap (slice_index (c ∷ d ∷ src)) (sym e) ∙ y)
+
+-- ---- what is the same, whatever room there is for attributes
+
+pub state_kept : (limit end : ℕ) (s : State) (c d : Cursor) (b u : Builder) → IsInState limit end s c b → d ≡ c → KeepsState b u → IsInState limit end s d u
+state_kept limit end s c d b u h same k =
+    let t = b.tables in
+    let v = u.tables in
+    let namespaces : names_in v ≡ names_in t = ap names_in k.others in
+    let lists : lists_in v ≡ lists_in t = ap lists_in k.others in
+    let rows : map (line_in v) b.nodes.items ≡ map (line_in t) b.nodes.items =
+    ap (λ (xs : List AttributeRow). map (row_view xs (names_in v) (lists_in v)) b.nodes.items) k.attributes
+    ∙ ap (λ (ns : List NamespaceDecl). map (row_view (attribute_rows t.attributes) ns (lists_in v)) b.nodes.items) namespaces
+    ∙ ap (λ (ls : List (List NamespaceDecl)). map (row_view (attribute_rows t.attributes) (names_in t) ls) b.nodes.items) lists in
+    let within : AllByRecursion (λ (r : NodeData). IsRowWithin v r.kind) b.nodes.items =
+    rw (k.attributes, ap (λ (t : ElementTables). length t.namespaces.items.items) k.others, ap (λ (t : ElementTables). length t.scopes.items) k.others) h.shows.within in
+    record {
+      here = ap (λ (c : Cursor). c.pos) same ∙ h.here;
+      limit_is = k.limit ∙ h.limit_is;
+      shows = record {
+        front = h.shows.front;
+        last = h.shows.last;
+        merged = h.shows.merged;
+        is_last = rw (k.pending, k.joined) h.shows.is_last;
+        clean = h.shows.clean;
+        rows = rw (k.pending, k.nodes) (rows ∙ h.shows.rows);
+        open_rows = rw (k.opened, lists) h.shows.open_rows;
+        within = rw k.nodes within;
+      };
+      namespaces = namespaces ∙ h.namespaces;
+      attributes = ap length k.attributes ∙ h.attributes;
+      openings_left_is = k.openings_left ∙ h.openings_left_is;
+    }

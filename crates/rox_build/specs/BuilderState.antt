@@ -1,5 +1,5 @@
 -- What the builder holds, against where reading stands.
-use Rattle.std.specs.Prelude.{◌≡◌, ℕ, ◌+◌, ◌<◌, ◌≤◌, Bool, true, false, List, [], ◌∷◌, ◌++◌, Option, Result, Ok, Err, length, map}
+use Rattle.std.specs.Prelude.{◌≡◌, vec_len, vec_capacity, ℕ, ◌+◌, ◌^◌, ◌<◌, ◌≤◌, Bool, true, false, List, [], ◌∷◌, ◌++◌, Option, Result, Ok, Err, length, map}
 use Rattle.std.specs.String.{string_bytes}
 use Rattle.std.specs.List.{AllByRecursion}
 use Rattle.rox_grammar.specs.declared.fault.Fault.{Fault}
@@ -20,6 +20,7 @@ use Rattle.rox_values.specs.Refusals.{IsFailure, IsRefusal}
 use Rattle.rox_values.specs.Values.{next_view}
 use Rattle.rox_values.specs.declared.parse_error.ParseError.{ParseError}
 use Rattle.rox_build.specs.OpenRows.{top, so_far}
+use Rattle.rox_build.specs.PendingText.{waiting}
 use Rattle.rox_tables.specs.Scopes.{PrefixesOnce}
 use Rattle.rox_tables.specs.TagScopes.{HasBindings, lists_in}
 use Rattle.rox_tables.specs.declared.rows.tables.NodeKind.{NodeKind}
@@ -57,11 +58,17 @@ last_row [] = 0
 last_row (o ∷ []) = o.row
 last_row (o ∷ p ∷ ps) = last_row (p ∷ ps)
 
--- the text that may go on, where the buffer holds this
-abbrev pub pending_text : Pending → List ℕ → Forest Item
-pending_text pending.None joined = Nil
-pending_text (pending.Slice start end text) joined = leaf (Text start end text.now true)
-pending_text (pending.Joined start end) joined = leaf (Text start end joined false)
+-- the text that may go on, where the buffer holds this: none, a slice of the source, or what the buffer holds
+abbrev pub IsPending : Pending → List ℕ → Forest Item → Type 0
+IsPending pending.None joined last = last ≡ Nil
+IsPending pending.Written joined last = (start : ℕ) × (end : ℕ) × (text : List ℕ) × (last ≡ leaf (Text start end text true))
+IsPending (pending.Joined start end) joined last = last ≡ leaf (Text start end joined false)
+
+-- the items that have rows, where these do, and behind them is the text that may go on
+abbrev pub with_rows : Pending → (front last : Forest Item) → Forest Item
+with_rows pending.None front last = front
+with_rows pending.Written front last = join front last
+with_rows (pending.Joined start end) front last = front
 
 abbrev pub names_in : ElementTables → List NamespaceDecl
 names_in t = map namespace_view t.namespaces.items.items
@@ -78,11 +85,13 @@ IsRowWithin t k = KindWithin (length (attribute_rows t.attributes)) (length t.na
 
 -- The builder holds these open elements, with these items in the innermost, of a text of this length.
 pub record Represents (end : ℕ) (stack : Open) (done : Forest Item) (b : Builder) : Type 0 where
-  -- the rows of the innermost
+  -- the items of the innermost, and the text behind them that may go on
   pub front : Forest Item
-  pub merged : merge done ≡ join front (pending_text b.pending (string_bytes b.joined))
+  pub last : Forest Item
+  pub merged : merge done ≡ join front last
+  pub is_last : IsPending b.pending (string_bytes b.joined) last
   pub clean : Clean front
-  pub rows : map (line_in b.tables) b.nodes.items ≡ so_far end stack front
+  pub rows : map (line_in b.tables) b.nodes.items ≡ so_far end stack (with_rows b.pending front last)
   pub open_rows : opened_in b.tables b.opened.items ≡ open_lines stack
   pub within : AllByRecursion (λ r. IsRowWithin b.tables r.kind) b.nodes.items
 
@@ -186,3 +195,22 @@ pub record Grown (old new : ElementTables) : Type 0 where
   pub namespaces : names_in new ≡ names_in old ++ more_names
   pub more_lists : List (List NamespaceDecl)
   pub lists : lists_in new ≡ lists_in old ++ more_lists
+
+-- there is room for a row and for an open element, and no text waits for its row
+pub record IsReady (b : Builder) : Type 0 where
+  pub room : vec_len b.nodes < vec_capacity b.nodes
+  pub few : vec_len b.nodes < b.nodes_limit
+  pub small : vec_len b.nodes + 1 < 2 ^ 32
+  pub depth : vec_len b.opened < vec_capacity b.opened
+  pub settled : waiting b.pending ≡ 0
+
+-- the builder holds the same, whatever room it has for attributes
+pub record KeepsState (old new : Builder) : Type 0 where
+  pub nodes : new.nodes ≡ old.nodes
+  pub opened : new.opened ≡ old.opened
+  pub pending : new.pending ≡ old.pending
+  pub joined : new.joined ≡ old.joined
+  pub limit : new.nodes_limit ≡ old.nodes_limit
+  pub openings_left : new.openings_left ≡ old.openings_left
+  pub others : new.tables ≡ record old.tables { attributes = new.tables.attributes }
+  pub attributes : attribute_rows new.tables.attributes ≡ attribute_rows old.tables.attributes

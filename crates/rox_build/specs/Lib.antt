@@ -5,6 +5,7 @@ pub mod PendingText
 pub mod BuilderState
 pub mod TagState
 pub mod ElementRow
+pub mod PlainTag
 pub mod Asking
 pub mod Built
 pub mod WholeTexts

@@ -1,10 +1,27 @@
 -- The text that may go on.
-use Rattle.std.specs.Prelude.{ℕ}
+use Rattle.std.specs.Prelude.{ℕ, List, []}
+use Rattle.rox_tables.specs.Storage.{storage_bytes}
+use Rattle.rox_tables.specs.declared.rows.tables.NodeKind.{NodeKind}
+use Rattle.rox_tables.specs.declared.rows.tables.NodeKind.TheVariants as kind
 use Rattle.rox_build.specs.declared.pending.Pending.{Pending}
 use Rattle.rox_build.specs.declared.pending.Pending.TheVariants as pending
 
 -- how many rows it will take
 abbrev pub waiting : Pending → ℕ
 waiting pending.None = 0
-waiting (pending.Slice start end text) = 1
+waiting pending.Written = 0
 waiting (pending.Joined start end) = 1
+
+-- how many rows it has
+abbrev pub written : Pending → ℕ
+written pending.None = 0
+written pending.Written = 1
+written (pending.Joined start end) = 0
+
+-- the text of a row
+abbrev pub text_of : NodeKind → List ℕ
+text_of kind.Root = []
+text_of (kind.Element e) = []
+text_of (kind.Text value) = storage_bytes value
+text_of (kind.Comment text) = []
+text_of (kind.PI pi) = []

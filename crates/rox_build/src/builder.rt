@@ -1,10 +1,12 @@
 //! The tables as they grow: the open elements, and the text that may go on.
 
-ghost use Rattle.std.specs.Prelude.{◌<◌, ◌≤◌, ◌+◌, ◌^◌, ◌≡◌, ◌∷◌, [], ℕ, length, vec_len, set, get_or, max, IfOk, IfErr, OnOk};
+ghost use Rattle.std.specs.Prelude.{◌<◌, ◌≤◌, ◌+◌, ◌++◌, ◌^◌, ◌≡◌, ◌∷◌, [], ℕ, length, vec_len, set, get_or, max, IfOk, IfErr, OnOk};
 ghost use Rattle.rox_tables.specs.declared.rows.tables.NodeData.{NodeData};
 ghost use Rattle.rox_tables.specs.declared.rows.tables.NodeKind.TheVariants as kind;
 ghost use Rattle.rox_grammar.specs.declared.failure.Failure.TheVariants as failure;
-ghost use Rattle.rox_build.specs.PendingText.{waiting};
+ghost use Rattle.rox_build.specs.PendingText.{waiting, written, text_of};
+ghost use Rattle.rox_build.specs.declared.pending.Pending.TheVariants as pending;
+ghost use Rattle.std.specs.String.{string_bytes};
 
 use crate::pending::Pending;
 use crate::tag::{Buffers, StartTag};
@@ -43,7 +45,7 @@ pub struct Builder<'input> {
     pub tables: ElementTables<'input>,
     /// Outermost first.
     pub opened: Vec<OpenElement<'input>>,
-    pub pending: Pending<'input>,
+    pub pending: Pending,
     /// The text of `Pending::Joined`.
     pub joined: String,
     pub buffers: Buffers<'input>,
@@ -55,7 +57,7 @@ pub struct Builder<'input> {
     pub openings_left: u32,
     pub ghost few: { vec_len nodes + waiting pending < 2 ^ 32 },
     pub ghost counted: { vec_len nodes + waiting pending ≤ max 1 nodes_limit },
-    pub ghost shallow: { vec_len opened < vec_len nodes },
+    pub ghost shallow: { vec_len opened + written pending < vec_len nodes },
 }
 
 /// How many rows a table begins with room for, at most.
@@ -116,9 +118,47 @@ fn end_root(nodes: &mut Vec<NodeData<'_>>, count: u32)
     }
 }
 
+/// Where a text stands, in bytes of its source.
+#[derive(Clone, Copy)]
+struct TextRange {
+    start: usize,
+    end: usize,
+}
+
+/// Takes the last row, of a text, back: its text and this one behind it are in the buffer then. Answers where the row's text
+/// stands. The only error is want of memory, and then the rows are as before.
+#[cold]
+#[inline(never)]
+fn join_last(
+    nodes: &mut Vec<NodeData<'_>>,
+    joined: &mut String,
+    text: &str,
+) -> Result<TextRange, Failure>
+    requires { 0 < vec_len nodes.old }
+    ensures taken { IfOk result (λ r. (last : NodeData) × (nodes.old.items ≡ nodes.new.items ++ last ∷ []) × (r ≡ record { start = last.start; end = last.end })
+        × (string_bytes joined.new ≡ text_of last.kind ++ text.now)) }
+    ensures count { OnOk result (vec_len nodes.old ≡ vec_len nodes.new + 1) }
+    ensures same { IfErr result (λ e. nodes.new ≡ nodes.old) }
+    ensures err { IfErr result (λ e. e ≡ failure.Memory) }
+{
+    joined.clear();
+    if let Some(row) = nodes.last() {
+        if let NodeKind::Text(before) = &row.kind {
+            joined.push_str(before.as_str())?;
+        }
+    }
+    joined.push_str(text)?;
+    match nodes.pop() {
+        Some(row) => Ok(TextRange {
+            start: row.start,
+            end: row.end,
+        }),
+        None => Err(Failure::Memory),
+    }
+}
+
 impl<'input> Builder<'input> {
-    ghost use Rattle.std.specs.Prelude.{List, ◌++◌, ◌-◌, false, true, take, Ok, Err, map};
-    ghost use Rattle.std.specs.String.{string_bytes};
+    ghost use Rattle.std.specs.Prelude.{List, ◌-◌, false, true, take, Ok, Err, map};
     ghost use Rattle.rox_grammar.specs.Forest.{Forest, Nil, Cons, join};
     ghost use Rattle.rox_grammar.specs.Written.{Item, Text, Element, Tag, merge, leaf};
     ghost use Rattle.rox_grammar.specs.declared.fault.Fault.TheVariants as fault;
@@ -127,7 +167,7 @@ impl<'input> Builder<'input> {
     ghost use Rattle.rox_reading.specs.Machine.{with_item, opened_by, counted};
     ghost use Rattle.rox_grammar.specs.Failures.{Fails};
     ghost use Rattle.rox_values.specs.Values.{piece_view};
-    ghost use Rattle.rox_build.specs.BuilderState.{Represents, RepresentsFlushed, IsNode, IsOpening, AreSound, Adds, IsConsistent, names_in, opened_in, last_row};
+    ghost use Rattle.rox_build.specs.BuilderState.{Represents, RepresentsFlushed, IsNode, IsOpening, AreSound, Adds, IsConsistent, IsReady, names_in, opened_in, last_row};
     ghost use Rattle.rox_tables.specs.Rows.{HoldsTree, attribute_rows};
     ghost use Rattle.rox_tables.specs.Scopes.{PrefixesOnce};
     ghost use Rattle.rox_build.specs.ElementRow.{scope_in_tables};
@@ -211,9 +251,8 @@ impl<'input> Builder<'input> {
         ensures { result ≡ vec_len self.now.nodes + waiting self.now.pending }
     {
         match self.pending {
-            Pending::None => self.nodes.len(),
-            Pending::Slice(_, _, _) => self.nodes.len() + 1,
             Pending::Joined(_, _) => self.nodes.len() + 1,
+            _ => self.nodes.len(),
         }
     }
 
@@ -265,20 +304,37 @@ impl<'input> Builder<'input> {
         ensures openings_left { self.new.openings_left ≡ self.old.openings_left }
         ensures err { IfErr result (λ e. e ≡ failure.Memory) }
     {
-        match mem::replace(&mut self.pending, Pending::None) {
+        match self.pending {
             Pending::None => Ok(()),
-            Pending::Slice(start, end, text) => {
-                let row = self.row(start, end, NodeKind::Text(StringStorage::Borrowed(text)));
-                node_rows::push(&mut self.nodes, row)?;
+            Pending::Written => {
+                self.pending = Pending::None;
                 Ok(())
             }
             Pending::Joined(start, end) => {
-                let text = self.recent.owned(alloc, self.joined.as_str())?;
-                let row = self.row(start, end, NodeKind::Text(text));
-                node_rows::push(&mut self.nodes, row)?;
+                self.flush_joined(alloc, start, end)?;
                 Ok(())
             }
         }
+    }
+
+    /// Writes the text in the buffer, whose first piece has this range. The only error is want of memory.
+    #[inline(never)]
+    fn flush_joined(&mut self, alloc: Global, start: usize, end: usize) -> Result<(), Failure>
+        requires { self.old.pending ≡ pending.Joined start end }
+        ensures ok { OnOk result ((end : ℕ) (stack : Open) (done : Forest Item) → Represents end stack done self.old → RepresentsFlushed end stack done self.new) }
+        ensures empty { OnOk result (waiting self.new.pending ≡ 0) }
+        ensures count { OnOk result (vec_len self.new.nodes ≡ vec_len self.old.nodes + 1) }
+        ensures tables { self.new.tables ≡ self.old.tables }
+        ensures opened { self.new.opened ≡ self.old.opened }
+        ensures limit { self.new.nodes_limit ≡ self.old.nodes_limit }
+        ensures openings_left { self.new.openings_left ≡ self.old.openings_left }
+        ensures err { IfErr result (λ e. e ≡ failure.Memory) }
+    {
+        let text = self.recent.owned(alloc, self.joined.as_str())?;
+        let row = self.row(start, end, NodeKind::Text(text));
+        self.pending = Pending::None;
+        node_rows::push(&mut self.nodes, row)?;
+        Ok(())
     }
 
     /// A node that is no text and has no nodes below it. The only fault is that there are too many nodes.
@@ -322,13 +378,13 @@ impl<'input> Builder<'input> {
         match self.pending {
             Pending::None => {
                 self.room()?;
-                self.pending = Pending::Slice(start, end, text);
+                let row = self.row(start, end, NodeKind::Text(StringStorage::Borrowed(text)));
+                node_rows::push(&mut self.nodes, row)?;
+                self.pending = Pending::Written;
             }
-            Pending::Slice(first, until, before) => {
-                self.joined.clear();
-                self.joined.push_str(before)?;
-                self.joined.push_str(text)?;
-                self.pending = Pending::Joined(first, until);
+            Pending::Written => {
+                let range = join_last(&mut self.nodes, &mut self.joined, text)?;
+                self.pending = Pending::Joined(range.start, range.end);
             }
             Pending::Joined(_, _) => self.joined.push_str(text)?,
         }
@@ -350,11 +406,10 @@ impl<'input> Builder<'input> {
                 mem::swap(&mut self.joined, &mut self.buffers.scratch);
                 self.pending = Pending::Joined(start, end);
             }
-            Pending::Slice(first, until, before) => {
-                self.joined.clear();
-                self.joined.push_str(before)?;
-                self.joined.push_str(self.buffers.scratch.as_str())?;
-                self.pending = Pending::Joined(first, until);
+            Pending::Written => {
+                let text = self.buffers.scratch.as_str();
+                let range = join_last(&mut self.nodes, &mut self.joined, text)?;
+                self.pending = Pending::Joined(range.start, range.end);
             }
             Pending::Joined(_, _) => self.joined.push_str(self.buffers.scratch.as_str())?,
         }
@@ -432,6 +487,123 @@ impl<'input> Builder<'input> {
             end_row(&mut self.nodes, element.row, end);
         }
         Ok(())
+    }
+
+    /// Whether there is room for a row and for an open element, and no text waits for its row.
+    #[inline(always)]
+    pub fn is_ready(&self) -> bool
+        ensures { result ≡ true → IsReady self.now }
+    {
+        let count = self.nodes.len();
+        match self.pending {
+            Pending::Joined(_, _) => false,
+            _ => {
+                count < self.nodes.capacity()
+                    && count < self.nodes_limit as usize
+                    && self.opened.len() < self.opened.capacity()
+            }
+        }
+    }
+
+    /// Whether text may go on.
+    #[inline(always)]
+    pub fn is_text_open(&self) -> bool
+        ensures { result ≡ false → self.now.pending ≡ pending.None }
+    {
+        match self.pending {
+            Pending::None => false,
+            _ => true,
+        }
+    }
+
+    /// No text may go on, where none waits for its row.
+    #[inline(always)]
+    fn settle(&mut self)
+        requires { waiting self.old.pending ≡ 0 }
+        ensures ok { (end : ℕ) (stack : Open) (done : Forest Item) → Represents end stack done self.old → RepresentsFlushed end stack done self.new }
+        ensures nodes { self.new.nodes ≡ self.old.nodes }
+        ensures tables { self.new.tables ≡ self.old.tables }
+        ensures opened { self.new.opened ≡ self.old.opened }
+        ensures limit { self.new.nodes_limit ≡ self.old.nodes_limit }
+        ensures openings_left { self.new.openings_left ≡ self.old.openings_left }
+        ensures empty { self.new.pending ≡ pending.None }
+    {
+        self.pending = Pending::None;
+    }
+
+    /// A text that is a slice of the source, where no text may go on and there is room for its row.
+    #[inline(always)]
+    pub fn put_text(&mut self, start: usize, end: usize, text: &'input str)
+        requires ready { IsReady self.old }
+        requires apart { self.old.pending ≡ pending.None }
+        ensures value { (total at : ℕ) (s : State) → Represents total s.stack s.done self.old
+            → Adds total (Ok tt) self.new (with_item self.old.nodes_limit s at (Text start end text.now true)) }
+        ensures tables { self.new.tables ≡ self.old.tables }
+        ensures opened { self.new.opened ≡ self.old.opened }
+        ensures limit { self.new.nodes_limit ≡ self.old.nodes_limit }
+        ensures openings_left { self.new.openings_left ≡ self.old.openings_left }
+    {
+        let row = self.row(start, end, NodeKind::Text(StringStorage::Borrowed(text)));
+        self.nodes.push_reserved(row);
+        self.pending = Pending::Written;
+    }
+
+    /// A node that is no text and has no nodes below it, where there is room for its row.
+    #[inline(always)]
+    pub fn put_leaf(&mut self, start: usize, end: usize, kind: NodeKind<'input>)
+        requires { IsReady self.old }
+        ensures value { (total at : ℕ) (s : State) (item : Item) → Represents total s.stack s.done self.old → IsNode self.old.tables (scope_of s.stack) start end kind.entry item
+            → Adds total (Ok tt) self.new (with_item self.old.nodes_limit s at item) }
+        ensures tables { self.new.tables ≡ self.old.tables }
+        ensures opened { self.new.opened ≡ self.old.opened }
+        ensures limit { self.new.nodes_limit ≡ self.old.nodes_limit }
+        ensures openings_left { self.new.openings_left ≡ self.old.openings_left }
+    {
+        self.settle();
+        let row = self.row(start, end, kind);
+        self.nodes.push_reserved(row);
+    }
+
+    /// An element opens at `start`, where there is room for it.
+    #[inline(always)]
+    pub fn put_open(&mut self, start: usize, tag: &StartTag<'input>)
+        requires { IsReady self.old }
+        ensures value { (total at openings_left : ℕ) (s : State) (t : Tag) → Represents total s.stack s.done self.old → s.at ≡ start → IsOpening self.old.tables (scope_of s.stack) start tag.now t
+            → Adds total (Ok tt) self.new (opened_by self.old.nodes_limit s t false openings_left at) }
+        ensures tables { self.new.tables ≡ self.old.tables }
+        ensures opened { (x : OpenElement) × (self.new.opened.items ≡ self.old.opened.items ++ x ∷ []) × (x.scope ≡ tag.now.element.scope) }
+        ensures limit { self.new.nodes_limit ≡ self.old.nodes_limit }
+        ensures openings_left { self.new.openings_left ≡ self.old.openings_left }
+    {
+        self.settle();
+        let row = self.nodes.len() as u32;
+        let mut opening = self.row(start, 0, NodeKind::Element(tag.element));
+        opening.subtree_end = 0;
+        self.nodes.push_reserved(opening);
+        self.opened.push_reserved(OpenElement {
+            row,
+            name: tag.name,
+            name_start: tag.name_start,
+            name_end: tag.name_end,
+            scope: tag.element.scope,
+        });
+    }
+
+    /// The innermost open element ends, where no text waits for its row.
+    #[inline(always)]
+    pub fn put_close(&mut self, end: usize)
+        requires { waiting self.old.pending ≡ 0 }
+        ensures ok { (total start : ℕ) (t : Tag) (before : Forest Item) (up : Open) (done : Forest Item) → Represents total (inside start t before up) done self.old
+            → Represents total up (join before (Cons (Element start end t) (merge done) Nil)) self.new }
+        ensures tables { self.new.tables ≡ self.old.tables }
+        ensures opened { self.new.opened.items ≡ take (length self.old.opened.items - 1) self.old.opened.items }
+        ensures limit { self.new.nodes_limit ≡ self.old.nodes_limit }
+        ensures openings_left { self.new.openings_left ≡ self.old.openings_left }
+    {
+        self.settle();
+        if let Some(element) = self.opened.pop() {
+            end_row(&mut self.nodes, element.row, end);
+        }
     }
 
     /// The tables of a whole text. The only error is want of memory.

@@ -195,7 +195,7 @@ fn name_span(name: QName<'_>, start: usize, end: usize) -> Span
 
 /// Whether two names are written alike.
 #[inline(always)]
-fn same_qname(one: QName<'_>, other: QName<'_>) -> bool
+pub fn same_qname(one: QName<'_>, other: QName<'_>) -> bool
     ensures { result ≡ machine.same_qname (name_view one.entry) (name_view other.entry) }
 {
     same_text(one.prefix, other.prefix) && same_text(one.local, other.local)

@@ -17,6 +17,7 @@ ghost use Rattle.rox_build.specs.DataParts.{GivesDataPart, IsLine, next_part};
 
 use crate::builder::Builder;
 use crate::constructs::{end_tag, markup};
+use crate::plain_constructs::plain_step;
 use crate::tag::Buffers;
 use rox_grammar::failure::Failure;
 use rox_grammar::fault::Fault;
@@ -267,11 +268,11 @@ fn text_end<'input>(
     }
 }
 
-/// One construct of content.
+/// One construct of content, whichever it is.
 #[tactic(auto, unfolding(rox_reading::specs::Machine::step))]
 #[cycle(content)]
-#[inline(always)]
-fn step<'input>(
+#[inline(never)]
+fn general_step<'input>(
     alloc: Global,
     cursor: &mut Cursor<'input>,
     builder: &mut Builder<'input>,
@@ -298,6 +299,28 @@ fn step<'input>(
     }
     markup(alloc, cursor, builder, context)?;
     Ok(())
+}
+
+/// One construct of content: at one look if it is plain.
+#[cycle(content)]
+#[inline(always)]
+fn step<'input>(
+    alloc: Global,
+    cursor: &mut Cursor<'input>,
+    builder: &mut Builder<'input>,
+    context: Context<'_, 'input>,
+) -> Result<(), ParseError<'input>>
+    requires there { cursor.old.pos < length cursor.old.text.now }
+    requires fine { IsConsistent builder.old.tables builder.old.opened.items }
+    ensures value { (limit end : ℕ) (es : List Entity) (s : State) → AreDeclared es context.entry.entities.now → IsInState limit end s cursor.old builder.old
+        → ParsesTo limit end result cursor.new builder.new (machine.step (context_of limit es context.entry) cursor.old.text.now s) }
+    ensures fine { OnOk result (IsConsistent builder.new.tables builder.new.opened.items) }
+    ensures source { cursor.new.text ≡ cursor.old.text }
+{
+    if plain_step(cursor, builder, context.open_around) {
+        return Ok(());
+    }
+    general_step(alloc, cursor, builder, context)
 }
 
 /// Content up to the end tag of the root element.

@@ -6,6 +6,8 @@ pub mod constructs;
 pub mod content;
 pub mod dtd;
 pub mod pending;
+pub mod plain_constructs;
+pub mod plain_tag;
 pub mod reader;
 pub mod resolver;
 pub mod tag;

@@ -2,10 +2,10 @@
 
 /// The text at the end of what is read, which touching pieces join.
 #[derive(Clone, Copy)]
-pub enum Pending<'input> {
+pub enum Pending {
     None,
-    /// One piece, a slice of the source.
-    Slice(usize, usize, &'input str),
+    /// One piece, a slice of the source, whose row is the last.
+    Written,
     /// Pieces in a buffer, with the range of the first.
     Joined(usize, usize),
 }

@@ -224,7 +224,7 @@ fn attributes<'input>(
 }
 
 /// How many attributes a document may have.
-const MOST_ATTRIBUTES: usize = 4294967294;
+pub const MOST_ATTRIBUTES: usize = 4294967294;
 
 /// What an element of this scope has, with its names tested: its attributes go into the table. The name stands at `at`.
 #[inline(always)]

@@ -1,10 +1,14 @@
 -- The names of a tag in a scope, one by one.
-use Rattle.std.specs.Prelude.{◌≡◌, ◌&&◌, ◌∷◌, ◌++◌, [], ℕ, Bool, List, Result, Ok, Err, bytes_eq}
+use Rattle.std.specs.Prelude.{◌≡◌, ◌&&◌, ◌∷◌, ◌++◌, [], ℕ, Bool, List, Option, Result, Ok, Err, bytes_eq, drop, length, map}
 use Rattle.rox_grammar.specs.declared.fault.Fault.{Fault}
 use Rattle.rox_grammar.specs.Written.{Attribute, NamespaceDecl}
-use Rattle.rox_grammar.specs.Tree.{same_prefix}
+use Rattle.rox_grammar.specs.Tree.{same_prefix, attribute_namespace, attribute_in}
+use Rattle.rox_grammar.specs.Failures.{name_view}
+use Rattle.rox_tables.specs.Bindings.{FindsBinding}
+use Rattle.rox_tables.specs.TagDeclarations.{unresolved_view}
+use Rattle.rox_tables.specs.declared.namespaces.bindings.PrefixBindings.{PrefixBindings}
 use Rattle.rox_reading.specs.Tags.{names_tested}
-use Rattle.rox_tables.specs.Rows.{AttributeRow, attribute_uri}
+use Rattle.rox_tables.specs.Rows.{AttributeRow, NamespaceWithin, attribute, attribute_uri}
 use Rattle.rox_tables.specs.declared.namespaces.unresolved_attribute.UnresolvedAttribute.{UnresolvedAttribute}
 use Rattle.rox_tables.specs.declared.rows.tables.AttributeNamespace.{AttributeNamespace}
 use Rattle.rox_tables.specs.declared.rows.tables.AttributeData.{AttributeData}
@@ -24,3 +28,13 @@ has_expanded namespaces s local a = same_prefix (attribute_uri namespaces a.name
 abbrev pub Tested : List NamespaceDecl → List Attribute → Attribute → List Attribute → Result AttributeNamespace Fault → Type 0
 Tested scope before a rest (Ok s) = names_tested scope before (a ∷ rest) ≡ names_tested scope (before ++ a ∷ []) rest
 Tested scope before a rest (Err f) = names_tested scope before (a ∷ rest) ≡ Err f
+
+-- one more attribute is in the table, behind those of its tag, which begin at this place
+pub record Resolved (namespaces : List NamespaceDecl) (few : Option (List ℕ)) (present : PrefixBindings) (from : ℕ) (old new : List AttributeRow) (one : UnresolvedAttribute) : Type 0 where
+  pub namespace : AttributeNamespace
+  pub rows : new ≡ old ++ row_of_unresolved one namespace ∷ []
+  pub within : NamespaceWithin (length namespaces) namespace
+  -- its name is in this scope
+  pub there : (scope : List NamespaceDecl) → FindsBinding namespaces few present scope → attribute_uri namespaces namespace ≡ attribute_namespace scope (name_view one.name)
+  pub tested : (scope : List NamespaceDecl) (before rest : List Attribute) → FindsBinding namespaces few present scope → map (attribute namespaces) (drop from old) ≡ map (attribute_in scope) before
+      → names_tested scope before (unresolved_view one ∷ rest) ≡ names_tested scope (before ++ unresolved_view one ∷ []) rest

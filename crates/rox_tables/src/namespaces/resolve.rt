@@ -1,7 +1,7 @@
 //! The names of a start tag in their namespaces (Namespaces in XML 1.0, sections 5, 6.2 and 6.3). They are resolved at the
 //! end of the tag, since a declaration holds for the whole of it.
 
-ghost use Rattle.std.specs.Prelude.{◌≡◌, ◌<◌, ◌^◌, ◌++◌, ◌∷◌, [], List, length, map, true, false, IfOk, OnOk, IfErr, IfSome, IfNone, Ok};
+ghost use Rattle.std.specs.Prelude.{◌≡◌, ◌<◌, ◌≤◌, ◌^◌, ◌++◌, ◌∷◌, [], drop, List, length, map, true, false, IfOk, OnOk, IfErr, IfSome, IfNone, Ok};
 ghost use Rattle.std.specs.List.{AllByRecursion, list_any};
 ghost use Rattle.std.specs.Option.{option_map};
 ghost use Rattle.rox_grammar.specs.declared.fault.Fault.TheVariants as fault;
@@ -15,7 +15,7 @@ ghost use Rattle.rox_tables.specs.Rows.{AttributeRow, namespace_view, namespace_
 ghost use Rattle.rox_tables.specs.Scopes.{prefix_view};
 ghost use Rattle.rox_tables.specs.Bindings.{FindsBinding, LooksWithin, places_view};
 ghost use Rattle.rox_tables.specs.TagDeclarations.{unresolved_view};
-ghost use Rattle.rox_tables.specs.ResolvedNames.{row_of_unresolved, has_expanded, Tested};
+ghost use Rattle.rox_tables.specs.ResolvedNames.{row_of_unresolved, has_expanded, Tested, Resolved};
 ghost use Rattle.rox_tables.specs.ExpandedNames.{HasExpandedNames, TestedOr};
 
 use crate::compare::same_text;
@@ -200,6 +200,35 @@ fn move_row<'input>(
         end: taken.end,
     };
     (data, places)
+}
+
+/// Moves one attribute of a tag into the table, behind those of its tag, which begin at `from`, with its namespace in this scope:
+/// whether there is room for it, its prefix is known, and its expanded name is none of theirs. Else the table is as before.
+#[inline(always)]
+pub fn put_resolved<'input>(
+    namespaces: &[Namespace<'input>],
+    few: Option<&[u16]>,
+    present: &PrefixBindings<'_>,
+    attributes: &mut AttributeTable<'input>,
+    from: usize,
+    mut one: UnresolvedAttribute<'input>,
+) -> bool
+    requires within { LooksWithin (length namespaces.now) (places_view few) present.now }
+    requires from { from ≤ length (attribute_rows attributes.old) }
+    requires done { AllByRecursion (λ a. NamespaceWithin (length namespaces.now) a.0.namespace) (drop from (attribute_rows attributes.old)) }
+    ensures refused { result ≡ false → attribute_rows attributes.new ≡ attribute_rows attributes.old }
+    ensures added { result ≡ true → Resolved (map namespace_view namespaces.now) (places_view few.entry) present.now from (attribute_rows attributes.old) (attribute_rows attributes.new) one.entry }
+{
+    if !attributes.has_room() {
+        return false;
+    }
+    let Ok(namespace) = tested_namespace(namespaces, few, present, &attributes.items[from..], &one)
+    else {
+        return false;
+    };
+    let row = move_row(&mut one, namespace);
+    attributes.put(row);
+    true
 }
 
 /// As `resolve`, of a tag with many attributes: their names are kept in a set, in time n log n.

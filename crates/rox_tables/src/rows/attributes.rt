@@ -1,6 +1,6 @@
 //! The table of attributes.
 
-ghost use Rattle.std.specs.Prelude.{◌≡◌, ◌<◌, ◌+◌, ◌/◌, ◌++◌, ◌∷◌, [], length, min, vec_len, vec_capacity, if◌then◌else◌, is_ok, IfOk, OnOk, IfErr};
+ghost use Rattle.std.specs.Prelude.{◌≡◌, ◌<◌, ◌+◌, ◌/◌, ◌++◌, ◌∷◌, [], true, length, take, min, vec_len, vec_capacity, if◌then◌else◌, is_ok, IfOk, OnOk, IfErr};
 ghost use Rattle.std.proofs.Props.{props};
 
 use crate::rows::growth::{make_room, reserve, trim, with_room};
@@ -114,6 +114,37 @@ impl<'input> AttributeTable<'input> {
         self.items.push_reserved(item);
         self.places.push_reserved(places);
         Ok(())
+    }
+
+    /// Whether there is room for one more.
+    #[inline(always)]
+    pub fn has_room(&self) -> bool
+        ensures item { result ≡ true → vec_len self.now.items < vec_capacity self.now.items }
+        ensures place { result ≡ true → vec_len self.now.places < vec_capacity self.now.places }
+    {
+        self.items.len() < self.items.capacity() && self.places.len() < self.places.capacity()
+    }
+
+    /// Puts an attribute at the end, where there is room for it.
+    #[inline(always)]
+    pub fn put(&mut self, row: (AttributeData<'input>, AttributePlaces))
+        requires item { vec_len self.old.items < vec_capacity self.old.items }
+        requires place { vec_len self.old.places < vec_capacity self.old.places }
+        ensures { attribute_rows self.new ≡ attribute_rows self.old ++ row.entry ∷ [] }
+    {
+        let (item, places) = row;
+        self.items.push_reserved(item);
+        self.places.push_reserved(places);
+    }
+
+    /// Takes back the attributes behind the first so many.
+    #[cold]
+    #[inline(never)]
+    pub fn truncate(&mut self, count: usize)
+        ensures { attribute_rows self.new ≡ take count (attribute_rows self.old) }
+    {
+        self.items.truncate(count);
+        self.places.truncate(count);
     }
 
     /// Gives back room that it does not need.

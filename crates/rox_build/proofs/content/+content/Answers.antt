@@ -278,20 +278,29 @@ content_text-returns-clause-value t c = λ limit end es s declared h at.
 
 -- ---- one construct
 
-pub step-end_tag-requires-clause-here : goal.step-end_tag-requires-clause-here
-step-end_tag-requires-clause-here t c =
+pub step-returns-then-plain_step-clause-value : goal.step-returns-then-plain_step-clause-value
+step-returns-then-plain_step-clause-value t c = λ limit end es s declared h. c.plain_step.ensures.value c.if-plain_step.true (context_of limit es c.args.context) end s refl h
+
+pub step-returns-clause-value : goal.step-returns-clause-value
+step-returns-clause-value t c = λ limit end es s declared h.
+    let no = c.if-plain_step.false in
+    let same = ap (λ t. t.text.now) (c.plain_step.ensures.place no) in
+    rw same at (c.general_step.ensures.value limit end es s declared (c.plain_step.ensures.other no (context_of limit es c.args.context) end s h))
+
+pub general_step-end_tag-requires-clause-here : goal.general_step-end_tag-requires-clause-here
+general_step-end_tag-requires-clause-here t c =
     let e = c.as_bytes-bytes.ensures.value in
     let i = c.args.cursor.now.pos in
     let l = c.as_bytes-bytes.ensures.len in
     let more = c.if-cursor-bytes.false in
     two_stand c.args.cursor.now.text.now i 60 47 (omega arith) (ap (λ (xs : List ℕ). slice_index xs i) (sym e) ∙ c.if-bytes-cursor-ne60.false) (ap (λ (xs : List ℕ). slice_index xs (i + 1)) (sym e) ∙ c.if-next-eq47.true)
 
-pub step-returns-then-bytes-cursor-ne60-clause-value : goal.step-returns-then-bytes-cursor-ne60-clause-value
-step-returns-then-bytes-cursor-ne60-clause-value t c = λ limit end es s declared h.
+pub general_step-returns-then-bytes-cursor-ne60-clause-value : goal.general_step-returns-then-bytes-cursor-ne60-clause-value
+general_step-returns-then-bytes-cursor-ne60-clause-value t c = λ limit end es s declared h.
     rw (step_is_run (context_of limit es c.args.context) c.args.cursor.now.text.now _ s c.args.cursor.now.pos c.as_bytes-bytes.ensures.value h.here c.if-bytes-cursor-ne60.true) (c.character_data.ensures.value limit end es s declared h)
 
-pub step-returns-in_err-end_tag-clause-value : goal.step-returns-in_err-end_tag-clause-value
-step-returns-in_err-end_tag-clause-value t c = λ limit end es s declared h.
+pub general_step-returns-in_err-end_tag-clause-value : goal.general_step-returns-in_err-end_tag-clause-value
+general_step-returns-in_err-end_tag-clause-value t c = λ limit end es s declared h.
     let p = err_from_is_err_and c.from_residual.result c.from_residual.ensures.1 in
     rw (
       p.1,
@@ -300,7 +309,7 @@ step-returns-in_err-end_tag-clause-value t c = λ limit end es s declared h.
     )
     (refused_too c.in_err-end_tag.field-0.0 _ (c.in_err-end_tag.ensures.value limit end es s h))
 
-pub step-returns-then-next-eq47-clause-value : goal.step-returns-then-next-eq47-clause-value
-step-returns-then-next-eq47-clause-value t c = λ limit end es s declared h.
+pub general_step-returns-then-next-eq47-clause-value : goal.general_step-returns-then-next-eq47-clause-value
+general_step-returns-then-next-eq47-clause-value t c = λ limit end es s declared h.
     rw (step_is_markup (context_of limit es c.args.context) c.args.cursor.now.text.now _ s c.args.cursor.now.pos 47 c.as_bytes-bytes.ensures.value h.here c.if-bytes-cursor-ne60.false c.if-cursor-bytes.false c.if-next-eq47.true (λ e. cc e))
     (c.in_ok-end_tag.ensures.value limit end es s h)

@@ -21,11 +21,14 @@ decreases-slow_character_data l = 8 * l.context.depth_left + 2
 abbrev pub decreases-character_data : goal.decreases-character_data
 decreases-character_data l = 8 * l.context.depth_left + 3
 
+abbrev pub decreases-general_step : goal.decreases-general_step
+decreases-general_step l = 8 * l.context.depth_left + 4
+
 abbrev pub decreases-step : goal.decreases-step
-decreases-step l = 8 * l.context.depth_left + 4
+decreases-step l = 8 * l.context.depth_left + 5
 
 abbrev pub decreases-content_text : goal.decreases-content_text
-decreases-content_text l = 8 * l.context.depth_left + 5
+decreases-content_text l = 8 * l.context.depth_left + 6
 
 abbrev pub invariant-data_parts-loop-turn : goal.invariant-data_parts-loop-turn
 invariant-data_parts-loop-turn l = record {

@@ -1,13 +1,14 @@
-use Rattle.std.proofs.Common.{◌≡◌, ◌++◌, true, false, refl, ap, ◌∙◌, List, ℕ, arith}
+use Rattle.std.proofs.Common.{◌≡◌, ◌++◌, ◌∷◌, [], true, false, refl, ap, ◌∙◌, List, ℕ, arith}
 use Rattle.std.proofs.lemmas.Result.{err_from_is_err_and}
-use Rattle.std.specs.String.{string_bytes}
 use Rattle.rox_grammar.specs.Forest.{join}
 use Rattle.rox_grammar.specs.Written.{Text, leaf}
 use Rattle.rox_reading.specs.State.{State}
 use Rattle.rox_build.specs.PendingText.{waiting}
-use Rattle.rox_build.specs.BuilderState.{pending_text}
-use Rattle.rox_build.specs.declared.pending.Pending.{Pending}
-use Rattle.rox_build.proofs.Showing.{piece_first, piece_more, first_count, more_count, counted_ok, counted_err}
+use Rattle.rox_tables.specs.declared.rows.tables.NodeData.{NodeData}
+use Rattle.rox_tables.specs.declared.rows.tables.NodeKind.{NodeKind}
+use Rattle.rox_tables.specs.declared.rows.tables.NodeKind.TheVariants as kind
+use Rattle.rox_tables.specs.declared.rows.storage.StringStorage.TheVariants as storage
+use Rattle.rox_build.proofs.Showing.{slice_first, slice_more, piece_more, first_count, written_count, more_count, counted_ok, counted_err}
 use Rattle.rox_build.proofs.builder.Builder.slice_piece.Goals as goal
 
 pub returns-in_err-room-in-None-clause-value : goal.returns-in_err-room-in-None-clause-value
@@ -23,8 +24,8 @@ returns-in_err-room-in-None-clause-value c = λ total at s sh.
     let len = b.nodes.ok.0 in
     rw (p.1, p.2, e.0) (counted_err b.nodes_limit t (omega arith))
 
-pub returns-in_ok-room-in-None-clause-value : goal.returns-in_ok-room-in-None-clause-value
-returns-in_ok-room-in-None-clause-value c = λ total at s sh.
+pub returns-in_ok-push-in-None-clause-value : goal.returns-in_ok-push-in-None-clause-value
+returns-in_ok-push-in-None-clause-value c = λ total at s sh.
     let b = c.args.self.now in
     let v : List ℕ = c.args.text.now in
     let t : State = record { at = at; done = join s.done (leaf (Text c.args.start c.args.end v true)); stack = s.stack; openings_left = s.openings_left } in
@@ -32,40 +33,34 @@ returns-in_ok-room-in-None-clause-value c = λ total at s sh.
     let room = c.in_ok-room-in-None.ensures.ok in
     let w = ap waiting c.in-None.is in
     let len = b.nodes.ok.0 in
-    (t, counted_ok b.nodes_limit t (omega arith), piece_first total s.stack s.done b _ c.args.start c.args.end v true sh c.in-None.is refl refl refl refl)
+    let k : NodeKind = kind.Text (storage.Borrowed c.args.text) in
+    let rows = c.in_ok-push-in-None.ensures.items ∙ ap (λ (r : NodeData). b.nodes.items ++ r ∷ []) c.row-row.ensures in
+    (t, counted_ok b.nodes_limit t (omega arith), slice_first total s.stack s.done b _ c.args.start c.args.end v k sh c.in-None.is refl tt rows refl refl refl)
 
-pub returns-in_ok-push_str-in-Slice-2-clause-value : goal.returns-in_ok-push_str-in-Slice-2-clause-value
-returns-in_ok-push_str-in-Slice-2-clause-value c = λ total at s sh.
+pub returns-in_ok-range-in-Written-clause-value : goal.returns-in_ok-range-in-Written-clause-value
+returns-in_ok-range-in-Written-clause-value c = λ total at s sh.
     let b = c.args.self.now in
     let v : List ℕ = c.args.text.now in
     let t : State = record { at = at; done = join s.done (leaf (Text c.args.start c.args.end v true)); stack = s.stack; openings_left = s.openings_left } in
-    let was : pending_text b.pending (string_bytes b.joined) ≡ leaf (Text c.in-Slice.first c.in-Slice.until c.in-Slice.before.now true) = ap (λ (p : Pending). pending_text p (string_bytes b.joined)) c.in-Slice.is in
-    let n = more_count total s.stack s.done b c.in-Slice.first c.in-Slice.until c.in-Slice.before.now true c.args.start c.args.end v true sh was in
-    let w = ap waiting c.in-Slice.is in
+    let n = written_count total s.stack s.done b c.args.start c.args.end v true sh c.in-Written.is in
     let len = b.nodes.ok.0 in
     let most = b.counted in
     let some = b.shallow in
-    let j = c.in_ok-push_str-in-Slice-2.ensures.bytes ∙ ap (λ (x : List ℕ). x ++ c.args.text.now) (c.in_ok-push_str-in-Slice.ensures.bytes ∙ ap (λ (x : List ℕ). x ++ c.in-Slice.before.now) c.clear.ensures.bytes) in (
-      t,
-      counted_ok b.nodes_limit t (omega arith),
-      piece_more total s.stack s.done b _ c.in-Slice.first c.in-Slice.until c.in-Slice.before.now true c.args.start c.args.end v true sh was refl refl refl
-          (ap (λ (x : List ℕ). leaf (Text c.in-Slice.first c.in-Slice.until x false)) j),
-    )
+    let w = ap waiting c.in-Written.is in
+    let x = c.in_ok-range-in-Written.ensures.taken in
+    (t, counted_ok b.nodes_limit t (omega arith), slice_more total s.stack s.done b _ x.0 c.args.start c.args.end v true sh c.in-Written.is x.1 refl refl (rw x.2 refl) x.3)
 
 pub returns-in_ok-push_str-in-Joined-clause-value : goal.returns-in_ok-push_str-in-Joined-clause-value
 returns-in_ok-push_str-in-Joined-clause-value c = λ total at s sh.
     let b = c.args.self.now in
     let v : List ℕ = c.args.text.now in
     let t : State = record { at = at; done = join s.done (leaf (Text c.args.start c.args.end v true)); stack = s.stack; openings_left = s.openings_left } in
-    let was : pending_text b.pending (string_bytes b.joined) ≡ leaf (Text c.in-Joined.field-0 c.in-Joined.field-1 (string_bytes b.joined) false) = ap (λ (p : Pending). pending_text p (string_bytes b.joined)) c.in-Joined.is in
-    let n = more_count total s.stack s.done b c.in-Joined.field-0 c.in-Joined.field-1 (string_bytes b.joined) false c.args.start c.args.end v true sh was in
+    let n = more_count total s.stack s.done b c.in-Joined.field-0 c.in-Joined.field-1 c.args.start c.args.end v true sh c.in-Joined.is in
     let w = ap waiting c.in-Joined.is in
     let len = b.nodes.ok.0 in
     let most = b.counted in
-    let some = b.shallow in
-    let j = c.in_ok-push_str-in-Joined.ensures.bytes in (
+    let some = b.shallow in (
       t,
       counted_ok b.nodes_limit t (omega arith),
-      piece_more total s.stack s.done b _ c.in-Joined.field-0 c.in-Joined.field-1 (string_bytes b.joined) false c.args.start c.args.end v true sh was refl refl refl
-          (ap (λ (p : Pending). pending_text p (string_bytes c.push_str-in-Joined.new.self)) c.in-Joined.is ∙ ap (λ (x : List ℕ). leaf (Text c.in-Joined.field-0 c.in-Joined.field-1 x false)) j),
+      piece_more total s.stack s.done b _ c.in-Joined.field-0 c.in-Joined.field-1 c.args.start c.args.end v true sh c.in-Joined.is refl refl refl c.in-Joined.is c.in_ok-push_str-in-Joined.ensures.bytes,
     )

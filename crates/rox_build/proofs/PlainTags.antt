@@ -1,0 +1,277 @@
+-- Start tags that are read at one look.
+use Rattle.std.proofs.Common.{◌≡◌, ℕ, zero, suc, ◌+◌, ◌-◌, ◌<◌, ◌≤◌, ◌||◌, ◌==◌, Bool, true, false, List, [], ◌∷◌, ◌++◌, Option, length, map, drop, slice_index, slice_range, refl, sym, ap, subst, ◌∙◌, arith, Ok, append_assoc}
+use Rattle.std.specs.List.{AllByRecursion}
+use Rattle.std.proofs.lemmas.Bool.{lt-leb, eq-eqb, ne_eqb}
+use Rattle.std.proofs.lemmas.List.{append-nil, map-append, length-map}
+use Rattle.std.proofs.Common.{Some, None}
+use Rattle.std.specs.Option.{IfSome}
+use Rattle.rox_tables.specs.declared.rows.tables.Namespace.{Namespace}
+use Rattle.rox_build.specs.declared.plain_tag.TagEnd.{TagEnd}
+use Rattle.std.proofs.Common.{length-append}
+use Rattle.std.specs.Option.{option_map}
+use Rattle.rox_grammar.specs.Tree.{listed, element_namespace}
+use Rattle.rox_grammar.specs.Document.{most_attributes}
+use Rattle.rox_tables.specs.Rows.{scope_at, namespace_at, OptionWithin, attribute_rows}
+use Rattle.rox_tables.specs.Scopes.{ArePlaces, entries, places_in}
+use Rattle.rox_tables.specs.TagScopes.{lists_in}
+use Rattle.rox_tables.specs.declared.rows.tables.ElementData.{ElementData}
+use Rattle.rox_tables.specs.declared.rows.tables.ElementTables.{ElementTables}
+use Rattle.rox_tables.specs.declared.rows.tables.Scope.{Scope}
+use Rattle.rox_tables.proofs.Listing.{listed-none}
+use Rattle.rox_tables.proofs.Presenting.{finds_few}
+use Rattle.rox_tables.proofs.Ropes.{scope_places, all_places}
+use Rattle.rox_build.specs.ElementRow.{IsElement}
+use Rattle.std.proofs.Math.Seq.{drop-append_seam}
+use Rattle.rox_tables.specs.declared.rows.tables.AttributeNamespace.{AttributeNamespace}
+use Rattle.rox_grammar.specs.Tree as tree
+use Rattle.rox_grammar.specs.Tree.{attribute_in, attribute_namespace}
+use Rattle.rox_grammar.specs.Failures.{name_view}
+use Rattle.rox_grammar.specs.Content.{is_verbatim_value}
+use Rattle.rox_grammar.specs.declared.fault.Fault.{Fault}
+use Rattle.rox_grammar.specs.Entities.{Entity}
+use Rattle.rox_grammar.specs.Names.{spaces_end}
+use Rattle.rox_grammar.specs.Written.{Name, Attribute, NamespaceDecl, is_namespace_decl}
+use Rattle.rox_reading.specs.Lexical.{qname_at, byte_at, quote_at}
+use Rattle.rox_reading.specs.Markup.{RawAttribute, TagItem, more, opened, closed, attribute_at, raw_value_at, tag_item_at, end_tag_at}
+use Rattle.rox_reading.specs.Refusals.{lifted}
+use Rattle.rox_reading.specs.Values.{ReadText, ValueInclusion, value_at}
+use Rattle.rox_reading.specs.Tags.{TagSoFar, Values, attributes_at, names_tested, taken, attribute_with}
+use Rattle.rox_tables.specs.Bindings.{FindsBinding}
+use Rattle.rox_tables.specs.Rows.{AttributeRow, NamespaceWithin, namespace_view, attribute, attribute_uri}
+use Rattle.rox_tables.specs.Storage.{storage_bytes, is_borrowed}
+use Rattle.rox_tables.specs.TagDeclarations.{unresolved_view}
+use Rattle.rox_tables.specs.ResolvedNames.{Resolved, row_of_unresolved}
+use Rattle.rox_tables.specs.declared.namespaces.bindings.PrefixBindings.{PrefixBindings}
+use Rattle.rox_tables.specs.declared.namespaces.unresolved_attribute.UnresolvedAttribute.{UnresolvedAttribute}
+use Rattle.rox_tables.proofs.Stable.{all_append}
+use Rattle.rox_build.specs.PlainTag.{IsPlainAttribute, PlainSoFar, ArePlainAttributes, holding}
+use Rattle.rox_build.proofs.Items.{stands_within}
+
+-- a byte that stands there
+byte_is : (src : List ℕ) (i b : ℕ) → slice_index src i ≡ b → 0 < b → byte_at b src i ≡ Ok (tt, i + 1)
+unfolding byte_at
+byte_is src i b is some =
+    let k = lt-leb (length src) i (stands_within src i b is some) in
+    let e = eq-eqb (slice_index src i) b is in
+    rw (k, e) refl
+
+quote_is : (src : List ℕ) (i q : ℕ) → slice_index src i ≡ q → i < length src → (q == 39 || q == 34) ≡ true → quote_at src i ≡ Ok (q, i + 1)
+unfolding quote_at
+quote_is src i q is within quote =
+    let k = lt-leb (length src) i within in
+    let e : (slice_index src i == 39 || slice_index src i == 34) ≡ true = ap (λ (n : ℕ). n == 39 || n == 34) is ∙ quote in
+    rw (k, e) (ap (λ (n : ℕ). Ok (n, i + 1)) is)
+
+-- an attribute, piece by piece
+pub attribute_is : (src : List ℕ) (i : ℕ) (name : Name) (n e b q j : ℕ) → qname_at src i ≡ Ok (name, n) → e ≡ spaces_end src n → slice_index src e ≡ 61 → b ≡ spaces_end src (e + 1)
+    → slice_index src b ≡ q → b < length src → (q == 39 || q == 34) ≡ true → 0 < q → raw_value_at q src (b + 1) ≡ Ok (slice_range src (b + 1) j, j) → slice_index src j ≡ q
+    → attribute_at src i ≡ Ok (record { start = i; name = name; name_end = n; value_start = b + 1; value_end = j }, j + 1)
+unfolding attribute_at
+attribute_is src i name n e b q j named equals is before here within quote some value behind =
+    rw (named, ← equals, byte_is src e 61 is (omega arith), ← before, quote_is src b q here within quote, value, byte_is src j q behind some) refl
+
+-- ---- what a tag holds next
+
+pub item_opened : (src : List ℕ) (i j : ℕ) → j ≡ spaces_end src i → slice_index src j ≡ 62 → tag_item_at src i ≡ Ok (opened, j + 1)
+unfolding tag_item_at
+item_opened src i j spaces here =
+    let k = lt-leb (length src) j (stands_within src j 62 here (omega arith)) in
+    rw (← spaces, k, here) refl
+
+pub item_closed : (src : List ℕ) (i j : ℕ) → j ≡ spaces_end src i → slice_index src j ≡ 47 → slice_index src (j + 1) ≡ 62 → tag_item_at src i ≡ Ok (closed, j + 2)
+unfolding tag_item_at
+item_closed src i j spaces here behind =
+    let k = lt-leb (length src) j (stands_within src j 47 here (omega arith)) in
+    let e : j + 1 + 1 ≡ j + 2 = omega arith in
+    rw (← spaces, k, here, byte_is src (j + 1) 62 behind (omega arith), e) refl
+
+pub item_more : (src : List ℕ) (i j e : ℕ) (raw : RawAttribute) → j ≡ spaces_end src i → (j ≡ i → ⊥) → (slice_index src j == 47) ≡ false → (slice_index src j == 62) ≡ false → j < length src
+    → attribute_at src j ≡ Ok (raw, e) → tag_item_at src i ≡ Ok (more raw, e)
+unfolding tag_item_at
+item_more src i j e raw spaces some slash close within is =
+    let k = lt-leb (length src) j within in
+    let n = ne_eqb j i some in
+    rw (← spaces, k, slash, close, n, is) refl
+
+-- whether a tag that ends so is empty
+abbrev IsEnd : TagItem → Bool → Type 0
+IsEnd (more raw) empty = ⊥
+IsEnd opened empty = empty ≡ false
+IsEnd closed empty = empty ≡ true
+
+-- ---- one attribute after another
+
+pub plain_starts : (namespaces : List NamespaceDecl) (few : Option (List ℕ)) (present : PrefixBindings) (src : List ℕ) (start : ℕ) (old : List AttributeRow) → PlainSoFar namespaces few present src start old start old
+plain_starts namespaces few present src start old = record {
+  written = [];
+  more = [];
+  rows = sym (append-nil old);
+  within = tt;
+  shown = λ scope h. refl;
+  tested = λ scope rest h. refl;
+  turns = length src;
+  enough = omega arith;
+  read = λ context cut known openings_left. refl;
+}
+
+-- its value is read as it stands
+value_is : (main : Bool) (es : List Entity) (opener : ValueInclusion) (src : List ℕ) (i j openings_left : ℕ) → is_verbatim_value (slice_range src i j) ≡ true
+    → value_at main es opener src i j openings_left ≡ Ok (record { value = slice_range src i j; borrowed = true }, openings_left)
+unfolding value_at
+value_is main es opener src i j openings_left plain = rw plain refl
+
+-- one turn
+turn_is : (src : List ℕ) (i j n : ℕ) (a : UnresolvedAttribute) (written : List Attribute) (context : Values) (cut : Fault) (known : List NamespaceDecl) (openings_left : ℕ) (h : IsPlainAttribute src j a)
+    → i < length src → tag_item_at src i ≡ Ok (more (record { start = j; name = name_view a.name; name_end = a.name_end; value_start = a.value_start; value_end = h.value_end }), a.end)
+    → is_namespace_decl (name_view a.name) ≡ false
+    → attributes_at (suc n) context cut known src i openings_left (holding written) ≡ attributes_at n context cut known src a.end openings_left (holding (written ++ unresolved_view a ∷ []))
+unfolding attributes_at
+turn_is src i j n a written context cut known openings_left h within item other =
+    let k = lt-leb (length src) i within in
+    let v = value_is context.main context.entities context.opener src a.value_start h.value_end openings_left h.verbatim in
+    let view : attribute_with (record { start = j; name = name_view a.name; name_end = a.name_end; value_start = a.value_start; value_end = h.value_end }) (record { value = slice_range src a.value_start h.value_end; borrowed = true }) ≡ unresolved_view a =
+    rw (h.start, h.end, h.value, h.borrowed) refl in
+    rw (k, item, v, other) (ap (λ (x : Attribute). attributes_at n context cut known src a.end openings_left (holding (written ++ x ∷ []))) view)
+
+-- the row of an attribute shows it
+row_shown : (namespaces scope : List NamespaceDecl) (a : UnresolvedAttribute) (s : AttributeNamespace) → attribute_uri namespaces s ≡ attribute_namespace scope (name_view a.name)
+    → attribute namespaces (row_of_unresolved a s) ≡ attribute_in scope (unresolved_view a)
+row_shown namespaces scope a s h = ap (λ (o : Option (List ℕ)).
+    let r : tree.Attribute = record { start = a.start; name_end = a.name_end; value_start = a.value_start; end = a.end; namespace = o; local = a.name.local.now; value = storage_bytes a.value; borrowed = is_borrowed a.value } in r) h
+
+pub plain_more : (namespaces : List NamespaceDecl) (few : Option (List ℕ)) (present : PrefixBindings) (src : List ℕ) (start : ℕ) (old : List AttributeRow) (i j : ℕ) (now next : List AttributeRow) (a : UnresolvedAttribute)
+    → PlainSoFar namespaces few present src start old i now → i ≤ j → j ≡ spaces_end src i → (j ≡ i → ⊥) → (slice_index src j == 47) ≡ false → (slice_index src j == 62) ≡ false
+    → IsPlainAttribute src j a → is_namespace_decl (name_view a.name) ≡ false → Resolved namespaces few present (length old) now next a
+    → PlainSoFar namespaces few present src start old a.end next
+plain_more namespaces few present src start old i j now next a g onward spaces some slash close plain other r =
+    let row = row_of_unresolved a r.namespace in
+    let view = unresolved_view a in
+    let on = plain.onward in
+    let fits = plain.cut.0 in
+    let within : j < length src = omega arith in
+    let here : i < length src = omega arith in
+    let enough = g.enough in
+    let n = g.turns - 1 in
+    let one : g.turns ≡ suc n = omega arith in
+    let behind : drop (length old) now ≡ g.more = ap (drop (length old)) g.rows ∙ drop-append_seam old g.more in
+    let item = item_more src i j a.end _ spaces some slash close within plain.read in
+    record {
+      written = g.written ++ view ∷ [];
+      more = g.more ++ row ∷ [];
+      rows = r.rows ∙ ap (λ xs. xs ++ row ∷ []) g.rows ∙ append_assoc old g.more (row ∷ []);
+      within = all_append (λ a. NamespaceWithin (length namespaces) a.0.namespace) g.more (row ∷ []) g.within (r.within, tt);
+      shown = λ scope h. map-append (attribute namespaces) g.more (row ∷ []) ∙ ap (λ xs. xs ++ attribute namespaces row ∷ []) (g.shown scope h)
+          ∙ ap (λ (x : tree.Attribute). map (attribute_in scope) g.written ++ x ∷ []) (row_shown namespaces scope a r.namespace (r.there scope h))
+          ∙ sym (map-append (attribute_in scope) g.written (view ∷ []));
+      tested = λ scope rest h. ap (names_tested scope []) (append_assoc g.written (view ∷ []) rest) ∙ g.tested scope (view ∷ rest) h
+          ∙ r.tested scope g.written rest h (ap (map (attribute namespaces)) behind ∙ g.shown scope h);
+      turns = n;
+      enough = omega arith;
+      read = λ context cut known openings_left. g.read context cut known openings_left ∙ ap (λ (m : ℕ). attributes_at m context cut known src i openings_left (holding g.written)) one
+          ∙ turn_is src i j n a g.written context cut known openings_left plain here item other;
+    }
+
+-- at the end of the tag
+none_left : (scope : List NamespaceDecl) (before : List Attribute) → names_tested scope before [] ≡ Ok tt
+unfolding names_tested
+none_left scope before = refl
+
+end_is : (src : List ℕ) (i n j : ℕ) (item : TagItem) (empty : Bool) (written : List Attribute) (context : Values) (cut : Fault) (known : List NamespaceDecl) (openings_left : ℕ) → i < length src → tag_item_at src i ≡ Ok (item, j)
+    → IsEnd item empty → attributes_at (suc n) context cut known src i openings_left (holding written) ≡ Ok (record { held = holding written; empty = empty; openings_left = openings_left }, j)
+unfolding attributes_at
+end_is src i n j (more raw) empty written context cut known openings_left within is h = absurd h
+end_is src i n j opened empty written context cut known openings_left within is h = let k = lt-leb (length src) i within in rw (k, is, h) refl
+end_is src i n j closed empty written context cut known openings_left within is h = let k = lt-leb (length src) i within in rw (k, is, h) refl
+
+pub plain_ends : (namespaces : List NamespaceDecl) (few : Option (List ℕ)) (present : PrefixBindings) (src : List ℕ) (start : ℕ) (old : List AttributeRow) (i j : ℕ) (now : List AttributeRow) (item : TagItem) (empty : Bool)
+    → PlainSoFar namespaces few present src start old i now → i < length src → tag_item_at src i ≡ Ok (item, j) → IsEnd item empty → ArePlainAttributes namespaces few present src start old j empty now
+plain_ends namespaces few present src start old i j now item empty g within is h =
+    let enough = g.enough in
+    let n = g.turns - 1 in
+    let one : g.turns ≡ suc n = omega arith in
+    record {
+      written = g.written;
+      more = g.more;
+      rows = g.rows;
+      within = g.within;
+      shown = g.shown;
+      tested = λ scope k. ap (names_tested scope []) (sym (append-nil g.written)) ∙ g.tested scope [] k ∙ none_left scope g.written;
+      read = λ context cut known openings_left. g.read context cut known openings_left ∙ ap (λ (m : ℕ). attributes_at m context cut known src i openings_left (holding g.written)) one
+          ∙ end_is src i n j item empty g.written context cut known openings_left within is h;
+    }
+
+-- of an empty tag, and of one that opens
+pub opens_there : (namespaces : List NamespaceDecl) (few : Option (List ℕ)) (present : PrefixBindings) (src : List ℕ) (start : ℕ) (old : List AttributeRow) (i j : ℕ) (now : List AttributeRow)
+    → PlainSoFar namespaces few present src start old i now → i ≤ j → j ≡ spaces_end src i → slice_index src j ≡ 62 → ArePlainAttributes namespaces few present src start old (j + 1) false now
+opens_there namespaces few present src start old i j now g onward spaces here =
+    let within = stands_within src j 62 here (omega arith) in
+    plain_ends namespaces few present src start old i (j + 1) now opened false g (omega arith) (item_opened src i j spaces here) refl
+
+pub closes_there : (namespaces : List NamespaceDecl) (few : Option (List ℕ)) (present : PrefixBindings) (src : List ℕ) (start : ℕ) (old : List AttributeRow) (i j : ℕ) (now : List AttributeRow)
+    → PlainSoFar namespaces few present src start old i now → i ≤ j → j ≡ spaces_end src i → slice_index src j ≡ 47 → slice_index src (j + 1) ≡ 62
+    → ArePlainAttributes namespaces few present src start old (j + 2) true now
+closes_there namespaces few present src start old i j now g onward spaces here behind =
+    let within = stands_within src j 47 here (omega arith) in
+    plain_ends namespaces few present src start old i (j + 2) now closed true g (omega arith) (item_closed src i j spaces here behind) refl
+
+pub closes_or_not : (namespaces : List NamespaceDecl) (few : Option (List ℕ)) (present : PrefixBindings) (src : List ℕ) (start : ℕ) (old : List AttributeRow) (i j : ℕ) (now : List AttributeRow) (r : Option TagEnd)
+    → PlainSoFar namespaces few present src start old i now → i ≤ j → j ≡ spaces_end src i → slice_index src j ≡ 47 → IfSome r (λ e. slice_index src (j + 1) ≡ 62) → IfSome r (λ e. (e.at ≡ j + 2) × (e.empty ≡ true))
+    → IfSome r (λ e. ArePlainAttributes namespaces few present src start old e.at e.empty now)
+closes_or_not namespaces few present src start old i j now None g onward spaces here behind place = tt
+closes_or_not namespaces few present src start old i j now (Some e) g onward spaces here behind place =
+    rw (place.0, place.1) (closes_there namespaces few present src start old i j now g onward spaces here behind)
+
+-- the attributes of the tag so far are in their namespaces
+pub done_within : (ns : List Namespace) (few : Option (List ℕ)) (present : PrefixBindings) (src : List ℕ) (start from : ℕ) (old : List AttributeRow) (i : ℕ) (now : List AttributeRow)
+    → PlainSoFar (map namespace_view ns) few present src start old i now → from ≡ length old → AllByRecursion (λ (a : AttributeRow). NamespaceWithin (length ns) a.0.namespace) (drop from now)
+done_within ns few present src start from old i now g at =
+    let behind : drop from now ≡ g.more = ap (λ (n : ℕ). drop n now) at ∙ ap (drop (length old)) g.rows ∙ drop-append_seam old g.more in
+    rw behind (subst (λ (n : ℕ). AllByRecursion (λ (a : AttributeRow). NamespaceWithin n a.0.namespace) g.more) (length-map ns namespace_view) g.within)
+
+-- ---- the scope of the tag is that of its parent, which lists few
+
+pub few_within : (t : ElementTables) (ns : List Namespace) (scopes : List Scope) (listed ps : List ℕ) (scope : ℕ) → ns ≡ t.namespaces.items.items → scopes ≡ t.scopes.items → listed ≡ t.listed.items
+    → ArePlaces (length t.namespaces.items.items) t.listed.items → ps ≡ places_in listed scopes scope → ArePlaces (length ns) ps
+few_within t ns scopes listed ps scope n s l all few = rw (few, s, l, n) (all_places (length t.namespaces.items.items) t.listed.items t.scopes.items scope all)
+
+pub few_found : (t : ElementTables) (ns : List Namespace) (scopes : List Scope) (listed ps : List ℕ) (scope : ℕ) → ns ≡ t.namespaces.items.items → scopes ≡ t.scopes.items → listed ≡ t.listed.items
+    → ps ≡ places_in listed scopes scope → FindsBinding (map namespace_view ns) (Some ps) t.present (scope_at (lists_in t) scope)
+few_found t ns scopes listed ps scope n s l few =
+    let namespaces = map namespace_view t.namespaces.items.items in
+    rw n (finds_few namespaces ps t.present (scope_at (lists_in t) scope) (scope_places namespaces t.listed.items t.scopes.items scope ∙ ap (entries namespaces) (sym (rw (s, l) at few))))
+
+-- what the tables hold of a plain tag
+pub plain_element : (old new : ElementTables) (e : ElementData) (above : List NamespaceDecl) (few : Option (List ℕ)) (src : List ℕ) (start j : ℕ) (empty : Bool) (name : Name)
+    → (x : ArePlainAttributes (map namespace_view old.namespaces.items.items) few old.present src start (attribute_rows old.attributes) j empty (attribute_rows new.attributes))
+    → FindsBinding (map namespace_view old.namespaces.items.items) few old.present above → new ≡ record old { attributes = new.attributes }
+    → e.attributes_from ≡ length (attribute_rows old.attributes) → e.attributes_until ≡ length (attribute_rows new.attributes) → length (attribute_rows new.attributes) ≤ most_attributes → e.local.now ≡ name.local
+    → option_map (λ i. (namespace_at (map namespace_view old.namespaces.items.items) i).uri) e.namespace ≡ element_namespace above name → OptionWithin (length old.namespaces.items.items) e.namespace
+    → e.scope < length old.scopes.items → scope_at (lists_in old) e.scope ≡ above → IsElement old new e (listed above []) name x.written
+plain_element old new e above few src start j empty name x finds others from until most local namespace within scope lists =
+    let none = listed-none above in
+    let namespaces : map namespace_view new.namespaces.items.items ≡ map namespace_view old.namespaces.items.items = ap (λ (t : ElementTables). map namespace_view t.namespaces.items.items) others in
+    record {
+      attributes = record { more = x.more; grown = x.rows; same = rw (none, namespaces) (x.shown above finds); within = rw namespaces x.within };
+      attributes_from = from;
+      attributes_until = until;
+      few = most;
+      local = local;
+      namespace = rw (none, namespaces) namespace;
+      namespace_within = rw (ap (λ (t : ElementTables). length t.namespaces.items.items) others) within;
+      scope_within = rw (ap (λ (t : ElementTables). length t.scopes.items) others) scope;
+      lists = rw (ap lists_in others, none) lists;
+    }
+
+-- how many attributes the tag has
+pub plain_count : (namespaces scope : List NamespaceDecl) (few : Option (List ℕ)) (present : PrefixBindings) (src : List ℕ) (start : ℕ) (old : List AttributeRow) (j : ℕ) (empty : Bool) (new : List AttributeRow)
+    → (x : ArePlainAttributes namespaces few present src start old j empty new) → FindsBinding namespaces few present scope → length old + length x.written ≡ length new
+plain_count namespaces scope few present src start old j empty new x finds =
+    let n = ap length x.rows ∙ length-append old x.more in
+    let m : length x.more ≡ length x.written = sym (length-map x.more (attribute namespaces)) ∙ ap length (x.shown scope finds) ∙ length-map x.written (attribute_in scope) in
+    omega arith
+
+-- an end tag, piece by piece
+pub end_tag_is : (src : List ℕ) (i : ℕ) (name : Name) (n e : ℕ) → qname_at src (i + 2) ≡ Ok (name, n) → e ≡ spaces_end src n → slice_index src e ≡ 62
+    → end_tag_at src i ≡ Ok (record { name = name; name_end = n }, e + 1)
+unfolding end_tag_at
+end_tag_is src i name n e named spaces here = rw (named, ← spaces, byte_is src e 62 here (omega arith)) refl

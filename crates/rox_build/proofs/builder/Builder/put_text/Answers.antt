@@ -1,0 +1,25 @@
+use Rattle.std.proofs.Common.{◌++◌, ◌∷◌, [], true, refl, ap, ◌∙◌, List, ℕ, arith}
+use Rattle.rox_grammar.specs.Forest.{join}
+use Rattle.rox_grammar.specs.Written.{Text, leaf}
+use Rattle.rox_reading.specs.State.{State}
+use Rattle.rox_tables.specs.declared.rows.tables.NodeData.{NodeData}
+use Rattle.rox_tables.specs.declared.rows.tables.NodeKind.{NodeKind}
+use Rattle.rox_tables.specs.declared.rows.tables.NodeKind.TheVariants as kind
+use Rattle.rox_tables.specs.declared.rows.storage.StringStorage.TheVariants as storage
+use Rattle.rox_build.proofs.Showing.{slice_first, first_count, counted_ok}
+use Rattle.rox_build.proofs.builder.Builder.put_text.Goals as goal
+
+pub row-row-requires : goal.row-row-requires
+row-row-requires c = c.requires.ready.small
+
+pub returns-clause-value : goal.returns-clause-value
+returns-clause-value c = λ total at s sh.
+    let b = c.args.self.now in
+    let v : List ℕ = c.args.text.now in
+    let t : State = record { at = at; done = join s.done (leaf (Text c.args.start c.args.end v true)); stack = s.stack; openings_left = s.openings_left } in
+    let n = first_count total s.stack s.done b c.args.start c.args.end v true sh c.requires.apart in
+    let few = c.requires.ready.few in
+    let len = b.nodes.ok.0 in
+    let k : NodeKind = kind.Text (storage.Borrowed c.args.text) in
+    let rows = c.push_reserved.ensures.items ∙ ap (λ (r : NodeData). b.nodes.items ++ r ∷ []) c.row-row.ensures in
+    (t, counted_ok b.nodes_limit t (omega arith), slice_first total s.stack s.done b _ c.args.start c.args.end v k sh c.requires.apart refl tt rows refl refl refl)

@@ -1,0 +1,26 @@
+use Rattle.std.proofs.Common.{◌≡◌, ◌<◌, ◌||◌, ◌==◌, Bool, true, false, ℕ, Ok, get_or, length, slice_range, sym, ◌∙◌, arith}
+use Rattle.std.proofs.lemmas.Bool.{eqb-true, ne_eqb}
+use Rattle.rox_reading.specs.Values.{ReadText}
+use Rattle.rox_scan.proofs.NearLemmas.{text_cut}
+use Rattle.rox_scan.proofs.ShortLemmas.{short_run}
+use Rattle.rox_build.proofs.Stepping.{plain_run, text_stepped}
+use Rattle.rox_build.proofs.plain_constructs.plain_character_data.Goals as goal
+
+stands_here : (ends : Bool) (b : ℕ) → (ends || b == 60) ≡ true → ends ≡ false → b ≡ 60
+stands_here true b h other = cc other
+stands_here false b h other = eqb-true b 60 h
+
+pub returns-clause-value : goal.returns-clause-value
+returns-clause-value c = λ _ context end s h.
+    let cursor = c.args.cursor.now in
+    let src = cursor.text.now in
+    let b = c.args.builder.now in
+    let i = cursor.pos in
+    let e = c.skip_set-near.result in
+    let n = c.skip_set-near.ensures in
+    let cut = text_cut src e n.within n.stops in
+    let here : e < length src → get_or src e 0 ≡ 60 = λ more. stands_here _ _ (sym c.ends_character_data.ensures ∙ c.if-not-ends_character_data.false) (ne_eqb e (length src) (λ same. absurd (omega arith))) in
+    let r = short_run src i e cursor.utf8 cursor.cut n.onward cut n.passes here in
+    let text : ReadText = record { value = slice_range src i e; borrowed = true } in
+    rw (plain_run context src s i e (slice_range src i e) h.here r.0 r.1)
+    (text_stepped context.limit end s cursor _ b c.put_text.new.self (Ok tt) text h c.put_text.ensures.tables c.put_text.ensures.limit c.put_text.ensures.openings_left (rw c.range.ensures.value at (c.put_text.ensures.value end e s h.shows)))

@@ -1,0 +1,72 @@
+use Rattle.std.specs.Prelude.{OnOk}
+use Rattle.std.proofs.Common.{◌≡◌, ℕ, true, false, Bool, Ok, refl, sym, ap, subst, ◌∙◌, List}
+use Rattle.rox_grammar.specs.Written.{Element, NamespaceDecl}
+use Rattle.rox_grammar.specs.State.{scope_of}
+use Rattle.rox_reading.specs.State.{State}
+use Rattle.rox_reading.specs.Machine.{opened_by, cut_off_fault}
+use Rattle.rox_reading.specs.Refusals.{lifted}
+use Rattle.rox_build.specs.ElementRow.{Tagged}
+use Rattle.rox_build.specs.BuilderState.{IsNode, IsConsistent}
+use Rattle.rox_tables.specs.declared.rows.tables.NodeKind.TheVariants as kind
+use Rattle.rox_build.proofs.Growing.{grown_shows}
+use Rattle.rox_build.proofs.Opening.{grown_by, is_node, is_opening, fine_by, fine_kept, fine_more, tag_is, empty_stepped, open_stepped}
+use Rattle.rox_build.proofs.plain_constructs.plain_element.Goals as goal
+
+pub plain_start_tag-requires-clause-once : goal.plain_start_tag-requires-clause-once
+plain_start_tag-requires-clause-once c = c.scope-above.ensures.once c.requires.fine
+
+pub returns-then-read-clause-value : goal.returns-then-read-clause-value
+returns-then-read-clause-value c = λ _ context end s h.
+    let b = c.args.builder.now in
+    let old = b.tables in
+    let new = c.plain_start_tag.new.elements in
+    let x = c.in-Some.ensures.read in
+    let t = c.in-Some.read.tag in
+    let pos = c.args.cursor.now.pos in
+    let e = c.in-Some.read.end in
+    let src = c.args.cursor.now.text.now in
+    let sc = c.scope-above.ensures.value c.requires.fine end s.stack s.done h.shows in
+    let tg : Tagged old new t (scope_of s.stack) x.tag = subst (λ (a : List NamespaceDecl). Tagged old new t a x.tag) sc x.tagged in
+    let cut = cut_off_fault context.values.main s.stack in
+    let kept : t.openings_left ≡ s.openings_left = c.in-Some.ensures.openings_left ∙ h.openings_left_is in
+    let shows = grown_shows end s.stack s.done b _ h.shows c.requires.fine.sound c.requires.fine.elements (grown_by old new t (scope_of s.stack) x.tag tg) refl refl refl refl in
+    let node : IsNode new (scope_of s.stack) pos e (kind.Element t.element) (Element s.at e x.tag) =
+    subst (λ (n : ℕ). IsNode new (scope_of s.stack) pos e (kind.Element t.element) (Element n e x.tag)) h.here (is_node old new t (scope_of s.stack) x.tag pos e tg) in
+    let adds = c.put_leaf.ensures.value end e s (Element s.at e x.tag) shows node in
+    rw (tag_is context src s pos cut _ _ _ x.tag t.empty s.openings_left e h.here refl sc h.attributes h.namespaces (rw kept at (x.read context.values cut))
+    ∙ ap (λ (y : Bool). lifted (opened_by context.limit s x.tag y s.openings_left e)) c.if-read.true)
+    (empty_stepped context.limit end s.openings_left s _ old new b.nodes_limit c.put_leaf.new.self (Ok tt) t (scope_of s.stack) x.tag tg h.namespaces h.attributes h.limit_is (c.put_leaf.ensures.openings_left ∙ h.openings_left_is) c.put_leaf.ensures.tables c.put_leaf.ensures.limit adds)
+
+pub returns-clause-value : goal.returns-clause-value
+returns-clause-value c = λ _ context end s h.
+    let b = c.args.builder.now in
+    let old = b.tables in
+    let new = c.plain_start_tag.new.elements in
+    let x = c.in-Some.ensures.read in
+    let t = c.in-Some.read.tag in
+    let pos = c.args.cursor.now.pos in
+    let e = c.in-Some.read.end in
+    let src = c.args.cursor.now.text.now in
+    let sc = c.scope-above.ensures.value c.requires.fine end s.stack s.done h.shows in
+    let tg : Tagged old new t (scope_of s.stack) x.tag = subst (λ (a : List NamespaceDecl). Tagged old new t a x.tag) sc x.tagged in
+    let cut = cut_off_fault context.values.main s.stack in
+    let kept : t.openings_left ≡ s.openings_left = c.in-Some.ensures.openings_left ∙ h.openings_left_is in
+    let shows = grown_shows end s.stack s.done b _ h.shows c.requires.fine.sound c.requires.fine.elements (grown_by old new t (scope_of s.stack) x.tag tg) refl refl refl refl in
+    let adds = c.put_open.ensures.value end e s.openings_left s x.tag shows (sym h.here) (is_opening old new t (scope_of s.stack) x.tag pos tg x.starts) in
+    rw (tag_is context src s pos cut _ _ _ x.tag t.empty s.openings_left e h.here refl sc h.attributes h.namespaces (rw kept at (x.read context.values cut))
+    ∙ ap (λ (y : Bool). lifted (opened_by context.limit s x.tag y s.openings_left e)) c.if-read.false)
+    (open_stepped context.limit end s.openings_left s _ old new b.nodes_limit c.put_open.new.self (Ok tt) t (scope_of s.stack) x.tag tg h.namespaces h.attributes h.limit_is (c.put_open.ensures.openings_left ∙ h.openings_left_is) c.put_open.ensures.tables c.put_open.ensures.limit adds)
+
+pub returns-then-read-clause-fine : goal.returns-then-read-clause-fine
+returns-then-read-clause-fine c =
+    let b = c.args.builder.now in
+    let x = c.in-Some.ensures.read in
+    fine_kept (Ok tt) c.plain_start_tag.new.elements b.opened.items c.put_leaf.new.self (fine_by b.tables c.plain_start_tag.new.elements c.in-Some.read.tag _ x.tag b.opened.items x.tagged c.requires.fine) c.put_leaf.ensures.tables
+    (ap (λ x. x.items) c.put_leaf.ensures.opened)
+
+pub returns-clause-fine : goal.returns-clause-fine
+returns-clause-fine c =
+    let b = c.args.builder.now in
+    let x = c.in-Some.ensures.read in
+    fine_more (Ok tt) c.plain_start_tag.new.elements b.opened.items c.put_open.new.self c.in-Some.read.tag
+    (fine_by b.tables c.plain_start_tag.new.elements c.in-Some.read.tag _ x.tag b.opened.items x.tagged c.requires.fine) c.put_open.ensures.tables c.put_open.ensures.opened x.tagged.element.scope_within x.tagged.once

@@ -1,0 +1,73 @@
+-- Start tags that are read at one look: without declarations, and with attributes whose values stand for themselves.
+use Rattle.std.specs.Prelude.{◌≡◌, ℕ, ◌+◌, ◌<◌, ◌≤◌, Bool, true, List, [], ◌++◌, Option, Ok, length, map, slice_range}
+use Rattle.std.specs.List.{AllByRecursion}
+use Rattle.std.specs.Str.{IsCharBoundary}
+use Rattle.rox_grammar.specs.declared.fault.Fault.{Fault}
+use Rattle.rox_grammar.specs.Written.{Attribute, NamespaceDecl, Tag}
+use Rattle.rox_grammar.specs.Tree.{attribute_in}
+use Rattle.rox_grammar.specs.Content.{is_verbatim_value}
+use Rattle.rox_grammar.specs.Failures.{name_view}
+use Rattle.rox_reading.specs.Markup.{attribute_at}
+use Rattle.rox_reading.specs.Tags.{TagSoFar, Values, attributes_at, names_tested, tag_at}
+use Rattle.rox_tables.specs.Bindings.{FindsBinding}
+use Rattle.rox_tables.specs.Rows.{AttributeRow, NamespaceWithin, namespace_view, attribute, attribute_rows}
+use Rattle.rox_tables.specs.declared.namespaces.bindings.PrefixBindings.{PrefixBindings}
+use Rattle.rox_tables.specs.Storage.{storage_bytes, is_borrowed}
+use Rattle.rox_tables.specs.declared.rows.tables.ElementTables.{ElementTables}
+use Rattle.rox_build.specs.ElementRow.{Tagged}
+use Rattle.rox_build.specs.declared.tag.StartTag.{StartTag}
+use Rattle.rox_tables.specs.declared.namespaces.unresolved_attribute.UnresolvedAttribute.{UnresolvedAttribute}
+
+-- an attribute that is read at this place, whose value stands for itself
+pub record IsPlainAttribute (src : List ℕ) (i : ℕ) (a : UnresolvedAttribute) : Type 0 where
+  pub value_end : ℕ
+  pub read : attribute_at src i ≡ Ok (record { start = i; name = name_view a.name; name_end = a.name_end; value_start = a.value_start; value_end = value_end }, a.end)
+  pub start : a.start ≡ i
+  pub end : a.end ≡ value_end + 1
+  pub verbatim : is_verbatim_value (slice_range src a.value_start value_end) ≡ true
+  pub value : storage_bytes a.value ≡ slice_range src a.value_start value_end
+  pub borrowed : is_borrowed a.value ≡ true
+  pub cut : IsCharBoundary src a.end
+  pub onward : i < a.end
+
+-- a tag that holds these attributes, and no declaration
+abbrev pub holding : List Attribute → TagSoFar
+holding written = record { own = []; attributes = written }
+
+-- The attributes of a tag up to this place, each of them plain, are in the table, which had these rows before.
+pub record PlainSoFar (namespaces : List NamespaceDecl) (few : Option (List ℕ)) (present : PrefixBindings) (src : List ℕ) (start : ℕ) (old : List AttributeRow) (i : ℕ) (now : List AttributeRow) : Type 0 where
+  pub written : List Attribute
+  pub more : List AttributeRow
+  pub rows : now ≡ old ++ more
+  pub within : AllByRecursion (λ a. NamespaceWithin (length namespaces) a.0.namespace) more
+  pub shown : (scope : List NamespaceDecl) → FindsBinding namespaces few present scope → map (attribute namespaces) more ≡ map (attribute_in scope) written
+  pub tested : (scope : List NamespaceDecl) (rest : List Attribute) → FindsBinding namespaces few present scope → names_tested scope [] (written ++ rest) ≡ names_tested scope written rest
+  -- so many turns are left for what follows
+  pub turns : ℕ
+  pub enough : length src ≤ turns + i
+  pub read : (context : Values) (cut : Fault) (known : List NamespaceDecl) (openings_left : ℕ)
+      → attributes_at (length src) context cut known src start openings_left (holding []) ≡ attributes_at turns context cut known src i openings_left (holding written)
+
+-- The attributes of a tag that ends here.
+pub record ArePlainAttributes (namespaces : List NamespaceDecl) (few : Option (List ℕ)) (present : PrefixBindings) (src : List ℕ) (start : ℕ) (old : List AttributeRow) (end : ℕ) (empty : Bool) (new : List AttributeRow) : Type 0 where
+  pub written : List Attribute
+  pub more : List AttributeRow
+  pub rows : new ≡ old ++ more
+  pub within : AllByRecursion (λ a. NamespaceWithin (length namespaces) a.0.namespace) more
+  pub shown : (scope : List NamespaceDecl) → FindsBinding namespaces few present scope → map (attribute namespaces) more ≡ map (attribute_in scope) written
+  pub tested : (scope : List NamespaceDecl) → FindsBinding namespaces few present scope → names_tested scope [] written ≡ Ok tt
+  pub read : (context : Values) (cut : Fault) (known : List NamespaceDecl) (openings_left : ℕ)
+      → attributes_at (length src) context cut known src start openings_left (holding []) ≡ Ok (record { held = holding written; empty = empty; openings_left = openings_left }, end)
+
+-- A start tag that is read here, whatever reads it, below an element that lists these; it opens no replacement text.
+pub record IsPlainTag (old new : ElementTables) (above : List NamespaceDecl) (src : List ℕ) (i end : ℕ) (t : StartTag) : Type 0 where
+  pub tag : Tag
+  pub read : (context : Values) (cut : Fault) → tag_at context cut above (length (attribute_rows old.attributes)) (map namespace_view old.namespaces.items.items) src i t.openings_left ≡ Ok (record { tag = tag; empty = t.empty; openings_left = t.openings_left }, end)
+  pub tagged : Tagged old new t above tag
+  pub starts : t.name_start ≡ i + 1
+  pub cut : IsCharBoundary src end
+
+-- tables that hold the same, whatever room they have for attributes
+pub record HoldSame (old new : ElementTables) : Type 0 where
+  pub others : new ≡ record old { attributes = new.attributes }
+  pub attributes : attribute_rows new.attributes ≡ attribute_rows old.attributes

@@ -1,0 +1,149 @@
+//! Constructs of content that are plain, read at one look: a run that is a slice of the source, an end tag, and a start tag.
+//! Nothing fails here: what is not plain, or finds no room, is left to the general step, which reads that one construct from the
+//! same place.
+
+ghost use Rattle.std.specs.Prelude.{◌≡◌, ◌≢◌, ◌<◌, ◌+◌, ◌-◌, ℕ, Ok, length, take, slice_index, true, false};
+ghost use Rattle.rox_reading.specs.Machine as machine;
+ghost use Rattle.rox_reading.specs.Refusals.{lifted};
+ghost use Rattle.rox_reading.specs.State.{State};
+ghost use Rattle.rox_build.specs.BuilderState.{IsConsistent, IsInState, IsReady, KeepsState, ScansTo};
+ghost use Rattle.rox_build.specs.PendingText.{waiting};
+
+use crate::builder::Builder;
+use crate::constructs::same_qname;
+use crate::plain_tag::{plain_name, plain_start_tag};
+use rox_scan::byte_set::skip_set;
+use rox_scan::character_data::{TextByte, ends_character_data};
+use rox_scan::cursor::Cursor;
+use rox_scan::runs::{after_byte, is_at, space_end};
+use rox_tables::rows::tables::NodeKind;
+
+/// Character data, up to the next `<` or the end, if it is a slice of the source, and no text is open that it goes on with.
+#[inline(always)]
+fn plain_character_data<'input>(cursor: &mut Cursor<'input>, builder: &mut Builder<'input>) -> bool
+    requires ready { IsReady builder.old }
+    ensures value { result ≡ true → (context : machine.Context) (end : ℕ) (s : State) → IsInState context.limit end s cursor.old builder.old
+        → ScansTo context.limit end (Ok tt) cursor.new builder.new (machine.character_data_step context cursor.old.text.now s) }
+    ensures other { result ≡ false → (cursor.new ≡ cursor.old) × (builder.new ≡ builder.old) }
+    ensures tables { builder.new.tables ≡ builder.old.tables }
+    ensures opened { builder.new.opened ≡ builder.old.opened }
+    ensures source { cursor.new.text ≡ cursor.old.text }
+{
+    if builder.is_text_open() {
+        return false;
+    }
+    let start = cursor.pos;
+    let text = cursor.text;
+    let near = skip_set::<TextByte>(text, start);
+    if !ends_character_data(text, near) {
+        return false;
+    }
+    cursor.pos = near;
+    builder.put_text(start, near, &text[start..near]);
+    true
+}
+
+/// An end tag, from its `</`, if it closes the innermost open element, and more elements are open than the `open_around` ones around the
+/// text.
+#[inline(always)]
+fn plain_end_tag(cursor: &mut Cursor<'_>, builder: &mut Builder<'_>, open_around: usize) -> bool
+    requires here { slice_index cursor.old.text.now cursor.old.pos ≡ 60 }
+    requires next { slice_index cursor.old.text.now (cursor.old.pos + 1) ≡ 47 }
+    requires settled { waiting builder.old.pending ≡ 0 }
+    requires fine { IsConsistent builder.old.tables builder.old.opened.items }
+    ensures value { result ≡ true → (context : machine.Context) (end : ℕ) (s : State) → context.open_around ≡ open_around → IsInState context.limit end s cursor.old builder.old
+        → ScansTo context.limit end (Ok tt) cursor.new builder.new (lifted (machine.end_step context cursor.old.text.now s)) }
+    ensures other { result ≡ false → (cursor.new ≡ cursor.old) × (builder.new ≡ builder.old) }
+    ensures fine { IsConsistent builder.new.tables builder.new.opened.items }
+    ensures source { cursor.new.text ≡ cursor.old.text }
+{
+    if builder.opened.len() <= open_around {
+        return false;
+    }
+    let Some(open) = builder.opened.last() else {
+        return false;
+    };
+    let text = cursor.text;
+    let slash = after_byte(text, cursor.pos, b'<');
+    let Some(name) = plain_name(text, after_byte(text, slash, b'/')) else {
+        return false;
+    };
+    let close = space_end(text, name.end);
+    if !is_at(text, close, b'>') || !same_qname(open.name, name.name) {
+        return false;
+    }
+    let end = after_byte(text, close, b'>');
+    cursor.pos = end;
+    builder.put_close(end);
+    true
+}
+
+/// A start tag, from its `<`, if it is plain.
+#[inline(always)]
+fn plain_element<'input>(cursor: &mut Cursor<'input>, builder: &mut Builder<'input>) -> bool
+    requires here { slice_index cursor.old.text.now cursor.old.pos ≡ 60 }
+    requires ready { IsReady builder.old }
+    requires fine { IsConsistent builder.old.tables builder.old.opened.items }
+    ensures value { result ≡ true → (context : machine.Context) (end : ℕ) (s : State) → IsInState context.limit end s cursor.old builder.old
+        → ScansTo context.limit end (Ok tt) cursor.new builder.new (machine.tag_step context cursor.old.text.now s) }
+    ensures other { result ≡ false → (cursor.new ≡ cursor.old) × KeepsState builder.old builder.new }
+    ensures fine { IsConsistent builder.new.tables builder.new.opened.items }
+    ensures source { cursor.new.text ≡ cursor.old.text }
+{
+    let start = cursor.pos;
+    let above = builder.scope();
+    let openings_left = builder.openings_left;
+    let Some(read) = plain_start_tag(
+        cursor.text,
+        start,
+        &mut builder.tables,
+        above,
+        openings_left,
+    ) else {
+        return false;
+    };
+    cursor.pos = read.end;
+    if read.tag.empty {
+        builder.put_leaf(start, read.end, NodeKind::Element(read.tag.element));
+        return true;
+    }
+    builder.put_open(start, &read.tag);
+    true
+}
+
+/// The construct that stands here, if it is plain and finds room; else nothing is read.
+#[inline(always)]
+#[tactic(auto, unfolding(rox_reading::specs::Machine::step))]
+pub fn plain_step<'input>(
+    cursor: &mut Cursor<'input>,
+    builder: &mut Builder<'input>,
+    open_around: usize,
+) -> bool
+    requires there { cursor.old.pos < length cursor.old.text.now }
+    requires fine { IsConsistent builder.old.tables builder.old.opened.items }
+    ensures value { result ≡ true → (context : machine.Context) (end : ℕ) (s : State) → context.open_around ≡ open_around → IsInState context.limit end s cursor.old builder.old
+        → ScansTo context.limit end (Ok tt) cursor.new builder.new (machine.step context cursor.old.text.now s) }
+    ensures other { result ≡ false → (context : machine.Context) (end : ℕ) (s : State) → IsInState context.limit end s cursor.old builder.old → IsInState context.limit end s cursor.new builder.new }
+    ensures place { result ≡ false → cursor.new ≡ cursor.old }
+    ensures fine { IsConsistent builder.new.tables builder.new.opened.items }
+    ensures source { cursor.new.text ≡ cursor.old.text }
+{
+    if !builder.is_ready() {
+        return false;
+    }
+    let bytes = cursor.text.as_bytes();
+    if bytes[cursor.pos] != b'<' {
+        return plain_character_data(cursor, builder);
+    }
+    if cursor.pos + 1 >= bytes.len() {
+        return false;
+    }
+    let next = bytes[cursor.pos + 1];
+    if next == b'/' {
+        return plain_end_tag(cursor, builder, open_around);
+    }
+    if next == b'!' || next == b'?' {
+        return false;
+    }
+    plain_element(cursor, builder)
+}

@@ -1,0 +1,332 @@
+//! Start tags that are plain, read at one look: without declarations, references and white space round their equals signs (XML
+//! 1.0 section 3.1). Nothing fails here: a tag that is not plain, or finds no room, is left to the general step, which reads it
+//! from its `<`.
+
+ghost use Rattle.std.specs.Prelude.{◌≡◌, ◌<◌, ◌≤◌, ◌+◌, ◌++◌, ◌==◌, ◌||◌, List, Ok, IfSome, IfNone, length, map, slice_index, slice_range, true};
+ghost use Rattle.std.specs.Str.{IsCharBoundary};
+ghost use Rattle.rox_grammar.specs.Chars.{is_name_start, is_part_char};
+ghost use Rattle.rox_grammar.specs.Runs.{run_end, begins};
+ghost use Rattle.rox_grammar.specs.Failures.{name_view};
+ghost use Rattle.rox_grammar.specs.Content.{is_verbatim_value};
+ghost use Rattle.rox_reading.specs.Lexical.{qname_at};
+ghost use Rattle.rox_reading.specs.Markup.{raw_value_at};
+ghost use Rattle.rox_tables.specs.Bindings.{LooksWithin, places_view};
+ghost use Rattle.rox_tables.specs.Rows.{AttributeRow, namespace_view, attribute_rows};
+ghost use Rattle.rox_grammar.specs.Document.{most_pairs};
+ghost use Rattle.rox_tables.specs.Rows.{AreScopes};
+ghost use Rattle.rox_tables.specs.Scopes.{ArePlaces, PrefixesOnce};
+ghost use Rattle.rox_tables.specs.TagScopes.{HasBindings};
+ghost use Rattle.rox_build.specs.ElementRow.{scope_in_tables};
+ghost use Rattle.rox_build.specs.PlainTag.{IsPlainAttribute, ArePlainAttributes, IsPlainTag, HoldSame};
+
+use crate::tag::{MOST_ATTRIBUTES, StartTag, byte_count};
+use rox_grammar::name::QName;
+use rox_scan::byte_set::{ValueByte, part_end, skip_set};
+use rox_scan::cursor::Cursor;
+use rox_scan::runs::{NameStart, after_byte, begins, is_at, space_end};
+use rox_tables::compare::same_text;
+use rox_tables::namespaces::bindings::PrefixBindings;
+use rox_tables::namespaces::namespace_decl::is_namespace_decl;
+use rox_tables::namespaces::resolve::{element_namespace, put_resolved};
+use rox_tables::namespaces::scope::few_places;
+use rox_tables::namespaces::unresolved_attribute::UnresolvedAttribute;
+use rox_tables::rows::attributes::AttributeTable;
+use rox_tables::rows::storage::StringStorage;
+use rox_tables::rows::tables::{ElementData, ElementTables, Namespace};
+
+/// A name, and where it ends.
+#[derive(Clone, Copy)]
+pub struct PlainName<'input> {
+    pub name: QName<'input>,
+    pub end: usize,
+}
+
+/// The name that begins at `start`, if one stands there (Namespaces in XML section 4).
+#[inline(always)]
+#[tactic(auto, unfolding(rox_reading::specs::Lexical::qname_at))]
+pub fn plain_name<'input>(text: &'input str, start: usize) -> Option<PlainName<'input>>
+    requires { IsCharBoundary text.now start }
+    ensures value { IfSome result (λ n. qname_at text.entry.now start ≡ Ok (name_view n.name, n.end)) }
+    ensures onward { IfSome result (λ n. start ≤ n.end) }
+    ensures cut { IfSome result (λ n. IsCharBoundary text.entry.now n.end) }
+{
+    let colon = part_end(text, start);
+    if !begins::<NameStart>(text, start) {
+        return None;
+    }
+    if !is_at(text, colon, b':') {
+        let name = QName {
+            prefix: "",
+            local: &text[start..colon],
+        };
+        return Some(PlainName { name, end: colon });
+    }
+    second_part(text, start, colon)
+}
+
+/// The same where a colon stands behind its first part.
+#[inline(always)]
+#[tactic(auto, unfolding(rox_reading::specs::Lexical::qname_at))]
+fn second_part<'input>(text: &'input str, start: usize, colon: usize) -> Option<PlainName<'input>>
+    requires start { IsCharBoundary text.now start }
+    requires colon { IsCharBoundary text.now colon }
+    requires onward { start ≤ colon }
+    requires first { colon ≡ run_end is_part_char text.now start }
+    requires begins { begins is_name_start text.now start ≡ true }
+    requires here { slice_index text.now colon ≡ 58 }
+    ensures value { IfSome result (λ n. qname_at text.entry.now start ≡ Ok (name_view n.name, n.end)) }
+    ensures onward { IfSome result (λ n. start ≤ n.end) }
+    ensures cut { IfSome result (λ n. IsCharBoundary text.entry.now n.end) }
+{
+    let local = after_byte(text, colon, b':');
+    let end = part_end(text, local);
+    if !begins::<NameStart>(text, local) || is_at(text, local, b':') || is_at(text, end, b':') {
+        return None;
+    }
+    let name = QName {
+        prefix: &text[start..colon],
+        local: &text[local..end],
+    };
+    Some(PlainName { name, end })
+}
+
+/// Where the value ends that begins at `start`, behind this quote, if it is of bytes that stand for themselves.
+#[inline(always)]
+#[tactic(auto, using(rox_scan::proofs::NearLemmas::near_plain, rox_scan::proofs::NearLemmas::value_cut))]
+fn plain_value_end(text: &str, start: usize, quote: u8) -> Option<usize>
+    requires cut { IsCharBoundary text.now start }
+    requires quote { (quote == 39 || quote == 34) ≡ true }
+    ensures read { IfSome result (λ j. raw_value_at quote text.now start ≡ Ok (slice_range text.now start j, j)) }
+    ensures plain { IfSome result (λ j. is_verbatim_value (slice_range text.now start j) ≡ true) }
+    ensures here { IfSome result (λ j. slice_index text.now j ≡ quote) }
+    ensures onward { IfSome result (λ j. start ≤ j) }
+    ensures cut { IfSome result (λ j. IsCharBoundary text.now j) }
+{
+    let end = skip_set::<ValueByte>(text, start);
+    if is_at(text, end, quote) {
+        Some(end)
+    } else {
+        None
+    }
+}
+
+/// The quote that stands at `at`, or 0.
+#[inline(always)]
+fn quote_here(text: &str, at: usize) -> u8
+    ensures some { 0 < result → (slice_index text.now at ≡ result) × ((result == 39 || result == 34) ≡ true) }
+    ensures within { 0 < result → at < length text.now }
+{
+    let bytes = text.as_bytes();
+    if at >= bytes.len() {
+        return 0;
+    }
+    let quote = bytes[at];
+    if quote == b'"' || quote == b'\'' {
+        quote
+    } else {
+        0
+    }
+}
+
+/// The attribute that begins at `start`, if it is plain: its value stands for itself.
+#[inline(always)]
+#[tactic(auto, unfolding(rox_reading::specs::Markup::attribute_at))]
+fn plain_attribute<'input>(text: &'input str, start: usize) -> Option<UnresolvedAttribute<'input>>
+    requires { IsCharBoundary text.now start }
+    ensures { IfSome result (λ a. IsPlainAttribute text.entry.now start a) }
+{
+    let name = plain_name(text, start)?;
+    let equals = space_end(text, name.end);
+    if !is_at(text, equals, b'=') {
+        return None;
+    }
+    let before = space_end(text, after_byte(text, equals, b'='));
+    let quote = quote_here(text, before);
+    if quote == 0 {
+        return None;
+    }
+    let value_start = after_byte(text, before, quote);
+    let value_end = plain_value_end(text, value_start, quote)?;
+    Some(UnresolvedAttribute {
+        start,
+        name_end: name.end,
+        value_start,
+        end: after_byte(text, value_end, quote),
+        name: name.name,
+        value: StringStorage::Borrowed(&text[value_start..value_end]),
+    })
+}
+
+/// How a start tag ends: behind which place, and whether it is empty.
+#[derive(Clone, Copy)]
+struct TagEnd {
+    at: usize,
+    empty: bool,
+}
+
+/// The end of a start tag from its `/`, if `>` stands behind that.
+#[inline(always)]
+fn empty_end(text: &str, at: usize) -> Option<TagEnd>
+    requires { slice_index text.now at ≡ 47 }
+    ensures here { IfSome result (λ e. slice_index text.now (at + 1) ≡ 62) }
+    ensures place { IfSome result (λ e. (e.at ≡ at + 2) × (e.empty ≡ true)) }
+    ensures cut { IfSome result (λ e. IsCharBoundary text.now e.at) }
+{
+    let behind = after_byte(text, at, b'/');
+    if !is_at(text, behind, b'>') {
+        return None;
+    }
+    Some(TagEnd {
+        at: after_byte(text, behind, b'>'),
+        empty: true,
+    })
+}
+
+/// A plain tag has less than so many attributes, which are compared one with another.
+const FEW: usize = 17;
+
+/// The attributes of a tag, up to its end, if they are plain and find room: each goes into the table, with its namespace in this
+/// scope. Else some may stand there too.
+#[inline(always)]
+fn plain_attributes<'input>(
+    text: &'input str,
+    start: usize,
+    namespaces: &[Namespace<'input>],
+    few: Option<&[u16]>,
+    present: &PrefixBindings<'_>,
+    attributes: &mut AttributeTable<'input>,
+) -> Option<TagEnd>
+    requires cut { IsCharBoundary text.now start }
+    requires within { LooksWithin (length namespaces.now) (places_view few) present.now }
+    ensures read { IfSome result (λ e. ArePlainAttributes (map namespace_view namespaces.now) (places_view few.entry) present.now text.entry.now start (attribute_rows attributes.old) e.at e.empty (attribute_rows attributes.new)) }
+    ensures cut { IfSome result (λ e. IsCharBoundary text.entry.now e.at) }
+    ensures grown { (more : List AttributeRow) × (attribute_rows attributes.new ≡ attribute_rows attributes.old ++ more) }
+{
+    let from = attributes.len();
+    let mut at = start;
+    for _turn in 0..FEW {
+        let here = space_end(text, at);
+        if is_at(text, here, b'>') {
+            return Some(TagEnd {
+                at: after_byte(text, here, b'>'),
+                empty: false,
+            });
+        }
+        if is_at(text, here, b'/') {
+            return empty_end(text, here);
+        }
+        if here == at {
+            return None;
+        }
+        let one = plain_attribute(text, here)?;
+        if is_namespace_decl(one.name) {
+            return None;
+        }
+        at = one.end;
+        if !put_resolved(namespaces, few, present, attributes, from, one) {
+            return None;
+        }
+    }
+    None
+}
+
+/// A plain start tag that was read, and where it ends.
+#[derive(Clone, Copy)]
+pub struct PlainTag<'input> {
+    pub tag: StartTag<'input>,
+    pub end: usize,
+}
+
+/// A start tag behind its `<` at `start`, if it is plain and finds room, of an element whose parent has the scope `above`, one that
+/// lists few: its attributes are in the table then. Else some may stand there too. So many replacement texts may be opened behind
+/// it.
+#[inline(always)]
+fn read_tag<'input>(
+    text: &'input str,
+    start: usize,
+    elements: &mut ElementTables<'input>,
+    above: u32,
+    openings_left: u32,
+) -> Option<PlainTag<'input>>
+    requires here { slice_index text.now start ≡ 60 }
+    requires places { ArePlaces (length elements.old.namespaces.items.items) elements.old.listed.items }
+    requires few { length elements.old.namespaces.items.items ≤ most_pairs }
+    requires scopes { AreScopes (length elements.old.listed.items) elements.old.scopes.items }
+    requires above { above < length elements.old.scopes.items }
+    requires once { PrefixesOnce (scope_in_tables elements.old above) }
+    requires kept { HasBindings elements.old }
+    ensures read { IfSome result (λ t. IsPlainTag elements.old elements.new (scope_in_tables elements.old above) text.entry.now start t.end t.tag) }
+    ensures openings_left { IfSome result (λ t. t.tag.openings_left ≡ openings_left) }
+    ensures grown { (more : List AttributeRow) × (elements.new ≡ record elements.old { attributes = elements.new.attributes }) × (attribute_rows elements.new.attributes ≡ attribute_rows elements.old.attributes ++ more) }
+{
+    let small = byte_count(text);
+    let name_start = after_byte(text, start, b'<');
+    let name = plain_name(text, name_start)?;
+    if same_text(name.name.prefix, "xmlns") {
+        return None;
+    }
+    let places = few_places(&elements.scopes, &elements.listed, above)?;
+    let few = Some(places);
+    let namespaces = elements.namespaces.as_slice();
+    let from = elements.attributes.len();
+    let end = plain_attributes(
+        text,
+        name.end,
+        namespaces,
+        few,
+        &elements.present,
+        &mut elements.attributes,
+    )?;
+    let until = elements.attributes.len();
+    if until > MOST_ATTRIBUTES {
+        return None;
+    }
+    let Ok(namespace) = element_namespace(namespaces, few, &elements.present, name.name, name_start)
+    else {
+        return None;
+    };
+    let element = ElementData {
+        local: name.name.local,
+        attributes_from: from as u32,
+        attributes_until: until as u32,
+        scope: above,
+        namespace,
+    };
+    let tag = StartTag {
+        name: name.name,
+        name_start,
+        name_end: name.end,
+        element,
+        empty: end.empty,
+        openings_left,
+    };
+    Some(PlainTag { tag, end: end.at })
+}
+
+/// The same; where it answers nothing, the tables hold what they held.
+#[inline(always)]
+pub fn plain_start_tag<'input>(
+    text: &'input str,
+    start: usize,
+    elements: &mut ElementTables<'input>,
+    above: u32,
+    openings_left: u32,
+) -> Option<PlainTag<'input>>
+    requires here { slice_index text.now start ≡ 60 }
+    requires places { ArePlaces (length elements.old.namespaces.items.items) elements.old.listed.items }
+    requires few { length elements.old.namespaces.items.items ≤ most_pairs }
+    requires scopes { AreScopes (length elements.old.listed.items) elements.old.scopes.items }
+    requires above { above < length elements.old.scopes.items }
+    requires once { PrefixesOnce (scope_in_tables elements.old above) }
+    requires kept { HasBindings elements.old }
+    ensures read { IfSome result (λ t. IsPlainTag elements.old elements.new (scope_in_tables elements.old above) text.entry.now start t.end t.tag) }
+    ensures openings_left { IfSome result (λ t. t.tag.openings_left ≡ openings_left) }
+    ensures none { IfNone result (HoldSame elements.old elements.new) }
+{
+    let from = elements.attributes.len();
+    let tag = read_tag(text, start, elements, above, openings_left);
+    if tag.is_none() {
+        elements.attributes.truncate(from);
+    }
+    tag
+}
