@@ -22,7 +22,7 @@ ghost use Rattle.rox_build.specs.PlainTag.{IsPlainAttribute, ArePlainAttributes,
 use crate::tag::{MOST_ATTRIBUTES, StartTag, byte_count};
 use rox_grammar::name::QName;
 use rox_scan::byte_set::{ValueByte, part_end, skip_set};
-use rox_scan::cursor::Cursor;
+use rox_scan::lookahead::scan_value;
 use rox_scan::runs::{NameStart, after_byte, begins, is_at, space_end};
 use rox_tables::compare::same_text;
 use rox_tables::namespaces::bindings::PrefixBindings;
@@ -90,7 +90,27 @@ fn second_part<'input>(text: &'input str, start: usize, colon: usize) -> Option<
     Some(PlainName { name, end })
 }
 
-/// Where the value ends that begins at `start`, behind this quote, if it is of bytes that stand for themselves.
+/// Where the value ends that begins at `start`, behind this quote, if it stands for itself, or 0: by a longer look, as it has other
+/// bytes too.
+#[inline(never)]
+fn verbatim_value_end(text: &str, start: usize, quote: u8) -> usize
+    requires cut { IsCharBoundary text.now start }
+    requires quote { (quote == 39 || quote == 34) ≡ true }
+    ensures read { 0 < result → raw_value_at quote text.now start ≡ Ok (slice_range text.now start result, result) }
+    ensures plain { 0 < result → is_verbatim_value (slice_range text.now start result) ≡ true }
+    ensures here { 0 < result → slice_index text.now result ≡ quote }
+    ensures onward { 0 < result → start ≤ result }
+    ensures cut { 0 < result → IsCharBoundary text.now result }
+{
+    let look = scan_value(text, start, quote);
+    if look.is_verbatim && is_at(text, look.end, quote) {
+        look.end
+    } else {
+        0
+    }
+}
+
+/// Where the value ends that begins at `start`, behind this quote, if it stands for itself.
 #[inline(always)]
 #[tactic(auto, using(rox_scan::proofs::NearLemmas::near_plain, rox_scan::proofs::NearLemmas::value_cut))]
 fn plain_value_end(text: &str, start: usize, quote: u8) -> Option<usize>
@@ -104,10 +124,13 @@ fn plain_value_end(text: &str, start: usize, quote: u8) -> Option<usize>
 {
     let end = skip_set::<ValueByte>(text, start);
     if is_at(text, end, quote) {
-        Some(end)
-    } else {
-        None
+        return Some(end);
     }
+    let end = verbatim_value_end(text, start, quote);
+    if end == 0 {
+        return None;
+    }
+    Some(end)
 }
 
 /// The quote that stands at `at`, or 0.
