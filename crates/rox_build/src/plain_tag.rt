@@ -97,7 +97,7 @@ fn verbatim_value_end(text: &str, start: usize, quote: u8) -> usize
     requires cut { IsCharBoundary text.now start }
     requires quote { (quote == 39 || quote == 34) ≡ true }
     ensures read { 0 < result → raw_value_at quote text.now start ≡ Ok (slice_range text.now start result, result) }
-    ensures plain { 0 < result → is_verbatim_value (slice_range text.now start result) ≡ true }
+    ensures verbatim { 0 < result → is_verbatim_value (slice_range text.now start result) ≡ true }
     ensures here { 0 < result → slice_index text.now result ≡ quote }
     ensures onward { 0 < result → start ≤ result }
     ensures cut { 0 < result → IsCharBoundary text.now result }
@@ -117,7 +117,7 @@ fn plain_value_end(text: &str, start: usize, quote: u8) -> Option<usize>
     requires cut { IsCharBoundary text.now start }
     requires quote { (quote == 39 || quote == 34) ≡ true }
     ensures read { IfSome result (λ j. raw_value_at quote text.now start ≡ Ok (slice_range text.now start j, j)) }
-    ensures plain { IfSome result (λ j. is_verbatim_value (slice_range text.now start j) ≡ true) }
+    ensures verbatim { IfSome result (λ j. is_verbatim_value (slice_range text.now start j) ≡ true) }
     ensures here { IfSome result (λ j. slice_index text.now j ≡ quote) }
     ensures onward { IfSome result (λ j. start ≤ j) }
     ensures cut { IfSome result (λ j. IsCharBoundary text.now j) }
