@@ -40,7 +40,7 @@ use Rattle.rox_tables.specs.Bindings.{FindsBinding}
 use Rattle.rox_tables.specs.Rows.{AttributeRow, NamespaceWithin, namespace_view, attribute, attribute_uri}
 use Rattle.rox_tables.specs.Storage.{storage_bytes, is_borrowed}
 use Rattle.rox_tables.specs.TagDeclarations.{unresolved_view}
-use Rattle.rox_tables.specs.ResolvedNames.{Resolved, row_of_unresolved}
+use Rattle.rox_tables.specs.ResolvedNames.{AddsResolved, row_of_unresolved}
 use Rattle.rox_tables.specs.declared.namespaces.bindings.PrefixBindings.{PrefixBindings}
 use Rattle.rox_tables.specs.declared.namespaces.unresolved_attribute.UnresolvedAttribute.{UnresolvedAttribute}
 use Rattle.rox_tables.proofs.Stable.{all_append}
@@ -141,7 +141,7 @@ row_shown namespaces scope a s h = ap (λ (o : Option (List ℕ)).
 
 pub plain_more : (namespaces : List NamespaceDecl) (few : Option (List ℕ)) (present : PrefixBindings) (src : List ℕ) (start : ℕ) (old : List AttributeRow) (i j : ℕ) (now next : List AttributeRow) (a : UnresolvedAttribute)
     → PlainSoFar namespaces few present src start old i now → i ≤ j → j ≡ spaces_end src i → (j ≡ i → ⊥) → (slice_index src j == 47) ≡ false → (slice_index src j == 62) ≡ false
-    → IsPlainAttribute src j a → is_namespace_decl (name_view a.name) ≡ false → Resolved namespaces few present (length old) now next a
+    → IsPlainAttribute src j a → is_namespace_decl (name_view a.name) ≡ false → AddsResolved namespaces few present (length old) now next a
     → PlainSoFar namespaces few present src start old a.end next
 plain_more namespaces few present src start old i j now next a g onward spaces some slash close plain other r =
     let row = row_of_unresolved a r.namespace in

@@ -30,7 +30,7 @@ Tested scope before a rest (Ok s) = names_tested scope before (a ∷ rest) ≡ n
 Tested scope before a rest (Err f) = names_tested scope before (a ∷ rest) ≡ Err f
 
 -- one more attribute is in the table, behind those of its tag, which begin at this place
-pub record Resolved (namespaces : List NamespaceDecl) (few : Option (List ℕ)) (present : PrefixBindings) (from : ℕ) (old new : List AttributeRow) (one : UnresolvedAttribute) : Type 0 where
+pub record AddsResolved (namespaces : List NamespaceDecl) (few : Option (List ℕ)) (present : PrefixBindings) (from : ℕ) (old new : List AttributeRow) (one : UnresolvedAttribute) : Type 0 where
   pub namespace : AttributeNamespace
   pub rows : new ≡ old ++ row_of_unresolved one namespace ∷ []
   pub within : NamespaceWithin (length namespaces) namespace

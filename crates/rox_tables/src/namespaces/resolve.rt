@@ -15,7 +15,7 @@ ghost use Rattle.rox_tables.specs.Rows.{AttributeRow, namespace_view, namespace_
 ghost use Rattle.rox_tables.specs.Scopes.{prefix_view};
 ghost use Rattle.rox_tables.specs.Bindings.{FindsBinding, LooksWithin, places_view};
 ghost use Rattle.rox_tables.specs.TagDeclarations.{unresolved_view};
-ghost use Rattle.rox_tables.specs.ResolvedNames.{row_of_unresolved, has_expanded, Tested, Resolved};
+ghost use Rattle.rox_tables.specs.ResolvedNames.{row_of_unresolved, has_expanded, Tested, AddsResolved};
 ghost use Rattle.rox_tables.specs.ExpandedNames.{HasExpandedNames, TestedOr};
 
 use crate::compare::same_text;
@@ -217,7 +217,7 @@ pub fn put_resolved<'input>(
     requires from { from ≤ length (attribute_rows attributes.old) }
     requires done { AllByRecursion (λ a. NamespaceWithin (length namespaces.now) a.0.namespace) (drop from (attribute_rows attributes.old)) }
     ensures refused { result ≡ false → attribute_rows attributes.new ≡ attribute_rows attributes.old }
-    ensures added { result ≡ true → Resolved (map namespace_view namespaces.now) (places_view few.entry) present.now from (attribute_rows attributes.old) (attribute_rows attributes.new) one.entry }
+    ensures added { result ≡ true → AddsResolved (map namespace_view namespaces.now) (places_view few.entry) present.now from (attribute_rows attributes.old) (attribute_rows attributes.new) one.entry }
 {
     if !attributes.has_room() {
         return false;

@@ -2,7 +2,7 @@ use Rattle.std.proofs.Common.{◌≡◌, ◌==◌, false, List, length, map, sli
 use Rattle.std.proofs.lemmas.Bool.{eqb-true}
 use Rattle.rox_tables.specs.Bindings.{places_view}
 use Rattle.rox_tables.specs.Rows.{namespace_view, attribute_rows, AttributeRow}
-use Rattle.rox_tables.specs.ResolvedNames.{Resolved}
+use Rattle.rox_tables.specs.ResolvedNames.{AddsResolved}
 use Rattle.rox_build.proofs.PlainTags.{plain_starts, plain_more, opens_there, closes_or_not, done_within}
 use Rattle.rox_build.proofs.plain_tag.plain_attributes.Goals as goal
 
@@ -47,7 +47,7 @@ loop-turn-preserved c =
     let close : (slice_index src j == 62) ≡ false = sym c.is_at.ensures ∙ c.if-is_at.false in
     let slash : (slice_index src j == 47) ≡ false = sym c.is_at-in-loop-turn.ensures ∙ c.if-is_at-2.false in
     let added = c.put_resolved.ensures.added c.if-not-put_resolved.false in
-    let resolved : Resolved namespaces few c.args.present.now (length old) (attribute_rows l.attributes) (attribute_rows c.put_resolved.new.attributes) c.in_ok-one.one = rw c.len-from.ensures at added in
+    let resolved : AddsResolved namespaces few c.args.present.now (length old) (attribute_rows l.attributes) (attribute_rows c.put_resolved.new.attributes) c.in_ok-one.one = rw c.len-from.ensures at added in
     let plain = c.in_ok-one.ensures in
     record {
       cut = plain.cut;
