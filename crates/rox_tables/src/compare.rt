@@ -7,7 +7,7 @@ const LONG: usize = 16;
 
 /// Whether two stretches of bytes of one length are the same, byte by byte.
 #[inline(always)]
-fn same_bytes(one: &[u8], other: &[u8]) -> bool
+pub fn same_bytes(one: &[u8], other: &[u8]) -> bool
     requires { length one.now ≡ length other.now }
     ensures { result ≡ bytes_eq one.now other.now }
 {

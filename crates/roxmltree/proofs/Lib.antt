@@ -7,7 +7,7 @@ pub mod Parsed
 pub mod Telling
 pub mod Plain
 pub mod Entries
-pub mod Prefixes
+pub mod ListedFirst
 pub mod Parts
 pub mod Ends
 pub mod Columns

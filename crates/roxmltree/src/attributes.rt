@@ -1,11 +1,11 @@
 //! The attributes of an element.
 
-ghost use Rattle.std.specs.Prelude.{◌≡◌, ◌≤◌, ◌-◌, length, bytes_eq};
+ghost use Rattle.std.specs.Prelude.{◌≡◌, ◌≤◌, ◌-◌, None, length, bytes_eq};
 ghost use Rattle.std.specs.Option.{option_map, option_eq};
 ghost use Rattle.rox_tables.specs.Rows.{namespace_view};
 ghost use Rattle.roxmltree.specs.NamespaceBound.{namespace_bound};
 
-use crate::names::{ExpandedName, NS_XML_URI};
+use crate::names::{ExpandedName, NS_XML_URI, equal_names};
 use rox_tables::rows::storage::StringStorage;
 use rox_tables::rows::tables::{AttributeData, AttributeNamespace, AttributePlaces, Namespace};
 use std::fmt;
@@ -27,6 +27,7 @@ impl<'a, 'input> Attribute<'a, 'input> {
     ghost use Rattle.roxmltree.specs.StoredText.{stored};
 
     /// The namespace of its name. None where the name has no prefix.
+    #[inline]
     #[tactic(auto, using(crate::proofs::Entries::entry_uri))]
     pub fn namespace(&self) -> Option<&'a str>
         ensures { option_map (λ u. u.now) result ≡ (attribute_of self.now).namespace }
@@ -54,7 +55,33 @@ impl<'a, 'input> Attribute<'a, 'input> {
     pub(crate) fn has_name(&self, name: &ExpandedName<'_, '_>) -> bool
         ensures { result ≡ same_expanded_name ((attribute_of self.now).namespace, (attribute_of self.now).local) (expanded name.now) }
     {
-        self.name() == name.name() && self.namespace() == name.namespace()
+        equal_names(self.name(), name.name()) && self.has_namespace(name.namespace())
+    }
+
+    /// Whether it has this local name, and no namespace.
+    #[inline(always)]
+    fn has_plain_name(&self, local: &str) -> bool
+        ensures { result ≡ same_expanded_name ((attribute_of self.now).namespace, (attribute_of self.now).local) (None, local.now) }
+    {
+        if !equal_names(self.name(), local) {
+            return false;
+        }
+        match self.data.namespace {
+            AttributeNamespace::None => true,
+            _ => false,
+        }
+    }
+
+    /// Whether it has this namespace, or none.
+    #[inline]
+    fn has_namespace(&self, uri: Option<&str>) -> bool
+        ensures { result ≡ option_eq bytes_eq (attribute_of self.now).namespace (option_map (λ u. u.now) uri.entry) }
+    {
+        match (self.namespace(), uri) {
+            (None, None) => true,
+            (Some(own), Some(uri)) => equal_names(own, uri),
+            _ => false,
+        }
     }
 
     /// Its value (XML 1.0 section 3.3.3).
@@ -162,6 +189,8 @@ impl<'a, 'input> Attributes<'a, 'input> {
     ghost use Rattle.std.specs.Prelude.{map, slice_range};
     ghost use Rattle.std.specs.List.{AllByRecursion, zip};
     ghost use Rattle.rox_tables.specs.Rows.{attribute, NamespaceWithin};
+    ghost use Rattle.roxmltree.specs.ElementLists.{attribute_of};
+    ghost use Rattle.roxmltree.specs.ExpandedNames.{expanded, named};
 
     /// A stretch of the attributes of all elements, whose namespaces are in this table.
     #[inline]
@@ -186,6 +215,38 @@ impl<'a, 'input> Attributes<'a, 'input> {
             until,
         }
     }
+
+    /// The first of these of this local name that has no namespace.
+    #[inline(always)]
+    pub(crate) fn plain_named(
+        attributes: Attributes<'a, 'input>,
+        local: &str,
+    ) -> Option<Attribute<'a, 'input>>
+        ensures { option_map attribute_of result ≡ named (None, local.now) attributes.entry }
+    {
+        for attribute in attributes {
+            if attribute.has_plain_name(local) {
+                return Some(attribute);
+            }
+        }
+        None
+    }
+
+    /// The first of these of this name. It is kept out of line, since most names that are looked up have no namespace.
+    #[inline(never)]
+    pub(crate) fn named(
+        attributes: Attributes<'a, 'input>,
+        name: &ExpandedName<'_, '_>,
+    ) -> Option<Attribute<'a, 'input>>
+        ensures { option_map attribute_of result ≡ named (expanded name.now) attributes.entry }
+    {
+        for attribute in attributes {
+            if attribute.has_name(name) {
+                return Some(attribute);
+            }
+        }
+        None
+    }
 }
 
 impl fmt::Debug for Attributes<'_, '_> {
@@ -208,6 +269,7 @@ impl<'a, 'input> Iterator for Attributes<'a, 'input> {
 
     ghost remaining = { item_count (λ s. s) };
 
+    #[inline]
     #[tactic(auto, using(crate::proofs::Columns::reach_at, crate::proofs::Columns::first_row))]
     fn next(&mut self) -> Option<Attribute<'a, 'input>> {
         if self.from == self.until {

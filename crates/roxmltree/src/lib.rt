@@ -15,6 +15,7 @@ mod options;
 mod order;
 mod parse;
 mod positions;
+mod scopes;
 mod tree;
 
 pub use crate::attributes::{Attribute, Attributes};

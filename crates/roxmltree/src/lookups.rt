@@ -10,7 +10,7 @@ ghost use Rattle.roxmltree.specs.ElementLists.{attribute_of};
 ghost use Rattle.roxmltree.specs.NodeRef.{item_of};
 
 use crate::attributes::{Attribute, Attributes};
-use crate::names::{ExpandedName, NS_XML_URI};
+use crate::names::{ExpandedName, NS_XML_URI, equal_names};
 use crate::namespaces::NamespaceIter;
 use crate::nodes::Node;
 use rox_tables::rows::tables::NodeKind;
@@ -73,18 +73,18 @@ impl<'a, 'input> Node<'a, 'input> {
     }
 
     /// The attribute of this name.
+    #[inline(always)]
     pub fn attribute_node(&self, name: ExpandedName<'_, '_>) -> Option<Attribute<'a, 'input>>
         ensures { option_map attribute_of result ≡ named (expanded name.entry) (attributes_of (item_of self.now)) }
     {
-        for attribute in self.attributes() {
-            if attribute.has_name(&name) {
-                return Some(attribute);
-            }
+        match name.namespace() {
+            None => Attributes::plain_named(self.attributes(), name.name()),
+            Some(_) => Attributes::named(self.attributes(), &name),
         }
-        None
     }
 
     /// The value of the attribute of this name.
+    #[inline(always)]
     pub fn attribute(&self, name: ExpandedName<'_, '_>) -> Option<&'a str>
         ensures { option_map (λ s. s.now) result ≡ option_map (λ a. a.value) (named (expanded name.entry) (attributes_of (item_of self.now))) }
     {
@@ -95,6 +95,7 @@ impl<'a, 'input> Node<'a, 'input> {
     }
 
     /// Whether there is an attribute of this name.
+    #[inline(always)]
     pub fn has_attribute(&self, name: ExpandedName<'_, '_>) -> bool
         ensures { result ≡ is_some (named (expanded name.entry) (attributes_of (item_of self.now))) }
     {
@@ -102,11 +103,12 @@ impl<'a, 'input> Node<'a, 'input> {
     }
 
     /// The first attribute of this local name, whatever its namespace.
+    #[inline]
     pub fn attribute_local(&self, local: &str) -> Option<Attribute<'a, 'input>>
         ensures { option_map attribute_of result ≡ named_locally local.now (attributes_of (item_of self.now)) }
     {
         for attribute in self.attributes() {
-            if attribute.name() == local {
+            if equal_names(attribute.name(), local) {
                 return Some(attribute);
             }
         }
@@ -124,16 +126,14 @@ impl<'a, 'input> Node<'a, 'input> {
     /// The URI that is listed for this prefix, or, for None, for the default namespace. It is `Some("")` where the empty text
     /// is declared. `xml` is never listed, so for it the answer is None; and so it is for `Some("")`, since no prefix is empty,
     /// and on nodes that are no element.
-    #[tactic(auto, using(crate::proofs::Prefixes::option_eq_same))]
+    #[inline(always)]
     pub fn lookup_namespace_uri(&self, prefix: Option<&str>) -> Option<&'a str>
         ensures { option_map (λ s. s.now) result ≡ uri_of (listed_of (item_of self.now)) (option_map (λ s. s.now) prefix.entry) }
     {
-        for namespace in self.namespaces() {
-            if namespace.name() == prefix {
-                return Some(namespace.uri());
-            }
+        match self.document.listed_for(self.id, prefix) {
+            Some(namespace) => Some(namespace.uri()),
+            None => None,
         }
-        None
     }
 
     /// The prefix of the first listed namespace of this URI: None where that is the default, and where none is listed, as on

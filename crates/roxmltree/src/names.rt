@@ -1,9 +1,10 @@
 //! Names with their namespaces (Namespaces in XML 1.0 section 2.1).
 
-ghost use Rattle.std.specs.Prelude.{◌≡◌, Some, None};
+ghost use Rattle.std.specs.Prelude.{◌≡◌, Some, None, bytes_eq};
 ghost use Rattle.std.specs.Option.{option_map};
 ghost use Rattle.roxmltree.specs.ExpandedNames.{expanded, same_expanded_name};
 
+use rox_tables::compare::same_bytes;
 use std::fmt;
 
 /// The namespace of the prefix `xml`.
@@ -11,6 +12,31 @@ pub const NS_XML_URI: &str = "http://www.w3.org/XML/1998/namespace";
 
 /// The namespace of the prefix `xmlns`.
 pub const NS_XMLNS_URI: &str = "http://www.w3.org/2000/xmlns/";
+
+/// The length from which on two names are compared out of line.
+const LONG: usize = 8;
+
+/// Whether two long names are the same. It is kept out of line, so that what goes over many names stays short.
+#[inline(never)]
+fn equal_long(one: &str, other: &str) -> bool
+    ensures { result ≡ bytes_eq one.now other.now }
+{
+    one == other
+}
+
+/// Whether two names are the same. Most differ in length, which is compared first.
+#[inline(always)]
+pub(crate) fn equal_names(one: &str, other: &str) -> bool
+    ensures { result ≡ bytes_eq one.now other.now }
+{
+    if one.len() != other.len() {
+        return false;
+    }
+    if one.len() >= LONG {
+        return equal_long(one, other);
+    }
+    same_bytes(one.as_bytes(), other.as_bytes())
+}
 
 /// A local name and, if it has one, its namespace. Two are equal where their local names are equal, and both have no
 /// namespace or both have equal URIs.

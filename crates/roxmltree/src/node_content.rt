@@ -138,6 +138,7 @@ impl<'a, 'input> Node<'a, 'input> {
     }
 
     /// As `text`, with whether it is a slice of the input. A comment's always is.
+    #[inline]
     #[tactic(auto, using(crate::proofs::Bare::says_element_bare))]
     pub fn text_storage(&self) -> Option<&'a StringStorage<'input>>
         ensures { option_map (λ s. stored s.now) result ≡ stored_text (tree_of self.now) (id_of self.now) }
@@ -147,8 +148,7 @@ impl<'a, 'input> Node<'a, 'input> {
                 Some(child) => child.own_text_storage(),
                 None => None,
             },
-            NodeKind::Text(text) => Some(text),
-            NodeKind::Comment(text) => Some(text),
+            NodeKind::Text(text) | NodeKind::Comment(text) => Some(text),
             _ => None,
         }
     }

@@ -3,6 +3,8 @@
 ghost use Rattle.std.specs.Prelude.{◌≡◌, ◌+◌, ◌^◌, ◌<◌, ◌≤◌, ℕ, List, length, Some, None, IfSome, IfNone};
 ghost use Rattle.std.specs.Option.{option_map};
 ghost use Rattle.rox_grammar.specs.Forest.{Forest, size};
+ghost use Rattle.rox_grammar.specs.Tree.{uri_of};
+ghost use Rattle.rox_tables.specs.Rows.{namespace_view};
 ghost use Rattle.roxmltree.specs.Places.{place, parent, children};
 ghost use Rattle.roxmltree.specs.NodeParts.{node_at, content_of, namespace_of, listed_of, attributes_of};
 
@@ -10,7 +12,8 @@ use crate::attributes::Attributes;
 use crate::iterators::Descendants;
 use crate::namespaces::NamespaceIter;
 use crate::nodes::{Node, NodeId};
-use rox_tables::rows::tables::{NodeData, NodeKind, Tables};
+use crate::scopes::first_in_scope;
+use rox_tables::rows::tables::{Namespace, NodeData, NodeKind, Tables};
 use std::marker::Model;
 
 /// An XML document as a read-only tree of nodes.
@@ -224,5 +227,24 @@ impl<'input> Document<'input> {
         let listed = self.tables.listed.as_slice();
         let namespaces = self.tables.namespaces.as_slice();
         NamespaceIter::of_scope(scopes, listed, namespaces, element.scope)
+    }
+
+    /// The namespace that an element lists for this prefix, or for the default.
+    #[inline(always)]
+    pub(crate) fn listed_for(&self, id: NodeId, prefix: Option<&str>) -> Option<&Namespace<'input>>
+        requires { number id < size self.now.tree }
+        ensures { option_map (λ n. (namespace_view n.now).uri) result ≡ uri_of (listed_of (node_at self.now.tree (number id))) (option_map (λ s. s.now) prefix.entry) }
+    {
+        let row = &self.tables.nodes[id.0 as usize];
+        let namespaces = self.tables.namespaces.as_slice();
+        if namespaces.is_empty() {
+            return None;
+        }
+        let NodeKind::Element(element) = &row.kind else {
+            return None;
+        };
+        let scopes = self.tables.scopes.as_slice();
+        let listed = self.tables.listed.as_slice();
+        first_in_scope(scopes, listed, namespaces, element.scope, prefix)
     }
 }

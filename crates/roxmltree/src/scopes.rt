@@ -1,0 +1,112 @@
+//! What a scope lists for a prefix. The stretches of a rope are gone over from leaf to leaf: by its index each place would be
+//! sought from the top.
+
+ghost use Rattle.std.specs.Prelude.{◌≡◌, ◌<◌, ◌++◌, length, map, reverse};
+ghost use Rattle.std.specs.Option.{option_map};
+ghost use Rattle.rox_grammar.specs.Tree.{same_prefix, uri_of};
+ghost use Rattle.rox_tables.specs.Rows.{namespace_view, AreScopes};
+ghost use Rattle.rox_tables.specs.Scopes.{prefix_view, entries, places_in, ArePlaces};
+
+use crate::names::equal_names;
+use rox_tables::rows::tables::{Concat, Namespace, Scope};
+
+/// Whether a namespace is of this prefix, or is the default.
+#[inline(always)]
+fn has_prefix(namespace: &Namespace<'_>, prefix: Option<&str>) -> bool
+    ensures { result ≡ same_prefix (namespace_view namespace.now).prefix (prefix_view prefix.entry) }
+{
+    match (namespace.name(), prefix) {
+        (None, None) => true,
+        (Some(name), Some(prefix)) => equal_names(name, prefix),
+        _ => false,
+    }
+}
+
+/// The first at these places that is of this prefix, or is the default.
+#[inline(always)]
+fn first_of<'a, 'input>(
+    namespaces: &'a [Namespace<'input>],
+    places: &[u16],
+    prefix: Option<&str>,
+) -> Option<&'a Namespace<'input>>
+    requires { ArePlaces (length namespaces.now) places.now }
+    ensures { option_map (λ n. (namespace_view n.now).uri) result ≡ uri_of (entries (map namespace_view namespaces.now) places.now) (prefix_view prefix.entry) }
+{
+    for place in places {
+        let namespace = &namespaces[*place as usize];
+        if has_prefix(namespace, prefix) {
+            return Some(namespace);
+        }
+    }
+    None
+}
+
+/// The last of them, which is the first of a stretch from its back.
+#[inline(always)]
+fn last_of<'a, 'input>(
+    namespaces: &'a [Namespace<'input>],
+    places: &[u16],
+    prefix: Option<&str>,
+) -> Option<&'a Namespace<'input>>
+    requires { ArePlaces (length namespaces.now) places.now }
+    ensures { option_map (λ n. (namespace_view n.now).uri) result ≡ uri_of (entries (map namespace_view namespaces.now) (reverse places.now)) (prefix_view prefix.entry) }
+{
+    let end = places.len();
+    for turn in 0..end {
+        let namespace = &namespaces[places[end - 1 - turn] as usize];
+        if has_prefix(namespace, prefix) {
+            return Some(namespace);
+        }
+    }
+    None
+}
+
+/// The first that a scope lists of this prefix, or the default: in line where the scope is one stretch.
+#[cycle(scope)]
+#[inline(always)]
+pub(crate) fn first_in_scope<'a, 'input>(
+    scopes: &[Scope],
+    listed: &[u16],
+    namespaces: &'a [Namespace<'input>],
+    scope: u32,
+    prefix: Option<&str>,
+) -> Option<&'a Namespace<'input>>
+    requires is_row { scope < length scopes.now }
+    requires scopes { AreScopes (length listed.now) scopes.now }
+    requires named { ArePlaces (length namespaces.now) listed.now }
+    ensures { option_map (λ n. (namespace_view n.now).uri) result ≡ uri_of (entries (map namespace_view namespaces.now) (places_in listed.now scopes.now scope)) (prefix_view prefix.entry) }
+{
+    match scopes[scope as usize] {
+        Scope::Few(stretch) => {
+            let places = &listed[stretch.from as usize..stretch.until as usize];
+            first_of(namespaces, places, prefix)
+        }
+        Scope::Back(stretch) => {
+            let places = &listed[stretch.from as usize..stretch.until as usize];
+            last_of(namespaces, places, prefix)
+        }
+        Scope::Concat(parts) => first_in_parts(scopes, listed, namespaces, parts, prefix),
+    }
+}
+
+/// The first that two scopes list, the one behind the other, of this prefix, or the default.
+#[cycle(scope)]
+#[inline(never)]
+fn first_in_parts<'a, 'input>(
+    scopes: &[Scope],
+    listed: &[u16],
+    namespaces: &'a [Namespace<'input>],
+    parts: Concat,
+    prefix: Option<&str>,
+) -> Option<&'a Namespace<'input>>
+    requires first { parts.first < length scopes.now }
+    requires rest { parts.rest < length scopes.now }
+    requires scopes { AreScopes (length listed.now) scopes.now }
+    requires named { ArePlaces (length namespaces.now) listed.now }
+    ensures { option_map (λ n. (namespace_view n.now).uri) result ≡ uri_of (entries (map namespace_view namespaces.now) (places_in listed.now scopes.now parts.first ++ places_in listed.now scopes.now parts.rest)) (prefix_view prefix.entry) }
+{
+    match first_in_scope(scopes, listed, namespaces, parts.first, prefix) {
+        Some(namespace) => Some(namespace),
+        None => first_in_scope(scopes, listed, namespaces, parts.rest, prefix),
+    }
+}
