@@ -1,12 +1,16 @@
 //! Why a text is refused, as a caller is told.
 
+ghost use Rattle.std.specs.Prelude.{◌++◌, Some, codes, encode_utf8};
+ghost use Rattle.std.specs.Fmt.{◌++?◌, DisplaysOnOk, WritesOnOk};
+ghost use Rattle.rox_error.specs.Messages.{position_text, quoted};
+
 use crate::position::TextPos;
 use std::alloc::{AllocError, AllocFailed};
 use std::fmt;
 
 /// Why a text is refused. Each kind but those without a field keeps the position that it is named at. What was due is named by
 /// fixed words, so callers have it as `Error<'static>`; a function that asks a resolver gives it at any lifetime.
-#[derive(Clone, Debug, Drop, PartialEq, Eq, Hash)]
+#[derive(Debug, Drop, PartialEq, Eq, Hash)]
 pub enum Error<'w> {
     /// The prefix `xml` is declared with another URI (Namespaces in XML section 3).
     InvalidXmlPrefixUri(TextPos),
@@ -76,6 +80,68 @@ pub enum Error<'w> {
     OutOfMemory,
 }
 
+impl Clone for Error<'_> {
+    ghost use Rattle.rox_error.specs.Copies.{IsCopy, NamesNothing};
+
+    ghost is_clone = { IsCopy };
+
+    ghost is_infallible = { NamesNothing };
+
+    fn clone(&self) -> Result<Self, AllocError> {
+        match self {
+            Error::InvalidXmlPrefixUri(pos) => Ok(Error::InvalidXmlPrefixUri(*pos)),
+            Error::UnexpectedXmlUri(pos) => Ok(Error::UnexpectedXmlUri(*pos)),
+            Error::UnexpectedXmlnsUri(pos) => Ok(Error::UnexpectedXmlnsUri(*pos)),
+            Error::InvalidElementNamePrefix(pos) => Ok(Error::InvalidElementNamePrefix(*pos)),
+            Error::DuplicatedNamespace(name, pos) => Ok(Error::DuplicatedNamespace(
+                name.clone()?,
+                *pos,
+            )),
+            Error::UnknownNamespace(name, pos) => Ok(Error::UnknownNamespace(name.clone()?, *pos)),
+            Error::UnexpectedCloseTag(expected, actual, pos) => Ok(Error::UnexpectedCloseTag(
+                expected.clone()?,
+                actual.clone()?,
+                *pos,
+            )),
+            Error::UnexpectedEntityCloseTag(pos) => Ok(Error::UnexpectedEntityCloseTag(*pos)),
+            Error::UnknownEntityReference(name, pos) => Ok(Error::UnknownEntityReference(
+                name.clone()?,
+                *pos,
+            )),
+            Error::MalformedEntityReference(pos) => Ok(Error::MalformedEntityReference(*pos)),
+            Error::EntityReferenceLoop(pos) => Ok(Error::EntityReferenceLoop(*pos)),
+            Error::InvalidAttributeValue(pos) => Ok(Error::InvalidAttributeValue(*pos)),
+            Error::DuplicatedAttribute(name, pos) => Ok(Error::DuplicatedAttribute(
+                name.clone()?,
+                *pos,
+            )),
+            Error::NoRootNode => Ok(Error::NoRootNode),
+            Error::UnclosedRootNode => Ok(Error::UnclosedRootNode),
+            Error::UnexpectedDeclaration(pos) => Ok(Error::UnexpectedDeclaration(*pos)),
+            Error::DtdDetected => Ok(Error::DtdDetected),
+            Error::NodesLimitReached => Ok(Error::NodesLimitReached),
+            Error::AttributesLimitReached => Ok(Error::AttributesLimitReached),
+            Error::NamespacesLimitReached => Ok(Error::NamespacesLimitReached),
+            Error::InvalidName(pos) => Ok(Error::InvalidName(*pos)),
+            Error::NonXmlChar(character, pos) => Ok(Error::NonXmlChar(*character, *pos)),
+            Error::InvalidChar(expected, actual, pos) => Ok(Error::InvalidChar(
+                *expected, *actual, *pos,
+            )),
+            Error::InvalidChar2(expected, actual, pos) => Ok(Error::InvalidChar2(
+                *expected, *actual, *pos,
+            )),
+            Error::InvalidString(expected, pos) => Ok(Error::InvalidString(*expected, *pos)),
+            Error::InvalidExternalID(pos) => Ok(Error::InvalidExternalID(*pos)),
+            Error::EntityResolver(pos, reason) => Ok(Error::EntityResolver(*pos, reason.clone()?)),
+            Error::InvalidComment(pos) => Ok(Error::InvalidComment(*pos)),
+            Error::InvalidCharacterData(pos) => Ok(Error::InvalidCharacterData(*pos)),
+            Error::UnknownToken(pos) => Ok(Error::UnknownToken(*pos)),
+            Error::UnexpectedEndOfStream => Ok(Error::UnexpectedEndOfStream),
+            Error::OutOfMemory => Ok(Error::OutOfMemory),
+        }
+    }
+}
+
 impl Error<'_> {
     ghost use Rattle.std.specs.Prelude.{◌≡◌};
     ghost use Rattle.rox_error.specs.FaultErrors.{position_of};
@@ -128,92 +194,190 @@ impl fmt::Display for Error<'_> {
 
     fn fmt<W: fmt::Write>(&self, f: &mut fmt::Formatter<W>) -> fmt::Result {
         match self {
-            Error::InvalidXmlPrefixUri(pos) => write!(
+            Error::InvalidXmlPrefixUri(pos) => write_at(
                 f,
-                "'xml' namespace prefix mapped to wrong URI at {pos}"
+                "'xml' namespace prefix mapped to wrong URI at ",
+                pos,
             ),
-            Error::UnexpectedXmlUri(pos) => write!(
+            Error::UnexpectedXmlUri(pos) => write_at(
                 f,
-                "the 'xml' namespace URI is used for not 'xml' prefix at {pos}"
+                "the 'xml' namespace URI is used for not 'xml' prefix at ",
+                pos,
             ),
-            Error::UnexpectedXmlnsUri(pos) => write!(
+            Error::UnexpectedXmlnsUri(pos) => write_around(
                 f,
-                "the 'xmlns' URI is used at {pos}, but it must not be declared"
+                "the 'xmlns' URI is used at ",
+                pos,
+                ", but it must not be declared",
             ),
-            Error::InvalidElementNamePrefix(pos) => write!(
+            Error::InvalidElementNamePrefix(pos) => write_around(
                 f,
-                "the 'xmlns' prefix is used at {pos}, but it must not be"
+                "the 'xmlns' prefix is used at ",
+                pos,
+                ", but it must not be",
             ),
-            Error::DuplicatedNamespace(name, pos) => write!(
+            Error::DuplicatedNamespace(name, pos) => write_defined(f, "namespace '", name, pos),
+            Error::UnknownNamespace(name, pos) => write_named(
                 f,
-                "namespace '{name}' at {pos} is already defined"
+                "an unknown namespace prefix '",
+                name,
+                pos,
             ),
-            Error::UnknownNamespace(name, pos) => write!(
+            Error::UnexpectedCloseTag(expected, actual, pos) => write_names(
+                f, expected, actual, pos,
+            ),
+            Error::UnexpectedEntityCloseTag(pos) => write_at(f, "unexpected close tag at ", pos),
+            Error::UnknownEntityReference(name, pos) => write_named(
                 f,
-                "an unknown namespace prefix '{name}' at {pos}"
+                "unknown entity reference '",
+                name,
+                pos,
             ),
-            Error::UnexpectedCloseTag(expected, actual, pos) => write!(
+            Error::MalformedEntityReference(pos) => write_at(
                 f,
-                "expected '{expected}' tag, not '{actual}' at {pos}"
+                "malformed entity reference at ",
+                pos,
             ),
-            Error::UnexpectedEntityCloseTag(pos) => write!(f, "unexpected close tag at {pos}"),
-            Error::UnknownEntityReference(name, pos) => write!(
+            Error::EntityReferenceLoop(pos) => write_at(
                 f,
-                "unknown entity reference '{name}' at {pos}"
+                "a possible entity reference loop is detected at ",
+                pos,
             ),
-            Error::MalformedEntityReference(pos) => write!(
+            Error::InvalidAttributeValue(pos) => write_at(f, "unescaped '<' found at ", pos),
+            Error::DuplicatedAttribute(name, pos) => write_defined(f, "attribute '", name, pos),
+            Error::NoRootNode => f.write_str("the document does not have a root node"),
+            Error::UnclosedRootNode => f.write_str("the root node was opened but never closed"),
+            Error::UnexpectedDeclaration(pos) => write_at(f, "unexpected XML declaration at ", pos),
+            Error::DtdDetected => f.write_str("XML with DTD detected"),
+            Error::NodesLimitReached => f.write_str("nodes limit reached"),
+            Error::AttributesLimitReached => f.write_str("more than 2^32 attributes were parsed"),
+            Error::NamespacesLimitReached => f.write_str(
+                "more than 2^16 unique namespaces were parsed",
+            ),
+            Error::InvalidName(pos) => write_at(f, "invalid name token at ", pos),
+            Error::NonXmlChar(character, pos) => write_char(f, *character, pos),
+            Error::InvalidChar(expected, actual, pos) => write_bytes(f, *expected, *actual, pos),
+            Error::InvalidChar2(expected, actual, pos) => write_byte(f, expected, *actual, pos),
+            Error::InvalidString(expected, pos) => write_named(f, "expected '", expected, pos),
+            Error::InvalidExternalID(pos) => write_at(f, "invalid ExternalID at ", pos),
+            Error::EntityResolver(pos, reason) => write_reason(f, pos, reason),
+            Error::InvalidComment(pos) => write_around(f, "comment at ", pos, " contains '--'"),
+            Error::InvalidCharacterData(pos) => write_around(
                 f,
-                "malformed entity reference at {pos}"
+                "']]>' at ",
+                pos,
+                " is not allowed inside a character data",
             ),
-            Error::EntityReferenceLoop(pos) => write!(
-                f,
-                "a possible entity reference loop is detected at {pos}"
-            ),
-            Error::InvalidAttributeValue(pos) => write!(f, "unescaped '<' found at {pos}"),
-            Error::DuplicatedAttribute(name, pos) => write!(
-                f,
-                "attribute '{name}' at {pos} is already defined"
-            ),
-            Error::NoRootNode => write!(f, "the document does not have a root node"),
-            Error::UnclosedRootNode => write!(f, "the root node was opened but never closed"),
-            Error::UnexpectedDeclaration(pos) => write!(f, "unexpected XML declaration at {pos}"),
-            Error::DtdDetected => write!(f, "XML with DTD detected"),
-            Error::NodesLimitReached => write!(f, "nodes limit reached"),
-            Error::AttributesLimitReached => write!(f, "more than 2^32 attributes were parsed"),
-            Error::NamespacesLimitReached => write!(
-                f,
-                "more than 2^16 unique namespaces were parsed"
-            ),
-            Error::InvalidName(pos) => write!(f, "invalid name token at {pos}"),
-            Error::NonXmlChar(character, pos) => {
-                let quoted = Quoted(*character);
-                write!(f, "a non-XML character {quoted} found at {pos}")
-            }
-            Error::InvalidChar(expected, actual, pos) => {
-                let expected = char::from(*expected);
-                let actual = char::from(*actual);
-                write!(f, "expected '{expected}' not '{actual}' at {pos}")
-            }
-            Error::InvalidChar2(expected, actual, pos) => {
-                let actual = char::from(*actual);
-                write!(f, "expected {expected} not '{actual}' at {pos}")
-            }
-            Error::InvalidString(expected, pos) => write!(f, "expected '{expected}' at {pos}"),
-            Error::InvalidExternalID(pos) => write!(f, "invalid ExternalID at {pos}"),
-            Error::EntityResolver(pos, reason) => write!(
-                f,
-                "entity resolver failed at {pos}: {reason}"
-            ),
-            Error::InvalidComment(pos) => write!(f, "comment at {pos} contains '--'"),
-            Error::InvalidCharacterData(pos) => write!(
-                f,
-                "']]>' at {pos} is not allowed inside a character data"
-            ),
-            Error::UnknownToken(pos) => write!(f, "unknown token at {pos}"),
-            Error::UnexpectedEndOfStream => write!(f, "unexpected end of stream"),
-            Error::OutOfMemory => write!(f, "out of memory"),
+            Error::UnknownToken(pos) => write_at(f, "unknown token at ", pos),
+            Error::UnexpectedEndOfStream => f.write_str("unexpected end of stream"),
+            Error::OutOfMemory => f.write_str("out of memory"),
         }
     }
+}
+
+/// Writes a text that ends in a position.
+fn write_at<W: fmt::Write>(f: &mut fmt::Formatter<W>, front: &str, pos: &TextPos) -> fmt::Result
+    ensures { WritesOnOk W.write_str_gives f.old result (front.now ++ position_text pos.now) f.new }
+{
+    write!(f, "{front}{pos}")
+}
+
+/// Writes a text with a position in it.
+fn write_around<W: fmt::Write>(
+    f: &mut fmt::Formatter<W>,
+    front: &str,
+    pos: &TextPos,
+    end: &str,
+) -> fmt::Result
+    ensures { WritesOnOk W.write_str_gives f.old result (front.now ++ (position_text pos.now ++ end.now)) f.new }
+{
+    write!(f, "{front}{pos}{end}")
+}
+
+/// Writes what is said of a name, the quote in front of it with it, and where the name stands.
+fn write_named<W: fmt::Write>(
+    f: &mut fmt::Formatter<W>,
+    front: &str,
+    name: &str,
+    pos: &TextPos,
+) -> fmt::Result
+    ensures { WritesOnOk W.write_str_gives f.old result (front.now ++ (name.now ++ (codes "' at " ++ position_text pos.now))) f.new }
+{
+    write!(f, "{front}{name}' at {pos}")
+}
+
+/// Writes that a name is given twice.
+fn write_defined<W: fmt::Write>(
+    f: &mut fmt::Formatter<W>,
+    front: &str,
+    name: &str,
+    pos: &TextPos,
+) -> fmt::Result
+    ensures { WritesOnOk W.write_str_gives f.old result (front.now ++ (name.now ++ (codes "' at " ++ (position_text pos.now ++ codes " is already defined")))) f.new }
+{
+    write!(f, "{front}{name}' at {pos} is already defined")
+}
+
+/// Writes which name was due, and which stands there.
+fn write_names<W: fmt::Write>(
+    f: &mut fmt::Formatter<W>,
+    expected: &str,
+    actual: &str,
+    pos: &TextPos,
+) -> fmt::Result
+    ensures { WritesOnOk W.write_str_gives f.old result (codes "expected '" ++ (expected.now ++ (codes "' tag, not '" ++ (actual.now ++ (codes "' at " ++ position_text pos.now))))) f.new }
+{
+    write!(f, "expected '{expected}' tag, not '{actual}' at {pos}")
+}
+
+/// Writes which character stands there.
+fn write_char<W: fmt::Write>(
+    f: &mut fmt::Formatter<W>,
+    character: char,
+    pos: &TextPos,
+) -> fmt::Result
+    ensures { DisplaysOnOk W.write_str_gives f.old result (Some (codes "a non-XML character ") ++? quoted character ++? Some (codes " found at " ++ position_text pos.now)) f.new }
+{
+    let quoted = Quoted(character);
+    write!(f, "a non-XML character {quoted} found at {pos}")
+}
+
+/// Writes which byte was due, and which stands there.
+fn write_bytes<W: fmt::Write>(
+    f: &mut fmt::Formatter<W>,
+    expected: u8,
+    actual: u8,
+    pos: &TextPos,
+) -> fmt::Result
+    ensures { WritesOnOk W.write_str_gives f.old result (codes "expected '" ++ (encode_utf8 expected ++ (codes "' not '" ++ (encode_utf8 actual ++ (codes "' at " ++ position_text pos.now))))) f.new }
+{
+    let expected = char::from(expected);
+    let actual = char::from(actual);
+    write!(f, "expected '{expected}' not '{actual}' at {pos}")
+}
+
+/// Writes what was due, and which byte stands there.
+fn write_byte<W: fmt::Write>(
+    f: &mut fmt::Formatter<W>,
+    expected: &str,
+    actual: u8,
+    pos: &TextPos,
+) -> fmt::Result
+    ensures { WritesOnOk W.write_str_gives f.old result (codes "expected " ++ (expected.now ++ (codes " not '" ++ (encode_utf8 actual ++ (codes "' at " ++ position_text pos.now))))) f.new }
+{
+    let actual = char::from(actual);
+    write!(f, "expected {expected} not '{actual}' at {pos}")
+}
+
+/// Writes why a resolver refused.
+fn write_reason<W: fmt::Write>(
+    f: &mut fmt::Formatter<W>,
+    pos: &TextPos,
+    reason: &str,
+) -> fmt::Result
+    ensures { WritesOnOk W.write_str_gives f.old result (codes "entity resolver failed at " ++ (position_text pos.now ++ (codes ": " ++ reason.now))) f.new }
+{
+    write!(f, "entity resolver failed at {pos}: {reason}")
 }
 
 /// A character between quotes, as its debug form has it. That of the two past ASCII that no text may have is written here.

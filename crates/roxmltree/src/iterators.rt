@@ -4,6 +4,7 @@ ghost use Rattle.std.specs.Prelude.{◌≡◌, ◌∷◌, [], ◌++◌};
 
 use crate::nodes::{Node, NodeId};
 use crate::tree::Document;
+use std::alloc::AllocError;
 use std::fmt;
 use std::marker::Model;
 
@@ -18,7 +19,7 @@ pub(crate) enum Axis {
 }
 
 /// A node, and those after it along an axis.
-#[derive(Clone, Debug, Drop)]
+#[derive(Debug, Drop)]
 pub struct AxisIter<'a, 'input> {
     pub(crate) node: Option<Node<'a, 'input>>,
     pub(crate) axis: Axis,
@@ -74,6 +75,32 @@ impl<'a, 'input> AxisIter<'a, 'input> {
     }
 }
 
+impl<'a, 'input> AxisIter<'a, 'input> {
+    ghost use Rattle.std.specs.Prelude.{◌≡◌};
+
+    /// The same nodes once more.
+    fn copy(&self) -> AxisIter<'a, 'input>
+        ensures { result ≡ self.now }
+    {
+        AxisIter {
+            node: self.node,
+            axis: self.axis,
+        }
+    }
+}
+
+impl Clone for AxisIter<'_, '_> {
+    ghost use Rattle.std.specs.Prelude.{◌≡◌, ⊤};
+
+    ghost is_clone = { λ nodes copy. copy ≡ nodes };
+
+    ghost is_infallible = { λ _. ⊤ };
+
+    fn clone(&self) -> Result<Self, AllocError> {
+        Ok(self.copy())
+    }
+}
+
 impl<'a, 'input> Iterator for AxisIter<'a, 'input> {
     type Item = Node<'a, 'input>;
 
@@ -96,7 +123,7 @@ impl<'a, 'input> Iterator for AxisIter<'a, 'input> {
 }
 
 /// A node and those below it in document order, from both ends.
-#[derive(Clone, Drop)]
+#[derive(Drop)]
 pub struct Descendants<'a, 'input> {
     pub(crate) document: &'a Document<'input>,
     pub(crate) from: NodeId,
@@ -119,11 +146,38 @@ impl<'a, 'input> Model for Descendants<'a, 'input> {
     ghost invariant = { IsRange };
 }
 
+impl<'a, 'input> Descendants<'a, 'input> {
+    ghost use Rattle.std.specs.Prelude.{◌≡◌};
+
+    /// The same nodes once more.
+    fn copy(&self) -> Descendants<'a, 'input>
+        ensures { result ≡ self.now }
+    {
+        Descendants {
+            document: self.document,
+            from: self.from,
+            until: self.until,
+        }
+    }
+}
+
+impl Clone for Descendants<'_, '_> {
+    ghost use Rattle.std.specs.Prelude.{◌≡◌, ⊤};
+
+    ghost is_clone = { λ nodes copy. copy ≡ nodes };
+
+    ghost is_infallible = { λ _. ⊤ };
+
+    fn clone(&self) -> Result<Self, AllocError> {
+        Ok(self.copy())
+    }
+}
+
 /// Prints the first and the last node that are left.
 impl fmt::Debug for Descendants<'_, '_> {
     fn fmt<W: fmt::Write>(&self, f: &mut fmt::Formatter<W>) -> fmt::Result {
-        let front = self.clone()?.next();
-        let back = self.clone()?.next_back();
+        let front = self.copy().next();
+        let back = self.copy().next_back();
         f.debug_struct("Descendants")
             .field("front", &front)
             .field("back", &back)
@@ -186,7 +240,7 @@ impl<'a, 'input> DoubleEndedIterator for Descendants<'a, 'input> {
 }
 
 /// Children of one node, from both ends: those from one on that end before an id, each with this many nodes above it.
-#[derive(Clone, Drop)]
+#[derive(Drop)]
 pub struct Children<'a, 'input> {
     pub(crate) document: &'a Document<'input>,
     pub(crate) from: NodeId,
@@ -241,11 +295,39 @@ impl<'a, 'input> Children<'a, 'input> {
     }
 }
 
+impl<'a, 'input> Children<'a, 'input> {
+    ghost use Rattle.std.specs.Prelude.{◌≡◌};
+
+    /// The same nodes once more.
+    fn copy(&self) -> Children<'a, 'input>
+        ensures { result ≡ self.now }
+    {
+        Children {
+            document: self.document,
+            from: self.from,
+            until: self.until,
+            depth: self.depth,
+        }
+    }
+}
+
+impl Clone for Children<'_, '_> {
+    ghost use Rattle.std.specs.Prelude.{◌≡◌, ⊤};
+
+    ghost is_clone = { λ nodes copy. copy ≡ nodes };
+
+    ghost is_infallible = { λ _. ⊤ };
+
+    fn clone(&self) -> Result<Self, AllocError> {
+        Ok(self.copy())
+    }
+}
+
 /// Prints the first and the last node that are left.
 impl fmt::Debug for Children<'_, '_> {
     fn fmt<W: fmt::Write>(&self, f: &mut fmt::Formatter<W>) -> fmt::Result {
-        let front = self.clone()?.next();
-        let back = self.clone()?.next_back();
+        let front = self.copy().next();
+        let back = self.copy().next_back();
         f.debug_struct("Children")
             .field("front", &front)
             .field("back", &back)

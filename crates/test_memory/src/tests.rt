@@ -4,7 +4,13 @@ mod again;
 mod once;
 
 use roxmltree::{Document, Error, Node, NodeId};
+use std::fmt::Debug;
 use std::process::Abort;
+
+/// Wants a value to be this. Where it is not, what it is of is told with both.
+fn same<T: PartialEq + Debug + Drop>(rt: &impl Abort, of: &str, got: T, wanted: T) {
+    assert_eq!(rt; got, wanted, "{of}");
+}
 
 /// The document of a text that is read.
 fn document_of<'input>(rt: &(impl Abort + AllocGlobal), text: &'input str) -> Document<'input> {

@@ -3,6 +3,7 @@
 
 ghost use Rattle.std.specs.Prelude.{◌≡◌, Some};
 
+use super::same;
 use roxmltree::{
     Document, Error, ExpandedName, Node, ParsingOptions, ResolveWith, StringStorage, TextPos,
 };
@@ -50,13 +51,13 @@ fn texts(rt: HostRuntime) {
         ("<p><![CDATA[1]]><![CDATA[2]]></p>", "12"),
     ] {
         let document = read(&rt, text);
-        assert_eq!(rt; first_child(&rt, &document).text(), Some(value), "{text:?}");
+        same(&rt, text, first_child(&rt, &document).text(), Some(value));
     }
 }
 
 /// Wants an attribute to have this value.
 fn says(rt: &impl Abort, node: Node<'_, '_>, name: ExpandedName<'_, '_>, value: &str) {
-    assert_eq!(rt; node.attribute(name), Some(value), "{value:?}");
+    same(rt, value, node.attribute(name), Some(value));
 }
 
 #[test]
@@ -64,7 +65,7 @@ fn namespaces(rt: HostRuntime) {
     let text = "<a xmlns:p='1' xmlns:q='2'><b xmlns:p='3' p:x='' q:y=''/></a>";
     let document = read(&rt, text);
     let b = first_child(&rt, &document);
-    assert_eq!(rt; b.namespaces().len(), 2);
+    same(&rt, "count", b.namespaces().len(), 2);
     says(&rt, b, ("3", "x").into(), "");
     says(&rt, b, ("2", "y").into(), "");
 }
@@ -72,7 +73,7 @@ fn namespaces(rt: HostRuntime) {
 #[test]
 fn attributes(rt: HostRuntime) {
     let document = read(&rt, "<e xmlns:n='' n:a='1' a='2'/>");
-    assert_eq!(rt; document.root_element().attributes().len(), 2);
+    same(&rt, "count", document.root_element().attributes().len(), 2);
     says(&rt, document.root_element(), "a".into(), "2");
     says(&rt, document.root_element(), ("", "a").into(), "1");
 }
@@ -98,8 +99,8 @@ fn names_in_errors(rt: HostRuntime) {
         ("<a:b xmlns:a='1'></b>", "b", 18),
     ] {
         let error = refused(&rt, text);
-        assert_eq!(rt; name_in(&error), Some(name), "{text:?}");
-        assert_eq!(rt; error.pos(), TextPos::new(1, col), "{text:?}");
+        same(&rt, text, name_in(&error), Some(name));
+        same(&rt, text, error.pos(), TextPos::new(1, col));
     }
 }
 
@@ -145,7 +146,7 @@ fn entities(rt: HostRuntime) -> Result<(), Fail> {
     let text = opened(&rt, 255)?;
     let document = declared(&rt, text.as_str()).expect(&rt, "entities");
     let found = document.root_element().text().unwrap_or("");
-    assert_eq!(rt; found.len(), 255);
+    same(&rt, "count", found.len(), 255);
     assert!(rt; found.bytes().all(|byte| byte == b'x'));
     Ok(())
 }
@@ -155,7 +156,7 @@ fn entities_too_often(rt: HostRuntime) -> Result<(), Fail> {
     let text = opened(&rt, 256)?;
     let error = declared(&rt, text.as_str()).expect_err(&rt, "a loop");
     let wanted = Error::EntityReferenceLoop(TextPos::new(1, 809));
-    assert_eq!(rt; error, wanted);
+    same(&rt, "error", error, wanted);
     Ok(())
 }
 
@@ -173,14 +174,14 @@ pub(super) const ELEVEN: &str =
 #[test]
 fn entities_in_one_another(rt: HostRuntime) {
     let document = declared(&rt, TEN).expect(&rt, "entities");
-    assert_eq!(rt; document.root_element().text(), Some("x"));
+    same(&rt, "text", document.root_element().text(), Some("x"));
 }
 
 #[test]
 fn entities_in_one_another_too_deep(rt: HostRuntime) {
     let error = declared(&rt, ELEVEN).expect_err(&rt, "a loop");
     let wanted = Error::EntityReferenceLoop(TextPos::new(1, 205));
-    assert_eq!(rt; error, wanted);
+    same(&rt, "error", error, wanted);
 }
 
 /// An external entity.
@@ -214,21 +215,21 @@ fn external_entities(rt: HostRuntime) {
     let document = answered(&rt, answer).expect(&rt, "an answer");
     let foobar = first_child(&rt, &document);
     assert!(rt; foobar.has_tag_name("foobar".into()));
-    assert_eq!(rt; foobar.range(), 0..9);
+    same(&rt, "range", foobar.range(), 0..9);
 }
 
 #[test]
 fn external_entities_that_refer_to_others(rt: HostRuntime) {
     let error = answered(&rt, Some("<a>&x;</a>")).expect_err(&rt, "an answer");
-    assert_eq!(rt; name_in(&error), Some("x"));
-    assert_eq!(rt; error.pos(), TextPos::new(1, 4));
+    same(&rt, "name", name_in(&error), Some("x"));
+    same(&rt, "place", error.pos(), TextPos::new(1, 4));
 }
 
 #[test]
 fn external_entities_without_a_text(rt: HostRuntime) {
     let error = answered(&rt, None).expect_err(&rt, "no answer");
-    assert_eq!(rt; name_in(&error), Some("bar"));
-    assert_eq!(rt; error.pos(), TextPos::new(1, 54));
+    same(&rt, "name", name_in(&error), Some("bar"));
+    same(&rt, "place", error.pos(), TextPos::new(1, 54));
 }
 
 /// What a resolver's own refusal becomes.
@@ -262,8 +263,8 @@ fn refusals_of_a_resolver(rt: HostRuntime) {
     };
     match error {
         Error::EntityResolver(pos, words) => {
-            assert_eq!(rt; pos, TextPos::new(1, 45));
-            assert_eq!(rt; words.as_str(), "no");
+            same(&rt, "place", pos, TextPos::new(1, 45));
+            same(&rt, "words", words.as_str(), "no");
         }
         _ => assert!(rt; false, "another refusal"),
     }
@@ -296,10 +297,15 @@ fn slices(rt: HostRuntime) {
         .root_element()
         .last_element_child()
         .expect(&rt, "b");
-    assert_eq!(rt; exchanged(&rt, b, &other).as_str(), "<r>a<x/>c</r>");
+    same(
+        &rt,
+        "text",
+        exchanged(&rt, b, &other).as_str(),
+        "<r>a<x/>c</r>",
+    );
     let alone = reparsed(&rt, b);
     says(&rt, alone.root_element(), ("u", "a").into(), "<");
-    assert_eq!(rt; first_child(&rt, &alone).text(), Some(">"));
+    same(&rt, "text", first_child(&rt, &alone).text(), Some(">"));
 }
 
 #[test]
@@ -308,6 +314,6 @@ fn texts_of_their_own(rt: HostRuntime) -> Result<(), Fail> {
         Ok(text) => text,
         Err(_) => StringStorage::new_owned(rt.alloc(), "text")?,
     };
-    assert_eq!(rt; text.as_str(), "text");
+    same(&rt, "text", text.as_str(), "text");
     Ok(())
 }

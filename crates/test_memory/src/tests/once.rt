@@ -4,7 +4,7 @@
 //! the most. So in the runs of `tools/refuse-growths` a test fails up to that of its last growth, and passes from there on.
 
 use super::again::{ELEVEN, TEN, asked, opening, refused_by_resolver, resolved};
-use super::{document_of, node_of, number, refusal_of};
+use super::{document_of, node_of, number, refusal_of, same};
 use rox_path::{PathError, parse_path, select};
 use roxmltree::{Error, StringStorage, TextPos};
 use std::fmt;
@@ -39,14 +39,14 @@ fn ends(rt: &(impl Abort + AllocGlobal)) {
 #[test]
 fn a_reference(rt: HostRuntime) {
     let document = document_of(&rt, "<root>&apos;</root>");
-    assert_eq!(rt; document.root_element().text(), Some("'"));
+    same(&rt, "text", document.root_element().text(), Some("'"));
     ends(&rt);
 }
 
 #[test]
 fn sections(rt: HostRuntime) {
     let document = document_of(&rt, "<p><![CDATA[1]]><![CDATA[2]]></p>");
-    assert_eq!(rt; document.root_element().text(), Some("12"));
+    same(&rt, "text", document.root_element().text(), Some("12"));
     ends(&rt);
 }
 
@@ -55,7 +55,7 @@ fn entities(rt: HostRuntime) -> Result<(), Fail> {
     let text = opening(rt.alloc(), 255)?;
     let document = asked(&rt, text.as_str()).expect(&rt, "entities");
     let found = document.root_element().text().unwrap_or("");
-    assert_eq!(rt; found.len(), 255);
+    same(&rt, "count", found.len(), 255);
     assert!(rt; found.bytes().all(|byte| byte == b'x'));
     ends(&rt);
     Ok(())
@@ -66,7 +66,7 @@ fn entities_too_often(rt: HostRuntime) -> Result<(), Fail> {
     let text = opening(rt.alloc(), 256)?;
     let error = asked(&rt, text.as_str()).expect_err(&rt, "a loop");
     let wanted = Error::EntityReferenceLoop(TextPos::new(1, 809));
-    assert_eq!(rt; error, wanted);
+    same(&rt, "error", error, wanted);
     ends(&rt);
     Ok(())
 }
@@ -74,7 +74,7 @@ fn entities_too_often(rt: HostRuntime) -> Result<(), Fail> {
 #[test]
 fn entities_in_one_another(rt: HostRuntime) {
     let document = asked(&rt, TEN).expect(&rt, "entities");
-    assert_eq!(rt; document.root_element().text(), Some("x"));
+    same(&rt, "text", document.root_element().text(), Some("x"));
     ends(&rt);
 }
 
@@ -82,7 +82,7 @@ fn entities_in_one_another(rt: HostRuntime) {
 fn entities_in_one_another_too_deep(rt: HostRuntime) {
     let error = asked(&rt, ELEVEN).expect_err(&rt, "a loop");
     let wanted = Error::EntityReferenceLoop(TextPos::new(1, 205));
-    assert_eq!(rt; error, wanted);
+    same(&rt, "error", error, wanted);
     ends(&rt);
 }
 
@@ -92,7 +92,7 @@ fn an_external_entity(rt: HostRuntime) {
     let document = resolved(&rt, answer).expect(&rt, "an answer");
     let foobar = node_of(&rt, &document, 2);
     assert!(rt; foobar.has_tag_name("foobar".into()));
-    assert_eq!(rt; foobar.range(), 0..9);
+    same(&rt, "range", foobar.range(), 0..9);
     ends(&rt);
 }
 
@@ -123,9 +123,9 @@ fn namespaces(rt: HostRuntime) {
     let text = "<a xmlns:p='1' xmlns:q='2'><b xmlns:p='3' p:x='' q:y=''/></a>";
     let document = document_of(&rt, text);
     let b = node_of(&rt, &document, 2);
-    assert_eq!(rt; b.namespaces().len(), 2);
-    assert_eq!(rt; b.attribute(("3", "x").into()), Some(""));
-    assert_eq!(rt; b.attribute(("2", "y").into()), Some(""));
+    same(&rt, "count", b.namespaces().len(), 2);
+    same(&rt, "attribute", b.attribute(("3", "x").into()), Some(""));
+    same(&rt, "attribute", b.attribute(("2", "y").into()), Some(""));
     ends(&rt);
 }
 
@@ -133,9 +133,14 @@ fn namespaces(rt: HostRuntime) {
 fn attributes(rt: HostRuntime) {
     let document = document_of(&rt, "<e xmlns:n='' n:a='1' a='2'/>");
     let element = document.root_element();
-    assert_eq!(rt; element.attributes().len(), 2);
-    assert_eq!(rt; element.attribute("a".into()), Some("2"));
-    assert_eq!(rt; element.attribute(("", "a").into()), Some("1"));
+    same(&rt, "count", element.attributes().len(), 2);
+    same(&rt, "attribute", element.attribute("a".into()), Some("2"));
+    same(
+        &rt,
+        "attribute",
+        element.attribute(("", "a").into()),
+        Some("1"),
+    );
     ends(&rt);
 }
 
@@ -170,7 +175,7 @@ fn an_attribute_twice(rt: HostRuntime) {
 #[test]
 fn a_text_of_its_own(rt: HostRuntime) -> Result<(), Fail> {
     let text = StringStorage::new_owned(rt.alloc(), "text")?;
-    assert_eq!(rt; text.as_str(), "text");
+    same(&rt, "text", text.as_str(), "text");
     ends(&rt);
     Ok(())
 }
@@ -181,8 +186,8 @@ fn an_element(rt: HostRuntime) -> Result<(), Error> {
     let b = document.root_element().first_child().expect(&rt, "b");
     assert!(rt; b.is_self_contained());
     let alone = b.reparse(rt.alloc())?;
-    assert_eq!(rt; alone.input_text(), "<b>&lt;</b>");
-    assert_eq!(rt; number(alone.root_element()), 1);
+    same(&rt, "text", alone.input_text(), "<b>&lt;</b>");
+    same(&rt, "id", number(alone.root_element()), 1);
     ends(&rt);
     Ok(())
 }
@@ -193,8 +198,8 @@ fn an_element_among_texts(rt: HostRuntime) -> Result<(), Error> {
     let x = node_of(&rt, &document, 3);
     assert!(rt; x.is_self_contained());
     let alone = x.reparse(rt.alloc())?;
-    assert_eq!(rt; alone.root_element().range(), 0..17);
-    assert_eq!(rt; node_of(&rt, &alone, 2).range(), 9..13);
+    same(&rt, "range", alone.root_element().range(), 0..17);
+    same(&rt, "range", node_of(&rt, &alone, 2).range(), 9..13);
     Ok(())
 }
 
@@ -205,7 +210,7 @@ fn an_exchange(rt: HostRuntime) -> Result<(), Fail> {
     assert!(rt; b.is_self_contained());
     assert!(rt; document.root_element().is_self_contained());
     let text = b.exchange(rt.alloc(), &document)?;
-    assert_eq!(rt; text.as_str(), "<r><r><b/></r></r>");
+    same(&rt, "text", text.as_str(), "<r><r><b/></r></r>");
     ends(&rt);
     Ok(())
 }
@@ -219,7 +224,7 @@ fn an_exchange_with_another_document(rt: HostRuntime) -> Result<(), Fail> {
     assert!(rt; other.root_element().is_self_contained());
     let text = b.exchange(rt.alloc(), &other)?;
     let wanted = "<?xml version='1.0'?><r>a<x y='1'>&lt;</x>c</r>";
-    assert_eq!(rt; text.as_str(), wanted);
+    same(&rt, "text", text.as_str(), wanted);
     ends(&rt);
     Ok(())
 }
@@ -229,8 +234,13 @@ fn a_path(rt: HostRuntime) -> Result<(), PathError> {
     let document = document_of(&rt, "<r/>");
     let steps = parse_path(rt.alloc(), "//r")?;
     let nodes = select(rt.alloc(), document.root(), &steps)?;
-    assert_eq!(rt; nodes.iter().map(|node| number(*node)).last(), Some(1));
-    assert_eq!(rt; nodes.len(), 1);
+    same(
+        &rt,
+        "last",
+        nodes.iter().map(|node| number(*node)).last(),
+        Some(1),
+    );
+    same(&rt, "count", nodes.len(), 1);
     ends(&rt);
     Ok(())
 }
