@@ -11,10 +11,16 @@ use Rattle.rox_grammar.specs.Tree.{Node, Attribute, same_prefix}
 use Rattle.roxmltree.specs.NodeParts.{node_at, listed_of, attributes_of}
 use Rattle.roxmltree.specs.ExpandedNames.{same_expanded_name, named, IsNamedAt}
 use Rattle.rox_laws.specs.TreeLaws.{PrefixesOnce, same_attribute_name, NamesOnce, NamesDistinct}
-use Rattle.roxmltree.proofs.Prefixes.{option_eq_same}
 use Rattle.rox_tables.proofs.Pairs.{same_prefix-true, same_prefix-refl}
 use Rattle.roxmltree.specs.EachNode.{EachNode}
 use Rattle.roxmltree.proofs.Everywhere.{at_each}
+
+-- two namespaces are the same where they are equal as options
+option_eq_same : (p q : Option (List ℕ)) → option_eq bytes_eq p q ≡ same_prefix p q
+option_eq_same None None = refl
+option_eq_same None (Some q) = refl
+option_eq_same (Some p) None = refl
+option_eq_same (Some p) (Some q) = refl
 
 -- two attributes of one name have one expanded name
 both_named : (name : Option (List ℕ) × List ℕ) (a b : Attribute) → same_expanded_name (a.namespace, a.local) name ≡ true → same_expanded_name (b.namespace, b.local) name ≡ true → same_attribute_name a b ≡ true
