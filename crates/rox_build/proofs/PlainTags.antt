@@ -1,5 +1,5 @@
 -- Start tags that are read at one look.
-use Rattle.std.proofs.Common.{◌≡◌, ℕ, zero, suc, ◌+◌, ◌-◌, ◌<◌, ◌≤◌, ◌||◌, ◌==◌, Bool, true, false, List, [], ◌∷◌, ◌++◌, Option, length, map, drop, slice_index, slice_range, refl, sym, ap, subst, ◌∙◌, arith, Ok, append_assoc}
+use Rattle.std.proofs.Common.{◌≡◌, ℕ, suc, ◌+◌, ◌-◌, ◌<◌, ◌≤◌, ◌||◌, ◌==◌, Bool, true, false, List, [], ◌∷◌, ◌++◌, Option, length, map, drop, slice_index, slice_range, refl, sym, ap, subst, ◌∙◌, arith, Ok, append_assoc}
 use Rattle.std.specs.List.{AllByRecursion}
 use Rattle.std.proofs.lemmas.Bool.{lt-leb, eq-eqb, ne_eqb}
 use Rattle.std.proofs.lemmas.List.{append-nil, map-append, length-map}
@@ -33,9 +33,8 @@ use Rattle.rox_grammar.specs.Names.{spaces_end}
 use Rattle.rox_grammar.specs.Written.{Name, Attribute, NamespaceDecl, is_namespace_decl}
 use Rattle.rox_reading.specs.Lexical.{qname_at, byte_at, quote_at}
 use Rattle.rox_reading.specs.Markup.{RawAttribute, TagItem, more, opened, closed, attribute_at, raw_value_at, tag_item_at, end_tag_at}
-use Rattle.rox_reading.specs.Refusals.{lifted}
-use Rattle.rox_reading.specs.Values.{ReadText, ValueInclusion, value_at}
-use Rattle.rox_reading.specs.Tags.{TagSoFar, Values, attributes_at, names_tested, taken, attribute_with}
+use Rattle.rox_reading.specs.Values.{ValueInclusion, value_at}
+use Rattle.rox_reading.specs.Tags.{Values, attributes_at, names_tested, attribute_with}
 use Rattle.rox_tables.specs.Bindings.{FindsBinding}
 use Rattle.rox_tables.specs.Rows.{AttributeRow, NamespaceWithin, namespace_view, attribute, attribute_uri}
 use Rattle.rox_tables.specs.Storage.{storage_bytes, is_borrowed}

@@ -1,12 +1,10 @@
-use Rattle.std.specs.Prelude.{OnOk}
-use Rattle.std.proofs.Common.{◌≡◌, ℕ, true, false, Bool, Ok, refl, sym, ap, subst, ◌∙◌, List}
+use Rattle.std.proofs.Common.{◌≡◌, ℕ, Bool, Ok, refl, sym, ap, subst, ◌∙◌, List}
 use Rattle.rox_grammar.specs.Written.{Element, NamespaceDecl}
 use Rattle.rox_grammar.specs.State.{scope_of}
-use Rattle.rox_reading.specs.State.{State}
 use Rattle.rox_reading.specs.Machine.{opened_by, cut_off_fault}
 use Rattle.rox_reading.specs.Refusals.{lifted}
 use Rattle.rox_build.specs.ElementRow.{Tagged}
-use Rattle.rox_build.specs.BuilderState.{IsNode, IsConsistent}
+use Rattle.rox_build.specs.BuilderState.{IsNode}
 use Rattle.rox_tables.specs.declared.rows.tables.NodeKind.TheVariants as kind
 use Rattle.rox_build.proofs.Growing.{grown_shows}
 use Rattle.rox_build.proofs.Opening.{grown_by, is_node, is_opening, fine_by, fine_kept, fine_more, tag_is, empty_stepped, open_stepped}

@@ -1,10 +1,9 @@
-use Rattle.std.proofs.Common.{◌≡◌, ◌++◌, ◌∷◌, [], ◌-◌, ◌+◌, false, sym, ap, subst, ◌∙◌, arith, length, take, slice_index, Ok, ℕ, leb}
+use Rattle.std.proofs.Common.{◌≡◌, ◌++◌, ◌∷◌, [], ◌-◌, ◌+◌, false, sym, ◌∙◌, arith, length, take, slice_index, Ok, leb}
 use Rattle.std.proofs.lemmas.Bool.{lt-leb, eqb-true}
 use Rattle.rox_reading.specs.Lexical.{qname_at}
 use Rattle.rox_reading.specs.Markup.{end_tag_at}
 use Rattle.rox_reading.specs.State.{depth_of}
 use Rattle.rox_grammar.specs.Failures.{name_view}
-use Rattle.rox_grammar.specs.Names.{spaces_end}
 use Rattle.rox_build.proofs.Showing.{last_split}
 use Rattle.rox_build.proofs.Stepping.{end_is, opened_deep, closed_stepped}
 use Rattle.rox_build.proofs.PlainTags.{end_tag_is}

@@ -1,4 +1,4 @@
-use Rattle.std.proofs.Common.{◌≡◌, ◌+◌, List, ℕ, slice_index, ne_eqb, refl, sym, ap, ◌∙◌}
+use Rattle.std.proofs.Common.{◌+◌, slice_index, ne_eqb, refl}
 use Rattle.rox_build.proofs.Stepping.{step_is_run, step_is_markup, state_kept}
 use Rattle.rox_build.proofs.plain_constructs.plain_step.Goals as goal
 

@@ -1,7 +1,7 @@
-use Rattle.std.proofs.Common.{◌≡◌, ◌==◌, false, List, length, map, slice_index, refl, sym, ap, subst, ◌∙◌, arith}
+use Rattle.std.proofs.Common.{◌≡◌, ◌==◌, false, length, map, slice_index, sym, ◌∙◌}
 use Rattle.std.proofs.lemmas.Bool.{eqb-true}
 use Rattle.rox_tables.specs.Bindings.{places_view}
-use Rattle.rox_tables.specs.Rows.{namespace_view, attribute_rows, AttributeRow}
+use Rattle.rox_tables.specs.Rows.{namespace_view, attribute_rows}
 use Rattle.rox_tables.specs.ResolvedNames.{AddsResolved}
 use Rattle.rox_build.proofs.PlainTags.{plain_starts, plain_more, opens_there, closes_or_not, done_within}
 use Rattle.rox_build.proofs.plain_tag.plain_attributes.Goals as goal

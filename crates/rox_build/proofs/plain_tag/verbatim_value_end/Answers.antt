@@ -1,4 +1,4 @@
-use Rattle.std.proofs.Common.{◌≡◌, ◌==◌, true, sym, ap, ◌∙◌, get_or}
+use Rattle.std.proofs.Common.{sym, ◌∙◌}
 use Rattle.rox_scan.proofs.LongerLemmas.{looked_value}
 use Rattle.rox_build.proofs.plain_tag.verbatim_value_end.Goals as goal
 

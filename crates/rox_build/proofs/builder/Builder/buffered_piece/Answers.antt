@@ -1,4 +1,4 @@
-use Rattle.std.proofs.Common.{◌≡◌, ◌++◌, false, refl, ap, ◌∙◌, List, ℕ, arith}
+use Rattle.std.proofs.Common.{◌++◌, false, refl, ap, ◌∙◌, List, ℕ, arith}
 use Rattle.std.proofs.lemmas.Result.{err_from_is_err_and}
 use Rattle.std.specs.String.{string_bytes}
 use Rattle.std.proofs.Common.{String, Global}
