@@ -320,7 +320,8 @@ fn step<'input>(
     if plain_step(cursor, builder, context.open_around) {
         return Ok(());
     }
-    general_step(alloc, cursor, builder, context)
+    general_step(alloc, cursor, builder, context)?;
+    Ok(())
 }
 
 /// Content up to the end tag of the root element.

@@ -79,7 +79,7 @@ fn plain_end_tag(cursor: &mut Cursor<'_>, builder: &mut Builder<'_>, open_around
 }
 
 /// A start tag, from its `<`, if it is plain.
-#[inline(always)]
+#[inline(never)]
 fn plain_element<'input>(cursor: &mut Cursor<'input>, builder: &mut Builder<'input>) -> bool
     requires here { slice_index cursor.old.text.now cursor.old.pos ≡ 60 }
     requires ready { IsReady builder.old }

@@ -263,7 +263,7 @@ pub struct PlainTag<'input> {
 /// A start tag behind its `<` at `start`, if it is plain and finds room, of an element whose parent has the scope `above`, one that
 /// lists few: its attributes are in the table then. Else some may stand there too. So many replacement texts may be opened behind
 /// it.
-#[inline(always)]
+#[inline]
 fn read_tag<'input>(
     text: &'input str,
     start: usize,
@@ -327,7 +327,7 @@ fn read_tag<'input>(
 }
 
 /// The same; where it answers nothing, the tables hold what they held.
-#[inline(always)]
+#[inline]
 pub fn plain_start_tag<'input>(
     text: &'input str,
     start: usize,

@@ -285,7 +285,14 @@ pub step-returns-clause-value : goal.step-returns-clause-value
 step-returns-clause-value t c = λ limit end es s declared h.
     let no = c.if-plain_step.false in
     let same = ap (λ t. t.text.now) (c.plain_step.ensures.place no) in
-    rw same at (c.general_step.ensures.value limit end es s declared (c.plain_step.ensures.other no (context_of limit es c.args.context) end s h))
+    rw same at (c.in_ok-general_step.ensures.value limit end es s declared (c.plain_step.ensures.other no (context_of limit es c.args.context) end s h))
+
+pub step-returns-in_err-general_step-clause-value : goal.step-returns-in_err-general_step-clause-value
+step-returns-in_err-general_step-clause-value t c = λ limit end es s declared h.
+    let no = c.if-plain_step.false in
+    let same = ap (λ t. t.text.now) (c.plain_step.ensures.place no) in
+    let p = err_from_is_err_and c.from_residual.result c.from_residual.ensures.1 in
+    rw (p.1, p.2) (rw same at (c.in_err-general_step.ensures.value limit end es s declared (c.plain_step.ensures.other no (context_of limit es c.args.context) end s h)))
 
 pub general_step-end_tag-requires-clause-here : goal.general_step-end_tag-requires-clause-here
 general_step-end_tag-requires-clause-here t c =
