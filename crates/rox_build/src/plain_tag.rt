@@ -1,6 +1,6 @@
-//! Start tags that are plain, read at one look: without declarations, references and white space round their equals signs (XML
-//! 1.0 section 3.1). Nothing fails here: a tag that is not plain, or finds no room, is left to the general step, which reads it
-//! from its `<`.
+//! Start tags that are plain, read at one look: without declarations, and with few attributes, whose values stand for themselves
+//! (XML 1.0 section 3.1). Nothing fails here: a tag that is not plain, or finds no room, is left to the general step, which reads
+//! it from its `<`.
 
 ghost use Rattle.std.specs.Prelude.{◌≡◌, ◌<◌, ◌≤◌, ◌+◌, ◌++◌, ◌==◌, ◌||◌, List, Ok, IfSome, IfNone, length, map, slice_index, slice_range, true};
 ghost use Rattle.std.specs.Str.{IsCharBoundary};
@@ -205,7 +205,7 @@ fn empty_end(text: &str, at: usize) -> Option<TagEnd>
     })
 }
 
-/// A plain tag has less than so many attributes, which are compared one with another.
+/// A plain tag has less than so many attributes: they are compared one with another.
 const FEW: usize = 17;
 
 /// The attributes of a tag, up to its end, if they are plain and find room: each goes into the table, with its namespace in this
