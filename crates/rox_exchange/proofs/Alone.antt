@@ -6,13 +6,12 @@ use Rattle.std.proofs.lemmas.Bool.{cases_Bool}
 use Rattle.std.proofs.lemmas.List.{drop-take, take-take, get_or-take}
 use Rattle.std.proofs.lemmas.Str.{IsUtf8-take, IsUtf8-drop, IsCharBoundary-before_ascii}
 use Rattle.rox_grammar.specs.declared.fault.Word.TheVariants as word
-use Rattle.rox_grammar.specs.FixedTexts.{word_text}
+use Rattle.rox_grammar.specs.FixedTexts.{word_text, at}
 use Rattle.rox_grammar.specs.Search.{stands}
 use Rattle.rox_grammar.specs.Forest.{Forest, Nil, Cons}
 use Rattle.rox_grammar.specs.Written.{Item}
 use Rattle.rox_grammar.specs.Tree.{Node, Root, resolved, document_tree}
 use Rattle.rox_grammar.specs.Names.{byte, slice}
-use Rattle.rox_grammar.specs.Constructs.{at}
 use Rattle.rox_grammar.specs.Content.{IsElement, empty, nest}
 use Rattle.rox_grammar.specs.WellNamed.{AreWellNamed}
 use Rattle.rox_grammar.specs.TextStart.{bom, after_bom, MayHaveXmlDecl, not_declared}
@@ -108,11 +107,9 @@ parse_alone src s e openings_left one utf8 is named =
     let own = element_alone src s e openings_left one utf8 is in
     let first = element_begins text 0 (e - s) 255 openings_left (moved_items mv one) own in
     record {
-      declared_to = 0;
-      declaration = subst (λ (k : ℕ). MayHaveXmlDecl text k 0) (sym (unmarked text first.0)) (not_declared 0 (undeclared text 0 (e - s) 255 openings_left (moved_items mv one) own));
       start = 0;
       before = Nil;
-      misc_before = no_misc 0;
+      prolog = record { declared_to = 0; declaration = subst (λ (k : ℕ). MayHaveXmlDecl text k 0) (sym (unmarked text first.0)) (not_declared 0 (undeclared text 0 (e - s) 255 openings_left (moved_items mv one) own)); misc = no_misc 0 };
       end = e - s;
       openings_left = openings_left;
       one = moved_items mv one;

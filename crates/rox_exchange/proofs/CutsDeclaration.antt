@@ -5,11 +5,11 @@ use Rattle.std.specs.List.{starts_with}
 use Rattle.std.specs.Str.{IsCharBoundary}
 use Rattle.rox_grammar.specs.declared.fault.Word.{Word}
 use Rattle.rox_grammar.specs.declared.fault.Word.TheVariants as word
-use Rattle.rox_grammar.specs.FixedTexts.{word_text}
+use Rattle.rox_grammar.specs.FixedTexts.{word_text, at}
 use Rattle.rox_grammar.specs.Search.{stands}
 use Rattle.rox_grammar.specs.Chars.{is_space}
 use Rattle.rox_grammar.specs.Names.{byte, spaces_end}
-use Rattle.rox_grammar.specs.Constructs.{at, IsPair, IsGap, some_space, no_space, MayBePair, is_pair, no_pair, MayEndPair, is_last, no_last, IsXmlDecl}
+use Rattle.rox_grammar.specs.Constructs.{IsPair, IsGap, some_space, no_space, MayBePair, is_pair, no_pair, MayEndPair, is_last, no_last, IsXmlDecl}
 use Rattle.rox_theory.proofs.Basics.{within as byte_within}
 use Rattle.rox_exchange.specs.Local.{Fronts}
 use Rattle.rox_exchange.proofs.Cuts.{heads, fronts, stands_cut, literal_cut}
@@ -70,11 +70,11 @@ module _ (src to : List ℕ) (m : ℕ) (f : Fronts src to m) where
       let next = is.literal.next in
       omega (arith, qname_le src i is.name is.n is.is_name, eq_lt src is.n is.v is.eq, literal_lt src is.v is.e j is.literal)
 
-  may_le : (w : Word) (i j : ℕ) → MayBePair w src i j → i ≤ j
+  may_le : (w : Word) (i j : ℕ) → MayBePair (word_text w) src i j → i ≤ j
   may_le w i j (is_pair _ k _ here is gap) = omega (arith, pair_lt i k is, gap_le k j gap)
   may_le w i j (no_pair _ none) = omega arith
 
-  last_le : (w : Word) (i j : ℕ) → MayEndPair w src i j → i ≤ j
+  last_le : (w : Word) (i j : ℕ) → MayEndPair (word_text w) src i j → i ≤ j
   last_le w i j (is_last _ _ here is) = omega (arith, pair_lt i j is)
   last_le w i j (no_last _ none) = omega arith
 
@@ -99,7 +99,7 @@ module _ (src to : List ℕ) (m : ℕ) (f : Fronts src to m) where
     gap_cut i j cut le (no_space _ (inl out)) = absurd (omega arith)
     gap_cut i j cut le (no_space _ (inr close)) = (no_space i (inr (sym (stands_cut src to m f.same (word_text word.PIEnd) i (omega arith)) ∙ close)), cut)
 
-    may_cut : (w : Word) (i j : ℕ) → IsMissing 62 (word_text w) → IsCharBoundary (take m src) i → j + 1 ≤ q → MayBePair w src i j → MayBePair w to i j × IsCharBoundary (take m src) j
+    may_cut : (w : Word) (i j : ℕ) → IsMissing 62 (word_text w) → IsCharBoundary (take m src) i → j + 1 ≤ q → MayBePair (word_text w) src i j → MayBePair (word_text w) to i j × IsCharBoundary (take m src) j
     may_cut w i j lacks cut le (is_pair _ k _ here is gap) =
         let lt = pair_lt i k is in
         let gl = gap_le k j gap in
@@ -109,7 +109,7 @@ module _ (src to : List ℕ) (m : ℕ) (f : Fronts src to m) where
     may_cut w i j lacks cut le (no_pair _ none) =
         (no_pair i (sym (word_cut 62 (word_text w) i q (omega arith) lacks (omega arith) below is_end) ∙ none), cut)
 
-    last_cut : (w : Word) (i j : ℕ) → IsMissing 62 (word_text w) → IsCharBoundary (take m src) i → j + 1 ≤ q → MayEndPair w src i j → MayEndPair w to i j × IsCharBoundary (take m src) j
+    last_cut : (w : Word) (i j : ℕ) → IsMissing 62 (word_text w) → IsCharBoundary (take m src) i → j + 1 ≤ q → MayEndPair (word_text w) src i j → MayEndPair (word_text w) to i j × IsCharBoundary (take m src) j
     last_cut w i j lacks cut le (is_last _ _ here is) =
         let lt = pair_lt i j is in
         let p = pair_cut i j cut (omega arith) is in
@@ -142,7 +142,7 @@ module _ (src to : List ℕ) (m : ℕ) (f : Fronts src to m) where
         opens = sym (stands_cut src to m f.same (word_text word.XmlDeclStart) i (omega arith)) ∙ is.opens;
         version = subst (λ (k : ℕ). at word.Version to k ≡ true) white.0 version;
         v = is.v;
-        first_pair = subst (λ (k : ℕ). MayBePair word.Version to k is.v) white.0 one.0;
+        first_pair = subst (λ (k : ℕ). MayBePair (word_text word.Version) to k is.v) white.0 one.0;
         e = is.e;
         encoding = two.0;
         s = is.s;

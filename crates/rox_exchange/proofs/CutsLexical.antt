@@ -3,13 +3,13 @@ use Rattle.std.proofs.Common.{◌≡◌, ◌≢◌, ℕ, ◌+◌, ◌^◌, ◌<�
 use Rattle.std.specs.Str.{IsCharBoundary}
 use Rattle.std.proofs.lemmas.Bool.{cases_Bool, cases_lt}
 use Rattle.rox_grammar.specs.declared.fault.Word.TheVariants as word
-use Rattle.rox_grammar.specs.FixedTexts.{word_text}
+use Rattle.rox_grammar.specs.FixedTexts.{word_text, at}
 use Rattle.rox_grammar.specs.Chars.{is_space, is_name_start, is_name_char, is_part_char}
 use Rattle.rox_grammar.specs.Search.{mark_from}
 use Rattle.rox_grammar.specs.Written.{Name}
 use Rattle.rox_grammar.specs.Names.{byte, slice, spaces_end, IsName, IsNCName, IsQName, unprefixed, prefixed, colon_first}
 use Rattle.rox_grammar.specs.References.{is_digit, is_hex_digit, number, character, predefined, IsNumber, IsReference, IsCharacter, decimal, hexadecimal, named}
-use Rattle.rox_grammar.specs.Constructs.{at, AreChars, IsPI, IsCData, IsEq, IsEnd}
+use Rattle.rox_grammar.specs.Constructs.{AreChars, IsPI, IsCData, IsEq, IsEnd}
 use Rattle.rox_exchange.specs.Local.{Fronts}
 use Rattle.rox_exchange.proofs.Cuts.{byte_cut, stands_cut, mark_from_cut, chars_cut, slice_cut}
 use Rattle.rox_exchange.proofs.Fronts.{stands_reads, behind, run_cuts, begins_cut, bytes_end_cut}

@@ -7,9 +7,9 @@ use Rattle.std.proofs.Math.Seq.{drop-append_seam}
 use Rattle.rox_grammar.specs.Forest.{Forest, Nil, Cons, size}
 use Rattle.rox_grammar.specs.Written.{NamespaceDecl, Item, Element, Text, Comment, PI}
 use Rattle.rox_grammar.specs.Tree as tree
-use Rattle.rox_grammar.specs.Tree.{Node, listed, resolved, document_tree}
+use Rattle.rox_grammar.specs.Tree.{Node, listed, resolved, document_tree, is_element_node, start_of, end_of}
 use Rattle.rox_grammar.specs.Names.{slice}
-use Rattle.rox_grammar.specs.Exchange.{Move, moved, moved_node, shifted, subtree, exchanged, is_an_element, lists_none, none_of, self_contained, first_byte, past_byte, row_start, row_end, start_at, end_at, replaced, HasTree, change, with_other, text_with, AreSeparate, id_after, StaysContained, GoesBack, Commutes}
+use Rattle.rox_grammar.specs.Exchange.{Move, moved, moved_node, shifted, subtree, exchanged, lists_none, none_of, self_contained, row_start, row_end, start_at, end_at, replaced, HasTree, change, with_other, text_with, AreSeparate, id_after, StaysContained, GoesBack, Commutes}
 use Rattle.std.proofs.lemmas.Bool.{and_parts}
 use Rattle.rox_theory.proofs.Without.{parse_without}
 use Rattle.rox_exchange.proofs.Named.{none_listed}
@@ -21,11 +21,11 @@ use Rattle.rox_exchange.proofs.Exchanging.{shifted_size, moved_element, containe
 use Rattle.rox_exchange.proofs.Wholes.{Whole, whole, same_tree, exchange_whole, utf8_exchanged, cut_is}
 
 -- a self-contained node is one element
-pub single : (f : Forest Node) (k : ℕ) → self_contained f k ≡ true → (node : Node) × (children : Forest Node) × (subtree f k ≡ Cons node children Nil) × (is_an_element node ≡ true)
+pub single : (f : Forest Node) (k : ℕ) → self_contained f k ≡ true → (node : Node) × (children : Forest Node) × (subtree f k ≡ Cons node children Nil) × (is_element_node node ≡ true)
 single Nil k is = cc is
 single (Cons node children rest) zero is = (node, children, refl, is)
 single (Cons node children rest) (suc k) is =
-    elim (cases_lt k (size children)) as (λ q. (one : Node) × (below : Forest Node) × (subtree (Cons node children rest) (suc k) ≡ Cons one below Nil) × (is_an_element one ≡ true)) [
+    elim (cases_lt k (size children)) as (λ q. (one : Node) × (below : Forest Node) × (subtree (Cons node children rest) (suc k) ≡ Cons one below Nil) × (is_element_node one ≡ true)) [
       | inl under ↦ (
           let inside = lt-ltb k (size children) under in
           let both : (lists_none node && self_contained children k) ≡ true = rw inside at is in
@@ -38,14 +38,14 @@ single (Cons node children rest) (suc k) is =
           (s.0, s.1, rw out s.2, s.3))
     ]
 
-moved_start : (m : Move) (node : Node) → is_an_element node ≡ true → first_byte (moved_node m node) ≡ moved m (first_byte node)
+moved_start : (m : Move) (node : Node) → is_element_node node ≡ true → start_of (moved_node m node) ≡ moved m (start_of node)
 moved_start m (tree.Root end) is = cc is
 moved_start m (tree.Element start end namespace local listed attributes) is = refl
 moved_start m (tree.Text start end value borrowed) is = cc is
 moved_start m (tree.Comment start end text) is = cc is
 moved_start m (tree.PI start end target value) is = cc is
 
-moved_end : (m : Move) (node : Node) → is_an_element node ≡ true → past_byte (moved_node m node) ≡ moved m (past_byte node)
+moved_end : (m : Move) (node : Node) → is_element_node node ≡ true → end_of (moved_node m node) ≡ moved m (end_of node)
 moved_end m (tree.Root end) is = cc is
 moved_end m (tree.Element start end namespace local listed attributes) is = refl
 moved_end m (tree.Text start end value borrowed) is = cc is
@@ -68,7 +68,7 @@ module _ (f : Forest Node) (id : ℕ) (other : Forest Node) (at : ℕ) (is : sel
   goes = record { add = start_at f id; sub = start_at other at }
 
   -- by what is put in
-  by_new : (P : Forest Node → Type 0) → ((node : Node) (children : Forest Node) → is_an_element node ≡ true → P (Cons node children Nil)) → P (subtree other at)
+  by_new : (P : Forest Node → Type 0) → ((node : Node) (children : Forest Node) → is_element_node node ≡ true → P (Cons node children Nil)) → P (subtree other at)
   by_new P all = let s = single other at is' in subst P (sym s.2) (all s.0 s.1 s.3)
 
   itself : self_contained (with_other f id other at) id ≡ true

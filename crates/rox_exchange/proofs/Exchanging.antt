@@ -2,8 +2,8 @@
 use Rattle.std.proofs.Common.{◌≡◌, ℕ, zero, suc, ◌+◌, ◌-◌, ◌<◌, ◌≤◌, ◌&&◌, Bool, true, lt-ltb, le-ltb, refl, ap, ◌∙◌, arith, inl, inr}
 use Rattle.std.proofs.lemmas.Bool.{cases_lt, and_parts}
 use Rattle.rox_grammar.specs.Forest.{Forest, Nil, Cons, size}
-use Rattle.rox_grammar.specs.Tree.{Node, Root, Element, Text, Comment, PI}
-use Rattle.rox_grammar.specs.Exchange.{Move, moved_node, shifted, stretched, subtree, exchanged, is_an_element, lists_none, self_contained}
+use Rattle.rox_grammar.specs.Tree.{Node, Root, Element, Text, Comment, PI, is_element_node}
+use Rattle.rox_grammar.specs.Exchange.{Move, moved_node, shifted, stretched, subtree, exchanged, lists_none, self_contained}
 
 pub shifted_size : (m : Move) (f : Forest Node) → size (shifted m f) ≡ size f
 shifted_size m Nil = refl
@@ -16,7 +16,7 @@ moved_lists m (Text start end value borrowed) = refl
 moved_lists m (Comment start end text) = refl
 moved_lists m (PI start end target value) = refl
 
-pub moved_element : (m : Move) (node : Node) → is_an_element (moved_node m node) ≡ is_an_element node
+pub moved_element : (m : Move) (node : Node) → is_element_node (moved_node m node) ≡ is_element_node node
 moved_element m (Root end) = refl
 moved_element m (Element start end namespace local listed attributes) = refl
 moved_element m (Text start end value borrowed) = refl
@@ -30,7 +30,7 @@ stretched_lists m (Text start end value borrowed) = refl
 stretched_lists m (Comment start end text) = refl
 stretched_lists m (PI start end target value) = refl
 
-stretched_element : (m : Move) (node : Node) → is_an_element (stretched m node) ≡ is_an_element node
+stretched_element : (m : Move) (node : Node) → is_element_node (stretched m node) ≡ is_element_node node
 stretched_element m (Root end) = refl
 stretched_element m (Element start end namespace local listed attributes) = refl
 stretched_element m (Text start end value borrowed) = refl
@@ -116,11 +116,11 @@ module _ (m : Move) (new : Node) (below : Forest Node) where
       omega arith
 
   -- what was put in
-  pub itself_contained : (f : Forest Node) (id : ℕ) → self_contained f id ≡ true → self_contained (exchanged m one f id) id ≡ is_an_element new
+  pub itself_contained : (f : Forest Node) (id : ℕ) → self_contained f id ≡ true → self_contained (exchanged m one f id) id ≡ is_element_node new
   itself_contained Nil id is = cc is
   itself_contained (Cons node children rest) zero is = refl
   itself_contained (Cons node children rest) (suc id) is =
-      elim (cases_lt id (size children)) as (λ q. self_contained (exchanged m one (Cons node children rest) (suc id)) (suc id) ≡ is_an_element new) [
+      elim (cases_lt id (size children)) as (λ q. self_contained (exchanged m one (Cons node children rest) (suc id)) (suc id) ≡ is_element_node new) [
         | inl under ↦ (
             let in' = lt-ltb id (size children) under in
             let both : (lists_none node && self_contained children id) ≡ true = rw in' at is in
@@ -150,7 +150,7 @@ module _ (m : Move) (new : Node) (below : Forest Node) where
   before_contained Nil id k lt before = absurd (omega arith)
   before_contained (Cons node children rest) zero k lt before = absurd (omega arith)
   before_contained (Cons node children rest) (suc id) zero lt before =
-      elim (cases_lt id (size children)) as (λ q. self_contained (exchanged m one (Cons node children rest) (suc id)) 0 ≡ is_an_element node) [
+      elim (cases_lt id (size children)) as (λ q. self_contained (exchanged m one (Cons node children rest) (suc id)) 0 ≡ is_element_node node) [
         | inl under ↦ (let in' = lt-ltb id (size children) under in rw in' (stretched_element m node))
         | inr past ↦ (let out = le-ltb id (size children) past in rw out refl)
       ]

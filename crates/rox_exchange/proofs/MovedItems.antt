@@ -5,7 +5,8 @@ use Rattle.rox_grammar.specs.Forest.{Forest, Nil, Cons, join, size}
 use Rattle.rox_grammar.specs.Written.{Attribute, NamespaceDecl, Item, Element, Text, Comment, PI, glue, merge}
 use Rattle.rox_grammar.specs.Tree as tree
 use Rattle.rox_grammar.specs.Tree.{Node, attribute_in, scope_in, node_in, resolved}
-use Rattle.rox_grammar.specs.WellNamed.{same_expanded, AreDistinct, ItemWellNamed, AreWellNamed}
+use Rattle.rox_grammar.specs.WellNamed.{same_expanded, ItemWellNamed, AreWellNamed}
+use Rattle.rox_grammar.proofs.NamesApart.{DistinctBehind, distinct_behind, are_distinct}
 use Rattle.rox_grammar.specs.Document.{own_pairs, pairs, own_attributes, attribute_count}
 use Rattle.rox_grammar.specs.Exchange.{Move, moved, moved_attribute, moved_node, shifted}
 use Rattle.rox_exchange.specs.Local.{moved_written, moved_tag, moved_item, moved_items}
@@ -73,16 +74,16 @@ module _ (m : Move) where
   snoc_map [] a = refl
   snoc_map (b ∷ before) a = ap (λ (bs : List Attribute). moved_written m b ∷ bs) (snoc_map before a)
 
-  distinct_moves : (scope : List NamespaceDecl) (before as' : List Attribute) → AreDistinct scope before as' → AreDistinct scope (map (moved_written m) before) (map (moved_written m) as')
+  distinct_moves : (scope : List NamespaceDecl) (before as' : List Attribute) → DistinctBehind scope before as' → DistinctBehind scope (map (moved_written m) before) (map (moved_written m) as')
   distinct_moves scope before [] is = is
   distinct_moves scope before (a ∷ as') (known, new, more) =
-      (known, same_any scope a before ∙ new, subst (λ (bs : List Attribute). AreDistinct scope bs (map (moved_written m) as')) (snoc_map before a) (distinct_moves scope (before ++ a ∷ []) as' more))
+      (known, same_any scope a before ∙ new, subst (λ (bs : List Attribute). DistinctBehind scope bs (map (moved_written m) as')) (snoc_map before a) (distinct_moves scope (before ++ a ∷ []) as' more))
 
   item_named : (scope : List NamespaceDecl) (item : Item) → ItemWellNamed scope item → ItemWellNamed scope (moved_item m item)
   item_named scope (Element a e t) is = record {
     no_xmlns = is.no_xmlns;
     declarations = is.declarations;
-    attributes = distinct_moves scope [] t.attributes is.attributes;
+    attributes = are_distinct scope (map (moved_written m) t.attributes) (distinct_moves scope [] t.attributes (distinct_behind scope t.attributes is.attributes));
     element = is.element;
   }
   item_named scope (Text a e v borrowed) is = is

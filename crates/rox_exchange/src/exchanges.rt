@@ -8,18 +8,27 @@ ghost use Rattle.rox_grammar.specs.Exchange.{self_contained, HasTree, AreSeparat
 
 /// The element that was put in is self-contained, and each outside of it that was so is so.
 pub fn elements_stay_contained()
-    ensures { (tree : Forest Node) (id : ℕ) (other : Forest Node) (at : ℕ) → self_contained tree id ≡ true → self_contained other at ≡ true → StaysContained tree id other at }
+    ensures { (tree : Forest Node) (id : ℕ) (other : Forest Node) (at : ℕ)
+        → self_contained tree id ≡ true → self_contained other at ≡ true
+        → StaysContained tree id other at }
 {}
 
 /// The old element put back gives the first text and the first tree.
 pub fn exchanges_go_back()
-    ensures { (text : List ℕ) (tree : Forest Node) (id : ℕ) (other_text : List ℕ) (other : Forest Node) (at : ℕ) → IsUtf8 text → IsUtf8 other_text → HasTree text tree → HasTree other_text other
-        → self_contained tree id ≡ true → self_contained other at ≡ true → GoesBack tree text id other other_text at }
+    ensures { (text : List ℕ) (tree : Forest Node) (id : ℕ) (other_text : List ℕ)
+        (other : Forest Node) (at : ℕ) → IsUtf8 text → IsUtf8 other_text → HasTree text tree
+        → HasTree other_text other
+        → self_contained tree id ≡ true → self_contained other at ≡ true
+        → GoesBack tree text id other other_text at }
 {}
 
 /// Exchanges at two places, neither within the other, give one text and one tree in either order.
 pub fn exchanges_commute()
-    ensures { (text : List ℕ) (tree : Forest Node) (i : ℕ) (one_text : List ℕ) (one : Forest Node) (a j : ℕ) (two_text : List ℕ) (two : Forest Node) (b : ℕ)
-        → IsUtf8 text → IsUtf8 one_text → IsUtf8 two_text → HasTree text tree → HasTree one_text one → HasTree two_text two
-        → self_contained tree i ≡ true → self_contained tree j ≡ true → self_contained one a ≡ true → self_contained two b ≡ true → AreSeparate tree i j → Commutes tree text i one one_text a j two two_text b }
+    ensures { (text : List ℕ) (tree : Forest Node) (i : ℕ) (one_text : List ℕ) (one : Forest Node)
+        (a j : ℕ) (two_text : List ℕ) (two : Forest Node) (b : ℕ)
+        → IsUtf8 text → IsUtf8 one_text → IsUtf8 two_text → HasTree text tree → HasTree one_text one
+        → HasTree two_text two
+        → self_contained tree i ≡ true → self_contained tree j ≡ true → self_contained one a ≡ true
+        → self_contained two b ≡ true → AreSeparate tree i j
+        → Commutes tree text i one one_text a j two two_text b }
 {}

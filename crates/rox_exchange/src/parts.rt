@@ -17,31 +17,45 @@ ghost use Rattle.rox_exchange.specs.SelfContained.{is_contained};
 
 /// What an element is written in is a document, if its names are declared within it, and its tree is the element alone, moved to the start.
 pub fn element_is_a_document()
-    ensures { (src : List ℕ) (s e openings_left : ℕ) (one : Forest Item) → IsUtf8 src → IsElement true no_entities src s e 255 openings_left one → AreWellNamed [] one
-        → HasTree (slice src s e) (Cons (Root (e - s)) (shifted (record { add = 0; sub = s }) (resolved [] one)) Nil) }
+    ensures { (src : List ℕ) (s e openings_left : ℕ) (one : Forest Item) → IsUtf8 src
+        → IsElement true no_entities src s e 255 openings_left one → AreWellNamed [] one
+        → HasTree (slice src s e)
+        (Cons (Root (e - s)) (shifted (record { add = 0; sub = s }) (resolved [] one)) Nil) }
 {}
 
 /// Each element among the items of an element stands there, as a derivation of its own.
 pub fn element_is_found()
-    ensures { (src : List ℕ) (i j b c : ℕ) (all : Forest Item) (s e : ℕ) (t : Tag) (kids : Forest Item) → IsElement true no_entities src i j b c all → StandsInEach s e t kids all
-        → ElementWith src s e (Cons (Element s e t) kids Nil) i j all × IsElement true no_entities src s e 255 255 (Cons (Element s e t) kids Nil) }
+    ensures { (src : List ℕ) (i j b c : ℕ) (all : Forest Item) (s e : ℕ) (t : Tag)
+        (kids : Forest Item) → IsElement true no_entities src i j b c all
+        → StandsInEach s e t kids all
+        → ElementWith src s e (Cons (Element s e t) kids Nil) i j all
+        × IsElement true no_entities src s e 255 255 (Cons (Element s e t) kids Nil) }
 {}
 
 /// Where an element stands in an element, an element of another source may stand: what is behind it moves, and the elements above it grow.
 pub fn element_is_exchanged()
-    ensures { (src other : List ℕ) (s e a z i j : ℕ) (hole one all : Forest Item) → IsUtf8 src → IsUtf8 other
-        → IsElement true no_entities src s e 255 255 hole → IsElement true no_entities other a z 255 255 one → ElementWith src s e hole i j all
-        → IsElement true no_entities (replaced src s e (slice other a z)) i (moved (record { add = z - a; sub = e - s }) j) 255 255
-        (exchanged_items (record { add = z - a; sub = e - s }) (moved_items (record { add = s; sub = a }) one) s all) }
+    ensures { (src other : List ℕ) (s e a z i j : ℕ) (hole one all : Forest Item) → IsUtf8 src
+        → IsUtf8 other
+        → IsElement true no_entities src s e 255 255 hole
+        → IsElement true no_entities other a z 255 255 one → ElementWith src s e hole i j all
+        → IsElement true no_entities (replaced src s e (slice other a z)) i
+        (moved (record { add = z - a; sub = e - s }) j) 255 255
+        (exchanged_items (record { add = z - a; sub = e - s })
+        (moved_items (record { add = s; sub = a }) one) s all) }
 {}
 
 /// Names stay well named if no element above the one that is exchanged lists a namespace.
 pub fn names_stay()
-    ensures { (v : Move) (one all : Forest Item) (s : ℕ) → AreWellNamed [] one → is_contained s all ≡ true → AreWellNamed [] all → AreWellNamed [] (exchanged_items v one s all) }
+    ensures { (v : Move) (one all : Forest Item) (s : ℕ) → AreWellNamed [] one
+        → is_contained s all ≡ true → AreWellNamed [] all
+        → AreWellNamed [] (exchanged_items v one s all) }
 {}
 
 /// Comments, processing instructions and white space around the root element are local.
 pub fn misc_is_local()
-    ensures moves { (v : Move) (src to : List ℕ) (i j : ℕ) (items : Forest Item) → Follows v src i to (moved v i) → Misc src i j items → Misc to (moved v i) (moved v j) (moved_items v items) }
-    ensures cut { (src to : List ℕ) (m i j : ℕ) (items : Forest Item) → Fronts src to m → j ≤ m → Misc src i j items → Misc to i j items }
+    ensures moves { (v : Move) (src to : List ℕ) (i j : ℕ) (items : Forest Item)
+        → Follows v src i to (moved v i) → Misc src i j items
+        → Misc to (moved v i) (moved v j) (moved_items v items) }
+    ensures cut { (src to : List ℕ) (m i j : ℕ) (items : Forest Item) → Fronts src to m → j ≤ m
+        → Misc src i j items → Misc to i j items }
 {}

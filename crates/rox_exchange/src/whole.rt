@@ -11,19 +11,33 @@ ghost use Rattle.rox_grammar.specs.Exchange.{shifted, subtree, self_contained, s
 /// The slice of a self-contained element is a document, within the limits that the whole is within, and its tree is the element
 /// alone, moved to the start. It begins and ends between two characters.
 pub fn elements_are_documents()
-    ensures parse { (text : List ℕ) (tree : Forest Node) (id : ℕ) → IsUtf8 text → HasTree text tree → self_contained tree id ≡ true
-        → HasTree (slice text (start_at tree id) (end_at tree id)) (Cons (Root (end_at tree id - start_at tree id)) (shifted (record { add = 0; sub = start_at tree id }) (subtree tree id)) Nil) }
-    ensures within { (text : List ℕ) (tree : Forest Node) (id limit : ℕ) → IsUtf8 text → IsTreeOf text false [] limit tree → self_contained tree id ≡ true
-        → IsTreeOf (slice text (start_at tree id) (end_at tree id)) false [] limit (Cons (Root (end_at tree id - start_at tree id)) (shifted (record { add = 0; sub = start_at tree id }) (subtree tree id)) Nil) }
-    ensures cut { (text : List ℕ) (tree : Forest Node) (id : ℕ) → IsUtf8 text → HasTree text tree → self_contained tree id ≡ true
-        → (start_at tree id < end_at tree id) × IsCharBoundary text (start_at tree id) × IsCharBoundary text (end_at tree id) }
+    ensures parse { (text : List ℕ) (tree : Forest Node) (id : ℕ) → IsUtf8 text → HasTree text tree
+        → self_contained tree id ≡ true
+        → HasTree (slice text (start_at tree id) (end_at tree id))
+        (Cons (Root (end_at tree id - start_at tree id))
+        (shifted (record { add = 0; sub = start_at tree id }) (subtree tree id)) Nil) }
+    ensures within { (text : List ℕ) (tree : Forest Node) (id limit : ℕ) → IsUtf8 text
+        → IsTreeOf text false [] limit tree → self_contained tree id ≡ true
+        → IsTreeOf (slice text (start_at tree id) (end_at tree id)) false [] limit
+        (Cons (Root (end_at tree id - start_at tree id))
+        (shifted (record { add = 0; sub = start_at tree id }) (subtree tree id)) Nil) }
+    ensures cut { (text : List ℕ) (tree : Forest Node) (id : ℕ) → IsUtf8 text → HasTree text tree
+        → self_contained tree id ≡ true
+        → (start_at tree id < end_at tree id) × IsCharBoundary text (start_at tree id)
+        × IsCharBoundary text (end_at tree id) }
 {}
 
 /// Another document's self-contained element may stand in the place of a self-contained element: the new text is a document, and
 /// its tree is the first with the one in the place of the other.
 pub fn elements_may_be_exchanged()
-    ensures parse { (text : List ℕ) (tree : Forest Node) (id : ℕ) (other_text : List ℕ) (other : Forest Node) (at : ℕ) → IsUtf8 text → HasTree text tree → self_contained tree id ≡ true
-        → IsUtf8 other_text → HasTree other_text other → self_contained other at ≡ true → HasTree (text_with tree text id other other_text at) (with_other tree id other at) }
-    ensures utf8 { (text : List ℕ) (tree : Forest Node) (id : ℕ) (other_text : List ℕ) (other : Forest Node) (at : ℕ) → IsUtf8 text → HasTree text tree → self_contained tree id ≡ true
-        → IsUtf8 other_text → HasTree other_text other → self_contained other at ≡ true → IsUtf8 (text_with tree text id other other_text at) }
+    ensures parse { (text : List ℕ) (tree : Forest Node) (id : ℕ) (other_text : List ℕ)
+        (other : Forest Node) (at : ℕ) → IsUtf8 text → HasTree text tree
+        → self_contained tree id ≡ true
+        → IsUtf8 other_text → HasTree other_text other → self_contained other at ≡ true
+        → HasTree (text_with tree text id other other_text at) (with_other tree id other at) }
+    ensures utf8 { (text : List ℕ) (tree : Forest Node) (id : ℕ) (other_text : List ℕ)
+        (other : Forest Node) (at : ℕ) → IsUtf8 text → HasTree text tree
+        → self_contained tree id ≡ true
+        → IsUtf8 other_text → HasTree other_text other → self_contained other at ≡ true
+        → IsUtf8 (text_with tree text id other other_text at) }
 {}

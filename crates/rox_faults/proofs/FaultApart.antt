@@ -5,11 +5,11 @@ use Rattle.std.proofs.lemmas.Bool.{true≢false}
 use Rattle.rox_grammar.specs.declared.fault.Fault.{Fault}
 use Rattle.rox_grammar.specs.declared.fault.Word.{Word}
 use Rattle.rox_grammar.specs.declared.fault.Word.TheVariants as word
-use Rattle.rox_grammar.specs.FixedTexts.{word_text}
+use Rattle.rox_grammar.specs.FixedTexts.{word_text, at, first}
 use Rattle.rox_grammar.specs.Chars.{is_char, is_space, is_name_char}
 use Rattle.rox_grammar.specs.Written.{Name, Item}
 use Rattle.rox_grammar.specs.Names.{byte, slice, spaces_end, IsName, IsQName}
-use Rattle.rox_grammar.specs.Constructs.{at, first, double_dash, has_mark, AreChars, IsComment, IsPI}
+use Rattle.rox_grammar.specs.Constructs.{double_dash, has_mark, AreChars, IsComment, IsPI}
 use Rattle.rox_grammar.specs.Content.{IsMisc, comment, instruction}
 use Rattle.rox_grammar.specs.Due.{DueItem, a_name, a_qname, a_byte, a_word, a_space, chars_to, IsMissing, no_name, no_qname, other_byte, other_word, no_char, no_space, ends_before, DueInComment, DueInPI}
 use Rattle.rox_grammar.specs.Due as due

@@ -9,9 +9,8 @@ use Rattle.rox_grammar.specs.declared.fault.Word.TheVariants as word
 use Rattle.rox_grammar.specs.Chars.{is_space, is_name_start}
 use Rattle.rox_grammar.specs.Runs.{begins}
 use Rattle.rox_grammar.specs.Search.{byte_from}
-use Rattle.rox_grammar.specs.FixedTexts.{word_text}
+use Rattle.rox_grammar.specs.FixedTexts.{word_text, at}
 use Rattle.rox_grammar.specs.Names.{byte, spaces_end}
-use Rattle.rox_grammar.specs.Constructs.{at}
 use Rattle.rox_grammar.specs.Doctype.{Request, IsExternalID, BeginsEntity}
 use Rattle.rox_grammar.specs.Due.{DueItem, a_name, a_space, a_byte, a_quote, a_definition, subset_or_end, doctype_end, IsMissing, no_name, no_space, no_subset, no_end, no_definition, no_external_id, ends_before, DueInLiteral, DueInExternalID, DueInEntity, DueInDoctype}
 use Rattle.rox_grammar.specs.Due as dues

@@ -6,21 +6,21 @@ use Rattle.std.proofs.lemmas.Bool.{true≢false, false_from_ne_true}
 use Rattle.std.proofs.lemmas.List.{append-nil}
 use Rattle.rox_grammar.specs.declared.fault.Fault.{Fault}
 use Rattle.rox_grammar.specs.declared.fault.Word.TheVariants as word
-use Rattle.rox_grammar.specs.FixedTexts.{word_text}
+use Rattle.rox_grammar.specs.FixedTexts.{word_text, at}
 use Rattle.rox_grammar.specs.Chars.{is_space, is_name_start, is_name_char}
 use Rattle.rox_grammar.specs.Runs.{run_end}
 use Rattle.rox_grammar.specs.Search.{byte_from}
 use Rattle.rox_grammar.specs.Forest.{Forest, join, size}
 use Rattle.rox_grammar.specs.Written.{Item, merge, leaf}
 use Rattle.rox_grammar.specs.Names.{byte, spaces_end, IsName}
-use Rattle.rox_grammar.specs.Constructs.{at}
 use Rattle.rox_grammar.specs.TextStart.{after_bom, MayHaveXmlDecl, declared, not_declared}
 use Rattle.rox_grammar.specs.Entities.{Replacement, Entity}
-use Rattle.rox_grammar.specs.Doctype.{Request, Asked, IsQuoted, IsSpace, IsExternalID, system, public, MayHaveNotation, notation, no_notation, CutsNotation, GivesReplacement, nothing, the_rest, IsDefinition, internal, external, BeginsEntity, IsEntityDeclaration, Subset, MayHaveExternalID, external_id, no_external_id, BeginsDoctype, IsDoctype, no_subset, with_subset}
+use Rattle.rox_grammar.specs.Doctype.{Request, Asked, IsQuoted, IsSpace, IsExternalID, system, public, MayHaveNotation, notation, no_notation, CutsNotation, GivesReplacement, nothing, the_rest, IsDefinition, internal, external, BeginsEntity, IsEntityDeclaration, Subset, MayHaveExternalID, external_id, no_external_id, BeginsDoctype, IsDoctype, no_subset, with_subset, SubsetTo}
 use Rattle.rox_grammar.specs.Doctype as dtd
 use Rattle.rox_grammar.specs.Due.{DueItem, a_byte, a_space, a_quote, a_name, a_definition, subset_or_end, doctype_end, IsMissing, no_quote, no_definition, no_end, ends_before, DueInXmlDecl, DueInLiteral, its_quote, its_end, DueInExternalID, space_before, its_literal, space_between, second_literal, DueInEntity, DueInDoctype}
 use Rattle.rox_grammar.specs.Due as due
-use Rattle.rox_grammar.specs.FaultsWithDoctype.{SubsetTo, IsPassed, NoItem, InDoctype, head_lacks, no_name, in_misc, too_many, not_passed, in_entity, entity_open, entity_cut, in_answer, end_lacks, unknown, no_root}
+use Rattle.rox_grammar.specs.Faults.{in_one, one_too_many}
+use Rattle.rox_grammar.specs.FaultsWithDoctype.{IsPassed, NoItem, InDoctype, head_lacks, no_name, not_passed, in_entity, entity_open, entity_cut, in_answer, end_lacks, unknown, no_root, in_subset, in_miscs}
 use Rattle.rox_reading.proofs.Forests.{join_assoc, merge-more}
 use Rattle.rox_theory.specs.Answers.{SameAnswers}
 use Rattle.rox_theory.proofs.Basics.{within}
@@ -281,12 +281,12 @@ module _ (src : List ℕ) (utf8 : IsUtf8 src) where
       → (W → 1 + size (merge (join before (join nodes after))) ≤ limit) → SameAnswers asked given → InDoctype limit src i before asked source f → IsOver W f
   in_doctype_apart W limit i j before nodes after asked given es source f is few same (head_lacks p t _ due' lack) = let h = head_there i j nodes given es is in absurd (head_apart i h.0 p t f h.1 h.2 due' lack)
   in_doctype_apart W limit i j before nodes after asked given es source f is few same (no_name n sp past) = let h = head_there i j nodes given es is in absurd (head_not_cut i h.0 n h.1 sp past)
-  in_doctype_apart W limit i j before nodes after asked given es source f is few same (in_misc p items _ _ to fits ill) =
+  in_doctype_apart W limit i j before nodes after asked given es source f is few same (in_subset p items _ _ _ _ to fits (in_miscs _ (in_one _ ill))) =
       let c = closed_there i j p items nodes asked given [] es is to (subst (λ (a : List Asked). SameAnswers a given) (sym (append-nil asked)) same) in
       let r = c.front in
       let there = item_there src utf8 c.k c.bracket p r.rest r.more r.gs r.left (misc_begins src utf8 p f ill) in
       absurd (misc_apart src utf8 p there.0 there.1 f there.3 ill)
-  in_doctype_apart W limit i j before nodes after asked given es source f is few same (too_many p q items item _ to fits one over) =
+  in_doctype_apart W limit i j before nodes after asked given es source f is few same (in_subset p items _ _ _ _ to fits (in_miscs _ (one_too_many q item one over))) =
       let c = closed_there i j p items nodes asked given [] es is to (subst (λ (a : List Asked). SameAnswers a given) (sym (append-nil asked)) same) in
       let r = c.front in
       let there = item_there src utf8 c.k c.bracket p r.rest r.more r.gs r.left (misc_opens src p q item one) in
@@ -298,33 +298,33 @@ module _ (src : List ℕ) (utf8 : IsUtf8 src) where
       ap (λ (n : Forest Item). join before (join n after)) nodes_are ∙ ap (join before) (join_assoc items (join (leaf item) there.2) after) ∙ sym (join_assoc before items (join (leaf item) (join there.2 after))) ∙ sym (join_assoc (join before items) (leaf item) others) in
       let less = merge-more front others in
       nodes_over W (λ w. (let all : 1 + size (merge (join front others)) ≤ limit = subst (λ (t : Forest Item). 1 + size (merge t) ≤ limit) whole (few w) in omega arith))
-  in_doctype_apart W limit i j before nodes after asked given es source f is few same (not_passed p items _ to fits opens past) =
+  in_doctype_apart W limit i j before nodes after asked given es source f is few same (in_subset p items _ _ _ _ to fits (not_passed opens past)) =
       let c = closed_there i j p items nodes asked given [] es is to (subst (λ (a : List Asked). SameAnswers a given) (sym (append-nil asked)) same) in
       let r = c.front in
       let there = passed_there src utf8 c.k c.bracket p r.rest r.more r.gs r.left opens in
       let end = there.1.end in let closes = there.1.closes in
       absurd (omega arith)
-  in_doctype_apart W limit i j before nodes after asked given es source f is few same (in_entity p q items _ t _ to fits opens due' lack) =
+  in_doctype_apart W limit i j before nodes after asked given es source f is few same (in_subset p items _ _ _ _ to fits (in_entity q t _ opens due' lack)) =
       let c = closed_there i j p items nodes asked given [] es is to (subst (λ (a : List Asked). SameAnswers a given) (sym (append-nil asked)) same) in
       let r = c.front in
       let there = entity_there src utf8 c.k c.bracket p r.rest r.more r.gs r.left opens in
       absurd (entity_apart p there.0 there.1 there.3 there.5 q t f due' lack)
-  in_doctype_apart W limit i j before nodes after asked given es source f is few same (entity_open p n m d e parameter items before' first text _ to fits begins definition lack) =
+  in_doctype_apart W limit i j before nodes after asked given es source f is few same (in_subset p items before' _ _ _ to fits (entity_open n m d e parameter first text _ begins definition lack)) =
       let c = closed_there i j p items nodes before' given first es is to same in
       let r = c.front in
       let there = entity_there src utf8 c.k c.bracket p r.rest r.more r.gs r.left begins.opens in
       absurd (end_stands p there.0 there.1 there.3 there.5 n m d e parameter first text f begins definition lack)
-  in_doctype_apart W limit i j before nodes after asked given es source f is few same (entity_cut p n m d e x parameter items before' request answer text to fits begins external' cut gives) =
+  in_doctype_apart W limit i j before nodes after asked given es source f is few same (in_subset p items before' _ _ _ to fits (entity_cut n m d e x parameter request answer text begins external' cut gives)) =
       let c = closed_there i j p items nodes before' given (record { request = request; answer = answer } ∷ []) es is to same in
       let r = c.front in
       let there = entity_there src utf8 c.k c.bracket p r.rest r.more r.gs r.left begins.opens in
       absurd (not_cut p there.0 there.1 there.3 there.5 n m d e x parameter request begins external' cut)
-  in_doctype_apart W limit i j before nodes after asked given es source f is few same (in_answer p n m d e x q parameter items before' request answer t _ to fits begins external' may text opens due' lack) =
+  in_doctype_apart W limit i j before nodes after asked given es source f is few same (in_subset p items before' _ _ _ to fits (in_answer n m d e x q parameter request answer t _ begins external' may text opens due' lack)) =
       let c = closed_there i j p items nodes before' given (record { request = request; answer = Some answer } ∷ []) es is to same in
       let r = c.front in
       let there = entity_there src utf8 c.k c.bracket p r.rest r.more r.gs r.left begins.opens in
       absurd (answer_apart p there.0 there.1 there.3 there.5 n m d e q parameter request answer there.2 t f begins external' (subst (SameAnswers (record { request = request; answer = Some answer } ∷ [])) there.7 r.same) opens due' lack)
-  in_doctype_apart W limit i j before nodes after asked given es source f is few same (end_lacks p items _ _ to fits bracket lack) =
+  in_doctype_apart W limit i j before nodes after asked given es source f is few same (in_subset p items _ _ _ _ to fits (end_lacks _ bracket lack)) =
       let c = closed_there i j p items nodes asked given [] es is to (subst (λ (a : List Asked). SameAnswers a given) (sym (append-nil asked)) same) in
       let r = c.front in
       let at_end = ended p c.k r.rest r.more r.gs c.bracket r.left bracket in
@@ -340,7 +340,7 @@ module _ (src : List ℕ) (utf8 : IsUtf8 src) where
       lack_apart : (p : ℕ) (f : Fault) → IsMissing src p doctype_end f → byte src p ≡ 62 → ⊥
       lack_apart p f (no_end below no_close) closes = no_close closes
       lack_apart p f (ends_before _ byte' past) closes = let l = within src p (λ z. omega arith) in absurd (omega arith)
-  in_doctype_apart W limit i j before nodes after asked given es source f is few same (unknown p items _ to fits none inside) =
+  in_doctype_apart W limit i j before nodes after asked given es source f is few same (in_subset p items _ _ _ _ to fits (unknown none inside)) =
       let c = closed_there i j p items nodes asked given [] es is to (subst (λ (a : List Asked). SameAnswers a given) (sym (append-nil asked)) same) in
       let r = c.front in
       let at_end = nothing_there src utf8 c.k c.bracket p r.rest r.more r.gs r.left none.no_space (no_item p none) (no_passed p none) none.no_entity in

@@ -14,16 +14,17 @@ use Rattle.rox_grammar.specs.FixedTexts.{word_text}
 use Rattle.rox_grammar.specs.Chars.{is_space, is_name_start}
 use Rattle.rox_grammar.specs.Runs.{begins}
 use Rattle.rox_grammar.specs.Written.{Name, Attribute, NamespaceDecl, Tag, is_namespace_decl, namespace_decl_of, namespace_decls_of, plain_attributes_of}
-use Rattle.rox_grammar.specs.Tree.{xml_uri, xmlns_uri, is_declared, listed}
+use Rattle.rox_grammar.specs.Tree.{xml_uri, xmlns_uri, is_declared, listed, is_xml, listable_of}
 use Rattle.rox_grammar.specs.Names.{byte, spaces_end, IsQName, unprefixed, prefixed, colon_first}
 use Rattle.rox_grammar.specs.Constructs.{IsEq, IsLiteral}
 use Rattle.rox_grammar.specs.Content.{Inclusion, Value, IsAttribute, Attributes, no_more, one_more, TagEnds, opened, closed, IsTag}
-use Rattle.rox_grammar.specs.WellNamed.{is_xml, may_declare, AreDeclarable, is_known, same_expanded, AreDistinct, IsWellNamed}
-use Rattle.rox_grammar.specs.Document.{listable_of, with_new, distinct_pairs, most_attributes, most_pairs}
+use Rattle.rox_grammar.specs.WellNamed.{may_declare, is_known, same_expanded, IsWellNamed}
+use Rattle.rox_grammar.proofs.NamesApart.{DeclarableBehind, DistinctBehind, declarable_behind, distinct_behind}
+use Rattle.rox_grammar.specs.Document.{with_new, distinct_pairs, most_attributes, most_pairs}
 use Rattle.rox_grammar.specs.State.{State, scope_of, attributes_so_far, pairs_so_far}
 use Rattle.rox_grammar.specs.Due.{DueItem, a_byte, a_space, IsMissing, ends_before, DueInPair}
 use Rattle.rox_grammar.specs.ContentPoints.{TagTo}
-use Rattle.rox_grammar.specs.Faults.{IllDeclared, other_uri, uri_of_xml, uri_of_xmlns, again, IllNamed, unknown_attribute, twice, unknown_element, InTag, no_name, xmlns_prefix, cut, cut_in_replacement, no_rest, not_closed, in_pair, ill_declared, too_many_pairs, too_many_attributes, ill_named}
+use Rattle.rox_grammar.specs.Faults.{IllDeclared, other_uri, uri_of_xml, uri_of_xmlns, again, IllNamed, unknown_attribute, twice, unknown_element, InTag, no_name, xmlns_prefix, cut, cut_in_replacement, no_rest, not_closed, in_pair, ill_declared, too_many_pairs, too_many_attributes, ill_named, in_rest}
 use Rattle.rox_grammar.specs.Faults as faults
 use Rattle.rox_reading.specs.Markup as markup
 use Rattle.rox_reading.specs.Markup.{TagItem, tag_item_at}
@@ -46,14 +47,14 @@ use Rattle.rox_faults.proofs.FaultPairs.{one_qname, eq_one, pair_apart}
 -- ---- names
 
 -- of a row of declarations each may be declared, and none before it has its prefix
-declarable_at : (before xs ys : List NamespaceDecl) (d : NamespaceDecl) → AreDeclarable before (xs ++ d ∷ ys) → (may_declare d ≡ true) × (is_declared d.prefix (before ++ xs) ≡ false)
+declarable_at : (before xs ys : List NamespaceDecl) (d : NamespaceDecl) → DeclarableBehind before (xs ++ d ∷ ys) → (may_declare d ≡ true) × (is_declared d.prefix (before ++ xs) ≡ false)
 declarable_at before [] ys d h = (h.0, subst (λ (ds : List NamespaceDecl). is_declared d.prefix ds ≡ false) (sym (append-nil before)) h.1)
 declarable_at before (x ∷ xs) ys d h =
     let r = declarable_at (before ++ x ∷ []) xs ys d h.2 in
     (r.0, subst (λ (ds : List NamespaceDecl). is_declared d.prefix ds ≡ false) (append_assoc before (x ∷ []) xs) r.1)
 
 -- of a row of attributes each is known, and none before it has its name
-distinct_at : (scope : List NamespaceDecl) (before xs ys : List Attribute) (a : Attribute) → AreDistinct scope before (xs ++ a ∷ ys)
+distinct_at : (scope : List NamespaceDecl) (before xs ys : List Attribute) (a : Attribute) → DistinctBehind scope before (xs ++ a ∷ ys)
     → (is_known scope a.name ≡ true) × (list_any (λ e. same_expanded scope e.name a.name) (before ++ xs) ≡ false)
 distinct_at scope before [] ys a h = (h.0, subst (λ (as' : List Attribute). list_any (λ e. same_expanded scope e.name a.name) as' ≡ false) (sym (append-nil before)) h.1)
 distinct_at scope before (x ∷ xs) ys a h =
@@ -234,16 +235,16 @@ module _ (context : Values) (O : Inclusion) (agrees : AgreesValue context.entiti
         → is_namespace_decl a.name ≡ true → IllDeclared src (namespace_decls_of as') a f → ⊥
     declared_in p k c d as' rest a f same next spaces is' declares' ill =
         let there = declared_there p k c d as' rest a same next spaces is' declares' in
-        let may = declarable_at [] (namespace_decls_of as') there.0 (namespace_decl_of a) (subst (AreDeclarable []) there.1 well_named.declarations) in
+        let may = declarable_at [] (namespace_decls_of as') there.0 (namespace_decl_of a) (subst (DeclarableBehind []) there.1 (declarable_behind tag.declarations well_named.declarations)) in
         declared_apart src (namespace_decls_of as') a f may.0 may.1 ill
 
     -- nor a name that is unknown, or stands twice
     named_in : (f : Fault) → IllNamed src s.at (listed (scope_of s.stack) tag.declarations) tag.name tag.attributes f → ⊥
     named_in f (unknown_attribute before after a name split distinct unknown holds) =
-        let d = distinct_at (listed (scope_of s.stack) tag.declarations) [] before after a (subst (AreDistinct (listed (scope_of s.stack) tag.declarations) []) split well_named.attributes) in
+        let d = distinct_at (listed (scope_of s.stack) tag.declarations) [] before after a (subst (DistinctBehind (listed (scope_of s.stack) tag.declarations) []) split (distinct_behind (listed (scope_of s.stack) tag.declarations) tag.attributes well_named.attributes)) in
         true≢false (sym d.0 ∙ unknown)
     named_in f (twice before after a name split distinct known again' holds) =
-        let d = distinct_at (listed (scope_of s.stack) tag.declarations) [] before after a (subst (AreDistinct (listed (scope_of s.stack) tag.declarations) []) split well_named.attributes) in
+        let d = distinct_at (listed (scope_of s.stack) tag.declarations) [] before after a (subst (DistinctBehind (listed (scope_of s.stack) tag.declarations) []) split (distinct_behind (listed (scope_of s.stack) tag.declarations) tag.attributes well_named.attributes)) in
         true≢false (sym again' ∙ d.1)
     named_in f (unknown_element name distinct unknown holds) = true≢false (sym well_named.element ∙ unknown)
 
@@ -262,16 +263,16 @@ module _ (context : Values) (O : Inclusion) (agrees : AgreesValue context.entiti
         let same : name ≡ tag.name = (one_qname src (s.at + 1) n tag.name_end name tag.name named is.is_name).0 in
         let prefix' : tag.name.prefix ≡ word_text word.Xmlns = ap (λ (n : Name). n.prefix) (sym same) ∙ prefix in
         absurd (true≢false (sym ((bytes_eq-Decides tag.name.prefix (word_text word.Xmlns)).1 prefix') ∙ well_named.no_xmlns))
-    tag_apart f (cut p c as' to past main') =
+    tag_apart f (in_rest p c as' _ to (cut past main')) =
         let x = tag_front p c as' to in let l = next_within p j c empty x.0 x.2 in absurd (omega (arith, run_end_le is_space src p))
-    tag_apart f (cut_in_replacement p c as' to past main') =
+    tag_apart f (in_rest p c as' _ to (cut_in_replacement past main')) =
         let x = tag_front p c as' to in let l = next_within p j c empty x.0 x.2 in absurd (omega (arith, run_end_le is_space src p))
-    tag_apart f (no_rest p c as' _ to below (ends_before _ byte' past)) = let x = tag_front p c as' to in let l = next_within p j c empty x.0 x.2 in absurd (omega arith)
-    tag_apart f (faults.InTag.no_space p c as' _ to below no_slash no_close lack) = let x = tag_front p c as' to in absurd (space_apart p c x.0 f (to_cut p c as' to) x.2 no_slash no_close lack)
-    tag_apart f (not_closed p c as' _ to slash lack) = let x = tag_front p c as' to in absurd (slash_apart p j c empty x.0 f x.2 slash lack)
-    tag_apart f (in_pair p c q as' t _ to spaces inside no_slash no_close due lack) = let x = tag_front p c as' to in absurd (pair_in p q c x.0 t f x.2 no_slash no_close due lack)
-    tag_apart f (ill_declared p c d k as' a _ to spaces is' declares' ill) = let x = tag_front p c as' to in absurd (declared_in p k c d as' x.0 a f x.1 x.2 spaces is' declares' ill)
-    tag_apart f (too_many_pairs p c d k as' a to spaces is' declares' may once over) =
+    tag_apart f (in_rest p c as' _ to (no_rest _ below (ends_before _ byte' past))) = let x = tag_front p c as' to in let l = next_within p j c empty x.0 x.2 in absurd (omega arith)
+    tag_apart f (faults.InTag.in_rest p c as' _ to (faults.InTagRest.no_space _ below no_slash no_close lack)) = let x = tag_front p c as' to in absurd (space_apart p c x.0 f (to_cut p c as' to) x.2 no_slash no_close lack)
+    tag_apart f (in_rest p c as' _ to (not_closed _ slash lack)) = let x = tag_front p c as' to in absurd (slash_apart p j c empty x.0 f x.2 slash lack)
+    tag_apart f (in_rest p c as' _ to (in_pair q t _ spaces inside no_slash no_close due lack)) = let x = tag_front p c as' to in absurd (pair_in p q c x.0 t f x.2 no_slash no_close due lack)
+    tag_apart f (in_rest p c as' _ to (ill_declared d k a _ spaces is' declares' ill)) = let x = tag_front p c as' to in absurd (declared_in p k c d as' x.0 a f x.1 x.2 spaces is' declares' ill)
+    tag_apart f (in_rest p c as' _ to (too_many_pairs d k a spaces is' declares' may once over)) =
         let x = tag_front p c as' to in
         let known = distinct_pairs (pairs_so_far s.stack s.done) in
         let there = declared_there p k c d as' x.0 a x.1 x.2 spaces is' declares' in
@@ -280,10 +281,10 @@ module _ (context : Values) (O : Inclusion) (agrees : AgreesValue context.entiti
         pairs_over W (λ w.
         (let all : length (with_new known (listable_of (namespace_decls_of as' ++ namespace_decl_of a ∷ [] ++ there.0))) ≤ most_pairs = subst (λ (ds : List NamespaceDecl). length (with_new known (listable_of ds)) ≤ most_pairs) split (few_pairs w) in
         omega arith))
-    tag_apart f (too_many_attributes p c k x as' to ends over) =
+    tag_apart f (in_rest p c as' _ to (too_many_attributes k x ends over)) =
         let same : length (plain_attributes_of as') ≡ length tag.attributes = ap (λ (t : Tag). length t.attributes) (same_tag p k c x as' to ends) in
         attributes_over W (λ w. (let all = few w in omega arith))
-    tag_apart f (ill_named p c k x as' _ to ends few' ill) =
+    tag_apart f (in_rest p c as' _ to (ill_named k x _ ends few' ill)) =
         absurd (named_in f (subst (λ (t : Tag). IllNamed src s.at (listed (scope_of s.stack) t.declarations) t.name t.attributes f) (same_tag p k c x as' to ends) ill))
 
     -- and a value in it is read

@@ -9,16 +9,16 @@ use Rattle.rox_grammar.specs.declared.fault.Word.TheVariants as word
 use Rattle.rox_grammar.specs.Forest.{Forest, Nil, join, size}
 use Rattle.rox_grammar.specs.Written.{Item, merge, leaf}
 use Rattle.rox_grammar.specs.Names.{byte}
-use Rattle.rox_grammar.specs.Constructs.{at}
+use Rattle.rox_grammar.specs.FixedTexts.{at}
 use Rattle.rox_grammar.specs.Content.{Inclusion, IsElement}
 use Rattle.rox_grammar.specs.TextStart.{after_bom, MayHaveXmlDecl, declared, not_declared}
 use Rattle.rox_grammar.specs.Entities.{Entity, no_entities, most_deep}
 use Rattle.rox_grammar.specs.Doctype.{Asked}
-use Rattle.rox_grammar.specs.Document.{Misc, no_misc, an_item, no_doctype, ParseOf, IsWithinLimits}
+use Rattle.rox_grammar.specs.Document.{Misc, no_misc, an_item, no_doctype, ParseOf, IsWithinLimits, PrologTo}
 use Rattle.rox_grammar.specs.State as grammar
 use Rattle.rox_grammar.specs.State.{root, nodes_so_far, FitsLimits}
-use Rattle.rox_grammar.specs.ContentPoints.{is_main, PrologTo, RootBegins, Behind, ContentPoint}
-use Rattle.rox_grammar.specs.Faults.{without, FaultFrom, in_declaration, in_misc_ahead, too_many_ahead, doctype, no_root, unknown_ahead, at_place, in_value, in_misc_behind, too_many_behind, unknown_behind, FaultOf}
+use Rattle.rox_grammar.specs.ContentPoints.{is_main, RootBegins, Behind, ContentPoint}
+use Rattle.rox_grammar.specs.Faults.{without, FaultFrom, in_declaration, doctype, no_root, unknown_ahead, at_place, in_value, unknown_behind, FaultOf, in_one, misc_ahead, misc_behind, one_too_many, at_point}
 use Rattle.rox_reading.specs.State.{State}
 use Rattle.rox_reading.specs.Machine.{value_opener, opener}
 use Rattle.rox_reading.specs.WholeText.{prolog}
@@ -155,8 +155,8 @@ module _ (opens : ℕ → Inclusion) (es : List Entity) (all : OpensAt opens es)
 
     -- no fault stands in the text but those of the limits
     pub never : (kind : Bool) (source : List ℕ) (f : Fault) → FaultFrom opens es limit text kind Front source f → IsOver W f
-    never kind source f (in_misc_ahead q items _ front fits ill) = let r = p.ahead q items front in absurd (misc_at text utf8 q p.start r.0 f r.1 root_at.2 ill)
-    never kind source f (too_many_ahead q k items item front fits is over) =
+    never kind source f (misc_ahead q items _ front fits (in_one _ ill)) = let r = p.ahead q items front in absurd (misc_at text utf8 q p.start r.0 f r.1 root_at.2 ill)
+    never kind source f (misc_ahead q items _ front fits (one_too_many k item is over)) =
         let all' = join items (leaf item) in
         let r = p.ahead k all' (p.on q k items (leaf item) front (an_item q k k item Nil is (no_misc k))) in
         nodes_over W (λ w.
@@ -164,11 +164,11 @@ module _ (opens : ℕ → Inclusion) (es : List Entity) (all : OpensAt opens es)
         let nodes = fine.nodes in let less = merge-more all' r.0 in omega arith))
     never kind source f (no_root items front fits) = let r = p.ahead (length text) items front in let l = before_end text utf8 (length text) p.start r.0 r.1 root_at.0 in absurd (omega arith)
     never kind source f (unknown_ahead q items front fits below no_space no_less) = let r = p.ahead q items front in absurd (other_at text utf8 q p.start r.0 r.1 root_at.0 no_space no_less)
-    never kind source f (at_place k open_around b _ s _ place fits stands) = stands_apart opens es all limit W k open_around b source s (place_there kind k open_around b source s place) f stands
-    never kind source f (in_value k open_around b q c n v e j l i stop d src _ s as' name _ place fits begins to spaces named eq literal part ill) =
-        absurd (value_apart opens es all limit W k open_around b q c n v e j l i stop d src source s as' name f (place_there kind k open_around b src s place) begins to named eq literal part ill)
-    never kind source f (in_misc_behind q items _ behind fits ill) = let r = behind_rest q items behind in absurd (misc_at text utf8 q (length text) r.rest f r.misc (end_stops text) ill)
-    never kind source f (too_many_behind q k items item behind fits is over) =
+    never kind source f (at_point k open_around b _ s _ _ place fits (at_place _ stands)) = stands_apart opens es all limit W k open_around b source s (place_there kind k open_around b source s place) f stands
+    never kind source f (at_point k open_around b src s _ _ place fits (in_value v e c l i stop d _ _ value part ill)) =
+        absurd (value_apart opens es all limit W k open_around b value.p c value.n v e value.j l i stop d src source s value.written value.name f (place_there kind k open_around b src s place) value.begins value.to value.is_name value.eq value.literal part ill)
+    never kind source f (misc_behind q items _ behind fits (in_one _ ill)) = let r = behind_rest q items behind in absurd (misc_at text utf8 q (length text) r.rest f r.misc (end_stops text) ill)
+    never kind source f (misc_behind q items _ behind fits (one_too_many k item is over)) =
         let r = behind_rest q items behind in
         let s = misc_front text utf8 q k (length text) (leaf item) r.rest (an_item q k k item Nil is (no_misc k)) r.misc (end_stops text) in
         let whole : join (join p.before p.one) p.after ≡ join (join items (leaf item)) s.0 = r.whole ∙ ap (join items) s.2 ∙ sym (join_assoc items (leaf item) s.0) in
@@ -200,20 +200,20 @@ module _ (src : List ℕ) (utf8 : IsUtf8 src) (limit : ℕ) (tree : Forest Item)
   whole_fine : IsWithinLimits limit tree → IsValidState limit (state (length src) (join (join p.before p.one) p.after) root p.openings_left)
   whole_fine few =
       let merged : merge tree ≡ tree =
-      ap merge p.is_tree ∙ tops_merged true no_entities src p.declared_to p.start p.start p.end (length src) 255 p.openings_left false p.before Nil p.one p.after [] [] p.misc_before (no_doctype p.start) p.element p.misc_after ∙ sym p.is_tree in
+      ap merge p.is_tree ∙ tops_merged true no_entities src p.prolog.declared_to p.start p.start p.end (length src) 255 p.openings_left false p.before Nil p.one p.after [] [] p.prolog.misc (no_doctype p.start) p.element p.misc_after ∙ sym p.is_tree in
       let counted : 1 + size (merge tree) ≤ limit = rw merged (omega (arith, few.nodes)) in
       let whole : IsValidState limit (state (length src) tree root p.openings_left) = record { nodes = counted; attributes = few.attributes; pairs = few.namespaces; named = p.well_named } in
       subst (λ (f : Forest Item). IsValidState limit (state (length src) f root p.openings_left)) same_whole whole
 
   -- a declaration has one end
-  one_declaration : (d : ℕ) → MayHaveXmlDecl src (after_bom src) d → d ≡ p.declared_to
-  one_declaration d may = ok_one d p.declared_to (prolog src (after_bom src)) (prolog_complete src utf8 (after_bom src) d may) (prolog_complete src utf8 (after_bom src) p.declared_to p.declaration)
+  one_declaration : (d : ℕ) → MayHaveXmlDecl src (after_bom src) d → d ≡ p.prolog.declared_to
+  one_declaration d may = ok_one d p.prolog.declared_to (prolog src (after_bom src)) (prolog_complete src utf8 (after_bom src) d may) (prolog_complete src utf8 (after_bom src) p.prolog.declared_to p.prolog.declaration)
 
   -- what is left up to the root element
   ahead_rest : (q : ℕ) (items : Forest Item) → PrologTo src q items → (rest : Forest Item) × Misc src q p.start rest × (p.before ≡ join items rest)
   ahead_rest q items ahead =
       let there = element_stops true no_entities src p.start p.end 255 p.openings_left p.one p.element in
-      misc_front src utf8 p.declared_to q p.start items p.before (subst (λ (d : ℕ). Misc src d q items) (one_declaration ahead.declared_to ahead.declaration) ahead.misc) p.misc_before there.2
+      misc_front src utf8 p.prolog.declared_to q p.start items p.before (subst (λ (d : ℕ). Misc src d q items) (one_declaration ahead.declared_to ahead.declaration) ahead.misc) p.prolog.misc there.2
 
   plain_parsed : Parsed (λ k. no_entities) limit (IsWithinLimits limit tree) src (PrologTo src)
   plain_parsed =
@@ -243,7 +243,7 @@ pub fault_over : (limit : ℕ) (src : List ℕ) (f : Fault) (asked : List Asked)
 fault_over limit src f asked tree utf8 (without _ stands) parse =
     never (λ k. no_entities) [] plain_opens limit (IsWithinLimits limit tree) src utf8 (PrologTo src) (plain_parsed src utf8 limit tree (parse_without src asked tree parse).1) false src f stands
 fault_over limit src f asked tree utf8 (doctype q items ahead fits here) parse = absurd (doctype_apart src utf8 limit tree (parse_without src asked tree parse).1 q items ahead here)
-fault_over limit src f asked tree utf8 (in_declaration q t _ here due lack) parse = let p = (parse_without src asked tree parse).1 in absurd (declared_apart p.declared_to p.declaration)
+fault_over limit src f asked tree utf8 (in_declaration q t _ here due lack) parse = let p = (parse_without src asked tree parse).1 in absurd (declared_apart p.prolog.declared_to p.prolog.declaration)
   where
     declared_apart : (d : ℕ) → MayHaveXmlDecl src (after_bom src) d → ⊥
     declared_apart d (declared _ _ is) = declaration_apart src utf8 (after_bom src) d q t f is due lack

@@ -8,7 +8,8 @@ use Rattle.rox_grammar.specs.declared.fault.Word.TheVariants as word
 use Rattle.rox_grammar.specs.Chars.{is_space}
 use Rattle.rox_grammar.specs.Written.{Name}
 use Rattle.rox_grammar.specs.Names.{byte, spaces_end, IsQName}
-use Rattle.rox_grammar.specs.Constructs.{at, AreChars, IsEq, IsLiteral, IsPair, IsGap, some_space, MayBePair, is_pair, no_pair, MayEndPair, is_last, no_last, IsXmlDecl}
+use Rattle.rox_grammar.specs.FixedTexts.{word_text, at}
+use Rattle.rox_grammar.specs.Constructs.{AreChars, IsEq, IsLiteral, IsPair, IsGap, some_space, MayBePair, is_pair, no_pair, MayEndPair, is_last, no_last, IsXmlDecl}
 use Rattle.rox_grammar.specs.Constructs as constructs
 use Rattle.rox_grammar.specs.Due.{DueItem, a_byte, a_quote, a_gap, a_word, chars_to, IsMissing, no_quote, no_gap, ends_before, DueInPair, its_name, equals, opening, its_value, closing, value_end, PairBegins, version, encoding, standalone, DueInXmlDecl, its_version, in_pair, behind_pair}
 use Rattle.rox_grammar.specs.Due as due
@@ -72,11 +73,11 @@ module _ (src : List ℕ) (utf8 : IsUtf8 src) where
   one_pair i j k a b = ap (λ (p : Unit {0} × ℕ). p.1) (ok_one (tt, j) (tt, k) (pair_at src i) (pair_complete src i j a) (pair_complete src i k b))
 
   -- and so does one with a gap
-  one_may : (w : Word) (i j k : ℕ) → MayBePair w src i j → MayBePair w src i k → j ≡ k
+  one_may : (w : Word) (i j k : ℕ) → MayBePair (word_text w) src i j → MayBePair (word_text w) src i k → j ≡ k
   one_may w i j k a b = ap (λ (p : Unit {0} × ℕ). p.1) (ok_one (tt, j) (tt, k) (pair_if w src i) (pair_if_complete w src i j utf8 a) (pair_if_complete w src i k utf8 b))
 
   -- and the last one
-  one_last : (w : Word) (i j k : ℕ) → MayEndPair w src i j → MayEndPair w src i k → j ≡ k
+  one_last : (w : Word) (i j k : ℕ) → MayEndPair (word_text w) src i j → MayEndPair (word_text w) src i k → j ≡ k
   one_last w i j k (is_last _ _ here p) (is_last _ _ here' p') = one_pair i j k p p'
   one_last w i j k (is_last _ _ here p) (no_last _ none) = absurd (true≢false (sym here ∙ none))
   one_last w i j k (no_last _ none) (is_last _ _ here p) = absurd (true≢false (sym here ∙ none))
@@ -91,12 +92,12 @@ module _ (src : List ℕ) (utf8 : IsUtf8 src) where
   gap_stands i j f cut gap (ends_before _ byte' past) = cc byte'
 
   -- a pair that may stand does, with its gap, where its word does
-  may_is : (w : Word) (i k : ℕ) → at w src i ≡ true → MayBePair w src i k → (j : ℕ) × IsPair src i j × IsGap src j k
+  may_is : (w : Word) (i k : ℕ) → at w src i ≡ true → MayBePair (word_text w) src i k → (j : ℕ) × IsPair src i j × IsGap src j k
   may_is w i k here (is_pair _ j _ here' p gap) = (j, p, gap)
   may_is w i k here (no_pair _ none) = absurd (true≢false (sym here ∙ none))
 
   -- likewise the last one
-  last_is : (w : Word) (i k : ℕ) → at w src i ≡ true → MayEndPair w src i k → IsPair src i k
+  last_is : (w : Word) (i k : ℕ) → at w src i ≡ true → MayEndPair (word_text w) src i k → IsPair src i k
   last_is w i k here (is_last _ _ here' p) = p
   last_is w i k here (no_last _ none) = absurd (true≢false (sym here ∙ none))
 
@@ -105,11 +106,11 @@ module _ (src : List ℕ) (utf8 : IsUtf8 src) where
   pair_there i j p gap is (version here) = let m = may_is word.Version (spaces_end src (i + 5)) is.v here is.first_pair in (m.0, m.1, λ g. (is.v, m.2))
   pair_there i j p gap is (encoding _ first may here) =
       let same : is.v ≡ p = one_may word.Version (spaces_end src (i + 5)) is.v p is.first_pair may in
-      let m = may_is word.Encoding p is.e here (subst (λ (v : ℕ). MayBePair word.Encoding src v is.e) same is.encoding) in (m.0, m.1, λ g. (is.e, m.2))
+      let m = may_is word.Encoding p is.e here (subst (λ (v : ℕ). MayBePair (word_text word.Encoding) src v is.e) same is.encoding) in (m.0, m.1, λ g. (is.e, m.2))
   pair_there i j p gap is (standalone v _ first may may' here) =
       let same : is.v ≡ v = one_may word.Version (spaces_end src (i + 5)) is.v v is.first_pair may in
-      let same' : is.e ≡ p = one_may word.Encoding v is.e p (subst (λ (v : ℕ). MayBePair word.Encoding src v is.e) same is.encoding) may' in
-      (is.s, last_is word.Standalone p is.s here (subst (λ (e : ℕ). MayEndPair word.Standalone src e is.s) same' is.standalone), λ g. cc g)
+      let same' : is.e ≡ p = one_may word.Encoding v is.e p (subst (λ (v : ℕ). MayBePair (word_text word.Encoding) src v is.e) same is.encoding) may' in
+      (is.s, last_is word.Standalone p is.s here (subst (λ (e : ℕ). MayEndPair (word_text word.Standalone) src e is.s) same' is.standalone), λ g. cc g)
 
   -- in the declaration: rows 21 to 25
   pub declaration_apart : (i j q : ℕ) (t : DueItem) (f : Fault) → IsXmlDecl src i j → DueInXmlDecl src i q t → IsMissing src q t f → ⊥
@@ -125,6 +126,6 @@ module _ (src : List ℕ) (utf8 : IsUtf8 src) where
       gap_stands q gap.0 f (pair_cut src p q utf8 pair) (subst (λ (k : ℕ). IsGap src k gap.0) same gap.1) lack
   declaration_apart i j q t f is (due.DueInXmlDecl.its_end v e s here may may' last) lack =
       let first : is.v ≡ v = one_may word.Version (spaces_end src (i + 5)) is.v v is.first_pair may in
-      let second : is.e ≡ e = one_may word.Encoding v is.e e (subst (λ (v : ℕ). MayBePair word.Encoding src v is.e) first is.encoding) may' in
-      let third : is.s ≡ s = one_last word.Standalone e is.s s (subst (λ (e : ℕ). MayEndPair word.Standalone src e is.s) second is.standalone) last in
+      let second : is.e ≡ e = one_may word.Encoding v is.e e (subst (λ (v : ℕ). MayBePair (word_text word.Encoding) src v is.e) first is.encoding) may' in
+      let third : is.s ≡ s = one_last word.Standalone e is.s s (subst (λ (e : ℕ). MayEndPair (word_text word.Standalone) src e is.s) second is.standalone) last in
       word_stands src word.PIEnd (spaces_end src is.s) f is.closes (subst (λ (s : ℕ). IsMissing src (spaces_end src s) (a_word word.PIEnd) f) (sym third) lack)

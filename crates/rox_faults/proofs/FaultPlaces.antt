@@ -7,24 +7,24 @@ use Rattle.std.proofs.lemmas.Bool.{eqb-true, eqb-false, leb-false, leb-true, ltb
 use Rattle.rox_grammar.specs.declared.fault.Fault.{Fault}
 use Rattle.rox_grammar.specs.declared.fault.Fault.TheVariants as fault
 use Rattle.rox_grammar.specs.declared.fault.Word.TheVariants as word
-use Rattle.rox_grammar.specs.FixedTexts.{word_text}
+use Rattle.rox_grammar.specs.FixedTexts.{word_text, at}
 use Rattle.rox_grammar.specs.Forest.{Forest, join}
-use Rattle.rox_grammar.specs.Written.{Name, Attribute, Tag, Item, Element, Text, Comment, PI, leaf}
+use Rattle.rox_grammar.specs.Written.{Name, Attribute, Tag, Item, Element, Text, Comment, PI, leaf, same_qname}
 use Rattle.rox_grammar.specs.Tree.{listed}
 use Rattle.rox_grammar.specs.Names.{byte, spaces_end, IsQName}
-use Rattle.rox_grammar.specs.Constructs.{at, IsEq, IsLiteral, IsEnd}
+use Rattle.rox_grammar.specs.Constructs.{IsEq, IsLiteral, IsEnd}
 use Rattle.rox_grammar.specs.Content.{Inclusion, IsTag, literals, line_ends}
 use Rattle.rox_grammar.specs.Entities.{Entity, most_deep}
 use Rattle.rox_grammar.specs.Document.{listable, with_new, distinct_pairs, most_attributes, most_pairs}
 use Rattle.rox_grammar.specs.WellNamed.{IsWellNamed}
 use Rattle.rox_grammar.specs.State.{Open, root, inside, is_root, depth_of, scope_of, attributes_so_far, pairs_so_far, FitsLimits}
 use Rattle.rox_grammar.specs.ContentPoints.{TagTo, is_content, is_main, TagBegins, in_content, StepsOver, a_run as takes_run, a_section, a_misc, an_empty_tag, a_start_tag, an_end_tag, goes}
-use Rattle.rox_grammar.specs.Faults.{Stands, lacks, other_name, none_open, in_section, in_misc, in_tag, in_end, unknown, unclosed, unclosed_in_replacement, in_value}
+use Rattle.rox_grammar.specs.Faults.{Stands, lacks, other_name, none_open, in_section, in_misc, in_tag, in_end, unknown, unclosed, unclosed_in_replacement, in_value, at_point}
 use Rattle.rox_reading.specs.Refusals.{Refusal, here}
 use Rattle.rox_reading.specs.State.{State}
 use Rattle.rox_reading.specs.Markup.{comment_at, instruction_at, cdata_at, end_tag_at}
 use Rattle.rox_reading.specs.Tags.{tag_at}
-use Rattle.rox_reading.specs.Machine.{Context, counted, value_opener, comment_step, cdata_step, instruction_step, end_step, tag_step, opened_by, closed_by, name_span, same_qname, step, drive, text_ends, drive_text, budget, opener}
+use Rattle.rox_reading.specs.Machine.{Context, counted, value_opener, comment_step, cdata_step, instruction_step, end_step, tag_step, opened_by, closed_by, name_span, step, drive, text_ends, drive_text, budget, opener}
 use Rattle.rox_reading.specs.Machine as machine
 use Rattle.rox_theory.specs.Openers.{AreTexts, AgreesValue, AgreesContent}
 use Rattle.rox_theory.proofs.Basics.{chosen}
@@ -217,7 +217,8 @@ module _ (opens : ℕ → Inclusion) (es : List Entity) (limit : ℕ) (text : Li
             in_one : (p c n v stop j : ℕ) (as' : List Attribute) (name : Name) → TagTo (is_main k) (opens k) src (place_of s) p s.openings_left c as' → p < spaces_end src p → IsQName src (spaces_end src p) name n → IsEq src n v
                 → IsLiteral src v stop j → (part : List ℕ) (f : Fault) → InPart opens es k src (v + 1) stop c part f → P part f
             in_one p c n v stop j as' name to spaces is_name eq literal part f (in_part l i stop' openings_left part_is ill) =
-                in_value k open_around s.openings_left p c n v stop j l i stop' openings_left src part (place_of s) as' name f place (fits_at s fine) begins to spaces is_name eq literal part_is ill
+                at_point k open_around s.openings_left src (place_of s) part f place (fits_at s fine)
+                (in_value v stop c l i stop' openings_left part f (record { begins = begins; p = p; written = as'; to = to; space = spaces; name = name; n = n; is_name = is_name; eq = eq; j = j; literal = literal }) part_is ill)
 
     -- an end tag
     end_step_fails : (s : State) (f : Fault) → is_content k s.stack ≡ true → open_around ≤ depth_of s.stack → AreOpened src open_around s.stack → IsValidState most s → Here k open_around src s → at word.EndTagStart src s.at ≡ true

@@ -15,7 +15,7 @@ use Rattle.rox_grammar.specs.WellNamed.{AreWellNamed}
 use Rattle.rox_grammar.specs.State as grammar
 use Rattle.rox_grammar.specs.State.{Open, root, inside, scope_of, nodes_so_far, attributes_so_far, pairs_so_far, FitsLimits}
 use Rattle.rox_grammar.specs.ContentPoints.{is_main, MayOpen, IsSpent, RootBegins, StepsOver, ContentPoint}
-use Rattle.rox_grammar.specs.Faults.{Stands, too_many_nodes, FaultFrom, at_place}
+use Rattle.rox_grammar.specs.Faults.{Stands, too_many_nodes, FaultFrom, at_place, at_point}
 use Rattle.rox_reading.specs.Refusals.{Refusal, here, there, refused, elsewhere}
 use Rattle.rox_reading.specs.Lexical.{◌>>=◌}
 use Rattle.rox_reading.specs.State.{State}
@@ -130,7 +130,7 @@ module _ (opens : ℕ → Inclusion) (es : List Entity) (limit : ℕ) (text : Li
 
   -- a fault at a place
   pub stand : (k open_around : ℕ) (src : List ℕ) (s : State) (f : Fault) → At k open_around src s → FitsLimits limit s.stack s.done → Stands limit es k open_around (opens k) src (place_of s) s.openings_left f → From src f
-  stand k open_around src s f place fits stands = at_place k open_around s.openings_left src (place_of s) f place fits stands
+  stand k open_around src s f place fits stands = at_point k open_around s.openings_left src (place_of s) _ _ place fits (at_place f stands)
 
   -- more nodes than the limit
   pub over : (k open_around : ℕ) (src : List ℕ) (s t : State) (f : Fault) → At k open_around src s → FitsLimits limit s.stack s.done → StepsOver k (opens k) src (place_of s) s.openings_left (place_of t) t.openings_left → AreFew t.stack t.done → counted limit t ≡ Err f

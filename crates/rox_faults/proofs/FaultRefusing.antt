@@ -10,15 +10,16 @@ use Rattle.rox_grammar.specs.Due.{DueItem, IsMissing, DueInXmlDecl}
 use Rattle.rox_grammar.specs.Forest.{Forest, Nil, join, size}
 use Rattle.rox_grammar.specs.Written.{Item, merge, leaf}
 use Rattle.rox_grammar.specs.Names.{byte}
-use Rattle.rox_grammar.specs.Constructs.{at, AreChars}
+use Rattle.rox_grammar.specs.Constructs.{AreChars}
+use Rattle.rox_grammar.specs.FixedTexts.{at}
 use Rattle.rox_grammar.specs.Content.{Inclusion, Value, Content}
 use Rattle.rox_grammar.specs.Entities.{Replacement, Entity, text_of, Spends, no_entities, Includes, most_deep, included_in_main}
 use Rattle.rox_grammar.specs.Doctype.{Asked, IsDoctype}
-use Rattle.rox_grammar.specs.Document.{Misc, no_misc, an_item, MayHaveDoctype, doctype, no_doctype, ParseOf, IsWithinLimits, Permits}
+use Rattle.rox_grammar.specs.Document.{Misc, no_misc, an_item, MayHaveDoctype, doctype, no_doctype, ParseOf, IsWithinLimits, Permits, PrologTo}
 use Rattle.rox_grammar.specs.State as grammar
 use Rattle.rox_grammar.specs.State.{root}
-use Rattle.rox_grammar.specs.ContentPoints.{is_main, PrologTo, PrologWithDoctype, Behind, MayOpen, RootBegins, ContentPoint, begins, goes, enters}
-use Rattle.rox_grammar.specs.Faults.{FaultFrom, in_misc_ahead, too_many_ahead, no_root, unknown_ahead, at_place, in_value, in_misc_behind, too_many_behind, unknown_behind}
+use Rattle.rox_grammar.specs.ContentPoints.{is_main, PrologWithDoctype, Behind, MayOpen, RootBegins, ContentPoint, begins, goes, enters}
+use Rattle.rox_grammar.specs.Faults.{FaultFrom, no_root, unknown_ahead, at_place, in_value, unknown_behind, in_one, misc_ahead, misc_behind, one_too_many, at_point}
 use Rattle.rox_grammar.specs.Faults as faults
 use Rattle.rox_grammar.specs.FaultsWithDoctype.{InDoctype, opens_at, RefusalOf, in_declaration, without, not_allowed, in_doctype, behind}
 use Rattle.rox_reading.specs.WholeText.{prolog}
@@ -51,16 +52,16 @@ place_front opens es text Root k open_around b src s (enters l other d c r stop 
 -- and before a fault
 front_of : (opens : ℕ → Inclusion) (es : List Entity) (limit : ℕ) (text : List ℕ) (behind_dtd : Bool) (Front : ℕ → Forest Item → Type 0) (source : List ℕ) (f : Fault) → FaultFrom opens es limit text behind_dtd Front source f
     → (p : ℕ) × (items : Forest Item) × Front p items
-front_of opens es limit text behind_dtd Front source f (in_misc_ahead p items _ front fits ill) = (p, items, front)
-front_of opens es limit text behind_dtd Front source f (too_many_ahead p j items item front fits is over) = (p, items, front)
+front_of opens es limit text behind_dtd Front source f (misc_ahead p items _ front fits (in_one _ ill)) = (p, items, front)
+front_of opens es limit text behind_dtd Front source f (misc_ahead p items _ front fits (one_too_many j item is over)) = (p, items, front)
 front_of opens es limit text behind_dtd Front source f (no_root items front fits) = (length text, items, front)
 front_of opens es limit text behind_dtd Front source f (unknown_ahead p items front fits below no_space no_less) = (p, items, front)
-front_of opens es limit text behind_dtd Front source f (at_place k open_around b _ s _ place fits stands) =
+front_of opens es limit text behind_dtd Front source f (at_point k open_around b _ s _ _ place fits (at_place _ stands)) =
     let r = place_front opens es text (λ p items. Front p items × RootBegins behind_dtd text p) k open_around b source s place in (r.0, r.1, r.2.0)
-front_of opens es limit text behind_dtd Front source f (in_value k open_around b p c n v e j l i stop d src part s as' name _ place fits begins' to spaces named eq literal is ill) =
+front_of opens es limit text behind_dtd Front source f (at_point k open_around b src s _ _ place fits (in_value v e c l i stop d part _ value is ill)) =
     let r = place_front opens es text (λ p items. Front p items × RootBegins behind_dtd text p) k open_around b src s place in (r.0, r.1, r.2.0)
-front_of opens es limit text behind_dtd Front source f (in_misc_behind p items _ back fits ill) = (back.start, back.before, back.ahead)
-front_of opens es limit text behind_dtd Front source f (too_many_behind p j items item back fits is over) = (back.start, back.before, back.ahead)
+front_of opens es limit text behind_dtd Front source f (misc_behind p items _ back fits (in_one _ ill)) = (back.start, back.before, back.ahead)
+front_of opens es limit text behind_dtd Front source f (misc_behind p items _ back fits (one_too_many j item is over)) = (back.start, back.before, back.ahead)
 front_of opens es limit text behind_dtd Front source f (unknown_behind p items back fits below a b c) = (back.start, back.before, back.ahead)
 
 -- a document type declaration begins where it stands
@@ -87,18 +88,18 @@ module _ (limit : ℕ) (src : List ℕ) (utf8 : IsUtf8 src) (given : List Asked)
   begins_here = begins_there src p.begun p.start true p.nodes given p.entities refl p.doctype
 
   -- a declaration has one end
-  one_declaration : (d : ℕ) → MayHaveXmlDecl src (after_bom src) d → d ≡ p.declared_to
-  one_declaration d may = ok_one d p.declared_to (prolog src (after_bom src)) (prolog_complete src utf8 (after_bom src) d may) (prolog_complete src utf8 (after_bom src) p.declared_to p.declaration)
+  one_declaration : (d : ℕ) → MayHaveXmlDecl src (after_bom src) d → d ≡ p.prolog.declared_to
+  one_declaration d may = ok_one d p.prolog.declared_to (prolog src (after_bom src)) (prolog_complete src utf8 (after_bom src) d may) (prolog_complete src utf8 (after_bom src) p.prolog.declared_to p.prolog.declaration)
 
   -- what is left up to there
   ahead_rest : (q : ℕ) (items : Forest Item) → PrologTo src q items → (rest : Forest Item) × Misc src q p.begun rest × (p.before ≡ join items rest)
   ahead_rest q items ahead =
-      misc_front src utf8 p.declared_to q p.begun items p.before (subst (λ (d : ℕ). Misc src d q items) (one_declaration ahead.declared_to ahead.declaration) ahead.misc) p.misc_before (doctype_stops src p.begun begins_here)
+      misc_front src utf8 p.prolog.declared_to q p.begun items p.before (subst (λ (d : ℕ). Misc src d q items) (one_declaration ahead.declared_to ahead.declaration) ahead.misc) p.prolog.misc (doctype_stops src p.begun begins_here)
 
   -- the root element does not begin before it
   no_root_here : (q : ℕ) (items : Forest Item) → PrologTo src q items → Stops src q → at word.DoctypeStart src q ≡ false → ⊥
   no_root_here q items ahead stops none =
-      let same = one_misc src utf8 ahead.declared_to p.declared_to q p.begun items p.before (one_declaration ahead.declared_to ahead.declaration) ahead.misc stops p.misc_before (doctype_stops src p.begun begins_here) in
+      let same = one_misc src utf8 ahead.declared_to p.prolog.declared_to q p.begun items p.before (one_declaration ahead.declared_to ahead.declaration) ahead.misc stops p.prolog.misc (doctype_stops src p.begun begins_here) in
       true≢false (sym begins_here ∙ ap (at word.DoctypeStart src) (sym same.0) ∙ none)
 
   no_root_begins : (q : ℕ) (items : Forest Item) → PrologTo src q items → RootBegins false src q → ⊥
@@ -114,13 +115,13 @@ module _ (limit : ℕ) (src : List ℕ) (utf8 : IsUtf8 src) (given : List Asked)
   few_nodes : IsWithinLimits limit tree → 1 + size (merge tree) ≤ limit
   few_nodes few =
       let merged : merge tree ≡ tree =
-      ap merge p.is_tree ∙ tops_merged true (included_in_main p.entities) src p.declared_to p.begun p.start p.end (length src) 255 p.openings_left true p.before p.nodes p.one p.after given p.entities p.misc_before p.doctype p.element p.misc_after ∙ sym p.is_tree in
+      ap merge p.is_tree ∙ tops_merged true (included_in_main p.entities) src p.prolog.declared_to p.begun p.start p.end (length src) 255 p.openings_left true p.before p.nodes p.one p.after given p.entities p.prolog.misc p.doctype p.element p.misc_after ∙ sym p.is_tree in
       rw merged (omega (arith, few.nodes))
 
   -- no fault stands before it but those of the limits
   ahead_over : (source : List ℕ) (f : Fault) → FaultFrom (λ k. no_entities) [] limit src false (PrologTo src) source f → IsOver (IsWithinLimits limit tree) f
-  ahead_over source f (in_misc_ahead q items _ ahead fits ill) = let r = ahead_rest q items ahead in absurd (misc_at src utf8 q p.begun r.0 f r.1 (doctype_stops src p.begun begins_here) ill)
-  ahead_over source f (too_many_ahead q j items item ahead fits is over) =
+  ahead_over source f (misc_ahead q items _ ahead fits (in_one _ ill)) = let r = ahead_rest q items ahead in absurd (misc_at src utf8 q p.begun r.0 f r.1 (doctype_stops src p.begun begins_here) ill)
+  ahead_over source f (misc_ahead q items _ ahead fits (one_too_many j item is over)) =
       let all = join items (leaf item) in
       let r = ahead_rest j all (ahead_on src utf8 q j items (leaf item) ahead (an_item q j j item Nil is (no_misc j))) in
       let rest = join p.nodes (join p.one p.after) in
@@ -132,17 +133,17 @@ module _ (limit : ℕ) (src : List ℕ) (utf8 : IsUtf8 src) (given : List Asked)
       let r = ahead_rest (length src) items ahead in let l = before_end src utf8 (length src) p.begun r.0 r.1 (doctype_bytes src p.begun begins_here).1 in absurd (omega arith)
   ahead_over source f (unknown_ahead q items ahead fits below no_space no_less) =
       let r = ahead_rest q items ahead in absurd (other_at src utf8 q p.begun r.0 r.1 (doctype_bytes src p.begun begins_here).1 no_space no_less)
-  ahead_over source f (at_place k open_around b _ s _ place fits stands) =
+  ahead_over source f (at_point k open_around b _ s _ _ place fits (at_place _ stands)) =
       let r = place_front (λ k. no_entities) [] src (λ p items. PrologTo src p items × RootBegins false src p) k open_around b source s place in absurd (no_root_begins r.0 r.1 r.2.0 r.2.1)
-  ahead_over source f (in_value k open_around b q c n v e j l i stop d other part s as' name _ place fits begins' to spaces named eq literal is ill) =
+  ahead_over source f (at_point k open_around b other s _ _ place fits (in_value v e c l i stop d part _ value is ill)) =
       let r = place_front (λ k. no_entities) [] src (λ p items. PrologTo src p items × RootBegins false src p) k open_around b other s place in absurd (no_root_begins r.0 r.1 r.2.0 r.2.1)
-  ahead_over source f (in_misc_behind q items _ back fits ill) = absurd (no_root_behind q items back)
-  ahead_over source f (too_many_behind q j items item back fits is over) = absurd (no_root_behind q items back)
+  ahead_over source f (misc_behind q items _ back fits (in_one _ ill)) = absurd (no_root_behind q items back)
+  ahead_over source f (misc_behind q items _ back fits (one_too_many j item is over)) = absurd (no_root_behind q items back)
   ahead_over source f (unknown_behind q items back fits below a b c) = absurd (no_root_behind q items back)
 
   -- nor in the declaration
   declaration_never : (q : ℕ) (t : DueItem) (f : Fault) → at word.XmlDeclStart src (after_bom src) ≡ true → DueInXmlDecl src (after_bom src) q t → IsMissing src q t f → ⊥
-  declaration_never q t f here' due lack = declared_apart p.declared_to p.declaration
+  declaration_never q t f here' due lack = declared_apart p.prolog.declared_to p.prolog.declaration
     where
       declared_apart : (d : ℕ) → MayHaveXmlDecl src (after_bom src) d → ⊥
       declared_apart d (declared _ _ is) = declaration_apart src utf8 (after_bom src) d q t f is due lack
@@ -151,7 +152,7 @@ module _ (limit : ℕ) (src : List ℕ) (utf8 : IsUtf8 src) (given : List Asked)
   -- nor a fault in it, met after the same answers, but those of the limits
   inside_over : (i : ℕ) (before : Forest Item) (asked : List Asked) (source : List ℕ) (f : Fault) → PrologTo src i before → at word.DoctypeStart src i ≡ true → SameAnswers asked given → InDoctype limit src i before asked source f → IsOver (IsWithinLimits limit tree) f
   inside_over i before asked source f ahead is same ill =
-      let there = one_misc src utf8 ahead.declared_to p.declared_to i p.begun before p.before (one_declaration ahead.declared_to ahead.declaration) ahead.misc (doctype_stops src i is) p.misc_before (doctype_stops src p.begun begins_here) in
+      let there = one_misc src utf8 ahead.declared_to p.prolog.declared_to i p.begun before p.before (one_declaration ahead.declared_to ahead.declaration) ahead.misc (doctype_stops src i is) p.prolog.misc (doctype_stops src p.begun begins_here) in
       let ill' : InDoctype limit src p.begun p.before asked source f = subst (λ (i : ℕ). InDoctype limit src i p.before asked source f) there.0 (subst (λ (b : Forest Item). InDoctype limit src i b asked source f) (sym there.1) ill) in
       by_doctype p.start true p.nodes given p.entities refl p.doctype (λ few. subst (λ (t : Forest Item). 1 + size (merge t) ≤ limit) p.is_tree (few_nodes few)) same ill'
     where
@@ -234,8 +235,8 @@ module _ (limit : ℕ) (src : List ℕ) (utf8 : IsUtf8 src) (given : List Asked)
     -- what is left up to the root element, and the entities are those of the parse
     declared_rest : (es : List Entity) (q : ℕ) (items : Forest Item) → PrologWithDoctype src asked es q items → ((rest : Forest Item) × Misc src q p.start rest × (before_root ≡ join items rest)) × (es ≡ p.entities)
     declared_rest es q items a =
-        let begun = one_misc src utf8 a.ahead.declared_to p.declared_to a.begun p.begun a.before p.before (one_declaration limit src utf8 given tree p a.ahead.declared_to a.ahead.declaration) a.ahead.misc
-        (doctype_stops src a.begun (begins_there src a.begun q true a.nodes asked es refl a.doctype)) p.misc_before (doctype_stops src p.begun (begins_here limit src utf8 given tree p)) in
+        let begun = one_misc src utf8 a.ahead.declared_to p.prolog.declared_to a.begun p.begun a.before p.before (one_declaration limit src utf8 given tree p a.ahead.declared_to a.ahead.declaration) a.ahead.misc
+        (doctype_stops src a.begun (begins_there src a.begun q true a.nodes asked es refl a.doctype)) p.prolog.misc (doctype_stops src p.begun (begins_here limit src utf8 given tree p)) in
         let r = doctype_front src utf8 a.begun p.begun q p.start true true a.nodes p.nodes asked given es p.entities refl refl begun.0 same a.doctype p.doctype root_stops.2 in
         let whole : before_root ≡ join items r.0 =
         ap (λ (b : Forest Item). join b p.nodes) begun.1 ∙ ap (join a.before) r.2 ∙ sym (join_assoc a.before a.nodes r.0) ∙ ap (λ (f : Forest Item). join f r.0) (sym a.all) in

@@ -10,13 +10,13 @@ use Rattle.rox_grammar.specs.declared.fault.Word.{Word}
 use Rattle.rox_grammar.specs.declared.fault.Word.TheVariants as word
 use Rattle.rox_grammar.specs.Spans.{IsTextSpan, NamesText}
 use Rattle.rox_grammar.specs.Chars.{is_space, is_name_start}
-use Rattle.rox_grammar.specs.FixedTexts.{word_text}
+use Rattle.rox_grammar.specs.FixedTexts.{word_text, at}
 use Rattle.rox_grammar.specs.Runs.{begins}
 use Rattle.rox_grammar.specs.Search.{stands, mark_from, byte_from}
 use Rattle.rox_grammar.specs.Forest.{Forest, Nil, join}
-use Rattle.rox_grammar.specs.Written.{Name, Tag, Item, Element, Text, Comment, PI, leaf, local_span}
+use Rattle.rox_grammar.specs.Written.{Name, Tag, Item, Element, Text, Comment, PI, leaf, local_span, same_qname}
 use Rattle.rox_grammar.specs.Names.{byte, spaces_end}
-use Rattle.rox_grammar.specs.Constructs.{at, double_dash, has_mark}
+use Rattle.rox_grammar.specs.Constructs.{double_dash, has_mark}
 use Rattle.rox_grammar.specs.Content.{is_verbatim, literals, line_ends}
 use Rattle.rox_grammar.specs.TextStart.{after_bom}
 use Rattle.rox_grammar.specs.Entities.{Replacement, Entity, most_deep}
@@ -29,7 +29,7 @@ use Rattle.rox_reading.specs.Lexical.{byte_at, space_at, quote_at, name_at, stri
 use Rattle.rox_reading.specs.Markup.{comment_at, Instruction, instruction_at, cdata_at, EndTag, end_tag_at, pair_at, gap_at, pair_if, xml_decl_at}
 use Rattle.rox_reading.specs.Values.{Next, at_end, opening, data_part, part_text, raw_character_data_at, ReadText, value_at}
 use Rattle.rox_reading.specs.Tags.{TagRead, tag_at}
-use Rattle.rox_reading.specs.Machine.{Context, counted, with_item, comment_step, instruction_step, cdata_step, with_piece, at_place, after_part, data_parts, character_data_step, cut_off_fault, opened_by, tag_step, name_span, same_qname, closed_by, end_step, step, drive, text_ends, drive_text, budget, values_of, opener, main_text}
+use Rattle.rox_reading.specs.Machine.{Context, counted, with_item, comment_step, instruction_step, cdata_step, with_piece, at_place, after_part, data_parts, character_data_step, cut_off_fault, opened_by, tag_step, name_span, closed_by, end_step, step, drive, text_ends, drive_text, budget, values_of, opener, main_text}
 use Rattle.rox_reading.specs.Doctype.{Reply, AreTextReplies, Asks, asks_nothing, ◌>>>◌, quoted_at, system_at, public_at, external_id_at, name_or_end_at, notation_at, Definition, inner as text_inside, outer, definition_at, EntityHead, kind_at, entity_head_at, answer_text, Dtd, next_reply, replied, defined, entity_step, skipped_declaration, with_state, subset_end, subset, external_id_if, doctype_head_at, doctype_step}
 use Rattle.rox_reading.specs.WholeText.{misc, body, finished, prolog, doctype, reading}
 use Rattle.rox_theory.specs.ValidState.{IsValidState, state}

@@ -8,21 +8,21 @@ use Rattle.rox_grammar.specs.declared.fault.Fault.{Fault}
 use Rattle.rox_grammar.specs.declared.fault.Fault.TheVariants as fault
 use Rattle.rox_grammar.specs.declared.fault.Due.TheVariants as due
 use Rattle.rox_grammar.specs.declared.fault.Word.TheVariants as word
-use Rattle.rox_grammar.specs.FixedTexts.{word_text}
+use Rattle.rox_grammar.specs.FixedTexts.{word_text, at}
 use Rattle.rox_grammar.specs.Chars.{is_space}
 use Rattle.rox_grammar.specs.Search.{byte_from}
 use Rattle.rox_grammar.specs.Forest.{Forest, Nil, join}
 use Rattle.rox_grammar.specs.Written.{Item, Comment, PI, leaf}
 use Rattle.rox_grammar.specs.Names.{byte, spaces_end}
-use Rattle.rox_grammar.specs.Constructs.{at}
 use Rattle.rox_grammar.specs.Content.{IsMisc, comment, instruction}
 use Rattle.rox_grammar.specs.TextStart.{after_bom}
 use Rattle.rox_grammar.specs.Entities.{Replacement, Entity}
-use Rattle.rox_grammar.specs.Doctype.{Request, Asked, IsDefinition, internal, external, IsPassedOver, Subset, no_more, space, an_item, skipped_declaration, an_entity, BeginsDoctype, IsDoctype, no_subset, with_subset, entry}
+use Rattle.rox_grammar.specs.Doctype.{Request, Asked, IsDefinition, internal, external, IsPassedOver, Subset, no_more, space, an_item, skipped_declaration, an_entity, BeginsDoctype, IsDoctype, no_subset, with_subset, entry, SubsetTo}
 use Rattle.rox_grammar.specs.State.{root, nodes_so_far, FitsLimits}
 use Rattle.rox_grammar.specs.Due.{DueItem, a_byte, doctype_end, subset_or_end, IsMissing, no_end, ends_before, DueInXmlDecl}
 use Rattle.rox_grammar.specs.Due as dues
-use Rattle.rox_grammar.specs.FaultsWithDoctype.{SubsetTo, IsPassed, NoItem, InDoctype, head_lacks, no_name, in_misc, too_many, not_passed, in_entity, entity_open, entity_cut, in_answer, end_lacks, unknown}
+use Rattle.rox_grammar.specs.Faults.{in_one, one_too_many}
+use Rattle.rox_grammar.specs.FaultsWithDoctype.{IsPassed, NoItem, InDoctype, head_lacks, no_name, not_passed, in_entity, entity_open, entity_cut, in_answer, end_lacks, unknown, in_subset, in_miscs}
 use Rattle.rox_reading.specs.Lexical.{byte_at, space_at}
 use Rattle.rox_reading.specs.Markup.{comment_at, instruction_at, xml_decl_at}
 use Rattle.rox_reading.specs.Refusals.{Refusal, here, there, refused, lifted}
@@ -152,7 +152,7 @@ module _ (src : List ℕ) (utf8 : IsUtf8 src) (limit most : ℕ) (less : limit �
         let begun = head_sound src d.state.at head opens is_head in
         let s = definition_sound head.0.parameter src head.1 (inner t, j) is in
         let definition : IsDefinition src head.0.parameter head.1 j [] (Some t) = subst (λ (t : Replacement). IsDefinition src head.0.parameter head.1 j [] (Some t)) (sym s.2) (internal head.1 s.0 j s.1) in
-        entity_open d.state.at begun.0 begun.1 head.1 j head.0.parameter items asked0 [] (Some t) f to fits begun.2 definition (byte_fails 62 src (spaces_end src j) f ill)
+        in_subset d.state.at items asked0 _ _ _ to fits (entity_open begun.0 begun.1 head.1 j head.0.parameter [] (Some t) f begun.2 definition (byte_fails 62 src (spaces_end src j) f ill))
 
     -- and of one that asks
     outer_fails : (head : EntityHead × ℕ) (request : Request) (j : ℕ) (answer : Option (List ℕ)) (text : Option Replacement) (f : Fault) → entity_head_at src d.state.at ≡ Ok head
@@ -163,12 +163,11 @@ module _ (src : List ℕ) (utf8 : IsUtf8 src) (limit most : ℕ) (less : limit �
         let text_is : IsTextReply (Ok answer) = subst IsTextReply replied' (reply_texts d.replies texts).0 in
         let gives = answer_sound answer text text_is read in
         elim s.2 as (λ _. In (asked0 ++ once request answer) src f) [
-          | inl may ↦ entity_open d.state.at begun.0 begun.1 head.1 j head.0.parameter items asked0 (once request answer) text f to fits begun.2 (external head.1 s.0 j request answer text s.1 may gives)
-              (byte_fails 62 src (spaces_end src j) f ill)
+          | inl may ↦ in_subset d.state.at items asked0 _ _ _ to fits (entity_open begun.0 begun.1 head.1 j head.0.parameter (once request answer) text f begun.2 (external head.1 s.0 j request answer text s.1 may gives) (byte_fails 62 src (spaces_end src j) f ill))
           | inr cuts ↦ (
               let past : length src ≤ spaces_end src j = omega (arith, cuts.cut, run_end_le is_space src j) in
               subst (In (asked0 ++ once request answer) src) (byte_past 62 src (spaces_end src j) f past ill)
-              (entity_cut d.state.at begun.0 begun.1 head.1 s.0 j head.0.parameter items asked0 request answer text to fits begun.2 s.1 cuts gives))
+              (in_subset d.state.at items asked0 _ _ _ to fits (entity_cut begun.0 begun.1 head.1 s.0 j head.0.parameter request answer text begun.2 s.1 cuts gives)))
         ]
 
     -- the declaration of an answer
@@ -183,7 +182,7 @@ module _ (src : List ℕ) (utf8 : IsUtf8 src) (limit most : ℕ) (less : limit �
         let f = w.1 in
         subst (λ (a : Option (List ℕ)). Stands (asked0 ++ once request a) e) (sym w.2)
         (subst (Stands (asked0 ++ once request (Some t))) w.4
-        (in_answer d.state.at begun.0 begun.1 head.1 s.0 j w.6.0 head.0.parameter items asked0 request t w.6.1 f to fits begun.2 s.1 s.2 w.3 w.5 w.6.2 w.6.3))
+        (in_subset d.state.at items asked0 _ _ _ to fits (in_answer begun.0 begun.1 head.1 s.0 j w.6.0 head.0.parameter request t w.6.1 f begun.2 s.1 s.2 w.3 w.5 w.6.2 w.6.3)))
 
     pub entity_fails : EntityFails asked0 (entity_step src d)
     unfolding entity_step
@@ -193,8 +192,8 @@ module _ (src : List ℕ) (utf8 : IsUtf8 src) (limit most : ℕ) (less : limit �
         (λ f ill.
         let begun = head_sound src d.state.at head opens is_head in
         let w = definition_fails src d.state.at begun.0 begun.1 head.1 head.0.parameter f begun.2 ill in
-        here_now asked0 f (in_entity d.state.at w.0 items asked0 w.1 f to fits opens w.2 w.3)))
-        (λ f ill. let w = head_fails src d.state.at f ill in here_now asked0 f (in_entity d.state.at w.0 items asked0 w.1 f to fits opens w.2 w.3))
+        here_now asked0 f (in_subset d.state.at items asked0 _ _ _ to fits (in_entity w.0 w.1 f opens w.2 w.3))))
+        (λ f ill. let w = head_fails src d.state.at f ill in here_now asked0 f (in_subset d.state.at items asked0 _ _ _ to fits (in_entity w.0 w.1 f opens w.2 w.3)))
       where
         by_definition : (head : EntityHead × ℕ) → entity_head_at src d.state.at ≡ Ok head → (x : Definition) (j : ℕ) → definition_at head.0.parameter src head.1 ≡ Ok (x, j)
             → EntityFails asked0 (defined x j d.replies >>> λ text. asks_nothing (lifted (byte_at 62 src (spaces_end src j))) >>> λ end. asks_nothing (Ok (record { state = at_place end.1 d.state; entities = d.entities ++ entry head.0.name text.0; replies = text.1 })))
@@ -295,7 +294,7 @@ module _ (src : List ℕ) (utf8 : IsUtf8 src) (limit most : ℕ) (less : limit �
           let bad' : with_item limit (state k (join before so.items) root 255) j item ≡ Err f = subst (λ (u : State). with_item limit u j item ≡ Err f) place_is bad in
           chosen (nat_le (nodes_so_far root (join (join before so.items) (leaf item))) limit) _ _ _ bad' (λ fewer bad. no_fault _ f bad)
           (λ more bad. let same : fault.NodesLimitReached ≡ f = cc in
-          here_now asked0 f (subst (In asked0 src) same (too_many k j so.items item asked0 to_here fits is (leb-false _ _ more))))
+          here_now asked0 f (subst (In asked0 src) same (in_subset k so.items asked0 _ _ _ to_here fits (in_miscs _ (one_too_many j item is (leb-false _ _ more))))))
 
       -- a comment
       comment_taken : (t : State) → at word.CommentStart src (spaces_end src d.state.at) ≡ true → comment_step limit src spaced.state ≡ Ok t → So s asked0 (with_state spaced t) × IsCharBoundary src t.at × IsValidState most t × (d.state.at < t.at)
@@ -308,7 +307,7 @@ module _ (src : List ℕ) (utf8 : IsUtf8 src) (limit most : ℕ) (less : limit �
       unfolding comment_step
       comment_ill f is h =
           let k = spaces_end src d.state.at in
-          bind_err (comment_at src k) _ f h (λ bad. here_now asked0 f (in_misc k so.items asked0 f to_here fits (comment_fails src utf8 k f is bad)))
+          bind_err (comment_at src k) _ f h (λ bad. here_now asked0 f (in_subset k so.items asked0 _ _ _ to_here fits (in_miscs _ (in_one f (comment_fails src utf8 k f is bad)))))
           (λ x read h. item_over x.1 (Comment k x.1 x.0) f (comment_is src utf8 k x.1 x.0 is read) h)
 
       -- a processing instruction
@@ -322,7 +321,7 @@ module _ (src : List ℕ) (utf8 : IsUtf8 src) (limit most : ℕ) (less : limit �
       unfolding instruction_step
       instruction_ill f is h =
           let k = spaces_end src d.state.at in
-          bind_err (instruction_at src k) _ f h (λ bad. here_now asked0 f (in_misc k so.items asked0 f to_here fits (instruction_fails src utf8 k f is bad)))
+          bind_err (instruction_at src k) _ f h (λ bad. here_now asked0 f (in_subset k so.items asked0 _ _ _ to_here fits (in_miscs _ (in_one f (instruction_fails src utf8 k f is bad)))))
           (λ x read h. item_over x.1 (PI k x.1 x.0.target x.0.value) f (instruction_is src utf8 k x.1 x.0 is read) h)
 
       -- the end behind `]`
@@ -333,7 +332,7 @@ module _ (src : List ℕ) (utf8 : IsUtf8 src) (limit most : ℕ) (less : limit �
           let e = spaces_end src (k + 1) in
           let S : Asks Dtd → Type 0 = Outcome asked0 in
           cond_both (nat_le (length src) e) _ _ S
-          (λ out. here_now asked0 fault.UnexpectedEndOfStream (end_lacks k so.items asked0 fault.UnexpectedEndOfStream to_here fits closing (ends_before doctype_end refl (leb-true _ _ out))))
+          (λ out. here_now asked0 fault.UnexpectedEndOfStream (in_subset k so.items asked0 _ _ _ to_here fits (end_lacks fault.UnexpectedEndOfStream closing (ends_before doctype_end refl (leb-true _ _ out)))))
           (λ inside. cond_both (byte src e == 62) _ _ S
           (λ closes.
           let is = eqb-true _ _ closes in
@@ -342,7 +341,7 @@ module _ (src : List ℕ) (utf8 : IsUtf8 src) (limit most : ℕ) (less : limit �
           (ap (λ (t : State). state (e + 1) t.done t.stack t.openings_left) so.state_is) (cut_behind src e 62 utf8 is (omega arith) (omega arith))
           (fine_there most d.state (at_place (e + 1) d.state) refl refl fine))
           (λ other. here_now asked0 (fault.InvalidChar2 due.End (byte src e) e)
-          (end_lacks k so.items asked0 (fault.InvalidChar2 due.End (byte src e) e) to_here fits closing (no_end (leb-false _ _ inside) (eqb-false _ _ other)))))
+          (in_subset k so.items asked0 _ _ _ to_here fits (end_lacks (fault.InvalidChar2 due.End (byte src e) e) closing (no_end (leb-false _ _ inside) (eqb-false _ _ other))))))
 
       -- nothing that a subset holds
       none_outcome : (d.state.at < length src) → at word.EntityStart src (spaces_end src d.state.at) ≡ false → at word.CommentStart src (spaces_end src d.state.at) ≡ false → at word.PIStart src (spaces_end src d.state.at) ≡ false
@@ -354,7 +353,7 @@ module _ (src : List ℕ) (utf8 : IsUtf8 src) (limit most : ℕ) (less : limit �
           let others = or_parts (at word.AttlistStart src k) (at word.NotationStart src k) both.1 in
           let none : NoItem src k =
           record { no_space = no_more_space src d.state.at utf8 cut; no_entity = no_entity; no_comment = no_comment; no_instruction = no_instruction; no_element = both.0; no_attlist = others.0; no_notation = others.1; no_bracket = no_end' } in
-          here_now asked0 (fault.UnknownToken k) (unknown k so.items asked0 to_here fits none (where_it_is inside))
+          here_now asked0 (fault.UnknownToken k) (in_subset k so.items asked0 _ _ _ to_here fits (unknown none (where_it_is inside)))
         where
           -- behind white space, where the text ends
           where_it_is : (d.state.at < length src) → (spaces_end src d.state.at < length src) ⊎ (is_space (byte src (spaces_end src d.state.at - 1)) ≡ true)
@@ -389,7 +388,7 @@ module _ (src : List ℕ) (utf8 : IsUtf8 src) (limit most : ℕ) (less : limit �
                 let so' : So s asked0 next =
                 record { items = so.items; read = read'; state_is = ap (λ (t : State). state (e + 1) t.done t.stack t.openings_left) so.state_is; solid = solid_behind src (e + 1) e 62 refl closes refl } in
                 rw lt (go next so' moves.2 (fine_there most d.state (at_place (e + 1) d.state) refl refl fine) refl (omega (arith, moves.0))))
-            | inr ge ↦ rw ge (here_now asked0 (fault.UnknownToken i) (not_passed k so.items asked0 to_here fits is (ltb-false _ _ ge)))
+            | inr ge ↦ rw ge (here_now asked0 (fault.UnknownToken i) (in_subset k so.items asked0 _ _ _ to_here fits (not_passed is (ltb-false _ _ ge))))
           ]
 
       -- a declaration of an entity

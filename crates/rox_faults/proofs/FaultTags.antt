@@ -15,18 +15,19 @@ use Rattle.rox_grammar.specs.declared.fault.Fault.TheVariants as fault
 use Rattle.rox_grammar.specs.FixedTexts.{word_text}
 use Rattle.rox_grammar.specs.Chars.{is_space, is_part_char}
 use Rattle.rox_grammar.specs.Written.{Name, Attribute, NamespaceDecl, is_namespace_decl, namespace_decl_of, namespace_decls_of, plain_attributes_of, local_span, prefix_span}
-use Rattle.rox_grammar.specs.Tree.{xml_uri, xmlns_uri, is_declared, listed}
+use Rattle.rox_grammar.specs.Tree.{xml_uri, xmlns_uri, is_declared, listed, listable_of}
 use Rattle.rox_grammar.specs.Names.{byte, slice, spaces_end, IsQName, unprefixed, prefixed, colon_first}
 use Rattle.rox_grammar.specs.Constructs.{AreChars, IsEq, IsLiteral}
 use Rattle.rox_grammar.specs.Content.{Inclusion, IsAttribute, Attributes, no_more, one_more}
-use Rattle.rox_grammar.specs.WellNamed.{may_declare, AreDeclarable, is_known, same_expanded, AreDistinct, may_name}
-use Rattle.rox_grammar.specs.Document.{listable_of, with_new, distinct_pairs, most_attributes, most_pairs}
+use Rattle.rox_grammar.specs.WellNamed.{may_declare, is_known, same_expanded, may_name}
+use Rattle.rox_grammar.proofs.NamesApart.{DeclarableBehind, DistinctBehind, declarable_behind, are_declarable, are_distinct}
+use Rattle.rox_grammar.specs.Document.{with_new, distinct_pairs, most_attributes, most_pairs}
 use Rattle.rox_grammar.specs.Entities.{Entity, most_deep}
 use Rattle.rox_grammar.specs.State as grammar
 use Rattle.rox_grammar.specs.State.{Open, root, State, scope_of, attributes_so_far, pairs_so_far}
 use Rattle.rox_grammar.specs.Due.{DueItem, a_byte, a_quote, a_qname, chars_to, tag_rest, IsMissing, no_space, no_quote, ends_before, DueInPair, its_name, equals, opening, its_value, closing, value_end}
 use Rattle.rox_grammar.specs.ContentPoints.{is_main, TagTo}
-use Rattle.rox_grammar.specs.Faults.{SpanIs, cut_off, IllDeclared, other_uri, uri_of_xml, uri_of_xmlns, again, IllNamed, unknown_attribute, twice, unknown_element, InTag, no_name, xmlns_prefix, cut, cut_in_replacement, no_rest, not_closed, in_pair, ill_declared, too_many_pairs, too_many_attributes, ill_named}
+use Rattle.rox_grammar.specs.Faults.{SpanIs, cut_off, IllDeclared, other_uri, uri_of_xml, uri_of_xmlns, again, IllNamed, unknown_attribute, twice, unknown_element, InTag, no_name, xmlns_prefix, cut, cut_in_replacement, no_rest, not_closed, in_pair, ill_declared, too_many_pairs, too_many_attributes, ill_named, in_rest}
 use Rattle.rox_grammar.specs.Faults as faults
 use Rattle.rox_reading.specs.Lexical.{byte_at, quote_at, qname_at}
 use Rattle.rox_reading.specs.Markup.{raw_value_at, attribute_at, TagItem, more, opened, closed, tag_item_at}
@@ -99,20 +100,20 @@ all_filtered src p (a ∷ as') all = cond_both (p a) (a ∷ filter p as') (filte
 -- ---- names
 
 -- one more name that is known and comes once
-distinct_more : (scope : List NamespaceDecl) (before as' : List Attribute) (a : Attribute) → AreDistinct scope before as' → is_known scope a.name ≡ true → list_any (λ e. same_expanded scope e.name a.name) (before ++ as') ≡ false
-    → AreDistinct scope before (as' ++ a ∷ [])
+distinct_more : (scope : List NamespaceDecl) (before as' : List Attribute) (a : Attribute) → DistinctBehind scope before as' → is_known scope a.name ≡ true → list_any (λ e. same_expanded scope e.name a.name) (before ++ as') ≡ false
+    → DistinctBehind scope before (as' ++ a ∷ [])
 distinct_more scope before [] a all known once = (known, subst (λ (xs : List Attribute). list_any (λ e. same_expanded scope e.name a.name) xs ≡ false) (append-nil before) once, tt)
 distinct_more scope before (x ∷ xs) a all known once =
     (all.0, all.1, distinct_more scope (before ++ x ∷ []) xs a all.2 known (subst (λ (ys : List Attribute). list_any (λ e. same_expanded scope e.name a.name) ys ≡ false) (sym (append_assoc before (x ∷ []) xs)) once))
 
 -- one more declaration that may be there
-declarable_more : (before ds : List NamespaceDecl) (d : NamespaceDecl) → AreDeclarable before ds → may_declare d ≡ true → is_declared d.prefix (before ++ ds) ≡ false → AreDeclarable before (ds ++ d ∷ [])
+declarable_more : (before ds : List NamespaceDecl) (d : NamespaceDecl) → DeclarableBehind before ds → may_declare d ≡ true → is_declared d.prefix (before ++ ds) ≡ false → DeclarableBehind before (ds ++ d ∷ [])
 declarable_more before [] d all may once = (may, subst (λ (ds : List NamespaceDecl). is_declared d.prefix ds ≡ false) (append-nil before) once, tt)
 declarable_more before (e ∷ es) d all may once =
     (all.0, all.1, declarable_more (before ++ e ∷ []) es d all.2 may (subst (λ (ds : List NamespaceDecl). is_declared d.prefix ds ≡ false) (sym (append_assoc before (e ∷ []) es)) once))
 
 -- a name that is not known, or comes again: rows 6 and 13
-names_fails : (src : List ℕ) (i : ℕ) (scope : List NamespaceDecl) (n : Name) (all before as' : List Attribute) (f : Fault) → all ≡ before ++ as' → AreDistinct scope [] before → AllAt src as'
+names_fails : (src : List ℕ) (i : ℕ) (scope : List NamespaceDecl) (n : Name) (all before as' : List Attribute) (f : Fault) → all ≡ before ++ as' → DistinctBehind scope [] before → AllAt src as'
     → names_tested scope before as' ≡ Err f → IllNamed src i scope n all f
 unfolding names_tested
 names_fails src i scope n whole before [] f is distinct all h = cc h
@@ -120,11 +121,11 @@ names_fails src i scope n whole before (a ∷ as') f is distinct all h =
     chosen (not (is_known scope a.name)) _ _ _ h
     (λ unknown h.
     let e : fault.UnknownNamespace (prefix_span a.name a.start) a.start ≡ f = cc in
-    subst (IllNamed src i scope n whole) e (unknown_attribute before as' a (prefix_span a.name a.start) is distinct (not-true _ unknown) all.0.prefix))
+    subst (IllNamed src i scope n whole) e (unknown_attribute before as' a (prefix_span a.name a.start) is (are_distinct scope before distinct) (not-true _ unknown) all.0.prefix))
     (λ known h. chosen (list_any (λ e. same_expanded scope e.name a.name) before) _ _ _ h
     (λ again h.
     let e : fault.DuplicatedAttribute (local_span a.name a.name_end) a.start ≡ f = cc in
-    subst (IllNamed src i scope n whole) e (twice before as' a (local_span a.name a.name_end) is distinct (not-false _ known) again all.0.local))
+    subst (IllNamed src i scope n whole) e (twice before as' a (local_span a.name a.name_end) is (are_distinct scope before distinct) (not-false _ known) again all.0.local))
     (λ once h. names_fails src i scope n whole (before ++ a ∷ []) as' f (is ∙ sym (append_assoc before (a ∷ []) as')) (distinct_more scope [] before a distinct (not-false _ known) once) all.1 h))
 
 -- a URI that may not be declared: rows 1 to 3
@@ -219,8 +220,8 @@ cut_same (grammar.Open.inside start tag before up) = refl
 
 -- a tag that is cut off
 cut_stands : (main : Bool) (O : Inclusion) (src : List ℕ) (s : State) (b p c : ℕ) (as' : List Attribute) → TagTo main O src s p b c as' → length src ≤ p → InTag main O src s b (machine.cut_off_fault main s.stack)
-cut_stands true O src s b p c as' to past = subst (InTag true O src s b) (sym (cut_same s.stack)) (cut p c as' to past refl)
-cut_stands false O src s b p c as' to past = cut_in_replacement p c as' to past refl
+cut_stands true O src s b p c as' to past = subst (InTag true O src s b) (sym (cut_same s.stack)) (in_rest p c as' _ to (cut past refl))
+cut_stands false O src s b p c as' to past = in_rest p c as' _ to (cut_in_replacement past refl)
 
 -- one more at the end
 attributes_more : (main : Bool) (O : Inclusion) (src : List ℕ) (k d i j b c : ℕ) (as' : List Attribute) (a : Attribute) → Attributes main O src i j b c as' → j < spaces_end src j → IsAttribute main O src (spaces_end src j) k c d a
@@ -278,7 +279,7 @@ module _ (opens : ℕ → Inclusion) (es : List Entity) (agrees : (d l : ℕ) �
 
     -- their declarations may be there, within the limit
     abbrev MayStand : List Attribute → Type 0
-    MayStand as' = AreDeclarable [] (namespace_decls_of as') × (length (with_new (distinct_pairs (pairs_so_far s.stack s.done)) (listable_of (namespace_decls_of as'))) ≤ most_pairs)
+    MayStand as' = DeclarableBehind [] (namespace_decls_of as') × (length (with_new (distinct_pairs (pairs_so_far s.stack s.done)) (listable_of (namespace_decls_of as'))) ≤ most_pairs)
 
     -- the tag is read up to here
     abbrev UpTo : ℕ → ℕ → List Attribute → Type 0
@@ -293,7 +294,7 @@ module _ (opens : ℕ → Inclusion) (es : List Entity) (agrees : (d l : ℕ) �
           is_name = to.is_name;
           no_xmlns = to.no_xmlns;
           attributes = attributes_more (is_main level) (opens level) src k d to.name_end p b c as' a to.attributes spaces is;
-          declarable = may.0;
+          declarable = are_declarable _ may.0;
           few_pairs = may.1;
         }
 
@@ -303,9 +304,9 @@ module _ (opens : ℕ → Inclusion) (es : List Entity) (agrees : (d l : ℕ) �
     turn_fails p c as' f to below h =
         let j = spaces_end src p in
         chosen (leb (length src) j) _ _ _ h
-        (λ out h. let is : fault.UnexpectedEndOfStream ≡ f = cc in subst Fails is (no_rest p c as' fault.UnexpectedEndOfStream to below (ends_before tag_rest refl (leb-true _ _ out))))
+        (λ out h. let is : fault.UnexpectedEndOfStream ≡ f = cc in subst Fails is (in_rest p c as' _ to (no_rest fault.UnexpectedEndOfStream below (ends_before tag_rest refl (leb-true _ _ out)))))
         (λ inside h. chosen (eqb (byte src j) 47) _ _ _ h
-        (λ slash h. bind_err (byte_at 62 src (j + 1)) _ f h (λ bad. not_closed p c as' f to (eqb-true _ _ slash) (byte_fails 62 src (j + 1) f bad)) (λ x read h. no_fault _ f h))
+        (λ slash h. bind_err (byte_at 62 src (j + 1)) _ f h (λ bad. in_rest p c as' _ to (not_closed f (eqb-true _ _ slash) (byte_fails 62 src (j + 1) f bad))) (λ x read h. no_fault _ f h))
         (λ no_slash h. chosen (eqb (byte src j) 62) _ _ _ h (λ greater h. cc)
         (λ no_greater h. chosen (eqb j p) _ _ _ h
         (λ none h.
@@ -313,13 +314,12 @@ module _ (opens : ℕ → Inclusion) (es : List Entity) (agrees : (d l : ℕ) �
         let is : fault.InvalidChar2 due.Space (byte src j) j ≡ f = cc in
         let is' : fault.InvalidChar2 due.Space (byte src p) p ≡ f = subst (λ (k : ℕ). fault.InvalidChar2 due.Space (byte src k) k ≡ f) same is in
         let no : is_space (byte src p) ≡ false = false_from_ne_true _ (λ space. let l = space_some src p below space in absurd (omega arith)) in
-        subst Fails is' (faults.InTag.no_space p c as' (fault.InvalidChar2 due.Space (byte src p) p) to below
-        (subst (λ (k : ℕ). byte src k ≢ 47) same (eqb-false _ _ no_slash)) (subst (λ (k : ℕ). byte src k ≢ 62) same (eqb-false _ _ no_greater)) (no_space below no)))
+        subst Fails is' (faults.InTag.in_rest p c as' _ to (faults.InTagRest.no_space (fault.InvalidChar2 due.Space (byte src p) p) below (subst (λ (k : ℕ). byte src k ≢ 47) same (eqb-false _ _ no_slash)) (subst (λ (k : ℕ). byte src k ≢ 62) same (eqb-false _ _ no_greater)) (no_space below no))))
         (λ some h.
         let apart = eqb-false _ _ some in
         let le = run_end_le is_space src p in
         bind_err (attribute_at src j) _ f h
-        (λ bad. let w = attribute_fails src utf8 j f bad in in_pair p c w.0 as' w.1 f to (omega arith) (leb-false _ _ inside) (eqb-false _ _ no_slash) (eqb-false _ _ no_greater) w.2 w.3)
+        (λ bad. let w = attribute_fails src utf8 j f bad in in_rest p c as' _ to (in_pair w.0 w.1 f (omega arith) (leb-false _ _ inside) (eqb-false _ _ no_slash) (eqb-false _ _ no_greater) w.2 w.3))
         (λ x read h. no_fault _ f h)))))
 
     -- a declaration that may not stand: rows 1 to 3, 5 and 20
@@ -329,19 +329,19 @@ module _ (opens : ℕ → Inclusion) (es : List Entity) (agrees : (d l : ℕ) �
     declared_fails p k c d as' a h f to spaces is named declares' own bad =
         let known = distinct_pairs (pairs_so_far s.stack s.done) in
         bind_err (uri_tested a) _ f bad
-        (λ bad. ill_declared p c d k as' a f to spaces is declares' (uri_fails src (namespace_decls_of as') a f bad))
+        (λ bad. in_rest p c as' _ to (ill_declared d k a f spaces is declares' (uri_fails src (namespace_decls_of as') a f bad)))
         (λ u tested bad. chosen (is_declared (namespace_decl_of a).prefix h.own) _ _ _ bad
         (λ twice bad.
         let e : fault.DuplicatedNamespace (local_span a.name a.name_end) a.start ≡ f = cc in
         let twice' : is_declared (namespace_decl_of a).prefix (namespace_decls_of as') ≡ true = rw own at twice in
-        subst Fails e (ill_declared p c d k as' a (fault.DuplicatedNamespace (local_span a.name a.name_end) a.start) to spaces is declares' (again (local_span a.name a.name_end) (uri_sound a u tested) twice' named.local)))
+        subst Fails e (in_rest p c as' _ to (ill_declared d k a (fault.DuplicatedNamespace (local_span a.name a.name_end) a.start) spaces is declares' (again (local_span a.name a.name_end) (uri_sound a u tested) twice' named.local))))
         (λ once bad. chosen (ltb most_pairs (length (with_new known (listable_of (h.own ++ namespace_decl_of a ∷ []))))) _ _ _ bad
         (λ many bad.
         let e : fault.NamespacesLimitReached ≡ f = cc in
         let over = ltb-true _ _ many in
         let once' : is_declared (namespace_decl_of a).prefix (namespace_decls_of as') ≡ false = rw own at once in
         let all : h.own ++ namespace_decl_of a ∷ [] ≡ namespace_decls_of as' ++ namespace_decl_of a ∷ [] = ap (λ (ds : List NamespaceDecl). ds ++ namespace_decl_of a ∷ []) own in
-        subst Fails e (too_many_pairs p c d k as' a to spaces is declares' (uri_sound a u tested) once' (subst (λ (ds : List NamespaceDecl). most_pairs < length (with_new known (listable_of ds))) all over)))
+        subst Fails e (in_rest p c as' _ to (too_many_pairs d k a spaces is declares' (uri_sound a u tested) once' (subst (λ (ds : List NamespaceDecl). most_pairs < length (with_new known (listable_of ds))) all over))))
         (λ fits bad. no_fault _ f bad)))
 
     -- what is held behind one more attribute
@@ -359,14 +359,14 @@ module _ (opens : ℕ → Inclusion) (es : List Entity) (agrees : (d l : ℕ) �
         let once' : is_declared (namespace_decl_of a).prefix (namespace_decls_of as') ≡ false = rw own at once in (
           sym (ap (λ (x : TagSoFar). x.own) (ok_same _ _ read)) ∙ all,
           (
-            subst (AreDeclarable []) (sym (declares_more as' a is)) (declarable_more [] (namespace_decls_of as') (namespace_decl_of a) may.0 (uri_sound a u tested) once'),
+            subst (DeclarableBehind []) (sym (declares_more as' a is)) (declarable_more [] (namespace_decls_of as') (namespace_decl_of a) may.0 (uri_sound a u tested) once'),
             subst (λ (ds : List NamespaceDecl). length (with_new known (listable_of ds)) ≤ most_pairs) all (ltb-false _ _ fits),
           ),
         )))))
         (λ no_declaration read.
         let same = sym (declares_same as' a no_declaration) in (
           sym (ap (λ (x : TagSoFar). x.own) (ok_same _ _ read)) ∙ own ∙ same,
-          (subst (AreDeclarable []) same may.0, subst (λ (ds : List NamespaceDecl). length (with_new known (listable_of ds)) ≤ most_pairs) same may.1),
+          (subst (DeclarableBehind []) same may.0, subst (λ (ds : List NamespaceDecl). length (with_new known (listable_of ds)) ≤ most_pairs) same may.1),
         ))
 
     -- one turn, and what follows it
@@ -395,7 +395,7 @@ module _ (opens : ℕ → Inclusion) (es : List Entity) (agrees : (d l : ℕ) �
         lifted_err (taken (distinct_pairs (pairs_so_far s.stack s.done)) (attribute_with raw v.0) h) _ e bad
         (λ f ill same. chosen (is_namespace_decl raw.name) _ _ _ ill (λ declares' ill. itself f same (declared_fails p j c v.1 as' (attribute_with raw v.0) h f to spaces is named declares' own ill)) (λ other ill. no_fault _ f ill))
         (λ held took bad.
-        let more' = held_more as' (attribute_with raw v.0) h held (to.declarable, to.few_pairs) own took in
+        let more' = held_more as' (attribute_with raw v.0) h held (declarable_behind (namespace_decls_of as') to.declarable, to.few_pairs) own took in
         next j v.1 (as' ++ attribute_with raw v.0 ∷ []) held (up_to_more p j c v.1 as' (attribute_with raw v.0) to spaces is more'.1) (attribute_cut (is_main level) (opens level) src utf8 (spaces_end src p) j c v.1 (attribute_with raw v.0) is) (omega arith) more'.0 bad))
 
     -- attributes and declarations up to the end of the tag
@@ -429,13 +429,13 @@ module _ (opens : ℕ → Inclusion) (es : List Entity) (agrees : (d l : ℕ) �
         let text = qname_text src (s.at + 1) name.0 name.1 utf8 behind is_name in
         bind_err (attributes_at (length src) alone (machine.cut_off_fault (is_main level) s.stack) known src name.1 b none_yet) _ e h
         (λ bad. attributes_fail (length src) name.1 b [] none_yet e
-        (record { name = name.0; name_end = name.1; is_name = is_name; no_xmlns = free; attributes = no_more name.1 b; declarable = tt; few_pairs = few }) text.3 (omega arith) refl bad)
+        (record { name = name.0; name_end = name.1; is_name = is_name; no_xmlns = free; attributes = no_more name.1 b; declarable = are_declarable [] tt; few_pairs = few }) text.3 (omega arith) refl bad)
         (λ x rest h.
         let r = rest_sound alone (opens level) (agrees deeper level deep) src utf8 (length src) (machine.cut_off_fault (is_main level) s.stack) known name.1 b none_yet x rest in
         let all = taken_sound known r.0 none_yet x.0.held r.4 in
         let few_pairs : length (with_new known (listable_of (namespace_decls_of r.0))) ≤ most_pairs = subst (λ (ds : List NamespaceDecl). length (with_new known (listable_of ds)) ≤ most_pairs) all.own (all.pairs few) in
         let c = x.0.openings_left in
-        let to : UpTo r.1 c r.0 = record { name = name.0; name_end = name.1; is_name = is_name; no_xmlns = free; attributes = r.2; declarable = all.declarable; few_pairs = few_pairs } in
+        let to : UpTo r.1 c r.0 = record { name = name.0; name_end = name.1; is_name = is_name; no_xmlns = free; attributes = r.2; declarable = are_declarable (namespace_decls_of r.0) all.declarable; few_pairs = few_pairs } in
         let as' = plain_attributes_of r.0 in
         let scope = listed (scope_of s.stack) (namespace_decls_of r.0) in
         let at_all : AllAt src as' = all_filtered src (λ a. not (is_namespace_decl a.name)) r.0 (attributes_named name.1 r.1 b c r.0 text.3 r.2) in
@@ -446,14 +446,13 @@ module _ (opens : ℕ → Inclusion) (es : List Entity) (agrees : (d l : ℕ) �
         (subst (λ (xs : List Attribute). tested_at (listed (scope_of s.stack) x.0.held.own) count (s.at + 1) name.0 xs ≡ Err f) all.attributes bad) in
         itself f same
         (chosen (ltb most_attributes (count + length as')) _ _ _ bad'
-        (λ many bad. let is : fault.AttributesLimitReached ≡ f = cc in subst Fails is (too_many_attributes r.1 c x.1 x.0.empty r.0 to r.3 (ltb-true _ _ many)))
+        (λ many bad. let is : fault.AttributesLimitReached ≡ f = cc in subst Fails is (in_rest r.1 c r.0 _ to (too_many_attributes x.1 x.0.empty r.3 (ltb-true _ _ many))))
         (λ fits bad.
         let fits' = ltb-false _ _ fits in
         bind_err (names_tested scope [] as') _ f bad
-        (λ bad. ill_named r.1 c x.1 x.0.empty r.0 f to r.3 fits' (names_fails src s.at scope name.0 as' [] as' f refl tt at_all bad))
+        (λ bad. in_rest r.1 c r.0 _ to (ill_named x.1 x.0.empty f r.3 fits' (names_fails src s.at scope name.0 as' [] as' f refl tt at_all bad)))
         (λ u names bad. chosen (may_name scope name.0) _ _ _ bad (λ may bad. no_fault _ f bad)
         (λ unknown bad.
         let is : fault.UnknownNamespace (prefix_span name.0 (s.at + 1)) (s.at + 1) ≡ f = cc in
-        subst Fails is (ill_named r.1 c x.1 x.0.empty r.0 (fault.UnknownNamespace (prefix_span name.0 (s.at + 1)) (s.at + 1)) to r.3 fits'
-        (unknown_element (prefix_span name.0 (s.at + 1)) (names_sound scope [] as' u names) unknown (name_holds src (s.at + 1) name.1 name.0 utf8 behind is_name).0)))))))
+        subst Fails is (in_rest r.1 c r.0 _ to (ill_named x.1 x.0.empty (fault.UnknownNamespace (prefix_span name.0 (s.at + 1)) (s.at + 1)) r.3 fits' (unknown_element (prefix_span name.0 (s.at + 1)) (are_distinct scope as' (names_sound scope [] as' u names)) unknown (name_holds src (s.at + 1) name.1 name.0 utf8 behind is_name).0))))))))
         (λ u tested h. no_fault _ e h))))

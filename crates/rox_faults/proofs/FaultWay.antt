@@ -7,7 +7,8 @@ use Rattle.rox_grammar.specs.Forest.{Forest, join}
 use Rattle.rox_grammar.specs.Written.{Tag, Item, Element, merge}
 use Rattle.rox_grammar.specs.Tree.{listed}
 use Rattle.rox_grammar.specs.Names.{byte, slice}
-use Rattle.rox_grammar.specs.Constructs.{at, AreChars, IsCData, IsEnd}
+use Rattle.rox_grammar.specs.Constructs.{AreChars, IsCData, IsEnd}
+use Rattle.rox_grammar.specs.FixedTexts.{at}
 use Rattle.rox_grammar.specs.Content.{Inclusion, Parts, IsCharacterData, IsMisc, comment, instruction, Value, Content}
 use Rattle.rox_grammar.specs.Entities.{Replacement, Entity, text_of, most_deep}
 use Rattle.rox_grammar.specs.State as grammar

@@ -11,26 +11,26 @@ use Rattle.rox_grammar.specs.declared.fault.Due.TheVariants as due
 use Rattle.rox_grammar.specs.declared.fault.Fault.TheVariants as fault
 use Rattle.rox_grammar.specs.Chars.{is_space}
 use Rattle.rox_grammar.specs.Runs.{run_end, passing}
-use Rattle.rox_grammar.specs.FixedTexts.{word_text}
+use Rattle.rox_grammar.specs.FixedTexts.{word_text, at}
 use Rattle.rox_grammar.specs.Search.{stands, byte_from}
 use Rattle.rox_grammar.specs.Forest.{Forest, Nil, join}
 use Rattle.rox_grammar.specs.Written.{Item, Comment, PI, leaf}
 use Rattle.rox_grammar.specs.Names.{byte, spaces_end}
-use Rattle.rox_grammar.specs.Constructs.{at, IsEq}
+use Rattle.rox_grammar.specs.Constructs.{IsEq}
 use Rattle.rox_grammar.specs.Content.{IsMisc}
 use Rattle.rox_grammar.specs.WellNamed.{AreWellNamed}
 use Rattle.rox_grammar.specs.Content.{Inclusion, IsElement}
 use Rattle.rox_grammar.specs.TextStart.{after_bom}
 use Rattle.rox_grammar.specs.Entities.{Entity, no_entities, most_deep, included_in_main}
 use Rattle.rox_grammar.specs.Doctype.{Asked}
-use Rattle.rox_grammar.specs.Document.{Misc, no_misc, space, an_item}
+use Rattle.rox_grammar.specs.Document.{Misc, no_misc, space, an_item, PrologTo}
 use Rattle.rox_grammar.specs.State.{root, nodes_so_far, FitsLimits}
 use Rattle.rox_reading.specs.Refusals.{Refusal, here, there, refused, lifted}
 use Rattle.rox_reading.specs.State.{State}
 use Rattle.rox_grammar.specs.Due.{DueItem, a_byte, a_quote, a_qname, a_gap, a_word, chars_to, IsMissing, no_gap, DueInPair, its_name, equals, opening, its_value, closing, value_end, PairBegins, version, encoding, standalone, DueInXmlDecl, its_version, in_pair, behind_pair}
 use Rattle.rox_grammar.specs.Due as dues
-use Rattle.rox_grammar.specs.ContentPoints.{is_main, PrologTo, Behind, begins, of_root}
-use Rattle.rox_grammar.specs.Faults.{InMisc, FaultOf, without, in_declaration, in_misc_ahead, too_many_ahead, doctype, no_root, unknown_ahead, in_misc_behind, too_many_behind, unknown_behind}
+use Rattle.rox_grammar.specs.ContentPoints.{is_main, Behind, begins, of_root}
+use Rattle.rox_grammar.specs.Faults.{InMisc, FaultOf, without, in_declaration, doctype, no_root, unknown_ahead, unknown_behind, in_one, misc_ahead, misc_behind, one_too_many}
 use Rattle.rox_reading.specs.Lexical.{byte_at, quote_at, qname_at, chars_up_to}
 use Rattle.rox_reading.specs.Markup.{comment_at, instruction_at, pair_at, gap_at, pair_if, xml_decl_at}
 use Rattle.rox_reading.specs.Machine.{value_opener, opener, with_item, comment_step, instruction_step, tag_step, main_text, drive}
@@ -322,8 +322,8 @@ module _ (src : List ℕ) (utf8 : IsUtf8 src) where
         lifted_err (misc limit (length src) src u) _ e h
         (λ f bad same.
         refuses_here es P src f e same
-        (misc_fails limit most less least f (Behind opens src Front) behind_on (P src f) (λ p items point fits ill. in_misc_behind p items f point fits ill)
-        (λ p j items item point fits item_is many is. subst (P src) is (too_many_behind p j items item point fits item_is many))
+        (misc_fails limit most less least f (Behind opens src Front) behind_on (P src f) (λ p items point fits ill. misc_behind p items _ point fits (in_one f ill))
+        (λ p j items item point fits item_is many is. subst (P src) is (misc_behind p items _ point fits (one_too_many j item item_is many)))
         (length src) u.openings_left u.at (join before one) behind (subst (IsValidState most) u_is root'.4) (ends_cut src u.at utf8 (element_ends true (opens 0) src i u.at 255 root'.0 one root'.2))
         (subst (λ (u : State). misc limit (length src) src u ≡ Err f) u_is bad)))
         (λ v rest h. no_fault _ e h))))
@@ -434,8 +434,8 @@ module _ (src : List ℕ) (utf8 : IsUtf8 src) where
       (λ bad. lifted_only (misc limit (length src) src first) e bad (λ f bad same. (
         f,
         same,
-        misc_fails limit most less least f (PrologTo src) ahead_on (FaultOf limit src f) (λ p items point fits ill. without f (in_misc_ahead p items f point fits ill))
-            (λ p j items item point fits item_is many is. subst (FaultOf limit src) is (without fault.NodesLimitReached (too_many_ahead p j items item point fits item_is many))) (length src) 255 i Nil ahead start cut' bad,
+        misc_fails limit most less least f (PrologTo src) ahead_on (FaultOf limit src f) (λ p items point fits ill. without f (misc_ahead p items _ point fits (in_one f ill)))
+            (λ p j items item point fits item_is many is. subst (FaultOf limit src) is (without fault.NodesLimitReached (misc_ahead p items _ point fits (one_too_many j item item_is many)))) (length src) 255 i Nil ahead start cut' bad,
       )))
       (λ s read h.
       let begun = lifted_ok read in

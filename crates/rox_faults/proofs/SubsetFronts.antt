@@ -7,13 +7,12 @@ use Rattle.std.proofs.lemmas.Bool.{true≢false}
 use Rattle.std.proofs.lemmas.List.{append-nil}
 use Rattle.rox_grammar.specs.declared.fault.Word.{Word}
 use Rattle.rox_grammar.specs.declared.fault.Word.TheVariants as word
-use Rattle.rox_grammar.specs.FixedTexts.{word_text}
+use Rattle.rox_grammar.specs.FixedTexts.{word_text, at}
 use Rattle.rox_grammar.specs.Chars.{is_space, is_name_char}
 use Rattle.rox_grammar.specs.Runs.{run_end}
 use Rattle.rox_grammar.specs.Forest.{Forest, Nil, join}
 use Rattle.rox_grammar.specs.Written.{Item, leaf}
 use Rattle.rox_grammar.specs.Names.{byte, slice, spaces_end}
-use Rattle.rox_grammar.specs.Constructs.{at}
 use Rattle.rox_grammar.specs.Content.{IsMisc, comment, instruction}
 use Rattle.rox_grammar.specs.Entities.{Replacement, Entity}
 use Rattle.rox_grammar.specs.Doctype.{Request, Asked, IsQuoted, IsSpace, IsExternalID, MayHaveNotation, GivesReplacement, IsDefinition, internal, external, IsKind, BeginsEntity, entry, IsEntityDeclaration, IsPassedOver, Subset, no_more, space, an_item, skipped_declaration, an_entity, MayHaveExternalID, BeginsDoctype, IsDoctype, no_subset, with_subset}

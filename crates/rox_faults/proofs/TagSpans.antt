@@ -11,7 +11,7 @@ use Rattle.rox_grammar.specs.FixedTexts.{word_text}
 use Rattle.rox_grammar.specs.Chars.{is_space}
 use Rattle.rox_grammar.specs.Runs.{begins}
 use Rattle.rox_grammar.specs.Written.{Name, Attribute, NamespaceDecl, is_namespace_decl, namespace_decl_of, local_span, prefix_span}
-use Rattle.rox_grammar.specs.Tree.{xml_uri, xmlns_uri, is_declared, listed}
+use Rattle.rox_grammar.specs.Tree.{xml_uri, xmlns_uri, is_declared, listed, listable_of}
 use Rattle.rox_grammar.specs.WellNamed.{is_known, same_expanded, may_name}
 use Rattle.rox_grammar.specs.Document.{with_new, most_pairs, most_attributes}
 use Rattle.rox_grammar.specs.Names.{byte, spaces_end}
@@ -19,7 +19,6 @@ use Rattle.rox_reading.specs.Refusals.{Refusal}
 use Rattle.rox_reading.specs.Lexical.{◌>>=◌, byte_at, quote_at, chars_up_to, qname_at}
 use Rattle.rox_reading.specs.Markup.{RawAttribute, raw_value_at, attribute_at, TagItem, more, opened, closed, tag_item_at}
 use Rattle.rox_reading.specs.Values.{ReadText, value_at}
-use Rattle.rox_grammar.specs.Document.{listable_of}
 use Rattle.rox_reading.specs.Tags.{Values, TagSoFar, TagRest, TagRead, prefix_tested, default_tested, uri_tested, declared, taken, attribute_with, after_tag_item, attributes_at, names_tested, tested_at, tag_tested, tag_at}
 use Rattle.rox_reading.specs.Machine.{name_span}
 use Rattle.rox_theory.proofs.Basics.{ok_same, bind_ok, chosen}

@@ -1,21 +1,20 @@
 -- The constructs that hold no others.
-use Rattle.std.specs.Prelude.{◌≡◌, ◌≢◌, ℕ, ◌+◌, ◌-◌, ◌<◌, ◌⊎◌, ◌==◌, Bool, true, false, List, [], ◌∷◌, length, take, nat_lt}
-use Rattle.rox_grammar.specs.declared.fault.Word.{Word}
-use Rattle.rox_grammar.specs.declared.fault.Word.TheVariants as word
+use Prim.Native.Char.{code}
+use Prim.Native.String.{String}
+use Rattle.std.specs.Prelude.{◌≡◌, ◌≢◌, ℕ, ◌+◌, ◌-◌, ◌<◌, ◌⊎◌, ◌==◌, Bool, true, false, List, length, take, nat_lt, codes}
 use Rattle.rox_grammar.specs.Chars.{is_char}
 use Rattle.rox_grammar.specs.Runs.{run_end}
 use Rattle.rox_grammar.specs.Search.{stands, before_mark, mark_from, byte_from}
-use Rattle.rox_grammar.specs.FixedTexts.{word_text}
 use Rattle.rox_grammar.specs.Written.{Name}
 use Rattle.rox_grammar.specs.Names.{byte, slice, spaces_end, IsName, IsQName}
 
--- the fixed text stands at i
-abbrev pub at : Word → List ℕ → ℕ → Bool
-at w src i = stands (word_text w) src i
+-- the text stands at i
+abbrev pub text_at : String → List ℕ → ℕ → Bool
+text_at text src i = stands (codes text) src i
 
--- the first place from i on where the fixed text stands, or the end
-abbrev pub first : Word → List ℕ → ℕ → ℕ
-first w src i = mark_from (word_text w) src i
+-- the first place from i on where the text stands, or the end
+abbrev pub first_text : String → List ℕ → ℕ → ℕ
+first_text text src i = mark_from (codes text) src i
 
 -- XML 2.2 [2]: what stands from i up to j are Chars, that is, the longest stretch of Chars reaches j
 abbrev pub AreChars : List ℕ → ℕ → ℕ → Type 0
@@ -27,49 +26,49 @@ has_mark mark text = nat_lt (before_mark mark text) (length text)
 
 -- two dashes, which the text of no comment may hold (XML 2.5)
 abbrev pub double_dash : List ℕ
-double_dash = 45 ∷ 45 ∷ []
+double_dash = codes "--"
 
 -- XML 2.5 [15] Comment; its text ends at e
 pub record IsComment (src : List ℕ) (i e j : ℕ) : Type 0 where
-  pub opens : at word.CommentStart src i ≡ true
-  pub end : e ≡ first word.CommentEnd src (i + 4)
+  pub opens : text_at "<!--" src i ≡ true
+  pub end : e ≡ first_text "-->" src (i + 4)
   pub chars : AreChars src (i + 4) e
-  pub closes : at word.CommentEnd src e ≡ true
+  pub closes : text_at "-->" src e ≡ true
   pub no_dashes : has_mark double_dash (slice src (i + 4) e) ≡ false
-  pub no_last : byte (slice src (i + 4) e) (length (slice src (i + 4) e) - 1) ≢ 45
+  pub no_last : byte (slice src (i + 4) e) (length (slice src (i + 4) e) - 1) ≢ code "-"
   pub next : j ≡ e + 3
 
 -- XML 2.6 [16] PI; its target ends at n, and its value at e. White space behind the target may be none, and of the names only
 -- `xml` with a space behind it is no target: 2.6 [17] wants white space and forbids `xml` in any letters, NS 7 a colon.
 pub record IsPI (src : List ℕ) (i n e j : ℕ) : Type 0 where
-  pub opens : at word.PIStart src i ≡ true
-  pub no_declaration : at word.XmlDeclStart src i ≡ false
+  pub opens : text_at "<?" src i ≡ true
+  pub no_declaration : text_at "<?xml " src i ≡ false
   pub target : IsName src (i + 2) n
-  pub end : e ≡ first word.PIEnd src (spaces_end src n)
+  pub end : e ≡ first_text "?>" src (spaces_end src n)
   pub chars : AreChars src (spaces_end src n) e
-  pub closes : at word.PIEnd src e ≡ true
+  pub closes : text_at "?>" src e ≡ true
   pub next : j ≡ e + 2
 
 -- XML 2.7 [18] CDSect; its text ends at e
 pub record IsCData (src : List ℕ) (i e j : ℕ) : Type 0 where
-  pub opens : at word.CDataStart src i ≡ true
-  pub end : e ≡ first word.CDataEnd src (i + 9)
+  pub opens : text_at "<![CDATA[" src i ≡ true
+  pub end : e ≡ first_text "]]>" src (i + 9)
   pub chars : AreChars src (i + 9) e
-  pub closes : at word.CDataEnd src e ≡ true
+  pub closes : text_at "]]>" src e ≡ true
   pub next : j ≡ e + 3
 
 -- XML 2.3 [25] Eq
 pub record IsEq (src : List ℕ) (i j : ℕ) : Type 0 where
-  pub equals : byte src (spaces_end src i) ≡ 61
+  pub equals : byte src (spaces_end src i) ≡ code "="
   pub next : j ≡ spaces_end src (spaces_end src i + 1)
 
 -- XML 2.3 [10] a literal in quotes, with Chars and no `<`; it ends at e
 pub record IsLiteral (src : List ℕ) (i e j : ℕ) : Type 0 where
-  pub quote : (byte src i ≡ 39) ⊎ (byte src i ≡ 34)
+  pub quote : (byte src i ≡ code "'") ⊎ (byte src i ≡ code "\"")
   pub end : e ≡ byte_from (λ c. c == byte src i) src (i + 1)
   pub closes : e < length src
   pub chars : AreChars src (i + 1) e
-  pub no_markup : e ≡ byte_from (λ c. c == 60) (take e src) (i + 1)
+  pub no_markup : e ≡ byte_from (λ c. c == code "<") (take e src) (i + 1)
   pub next : j ≡ e + 1
 
 -- a name, Eq, and a literal
@@ -85,35 +84,35 @@ pub record IsPair (src : List ℕ) (i j : ℕ) : Type 0 where
 -- white space, or none before `?>` and at the end
 pub data IsGap (src : List ℕ) : ℕ → ℕ → Type 0 where
   some_space : (i : ℕ) → i < spaces_end src i → IsGap src i (spaces_end src i)
-  no_space : (i : ℕ) → (length src ≡ i) ⊎ (at word.PIEnd src i ≡ true) → IsGap src i i
+  no_space : (i : ℕ) → (length src ≡ i) ⊎ (text_at "?>" src i ≡ true) → IsGap src i i
 
--- A pair that begins with this word, and a gap, or nothing where the word does not stand. The name may go on behind the word, and
--- the value is any literal: XML 2.8 [24], [26], 4.3.3 [80], [81] and 2.9 [32] fix both.
-pub data MayBePair (w : Word) (src : List ℕ) : ℕ → ℕ → Type 0 where
-  is_pair : (i j k : ℕ) → at w src i ≡ true → IsPair src i j → IsGap src j k → MayBePair w src i k
-  no_pair : (i : ℕ) → at w src i ≡ false → MayBePair w src i i
+-- A pair that begins with this text, and a gap, or nothing where the text does not stand. The name may go on behind it, and the
+-- value is any literal: XML 2.8 [24], [26], 4.3.3 [80], [81] and 2.9 [32] fix both.
+pub data MayBePair (text : List ℕ) (src : List ℕ) : ℕ → ℕ → Type 0 where
+  is_pair : (i j k : ℕ) → stands text src i ≡ true → IsPair src i j → IsGap src j k → MayBePair text src i k
+  no_pair : (i : ℕ) → stands text src i ≡ false → MayBePair text src i i
 
 -- the last pair needs no gap
-pub data MayEndPair (w : Word) (src : List ℕ) : ℕ → ℕ → Type 0 where
-  is_last : (i j : ℕ) → at w src i ≡ true → IsPair src i j → MayEndPair w src i j
-  no_last : (i : ℕ) → at w src i ≡ false → MayEndPair w src i i
+pub data MayEndPair (text : List ℕ) (src : List ℕ) : ℕ → ℕ → Type 0 where
+  is_last : (i j : ℕ) → stands text src i ≡ true → IsPair src i j → MayEndPair text src i j
+  no_last : (i : ℕ) → stands text src i ≡ false → MayEndPair text src i i
 
 -- XML 2.8 [23] XMLDecl, but only where a space follows `<?xml`: with other white space there it is read as an instruction
 pub record IsXmlDecl (src : List ℕ) (i j : ℕ) : Type 0 where
-  pub opens : at word.XmlDeclStart src i ≡ true
-  pub version : at word.Version src (spaces_end src (i + 5)) ≡ true
+  pub opens : text_at "<?xml " src i ≡ true
+  pub version : text_at "version" src (spaces_end src (i + 5)) ≡ true
   pub v : ℕ
-  pub first_pair : MayBePair word.Version src (spaces_end src (i + 5)) v
+  pub first_pair : MayBePair (codes "version") src (spaces_end src (i + 5)) v
   pub e : ℕ
-  pub encoding : MayBePair word.Encoding src v e
+  pub encoding : MayBePair (codes "encoding") src v e
   pub s : ℕ
-  pub standalone : MayEndPair word.Standalone src e s
-  pub closes : at word.PIEnd src (spaces_end src s) ≡ true
+  pub standalone : MayEndPair (codes "standalone") src e s
+  pub closes : text_at "?>" src (spaces_end src s) ≡ true
   pub next : j ≡ spaces_end src s + 2
 
 -- XML 3.1 [42] ETag; its name ends at n
 pub record IsEnd (src : List ℕ) (i : ℕ) (name : Name) (n j : ℕ) : Type 0 where
-  pub opens : at word.EndTagStart src i ≡ true
+  pub opens : text_at "</" src i ≡ true
   pub is_name : IsQName src (i + 2) name n
-  pub closes : byte src (spaces_end src n) ≡ 62
+  pub closes : byte src (spaces_end src n) ≡ code ">"
   pub next : j ≡ spaces_end src n + 1

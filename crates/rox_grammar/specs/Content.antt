@@ -1,9 +1,8 @@
 -- Character data, attribute values, tags, elements and content, each as a relation between two places of one source.
-use Rattle.std.specs.Prelude.{◌≡◌, ◌≢◌, ℕ, ◌+◌, ◌<◌, ◌≤◌, ◌⊎◌, ◌==◌, ◌||◌, Bool, true, false, not, List, [], ◌∷◌, ◌++◌, None, if◌then◌else◌}
+use Prim.Native.Char.{code}
+use Rattle.std.specs.Prelude.{◌≡◌, ◌≢◌, ℕ, ◌+◌, ◌<◌, ◌≤◌, ◌⊎◌, ◌==◌, ◌||◌, Bool, true, false, not, List, [], ◌∷◌, ◌++◌, None, if◌then◌else◌, codes}
 use Rattle.std.specs.List.{list_any}
 use Rattle.std.specs.Char.{encode_utf8}
-use Rattle.rox_grammar.specs.declared.fault.Word.TheVariants as word
-use Rattle.rox_grammar.specs.FixedTexts.{word_text}
 use Rattle.rox_grammar.specs.Search.{byte_from}
 use Rattle.rox_grammar.specs.Forest.{Forest, Nil, Cons, join}
 use Rattle.rox_grammar.specs.Written.{Attribute, Tag, Item, Element, Text, Comment, PI, namespace_decls_of, plain_attributes_of, merge, leaf}
@@ -41,24 +40,32 @@ data_bytes_of false (b ∷ bs) = literal b ∷ data_bytes_of false bs
 -- a literal LF stands in front
 abbrev pub begins_with_line_feed : List DataByte → Bool
 begins_with_line_feed [] = false
-begins_with_line_feed (s ∷ ss) = is_literal 10 s
+begins_with_line_feed (s ∷ ss) = is_literal (code "\n") s
 
 -- XML 2.11: a literal CR right before a literal LF gives nothing, and any other literal CR gives LF
 abbrev pub line_ends : List DataByte → List ℕ
 line_ends [] = []
-line_ends (s ∷ ss) = if is_literal 13 s then (if begins_with_line_feed ss then line_ends ss else 10 ∷ line_ends ss) else data_byte s ∷ line_ends ss
+line_ends (s ∷ ss) = if is_literal (code "\r") s then (if begins_with_line_feed ss then line_ends ss else code "\n" ∷ line_ends ss) else data_byte s ∷ line_ends ss
 
 -- each byte as it stands
 abbrev pub literals : List ℕ → List DataByte
 literals bs = data_bytes_of false bs
 
+-- no CR
+abbrev pub has_no_return : List ℕ → Bool
+has_no_return bs = not (list_any (λ b. b == code "\r") bs)
+
 -- no `&` and no CR
 abbrev pub is_verbatim : List ℕ → Bool
-is_verbatim bs = not (list_any (λ b. b == 38 || b == 13) bs)
+is_verbatim bs = not (list_any (λ b. b == code "&" || b == code "\r") bs)
 
 -- no `&` and no white space but space
 abbrev pub is_verbatim_value : List ℕ → Bool
-is_verbatim_value bs = not (list_any (λ b. b == 38 || (b == 9 || (b == 10 || b == 13))) bs)
+is_verbatim_value bs = not (list_any (λ b. b == code "&" || (b == code "\t" || (b == code "\n" || b == code "\r"))) bs)
+
+-- a CDATA section of this text, which is a slice of the source if it has no CR
+abbrev pub section : (start end : ℕ) → (text : List ℕ) → Item
+section start end text = Text start end (line_ends (literals text)) (has_no_return text)
 
 -- the text of a part, if it has a character
 abbrev pub piece : ℕ → ℕ → Bool → List DataByte → Forest Item
@@ -69,7 +76,7 @@ piece start stop borrowed (s ∷ ss) = leaf (Text start stop (line_ends (s ∷ s
 -- where by 4.5 one of an entity's literal is opened before, and may begin markup.
 pub data Part (main : Bool) (src : List ℕ) (j : ℕ) : ℕ → List DataByte → Type 0 where
   part_ends : Part main src j j []
-  as_written : (i : ℕ) (ss : List DataByte) → i < j → byte src i ≢ 38 → Part main src j (i + 1) ss → Part main src j i (literal (byte src i) ∷ ss)
+  as_written : (i : ℕ) (ss : List DataByte) → i < j → byte src i ≢ code "&" → Part main src j (i + 1) ss → Part main src j i (literal (byte src i) ∷ ss)
   from_reference : (i n c : ℕ) (ss : List DataByte) → IsCharacter src i c n → n ≤ j → Part main src j n ss → Part main src j i (data_bytes_of main (encode_utf8 c) ++ ss)
 
 -- the parts of the run from start up to stop, from i on, which references to entities cut
@@ -83,26 +90,26 @@ pub data Parts (main : Bool) (Includes : Inclusion) (src : List ℕ) (start stop
 -- XML 2.4: a run reaches to the next `<` or the end
 pub record IsCharacterData (src : List ℕ) (i j : ℕ) : Type 0 where
   pub some : i < j
-  pub end : j ≡ byte_from (λ c. c == 60) src i
+  pub end : j ≡ byte_from (λ c. c == code "<") src i
   pub chars : AreChars src i j
-  pub no_end_mark : has_mark (word_text word.CDataEnd) (slice src i j) ≡ false
+  pub no_end_mark : has_mark (codes "]]>") (slice src i j) ≡ false
 
 -- a character from a reference in a value: within a replacement text white space gives a space, where XML 3.3.3 keeps it
 abbrev pub value_bytes : Bool → ℕ → List ℕ
 value_bytes true c = encode_utf8 c
-value_bytes false c = if c == 9 || (c == 10 || c == 13) then 32 ∷ [] else encode_utf8 c
+value_bytes false c = if c == code "\t" || (c == code "\n" || c == code "\r") then code " " ∷ [] else encode_utf8 c
 
 -- XML 3.3.3: the value that stands from i up to j. Within a replacement text a reference may not give `<` (`a_character`), where
 -- 3.1 and 4.6 let `&lt;` give one.
 pub data Value (main : Bool) (Includes : Inclusion) (src : List ℕ) (j : ℕ) : ℕ → ℕ → ℕ → List ℕ → Type 0 where
   value_ends : (b : ℕ) → Value main Includes src j j b b []
-  line_end : (i b c : ℕ) (v : List ℕ) → i + 1 < j → byte src i ≡ 13 → byte src (i + 1) ≡ 10 → Value main Includes src j (i + 1) b c v
+  line_end : (i b c : ℕ) (v : List ℕ) → i + 1 < j → byte src i ≡ code "\r" → byte src (i + 1) ≡ code "\n" → Value main Includes src j (i + 1) b c v
       → Value main Includes src j i b c v
-  white : (i b c : ℕ) (v : List ℕ) → i < j → (byte src i ≡ 9) ⊎ ((byte src i ≡ 10) ⊎ ((byte src i ≡ 13) × ((j ≡ i + 1) ⊎ (byte src (i + 1) ≢ 10))))
-      → Value main Includes src j (i + 1) b c v → Value main Includes src j i b c (32 ∷ v)
-  other : (i b c : ℕ) (v : List ℕ) → i < j → byte src i ≢ 38 → byte src i ≢ 9 → byte src i ≢ 10 → byte src i ≢ 13 → byte src i ≢ 60
+  white : (i b c : ℕ) (v : List ℕ) → i < j → (byte src i ≡ code "\t") ⊎ ((byte src i ≡ code "\n") ⊎ ((byte src i ≡ code "\r") × ((j ≡ i + 1) ⊎ (byte src (i + 1) ≢ code "\n"))))
+      → Value main Includes src j (i + 1) b c v → Value main Includes src j i b c (code " " ∷ v)
+  other : (i b c : ℕ) (v : List ℕ) → i < j → byte src i ≢ code "&" → byte src i ≢ code "\t" → byte src i ≢ code "\n" → byte src i ≢ code "\r" → byte src i ≢ code "<"
       → Value main Includes src j (i + 1) b c v → Value main Includes src j i b c (byte src i ∷ v)
-  a_character : (i n x b c : ℕ) (v : List ℕ) → IsCharacter src i x n → n ≤ j → (main ≡ true) ⊎ (x ≢ 60) → Value main Includes src j n b c v
+  a_character : (i n x b c : ℕ) (v : List ℕ) → IsCharacter src i x n → n ≤ j → (main ≡ true) ⊎ (x ≢ code "<") → Value main Includes src j n b c v
       → Value main Includes src j i b c (value_bytes main x ++ v)
   an_entity : (i n k b c d : ℕ) (w v : List ℕ) → IsReference src i n k → predefined (slice src (i + 1) n) ≡ None → k ≤ j → Includes.value (slice src (i + 1) n) b w c
       → Value main Includes src j k c d v → Value main Includes src j i b d (w ++ v)
@@ -128,12 +135,12 @@ pub data Attributes (main : Bool) (Includes : Inclusion) (src : List ℕ) : ℕ 
 
 -- `>`, or `/>` where the element is empty, after white space
 pub data TagEnds (src : List ℕ) : ℕ → Bool → ℕ → Type 0 where
-  opened : (i : ℕ) → byte src (spaces_end src i) ≡ 62 → TagEnds src i false (spaces_end src i + 1)
-  closed : (i : ℕ) → byte src (spaces_end src i) ≡ 47 → byte src (spaces_end src i + 1) ≡ 62 → TagEnds src i true (spaces_end src i + 2)
+  opened : (i : ℕ) → byte src (spaces_end src i) ≡ code ">" → TagEnds src i false (spaces_end src i + 1)
+  closed : (i : ℕ) → byte src (spaces_end src i) ≡ code "/" → byte src (spaces_end src i + 1) ≡ code ">" → TagEnds src i true (spaces_end src i + 2)
 
 -- XML 3.1 [40] STag, [44] EmptyElemTag; the flag says that the element is empty
 pub record IsTag (main : Bool) (Includes : Inclusion) (src : List ℕ) (i j b c : ℕ) (empty : Bool) (t : Tag) : Type 0 where
-  pub begins : byte src i ≡ 60
+  pub begins : byte src i ≡ code "<"
   pub is_name : IsQName src (i + 1) t.name t.name_end
   pub written : List Attribute
   pub last : ℕ
@@ -160,7 +167,7 @@ mutual
     run : (i j l b c d : ℕ) (items more : Forest Item) → IsCharacterData src i j → Parts main Includes src i j i b c items → Content main Includes src j l c d more
         → Content main Includes src i l b d (join items more)
     cdata : (i e j l b c : ℕ) (more : Forest Item) → IsCData src i e j → Content main Includes src j l b c more
-        → Content main Includes src i l b c (join (leaf (Text i j (line_ends (literals (slice src (i + 9) e))) (not (list_any (λ b. b == 13) (slice src (i + 9) e))))) more)
+        → Content main Includes src i l b c (join (leaf (section i j (slice src (i + 9) e))) more)
     misc : (i j l b c : ℕ) (item : Item) (more : Forest Item) → IsMisc src i j item → Content main Includes src j l b c more
         → Content main Includes src i l b c (join (leaf item) more)
     node : (i j l b c d : ℕ) (one more : Forest Item) → IsElement main Includes src i j b c one → Content main Includes src j l c d more

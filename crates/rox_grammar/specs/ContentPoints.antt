@@ -1,30 +1,21 @@
 -- The points that reading comes to: places of content, and points before and behind the root element. A construct is
 -- passed where it stands in the grammar and is well named; nothing else is.
-use Rattle.std.specs.Prelude.{◌≡◌, ◌≢◌, ℕ, zero, suc, ◌+◌, ◌<◌, ◌≤◌, ◌==◌, ◌⊎◌, Some, None, Bool, true, false, not, List, [], length, bytes_eq}
-use Rattle.std.specs.List.{list_any}
-use Rattle.rox_grammar.specs.declared.fault.Word.TheVariants as word
+use Prim.Native.Char.{code}
+use Rattle.std.specs.Prelude.{◌≡◌, ◌≢◌, ℕ, zero, suc, ◌+◌, ◌<◌, ◌≤◌, ◌⊎◌, Some, None, Bool, true, false, List, [], length, bytes_eq, codes}
 use Rattle.rox_grammar.specs.Forest.{Forest, Nil, Cons, join}
-use Rattle.rox_grammar.specs.FixedTexts.{word_text}
-use Rattle.rox_grammar.specs.Written.{Name, Attribute, Tag, Item, Element, Text, namespace_decls_of, merge, leaf}
-use Rattle.rox_grammar.specs.Tree.{listed}
-use Rattle.rox_grammar.specs.Names.{byte, slice, IsQName}
-use Rattle.rox_grammar.specs.Constructs.{at, IsCData, IsEnd}
-use Rattle.rox_grammar.specs.Content.{Inclusion, DataByte, piece, literals, line_ends, Part, Parts, IsCharacterData, Attributes, IsTag, IsMisc, IsElement}
+use Rattle.rox_grammar.specs.Written.{Name, Attribute, NamespaceDecl, Tag, Item, Element, namespace_decls_of, merge, leaf}
+use Rattle.rox_grammar.specs.Tree.{listed, listable_of}
+use Rattle.rox_grammar.specs.Names.{byte, slice, spaces_end, IsQName}
+use Rattle.rox_grammar.specs.Constructs.{text_at, IsCData, IsEnd, IsEq, IsLiteral}
+use Rattle.rox_grammar.specs.Content.{Inclusion, DataByte, piece, section, Part, Parts, IsCharacterData, Attributes, IsTag, IsMisc, IsElement}
 use Rattle.rox_grammar.specs.WellNamed.{AreDeclarable, IsWellNamed, AreWellNamed}
-use Rattle.rox_grammar.specs.TextStart.{after_bom, MayHaveXmlDecl}
 use Rattle.rox_grammar.specs.References.{IsReference, IsCharacter, predefined}
-use Rattle.rox_grammar.specs.Entities.{Replacement, Entity, text_of, most_deep}
+use Rattle.rox_grammar.specs.Entities.{Replacement, Entity, text_of, most_within, most_deep}
 use Rattle.rox_grammar.specs.Doctype.{Asked}
-use Rattle.rox_grammar.specs.Document.{Misc, MayHaveDoctype, listable_of, with_new, distinct_pairs, most_pairs}
+use Rattle.rox_grammar.specs.Document.{Misc, PrologTo, MayHaveDoctype, with_new, distinct_pairs, most_pairs}
 use Rattle.rox_grammar.specs.State.{Open, root, inside, State, depth_of, scope_of, pairs_so_far}
 
--- what stands before an element in the main text, up to p: these comments and processing instructions
-pub record PrologTo (text : List ℕ) (p : ℕ) (items : Forest Item) : Type 0 where
-  pub declared_to : ℕ
-  pub declaration : MayHaveXmlDecl text (after_bom text) declared_to
-  pub misc : Misc text declared_to p items
-
--- the same where a document type declaration stands there too: with what is asked for its entities, and the entities
+-- the same with a document type declaration, up to the root element: with what is asked for its entities, and the entities
 pub record PrologWithDoctype (text : List ℕ) (asked : List Asked) (es : List Entity) (p : ℕ) (items : Forest Item) : Type 0 where
   pub begun : ℕ
   pub before : Forest Item
@@ -36,10 +27,10 @@ pub record PrologWithDoctype (text : List ℕ) (asked : List Asked) (es : List E
 -- the `<` of the root element: of no comment, processing instruction or document type declaration. Behind a document type
 -- declaration no other may stand, so there `<!DOCTYPE` is read as a start tag.
 pub record RootBegins (declared : Bool) (src : List ℕ) (i : ℕ) : Type 0 where
-  pub opens : byte src i ≡ 60
-  pub no_comment : at word.CommentStart src i ≡ false
-  pub no_instruction : at word.PIStart src i ≡ false
-  pub no_doctype : declared ≡ false → at word.DoctypeStart src i ≡ false
+  pub opens : byte src i ≡ code "<"
+  pub no_comment : text_at "<!--" src i ≡ false
+  pub no_instruction : text_at "<?" src i ≡ false
+  pub no_doctype : declared ≡ false → text_at "<!DOCTYPE" src i ≡ false
 
 -- with k replacement texts open, content stands here; in the main text that is inside the root element alone
 abbrev pub is_content : ℕ → Open → Bool
@@ -54,15 +45,15 @@ is_main (suc k) = false
 
 -- a start tag begins here: in content `<` and a byte that begins no other markup, and the root element's `<`
 pub data TagBegins (src : List ℕ) (i : ℕ) : Bool → Type 0 where
-  of_root : byte src i ≡ 60 → TagBegins src i false
-  in_content : byte src i ≡ 60 → i + 1 < length src → byte src (i + 1) ≢ 33 → byte src (i + 1) ≢ 63 → byte src (i + 1) ≢ 47 → TagBegins src i true
+  of_root : byte src i ≡ code "<" → TagBegins src i false
+  in_content : byte src i ≡ code "<" → i + 1 < length src → byte src (i + 1) ≢ code "!" → byte src (i + 1) ≢ code "?" → byte src (i + 1) ≢ code "/" → TagBegins src i true
 
 -- One construct of content (XML 3.1 [43]) from one state to another, and the openings that are left before it and behind it.
 pub data StepsOver (k : ℕ) (Includes : Inclusion) (src : List ℕ) (s : State) : ℕ → State → ℕ → Type 0 where
   a_run : (j b c : ℕ) (items : Forest Item) → is_content k s.stack ≡ true → IsCharacterData src s.at j → Parts (is_main k) Includes src s.at j s.at b c items
       → AreWellNamed (scope_of s.stack) items → StepsOver k Includes src s b (record { at = j; done = join s.done items; stack = s.stack }) c
   a_section : (e j b : ℕ) → is_content k s.stack ≡ true → IsCData src s.at e j
-      → StepsOver k Includes src s b (record { at = j; done = join s.done (leaf (Text s.at j (line_ends (literals (slice src (s.at + 9) e))) (not (list_any (λ b. b == 13) (slice src (s.at + 9) e))))); stack = s.stack }) b
+      → StepsOver k Includes src s b (record { at = j; done = join s.done (leaf (section s.at j (slice src (s.at + 9) e))); stack = s.stack }) b
   a_misc : (j b : ℕ) (item : Item) → is_content k s.stack ≡ true → IsMisc src s.at j item
       → StepsOver k Includes src s b (record { at = j; done = join s.done (leaf item); stack = s.stack }) b
   an_empty_tag : (j b c : ℕ) (t : Tag) → IsTag (is_main k) Includes src s.at j b c true t → IsWellNamed (listed (scope_of s.stack) t.declarations) t
@@ -88,7 +79,7 @@ pub record RefersTo (es : List Entity) (src : List ℕ) (p j : ℕ) (t : Replace
 
 -- where k replacement texts are open and b openings are left, one more may be opened, with r left in it
 abbrev pub MayOpen : (k b r : ℕ) → Type 0
-MayOpen zero b r = r ≡ 255
+MayOpen zero b r = r ≡ most_within
 MayOpen (suc k) b r = (b ≡ r + 1) × (suc k < most_deep)
 
 -- none may be opened
@@ -99,7 +90,7 @@ IsSpent (suc k) b = (b ≡ 0) ⊎ (most_deep ≤ suc k)
 -- A point that content reaches from the left: with k replacement texts open, around which `open_around` elements are open, in this
 -- source, with b openings left, and what is read and open there. `opens k` is the meaning of a reference there.
 pub data ContentPoint (opens : ℕ → Inclusion) (es : List Entity) (text : List ℕ) (Root : ℕ → Forest Item → Type 0) : (k open_around : ℕ) → List ℕ → ℕ → State → Type 0 where
-  begins : (p : ℕ) (items : Forest Item) → Root p items → ContentPoint opens es text Root 0 0 text 255 (record { at = p; done = items; stack = root })
+  begins : (p : ℕ) (items : Forest Item) → Root p items → ContentPoint opens es text Root 0 0 text most_within (record { at = p; done = items; stack = root })
   -- no element is closed that a replacement text did not open
   goes : (k open_around b c : ℕ) (src : List ℕ) (s t : State) → ContentPoint opens es text Root k open_around src b s → StepsOver k (opens k) src s b t c → is_content k t.stack ≡ true → open_around ≤ depth_of t.stack
       → ContentPoint opens es text Root k open_around src c t
@@ -111,7 +102,7 @@ pub data ContentPoint (opens : ℕ → Inclusion) (es : List Entity) (text : Lis
 -- A value is read from i up to p: the references to entities in it, and the openings that are left before them and behind.
 pub data ValueTo (Includes : Inclusion) (src : List ℕ) : ℕ → ℕ → ℕ → ℕ → Type 0 where
   to_here : (i b : ℕ) → ValueTo Includes src i i b b
-  a_byte : (i p b c : ℕ) → byte src i ≢ 38 → ValueTo Includes src (i + 1) p b c → ValueTo Includes src i p b c
+  a_byte : (i p b c : ℕ) → byte src i ≢ code "&" → ValueTo Includes src (i + 1) p b c → ValueTo Includes src i p b c
   a_character : (i n x p b c : ℕ) → IsCharacter src i x n → ValueTo Includes src n p b c → ValueTo Includes src i p b c
   an_entity : (i n j p b c d : ℕ) (w : List ℕ) → IsReference src i n j → predefined (slice src (i + 1) n) ≡ None → Includes.value (slice src (i + 1) n) b w c → ValueTo Includes src j p c d
       → ValueTo Includes src i p b d
@@ -131,11 +122,15 @@ pub record Behind (opens : ℕ → Inclusion) (text : List ℕ) (Front : ℕ →
   pub end : ℕ
   pub openings_left : ℕ
   pub one : Forest Item
-  pub element : IsElement true (opens 0) text start end 255 openings_left one
+  pub element : IsElement true (opens 0) text start end most_within openings_left one
   pub well_named : AreWellNamed [] one
   pub after : Forest Item
   pub misc : Misc text end p after
   pub all : items ≡ join (join before one) after
+
+-- how many pairs there are, with those of these declarations that are listed
+abbrev pub pairs_with : List NamespaceDecl → List NamespaceDecl → ℕ
+pairs_with known ds = length (with_new known (listable_of ds))
 
 -- The start tag that begins at a place is read up to p, right behind its name or one of these attributes and declarations.
 -- No fault of the tag stands before p: each declaration may be there, and with their pairs the limit is kept.
@@ -143,7 +138,22 @@ pub record TagTo (main : Bool) (Includes : Inclusion) (src : List ℕ) (s : Stat
   pub name : Name
   pub name_end : ℕ
   pub is_name : IsQName src (s.at + 1) name name_end
-  pub no_xmlns : bytes_eq name.prefix (word_text word.Xmlns) ≡ false
+  pub no_xmlns : bytes_eq name.prefix (codes "xmlns") ≡ false
   pub attributes : Attributes main Includes src name_end p b c written
-  pub declarable : AreDeclarable [] (namespace_decls_of written)
-  pub few_pairs : length (with_new (distinct_pairs (pairs_so_far s.stack s.done)) (listable_of (namespace_decls_of written))) ≤ most_pairs
+  pub declarable : AreDeclarable (namespace_decls_of written)
+  pub few_pairs : pairs_with (distinct_pairs (pairs_so_far s.stack s.done)) (namespace_decls_of written) ≤ most_pairs
+
+-- the value of the next attribute or declaration of the start tag at a place stands behind the quote at v, up to the quote at e, where
+-- c openings are left
+pub record BeginsValue (k : ℕ) (Includes : Inclusion) (src : List ℕ) (s : State) (b v e c : ℕ) : Type 0 where
+  pub begins : TagBegins src s.at (is_content k s.stack)
+  pub p : ℕ
+  pub written : List Attribute
+  pub to : TagTo (is_main k) Includes src s p b c written
+  pub space : p < spaces_end src p
+  pub name : Name
+  pub n : ℕ
+  pub is_name : IsQName src (spaces_end src p) name n
+  pub eq : IsEq src n v
+  pub j : ℕ
+  pub literal : IsLiteral src v e j

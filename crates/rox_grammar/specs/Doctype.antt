@@ -1,12 +1,12 @@
 -- The document type declaration, the entities that it declares, and what is asked for them.
-use Rattle.std.specs.Prelude.{◌≡◌, ◌≢◌, ℕ, ◌+◌, ◌<◌, ◌≤◌, ◌⊎◌, ◌==◌, Bool, true, false, List, [], ◌∷◌, ◌++◌, Option, Some, None, length, take, drop, IsUtf8}
-use Rattle.rox_grammar.specs.declared.fault.Word.TheVariants as word
+use Prim.Native.Char.{code}
+use Rattle.std.specs.Prelude.{◌≡◌, ◌≢◌, ℕ, ◌+◌, ◌<◌, ◌≤◌, ◌⊎◌, ◌==◌, Bool, true, false, List, [], ◌∷◌, ◌++◌, Option, Some, None, Result, length, take, drop, IsUtf8}
 use Rattle.rox_grammar.specs.Chars.{is_space}
 use Rattle.rox_grammar.specs.Search.{byte_from}
 use Rattle.rox_grammar.specs.Forest.{Forest, Nil, join}
 use Rattle.rox_grammar.specs.Written.{Item, leaf}
 use Rattle.rox_grammar.specs.Names.{byte, slice, spaces_end, IsName}
-use Rattle.rox_grammar.specs.Constructs.{at}
+use Rattle.rox_grammar.specs.Constructs.{text_at}
 use Rattle.rox_grammar.specs.Content.{IsMisc}
 use Rattle.rox_grammar.specs.TextStart.{after_bom, MayHaveXmlDecl}
 use Rattle.rox_grammar.specs.Entities.{Replacement, Entity}
@@ -21,9 +21,13 @@ pub record Asked : Type 0 where
   pub request : Request
   pub answer : Option (List ℕ)
 
+-- what may be replied: a text, or none; or a refusal with its message
+abbrev pub Reply : Type 0
+Reply = Result (Option (List ℕ)) (List ℕ)
+
 -- XML 2.3 [9], [11], [12]: any characters but the quote, in quotes; it ends at e. They need not be Chars (2.2), nor those of [12].
 pub record IsQuoted (src : List ℕ) (i e j : ℕ) : Type 0 where
-  pub quote : (byte src i ≡ 39) ⊎ (byte src i ≡ 34)
+  pub quote : (byte src i ≡ code "'") ⊎ (byte src i ≡ code "\"")
   pub end : e ≡ byte_from (λ c. c == byte src i) src (i + 1)
   pub closes : e < length src
   pub next : j ≡ e + 1
@@ -35,23 +39,23 @@ pub record IsSpace (src : List ℕ) (i j : ℕ) : Type 0 where
 
 -- XML 4.2.2 [75] ExternalID
 pub data IsExternalID (src : List ℕ) : ℕ → Request → ℕ → Type 0 where
-  system : (i s e j : ℕ) → at word.System src i ≡ true → IsSpace src (i + 6) s → IsQuoted src s e j
+  system : (i s e j : ℕ) → text_at "SYSTEM" src i ≡ true → IsSpace src (i + 6) s → IsQuoted src s e j
       → IsExternalID src i (record { public_id = None; uri = slice src (s + 1) e }) j
-  public : (i p d k s e j : ℕ) → at word.Public src i ≡ true → IsSpace src (i + 6) p → IsQuoted src p d k → IsSpace src k s → IsQuoted src s e j
+  public : (i p d k s e j : ℕ) → text_at "PUBLIC" src i ≡ true → IsSpace src (i + 6) p → IsQuoted src p d k → IsSpace src k s → IsQuoted src s e j
       → IsExternalID src i (record { public_id = Some (slice src (p + 1) d); uri = slice src (s + 1) e }) j
 
 -- XML 4.2.2 [76] NDataDecl, of a general entity alone. White space before it may be none, where [76] wants some, and the name may
 -- have a colon, which NS 7 forbids. The entity may be referred to, which 4.1 (Parsed Entity) forbids. Without it there is the white
 -- space that 4.2 [71] GEDecl has before its `>`.
 pub data MayHaveNotation (src : List ℕ) : (parameter : Bool) → ℕ → ℕ → Type 0 where
-  notation : (i s j : ℕ) → at word.NData src (spaces_end src i) ≡ true → IsSpace src (spaces_end src i + 5) s → IsName src s j → MayHaveNotation src false i j
-  no_notation : (i : ℕ) → at word.NData src (spaces_end src i) ≡ false → MayHaveNotation src false i (spaces_end src i)
+  notation : (i s j : ℕ) → text_at "NDATA" src (spaces_end src i) ≡ true → IsSpace src (spaces_end src i + 5) s → IsName src s j → MayHaveNotation src false i j
+  no_notation : (i : ℕ) → text_at "NDATA" src (spaces_end src i) ≡ false → MayHaveNotation src false i (spaces_end src i)
   of_parameter : (i : ℕ) → MayHaveNotation src true i i
 
 -- The text is cut off where the name of a notation should stand: what is asked stands before it.
 pub record CutsNotation (src : List ℕ) (parameter : Bool) (i j : ℕ) : Type 0 where
   pub is_general : parameter ≡ false
-  pub opens : at word.NData src (spaces_end src i) ≡ true
+  pub opens : text_at "NDATA" src (spaces_end src i) ≡ true
   pub space_behind : IsSpace src (spaces_end src i + 5) j
   pub cut : length src ≤ j
 
@@ -68,13 +72,13 @@ pub data IsDefinition (src : List ℕ) (parameter : Bool) : ℕ → ℕ → List
 
 -- `%` and white space before the name of a parameter entity
 pub data IsKind (src : List ℕ) : ℕ → (parameter : Bool) → ℕ → Type 0 where
-  of_parameter : (i j : ℕ) → byte src i ≡ 37 → IsSpace src (i + 1) j → IsKind src i true j
-  general : (i : ℕ) → byte src i ≢ 37 → IsKind src i false i
+  of_parameter : (i j : ℕ) → byte src i ≡ code "%" → IsSpace src (i + 1) j → IsKind src i true j
+  general : (i : ℕ) → byte src i ≢ code "%" → IsKind src i false i
 
 -- XML 4.2 [70] EntityDecl up to its definition, which begins at d; its name stands from n up to m, and may have a colon, which NS 7
 -- forbids
 pub record BeginsEntity (src : List ℕ) (i : ℕ) (parameter : Bool) (n m d : ℕ) : Type 0 where
-  pub opens : at word.EntityStart src i ≡ true
+  pub opens : text_at "<!ENTITY" src i ≡ true
   pub k : ℕ
   pub space_before : IsSpace src (i + 8) k
   pub is_kind : IsKind src k parameter n
@@ -99,15 +103,15 @@ pub record IsEntityDeclaration (src : List ℕ) (i j : ℕ) (asked : List Asked)
   pub text : Option Replacement
   pub definition : IsDefinition src parameter d e asked text
   pub declares : declared ≡ entry (slice src n m) text
-  pub closes : byte src (spaces_end src e) ≡ 62
+  pub closes : byte src (spaces_end src e) ≡ code ">"
   pub next : j ≡ spaces_end src e + 1
 
 -- XML 3.2 [45], 3.3 [52], 4.7 [82]: declarations that are passed over, to their first `>`, whatever they hold. So
 -- attributes have no defaults (3.3.2) and no types (3.3.3).
 pub record IsPassedOver (src : List ℕ) (i j : ℕ) : Type 0 where
-  pub opens : (at word.ElementStart src i ≡ true) ⊎ ((at word.AttlistStart src i ≡ true) ⊎ (at word.NotationStart src i ≡ true))
+  pub opens : (text_at "<!ELEMENT" src i ≡ true) ⊎ ((text_at "<!ATTLIST" src i ≡ true) ⊎ (text_at "<!NOTATION" src i ≡ true))
   pub e : ℕ
-  pub end : e ≡ byte_from (λ c. c == 62) src i
+  pub end : e ≡ byte_from (λ c. c == code ">") src i
   pub closes : e < length src
   pub next : j ≡ e + 1
 
@@ -127,11 +131,11 @@ pub data Subset (src : List ℕ) : ℕ → ℕ → Forest Item → List Asked �
 -- an external id where `SYSTEM` or `PUBLIC` stands, else nothing. Nothing is asked for it.
 pub data MayHaveExternalID (src : List ℕ) : ℕ → ℕ → Type 0 where
   external_id : (i j : ℕ) (request : Request) → IsExternalID src i request j → MayHaveExternalID src i j
-  no_external_id : (i : ℕ) → at word.System src i ≡ false → at word.Public src i ≡ false → MayHaveExternalID src i i
+  no_external_id : (i : ℕ) → text_at "SYSTEM" src i ≡ false → text_at "PUBLIC" src i ≡ false → MayHaveExternalID src i i
 
 -- XML 2.8 [28] doctypedecl up to its `>` or `[`, which stands at s. The name may have any colons, where NS 4 [16] wants a QName.
 pub record BeginsDoctype (src : List ℕ) (i s : ℕ) : Type 0 where
-  pub opens : at word.DoctypeStart src i ≡ true
+  pub opens : text_at "<!DOCTYPE" src i ≡ true
   pub n : ℕ
   pub space_before : IsSpace src (i + 9) n
   pub m : ℕ
@@ -140,8 +144,16 @@ pub record BeginsDoctype (src : List ℕ) (i s : ℕ) : Type 0 where
   pub external : MayHaveExternalID src (spaces_end src m) x
   pub next : s ≡ spaces_end src x
 
+-- the document type declaration that begins at i is read up to p, within its subset: its nodes, and what is asked
+pub record SubsetTo (src : List ℕ) (i p : ℕ) (items : Forest Item) (asked : List Asked) : Type 0 where
+  pub s : ℕ
+  pub begins : BeginsDoctype src i s
+  pub opens : byte src s ≡ code "["
+  pub declared : List Entity
+  pub read : Subset src (s + 1) p items asked declared
+
 -- XML 2.8 [28] doctypedecl. Its name need not be that of the root element, as 2.8 (Root Element Type) wants.
 pub data IsDoctype (src : List ℕ) : ℕ → ℕ → Forest Item → List Asked → List Entity → Type 0 where
-  no_subset : (i s : ℕ) → BeginsDoctype src i s → byte src s ≡ 62 → IsDoctype src i (s + 1) Nil [] []
-  with_subset : (i s k : ℕ) (items : Forest Item) (asked : List Asked) (es : List Entity) → BeginsDoctype src i s → byte src s ≡ 91 → Subset src (s + 1) k items asked es
-      → byte src k ≡ 93 → byte src (spaces_end src (k + 1)) ≡ 62 → IsDoctype src i (spaces_end src (k + 1) + 1) items asked es
+  no_subset : (i s : ℕ) → BeginsDoctype src i s → byte src s ≡ code ">" → IsDoctype src i (s + 1) Nil [] []
+  with_subset : (i s k : ℕ) (items : Forest Item) (asked : List Asked) (es : List Entity) → BeginsDoctype src i s → byte src s ≡ code "[" → Subset src (s + 1) k items asked es
+      → byte src k ≡ code "]" → byte src (spaces_end src (k + 1)) ≡ code ">" → IsDoctype src i (spaces_end src (k + 1) + 1) items asked es

@@ -1,22 +1,28 @@
 -- Documents, and their limits.
-use Rattle.std.specs.Prelude.{◌≡◌, ℕ, ◌+◌, ◌≤◌, ◌⊎◌, Option, Bool, true, false, not, ◌&&◌, List, [], ◌∷◌, ◌++◌, length, filter, if◌then◌else◌, bytes_eq}
+use Rattle.std.specs.Prelude.{◌≡◌, ℕ, ◌+◌, ◌-◌, ◌^◌, ◌≤◌, ◌⊎◌, Option, Bool, true, false, ◌&&◌, List, [], ◌∷◌, ◌++◌, length, if◌then◌else◌, bytes_eq}
 use Rattle.std.specs.List.{list_any}
 use Rattle.rox_grammar.specs.Chars.{is_space}
 use Rattle.rox_grammar.specs.Forest.{Forest, Nil, Cons, join, size}
-use Rattle.rox_grammar.specs.Written.{NamespaceDecl, Tag, Item, Element, Text, Comment, PI, leaf}
-use Rattle.rox_grammar.specs.Tree.{Node, same_prefix, document_tree}
+use Rattle.rox_grammar.specs.Written.{NamespaceDecl, Tag, Item, Element, leaf}
+use Rattle.rox_grammar.specs.Tree.{Node, same_prefix, listable_of, document_tree}
 use Rattle.rox_grammar.specs.Names.{byte}
 use Rattle.rox_grammar.specs.Content.{IsMisc, IsElement}
 use Rattle.rox_grammar.specs.TextStart.{after_bom, MayHaveXmlDecl}
-use Rattle.rox_grammar.specs.Entities.{Entity, included_in_main}
-use Rattle.rox_grammar.specs.Doctype.{Request, Asked, IsExternalID, MayHaveNotation, CutsNotation, BeginsEntity, Subset, BeginsDoctype, IsDoctype}
-use Rattle.rox_grammar.specs.WellNamed.{is_xml, AreWellNamed}
+use Rattle.rox_grammar.specs.Entities.{Entity, most_within, included_in_main}
+use Rattle.rox_grammar.specs.Doctype.{Request, Asked, IsExternalID, MayHaveNotation, CutsNotation, BeginsEntity, SubsetTo, IsDoctype}
+use Rattle.rox_grammar.specs.WellNamed.{AreWellNamed}
 
 -- XML 2.8 [27] Misc, any number of them: comments, processing instructions and white space
 pub data Misc (src : List ℕ) : ℕ → ℕ → Forest Item → Type 0 where
   no_misc : (i : ℕ) → Misc src i i Nil
   space : (i j : ℕ) (items : Forest Item) → is_space (byte src i) ≡ true → Misc src (i + 1) j items → Misc src i j items
   an_item : (i j k : ℕ) (item : Item) (items : Forest Item) → IsMisc src i j item → Misc src j k items → Misc src i k (join (leaf item) items)
+
+-- XML 2.8 [22] prolog, up to its document type declaration or the root element, at p: with these comments and processing instructions
+pub record PrologTo (src : List ℕ) (p : ℕ) (items : Forest Item) : Type 0 where
+  pub declared_to : ℕ
+  pub declaration : MayHaveXmlDecl src (after_bom src) declared_to
+  pub misc : Misc src declared_to p items
 
 -- XML 2.8 [22] a document type declaration with what follows it, or nothing; whether there is one; and its nodes, what is asked
 -- for its entities, and the entities
@@ -26,13 +32,10 @@ pub data MayHaveDoctype (src : List ℕ) : ℕ → ℕ → Bool → Forest Item 
   no_doctype : (i : ℕ) → MayHaveDoctype src i i false Nil [] []
 
 -- XML 2.1 [1], 2.8 [22] document: whether it has a document type declaration, what is asked for its entities, and its top nodes.
--- A reference outside replacement texts may open 255 more within the one that it opens.
 pub record ParseOf (src : List ℕ) (dtd : Bool) (asked : List Asked) (tree : Forest Item) : Type 0 where
-  pub declared_to : ℕ
-  pub declaration : MayHaveXmlDecl src (after_bom src) declared_to
   pub begun : ℕ
   pub before : Forest Item
-  pub misc_before : Misc src declared_to begun before
+  pub prolog : PrologTo src begun before
   pub start : ℕ
   pub nodes : Forest Item
   pub entities : List Entity
@@ -40,15 +43,11 @@ pub record ParseOf (src : List ℕ) (dtd : Bool) (asked : List Asked) (tree : Fo
   pub end : ℕ
   pub openings_left : ℕ
   pub one : Forest Item
-  pub element : IsElement true (included_in_main entities) src start end 255 openings_left one
+  pub element : IsElement true (included_in_main entities) src start end most_within openings_left one
   pub after : Forest Item
   pub misc_after : Misc src end (length src) after
   pub is_tree : tree ≡ join before (join nodes (join one after))
   pub well_named : AreWellNamed [] tree
-
--- of these declarations those that are listed
-abbrev pub listable_of : List NamespaceDecl → List NamespaceDecl
-listable_of ds = filter (λ d. not (is_xml d.prefix)) ds
 
 -- what a tag declares and its element lists
 abbrev pub listable : Tag → List NamespaceDecl
@@ -56,9 +55,7 @@ listable t = listable_of t.declarations
 
 abbrev pub own_pairs : Item → List NamespaceDecl
 own_pairs (Element start end t) = listable t
-own_pairs (Text start end value borrowed) = []
-own_pairs (Comment start end text) = []
-own_pairs (PI start end target value) = []
+own_pairs other = []
 
 -- all that is declared and listed, in document order
 abbrev pub pairs : Forest Item → List NamespaceDecl
@@ -82,21 +79,18 @@ distinct_pairs ds = with_new [] ds
 
 abbrev pub own_attributes : Item → ℕ
 own_attributes (Element start end t) = length t.attributes
-own_attributes (Text start end value borrowed) = 0
-own_attributes (Comment start end text) = 0
-own_attributes (PI start end target value) = 0
+own_attributes other = 0
 
 -- how many attributes there are
 abbrev pub attribute_count : Forest Item → ℕ
 attribute_count Nil = 0
 attribute_count (Cons item children rest) = own_attributes item + attribute_count children + attribute_count rest
 
--- 2^32 - 2
 abbrev pub most_attributes : ℕ
-most_attributes = 4294967294
+most_attributes = 2 ^ 32 - 2
 
 abbrev pub most_pairs : ℕ
-most_pairs = 65535
+most_pairs = 2 ^ 16 - 1
 
 -- the limits of a tree, the root node counted; XML has none
 pub record IsWithinLimits (nodes_limit : ℕ) (tree : Forest Item) : Type 0 where
@@ -118,18 +112,12 @@ Permits allow dtd = dtd ≡ true → allow ≡ true
 -- After these were asked, in order, this is asked next: the declaration of an external entity is read up to p, where the
 -- request is made, and everything before it is as the grammar wants.
 pub record AsksNext (src : List ℕ) (asked : List Asked) (request : Request) (p : ℕ) : Type 0 where
-  pub declared_to : ℕ
-  pub declaration : MayHaveXmlDecl src (after_bom src) declared_to
   pub begun : ℕ
   pub before : Forest Item
-  pub misc_before : Misc src declared_to begun before
-  pub s : ℕ
-  pub doctype : BeginsDoctype src begun s
-  pub opens : byte src s ≡ 91
+  pub prolog : PrologTo src begun before
   pub i : ℕ
   pub nodes : Forest Item
-  pub entities : List Entity
-  pub items : Subset src (s + 1) i nodes asked entities
+  pub subset : SubsetTo src begun i nodes asked
   pub parameter : Bool
   pub n : ℕ
   pub m : ℕ

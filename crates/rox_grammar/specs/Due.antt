@@ -1,17 +1,19 @@
 -- What is due at a place within a construct, and the fault where it does not stand there.
-use Rattle.std.specs.Prelude.{◌≡◌, ◌≢◌, ◌⊎◌, ℕ, ◌+◌, ◌<◌, ◌≤◌, ◌==◌, ◌||◌, Bool, true, false, List, length, take}
+use Prim.Native.Char.{code}
+use Rattle.std.specs.Prelude.{◌≡◌, ◌≢◌, ◌⊎◌, ℕ, ◌+◌, ◌<◌, ◌≤◌, ◌==◌, ◌||◌, Bool, true, false, List, length, take, codes}
 use Rattle.rox_grammar.specs.declared.fault.Word.{Word}
 use Rattle.rox_grammar.specs.declared.fault.Word.TheVariants as word
 use Rattle.rox_grammar.specs.declared.fault.Due.TheVariants as due
 use Rattle.rox_grammar.specs.declared.fault.Fault.{Fault}
 use Rattle.rox_grammar.specs.declared.fault.Fault.TheVariants as fault
 use Rattle.rox_grammar.specs.Chars.{is_space, is_char}
+use Rattle.rox_grammar.specs.FixedTexts.{at}
 use Rattle.rox_grammar.specs.Runs.{run_end, StandsAt}
 use Rattle.rox_grammar.specs.Search.{byte_from}
 use Rattle.rox_grammar.specs.Written.{Name}
 use Rattle.rox_grammar.specs.Names.{byte, spaces_end, IsName, IsQName}
 use Rattle.rox_grammar.specs.Doctype.{Request, IsQuoted, IsSpace, IsExternalID, IsKind, BeginsEntity, BeginsDoctype}
-use Rattle.rox_grammar.specs.Constructs.{at, first, AreChars, IsEq, IsPair, MayBePair, MayEndPair}
+use Rattle.rox_grammar.specs.Constructs.{text_at, first_text, AreChars, IsEq, IsPair, MayBePair, MayEndPair}
 
 -- what a construct can go on with
 pub data DueItem : Type 0 where
@@ -52,95 +54,95 @@ pub data IsMissing (src : List ℕ) (p : ℕ) : DueItem → Fault → Type 0 whe
   other_byte : (b : ℕ) → p < length src → byte src p ≢ b → IsMissing src p (a_byte b) (fault.InvalidChar b (byte src p) p)
   other_word : (w : Word) → at w src p ≡ false → IsMissing src p (a_word w) (fault.InvalidString w p)
   no_space : p < length src → is_space (byte src p) ≡ false → IsMissing src p a_space (fault.InvalidChar2 due.Space (byte src p) p)
-  no_quote : p < length src → byte src p ≢ 39 → byte src p ≢ 34 → IsMissing src p a_quote (fault.InvalidChar2 due.Quote (byte src p) p)
-  no_gap : p < length src → is_space (byte src p) ≡ false → at word.PIEnd src p ≡ false → IsMissing src p a_gap (fault.InvalidChar2 due.Space (byte src p) p)
+  no_quote : p < length src → byte src p ≢ code "'" → byte src p ≢ code "\"" → IsMissing src p a_quote (fault.InvalidChar2 due.Quote (byte src p) p)
+  no_gap : p < length src → is_space (byte src p) ≡ false → text_at "?>" src p ≡ false → IsMissing src p a_gap (fault.InvalidChar2 due.Space (byte src p) p)
   -- XML 2.2 [2]: the longest stretch of Chars ends at q, before e, with this character
   no_char : (e q c : ℕ) → q ≡ run_end is_char (take e src) p → q < e → StandsAt c src q → is_char c ≡ false → IsMissing src p (chars_to e) (fault.NonXmlChar c q)
-  no_subset : p < length src → byte src p ≢ 91 → byte src p ≢ 62 → IsMissing src p subset_or_end (fault.InvalidChar2 due.SubsetOrEnd (byte src p) p)
-  no_end : p < length src → byte src p ≢ 62 → IsMissing src p doctype_end (fault.InvalidChar2 due.End (byte src p) p)
-  no_definition : p < length src → byte src p ≢ 34 → byte src p ≢ 39 → byte src p ≢ 83 → byte src p ≢ 80 → IsMissing src p a_definition (fault.InvalidChar2 due.EntityDefinition (byte src p) p)
+  no_subset : p < length src → byte src p ≢ code "[" → byte src p ≢ code ">" → IsMissing src p subset_or_end (fault.InvalidChar2 due.SubsetOrEnd (byte src p) p)
+  no_end : p < length src → byte src p ≢ code ">" → IsMissing src p doctype_end (fault.InvalidChar2 due.End (byte src p) p)
+  no_definition : p < length src → byte src p ≢ code "\"" → byte src p ≢ code "'" → byte src p ≢ code "S" → byte src p ≢ code "P" → IsMissing src p a_definition (fault.InvalidChar2 due.EntityDefinition (byte src p) p)
   -- `S` or `P`
-  no_external_id : (byte src p ≡ 83) ⊎ (byte src p ≡ 80) → at word.System src p ≡ false → at word.Public src p ≡ false → IsMissing src p a_definition (fault.InvalidExternalID p)
+  no_external_id : (byte src p ≡ code "S") ⊎ (byte src p ≡ code "P") → text_at "SYSTEM" src p ≡ false → text_at "PUBLIC" src p ≡ false → IsMissing src p a_definition (fault.InvalidExternalID p)
   ends_before : (t : DueItem) → takes_byte t ≡ true → length src ≤ p → IsMissing src p t fault.UnexpectedEndOfStream
 
 -- XML 2.5 [15]: in the comment that begins at i
 pub data DueInComment (src : List ℕ) (i : ℕ) : ℕ → DueItem → Type 0 where
-  its_text : at word.CommentStart src i ≡ true → DueInComment src i (i + 4) (chars_to (first word.CommentEnd src (i + 4)))
-  its_end : at word.CommentStart src i ≡ true → AreChars src (i + 4) (first word.CommentEnd src (i + 4)) → DueInComment src i (first word.CommentEnd src (i + 4)) (a_word word.CommentEnd)
+  its_text : text_at "<!--" src i ≡ true → DueInComment src i (i + 4) (chars_to (first_text "-->" src (i + 4)))
+  its_end : text_at "<!--" src i ≡ true → AreChars src (i + 4) (first_text "-->" src (i + 4)) → DueInComment src i (first_text "-->" src (i + 4)) (a_word word.CommentEnd)
 
 -- XML 2.6 [16]: in the processing instruction that begins at i
 pub data DueInPI (src : List ℕ) (i : ℕ) : ℕ → DueItem → Type 0 where
-  its_target : at word.PIStart src i ≡ true → DueInPI src i (i + 2) a_name
-  its_value : (n : ℕ) → at word.PIStart src i ≡ true → IsName src (i + 2) n → DueInPI src i (spaces_end src n) (chars_to (first word.PIEnd src (spaces_end src n)))
-  its_end : (n : ℕ) → at word.PIStart src i ≡ true → IsName src (i + 2) n → AreChars src (spaces_end src n) (first word.PIEnd src (spaces_end src n))
-      → DueInPI src i (first word.PIEnd src (spaces_end src n)) (a_word word.PIEnd)
+  its_target : text_at "<?" src i ≡ true → DueInPI src i (i + 2) a_name
+  its_value : (n : ℕ) → text_at "<?" src i ≡ true → IsName src (i + 2) n → DueInPI src i (spaces_end src n) (chars_to (first_text "?>" src (spaces_end src n)))
+  its_end : (n : ℕ) → text_at "<?" src i ≡ true → IsName src (i + 2) n → AreChars src (spaces_end src n) (first_text "?>" src (spaces_end src n))
+      → DueInPI src i (first_text "?>" src (spaces_end src n)) (a_word word.PIEnd)
 
 -- XML 2.7 [18]: in the CDATA section that begins at i
 pub data DueInCData (src : List ℕ) (i : ℕ) : ℕ → DueItem → Type 0 where
-  its_text : at word.CDataStart src i ≡ true → DueInCData src i (i + 9) (chars_to (first word.CDataEnd src (i + 9)))
-  its_end : at word.CDataStart src i ≡ true → AreChars src (i + 9) (first word.CDataEnd src (i + 9)) → DueInCData src i (first word.CDataEnd src (i + 9)) (a_word word.CDataEnd)
+  its_text : text_at "<![CDATA[" src i ≡ true → DueInCData src i (i + 9) (chars_to (first_text "]]>" src (i + 9)))
+  its_end : text_at "<![CDATA[" src i ≡ true → AreChars src (i + 9) (first_text "]]>" src (i + 9)) → DueInCData src i (first_text "]]>" src (i + 9)) (a_word word.CDataEnd)
 
 -- XML 3.1 [42]: in the end tag that begins at i
 pub data DueInEnd (src : List ℕ) (i : ℕ) : ℕ → DueItem → Type 0 where
-  its_name : at word.EndTagStart src i ≡ true → DueInEnd src i (i + 2) a_qname
-  its_end : (name : Name) (n : ℕ) → at word.EndTagStart src i ≡ true → IsQName src (i + 2) name n → DueInEnd src i (spaces_end src n) (a_byte 62)
+  its_name : text_at "</" src i ≡ true → DueInEnd src i (i + 2) a_qname
+  its_end : (name : Name) (n : ℕ) → text_at "</" src i ≡ true → IsQName src (i + 2) name n → DueInEnd src i (spaces_end src n) (a_byte (code ">"))
 
 -- the place where a value ends that begins behind the quote at v: the same quote or a `<`
 abbrev pub value_end : List ℕ → ℕ → ℕ
-value_end src v = byte_from (λ c. c == byte src v || c == 60) src (v + 1)
+value_end src v = byte_from (λ c. c == byte src v || c == code "<") src (v + 1)
 
 -- XML 3.1 [41], 2.8 [24]: in a name, Eq and a literal, from i on
 pub data DueInPair (src : List ℕ) (i : ℕ) : ℕ → DueItem → Type 0 where
   its_name : DueInPair src i i a_qname
-  equals : (name : Name) (n : ℕ) → IsQName src i name n → DueInPair src i (spaces_end src n) (a_byte 61)
+  equals : (name : Name) (n : ℕ) → IsQName src i name n → DueInPair src i (spaces_end src n) (a_byte (code "="))
   opening : (name : Name) (n v : ℕ) → IsQName src i name n → IsEq src n v → DueInPair src i v a_quote
-  its_value : (name : Name) (n v : ℕ) → IsQName src i name n → IsEq src n v → (byte src v ≡ 39) ⊎ (byte src v ≡ 34)
+  its_value : (name : Name) (n v : ℕ) → IsQName src i name n → IsEq src n v → (byte src v ≡ code "'") ⊎ (byte src v ≡ code "\"")
       → DueInPair src i (v + 1) (chars_to (value_end src v))
   -- of a value that no quote ends, its characters are not asked for
-  closing : (name : Name) (n v : ℕ) → IsQName src i name n → IsEq src n v → (byte src v ≡ 39) ⊎ (byte src v ≡ 34)
+  closing : (name : Name) (n v : ℕ) → IsQName src i name n → IsEq src n v → (byte src v ≡ code "'") ⊎ (byte src v ≡ code "\"")
       → (length src ≤ value_end src v) ⊎ AreChars src (v + 1) (value_end src v) → DueInPair src i (value_end src v) (a_byte (byte src v))
 
 -- XML 2.8 [23]: a pair of the declaration that begins at i begins at p, and the last one needs no gap behind it
 pub data PairBegins (src : List ℕ) (i : ℕ) : Bool → ℕ → Type 0 where
-  version : at word.Version src (spaces_end src (i + 5)) ≡ true → PairBegins src i true (spaces_end src (i + 5))
-  encoding : (v : ℕ) → at word.Version src (spaces_end src (i + 5)) ≡ true → MayBePair word.Version src (spaces_end src (i + 5)) v → at word.Encoding src v ≡ true
+  version : text_at "version" src (spaces_end src (i + 5)) ≡ true → PairBegins src i true (spaces_end src (i + 5))
+  encoding : (v : ℕ) → text_at "version" src (spaces_end src (i + 5)) ≡ true → MayBePair (codes "version") src (spaces_end src (i + 5)) v → text_at "encoding" src v ≡ true
       → PairBegins src i true v
-  standalone : (v e : ℕ) → at word.Version src (spaces_end src (i + 5)) ≡ true → MayBePair word.Version src (spaces_end src (i + 5)) v → MayBePair word.Encoding src v e
-      → at word.Standalone src e ≡ true → PairBegins src i false e
+  standalone : (v e : ℕ) → text_at "version" src (spaces_end src (i + 5)) ≡ true → MayBePair (codes "version") src (spaces_end src (i + 5)) v → MayBePair (codes "encoding") src v e
+      → text_at "standalone" src e ≡ true → PairBegins src i false e
 
 -- in the declaration that begins at i
 pub data DueInXmlDecl (src : List ℕ) (i : ℕ) : ℕ → DueItem → Type 0 where
   its_version : DueInXmlDecl src i (spaces_end src (i + 5)) (a_word word.Version)
   in_pair : (gap : Bool) (j p : ℕ) (t : DueItem) → PairBegins src i gap j → DueInPair src j p t → DueInXmlDecl src i p t
   behind_pair : (j p : ℕ) → PairBegins src i true j → IsPair src j p → DueInXmlDecl src i p a_gap
-  its_end : (v e s : ℕ) → at word.Version src (spaces_end src (i + 5)) ≡ true → MayBePair word.Version src (spaces_end src (i + 5)) v → MayBePair word.Encoding src v e
-      → MayEndPair word.Standalone src e s → DueInXmlDecl src i (spaces_end src s) (a_word word.PIEnd)
+  its_end : (v e s : ℕ) → text_at "version" src (spaces_end src (i + 5)) ≡ true → MayBePair (codes "version") src (spaces_end src (i + 5)) v → MayBePair (codes "encoding") src v e
+      → MayEndPair (codes "standalone") src e s → DueInXmlDecl src i (spaces_end src s) (a_word word.PIEnd)
 
 -- XML 2.3 [9], [11], [12]: in a literal of any characters but the quote, which begins at i
 pub data DueInLiteral (src : List ℕ) (i : ℕ) : ℕ → DueItem → Type 0 where
   its_quote : DueInLiteral src i i a_quote
-  its_end : (byte src i ≡ 39) ⊎ (byte src i ≡ 34) → DueInLiteral src i (byte_from (λ c. c == byte src i) src (i + 1)) (a_byte (byte src i))
+  its_end : (byte src i ≡ code "'") ⊎ (byte src i ≡ code "\"") → DueInLiteral src i (byte_from (λ c. c == byte src i) src (i + 1)) (a_byte (byte src i))
 
 -- XML 4.2.2 [75]: in the external id that begins at i
 pub data DueInExternalID (src : List ℕ) (i : ℕ) : ℕ → DueItem → Type 0 where
-  space_before : (at word.System src i ≡ true) ⊎ (at word.Public src i ≡ true) → DueInExternalID src i (i + 6) a_space
-  its_literal : (s p : ℕ) (t : DueItem) → (at word.System src i ≡ true) ⊎ (at word.Public src i ≡ true) → IsSpace src (i + 6) s → DueInLiteral src s p t → DueInExternalID src i p t
-  space_between : (s e j : ℕ) → at word.Public src i ≡ true → IsSpace src (i + 6) s → IsQuoted src s e j → DueInExternalID src i j a_space
-  second_literal : (s e j v p : ℕ) (t : DueItem) → at word.Public src i ≡ true → IsSpace src (i + 6) s → IsQuoted src s e j → IsSpace src j v → DueInLiteral src v p t → DueInExternalID src i p t
+  space_before : (text_at "SYSTEM" src i ≡ true) ⊎ (text_at "PUBLIC" src i ≡ true) → DueInExternalID src i (i + 6) a_space
+  its_literal : (s p : ℕ) (t : DueItem) → (text_at "SYSTEM" src i ≡ true) ⊎ (text_at "PUBLIC" src i ≡ true) → IsSpace src (i + 6) s → DueInLiteral src s p t → DueInExternalID src i p t
+  space_between : (s e j : ℕ) → text_at "PUBLIC" src i ≡ true → IsSpace src (i + 6) s → IsQuoted src s e j → DueInExternalID src i j a_space
+  second_literal : (s e j v p : ℕ) (t : DueItem) → text_at "PUBLIC" src i ≡ true → IsSpace src (i + 6) s → IsQuoted src s e j → IsSpace src j v → DueInLiteral src v p t → DueInExternalID src i p t
 
 -- XML 4.2 [70]: in the entity declaration that begins at i, up to its definition
 pub data DueInEntity (src : List ℕ) (i : ℕ) : ℕ → DueItem → Type 0 where
   space_before : DueInEntity src i (i + 8) a_space
-  space_of_kind : (k : ℕ) → IsSpace src (i + 8) k → byte src k ≡ 37 → DueInEntity src i (k + 1) a_space
+  space_of_kind : (k : ℕ) → IsSpace src (i + 8) k → byte src k ≡ code "%" → DueInEntity src i (k + 1) a_space
   its_name : (k n : ℕ) (parameter : Bool) → IsSpace src (i + 8) k → IsKind src k parameter n → DueInEntity src i n a_name
   space_behind : (k n m : ℕ) (parameter : Bool) → IsSpace src (i + 8) k → IsKind src k parameter n → IsName src n m → DueInEntity src i m a_space
   its_definition : (parameter : Bool) (n m d : ℕ) → BeginsEntity src i parameter n m d → DueInEntity src i d a_definition
-  its_literal : (parameter : Bool) (n m d p : ℕ) (t : DueItem) → BeginsEntity src i parameter n m d → (byte src d ≡ 39) ⊎ (byte src d ≡ 34) → DueInLiteral src d p t → DueInEntity src i p t
+  its_literal : (parameter : Bool) (n m d p : ℕ) (t : DueItem) → BeginsEntity src i parameter n m d → (byte src d ≡ code "'") ⊎ (byte src d ≡ code "\"") → DueInLiteral src d p t → DueInEntity src i p t
   its_external_id : (parameter : Bool) (n m d p : ℕ) (t : DueItem) → BeginsEntity src i parameter n m d → DueInExternalID src d p t → DueInEntity src i p t
-  space_of_notation : (n m d e : ℕ) (request : Request) → BeginsEntity src i false n m d → IsExternalID src d request e → at word.NData src (spaces_end src e) ≡ true
+  space_of_notation : (n m d e : ℕ) (request : Request) → BeginsEntity src i false n m d → IsExternalID src d request e → text_at "NDATA" src (spaces_end src e) ≡ true
       → DueInEntity src i (spaces_end src e + 5) a_space
   -- at the end of the text it is not asked for
-  its_notation : (n m d e s : ℕ) (request : Request) → BeginsEntity src i false n m d → IsExternalID src d request e → at word.NData src (spaces_end src e) ≡ true
+  its_notation : (n m d e s : ℕ) (request : Request) → BeginsEntity src i false n m d → IsExternalID src d request e → text_at "NDATA" src (spaces_end src e) ≡ true
       → IsSpace src (spaces_end src e + 5) s → s < length src → DueInEntity src i s a_name
 
 -- XML 2.8 [28]: in the document type declaration that begins at i, up to its subset

@@ -20,10 +20,14 @@ abbrev pub text_of : List Entity → List ℕ → Option Replacement
 text_of [] name = None
 text_of (e ∷ es) name = if bytes_eq e.name name then Some e.text else text_of es name
 
+-- a reference outside replacement texts may open so many more within the text that it opens
+abbrev pub most_within : ℕ
+most_within = 255
+
 -- Of the openings that are left: b before a reference and c after it, and within the text that it opens r at the start and l
--- at the end. Outside replacement texts each reference has 255 of its own; within them each opening takes one.
+-- at the end. Outside replacement texts each reference has its own; within them each opening takes one.
 abbrev pub Spends : (main : Bool) (b r l c : ℕ) → Type 0
-Spends true b r l c = (r ≡ 255) × (c ≡ b)
+Spends true b r l c = (r ≡ most_within) × (c ≡ b)
 Spends false b r l c = (b ≡ r + 1) × (c ≡ l)
 
 -- no name is declared as an entity, or none may be opened

@@ -3,7 +3,7 @@
 use Rattle.std.specs.Prelude.{◌≡◌, ℕ, zero, suc, ◌+◌, ◌-◌, ◌<◌, ◌≤◌, ◌&&◌, ◌⊎◌, Bool, true, false, List, [], ◌∷◌, ◌++◌, map, length, take, drop, nat_lt, if◌then◌else◌}
 use Rattle.rox_grammar.specs.Forest.{Forest, Nil, Cons, join, size}
 use Rattle.rox_grammar.specs.Written.{NamespaceDecl, Item}
-use Rattle.rox_grammar.specs.Tree.{Attribute, Node, Root, Element, Text, Comment, PI, document_tree}
+use Rattle.rox_grammar.specs.Tree.{Attribute, Node, Root, Element, Text, Comment, PI, is_element_node, start_of, end_of, document_tree}
 use Rattle.rox_grammar.specs.Names.{slice}
 use Rattle.rox_grammar.specs.Document.{ParseOf}
 
@@ -46,9 +46,7 @@ shifted m (Cons node children rest) = Cons (moved_node m node) (shifted m childr
 abbrev pub stretched : Move → Node → Node
 stretched m (Root end) = Root (moved m end)
 stretched m (Element start end namespace local listed attributes) = Element start (moved m end) namespace local listed attributes
-stretched m (Text start end value borrowed) = Text start end value borrowed
-stretched m (Comment start end text) = Comment start end text
-stretched m (PI start end target value) = PI start end target value
+stretched m other = other
 
 -- ---- a node of a tree, by its id
 
@@ -66,10 +64,6 @@ exchanged m one (Cons node children rest) (suc id) =
     if nat_lt id (size children) then Cons (stretched m node) (exchanged m one children id) (shifted m rest)
     else Cons node children (exchanged m one rest (id - size children))
 
-abbrev pub is_an_element : Node → Bool
-is_an_element (Element start end namespace local listed attributes) = true
-is_an_element other = false
-
 abbrev pub none_of : List NamespaceDecl → Bool
 none_of [] = true
 none_of (d ∷ ds) = false
@@ -83,34 +77,19 @@ lists_none other = true
 -- for by the element's own text.
 abbrev pub self_contained : Forest Node → ℕ → Bool
 self_contained Nil id = false
-self_contained (Cons node children rest) zero = is_an_element node
+self_contained (Cons node children rest) zero = is_element_node node
 self_contained (Cons node children rest) (suc id) =
     if nat_lt id (size children) then lists_none node && self_contained children id
     else self_contained rest (id - size children)
 
--- where the range of a node starts and ends
-abbrev pub first_byte : Node → ℕ
-first_byte (Root end) = 0
-first_byte (Element start end namespace local listed attributes) = start
-first_byte (Text start end value borrowed) = start
-first_byte (Comment start end text) = start
-first_byte (PI start end target value) = start
-
-abbrev pub past_byte : Node → ℕ
-past_byte (Root end) = end
-past_byte (Element start end namespace local listed attributes) = end
-past_byte (Text start end value borrowed) = end
-past_byte (Comment start end text) = end
-past_byte (PI start end target value) = end
-
 -- of the first node of a row
 abbrev pub row_start : Forest Node → ℕ
 row_start Nil = 0
-row_start (Cons node children rest) = first_byte node
+row_start (Cons node children rest) = start_of node
 
 abbrev pub row_end : Forest Node → ℕ
 row_end Nil = 0
-row_end (Cons node children rest) = past_byte node
+row_end (Cons node children rest) = end_of node
 
 -- of the node of this id
 abbrev pub start_at : Forest Node → ℕ → ℕ

@@ -1,32 +1,31 @@
 -- Which fault may be named of a text, and where: what stands there. Each row says all that the fault says.
-use Rattle.std.specs.Prelude.{◌≡◌, ◌≢◌, ◌⊎◌, ℕ, ◌+◌, ◌-◌, ◌<◌, ◌≤◌, ◌==◌, Bool, true, false, List, [], ◌∷◌, ◌++◌, None, length, bytes_eq, if◌then◌else◌}
+use Prim.Native.Char.{code}
+use Rattle.std.specs.Prelude.{◌≡◌, ◌≢◌, ◌⊎◌, ℕ, ◌+◌, ◌-◌, ◌<◌, ◌≤◌, ◌==◌, Bool, true, false, List, [], ◌∷◌, ◌++◌, None, length, bytes_eq, if◌then◌else◌, codes}
 use Rattle.std.specs.List.{list_any}
 use Rattle.rox_grammar.specs.declared.fault.Span.{Span}
-use Rattle.rox_grammar.specs.declared.fault.Word.TheVariants as word
 use Rattle.rox_grammar.specs.declared.fault.Fault.{Fault}
 use Rattle.rox_grammar.specs.declared.fault.Fault.TheVariants as fault
 use Rattle.rox_grammar.specs.Chars.{is_space, is_char}
 use Rattle.rox_grammar.specs.Runs.{StandsAt}
-use Rattle.rox_grammar.specs.FixedTexts.{word_text}
 use Rattle.rox_grammar.specs.Search.{byte_from}
 use Rattle.rox_grammar.specs.Forest.{Forest, join}
 use Rattle.rox_grammar.specs.Written.{Name, Attribute, NamespaceDecl, Tag, Item, is_namespace_decl, namespace_decl_of, namespace_decls_of, plain_attributes_of, leaf}
-use Rattle.rox_grammar.specs.Tree.{xml_uri, xmlns_uri, is_declared, listed}
+use Rattle.rox_grammar.specs.Tree.{xml_uri, xmlns_uri, is_declared, listed, is_xml}
 use Rattle.rox_grammar.specs.Names.{byte, slice, spaces_end, IsQName}
-use Rattle.rox_grammar.specs.Constructs.{at, first, double_dash, has_mark, AreChars, IsEq, IsLiteral, IsEnd}
+use Rattle.rox_grammar.specs.Constructs.{text_at, first_text, double_dash, has_mark, AreChars, IsEnd}
 use Rattle.rox_grammar.specs.References.{IsReference, IsCharacter, predefined}
 use Rattle.rox_grammar.specs.Content.{Inclusion, IsCharacterData, IsAttribute, TagEnds, IsMisc}
-use Rattle.rox_grammar.specs.WellNamed.{is_xml, may_declare, is_known, same_expanded, AreDistinct, may_name, AreWellNamed}
+use Rattle.rox_grammar.specs.WellNamed.{may_declare, is_known, same_expanded, AreDistinct, may_name, AreWellNamed}
 use Rattle.rox_grammar.specs.TextStart.{after_bom}
 use Rattle.rox_grammar.specs.Entities.{Replacement, Entity, text_of, no_entities}
-use Rattle.rox_grammar.specs.Document.{listable_of, with_new, distinct_pairs, most_attributes, most_pairs}
+use Rattle.rox_grammar.specs.Document.{distinct_pairs, most_attributes, most_pairs, PrologTo}
 use Rattle.rox_grammar.specs.State.{Open, root, inside, State, depth_of, scope_of, nodes_so_far, attributes_so_far, pairs_so_far, FitsLimits}
 use Rattle.rox_grammar.specs.Due.{DueItem, a_byte, a_space, a_qname, chars_to, tag_rest, IsMissing, DueInComment, DueInPI, DueInCData, DueInEnd, DueInPair, DueInXmlDecl}
-use Rattle.rox_grammar.specs.ContentPoints.{PrologTo, RootBegins, Behind, is_content, is_main, TagBegins, StepsOver, PartsTo, RefersTo, IsSpent, ContentPoint, ValueTo, ValuePart, TagTo}
+use Rattle.rox_grammar.specs.ContentPoints.{RootBegins, Behind, is_content, is_main, TagBegins, StepsOver, PartsTo, RefersTo, IsSpent, ContentPoint, ValueTo, ValuePart, TagTo, pairs_with, BeginsValue}
 
 -- the bytes of a name as it is written, without the colon if there is no prefix
 abbrev pub spelled : Name → List ℕ
-spelled n = if bytes_eq n.prefix [] then n.local else n.prefix ++ 58 ∷ n.local
+spelled n = if bytes_eq n.prefix [] then n.local else n.prefix ++ code ":" ∷ n.local
 
 -- the span holds these bytes
 abbrev pub SpanIs : List ℕ → Span → List ℕ → Type 0
@@ -36,23 +35,28 @@ SpanIs src span bytes = slice src span.start span.end ≡ bytes
 pub data InMisc (src : List ℕ) (i : ℕ) : Fault → Type 0 where
   comment_lacks : (p : ℕ) (t : DueItem) (f : Fault) → DueInComment src i p t → IsMissing src p t f → InMisc src i f
   -- two dashes in the text, or one at its end
-  double_dashes : (e : ℕ) → at word.CommentStart src i ≡ true → e ≡ first word.CommentEnd src (i + 4) → AreChars src (i + 4) e → at word.CommentEnd src e ≡ true
-      → (has_mark double_dash (slice src (i + 4) e) ≡ true) ⊎ (byte (slice src (i + 4) e) (length (slice src (i + 4) e) - 1) ≡ 45) → InMisc src i (fault.InvalidComment i)
-  a_declaration : at word.XmlDeclStart src i ≡ true → InMisc src i (fault.UnexpectedDeclaration i)
-  instruction_lacks : (p : ℕ) (t : DueItem) (f : Fault) → at word.XmlDeclStart src i ≡ false → DueInPI src i p t → IsMissing src p t f → InMisc src i f
+  double_dashes : (e : ℕ) → text_at "<!--" src i ≡ true → e ≡ first_text "-->" src (i + 4) → AreChars src (i + 4) e → text_at "-->" src e ≡ true
+      → (has_mark double_dash (slice src (i + 4) e) ≡ true) ⊎ (byte (slice src (i + 4) e) (length (slice src (i + 4) e) - 1) ≡ code "-") → InMisc src i (fault.InvalidComment i)
+  a_declaration : text_at "<?xml " src i ≡ true → InMisc src i (fault.UnexpectedDeclaration i)
+  instruction_lacks : (p : ℕ) (t : DueItem) (f : Fault) → text_at "<?xml " src i ≡ false → DueInPI src i p t → IsMissing src p t f → InMisc src i f
+
+-- ---- in comments and processing instructions outside the root element, which are read up to p, with these nodes before it
+pub data InMiscs (limit : ℕ) (src : List ℕ) (p : ℕ) (items : Forest Item) : Fault → Type 0 where
+  in_one : (f : Fault) → InMisc src p f → InMiscs limit src p items f
+  one_too_many : (j : ℕ) (item : Item) → IsMisc src p j item → limit < nodes_so_far root (join items (leaf item)) → InMiscs limit src p items fault.NodesLimitReached
 
 -- ---- references, in a run or a value (XML 4.1)
 pub data InReferences (es : List Entity) (src : List ℕ) (p : ℕ) : Fault → Type 0 where
-  malformed : byte src p ≡ 38 → ((c j : ℕ) → IsCharacter src p c j → ⊥) → ((n j : ℕ) → IsReference src p n j → ⊥) → InReferences es src p (fault.MalformedEntityReference p)
+  malformed : byte src p ≡ code "&" → ((c j : ℕ) → IsCharacter src p c j → ⊥) → ((n j : ℕ) → IsReference src p n j → ⊥) → InReferences es src p (fault.MalformedEntityReference p)
   undeclared : (n j : ℕ) (name : Span) → IsReference src p n j → predefined (slice src (p + 1) n) ≡ None → text_of es (slice src (p + 1) n) ≡ None → SpanIs src name (slice src (p + 1) n)
       → InReferences es src p (fault.UnknownEntityReference name p)
 
 -- ---- in a run that begins at i (XML 2.4), where k replacement texts are open and b openings are left
 pub data InRun (es : List Entity) (k : ℕ) (Includes : Inclusion) (src : List ℕ) (i b : ℕ) : Fault → Type 0 where
-  no_char : (f : Fault) → IsMissing src i (chars_to (byte_from (λ c. c == 60) src i)) f → InRun es k Includes src i b f
-  end_mark : (e : ℕ) → e ≡ byte_from (λ c. c == 60) src i → AreChars src i e → has_mark (word_text word.CDataEnd) (slice src i e) ≡ true → InRun es k Includes src i b (fault.InvalidCharacterData e)
+  no_char : (f : Fault) → IsMissing src i (chars_to (byte_from (λ c. c == code "<") src i)) f → InRun es k Includes src i b f
+  end_mark : (e : ℕ) → e ≡ byte_from (λ c. c == code "<") src i → AreChars src i e → has_mark (codes "]]>") (slice src i e) ≡ true → InRun es k Includes src i b (fault.InvalidCharacterData e)
   -- any of its references
-  in_reference : (e p : ℕ) (f : Fault) → e ≡ byte_from (λ c. c == 60) src i → AreChars src i e → has_mark (word_text word.CDataEnd) (slice src i e) ≡ false
+  in_reference : (e p : ℕ) (f : Fault) → e ≡ byte_from (λ c. c == code "<") src i → AreChars src i e → has_mark (codes "]]>") (slice src i e) ≡ false
       → i ≤ p → p < e → InReferences es src p f → InRun es k Includes src i b f
   -- the first one that may open none
   too_many : (stop p j c : ℕ) (front : Forest Item) (t : Replacement) → IsCharacterData src i stop → PartsTo (is_main k) Includes src i stop i p b c front → p < stop → RefersTo es src p j t → IsSpent k c
@@ -65,14 +69,14 @@ pub data InValue (es : List Entity) (k : ℕ) (Includes : Inclusion) (src : List
   too_many : (p j c : ℕ) (t : Replacement) → ValueTo Includes src i p b c → p < stop → RefersTo es src p j t → IsSpent k c
       → InValue es k Includes src i stop b (fault.EntityReferenceLoop j)
   -- in a replacement text `<`, a reference that gives it, or what is no Char
-  less : (p : ℕ) → is_main k ≡ false → i ≤ p → p < stop → byte src p ≡ 60 → InValue es k Includes src i stop b (fault.InvalidAttributeValue p)
-  less_by_reference : (p j : ℕ) → is_main k ≡ false → i ≤ p → p < stop → IsCharacter src p 60 j → InValue es k Includes src i stop b (fault.InvalidAttributeValue p)
+  less : (p : ℕ) → is_main k ≡ false → i ≤ p → p < stop → byte src p ≡ code "<" → InValue es k Includes src i stop b (fault.InvalidAttributeValue p)
+  less_by_reference : (p j : ℕ) → is_main k ≡ false → i ≤ p → p < stop → IsCharacter src p (code "<") j → InValue es k Includes src i stop b (fault.InvalidAttributeValue p)
   no_char : (q c : ℕ) → is_main k ≡ false → i ≤ q → q < stop → StandsAt c src q → is_char c ≡ false → InValue es k Includes src i stop b (fault.NonXmlChar c q)
 
 -- ---- a declaration that a start tag holds behind these (Namespaces in XML 1.0 section 3)
 pub data IllDeclared (src : List ℕ) (before : List NamespaceDecl) (a : Attribute) : Fault → Type 0 where
   -- `xmlns:xml`
-  other_uri : a.name.prefix ≡ word_text word.Xmlns → a.name.local ≡ word_text word.Xml → a.value ≢ xml_uri → a.value ≢ xmlns_uri → IllDeclared src before a (fault.InvalidXmlPrefixUri a.start)
+  other_uri : a.name.prefix ≡ codes "xmlns" → a.name.local ≡ codes "xml" → a.value ≢ xml_uri → a.value ≢ xmlns_uri → IllDeclared src before a (fault.InvalidXmlPrefixUri a.start)
   uri_of_xml : (is_xml (namespace_decl_of a).prefix ≡ false) → a.value ≡ xml_uri → IllDeclared src before a (fault.UnexpectedXmlUri a.start)
   uri_of_xmlns : a.value ≡ xmlns_uri → IllDeclared src before a (fault.UnexpectedXmlnsUri a.start)
   again : (name : Span) → may_declare (namespace_decl_of a) ≡ true → is_declared (namespace_decl_of a).prefix before ≡ true → SpanIs src name a.name.local → IllDeclared src before a (fault.DuplicatedNamespace name a.start)
@@ -80,44 +84,56 @@ pub data IllDeclared (src : List ℕ) (before : List NamespaceDecl) (a : Attribu
 -- ---- names of a whole start tag that begins at i, with this name and these attributes, whose element lists this scope
 -- (Namespaces in XML 1.0 sections 5 and 6): of its attributes in order, and then its own
 pub data IllNamed (src : List ℕ) (i : ℕ) (scope : List NamespaceDecl) (n : Name) (as' : List Attribute) : Fault → Type 0 where
-  unknown_attribute : (before after : List Attribute) (a : Attribute) (name : Span) → as' ≡ before ++ a ∷ after → AreDistinct scope [] before → is_known scope a.name ≡ false
+  unknown_attribute : (before after : List Attribute) (a : Attribute) (name : Span) → as' ≡ before ++ a ∷ after → AreDistinct scope before → is_known scope a.name ≡ false
       → SpanIs src name a.name.prefix → IllNamed src i scope n as' (fault.UnknownNamespace name a.start)
-  twice : (before after : List Attribute) (a : Attribute) (name : Span) → as' ≡ before ++ a ∷ after → AreDistinct scope [] before → is_known scope a.name ≡ true
+  twice : (before after : List Attribute) (a : Attribute) (name : Span) → as' ≡ before ++ a ∷ after → AreDistinct scope before → is_known scope a.name ≡ true
       → list_any (λ e. same_expanded scope e.name a.name) before ≡ true → SpanIs src name a.name.local → IllNamed src i scope n as' (fault.DuplicatedAttribute name a.start)
-  unknown_element : (name : Span) → AreDistinct scope [] as' → may_name scope n ≡ false → SpanIs src name n.prefix → IllNamed src i scope n as' (fault.UnknownNamespace name (i + 1))
+  unknown_element : (name : Span) → AreDistinct scope as' → may_name scope n ≡ false → SpanIs src name n.prefix → IllNamed src i scope n as' (fault.UnknownNamespace name (i + 1))
 
 -- the main text ends right behind the name, an attribute or a declaration of a tag
 abbrev pub cut_off : Open → Fault
 cut_off root = fault.NoRootNode
 cut_off (inside start tag before up) = fault.UnclosedRootNode
 
--- ---- in the start tag that begins at a place (XML 3.1 [40], [44]); up to p it is as it should be (Places: TagTo)
+-- ---- behind its name and these attributes and declarations, where the start tag that begins at a place is read up to p
+pub data InTagRest (main : Bool) (Includes : Inclusion) (src : List ℕ) (s : State) (name : Name) (as' : List Attribute) (p c : ℕ) : Fault → Type 0 where
+  cut : length src ≤ p → main ≡ true → InTagRest main Includes src s name as' p c (cut_off s.stack)
+  cut_in_replacement : length src ≤ p → main ≡ false → InTagRest main Includes src s name as' p c fault.UnexpectedEndOfStream
+  -- white space up to the end
+  no_rest : (f : Fault) → p < length src → IsMissing src (spaces_end src p) tag_rest f → InTagRest main Includes src s name as' p c f
+  no_space : (f : Fault) → p < length src → byte src p ≢ code "/" → byte src p ≢ code ">" → IsMissing src p a_space f
+      → InTagRest main Includes src s name as' p c f
+  -- `/` without `>`
+  not_closed : (f : Fault) → byte src (spaces_end src p) ≡ code "/" → IsMissing src (spaces_end src p + 1) (a_byte (code ">")) f
+      → InTagRest main Includes src s name as' p c f
+  -- an attribute or a declaration
+  in_pair : (q : ℕ) (t : DueItem) (f : Fault) → p < spaces_end src p → spaces_end src p < length src → byte src (spaces_end src p) ≢ code "/"
+      → byte src (spaces_end src p) ≢ code ">" → DueInPair src (spaces_end src p) q t → IsMissing src q t f
+      → InTagRest main Includes src s name as' p c f
+  ill_declared : (d j : ℕ) (a : Attribute) (f : Fault) → p < spaces_end src p → IsAttribute main Includes src (spaces_end src p) j c d a
+      → is_namespace_decl a.name ≡ true → IllDeclared src (namespace_decls_of as') a f → InTagRest main Includes src s name as' p c f
+  -- with the next declaration, which may stand there
+  too_many_pairs : (d j : ℕ) (a : Attribute) → p < spaces_end src p → IsAttribute main Includes src (spaces_end src p) j c d a
+      → is_namespace_decl a.name ≡ true → may_declare (namespace_decl_of a) ≡ true
+      → is_declared (namespace_decl_of a).prefix (namespace_decls_of as') ≡ false
+      → most_pairs < pairs_with (distinct_pairs (pairs_so_far s.stack s.done)) (namespace_decls_of as' ++ namespace_decl_of a ∷ [])
+      → InTagRest main Includes src s name as' p c fault.NamespacesLimitReached
+  -- with those of the whole tag
+  too_many_attributes : (j : ℕ) (empty : Bool) → TagEnds src p empty j
+      → most_attributes < attributes_so_far s.stack s.done + length (plain_attributes_of as')
+      → InTagRest main Includes src s name as' p c fault.AttributesLimitReached
+  ill_named : (j : ℕ) (empty : Bool) (f : Fault) → TagEnds src p empty j
+      → attributes_so_far s.stack s.done + length (plain_attributes_of as') ≤ most_attributes
+      → IllNamed src s.at (listed (scope_of s.stack) (namespace_decls_of as')) name (plain_attributes_of as') f
+      → InTagRest main Includes src s name as' p c f
+
+-- ---- in the start tag that begins at a place (XML 3.1 [40], [44]); up to p it is as it should be (ContentPoints: TagTo)
 pub data InTag (main : Bool) (Includes : Inclusion) (src : List ℕ) (s : State) (b : ℕ) : Fault → Type 0 where
   no_name : (f : Fault) → IsMissing src (s.at + 1) a_qname f → InTag main Includes src s b f
-  xmlns_prefix : (name : Name) (n : ℕ) → IsQName src (s.at + 1) name n → name.prefix ≡ word_text word.Xmlns → InTag main Includes src s b (fault.InvalidElementNamePrefix (s.at + 1))
-  cut : (p c : ℕ) (as' : List Attribute) → TagTo main Includes src s p b c as' → length src ≤ p → main ≡ true → InTag main Includes src s b (cut_off s.stack)
-  cut_in_replacement : (p c : ℕ) (as' : List Attribute) → TagTo main Includes src s p b c as' → length src ≤ p → main ≡ false → InTag main Includes src s b fault.UnexpectedEndOfStream
-  -- white space up to the end
-  no_rest : (p c : ℕ) (as' : List Attribute) (f : Fault) → TagTo main Includes src s p b c as' → p < length src → IsMissing src (spaces_end src p) tag_rest f → InTag main Includes src s b f
-  no_space : (p c : ℕ) (as' : List Attribute) (f : Fault) → TagTo main Includes src s p b c as' → p < length src → byte src p ≢ 47 → byte src p ≢ 62 → IsMissing src p a_space f → InTag main Includes src s b f
-  -- `/` without `>`
-  not_closed : (p c : ℕ) (as' : List Attribute) (f : Fault) → TagTo main Includes src s p b c as' → byte src (spaces_end src p) ≡ 47 → IsMissing src (spaces_end src p + 1) (a_byte 62) f
-      → InTag main Includes src s b f
-  -- an attribute or a declaration
-  in_pair : (p c q : ℕ) (as' : List Attribute) (t : DueItem) (f : Fault) → TagTo main Includes src s p b c as' → p < spaces_end src p → spaces_end src p < length src
-      → byte src (spaces_end src p) ≢ 47 → byte src (spaces_end src p) ≢ 62 → DueInPair src (spaces_end src p) q t → IsMissing src q t f → InTag main Includes src s b f
-  ill_declared : (p c d j : ℕ) (as' : List Attribute) (a : Attribute) (f : Fault) → TagTo main Includes src s p b c as' → p < spaces_end src p
-      → IsAttribute main Includes src (spaces_end src p) j c d a → is_namespace_decl a.name ≡ true → IllDeclared src (namespace_decls_of as') a f → InTag main Includes src s b f
-  -- with the next declaration, which may stand there
-  too_many_pairs : (p c d j : ℕ) (as' : List Attribute) (a : Attribute) → TagTo main Includes src s p b c as' → p < spaces_end src p
-      → IsAttribute main Includes src (spaces_end src p) j c d a → is_namespace_decl a.name ≡ true → may_declare (namespace_decl_of a) ≡ true → is_declared (namespace_decl_of a).prefix (namespace_decls_of as') ≡ false
-      → most_pairs < length (with_new (distinct_pairs (pairs_so_far s.stack s.done)) (listable_of (namespace_decls_of as' ++ namespace_decl_of a ∷ []))) → InTag main Includes src s b fault.NamespacesLimitReached
-  -- with those of the whole tag
-  too_many_attributes : (p c j : ℕ) (empty : Bool) (as' : List Attribute) → TagTo main Includes src s p b c as' → TagEnds src p empty j
-      → most_attributes < attributes_so_far s.stack s.done + length (plain_attributes_of as') → InTag main Includes src s b fault.AttributesLimitReached
-  ill_named : (p c j : ℕ) (empty : Bool) (as' : List Attribute) (f : Fault) (to : TagTo main Includes src s p b c as') → TagEnds src p empty j
-      → attributes_so_far s.stack s.done + length (plain_attributes_of as') ≤ most_attributes → IllNamed src s.at (listed (scope_of s.stack) (namespace_decls_of as')) to.name (plain_attributes_of as') f
-      → InTag main Includes src s b f
+  xmlns_prefix : (name : Name) (n : ℕ) → IsQName src (s.at + 1) name n → name.prefix ≡ codes "xmlns"
+      → InTag main Includes src s b (fault.InvalidElementNamePrefix (s.at + 1))
+  in_rest : (p c : ℕ) (as' : List Attribute) (f : Fault) (to : TagTo main Includes src s p b c as')
+      → InTagRest main Includes src s to.name as' p c f → InTag main Includes src s b f
 
 -- ---- in the end tag that begins at a place (XML 3.1 [42]), where `open_around` elements are open around the replacement text
 pub data InEnd (open_around : ℕ) (src : List ℕ) (s : State) : Fault → Type 0 where
@@ -130,14 +146,14 @@ pub data InEnd (open_around : ℕ) (src : List ℕ) (s : State) : Fault → Type
 
 -- ---- at a place
 pub data Stands (limit : ℕ) (es : List Entity) (k open_around : ℕ) (Includes : Inclusion) (src : List ℕ) (s : State) (b : ℕ) : Fault → Type 0 where
-  in_run : (f : Fault) → is_content k s.stack ≡ true → s.at < length src → byte src s.at ≢ 60 → InRun es k Includes src s.at b f → Stands limit es k open_around Includes src s b f
+  in_run : (f : Fault) → is_content k s.stack ≡ true → s.at < length src → byte src s.at ≢ code "<" → InRun es k Includes src s.at b f → Stands limit es k open_around Includes src s b f
   in_section : (p : ℕ) (t : DueItem) (f : Fault) → is_content k s.stack ≡ true → DueInCData src s.at p t → IsMissing src p t f → Stands limit es k open_around Includes src s b f
   in_misc : (f : Fault) → is_content k s.stack ≡ true → InMisc src s.at f → Stands limit es k open_around Includes src s b f
   in_tag : (f : Fault) → TagBegins src s.at (is_content k s.stack) → InTag (is_main k) Includes src s b f → Stands limit es k open_around Includes src s b f
   in_end : (f : Fault) → is_content k s.stack ≡ true → InEnd open_around src s f → Stands limit es k open_around Includes src s b f
   -- `<` at the end, or `<!` of neither a comment nor a section
-  unknown : is_content k s.stack ≡ true → byte src s.at ≡ 60
-      → (length src ≡ s.at + 1) ⊎ ((byte src (s.at + 1) ≡ 33) × (at word.CommentStart src s.at ≡ false) × (at word.CDataStart src s.at ≡ false)) → Stands limit es k open_around Includes src s b (fault.UnknownToken s.at)
+  unknown : is_content k s.stack ≡ true → byte src s.at ≡ code "<"
+      → (length src ≡ s.at + 1) ⊎ ((byte src (s.at + 1) ≡ code "!") × (text_at "<!--" src s.at ≡ false) × (text_at "<![CDATA[" src s.at ≡ false)) → Stands limit es k open_around Includes src s b (fault.UnknownToken s.at)
   unclosed : (start : ℕ) (tag : Tag) (before : Forest Item) (up : Open) → s.stack ≡ inside start tag before up → length src ≤ s.at → is_main k ≡ true → Stands limit es k open_around Includes src s b fault.UnclosedRootNode
   unclosed_in_replacement : open_around < depth_of s.stack → length src ≤ s.at → is_main k ≡ false → Stands limit es k open_around Includes src s b fault.UnexpectedEndOfStream
   -- behind the construct that begins here; of a tag its pairs and its attributes are counted first
@@ -148,32 +164,34 @@ pub data Stands (limit : ℕ) (es : List Entity) (k open_around : ℕ) (Includes
       → AreWellNamed (scope_of s.stack) front → p < stop → RefersTo es src p j t → attributes_so_far s.stack (join s.done front) ≤ most_attributes
       → length (distinct_pairs (pairs_so_far s.stack (join s.done front))) ≤ most_pairs → limit < nodes_so_far s.stack (join s.done front) → Stands limit es k open_around Includes src s b fault.NodesLimitReached
 
+-- ---- at a point of content, where k replacement texts are open, around which `open_around` elements are open: in this source
+pub data AtPoint (opens : ℕ → Inclusion) (es : List Entity) (limit k open_around : ℕ) (src : List ℕ) (s : State) (b : ℕ) : List ℕ → Fault → Type 0 where
+  at_place : (f : Fault) → Stands limit es k open_around (opens k) src s b f → AtPoint opens es limit k open_around src s b src f
+  -- in the value of an attribute or a declaration of the start tag here, or in a replacement text that is opened in it
+  in_value : (v e c l i stop d : ℕ) (part : List ℕ) (f : Fault) → BeginsValue k (opens k) src s b v e c
+      → ValuePart opens es k src (v + 1) e c l part i stop d → InValue es l (opens l) part i stop d f → AtPoint opens es limit k open_around src s b part f
+
 -- Of this text, with at most `limit` nodes, the fault stands in this source, in the part that begins where `Front` says what
 -- stands before: before the root element, in it, or behind it. All before it is as the grammar wants and within the limits.
 -- Positions and names of the fault count in the source. The flag says that a document type declaration stands before.
 pub data FaultFrom (opens : ℕ → Inclusion) (es : List Entity) (limit : ℕ) (text : List ℕ) (declared : Bool) (Front : ℕ → Forest Item → Type 0) : List ℕ → Fault → Type 0 where
-  in_misc_ahead : (p : ℕ) (items : Forest Item) (f : Fault) → Front p items → FitsLimits limit root items → InMisc text p f → FaultFrom opens es limit text declared Front text f
-  too_many_ahead : (p j : ℕ) (items : Forest Item) (item : Item) → Front p items → FitsLimits limit root items → IsMisc text p j item
-      → limit < nodes_so_far root (join items (leaf item)) → FaultFrom opens es limit text declared Front text fault.NodesLimitReached
+  misc_ahead : (p : ℕ) (items : Forest Item) (f : Fault) → Front p items → FitsLimits limit root items → InMiscs limit text p items f
+      → FaultFrom opens es limit text declared Front text f
   no_root : (items : Forest Item) → Front (length text) items → FitsLimits limit root items → FaultFrom opens es limit text declared Front text fault.NoRootNode
-  unknown_ahead : (p : ℕ) (items : Forest Item) → Front p items → FitsLimits limit root items → p < length text → is_space (byte text p) ≡ false → byte text p ≢ 60
+  unknown_ahead : (p : ℕ) (items : Forest Item) → Front p items → FitsLimits limit root items → p < length text → is_space (byte text p) ≡ false
+      → byte text p ≢ code "<" → FaultFrom opens es limit text declared Front text (fault.UnknownToken p)
+  at_point : (k open_around b : ℕ) (src : List ℕ) (s : State) (source : List ℕ) (f : Fault)
+      → ContentPoint opens es text (λ p items. Front p items × RootBegins declared text p) k open_around src b s → FitsLimits limit s.stack s.done
+      → AtPoint opens es limit k open_around src s b source f → FaultFrom opens es limit text declared Front source f
+  misc_behind : (p : ℕ) (items : Forest Item) (f : Fault) → Behind opens text Front p items → FitsLimits limit root items → InMiscs limit text p items f
+      → FaultFrom opens es limit text declared Front text f
+  unknown_behind : (p : ℕ) (items : Forest Item) → Behind opens text Front p items → FitsLimits limit root items → p < length text
+      → is_space (byte text p) ≡ false → text_at "<!--" text p ≡ false → text_at "<?" text p ≡ false
       → FaultFrom opens es limit text declared Front text (fault.UnknownToken p)
-  at_place : (k open_around b : ℕ) (src : List ℕ) (s : State) (f : Fault) → ContentPoint opens es text (λ p items. Front p items × RootBegins declared text p) k open_around src b s → FitsLimits limit s.stack s.done
-      → Stands limit es k open_around (opens k) src s b f → FaultFrom opens es limit text declared Front src f
-  -- in the value of an attribute or a declaration of the start tag at a place, or in a replacement text that is opened in it
-  in_value : (k open_around b p c n v e j l i stop d : ℕ) (src part : List ℕ) (s : State) (as' : List Attribute) (name : Name) (f : Fault)
-      → ContentPoint opens es text (λ p items. Front p items × RootBegins declared text p) k open_around src b s → FitsLimits limit s.stack s.done → TagBegins src s.at (is_content k s.stack)
-      → TagTo (is_main k) (opens k) src s p b c as' → p < spaces_end src p → IsQName src (spaces_end src p) name n → IsEq src n v → IsLiteral src v e j
-      → ValuePart opens es k src (v + 1) e c l part i stop d → InValue es l (opens l) part i stop d f → FaultFrom opens es limit text declared Front part f
-  in_misc_behind : (p : ℕ) (items : Forest Item) (f : Fault) → Behind opens text Front p items → FitsLimits limit root items → InMisc text p f → FaultFrom opens es limit text declared Front text f
-  too_many_behind : (p j : ℕ) (items : Forest Item) (item : Item) → Behind opens text Front p items → FitsLimits limit root items → IsMisc text p j item
-      → limit < nodes_so_far root (join items (leaf item)) → FaultFrom opens es limit text declared Front text fault.NodesLimitReached
-  unknown_behind : (p : ℕ) (items : Forest Item) → Behind opens text Front p items → FitsLimits limit root items → p < length text → is_space (byte text p) ≡ false → at word.CommentStart text p ≡ false
-      → at word.PIStart text p ≡ false → FaultFrom opens es limit text declared Front text (fault.UnknownToken p)
 
 -- The fault stands in this text, with at most `limit` nodes, where no document type declaration may stand. No entity is declared,
 -- so that it stands in the text itself.
 pub data FaultOf (limit : ℕ) (text : List ℕ) : Fault → Type 0 where
-  in_declaration : (p : ℕ) (t : DueItem) (f : Fault) → at word.XmlDeclStart text (after_bom text) ≡ true → DueInXmlDecl text (after_bom text) p t → IsMissing text p t f → FaultOf limit text f
-  doctype : (p : ℕ) (items : Forest Item) → PrologTo text p items → FitsLimits limit root items → at word.DoctypeStart text p ≡ true → FaultOf limit text fault.DtdDetected
+  in_declaration : (p : ℕ) (t : DueItem) (f : Fault) → text_at "<?xml " text (after_bom text) ≡ true → DueInXmlDecl text (after_bom text) p t → IsMissing text p t f → FaultOf limit text f
+  doctype : (p : ℕ) (items : Forest Item) → PrologTo text p items → FitsLimits limit root items → text_at "<!DOCTYPE" text p ≡ true → FaultOf limit text fault.DtdDetected
   without : (f : Fault) → FaultFrom (λ k. no_entities) [] limit text false (PrologTo text) text f → FaultOf limit text f

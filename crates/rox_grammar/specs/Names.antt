@@ -1,4 +1,5 @@
 -- Places in a source, white space and names. A source is a list of bytes, and a thing stands from place i up to place j.
+use Prim.Native.Char.{code}
 use Rattle.std.specs.Prelude.{◌≡◌, ◌≢◌, ℕ, ◌+◌, true, List, [], slice_index, slice_range}
 use Rattle.rox_grammar.specs.Chars.{is_space, is_name_start, is_name_char, is_part_char}
 use Rattle.rox_grammar.specs.Runs.{run_end, begins}
@@ -24,14 +25,14 @@ pub record IsName (src : List ℕ) (i j : ℕ) : Type 0 where
 -- NS 3 [4] NCName, a name without colon, the longest
 pub record IsNCName (src : List ℕ) (i j : ℕ) : Type 0 where
   pub starts : begins is_name_start src i ≡ true
-  pub no_colon : byte src i ≢ 58
+  pub no_colon : byte src i ≢ code ":"
   pub longest : j ≡ run_end is_part_char src i
 
 -- NS 4 [7] QName. No second colon follows. A colon may also stand in front, which NS 4 forbids, and the prefix is
 -- empty then.
 pub data IsQName (src : List ℕ) : ℕ → Name → ℕ → Type 0 where
-  unprefixed : (i j : ℕ) → IsNCName src i j → byte src j ≢ 58 → IsQName src i (record { prefix = []; local = slice src i j }) j
-  prefixed : (i k j : ℕ) → IsNCName src i k → byte src k ≡ 58 → IsNCName src (k + 1) j → byte src j ≢ 58
+  unprefixed : (i j : ℕ) → IsNCName src i j → byte src j ≢ code ":" → IsQName src i (record { prefix = []; local = slice src i j }) j
+  prefixed : (i k j : ℕ) → IsNCName src i k → byte src k ≡ code ":" → IsNCName src (k + 1) j → byte src j ≢ code ":"
       → IsQName src i (record { prefix = slice src i k; local = slice src (k + 1) j }) j
-  colon_first : (i j : ℕ) → byte src i ≡ 58 → IsNCName src (i + 1) j → byte src j ≢ 58
+  colon_first : (i j : ℕ) → byte src i ≡ code ":" → IsNCName src (i + 1) j → byte src j ≢ code ":"
       → IsQName src i (record { prefix = []; local = slice src (i + 1) j }) j

@@ -1,18 +1,19 @@
 -- References (XML 4.1).
-use Rattle.std.specs.Prelude.{◌≡◌, ℕ, ◌+◌, ◌*◌, ◌-◌, ◌^◌, ◌<◌, ◌||◌, Bool, true, List, [], ◌∷◌, Option, Some, None, nat_le, nat_lt, bytes_eq, if◌then◌else◌, drop}
+use Prim.Native.Char.{code}
+use Rattle.std.specs.Prelude.{◌≡◌, ℕ, ◌+◌, ◌*◌, ◌-◌, ◌^◌, ◌<◌, ◌||◌, Bool, true, List, [], ◌∷◌, Option, Some, None, nat_le, nat_lt, bytes_eq, if◌then◌else◌, drop, codes}
 use Rattle.std.specs.List.{prefix_len}
 use Rattle.rox_grammar.specs.Chars.{is_between, is_char}
 use Rattle.rox_grammar.specs.Names.{byte, slice, IsName}
 
 abbrev pub is_digit : ℕ → Bool
-is_digit b = is_between 48 57 b
+is_digit b = is_between (code "0") (code "9") b
 
 abbrev pub is_hex_digit : ℕ → Bool
-is_hex_digit b = is_digit b || (is_between 97 102 b || is_between 65 70 b)
+is_hex_digit b = is_digit b || (is_between (code "a") (code "f") b || is_between (code "A") (code "F") b)
 
 -- the number that a digit stands for
 abbrev pub digit_value : ℕ → ℕ
-digit_value b = if nat_le b 57 then b - 48 else if nat_le b 70 then b - 55 else b - 87
+digit_value b = if nat_le b (code "9") then b - code "0" else if nat_le b (code "F") then b - (code "A" - 10) else b - (code "a" - 10)
 
 -- the number of digits, the first of which follow this one
 abbrev pub number_from : ℕ → ℕ → List ℕ → ℕ
@@ -33,23 +34,18 @@ character n = if nat_lt n 0xD800 || is_between 0xE000 0x10FFFF n then n else 0xF
 -- XML 4.6: the five names
 abbrev pub predefined : List ℕ → Option ℕ
 predefined name =
-    -- lt
-    if bytes_eq name (108 ∷ 116 ∷ []) then Some 60
-    -- gt
-    else if bytes_eq name (103 ∷ 116 ∷ []) then Some 62
-    -- amp
-    else if bytes_eq name (97 ∷ 109 ∷ 112 ∷ []) then Some 38
-    -- quot
-    else if bytes_eq name (113 ∷ 117 ∷ 111 ∷ 116 ∷ []) then Some 34
-    -- apos
-    else if bytes_eq name (97 ∷ 112 ∷ 111 ∷ 115 ∷ []) then Some 39
+    if bytes_eq name (codes "lt") then Some (code "<")
+    else if bytes_eq name (codes "gt") then Some (code ">")
+    else if bytes_eq name (codes "amp") then Some (code "&")
+    else if bytes_eq name (codes "quot") then Some (code "\"")
+    else if bytes_eq name (codes "apos") then Some (code "'")
     else None
 
 -- digits from d up to e, then `;`, of a Char below 2^32
 pub record IsNumber (base : ℕ) (is : ℕ → Bool) (src : List ℕ) (d e c j : ℕ) : Type 0 where
   pub end : e ≡ bytes_end is src d
   pub some : d < e
-  pub closes : byte src e ≡ 59
+  pub closes : byte src e ≡ code ";"
   pub small : number base (slice src d e) < 2 ^ 32
   pub is_character : c ≡ character (number base (slice src d e))
   pub allowed : is_char c ≡ true
@@ -57,14 +53,14 @@ pub record IsNumber (base : ℕ) (is : ℕ → Bool) (src : List ℕ) (d e c j :
 
 -- XML 4.1 [68] `&`, a name up to n, and `;`. The name may have colons, which NS 7 forbids.
 pub record IsReference (src : List ℕ) (i n j : ℕ) : Type 0 where
-  pub opens : byte src i ≡ 38
+  pub opens : byte src i ≡ code "&"
   pub name : IsName src (i + 1) n
-  pub closes : byte src n ≡ 59
+  pub closes : byte src n ≡ code ";"
   pub next : j ≡ n + 1
 
 -- XML 4.1 [66], 4.6: from i up to j a reference to the character c
 pub data IsCharacter (src : List ℕ) : ℕ → ℕ → ℕ → Type 0 where
-  decimal : (i e c j : ℕ) → byte src i ≡ 38 → byte src (i + 1) ≡ 35 → IsNumber 10 is_digit src (i + 2) e c j → IsCharacter src i c j
-  hexadecimal : (i e c j : ℕ) → byte src i ≡ 38 → byte src (i + 1) ≡ 35 → byte src (i + 2) ≡ 120 → IsNumber 16 is_hex_digit src (i + 3) e c j
+  decimal : (i e c j : ℕ) → byte src i ≡ code "&" → byte src (i + 1) ≡ code "#" → IsNumber 10 is_digit src (i + 2) e c j → IsCharacter src i c j
+  hexadecimal : (i e c j : ℕ) → byte src i ≡ code "&" → byte src (i + 1) ≡ code "#" → byte src (i + 2) ≡ code "x" → IsNumber 16 is_hex_digit src (i + 3) e c j
       → IsCharacter src i c j
   named : (i n c j : ℕ) → IsReference src i n j → predefined (slice src (i + 1) n) ≡ Some c → IsCharacter src i c j

@@ -1,8 +1,7 @@
 -- How a text begins: the main text, or a resolver's answer.
 use Rattle.std.specs.Prelude.{◌≡◌, ℕ, ◌==◌, false, List, [], ◌∷◌, if◌then◌else◌}
 use Rattle.std.specs.List.{starts_with}
-use Rattle.rox_grammar.specs.declared.fault.Word.TheVariants as word
-use Rattle.rox_grammar.specs.Constructs.{at, IsXmlDecl}
+use Rattle.rox_grammar.specs.Constructs.{text_at, IsXmlDecl}
 
 -- EF BB BF
 abbrev pub bom : List ℕ
@@ -16,4 +15,4 @@ after_bom src = if starts_with ◌==◌ src bom then 3 else 0
 -- main text, where [77] wants `encoding`, lets `version` be missing, and has no `standalone`.
 pub data MayHaveXmlDecl (src : List ℕ) : ℕ → ℕ → Type 0 where
   declared : (i j : ℕ) → IsXmlDecl src i j → MayHaveXmlDecl src i j
-  not_declared : (i : ℕ) → at word.XmlDeclStart src i ≡ false → MayHaveXmlDecl src i i
+  not_declared : (i : ℕ) → text_at "<?xml " src i ≡ false → MayHaveXmlDecl src i i

@@ -1,8 +1,6 @@
 -- The tree of a document as its readers see it: each name with the namespace that it stands in (XML Information Set 2).
-use Rattle.std.specs.Prelude.{ℕ, Bool, true, false, not, List, [], ◌∷◌, ◌++◌, Option, Some, None, bytes_eq, filter, map, if◌then◌else◌}
+use Rattle.std.specs.Prelude.{ℕ, Bool, true, false, not, List, [], ◌∷◌, ◌++◌, Option, Some, None, bytes_eq, filter, map, if◌then◌else◌, codes}
 use Rattle.std.specs.List.{list_any}
-use Rattle.rox_grammar.specs.declared.fault.Word.TheVariants.{Xml}
-use Rattle.rox_grammar.specs.FixedTexts.{word_text}
 use Rattle.rox_grammar.specs.Forest.{Forest, Nil, Cons}
 use Rattle.rox_grammar.specs.Written as written
 use Rattle.rox_grammar.specs.Written.{Name, NamespaceDecl, Item}
@@ -26,13 +24,31 @@ pub data Node : Type 0 where
   Comment : (start end : ℕ) → (text : List ℕ) → Node
   PI : (start end : ℕ) → (target : List ℕ) → (value : Option (List ℕ)) → Node
 
--- `http://www.w3.org/XML/1998/namespace`
-abbrev pub xml_uri : List ℕ
-xml_uri = 104 ∷ 116 ∷ 116 ∷ 112 ∷ 58 ∷ 47 ∷ 47 ∷ 119 ∷ 119 ∷ 119 ∷ 46 ∷ 119 ∷ 51 ∷ 46 ∷ 111 ∷ 114 ∷ 103 ∷ 47 ∷ 88 ∷ 77 ∷ 76 ∷ 47 ∷ 49 ∷ 57 ∷ 57 ∷ 56 ∷ 47 ∷ 110 ∷ 97 ∷ 109 ∷ 101 ∷ 115 ∷ 112 ∷ 97 ∷ 99 ∷ 101 ∷ []
+abbrev pub is_element_node : Node → Bool
+is_element_node (Element start end namespace local listed attributes) = true
+is_element_node other = false
 
--- `http://www.w3.org/2000/xmlns/`
+-- where the range of a node starts and ends, in bytes of its source
+abbrev pub start_of : Node → ℕ
+start_of (Root end) = 0
+start_of (Element start end namespace local listed attributes) = start
+start_of (Text start end value borrowed) = start
+start_of (Comment start end text) = start
+start_of (PI start end target value) = start
+
+abbrev pub end_of : Node → ℕ
+end_of (Root end) = end
+end_of (Element start end namespace local listed attributes) = end
+end_of (Text start end value borrowed) = end
+end_of (Comment start end text) = end
+end_of (PI start end target value) = end
+
+-- NS 3: the URI that `xml` stands for, and that of `xmlns`
+abbrev pub xml_uri : List ℕ
+xml_uri = codes "http://www.w3.org/XML/1998/namespace"
+
 abbrev pub xmlns_uri : List ℕ
-xmlns_uri = 104 ∷ 116 ∷ 116 ∷ 112 ∷ 58 ∷ 47 ∷ 47 ∷ 119 ∷ 119 ∷ 119 ∷ 46 ∷ 119 ∷ 51 ∷ 46 ∷ 111 ∷ 114 ∷ 103 ∷ 47 ∷ 50 ∷ 48 ∷ 48 ∷ 48 ∷ 47 ∷ 120 ∷ 109 ∷ 108 ∷ 110 ∷ 115 ∷ 47 ∷ []
+xmlns_uri = codes "http://www.w3.org/2000/xmlns/"
 
 abbrev pub same_prefix : Option (List ℕ) → Option (List ℕ) → Bool
 same_prefix None None = true
@@ -44,11 +60,17 @@ same_prefix (Some p) (Some q) = bytes_eq p q
 abbrev pub is_declared : Option (List ℕ) → List NamespaceDecl → Bool
 is_declared prefix ds = list_any (λ d. same_prefix d.prefix prefix) ds
 
--- NS 6: an element lists what it declares, but for the prefix `xml`, and then what its parent lists and it does not declare. By NS 3
--- `xml` and `xmlns` are in scope everywhere.
+-- the prefix `xml`
+abbrev pub is_xml : Option (List ℕ) → Bool
+is_xml prefix = same_prefix prefix (Some (codes "xml"))
+
+-- of these declarations those that are listed: all but that of `xml`, which by NS 3 is in scope everywhere, as `xmlns` is
+abbrev pub listable_of : List NamespaceDecl → List NamespaceDecl
+listable_of ds = filter (λ d. not (is_xml d.prefix)) ds
+
+-- NS 6: an element lists what it declares, and then what its parent lists and it does not declare
 abbrev pub listed : List NamespaceDecl → List NamespaceDecl → List NamespaceDecl
-listed above own =
-    filter (λ d. not (same_prefix d.prefix (Some (word_text Xml)))) own ++ filter (λ d. not (is_declared d.prefix own)) above
+listed above own = listable_of own ++ filter (λ d. not (is_declared d.prefix own)) above
 
 -- the URI that is listed for a prefix, or for the default
 abbrev pub uri_of : List NamespaceDecl → Option (List ℕ) → Option (List ℕ)
@@ -67,7 +89,7 @@ element_namespace scope name = uri_of scope (none_if_empty name.prefix)
 abbrev pub attribute_namespace : List NamespaceDecl → Name → Option (List ℕ)
 attribute_namespace scope name =
     if bytes_eq name.prefix [] then None
-    else if bytes_eq name.prefix (word_text Xml) then Some xml_uri
+    else if bytes_eq name.prefix (codes "xml") then Some xml_uri
     else uri_of scope (Some name.prefix)
 
 abbrev pub attribute_in : List NamespaceDecl → written.Attribute → Attribute
@@ -85,9 +107,7 @@ attribute_in scope a = record {
 -- what an element lists, where its parent lists these
 abbrev pub scope_in : List NamespaceDecl → Item → List NamespaceDecl
 scope_in above (written.Element start end tag) = listed above tag.declarations
-scope_in above (written.Text start end value borrowed) = above
-scope_in above (written.Comment start end text) = above
-scope_in above (written.PI start end target value) = above
+scope_in above other = above
 
 -- an item as its readers see it, where it, or its parent if it is no element, lists these
 abbrev pub node_in : List NamespaceDecl → Item → Node

@@ -1,14 +1,15 @@
 -- The tree of a text with its names as they are written. Every place is a count of bytes from the start of the source.
-use Rattle.std.specs.Prelude.{ℕ, ◌+◌, ◌-◌, Bool, false, ◌||◌, not, List, ◌++◌, Option, Some, None, bytes_eq, filter, map, if◌then◌else◌, length}
-use Rattle.rox_grammar.specs.declared.fault.Word.TheVariants.{Xmlns}
+use Rattle.std.specs.Prelude.{ℕ, ◌+◌, ◌-◌, Bool, false, ◌||◌, ◌&&◌, not, List, ◌++◌, Option, Some, None, bytes_eq, filter, map, if◌then◌else◌, length, codes}
 use Rattle.rox_grammar.specs.declared.fault.Span.{Span}
-use Rattle.rox_grammar.specs.FixedTexts.{word_text}
 use Rattle.rox_grammar.specs.Forest.{Forest, Nil, Cons, join}
 
 -- NS 4: a prefix, which is empty where none is written, and a local part
 pub record Name : Type 0 where
   pub prefix : List ℕ
   pub local : List ℕ
+
+abbrev pub same_qname : Name → Name → Bool
+same_qname m n = bytes_eq m.prefix n.prefix && bytes_eq m.local n.local
 
 -- an attribute: its name from start to name_end, its value between the quotes from value_start to end less one
 pub record Attribute : Type 0 where
@@ -44,10 +45,10 @@ pub data Item : Type 0 where
 
 -- NS 3: `xmlns:p` declares p, and any other name with the local part `xmlns` the default, where NS 3 has `xmlns` alone for it
 abbrev pub is_namespace_decl : Name → Bool
-is_namespace_decl n = bytes_eq n.prefix (word_text Xmlns) || bytes_eq n.local (word_text Xmlns)
+is_namespace_decl n = bytes_eq n.prefix (codes "xmlns") || bytes_eq n.local (codes "xmlns")
 
 abbrev pub namespace_decl_of : Attribute → NamespaceDecl
-namespace_decl_of a = record { prefix = if bytes_eq a.name.prefix (word_text Xmlns) then Some a.name.local else None; uri = a.value }
+namespace_decl_of a = record { prefix = if bytes_eq a.name.prefix (codes "xmlns") then Some a.name.local else None; uri = a.value }
 
 -- of the attributes as written those that declare, and the others
 abbrev pub namespace_decls_of : List Attribute → List NamespaceDecl
@@ -60,18 +61,14 @@ plain_attributes_of as' = filter (λ a. not (is_namespace_decl a.name)) as'
 abbrev pub glue : ℕ → ℕ → List ℕ → Bool → Forest Item → Forest Item → Forest Item
 glue a e v borrowed below Nil = Cons (Text a e v borrowed) below Nil
 glue a e v borrowed below (Cons (Text x y w p) children rest) = Cons (Text a e (v ++ w) false) (join below children) rest
-glue a e v borrowed below (Cons (Element x y t) children rest) = Cons (Text a e v borrowed) below (Cons (Element x y t) children rest)
-glue a e v borrowed below (Cons (Comment x y t) children rest) = Cons (Text a e v borrowed) below (Cons (Comment x y t) children rest)
-glue a e v borrowed below (Cons (PI x y t o) children rest) = Cons (Text a e v borrowed) below (Cons (PI x y t o) children rest)
+glue a e v borrowed below (Cons other children rest) = Cons (Text a e v borrowed) below (Cons other children rest)
 
 -- Each longest row of touching pieces becomes one text, with the range of its first piece. It is a slice of the
 -- source only where it is one such piece.
 abbrev pub merge : Forest Item → Forest Item
 merge Nil = Nil
 merge (Cons (Text a e v borrowed) children rest) = glue a e v borrowed children (merge rest)
-merge (Cons (Element a e t) children rest) = Cons (Element a e t) children (merge rest)
-merge (Cons (Comment a e t) children rest) = Cons (Comment a e t) children (merge rest)
-merge (Cons (PI a e t o) children rest) = Cons (PI a e t o) children (merge rest)
+merge (Cons other children rest) = Cons other children (merge rest)
 
 -- a text or another item with nothing below it
 abbrev pub leaf : Item → Forest Item

@@ -1,23 +1,21 @@
 -- Reading of a document type declaration. The replies are those that the resolver gives, in order; past their end it answers nothing.
+use Prim.Native.Char.{code}
 use Rattle.std.specs.Prelude.{ℕ, zero, suc, ◌+◌, ◌==◌, ◌||◌, Bool, true, false, List, [], ◌∷◌, ◌++◌, Option, Some, None, Result, Ok, Err, length, take, drop, slice_index, slice_range, nat_lt, nat_le, if◌then◌else◌, IsUtf8}
 use Rattle.rox_grammar.specs.declared.fault.Fault.TheVariants as fault
 use Rattle.rox_grammar.specs.declared.fault.Due.TheVariants as due
 use Rattle.rox_grammar.specs.declared.fault.Word.TheVariants as word
 use Rattle.rox_grammar.specs.Search.{byte_from}
 use Rattle.rox_grammar.specs.Names.{spaces_end}
-use Rattle.rox_grammar.specs.Constructs.{at}
+use Rattle.rox_grammar.specs.FixedTexts.{at}
 use Rattle.rox_grammar.specs.TextStart.{after_bom}
 use Rattle.rox_grammar.specs.Entities.{Replacement, Entity}
 use Rattle.rox_grammar.specs.Doctype.{Request, Asked, entry}
+pub use Rattle.rox_grammar.specs.Doctype.{Reply}
 use Rattle.rox_reading.specs.Lexical.{Read, ◌>>=◌, byte_at, space_at, quote_at, name_at}
 use Rattle.rox_reading.specs.Markup.{xml_decl_at}
 use Rattle.rox_reading.specs.Refusals.{Refusal, here, refused, lifted, elsewhere}
 use Rattle.rox_reading.specs.State.{State}
 use Rattle.rox_reading.specs.Machine.{comment_step, instruction_step, at_place}
-
--- a text, or none; or a refusal with its message
-abbrev pub Reply : Type 0
-Reply = Result (Option (List ℕ)) (List ℕ)
 
 -- the answers, as replies
 abbrev pub replies_of : List Asked → List Reply
@@ -89,9 +87,9 @@ pub data Definition : Type 0 where
 unfoldable pub definition_at : (parameter : Bool) → List ℕ → ℕ → Read Definition
 definition_at parameter src i =
     if nat_le (length src) i then Err fault.UnexpectedEndOfStream
-    else if slice_index src i == 34 || slice_index src i == 39 then
+    else if slice_index src i == code "\"" || slice_index src i == code "'" then
     (quoted_at src i >>= λ x. Ok (inner (record { source = take (i + 1 + length x.0) src; start = i + 1 }), x.1))
-    else if slice_index src i == 83 || slice_index src i == 80 then (external_id_at src i >>= λ x. notation_at parameter src x.1 >>= λ y. Ok (outer x.0, y.1))
+    else if slice_index src i == code "S" || slice_index src i == code "P" then (external_id_at src i >>= λ x. notation_at parameter src x.1 >>= λ y. Ok (outer x.0, y.1))
     else Err (fault.InvalidChar2 due.EntityDefinition (slice_index src i) i)
 
 pub record EntityHead : Type 0 where
@@ -99,7 +97,7 @@ pub record EntityHead : Type 0 where
   pub name : List ℕ
 
 unfoldable pub kind_at : List ℕ → ℕ → Read Bool
-kind_at src i = if slice_index src i == 37 then (space_at src (i + 1) >>= λ s. Ok (true, s.1)) else Ok (false, i)
+kind_at src i = if slice_index src i == code "%" then (space_at src (i + 1) >>= λ s. Ok (true, s.1)) else Ok (false, i)
 
 -- from `<!ENTITY`, up to the definition
 unfoldable pub entity_head_at : List ℕ → ℕ → Read EntityHead
@@ -145,13 +143,13 @@ entity_step src d =
     asks_nothing (lifted (entity_head_at src d.state.at)) >>> λ head.
     asks_nothing (lifted (definition_at head.0.parameter src head.1)) >>> λ definition.
     defined definition.0 definition.1 d.replies >>> λ text.
-    asks_nothing (lifted (byte_at 62 src (spaces_end src definition.1))) >>> λ end.
+    asks_nothing (lifted (byte_at (code ">") src (spaces_end src definition.1))) >>> λ end.
     asks_nothing (Ok (record { state = at_place end.1 d.state; entities = d.entities ++ entry head.0.name text.0; replies = text.1 }))
 
 -- a declaration that is passed over, of the document type declaration that begins at i
 unfoldable pub skipped_declaration : ℕ → List ℕ → Dtd → Asks Dtd
 skipped_declaration i src d =
-    let e = byte_from (λ c. c == 62) src d.state.at in
+    let e = byte_from (λ c. c == code ">") src d.state.at in
     if nat_lt e (length src) then ([], Ok (record { state = at_place (e + 1) d.state; entities = d.entities; replies = d.replies }))
     else ([], Err (here (fault.UnknownToken i)))
 
@@ -163,7 +161,7 @@ unfoldable pub subset_end : List ℕ → Dtd → Asks Dtd
 subset_end src d =
     let e = spaces_end src (d.state.at + 1) in
     if nat_le (length src) e then ([], Err (here fault.UnexpectedEndOfStream))
-    else if slice_index src e == 62 then ([], Ok (with_state d (at_place (e + 1) d.state)))
+    else if slice_index src e == code ">" then ([], Ok (with_state d (at_place (e + 1) d.state)))
     else ([], Err (here (fault.InvalidChar2 due.End (slice_index src e) e)))
 
 -- The items up to `]`, and what ends the declaration, which begins at i. It ends without a fault where the text does, right
@@ -178,7 +176,7 @@ subset limit i (suc n) src d =
     else if at word.PIStart src s.at then (asks_nothing (lifted (instruction_step limit src s)) >>> λ t. subset limit i n src (with_state d t))
     else if at word.ElementStart src s.at || (at word.AttlistStart src s.at || at word.NotationStart src s.at) then
     (skipped_declaration i src (with_state d s) >>> λ e. subset limit i n src e)
-    else if slice_index src s.at == 93 then subset_end src (with_state d s)
+    else if slice_index src s.at == code "]" then subset_end src (with_state d s)
     else ([], Err (here (fault.UnknownToken s.at))))
 
 -- an external id, if it stands here
@@ -195,6 +193,6 @@ unfoldable pub doctype_step : ℕ → List ℕ → Dtd → Asks Dtd
 doctype_step limit src d =
     asks_nothing (lifted (doctype_head_at src d.state.at)) >>> λ head.
     if nat_le (length src) head.1 then ([], Err (here fault.UnexpectedEndOfStream))
-    else if slice_index src head.1 == 62 then ([], Ok (with_state d (at_place (head.1 + 1) d.state)))
-    else if slice_index src head.1 == 91 then subset limit d.state.at (length src) src (with_state d (at_place (head.1 + 1) d.state))
+    else if slice_index src head.1 == code ">" then ([], Ok (with_state d (at_place (head.1 + 1) d.state)))
+    else if slice_index src head.1 == code "[" then subset limit d.state.at (length src) src (with_state d (at_place (head.1 + 1) d.state))
     else ([], Err (here (fault.InvalidChar2 due.SubsetOrEnd (slice_index src head.1) head.1)))

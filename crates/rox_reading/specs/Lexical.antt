@@ -1,4 +1,5 @@
 -- What each small step reads at a place of a source: a value and the next place, or the first fault.
+use Prim.Native.Char.{code}
 use Rattle.std.specs.Prelude.{ℕ, ◌+◌, ◌==◌, ◌||◌, ◌&&◌, not, Bool, List, [], Result, Ok, Err, length, take, drop, slice_index, slice_range, nat_lt, nat_le, if◌then◌else◌}
 use Rattle.std.specs.Str.{chars}
 use Rattle.rox_grammar.specs.declared.fault.Due.TheVariants.{Space, Quote}
@@ -39,7 +40,7 @@ space_at src i =
 unfoldable pub quote_at : List ℕ → ℕ → Read ℕ
 quote_at src i =
     if nat_le (length src) i then Err UnexpectedEndOfStream
-    else if slice_index src i == 39 || slice_index src i == 34 then Ok (slice_index src i, i + 1)
+    else if slice_index src i == code "'" || slice_index src i == code "\"" then Ok (slice_index src i, i + 1)
     else Err (InvalidChar2 Quote (slice_index src i) i)
 
 -- the longest Name
@@ -74,7 +75,7 @@ part_end src i = run_end is_part_char src i
 
 -- the colon stands at i
 abbrev pub is_colon : List ℕ → ℕ → Bool
-is_colon src i = slice_index src i == 58
+is_colon src i = slice_index src i == code ":"
 
 -- The longest run of NameChars, split at its colon: it has one at most, and no part but the prefix may be empty.
 unfoldable pub qname_at : List ℕ → ℕ → Read Name

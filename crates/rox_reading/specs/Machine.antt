@@ -1,17 +1,17 @@
 -- Reading of content: one construct a step. A replacement text is read as content by steps of its own, over its own source, which add to the
 -- same items and open elements; it goes on until its end, where as many elements have to be open as at its start.
-use Rattle.std.specs.Prelude.{ℕ, zero, suc, ◌+◌, ◌-◌, ◌==◌, ◌&&◌, not, Bool, true, false, List, [], ◌∷◌, Result, Ok, Err, length, slice_index, nat_lt, nat_le, bytes_eq, if◌then◌else◌}
-use Rattle.std.specs.List.{list_any}
+use Prim.Native.Char.{code}
+use Rattle.std.specs.Prelude.{ℕ, zero, suc, ◌+◌, ◌-◌, ◌==◌, not, Bool, true, false, List, [], ◌∷◌, Result, Ok, Err, length, slice_index, nat_lt, nat_le, bytes_eq, if◌then◌else◌}
 use Rattle.rox_grammar.specs.declared.fault.Fault.{Fault}
 use Rattle.rox_grammar.specs.declared.fault.Span.{Span}
 use Rattle.rox_grammar.specs.declared.fault.Fault.TheVariants as fault
 use Rattle.rox_grammar.specs.declared.fault.Word.TheVariants as word
 use Rattle.rox_grammar.specs.Forest.{Forest, Nil, Cons, join}
-use Rattle.rox_grammar.specs.Written.{Name, Tag, Item, Element, Text, Comment, PI, merge, leaf, local_span}
-use Rattle.rox_grammar.specs.Constructs.{at}
-use Rattle.rox_grammar.specs.Content.{is_verbatim, literals, line_ends}
+use Rattle.rox_grammar.specs.Written.{Name, Tag, Item, Element, Text, Comment, PI, same_qname, merge, leaf, local_span}
+use Rattle.rox_grammar.specs.FixedTexts.{at}
+use Rattle.rox_grammar.specs.Content.{is_verbatim, section}
 use Rattle.rox_grammar.specs.Document.{distinct_pairs}
-use Rattle.rox_grammar.specs.Entities.{Replacement, Entity, most_deep}
+use Rattle.rox_grammar.specs.Entities.{Replacement, Entity, most_within, most_deep}
 use Rattle.rox_reading.specs.Lexical.{◌>>=◌}
 use Rattle.rox_reading.specs.Refusals.{Refusal, here, lifted, elsewhere}
 use Rattle.rox_reading.specs.Markup.{comment_at, instruction_at, cdata_at, end_tag_at}
@@ -42,10 +42,9 @@ comment_step limit src s = comment_at src s.at >>= λ x. with_item limit s x.1 (
 unfoldable pub instruction_step : ℕ → List ℕ → State → Result State Fault
 instruction_step limit src s = instruction_at src s.at >>= λ x. with_item limit s x.1 (PI s.at x.1 x.0.target x.0.value)
 
--- its text with its line ends, a slice of the source if it has no CR
 unfoldable pub cdata_step : ℕ → List ℕ → State → Result State Fault
 cdata_step limit src s =
-    cdata_at src s.at >>= λ x. with_item limit s x.1 (Text s.at x.1 (line_ends (literals x.0)) (not (list_any (λ b. b == 13) x.0)))
+    cdata_at src s.at >>= λ x. with_item limit s x.1 (section s.at x.1 x.0)
 
 -- the piece of a part of the run from i up to j, if it has a character
 abbrev pub with_piece : ℕ → State → ℕ → ℕ → List ℕ → Result State Fault
@@ -92,9 +91,6 @@ tag_step context src s =
 abbrev pub name_span : Name → ℕ → ℕ → Span
 name_span name i n = if bytes_eq name.prefix [] then local_span name n else record { start = i; end = n }
 
-abbrev pub same_qname : Name → Name → Bool
-same_qname m n = bytes_eq m.prefix n.prefix && bytes_eq m.local n.local
-
 -- an end tag of this name, which ends at n, from i to j
 unfoldable pub closed_by : ℕ → Name → ℕ → ℕ → Forest Item → Open → ℕ → Result State Fault
 closed_by i name n j done root openings_left = Err (fault.UnexpectedEntityCloseTag i)
@@ -111,14 +107,14 @@ end_step context src s =
 -- one construct of content
 unfoldable pub step : Context → List ℕ → State → Result State Refusal
 step context src s =
-    if not (slice_index src s.at == 60) then character_data_step context src s
+    if not (slice_index src s.at == code "<") then character_data_step context src s
     else if nat_le (length src) (s.at + 1) then Err (here (fault.UnknownToken s.at))
-    else if slice_index src (s.at + 1) == 33 then
+    else if slice_index src (s.at + 1) == code "!" then
     (if at word.CommentStart src s.at then lifted (comment_step context.limit src s)
     else if at word.CDataStart src s.at then lifted (cdata_step context.limit src s)
     else Err (here (fault.UnknownToken s.at)))
-    else if slice_index src (s.at + 1) == 63 then lifted (instruction_step context.limit src s)
-    else if slice_index src (s.at + 1) == 47 then lifted (end_step context src s)
+    else if slice_index src (s.at + 1) == code "?" then lifted (instruction_step context.limit src s)
+    else if slice_index src (s.at + 1) == code "/" then lifted (end_step context src s)
     else tag_step context src s
 
 -- content of the main text up to the end tag of the root element; the number bounds the steps
@@ -142,7 +138,7 @@ drive_text context (suc n) src s = if nat_lt s.at (length src) then (step contex
 
 -- how many may be opened within a replacement text whose reference ends at `after`, where so many are left
 abbrev pub budget : (main : Bool) → (after openings_left : ℕ) → Result ℕ Fault
-budget true after openings_left = Ok 255
+budget true after openings_left = Ok most_within
 budget false after zero = Err (fault.EntityReferenceLoop after)
 budget false after (suc r) = Ok r
 

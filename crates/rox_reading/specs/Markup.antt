@@ -1,4 +1,5 @@
 -- Comments, processing instructions, CDATA sections, end tags, attributes and the declaration.
+use Prim.Native.Char.{code}
 use Rattle.std.specs.Prelude.{ℕ, ◌+◌, ◌-◌, ◌==◌, ◌||◌, List, Option, Ok, Err, length, slice_index, nat_le, if◌then◌else◌}
 use Rattle.rox_grammar.specs.declared.fault.Due.TheVariants.{Space}
 use Rattle.rox_grammar.specs.declared.fault.Fault.TheVariants.{InvalidChar2, InvalidString, UnexpectedEndOfStream, UnexpectedDeclaration, InvalidComment}
@@ -17,7 +18,7 @@ use Rattle.rox_reading.specs.Lexical.{Read, ◌>>=◌, byte_at, quote_at, name_a
 unfoldable pub comment_at : List ℕ → ℕ → Read (List ℕ)
 comment_at src i = do
   text ← text_to word.CommentEnd src (i + 4)
-  if has_mark double_dash text.0 || slice_index text.0 (length text.0 - 1) == 45 then Err (InvalidComment i) else Ok (text.0, text.1)
+  if has_mark double_dash text.0 || slice_index text.0 (length text.0 - 1) == code "-" then Err (InvalidComment i) else Ok (text.0, text.1)
 
 pub record Instruction : Type 0 where
   pub target : List ℕ
@@ -41,16 +42,16 @@ pub record EndTag : Type 0 where
 unfoldable pub end_tag_at : List ℕ → ℕ → Read EndTag
 end_tag_at src i = do
   name ← qname_at src (i + 2)
-  end ← byte_at 62 src (spaces_end src name.1)
+  end ← byte_at (code ">") src (spaces_end src name.1)
   Ok (record { name = name.0; name_end = name.1 }, end.1)
 
 -- a name, Eq, and a value in quotes
 unfoldable pub pair_at : List ℕ → ℕ → Read (Unit {0})
 pair_at src i = do
   name ← qname_at src i
-  equals ← byte_at 61 src (spaces_end src name.1)
+  equals ← byte_at (code "=") src (spaces_end src name.1)
   quote ← quote_at src (spaces_end src equals.1)
-  value ← chars_up_to (byte_from (λ c. c == quote.0 || c == 60) src quote.1) src quote.1
+  value ← chars_up_to (byte_from (λ c. c == quote.0 || c == code "<") src quote.1) src quote.1
   byte_at quote.0 src value.1
 
 -- white space, or nothing where `?>` stands or the end is
@@ -86,14 +87,14 @@ pub record RawAttribute : Type 0 where
 -- Chars up to the quote or a `<`, one of which has to follow
 unfoldable pub raw_value_at : ℕ → List ℕ → ℕ → Read (List ℕ)
 raw_value_at quote src i =
-    let end = byte_from (λ c. c == quote || c == 60) src i in
+    let end = byte_from (λ c. c == quote || c == code "<") src i in
     if nat_le (length src) end then Err UnexpectedEndOfStream else chars_up_to end src i
 
 -- a name, `=`, and a value in quotes
 unfoldable pub attribute_at : List ℕ → ℕ → Read RawAttribute
 attribute_at src i = do
   name ← qname_at src i
-  equals ← byte_at 61 src (spaces_end src name.1)
+  equals ← byte_at (code "=") src (spaces_end src name.1)
   quote ← quote_at src (spaces_end src equals.1)
   value ← raw_value_at quote.0 src quote.1
   done ← byte_at quote.0 src value.1
@@ -110,7 +111,7 @@ unfoldable pub tag_item_at : List ℕ → ℕ → Read TagItem
 tag_item_at src i =
     let j = spaces_end src i in
     if nat_le (length src) j then Err UnexpectedEndOfStream
-    else if slice_index src j == 47 then (byte_at 62 src (j + 1) >>= λ x. Ok (closed, x.1))
-    else if slice_index src j == 62 then Ok (opened, j + 1)
+    else if slice_index src j == code "/" then (byte_at (code ">") src (j + 1) >>= λ x. Ok (closed, x.1))
+    else if slice_index src j == code ">" then Ok (opened, j + 1)
     else if j == i then Err (InvalidChar2 Space (slice_index src j) j)
     else (attribute_at src j >>= λ x. Ok (more x.0, x.1))

@@ -1,4 +1,5 @@
 -- References, and the texts that hold them.
+use Prim.Native.Char.{code}
 use Rattle.std.specs.Prelude.{ℕ, zero, suc, ◌+◌, ◌-◌, ◌^◌, ◌==◌, ◌||◌, Bool, true, false, List, [], ◌∷◌, ◌++◌, Option, Some, None, Result, Ok, Err, take, slice_range, slice_index, nat_lt, nat_le, if◌then◌else◌}
 use Rattle.std.specs.Char.{encode_utf8}
 use Rattle.rox_grammar.specs.declared.fault.Fault.{Fault}
@@ -29,7 +30,7 @@ number_at base is src i d =
     let n = number base (slice_range src d e) in
     if e == d then Err (MalformedEntityReference i)
     else if nat_le (2 ^ 32) n then Err (MalformedEntityReference i)
-    else if is_char (character n) then (if slice_index src e == 59 then Ok (character_of (character n), e + 1) else Err (MalformedEntityReference i))
+    else if is_char (character n) then (if slice_index src e == code ";" then Ok (character_of (character n), e + 1) else Err (MalformedEntityReference i))
     else Err (MalformedEntityReference i)
 
 abbrev pub named_or : Option ℕ → Span → Reference
@@ -41,15 +42,15 @@ unfoldable pub name_reference_at : List ℕ → ℕ → Read Reference
 name_reference_at src i =
     let n = run_end is_name_char src (i + 1) in
     if begins is_name_start src (i + 1) then
-    (if slice_index src n == 59 then Ok (named_or (predefined (slice_range src (i + 1) n)) (record { start = i + 1; end = n }), n + 1)
+    (if slice_index src n == code ";" then Ok (named_or (predefined (slice_range src (i + 1) n)) (record { start = i + 1; end = n }), n + 1)
     else Err (MalformedEntityReference i))
     else Err (MalformedEntityReference i)
 
 -- from `&`
 unfoldable pub reference_at : List ℕ → ℕ → Read Reference
 reference_at src i =
-    if slice_index src (i + 1) == 35 then
-    (if slice_index src (i + 2) == 120 then number_at 16 is_hex_digit src i (i + 3) else number_at 10 is_digit src i (i + 2))
+    if slice_index src (i + 1) == code "#" then
+    (if slice_index src (i + 2) == code "x" then number_at 16 is_hex_digit src i (i + 3) else number_at 10 is_digit src i (i + 2))
     else name_reference_at src i
 
 -- what stands for itself, or for other bytes; or a replacement text that is opened
@@ -72,11 +73,11 @@ expansion_at es src i = reference_at src i >>= λ r. reference_bit es src i r.0 
 -- In a run: a reference, a line end, or all bytes up to the next `&` or CR. Within a replacement text line ends are left to the whole part.
 unfoldable pub data_bit_at : (main : Bool) → List Entity → List ℕ → ℕ → ℕ → Read Bit
 data_bit_at main es src stop i =
-    if slice_index src i == 38 then expansion_at es src i
+    if slice_index src i == code "&" then expansion_at es src i
     else if main then
-    (if slice_index src i == 13 then Ok (bytes_of (10 ∷ []), if slice_index (take stop src) (i + 1) == 10 then i + 2 else i + 1)
-    else (let j = byte_from (λ c. c == 38 || c == 13) (take stop src) i in Ok (bytes_of (slice_range src i j), j)))
-    else (let j = byte_from (λ c. c == 38) (take stop src) i in Ok (bytes_of (slice_range src i j), j))
+    (if slice_index src i == code "\r" then Ok (bytes_of (code "\n" ∷ []), if slice_index (take stop src) (i + 1) == code "\n" then i + 2 else i + 1)
+    else (let j = byte_from (λ c. c == code "&" || c == code "\r") (take stop src) i in Ok (bytes_of (slice_range src i j), j)))
+    else (let j = byte_from (λ c. c == code "&") (take stop src) i in Ok (bytes_of (slice_range src i j), j))
 
 -- what ends a part of a run, or of a value: the end, or a replacement text, behind whose reference this place is
 pub data Next : Type 0 where
@@ -101,7 +102,7 @@ part_text false bs = line_ends (literals bs)
 -- a run, up to the next `<` or the end, tested for Chars and `]]>`
 unfoldable pub raw_character_data_at : List ℕ → ℕ → Read (List ℕ)
 raw_character_data_at src i =
-    let end = byte_from (λ c. c == 60) src i in
+    let end = byte_from (λ c. c == code "<") src i in
     chars_up_to end src i >>= λ raw.
     if has_mark (word_text word.CDataEnd) raw.0 then Err (InvalidCharacterData end) else Ok (raw.0, end)
 
@@ -112,12 +113,12 @@ pub record ReadText : Type 0 where
 
 -- `&`, or white space that is no space
 abbrev pub is_special : ℕ → Bool
-is_special b = b == 38 || (b == 9 || (b == 10 || b == 13))
+is_special b = b == code "&" || (b == code "\t" || (b == code "\n" || b == code "\r"))
 
 -- within a replacement text a character from a reference gives a space for white space, and is no `<`
 abbrev pub tested_bit : (main : Bool) → ℕ → Reference → Result Bit Fault → Result Bit Fault
 tested_bit true i r read = read
-tested_bit false i (character_of c) read = if c == 60 then Err (InvalidAttributeValue i) else Ok (bytes_of (value_bytes false c))
+tested_bit false i (character_of c) read = if c == code "<" then Err (InvalidAttributeValue i) else Ok (bytes_of (value_bytes false c))
 tested_bit false i (entity_at span) read = read
 
 unfoldable pub value_reference_at : (main : Bool) → List Entity → List ℕ → ℕ → Read Bit
@@ -127,16 +128,16 @@ value_reference_at main es src i = reference_at src i >>= λ r. tested_bit main 
 abbrev pub stretch_at : (main : Bool) → List ℕ → ℕ → ℕ → Read Bit
 stretch_at true src stop i = (let j = byte_from is_special (take stop src) i in Ok (bytes_of (slice_range src i j), j))
 stretch_at false src stop i =
-    (let j = byte_from (λ b. is_special b || b == 60) (take stop src) i in
-    chars_up_to j src i >>= λ x. if slice_index (take stop src) j == 60 then Err (InvalidAttributeValue j) else Ok (bytes_of x.0, j))
+    (let j = byte_from (λ b. is_special b || b == code "<") (take stop src) i in
+    chars_up_to j src i >>= λ x. if slice_index (take stop src) j == code "<" then Err (InvalidAttributeValue j) else Ok (bytes_of x.0, j))
 
 -- In a value: a reference, white space, or a stretch. A CR right before a LF gives nothing.
 unfoldable pub value_bit_at : (main : Bool) → List Entity → List ℕ → ℕ → ℕ → Read Bit
 value_bit_at main es src stop i =
-    if slice_index src i == 38 then value_reference_at main es src i
+    if slice_index src i == code "&" then value_reference_at main es src i
     else if is_special (slice_index src i) then
-    (if slice_index src i == 13 then (if slice_index (take stop src) (i + 1) == 10 then Ok (bytes_of [], i + 1) else Ok (bytes_of (32 ∷ []), i + 1))
-    else Ok (bytes_of (32 ∷ []), i + 1))
+    (if slice_index src i == code "\r" then (if slice_index (take stop src) (i + 1) == code "\n" then Ok (bytes_of [], i + 1) else Ok (bytes_of (code " " ∷ []), i + 1))
+    else Ok (bytes_of (code " " ∷ []), i + 1))
     else stretch_at main src stop i
 
 -- how a replacement text is read as a part of a value: the text, the place behind its reference, and how many may still be opened

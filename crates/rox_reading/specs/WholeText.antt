@@ -1,4 +1,5 @@
 -- Reading of a document.
+use Prim.Native.Char.{code}
 use Rattle.std.specs.Prelude.{ℕ, zero, suc, ◌==◌, Bool, true, false, List, [], Result, Ok, Err, length, slice_index, nat_lt, if◌then◌else◌}
 use Rattle.rox_grammar.specs.declared.fault.Fault.{Fault}
 use Rattle.rox_grammar.specs.declared.fault.Fault.TheVariants as fault
@@ -6,9 +7,9 @@ use Rattle.rox_grammar.specs.declared.fault.Word.TheVariants as word
 use Rattle.rox_grammar.specs.Forest.{Forest, Nil}
 use Rattle.rox_grammar.specs.Written.{Item}
 use Rattle.rox_grammar.specs.Names.{spaces_end}
-use Rattle.rox_grammar.specs.Constructs.{at}
+use Rattle.rox_grammar.specs.FixedTexts.{at}
 use Rattle.rox_grammar.specs.TextStart.{after_bom}
-use Rattle.rox_grammar.specs.Entities.{Entity}
+use Rattle.rox_grammar.specs.Entities.{Entity, most_within}
 use Rattle.rox_reading.specs.Lexical.{◌>>=◌}
 use Rattle.rox_reading.specs.Markup.{xml_decl_at}
 use Rattle.rox_reading.specs.Refusals.{Refusal, here, lifted}
@@ -29,7 +30,7 @@ misc limit (suc n) src s =
 -- the root element, if `<` stands here, and what follows it
 unfoldable pub body : ℕ → List Entity → List ℕ → State → Result (State × Bool) Refusal
 body limit es src s =
-    if slice_index src s.at == 60 then
+    if slice_index src s.at == code "<" then
     (tag_step (main_text limit es) src s >>= λ t. drive (main_text limit es) (length src) src t >>= λ u. lifted (misc limit (length src) src u) >>= λ v. Ok (v, true))
     else Ok (s, false)
 
@@ -59,12 +60,12 @@ begins_doctype src (Err f) = false
 -- whether the text has a document type declaration
 unfoldable pub has_doctype : ℕ → List ℕ → Bool
 has_doctype limit src =
-    begins_doctype src (prolog src (after_bom src) >>= λ i. misc limit (length src) src (record { at = i; done = Nil; stack = root; openings_left = 255 }))
+    begins_doctype src (prolog src (after_bom src) >>= λ i. misc limit (length src) src (record { at = i; done = Nil; stack = root; openings_left = most_within }))
 
 -- a whole text: what is asked, and its top items, or why it is refused
 unfoldable pub reading : ℕ → (allow : Bool) → List Reply → List ℕ → Asks (Forest Item)
 reading limit allow replies src =
     asks_nothing (lifted (prolog src (after_bom src))) >>> λ i.
-    asks_nothing (lifted (misc limit (length src) src (record { at = i; done = Nil; stack = root; openings_left = 255 }))) >>> λ s.
+    asks_nothing (lifted (misc limit (length src) src (record { at = i; done = Nil; stack = root; openings_left = most_within }))) >>> λ s.
     doctype limit allow src (record { state = s; entities = []; replies = replies }) >>> λ d.
     asks_nothing (body limit d.entities src d.state) >>> λ x. asks_nothing (lifted (finished src x))

@@ -6,7 +6,7 @@ use Rattle.std.proofs.lemmas.Bool.{cond_both}
 use Rattle.rox_grammar.specs.declared.fault.Word.TheVariants as word
 use Rattle.rox_grammar.specs.Forest.{Forest, Nil}
 use Rattle.rox_grammar.specs.Written.{Item}
-use Rattle.rox_grammar.specs.Constructs.{at}
+use Rattle.rox_grammar.specs.FixedTexts.{at}
 use Rattle.rox_grammar.specs.TextStart.{after_bom, MayHaveXmlDecl}
 use Rattle.rox_grammar.specs.Doctype.{Request, Asked}
 use Rattle.rox_grammar.specs.Document.{Misc, AsksNext, HasAsked, nothing, one_more}
@@ -66,18 +66,12 @@ module _ (src : List ℕ) (utf8 : IsUtf8 src) (allow : Bool) where
     later_next o asked request p l =
         let a = l.asks in
         record {
-          declared_to = i;
-          declaration = declares;
           begun = begun;
           before = before;
-          misc_before = ahead;
-          s = o.s;
-          doctype = o.begins;
-          opens = o.bracket;
+          prolog = record { declared_to = i; declaration = declares; misc = ahead };
           i = l.j;
           nodes = l.nodes;
-          entities = l.es;
-          items = l.items;
+          subset = record { s = o.s; begins = o.begins; opens = o.bracket; declared = l.es; read = l.items };
           parameter = a.parameter;
           n = a.n;
           m = a.m;

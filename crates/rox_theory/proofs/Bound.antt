@@ -318,7 +318,7 @@ turned n r = sym (mul_assoc n 256 r) ∙ ap (λ (x : ℕ). x * r) (mul_comm n 25
 pub parse_bounded : (of : Forest Item → ℕ) → Measure of → (src : List ℕ) (dtd : Bool) (asked : List Asked) (tree : Forest Item) (p : ParseOf src dtd asked tree) → of tree ≤ most_bytes src p.entities
 parse_bounded of is_measure src dtd asked tree p =
     let w = 256 * longest p.entities in
-    let before = all_misc of is_measure src p.declared_to p.begun p.before p.misc_before in
+    let before = all_misc of is_measure src p.prolog.declared_to p.begun p.before p.prolog.misc in
     let nodes = all_doctype of is_measure src p.begun p.start dtd p.nodes asked p.entities p.doctype in
     let one = element_bounded of is_measure p.entities src p.start p.end 255 p.openings_left p.one p.element in
     let after = all_misc of is_measure src p.end (length src) p.after p.misc_after in

@@ -5,11 +5,10 @@ use Rattle.std.specs.Str.{IsUtf8, IsCharBoundary}
 use Rattle.std.proofs.lemmas.Bool.{cases_lt, leb-true, leb-false, lt-leb, eqb-true, eqb-false, eq-eqb, ne_eqb, or_left, or_right, or_parts, or_from, false_from_ne_true}
 use Rattle.rox_grammar.specs.declared.fault.Word.{Word}
 use Rattle.rox_grammar.specs.declared.fault.Word.TheVariants as word
-use Rattle.rox_grammar.specs.FixedTexts.{word_text}
+use Rattle.rox_grammar.specs.FixedTexts.{word_text, at}
 use Rattle.rox_grammar.specs.Chars.{is_space, is_name_start, is_name_char}
 use Rattle.rox_grammar.specs.Search.{byte_from}
 use Rattle.rox_grammar.specs.Names.{byte, slice, spaces_end, IsName}
-use Rattle.rox_grammar.specs.Constructs.{at}
 use Rattle.rox_grammar.specs.Entities.{Replacement}
 use Rattle.rox_grammar.specs.Doctype.{Request, IsQuoted, IsSpace, IsExternalID, system, public, MayHaveNotation, notation, no_notation, of_parameter, CutsNotation, IsKind, BeginsEntity, MayHaveExternalID, external_id, no_external_id, BeginsDoctype}
 use Rattle.rox_grammar.specs.Doctype as grammar

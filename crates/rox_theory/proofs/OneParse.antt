@@ -4,7 +4,7 @@ use Rattle.std.specs.Prelude.{Option, map}
 use Rattle.std.specs.Str.{IsUtf8}
 use Rattle.std.proofs.lemmas.Bool.{false≢true}
 use Rattle.rox_grammar.specs.declared.fault.Word.TheVariants as word
-use Rattle.rox_grammar.specs.Constructs.{at}
+use Rattle.rox_grammar.specs.FixedTexts.{at}
 use Rattle.rox_grammar.specs.Forest.{Forest, Nil, Cons, join, size}
 use Rattle.rox_grammar.specs.Written.{Item, merge}
 use Rattle.rox_grammar.specs.Content.{IsMisc, comment, instruction, IsElement}
@@ -112,11 +112,11 @@ module _ (src : List ℕ) (utf8 : IsUtf8 src) where
     pub one_parse : (d e : Bool) (a b : List Asked) (t u : Forest Item) → ParseOf src d a t → ParseOf src e b u → Permits allow d → Permits allow e → replies_of a ≡ replies_of b
         → (d ≡ e) × (a ≡ b) × (t ≡ u)
     one_parse d e a b t u p q permits permits' answers =
-        let declared = ok_one p.declared_to q.declared_to (prolog src (after_bom src)) (prolog_complete src utf8 (after_bom src) p.declared_to p.declaration) (prolog_complete src utf8 (after_bom src) q.declared_to q.declaration) in
+        let declared = ok_one p.prolog.declared_to q.prolog.declared_to (prolog src (after_bom src)) (prolog_complete src utf8 (after_bom src) p.prolog.declared_to p.prolog.declaration) (prolog_complete src utf8 (after_bom src) q.prolog.declared_to q.prolog.declaration) in
         let stops = element_stops true (included_in_main p.entities) src p.start p.end 255 p.openings_left p.one p.element in
         let stops' = element_stops true (included_in_main q.entities) src q.start q.end 255 q.openings_left q.one q.element in
-        let before = one_misc p.declared_to q.declared_to p.begun q.begun p.before q.before declared p.misc_before (begins_stop src p.begun p.start d p.nodes a p.entities p.doctype stops.2)
-        q.misc_before (begins_stop src q.begun q.start e q.nodes b q.entities q.doctype stops'.2) in
+        let before = one_misc p.prolog.declared_to q.prolog.declared_to p.begun q.begun p.before q.before declared p.prolog.misc (begins_stop src p.begun p.start d p.nodes a p.entities p.doctype stops.2)
+        q.prolog.misc (begins_stop src q.begun q.start e q.nodes b q.entities q.doctype stops'.2) in
         let kind : d ≡ e = sym (dtd_begins src p.begun p.start d p.nodes a p.entities p.doctype stops.1) ∙ ap (at word.DoctypeStart src) before.0 ∙ dtd_begins src q.begun q.start e q.nodes b q.entities q.doctype stops'.1 in
         let declares = one_doctype p.begun q.begun p.start q.start d e p.nodes q.nodes a b p.entities q.entities before.0 answers (named_there d a t p) (named_there e b u q)
         p.doctype stops.2 stops.1 permits q.doctype stops'.2 stops'.1 permits' in

@@ -158,7 +158,7 @@ opens_made text es (suc d) main =
 pub parse_made : (src : List ℕ) (dtd : Bool) (asked : List Asked) (tree : Forest Item) (p : ParseOf src dtd asked tree) → OnlySectionsAreEmpty src p.entities tree (pieces_of src dtd asked tree p)
 parse_made src dtd asked tree p =
     let known : IsSourceIn src p.entities src = inl refl in
-    let before = all_made src p.entities src known p.declared_to p.begun p.before p.misc_before in
+    let before = all_made src p.entities src known p.prolog.declared_to p.begun p.before p.prolog.misc in
     let nodes = doctype_made src p.entities src known p.begun p.start dtd p.nodes asked p.entities p.doctype in
     let one = element_made src p.entities src known true (included_in_main p.entities) (writes p.entities most_deep true) (opens_made src p.entities most_deep true) p.start p.end 255 p.openings_left p.one p.element in
     let after = all_made src p.entities src known p.end (length src) p.after p.misc_after in

@@ -7,7 +7,7 @@ use Rattle.std.proofs.lemmas.Bool.{leb-false, lt-leb}
 use Rattle.rox_grammar.specs.declared.fault.Word.TheVariants as word
 use Rattle.rox_grammar.specs.FixedTexts.{word_text}
 use Rattle.rox_grammar.specs.Forest.{Forest}
-use Rattle.rox_grammar.specs.Written.{Name, Tag, Item, Element, Text, Comment, PI}
+use Rattle.rox_grammar.specs.Written.{Name, Tag, Item, Element, Text, Comment, PI, same_qname}
 use Rattle.rox_grammar.specs.Names.{byte, slice, spaces_end}
 use Rattle.rox_grammar.specs.Constructs.{IsEnd}
 use Rattle.rox_grammar.specs.Content.{Inclusion, IsTag, TagEnds, IsMisc, comment, instruction, literals, line_ends}
@@ -17,7 +17,7 @@ use Rattle.rox_reading.specs.Markup.{comment_at, Instruction, instruction_at, cd
 use Rattle.rox_reading.specs.Tags.{tag_at}
 use Rattle.rox_grammar.specs.State.{Open, root, inside, scope_of, attributes_so_far, pairs_so_far}
 use Rattle.rox_reading.specs.State.{State, depth_of}
-use Rattle.rox_reading.specs.Machine.{Context, comment_step, cdata_step, instruction_step, end_step, tag_step, opened_by, closed_by, cut_off_fault, same_qname, step}
+use Rattle.rox_reading.specs.Machine.{Context, comment_step, cdata_step, instruction_step, end_step, tag_step, opened_by, closed_by, cut_off_fault, step}
 use Rattle.rox_theory.specs.Openers.{AgreesValue}
 use Rattle.rox_theory.proofs.Basics.{ok_same, bind_ok, bind_lifted_only, chosen, within}
 use Rattle.rox_theory.proofs.NameLemmas.{qname_le}

@@ -12,7 +12,8 @@ use Rattle.rox_grammar.specs.Tree.{listed}
 use Rattle.rox_grammar.specs.Names.{byte, spaces_end}
 use Rattle.rox_grammar.specs.Content.{Inclusion, IsAttribute, Attributes, no_more, one_more, TagEnds, IsTag}
 use Rattle.rox_grammar.specs.Content as content
-use Rattle.rox_grammar.specs.WellNamed.{IsWellNamed, AreDistinct, may_name}
+use Rattle.rox_grammar.specs.WellNamed.{IsWellNamed, may_name}
+use Rattle.rox_grammar.proofs.NamesApart.{DistinctBehind, declarable_behind, distinct_behind, are_declarable, are_distinct}
 use Rattle.rox_grammar.specs.Document.{listable, with_new, most_attributes, most_pairs}
 use Rattle.rox_reading.specs.Lexical.{qname_at}
 use Rattle.rox_reading.specs.Markup.{TagItem, more, opened, closed, tag_item_at}
@@ -38,7 +39,7 @@ ends_inside src i empty j (content.closed _ slash greater) =
 
 -- a tag that passes the tests has distinct names, within the limit
 tested_sound : (scope : List NamespaceDecl) (count i : ℕ) (name : Name) (as' : List Attribute) (x : Unit {0}) → tag_tested scope count i name as' ≡ Ok x
-    → (count + length as' ≤ most_attributes) × AreDistinct scope [] as' × (may_name scope name ≡ true)
+    → (count + length as' ≤ most_attributes) × DistinctBehind scope [] as' × (may_name scope name ≡ true)
 unfolding tag_tested
 tested_sound scope count i name as' x h =
     chosen (ltb most_attributes (count + length as')) _ _ _ h (λ many h. cc) (λ few h.
@@ -46,7 +47,7 @@ tested_sound scope count i name as' x h =
     chosen (may_name scope name) _ _ _ h (λ may h. (ltb-false _ _ few, names_sound scope [] as' u names, may)) (λ unknown h. cc)))
 
 -- a tag with distinct names within the limit passes the tests
-tested_complete : (scope : List NamespaceDecl) (count i : ℕ) (name : Name) (as' : List Attribute) → count + length as' ≤ most_attributes → AreDistinct scope [] as' → may_name scope name ≡ true
+tested_complete : (scope : List NamespaceDecl) (count i : ℕ) (name : Name) (as' : List Attribute) → count + length as' ≤ most_attributes → DistinctBehind scope [] as' → may_name scope name ≡ true
     → tag_tested scope count i name as' ≡ Ok tt
 unfolding tag_tested
 tested_complete scope count i name as' few distinct may =
@@ -158,7 +159,7 @@ module _ (context : Values) (O : Inclusion) (agrees : AgreesValue context.entiti
       subst (λ (z : TagRead × ℕ). TagStands above count known i z.1 b z.0 × (i < z.1)) (ok_same _ _ h) (
         record {
           is_tag = record { begins = begins; is_name = name; written = r.0; last = r.1; attributes = r.2; ends = r.3; declares = all.own; has = all.attributes };
-          well_named = record { no_xmlns = free; declarations = declarable; attributes = fine.1; element = fine.2 };
+          well_named = record { no_xmlns = free; declarations = are_declarable _ declarable; attributes = are_distinct _ _ fine.1; element = fine.2 };
           attributes = fine.0;
           pairs = pairs;
         },
@@ -175,8 +176,8 @@ module _ (context : Values) (O : Inclusion) (agrees : AgreesValue context.entiti
       let free = well.no_xmlns in
       let own = tag.declares in
       let has = tag.has in
-      let all = taken_complete known tag.written none_yet (rw own at well.declarations) (rw own at pairs) in
+      let all = taken_complete known tag.written none_yet (rw own at (declarable_behind t.declarations well.declarations)) (rw own at pairs) in
       let all' : all_taken known tag.written none_yet ≡ Ok (record { own = t.declarations; attributes = t.attributes }) = rw (← own, ← has) at all in
       let rest = rest_complete (length src) cut known t.name_end tag.last b c tag.written empty j none_yet (record { own = t.declarations; attributes = t.attributes }) (omega arith) tag.attributes tag.ends all' in
-      let tested = tested_complete (listed above t.declarations) count i t.name t.attributes few well.attributes well.element in
+      let tested = tested_complete (listed above t.declarations) count i t.name t.attributes few (distinct_behind (listed above t.declarations) t.attributes well.attributes) well.element in
       rw (name, free, rest, tested) refl

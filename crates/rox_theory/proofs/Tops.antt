@@ -67,5 +67,5 @@ tops_merged main O src h i j k l b c is before nodes one after asked es first de
 pub parse_merged : (src : List ℕ) (is : Bool) (asked : List Asked) (t : Forest Item) → ParseOf src is asked t → merge t ≡ t
 parse_merged src is asked t p =
     ap merge p.is_tree
-    ∙ tops_merged true (included_in_main p.entities) src p.declared_to p.begun p.start p.end (length src) 255 p.openings_left is p.before p.nodes p.one p.after asked p.entities p.misc_before p.doctype p.element p.misc_after
+    ∙ tops_merged true (included_in_main p.entities) src p.prolog.declared_to p.begun p.start p.end (length src) 255 p.openings_left is p.before p.nodes p.one p.after asked p.entities p.prolog.misc p.doctype p.element p.misc_after
     ∙ sym p.is_tree

@@ -8,7 +8,7 @@ use Rattle.rox_grammar.specs.declared.fault.Word.TheVariants as word
 use Rattle.rox_grammar.specs.Forest.{Forest, Nil, join, size}
 use Rattle.rox_grammar.specs.Written.{Item, merge}
 use Rattle.rox_grammar.specs.Names.{byte}
-use Rattle.rox_grammar.specs.Constructs.{at}
+use Rattle.rox_grammar.specs.FixedTexts.{at}
 use Rattle.rox_grammar.specs.Content.{IsElement, empty, nest}
 use Rattle.rox_grammar.specs.TextStart.{after_bom}
 use Rattle.rox_grammar.specs.Entities.{Entity, most_deep, included_in_main}
@@ -154,11 +154,9 @@ module _ (src : List ℕ) (utf8 : IsUtf8 src) where
         let counted : 1 + size t ≤ most = subst (λ (f : Forest Item). 1 + size f ≤ most) merged found.fine.nodes in (
           dtd.0,
           record {
-            declared_to = i;
-            declaration = may;
             begun = s.at;
             before = ahead.0;
-            misc_before = ahead.1;
+            prolog = record { declared_to = i; declaration = may; misc = ahead.1 };
             start = d.state.at;
             nodes = dtd.1;
             entities = d.entities;
@@ -212,15 +210,15 @@ module _ (src : List ℕ) (utf8 : IsUtf8 src) where
 
   -- what comes before a document type declaration is read, and one begins behind it, if there is one
   before_read : (limit : ℕ) (dtd : Bool) (asked : List Asked) (t : Forest Item) (p : ParseOf src dtd asked t) → IsWithinLimits limit t
-      → (prolog src (after_bom src) ≡ Ok p.declared_to) × (misc limit (length src) src (state p.declared_to Nil root 255) ≡ Ok (state p.begun p.before root 255)) × (at word.DoctypeStart src p.begun ≡ dtd)
+      → (prolog src (after_bom src) ≡ Ok p.prolog.declared_to) × (misc limit (length src) src (state p.prolog.declared_to Nil root 255) ≡ Ok (state p.begun p.before root 255)) × (at word.DoctypeStart src p.begun ≡ dtd)
   before_read limit dtd asked t p within =
       let stops = element_stops true (included_in_main p.entities) src p.start p.end 255 p.openings_left p.one p.element in
       let fine = (parse_fine limit dtd asked t p within).0 in
       let behind = fine_before limit p.end (length src) p.openings_left p.openings_left (join (join p.before p.nodes) p.one) p.after root fine in
       let element = fine_before limit p.start p.end 255 p.openings_left (join p.before p.nodes) p.one root behind in
       let front = fine_before limit p.begun p.start 255 255 p.before p.nodes root element in (
-        prolog_complete src utf8 (after_bom src) p.declared_to p.declaration,
-        misc_complete src utf8 (length src) limit 255 p.declared_to p.begun p.before Nil p.misc_before (begins_stop src p.begun p.start dtd p.nodes asked p.entities p.doctype stops.2)
+        prolog_complete src utf8 (after_bom src) p.prolog.declared_to p.prolog.declaration,
+        misc_complete src utf8 (length src) limit 255 p.prolog.declared_to p.begun p.before Nil p.prolog.misc (begins_stop src p.begun p.start dtd p.nodes asked p.entities p.doctype stops.2)
             (omega (arith, front.nodes)) (omega arith),
         dtd_begins src p.begun p.start dtd p.nodes asked p.entities p.doctype stops.1,
       )

@@ -21,11 +21,9 @@ parse_without src asked tree p =
     (subst (λ (es : List Entity). IsElement true (included_in_main es) src p.start p.end 255 p.openings_left p.one) none.3 p.element) in (
       none.2,
       record {
-        declared_to = p.declared_to;
-        declaration = p.declaration;
         start = p.start;
         before = p.before;
-        misc_before = subst (λ (k : ℕ). Misc src p.declared_to k p.before) none.0 p.misc_before;
+        prolog = record { declared_to = p.prolog.declared_to; declaration = p.prolog.declaration; misc = subst (λ (k : ℕ). Misc src p.prolog.declared_to k p.before) none.0 p.prolog.misc };
         end = p.end;
         openings_left = one.0;
         one = p.one;
@@ -45,11 +43,9 @@ pub parse_with : (src : List ℕ) (tree : Forest Item) → ParseWithout src tree
 parse_with src tree p =
     let one = element_with [] src p.start p.end 255 p.openings_left p.one p.element in
     record {
-      declared_to = p.declared_to;
-      declaration = p.declaration;
       begun = p.start;
       before = p.before;
-      misc_before = p.misc_before;
+      prolog = record { declared_to = p.prolog.declared_to; declaration = p.prolog.declaration; misc = p.prolog.misc };
       start = p.start;
       nodes = Nil;
       entities = [];

@@ -4,17 +4,14 @@ use Rattle.rox_grammar.specs.Forest.{Forest, join}
 use Rattle.rox_grammar.specs.Written.{Item}
 use Rattle.rox_grammar.specs.Content.{IsElement}
 use Rattle.rox_grammar.specs.WellNamed.{AreWellNamed}
-use Rattle.rox_grammar.specs.TextStart.{after_bom, MayHaveXmlDecl}
 use Rattle.rox_grammar.specs.Entities.{no_entities}
-use Rattle.rox_grammar.specs.Document.{Misc}
+use Rattle.rox_grammar.specs.Document.{Misc, PrologTo}
 
 -- a declaration, the root element, in which nothing is opened, and what stands around it
 pub record ParseWithout (src : List ℕ) (tree : Forest Item) : Type 0 where
-  pub declared_to : ℕ
-  pub declaration : MayHaveXmlDecl src (after_bom src) declared_to
   pub start : ℕ
   pub before : Forest Item
-  pub misc_before : Misc src declared_to start before
+  pub prolog : PrologTo src start before
   pub end : ℕ
   pub openings_left : ℕ
   pub one : Forest Item

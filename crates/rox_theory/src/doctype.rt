@@ -10,5 +10,6 @@ ghost use Rattle.rox_theory.specs.Openers.{AreTexts};
 
 /// Each entity that a document type declaration declares is text.
 pub fn entities_are_texts()
-    ensures { (src : List ℕ) (i j : ℕ) (dtd : Bool) (nodes : Forest Item) (asked : List Asked) (es : List Entity) → IsUtf8 src → MayHaveDoctype src i j dtd nodes asked es → AreTexts es }
+    ensures { (src : List ℕ) (i j : ℕ) (dtd : Bool) (nodes : Forest Item) (asked : List Asked)
+        (es : List Entity) → IsUtf8 src → MayHaveDoctype src i j dtd nodes asked es → AreTexts es }
 {}

@@ -11,20 +11,25 @@ ghost use Rattle.rox_theory.specs.Pieces.{pieces_of, OnlySectionsAreEmpty};
 
 /// All that they say are texts of Chars, also what entities give.
 pub fn items_are_chars()
-    ensures { (src : List ℕ) (dtd : Bool) (asked : List Asked) (tree : Forest Item) → IsUtf8 src → ParseOf src dtd asked tree → ItemsChars tree }
+    ensures { (src : List ℕ) (dtd : Bool) (asked : List Asked) (tree : Forest Item) → IsUtf8 src
+        → ParseOf src dtd asked tree → ItemsChars tree }
 {}
 
 /// No text is followed by a text, also where entities give texts.
 pub fn texts_are_apart()
-    ensures { (src : List ℕ) (dtd : Bool) (asked : List Asked) (tree : Forest Item) → ParseOf src dtd asked tree → Apart tree }
+    ensures { (src : List ℕ) (dtd : Bool) (asked : List Asked) (tree : Forest Item)
+        → ParseOf src dtd asked tree → Apart tree }
 {}
 
 /// A text is empty only where all its pieces are empty CDATA sections, also where entities give them, at any depth.
 pub fn empty_texts_are_sections()
-    ensures { (src : List ℕ) (dtd : Bool) (asked : List Asked) (tree : Forest Item) (p : ParseOf src dtd asked tree) → OnlySectionsAreEmpty src p.entities tree (pieces_of src dtd asked tree p) }
+    ensures { (src : List ℕ) (dtd : Bool) (asked : List Asked) (tree : Forest Item)
+        (p : ParseOf src dtd asked tree)
+        → OnlySectionsAreEmpty src p.entities tree (pieces_of src dtd asked tree p) }
 {}
 
 /// There is an element at the top.
 pub fn documents_have_an_element()
-    ensures { (src : List ℕ) (dtd : Bool) (asked : List Asked) (tree : Forest Item) → ParseOf src dtd asked tree → AnyElement tree }
+    ensures { (src : List ℕ) (dtd : Bool) (asked : List Asked) (tree : Forest Item)
+        → ParseOf src dtd asked tree → AnyElement tree }
 {}
