@@ -10,3 +10,5 @@ pub mod CharLemmas
 pub mod LongerLemmas
 pub mod ShortLemmas
 pub mod VerbatimLemmas
+pub mod LineLemmas
+pub mod WideLemmas

@@ -158,7 +158,7 @@ looked_value src quote i e verbatim q f here =
 
 -- ---- runs
 
-run_same : (b : ℕ) → is_text_byte b ≡ true → changes_run b ≡ false
+pub run_same : (b : ℕ) → is_text_byte b ≡ true → changes_run b ≡ false
 unfolding is_text_byte
 run_same b h = grind (arith, nat_tests)
 
@@ -174,7 +174,7 @@ wide_run : (b : ℕ) → 128 ≤ b → changes_run b ≡ false
 wide_run b wide = grind (arith, nat_tests)
 
 -- neither stands where its first byte does not
-no_run_end : (src : List ℕ) (k : ℕ) → (get_or src k 0 == 60) ≡ false → get_or src k 0 ≢ 93 → ends_run src k ≡ false
+pub no_run_end : (src : List ℕ) (k : ℕ) → (get_or src k 0 == 60) ≡ false → get_or src k 0 ≢ 93 → ends_run src k ≡ false
 no_run_end src k other apart = rw (other, apart_from (word_text word.CDataEnd) src k (omega arith) apart) refl
 
 pub run_near : (src : List ℕ) (i e : ℕ) → IsUtf8 src → IsCharBoundary src i → i ≤ e → e ≤ length src → AllPass is_text_byte src i e → (e < length src → is_text_byte (get_or src e 0) ≡ false)
@@ -182,7 +182,12 @@ pub run_near : (src : List ℕ) (i e : ℕ) → IsUtf8 src → IsCharBoundary sr
 run_near src i e utf8 start le within all stops =
     near_looked is_text_byte changes_run (ends_run src) src i e utf8 start le (text_cut src e within stops) all text_is_plain run_same (λ k h. no_run_end src k (text_no_tag _ h) (text_no_bracket _ h))
 
-wide_no_run_end : (src : List ℕ) (k : ℕ) → 128 ≤ get_or src k 0 → ends_run src k ≡ false
+-- nothing is looked at
+pub run_none : (src : List ℕ) (i : ℕ) → IsUtf8 src → IsCharBoundary src i → IsLookahead (ends_run src) changes_run src i i true
+run_none src i utf8 start =
+    near_looked is_text_byte changes_run (ends_run src) src i i utf8 start (omega arith) start (λ k low high. absurd (omega arith)) text_is_plain run_same (λ k h. no_run_end src k (text_no_tag _ h) (text_no_bracket _ h))
+
+pub wide_no_run_end : (src : List ℕ) (k : ℕ) → 128 ≤ get_or src k 0 → ends_run src k ≡ false
 wide_no_run_end src k wide = no_run_end src k (ne_eqb (get_or src k 0) 60 (λ h. absurd (omega arith))) (λ h. absurd (omega arith))
 
 pub run_on : (src : List ℕ) (i j n e : ℕ) (verbatim : Bool) → IsUtf8 src → IsCharBoundary src i → IsLookahead (ends_run src) changes_run src i j verbatim

@@ -13,7 +13,8 @@ use Rattle.rox_grammar.specs.Runs.{run_end}
 use Rattle.rox_grammar.specs.Search.{byte_from}
 use Rattle.rox_reading.specs.Lexical.{chars_up_to}
 use Rattle.rox_reading.specs.Markup.{raw_value_at}
-use Rattle.rox_scan.specs.ByteSets.{is_char_byte, AllPass, is_value_byte, is_text_byte, is_comment_byte, is_part_byte}
+use Rattle.rox_reading.specs.Values.{is_special}
+use Rattle.rox_scan.specs.ByteSets.{is_char_byte, AllPass, is_value_byte, is_text_byte, is_comment_byte, is_part_byte, is_run_byte, is_stretch_byte}
 use Rattle.rox_scan.proofs.RunLemmas.{run_on_ascii, run_stops_ascii, run_at_end}
 use Rattle.rox_scan.proofs.PlainLemmas.{plain_run}
 
@@ -122,17 +123,6 @@ near_found p q src i e le within all apart here =
     (λ more. let at : i + (e - i) ≡ e = omega arith in rw (get_or-drop i src (e - i) 0, at) (here (omega (arith, length-drop i src)))) in
     omega (arith, found)
 
--- a search goes on behind a byte that it does not look for
-byte_on : (q : ℕ → Bool) (src : List ℕ) (i : ℕ) → i < length src → q (get_or src i 0) ≡ false → byte_from q src (i + 1) ≡ byte_from q src i
-unfolding byte_from
-byte_on q src i within other = rw (drop_more src i 0 within, other) (omega arith)
-
-byte_goes_on : (p q : ℕ → Bool) (src : List ℕ) (i e n : ℕ) → i + n ≡ e → e ≤ length src → AllPass p src i e → ((b : ℕ) → p b ≡ true → q b ≡ false) → byte_from q src e ≡ byte_from q src i
-byte_goes_on p q src i e zero same within all apart = let at : e ≡ i = omega arith in rw at refl
-byte_goes_on p q src i e (suc n) same within all apart =
-    byte_goes_on p q src (i + 1) e n (omega arith) within (λ k low high. all k (omega arith) high) apart
-    ∙ byte_on q src i (omega arith) (apart _ (all i (omega arith) (omega arith)))
-
 -- none of a set of bytes is in a slice of the others
 pub none_among : (p q : ℕ → Bool) (src : List ℕ) (i e n : ℕ) → i + n ≡ e → e ≤ length src → AllPass p src i e → ((b : ℕ) → p b ≡ true → q b ≡ false) → list_any q (slice_range src i e) ≡ false
 none_among p q src i e zero same within all apart = let none : e - i ≡ 0 = omega arith in rw none refl
@@ -151,9 +141,42 @@ value_plain : (b : ℕ) → is_value_byte b ≡ true → (b == 38 || (b == 9 || 
 unfolding is_value_byte
 value_plain b h = grind (arith, nat_tests)
 
--- a search for a special byte goes on behind those that stand for themselves
-pub special_goes_on : (src : List ℕ) (i e : ℕ) → i ≤ e → e ≤ length src → AllPass is_value_byte src i e → byte_from (λ b. b == 38 || (b == 9 || (b == 10 || b == 13))) src e ≡ byte_from (λ b. b == 38 || (b == 9 || (b == 10 || b == 13))) src i
-special_goes_on src i e le within all = byte_goes_on is_value_byte _ src i e (e - i) (omega arith) within all value_plain
+stretch_plain : (b : ℕ) → is_stretch_byte b ≡ true → is_special b ≡ false
+unfolding is_stretch_byte
+stretch_plain b h = grind (arith, nat_tests)
+
+stretch_special : (b : ℕ) → is_stretch_byte b ≡ false → is_special b ≡ true
+unfolding is_stretch_byte
+stretch_special b h = grind (arith, nat_tests)
+
+special_ascii : (b : ℕ) → is_special b ≡ true → b < 128
+special_ascii b h = grind (arith, nat_tests)
+
+-- a stretch ends at the first special byte
+pub stretch_ends : (src : List ℕ) (i e : ℕ) → i ≤ e → e ≤ length src → AllPass is_stretch_byte src i e → (e < length src → is_stretch_byte (get_or src e 0) ≡ false) → byte_from is_special src i ≡ e
+stretch_ends src i e le within all stops = near_found is_stretch_byte is_special src i e le within all stretch_plain (λ more. stretch_special _ (stops more))
+
+-- which begins a character
+pub stretch_cut : (src : List ℕ) (e : ℕ) → e ≤ length src → (e < length src → is_stretch_byte (get_or src e 0) ≡ false) → IsCharBoundary src e
+stretch_cut src e within stops = (within, λ more wide. let ascii : get_or src e 0 < 128 = special_ascii (get_or src e 0) (stretch_special (get_or src e 0) (stops more)) in absurd (omega (arith, ascii, wide)))
+
+run_plain : (b : ℕ) → is_run_byte b ≡ true → (b == 38 || b == 13) ≡ false
+unfolding is_run_byte
+run_plain b h = grind (arith, nat_tests)
+
+run_changes : (b : ℕ) → is_run_byte b ≡ false → (b == 38 || b == 13) ≡ true
+unfolding is_run_byte
+run_changes b h = grind (arith, nat_tests)
+
+change_ascii : (b : ℕ) → (b == 38 || b == 13) ≡ true → b < 128
+change_ascii b h = grind (arith, nat_tests)
+
+-- the same of a run
+pub part_ends : (src : List ℕ) (i e : ℕ) → i ≤ e → e ≤ length src → AllPass is_run_byte src i e → (e < length src → is_run_byte (get_or src e 0) ≡ false) → byte_from (λ c. c == 38 || c == 13) src i ≡ e
+part_ends src i e le within all stops = near_found is_run_byte (λ c. c == 38 || c == 13) src i e le within all run_plain (λ more. run_changes _ (stops more))
+
+pub part_ends_cut : (src : List ℕ) (e : ℕ) → e ≤ length src → (e < length src → is_run_byte (get_or src e 0) ≡ false) → IsCharBoundary src e
+part_ends_cut src e within stops = (within, λ more wide. let ascii : get_or src e 0 < 128 = change_ascii (get_or src e 0) (run_changes (get_or src e 0) (stops more)) in absurd (omega (arith, ascii, wide)))
 
 -- a value ends at the quote that stands behind its plain bytes
 near_value : (src : List ℕ) (i e quote : ℕ) → (quote == 39 || quote == 34) ≡ true → i ≤ e → e < length src → get_or src e 0 ≡ quote → AllPass is_value_byte src i e → byte_from (λ c. c == quote || c == 60) src i ≡ e

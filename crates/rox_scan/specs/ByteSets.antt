@@ -11,6 +11,14 @@ is_char_byte b = ((nat_le 32 b && not (b == 239)) || b == 9) || (b == 10 || b ==
 unfoldable pub is_value_byte : ℕ → Bool
 is_value_byte b = (nat_le 32 b && not (b == 239)) && not ((b == 34 || b == 39) || (b == 38 || b == 60))
 
+-- no `&` and no white space that is no space
+unfoldable pub is_stretch_byte : ℕ → Bool
+is_stretch_byte b = not (b == 38 || (b == 9 || (b == 10 || b == 13)))
+
+-- no `&` and no CR
+unfoldable pub is_run_byte : ℕ → Bool
+is_run_byte b = not (b == 38 || b == 13)
+
 -- no control but TAB and LF, no `&`, no `<` and no `]`
 unfoldable pub is_text_byte : ℕ → Bool
 is_text_byte b = (((b == 9 || b == 10) || nat_le 32 b) && not (b == 239)) && not ((b == 38 || b == 60) || b == 93)

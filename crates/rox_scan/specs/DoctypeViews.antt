@@ -6,7 +6,7 @@ use Rattle.rox_grammar.specs.declared.fault.Due.TheVariants as due
 use Rattle.rox_grammar.specs.declared.fault.Word.TheVariants as word
 use Rattle.rox_grammar.specs.Search.{byte_from}
 use Rattle.rox_grammar.specs.Names.{spaces_end}
-use Rattle.rox_grammar.specs.Constructs.{at}
+use Rattle.rox_grammar.specs.FixedTexts.{at}
 use Rattle.rox_grammar.specs.Entities.{Replacement}
 use Rattle.rox_grammar.specs.Doctype.{Request}
 use Rattle.rox_reading.specs.Lexical.{Read, ◌>>=◌}

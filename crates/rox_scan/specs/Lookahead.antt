@@ -1,10 +1,10 @@
 -- What a longer look tells of a stretch of a text.
-use Rattle.std.specs.Prelude.{◌≡◌, ◌≤◌, ◌<◌, ◌==◌, ◌||◌, ℕ, Bool, false, not, List, slice_index, slice_range}
+use Rattle.std.specs.Prelude.{◌≡◌, ◌≤◌, ◌<◌, ◌+◌, ◌==◌, ◌||◌, ℕ, Bool, false, not, List, length, take, slice_index, slice_range}
 use Rattle.std.specs.List.{list_any}
 use Rattle.std.specs.Str.{IsCharBoundary}
 use Rattle.rox_grammar.specs.declared.fault.Word.TheVariants as word
 use Rattle.rox_grammar.specs.FixedTexts.{word_text}
-use Rattle.rox_grammar.specs.Search.{stands}
+use Rattle.rox_grammar.specs.Search.{byte_from, stands}
 use Rattle.rox_grammar.specs.Constructs.{AreChars, double_dash}
 
 -- from i up to j there are Chars alone, it ends at no place among them, and whether they stand for themselves
@@ -34,3 +34,11 @@ ends_comment src k = stands double_dash src k
 -- and is not changed
 abbrev pub changes_comment : ℕ → Bool
 changes_comment b = false
+
+-- from i up to j a CR, a LF, and bytes that are no `&` and no CR
+pub record IsLine (src : List ℕ) (i j : ℕ) : Type 0 where
+  pub some : i + 1 < j
+  pub within : j ≤ length src
+  pub cr : slice_index src i ≡ 13
+  pub feed : slice_index src (i + 1) ≡ 10
+  pub rest : byte_from (λ c. c == 38 || c == 13) (take j src) (i + 1 + 1) ≡ j

@@ -1,5 +1,5 @@
 -- How the result of a step stands to what is read.
-use Rattle.std.specs.Prelude.{◌≡◌, Result, Ok, Err}
+use Rattle.std.specs.Prelude.{◌≡◌, ◌≤◌, ℕ, List, Result, Ok, Err}
 use Rattle.rox_grammar.specs.declared.fault.Fault.{Fault}
 use Rattle.rox_grammar.specs.Failures.{Fails}
 use Rattle.rox_reading.specs.Lexical.{Read}
@@ -10,6 +10,12 @@ use Rattle.rox_grammar.specs.declared.failure.Failure.{Failure}
 abbrev pub Reads : {A B : Type 0} → (A → B) → Cursor → Result A Fault → Read B → Type 0
 Reads view after (Ok x) read = read ≡ Ok (view x, after.pos)
 Reads view after (Err f) read = read ≡ Err f
+
+-- A step of a cursor that reads `read` from where it stands, as `Reads` says. The source stays, and the cursor never goes back.
+pub record Steps {A B : Type 0} (view : A → B) (old new : Cursor) (result : Result A Fault) (read : List ℕ → ℕ → Read B) : Type 0 where
+  pub value : Reads view new result (read old.text.now old.pos)
+  pub source : new.text ≡ old.text
+  pub onward : old.pos ≤ new.pos
 
 -- the result of a step that takes memory and moves the cursor, seen by `view`, is what is read, unless memory ran out
 abbrev pub GivesFrom : {A B : Type 0} → (A → B) → Cursor → Result A Failure → Read B → Type 0

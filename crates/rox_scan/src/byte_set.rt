@@ -106,7 +106,8 @@ fn others_at<C: ByteSet>(bytes: &[u8], at: usize) -> u64
     ensures none { result ≡ 0 → AllPass C.test bytes.now at (at + 16) }
     ensures few { 0 < result → trailing_zeros w64 result < 16 }
     ensures passes { 0 < result → AllPass C.test bytes.now at (at + trailing_zeros w64 result) }
-    ensures stops { 0 < result → C.test (slice_index bytes.now (at + trailing_zeros w64 result)) ≡ false }
+    ensures stops { 0 < result → C.test (slice_index bytes.now (at + trailing_zeros w64 result))
+        ≡ false }
 {
     C::others(u8x16::from_slice(&bytes[at..]))
 }

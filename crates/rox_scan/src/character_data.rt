@@ -1,22 +1,24 @@
 //! Runs of character data as they stand (XML 1.0 section 2.4): a first look, a longer one where that stops at a byte that may be
 //! in order, and the fault of `]]>`.
 
-ghost use Rattle.std.specs.Prelude.{◌≡◌, ◌==◌, ◌||◌, ◌<◌, ◌≤◌, IfOk, OnOk, false, length, slice_index};
+ghost use Rattle.std.specs.Prelude.{◌≡◌, ◌==◌, ◌||◌, ◌&&◌, ◌+◌, ◌<◌, ◌≤◌, ℕ, IfOk, IfSome, OnOk, Ok, false, true, length, slice_index, slice_range};
 ghost use Rattle.std.specs.Str.{IsCharBoundary};
 ghost use Rattle.rox_grammar.specs.Chars.{is_char};
 ghost use Rattle.rox_grammar.specs.Runs.{begins};
+ghost use Rattle.rox_grammar.specs.Constructs.{AreChars};
 ghost use Rattle.rox_grammar.specs.Content as content;
 ghost use Rattle.rox_reading.specs.Values as spec;
 ghost use Rattle.rox_scan.specs.ByteSets as near;
 ghost use Rattle.rox_scan.specs.Lookahead as longer;
-ghost use Rattle.rox_scan.specs.Lookahead.{IsLookahead};
-ghost use Rattle.rox_scan.specs.ScanResults.{Reads};
+ghost use Rattle.rox_scan.specs.Lookahead.{IsLine, IsLookahead};
+ghost use Rattle.rox_scan.specs.ScanResults.{Steps};
 
 use crate::byte_set::{ByteSet, skip_set};
 use crate::chars;
 use crate::cursor::Cursor;
 use crate::lookahead::{Lookahead, after_char, is_mark_at};
 use crate::nibbles::classes;
+use crate::runs::{after_byte, is_at};
 use crate::search::{before_either, byte_from, has_mark};
 use rox_grammar::fault::Fault;
 use std::simd::prelude::*;
@@ -65,8 +67,10 @@ fn changes_run(byte: u8) -> bool
 /// A run of character data as far as it is in order, up to a `<`, a `]]>` or the end.
 pub fn scan_character_data(text: &str, at: usize) -> Lookahead
     requires { IsCharBoundary text.now at }
-    ensures looked { IsLookahead (longer.ends_run text.now) longer.changes_run text.now at result.end result.is_verbatim }
-    ensures stops { result.end < length text.now → longer.ends_run text.now result.end ≡ false → begins is_char text.now result.end ≡ false }
+    ensures looked { IsLookahead (longer.ends_run text.now) longer.changes_run text.now at
+        result.end result.is_verbatim }
+    ensures stops { result.end < length text.now → longer.ends_run text.now result.end ≡ false
+        → begins is_char text.now result.end ≡ false }
 {
     let bytes = text.as_bytes();
     let mut is_verbatim = true;
@@ -84,6 +88,93 @@ pub fn scan_character_data(text: &str, at: usize) -> Lookahead
         end = skip_set::<TextByte>(text, next);
     }
     Lookahead { end, is_verbatim }
+}
+
+/// Whether these are the bytes of U+FFFE or U+FFFF behind the first, which stands at `at`.
+#[inline(always)]
+fn begins_no_char(text: &str, at: usize) -> bool
+    requires { at < length text.now }
+    ensures { result ≡ ((slice_index text.now (at + 1) == 191)
+        && ((slice_index text.now (at + 2) == 190) || (slice_index text.now (at + 2) == 191))) }
+{
+    is_at(text, at + 1, 191) && (is_at(text, at + 2, 190) || is_at(text, at + 2, 191))
+}
+
+/// The place behind the Char that begins with 239 at `at`, or `at` where U+FFFE or U+FFFF begins.
+#[inline(always)]
+fn after_wide(text: &str, at: usize) -> usize
+    requires cut { IsCharBoundary text.now at }
+    requires within { at < length text.now }
+    requires here { slice_index text.now at ≡ 239 }
+    ensures onward { at ≤ result }
+    ensures chars { AreChars text.now at result }
+    ensures cut { IsCharBoundary text.now result }
+    ensures wide { (k : ℕ) → at < k → k < result → 128 ≤ slice_index text.now k }
+{
+    if begins_no_char(text, at) {
+        return at;
+    }
+    at + 3
+}
+
+/// Where character data from `at` on ends that stands for itself, or goes on with another byte.
+#[inline(always)]
+pub fn plain_run_end(text: &str, at: usize) -> usize
+    requires { IsCharBoundary text.now at }
+    ensures { IsLookahead (longer.ends_run text.now) longer.changes_run text.now at result true }
+{
+    let near = skip_set::<TextByte>(text, at);
+    if is_at(text, near, 239) {
+        return wide_run_end(text, near);
+    }
+    near
+}
+
+/// The same where a character may begin with 239, as full-width forms do: all but U+FFFE and U+FFFF are Chars.
+#[inline(never)]
+fn wide_run_end(text: &str, at: usize) -> usize
+    requires { IsCharBoundary text.now at }
+    ensures { IsLookahead (longer.ends_run text.now) longer.changes_run text.now at result true }
+{
+    let bytes = text.as_bytes();
+    let mut end = at;
+    while end < bytes.len() {
+        let here = bytes[end];
+        if here != 239 {
+            break;
+        }
+        let next = after_wide(text, end);
+        if next == end {
+            break;
+        }
+        end = skip_set::<TextByte>(text, next);
+    }
+    end
+}
+
+/// Where a run ends that is a line end, a CR and a LF, and behind it bytes that stand for themselves. None where it is another.
+#[inline(always)]
+pub fn line_run_end(text: &str, start: usize) -> Option<usize>
+    requires { IsCharBoundary text.now start }
+    ensures line { IfSome result (λ end. IsLine text.now start end) }
+    ensures value { IfSome result (λ end. spec.raw_character_data_at text.now start
+        ≡ Ok (slice_range text.now start end, end)) }
+    ensures verbatim { IfSome result (λ end. content.is_verbatim (slice_range text.now start end)
+        ≡ false) }
+    ensures cut { IfSome result (λ end. IsCharBoundary text.now end) }
+{
+    if !is_at(text, start, b'\r') {
+        return None;
+    }
+    let feed = after_byte(text, start, b'\r');
+    if !is_at(text, feed, b'\n') {
+        return None;
+    }
+    let end = skip_set::<TextByte>(text, feed);
+    if !ends_character_data(text, end) {
+        return None;
+    }
+    Some(end)
 }
 
 /// Whether the bytes are a run's text as they stand: they have no `&` and no CR.
@@ -106,10 +197,9 @@ pub struct RawCharacterData<'input> {
 pub fn raw_character_data<'input>(
     cursor: &mut Cursor<'input>,
 ) -> Result<RawCharacterData<'input>, Fault>
-    ensures value { Reads (λ raw. raw.text.now) cursor.new result (spec.raw_character_data_at cursor.old.text.now cursor.old.pos) }
+    ensures read { Steps
+        (λ raw. raw.text.now) cursor.old cursor.new result spec.raw_character_data_at }
     ensures verbatim { IfOk result (λ raw. raw.is_verbatim ≡ content.is_verbatim raw.text.now) }
-    ensures source { cursor.new.text ≡ cursor.old.text }
-    ensures cut { OnOk result (IsCharBoundary cursor.old.text.now cursor.new.pos) }
 {
     let start = cursor.pos;
     let text = cursor.text;
@@ -131,10 +221,9 @@ pub fn raw_character_data<'input>(
 fn faulty_character_data<'input>(
     cursor: &mut Cursor<'input>,
 ) -> Result<RawCharacterData<'input>, Fault>
-    ensures value { Reads (λ raw. raw.text.now) cursor.new result (spec.raw_character_data_at cursor.old.text.now cursor.old.pos) }
+    ensures read { Steps
+        (λ raw. raw.text.now) cursor.old cursor.new result spec.raw_character_data_at }
     ensures verbatim { IfOk result (λ raw. raw.is_verbatim ≡ content.is_verbatim raw.text.now) }
-    ensures source { cursor.new.text ≡ cursor.old.text }
-    ensures cut { OnOk result (IsCharBoundary cursor.old.text.now cursor.new.pos) }
 {
     let end = byte_from(cursor.text, cursor.pos, b'<');
     let raw = cursor.chars_up_to(end)?;

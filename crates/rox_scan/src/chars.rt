@@ -65,6 +65,22 @@ pub fn is_name_char(c: char) -> bool
         '-' | '.' | '0'..='9' | '\u{B7}' | '\u{300}'..='\u{36F}' | '\u{203F}'..='\u{2040}')
 }
 
+// A `#` at the place of each ASCII character of a name.
+static NAME_BYTES: [u8; 128] = *b"\
+    ................................\
+    .............##.###########.....\
+    .##########################....#\
+    .##########################.....";
+
+/// The same of an ASCII byte.
+#[inline(always)]
+pub fn is_name_byte(b: u8) -> bool
+    requires { b < 128 }
+    ensures { result ≡ spec.is_name_char b }
+{
+    NAME_BYTES[b as usize] == b'#'
+}
+
 // A `#` at the place of each ASCII character of a name but the colon.
 static PART_BYTES: [u8; 128] = *b"\
     ................................\

@@ -23,7 +23,7 @@ pub struct Cursor<'input> {
 
 impl<'input> Cursor<'input> {
     ghost use Rattle.rox_grammar.specs.Failures.{name_view};
-    ghost use Rattle.rox_scan.specs.ScanResults.{Reads};
+    ghost use Rattle.rox_scan.specs.ScanResults.{Steps};
     ghost use Rattle.rox_grammar.specs.Search.{stands};
     ghost use Rattle.rox_grammar.specs.FixedTexts.{word_text};
     ghost use Rattle.rox_grammar.specs.Names.{spaces_end};
@@ -97,9 +97,7 @@ impl<'input> Cursor<'input> {
     #[inline]
     #[tactic(auto, unfolding(rox_reading::specs::Lexical::space_at))]
     pub fn space(&mut self) -> Result<(), Fault>
-        ensures value { Reads (λ x. x) self.new result (spec.space_at self.old.text.now self.old.pos) }
-        ensures source { self.new.text ≡ self.old.text }
-        ensures onward { self.old.pos ≤ self.new.pos }
+        ensures { Steps (λ x. x) self.old self.new result spec.space_at }
     {
         if self.pos >= self.text.len() {
             return Err(Fault::UnexpectedEndOfStream);
@@ -117,9 +115,7 @@ impl<'input> Cursor<'input> {
     #[tactic(auto, unfolding(rox_reading::specs::Lexical::byte_at))]
     pub fn byte(&mut self, byte: u8) -> Result<(), Fault>
         requires { byte < 128 }
-        ensures value { Reads (λ x. x) self.new result (spec.byte_at byte self.old.text.now self.old.pos) }
-        ensures source { self.new.text ≡ self.old.text }
-        ensures onward { self.old.pos ≤ self.new.pos }
+        ensures { Steps (λ x. x) self.old self.new result (spec.byte_at byte) }
     {
         if self.pos >= self.text.len() {
             return Err(Fault::UnexpectedEndOfStream);
@@ -138,9 +134,7 @@ impl<'input> Cursor<'input> {
     pub fn quote(&mut self) -> Result<u8, Fault>
         ensures ascii { IfOk result (λ quote. quote < 128) }
         ensures quote { IfOk result (λ quote. (quote == 39 || quote == 34) ≡ true) }
-        ensures value { Reads (λ x. x) self.new result (spec.quote_at self.old.text.now self.old.pos) }
-        ensures source { self.new.text ≡ self.old.text }
-        ensures onward { self.old.pos ≤ self.new.pos }
+        ensures read { Steps (λ x. x) self.old self.new result spec.quote_at }
     {
         if self.pos >= self.text.len() {
             return Err(Fault::UnexpectedEndOfStream);
@@ -157,9 +151,7 @@ impl<'input> Cursor<'input> {
     #[inline]
     #[tactic(auto, unfolding(rox_reading::specs::Lexical::name_at))]
     pub fn name(&mut self) -> Result<&'input str, Fault>
-        ensures value { Reads (λ x. x.now) self.new result (spec.name_at self.old.text.now self.old.pos) }
-        ensures source { self.new.text ≡ self.old.text }
-        ensures onward { self.old.pos ≤ self.new.pos }
+        ensures { Steps (λ x. x.now) self.old self.new result spec.name_at }
     {
         let start = self.pos;
         if !begins::<NameStart>(self.text, start) {
@@ -192,9 +184,7 @@ impl<'input> Cursor<'input> {
     #[inline]
     #[tactic(auto, unfolding(rox_reading::specs::Lexical::string_at))]
     pub fn string(&mut self, word: Word) -> Result<(), Fault>
-        ensures value { Reads (λ x. x) self.new result (spec.string_at word self.old.text.now self.old.pos) }
-        ensures source { self.new.text ≡ self.old.text }
-        ensures onward { self.old.pos ≤ self.new.pos }
+        ensures { Steps (λ x. x) self.old self.new result (spec.string_at word) }
     {
         if !self.starts(word) {
             return Err(Fault::InvalidString(word, self.pos));
@@ -208,9 +198,7 @@ impl<'input> Cursor<'input> {
     #[inline(always)]
     #[tactic(auto, unfolding(rox_reading::specs::Lexical::qname_at))]
     pub fn qname(&mut self) -> Result<QName<'input>, Fault>
-        ensures value { Reads name_view self.new result (spec.qname_at self.old.text.now self.old.pos) }
-        ensures source { self.new.text ≡ self.old.text }
-        ensures onward { self.old.pos ≤ self.new.pos }
+        ensures { Steps name_view self.old self.new result spec.qname_at }
     {
         let start = self.pos;
         let text = self.text;
@@ -246,11 +234,9 @@ impl<'input> Cursor<'input> {
     pub fn chars_up_to(&mut self, end: usize) -> Result<&'input str, Fault>
         requires onward { self.old.pos ≤ end }
         requires cut { IsCharBoundary self.old.text.now end }
-        ensures value { Reads (λ x. x.now) self.new result (spec.chars_up_to end self.old.text.now self.old.pos) }
-        ensures source { self.new.text ≡ self.old.text }
+        ensures read { Steps (λ x. x.now) self.old self.new result (spec.chars_up_to end) }
         ensures text { IfOk result (λ x. x.now ≡ slice_range self.old.text.now self.old.pos end) }
         ensures place { IfOk result (λ x. self.new.pos ≡ end) }
-        ensures onward { self.old.pos ≤ self.new.pos }
     {
         let start = self.pos;
         let ill = chars_end(&self.text[..end], start);

@@ -1,11 +1,11 @@
 //! The parts of a document type declaration (XML 1.0 sections 2.8, 4.2 and 4.7).
 
-ghost use Rattle.std.specs.Prelude.{◌≡◌, ◌≤◌, ◌+◌, IfOk, slice_index, slice_range, true};
+ghost use Rattle.std.specs.Prelude.{◌≡◌, ◌+◌, IfOk, slice_index, slice_range, true};
 ghost use Rattle.rox_grammar.specs.Search.{stands};
 ghost use Rattle.rox_grammar.specs.FixedTexts.{word_text};
 ghost use Rattle.rox_grammar.specs.declared.fault.Word.TheVariants as word;
 ghost use Rattle.rox_reading.specs.Doctype as spec;
-ghost use Rattle.rox_scan.specs.ScanResults.{Reads};
+ghost use Rattle.rox_scan.specs.ScanResults.{Steps};
 ghost use Rattle.rox_scan.specs.DoctypeViews.{AreBoundaries, definition_view, head_view, inner_at, is_skipped_declaration, outer_at, skipped_declaration_at, request_view, subset_end_at};
 
 use crate::cursor::Cursor;
@@ -42,9 +42,8 @@ impl<'input> Cursor<'input> {
     /// The places between which a text in quotes stands. It ends at the first quote like the one before it.
     #[tactic(auto, unfolding(rox_reading::specs::Doctype::quoted_at))]
     fn quoted_span(&mut self) -> Result<(usize, usize), Fault>
-        ensures value { Reads (λ x. slice_range self.old.text.now x.0 x.1) self.new result (spec.quoted_at self.old.text.now self.old.pos) }
-        ensures source { self.new.text ≡ self.old.text }
-        ensures onward { self.old.pos ≤ self.new.pos }
+        ensures read { Steps
+            (λ x. slice_range self.old.text.now x.0 x.1) self.old self.new result spec.quoted_at }
         ensures start { IfOk result (λ x. x.0 ≡ self.old.pos + 1) }
         ensures within { IfOk result (λ x. AreBoundaries self.old.text.now x.0 x.1) }
     {
@@ -59,9 +58,7 @@ impl<'input> Cursor<'input> {
     /// Any characters but the quote, in quotes (XML 1.0 [11] SystemLiteral, [12] PubidLiteral). It answers the text between these.
     #[tactic(auto, unfolding(rox_reading::specs::Doctype::quoted_at))]
     fn quoted(&mut self) -> Result<&'input str, Fault>
-        ensures value { Reads (λ x. x.now) self.new result (spec.quoted_at self.old.text.now self.old.pos) }
-        ensures source { self.new.text ≡ self.old.text }
-        ensures onward { self.old.pos ≤ self.new.pos }
+        ensures { Steps (λ x. x.now) self.old self.new result spec.quoted_at }
     {
         let (start, end) = self.quoted_span()?;
         Ok(&self.text[start..end])
@@ -71,9 +68,7 @@ impl<'input> Cursor<'input> {
     #[tactic(auto, unfolding(rox_reading::specs::Doctype::system_at))]
     fn system(&mut self) -> Result<ExternalId<'input>, Fault>
         requires { stands (word_text word.System) self.old.text.now self.old.pos ≡ true }
-        ensures value { Reads request_view self.new result (spec.system_at self.old.text.now self.old.pos) }
-        ensures source { self.new.text ≡ self.old.text }
-        ensures onward { self.old.pos ≤ self.new.pos }
+        ensures { Steps request_view self.old self.new result spec.system_at }
     {
         self.skip(Word::System);
         self.space()?;
@@ -88,9 +83,7 @@ impl<'input> Cursor<'input> {
     #[tactic(auto, unfolding(rox_reading::specs::Doctype::public_at))]
     fn public(&mut self) -> Result<ExternalId<'input>, Fault>
         requires { stands (word_text word.Public) self.old.text.now self.old.pos ≡ true }
-        ensures value { Reads request_view self.new result (spec.public_at self.old.text.now self.old.pos) }
-        ensures source { self.new.text ≡ self.old.text }
-        ensures onward { self.old.pos ≤ self.new.pos }
+        ensures { Steps request_view self.old self.new result spec.public_at }
     {
         self.skip(Word::Public);
         self.space()?;
@@ -106,9 +99,7 @@ impl<'input> Cursor<'input> {
     /// An external identifier, from `SYSTEM` or `PUBLIC` (XML 1.0 [75] ExternalID). Anything else is a fault.
     #[tactic(auto, unfolding(rox_reading::specs::Doctype::external_id_at))]
     fn external_id(&mut self) -> Result<ExternalId<'input>, Fault>
-        ensures value { Reads request_view self.new result (spec.external_id_at self.old.text.now self.old.pos) }
-        ensures source { self.new.text ≡ self.old.text }
-        ensures onward { self.old.pos ≤ self.new.pos }
+        ensures { Steps request_view self.old self.new result spec.external_id_at }
     {
         if self.starts(Word::System) {
             return self.system();
@@ -122,9 +113,7 @@ impl<'input> Cursor<'input> {
     /// A name, or nothing where the source ends.
     #[tactic(auto, unfolding(rox_reading::specs::Doctype::name_or_end_at))]
     fn name_or_end(&mut self) -> Result<&'input str, Fault>
-        ensures value { Reads (λ x. x.now) self.new result (spec.name_or_end_at self.old.text.now self.old.pos) }
-        ensures source { self.new.text ≡ self.old.text }
-        ensures onward { self.old.pos ≤ self.new.pos }
+        ensures { Steps (λ x. x.now) self.old self.new result spec.name_or_end_at }
     {
         if self.is_at_end() {
             return Ok("");
@@ -136,9 +125,7 @@ impl<'input> Cursor<'input> {
     /// has none, and no white space is read for it.
     #[tactic(auto, unfolding(rox_reading::specs::Doctype::notation_at))]
     fn notation(&mut self, parameter: bool) -> Result<(), Fault>
-        ensures value { Reads (λ x. x) self.new result (spec.notation_at parameter self.old.text.now self.old.pos) }
-        ensures source { self.new.text ≡ self.old.text }
-        ensures onward { self.old.pos ≤ self.new.pos }
+        ensures { Steps (λ x. x) self.old self.new result (spec.notation_at parameter) }
     {
         if parameter {
             return Ok(());
@@ -155,9 +142,7 @@ impl<'input> Cursor<'input> {
 
     /// A text in quotes, as the replacement text that it is (XML 1.0 [9] EntityValue, section 4.5).
     fn inner(&mut self) -> Result<Definition<'input>, Fault>
-        ensures value { Reads definition_view self.new result (inner_at self.old.text.now self.old.pos) }
-        ensures source { self.new.text ≡ self.old.text }
-        ensures onward { self.old.pos ≤ self.new.pos }
+        ensures { Steps definition_view self.old self.new result inner_at }
     {
         let (start, end) = self.quoted_span()?;
         Ok(Definition::Inner(Cursor::within(self.text, start, end)))
@@ -165,9 +150,7 @@ impl<'input> Cursor<'input> {
 
     /// An external identifier, and the notation behind it.
     fn outer(&mut self, parameter: bool) -> Result<Definition<'input>, Fault>
-        ensures value { Reads definition_view self.new result (outer_at parameter self.old.text.now self.old.pos) }
-        ensures source { self.new.text ≡ self.old.text }
-        ensures onward { self.old.pos ≤ self.new.pos }
+        ensures { Steps definition_view self.old self.new result (outer_at parameter) }
     {
         let id = self.external_id()?;
         self.notation(parameter)?;
@@ -178,9 +161,7 @@ impl<'input> Cursor<'input> {
     /// `SYSTEM` or `PUBLIC` stands it is a fault, and so is the end.
     #[tactic(auto, unfolding(rox_reading::specs::Doctype::definition_at))]
     pub fn definition(&mut self, parameter: bool) -> Result<Definition<'input>, Fault>
-        ensures value { Reads definition_view self.new result (spec.definition_at parameter self.old.text.now self.old.pos) }
-        ensures source { self.new.text ≡ self.old.text }
-        ensures onward { self.old.pos ≤ self.new.pos }
+        ensures { Steps definition_view self.old self.new result (spec.definition_at parameter) }
     {
         if self.pos >= self.text.len() {
             return Err(Fault::UnexpectedEndOfStream);
@@ -198,9 +179,7 @@ impl<'input> Cursor<'input> {
     /// `%` and the white space behind it, if it stands here. Answers whether it does.
     #[tactic(auto, unfolding(rox_reading::specs::Doctype::kind_at))]
     fn kind(&mut self) -> Result<bool, Fault>
-        ensures value { Reads (λ x. x) self.new result (spec.kind_at self.old.text.now self.old.pos) }
-        ensures source { self.new.text ≡ self.old.text }
-        ensures onward { self.old.pos ≤ self.new.pos }
+        ensures { Steps (λ x. x) self.old self.new result spec.kind_at }
     {
         if !is_at(self.text, self.pos, b'%') {
             return Ok(false);
@@ -214,9 +193,7 @@ impl<'input> Cursor<'input> {
     #[tactic(auto, unfolding(rox_reading::specs::Doctype::entity_head_at))]
     pub fn entity_head(&mut self) -> Result<EntityHead<'input>, Fault>
         requires { stands (word_text word.EntityStart) self.old.text.now self.old.pos ≡ true }
-        ensures value { Reads head_view self.new result (spec.entity_head_at self.old.text.now self.old.pos) }
-        ensures source { self.new.text ≡ self.old.text }
-        ensures onward { self.old.pos ≤ self.new.pos }
+        ensures { Steps head_view self.old self.new result spec.entity_head_at }
     {
         self.skip(Word::EntityStart);
         self.space()?;
@@ -229,9 +206,7 @@ impl<'input> Cursor<'input> {
     /// An external identifier, if one stands here.
     #[tactic(auto, unfolding(rox_reading::specs::Doctype::external_id_if))]
     fn external_id_if(&mut self) -> Result<(), Fault>
-        ensures value { Reads (λ x. x) self.new result (spec.external_id_if self.old.text.now self.old.pos) }
-        ensures source { self.new.text ≡ self.old.text }
-        ensures onward { self.old.pos ≤ self.new.pos }
+        ensures { Steps (λ x. x) self.old self.new result spec.external_id_if }
     {
         if self.starts(Word::System) || self.starts(Word::Public) {
             let _id = self.external_id()?;
@@ -244,9 +219,7 @@ impl<'input> Cursor<'input> {
     #[tactic(auto, unfolding(rox_reading::specs::Doctype::doctype_head_at))]
     pub fn doctype_head(&mut self) -> Result<(), Fault>
         requires { stands (word_text word.DoctypeStart) self.old.text.now self.old.pos ≡ true }
-        ensures value { Reads (λ x. x) self.new result (spec.doctype_head_at self.old.text.now self.old.pos) }
-        ensures source { self.new.text ≡ self.old.text }
-        ensures onward { self.old.pos ≤ self.new.pos }
+        ensures { Steps (λ x. x) self.old self.new result spec.doctype_head_at }
     {
         self.skip(Word::DoctypeStart);
         self.space()?;
@@ -269,9 +242,7 @@ impl<'input> Cursor<'input> {
     /// Moves past a declaration, to its first `>`, even one within quotes. Where none follows it is a fault at `start`, where
     /// the document type declaration begins.
     pub fn skip_declaration(&mut self, start: usize) -> Result<(), Fault>
-        ensures value { Reads (λ x. x) self.new result (skipped_declaration_at start self.old.text.now self.old.pos) }
-        ensures source { self.new.text ≡ self.old.text }
-        ensures onward { self.old.pos ≤ self.new.pos }
+        ensures { Steps (λ x. x) self.old self.new result (skipped_declaration_at start) }
     {
         let end = byte_from(self.text, self.pos, b'>');
         if end >= self.text.len() {
@@ -284,9 +255,7 @@ impl<'input> Cursor<'input> {
     /// The end of a document type declaration, from the `]` of its internal subset (XML 1.0 [28] doctypedecl).
     pub fn subset_end(&mut self) -> Result<(), Fault>
         requires { slice_index self.old.text.now self.old.pos ≡ 93 }
-        ensures value { Reads (λ x. x) self.new result (subset_end_at self.old.text.now self.old.pos) }
-        ensures source { self.new.text ≡ self.old.text }
-        ensures onward { self.old.pos ≤ self.new.pos }
+        ensures { Steps (λ x. x) self.old self.new result subset_end_at }
     {
         self.pos = after_byte(self.text, self.pos, b']');
         self.spaces();

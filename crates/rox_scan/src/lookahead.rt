@@ -9,11 +9,14 @@ ghost use Rattle.rox_grammar.specs.Constructs.{AreChars};
 ghost use Rattle.rox_grammar.specs.Search.{stands};
 ghost use Rattle.rox_grammar.specs.Content as content;
 ghost use Rattle.rox_reading.specs.Values as reading;
+ghost use Rattle.rox_scan.specs.ByteSets as near;
 ghost use Rattle.rox_scan.specs.Lookahead as longer;
 ghost use Rattle.rox_scan.specs.Lookahead.{IsLookahead};
 
-use crate::byte_set::{CommentByte, ValueByte, skip_set};
+use crate::byte_set::{ByteSet, CommentByte, ValueByte, skip_set};
+use crate::nibbles::classes;
 use crate::runs::{Class, XmlChar, char_at};
+use std::simd::prelude::*;
 
 /// What a longer look tells: up to `end` all is in order, and whether it stands for itself.
 #[derive(Clone, Copy)]
@@ -65,13 +68,66 @@ pub fn is_special(byte: u8) -> bool
     (byte == b'&') | ((byte == b'\t') | ((byte == b'\n') | (byte == b'\r')))
 }
 
+/// The bytes of a stretch of a value: all but `&` and white space that is no space.
+pub struct StretchByte;
+
+// Classes that a byte of the set has none of, and any other has one.
+const STRETCH_LOW: [u8; 16] = [0, 0, 0, 0, 0, 0, 2, 0, 0, 1, 1, 0, 0, 1, 0, 0];
+
+const STRETCH_HIGH: [u8; 16] = [1, 0, 2, 0, 0, 0, 0, 0, 0, 0, 0, 0, 0, 0, 0, 0];
+
+impl ByteSet for StretchByte {
+    ghost test = { near.is_stretch_byte };
+
+    #[inline(always)]
+    #[tactic(auto, unfolding(crate::specs::ByteSets::is_stretch_byte))]
+    fn has(byte: u8) -> bool {
+        !is_special(byte)
+    }
+
+    #[inline(always)]
+    fn others(block: u8x16) -> u64 {
+        classes(STRETCH_LOW, STRETCH_HIGH, block)
+            .simd_ne(u8x16::splat(0))
+            .to_bitmask()
+    }
+}
+
+/// The bytes of a stretch of a run: all but `&` and CR.
+pub struct RunByte;
+
+// Classes that a byte of the set has none of, and any other has one.
+const RUN_LOW: [u8; 16] = [0, 0, 0, 0, 0, 0, 2, 0, 0, 0, 0, 0, 0, 1, 0, 0];
+
+const RUN_HIGH: [u8; 16] = [1, 0, 2, 0, 0, 0, 0, 0, 0, 0, 0, 0, 0, 0, 0, 0];
+
+impl ByteSet for RunByte {
+    ghost test = { near.is_run_byte };
+
+    #[inline(always)]
+    #[tactic(auto, unfolding(crate::specs::ByteSets::is_run_byte))]
+    fn has(byte: u8) -> bool {
+        (byte != b'&') & (byte != b'\r')
+    }
+
+    #[inline(always)]
+    fn others(block: u8x16) -> u64 {
+        classes(RUN_LOW, RUN_HIGH, block)
+            .simd_ne(u8x16::splat(0))
+            .to_bitmask()
+    }
+}
+
 /// A value as far as it is in order, up to its quote, a `<` or a `&`: where there is one reference there are often many, and a search
 /// for the quote is quicker then.
 pub fn scan_value(text: &str, at: usize, quote: u8) -> Lookahead
     requires cut { IsCharBoundary text.now at }
     requires quote { (quote == 39 || quote == 34) ≡ true }
-    ensures looked { IsLookahead (longer.ends_value quote text.now) reading.is_special text.now at result.end result.is_verbatim }
-    ensures stops { result.end < length text.now → (longer.ends_value quote text.now result.end || slice_index text.now result.end == 38) ≡ false → begins is_char text.now result.end ≡ false }
+    ensures looked { IsLookahead (longer.ends_value quote text.now) reading.is_special text.now at
+        result.end result.is_verbatim }
+    ensures stops { result.end < length text.now
+        → (longer.ends_value quote text.now result.end || slice_index text.now result.end == 38)
+        ≡ false → begins is_char text.now result.end ≡ false }
 {
     let bytes = text.as_bytes();
     let mut is_verbatim = true;
@@ -94,8 +150,10 @@ pub fn scan_value(text: &str, at: usize, quote: u8) -> Lookahead
 /// A comment as far as it is in order, up to two dashes or the end.
 pub fn comment_end(text: &str, at: usize) -> usize
     requires { IsCharBoundary text.now at }
-    ensures looked { IsLookahead (longer.ends_comment text.now) longer.changes_comment text.now at result true }
-    ensures stops { result < length text.now → longer.ends_comment text.now result ≡ false → begins is_char text.now result ≡ false }
+    ensures looked { IsLookahead (longer.ends_comment text.now) longer.changes_comment text.now at
+        result true }
+    ensures stops { result < length text.now → longer.ends_comment text.now result ≡ false
+        → begins is_char text.now result ≡ false }
 {
     let bytes = text.as_bytes();
     let mut end = skip_set::<CommentByte>(text, at);

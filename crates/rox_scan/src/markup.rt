@@ -1,13 +1,13 @@
 //! Comments, processing instructions and CDATA sections.
 
-ghost use Rattle.std.specs.Prelude.{◌≡◌, ◌<◌, ◌≤◌, ◌+◌, length, slice_index, true};
+ghost use Rattle.std.specs.Prelude.{◌≡◌, ◌<◌, ◌+◌, length, slice_index, true};
 ghost use Rattle.rox_grammar.specs.Search.{stands};
 ghost use Rattle.rox_grammar.specs.FixedTexts.{word_text};
 ghost use Rattle.rox_grammar.specs.Tree.{none_if_empty};
 ghost use Rattle.rox_grammar.specs.declared.fault.Word.TheVariants as word;
 ghost use Rattle.rox_reading.specs.Lexical as lexical;
 ghost use Rattle.rox_reading.specs.Markup as spec;
-ghost use Rattle.rox_scan.specs.ScanResults.{Reads};
+ghost use Rattle.rox_scan.specs.ScanResults.{Steps};
 ghost use Rattle.rox_scan.specs.Views.{instruction_view, text_view};
 
 use crate::cursor::Cursor;
@@ -39,9 +39,7 @@ impl<'input> Cursor<'input> {
         requires finds { finder.now ≡ word_text mark }
         requires some { 0 < length (word_text mark) }
         requires ascii { slice_index (word_text mark) 0 < 128 }
-        ensures value { Reads (λ x. x.now) self.new result (lexical.text_to mark self.old.text.now self.old.pos) }
-        ensures source { self.new.text ≡ self.old.text }
-        ensures onward { self.old.pos ≤ self.new.pos }
+        ensures { Steps (λ x. x.now) self.old self.new result (lexical.text_to mark) }
     {
         let end = mark_from(self.text, self.pos, finder);
         let text = self.chars_up_to(end)?;
@@ -54,9 +52,7 @@ impl<'input> Cursor<'input> {
     #[inline]
     pub fn comment(&mut self, finders: &Finders<'_>) -> Result<&'input str, Fault>
         requires { stands (word_text word.CommentStart) self.old.text.now self.old.pos ≡ true }
-        ensures value { Reads (λ x. x.now) self.new result (spec.comment_at self.old.text.now self.old.pos) }
-        ensures source { self.new.text ≡ self.old.text }
-        ensures onward { self.old.pos ≤ self.new.pos }
+        ensures { Steps (λ x. x.now) self.old self.new result spec.comment_at }
     {
         let start = self.pos;
         self.skip(Word::CommentStart);
@@ -78,9 +74,7 @@ impl<'input> Cursor<'input> {
     #[tactic(auto, unfolding(rox_reading::specs::Markup::comment_at))]
     fn slow_comment(&mut self, start: usize, finders: &Finders<'_>) -> Result<&'input str, Fault>
         requires { self.old.pos ≡ start + 4 }
-        ensures value { Reads (λ x. x.now) self.new result (spec.comment_at self.old.text.now start) }
-        ensures source { self.new.text ≡ self.old.text }
-        ensures onward { self.old.pos ≤ self.new.pos }
+        ensures { Steps (λ x. x.now) self.old self.new result (λ src _. spec.comment_at src start) }
     {
         let text = self.text_to(Word::CommentEnd, &finders.comment_end)?;
         let bytes = text.as_bytes();
@@ -95,9 +89,7 @@ impl<'input> Cursor<'input> {
     #[tactic(auto, unfolding(rox_reading::specs::Markup::instruction_at))]
     pub fn instruction(&mut self, finders: &Finders<'_>) -> Result<Instruction<'input>, Fault>
         requires { stands (word_text word.PIStart) self.old.text.now self.old.pos ≡ true }
-        ensures value { Reads instruction_view self.new result (spec.instruction_at self.old.text.now self.old.pos) }
-        ensures source { self.new.text ≡ self.old.text }
-        ensures onward { self.old.pos ≤ self.new.pos }
+        ensures { Steps instruction_view self.old self.new result spec.instruction_at }
     {
         if self.starts(Word::XmlDeclStart) {
             return Err(Fault::UnexpectedDeclaration(self.pos));
@@ -117,9 +109,7 @@ impl<'input> Cursor<'input> {
     #[tactic(auto, unfolding(rox_reading::specs::Markup::cdata_at))]
     pub fn cdata(&mut self, finders: &Finders<'_>) -> Result<&'input str, Fault>
         requires { stands (word_text word.CDataStart) self.old.text.now self.old.pos ≡ true }
-        ensures value { Reads (λ x. x.now) self.new result (spec.cdata_at self.old.text.now self.old.pos) }
-        ensures source { self.new.text ≡ self.old.text }
-        ensures onward { self.old.pos ≤ self.new.pos }
+        ensures { Steps (λ x. x.now) self.old self.new result spec.cdata_at }
     {
         self.skip(Word::CDataStart);
         self.text_to(Word::CDataEnd, &finders.cdata_end)

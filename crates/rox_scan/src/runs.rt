@@ -33,9 +33,9 @@ impl Class for NameChar {
         chars::is_name_char(c)
     }
 
-    #[inline]
+    #[inline(always)]
     fn has_byte(b: u8) -> bool {
-        chars::is_name_char(char::from(b))
+        chars::is_name_byte(b)
     }
 }
 

@@ -58,7 +58,8 @@ pub fn before_mark(bytes: &[u8], mark: &[u8]) -> usize
     requires { 0 < length mark.now }
     ensures value { result ≡ spec.before_mark mark.now bytes.now }
     ensures within { result ≤ length bytes.now }
-    ensures found { result < length bytes.now → slice_index bytes.now result ≡ slice_index mark.now 0 }
+    ensures found { result < length bytes.now
+        → slice_index bytes.now result ≡ slice_index mark.now 0 }
 {
     let mut at = 0;
     while at < bytes.len() {
@@ -125,7 +126,8 @@ fn before_found(bytes: &[u8], finder: &Finder<'_>) -> usize
     requires { 0 < length finder.now }
     ensures value { result ≡ spec.before_mark finder.now bytes.now }
     ensures within { result ≤ length bytes.now }
-    ensures found { result < length bytes.now → slice_index bytes.now result ≡ slice_index finder.now 0 }
+    ensures found { result < length bytes.now
+        → slice_index bytes.now result ≡ slice_index finder.now 0 }
 {
     finder.find(bytes).unwrap_or(bytes.len())
 }

@@ -33,7 +33,8 @@ pub fn start_of(text: &str) -> Cursor<'_>
 /// 4.3.1). It counts its places from its own start.
 #[tactic(auto, unfolding(rox_reading::specs::Doctype::answer_text))]
 pub fn replacement_in<'input>(answer: &'input str) -> Result<Cursor<'input>, Fault>
-    ensures value { IsReplacement answer.entry.now result (spec.answer_text (Some answer.entry.now)) }
+    ensures value { IsReplacement answer.entry.now result
+        (spec.answer_text (Some answer.entry.now)) }
     ensures text { IsUtf8 answer.entry.now }
 {
     let mut cursor = start_of(answer);

@@ -1,12 +1,12 @@
 //! What tags hold: the attributes of a start tag as they are written, its end, and the name of an end tag (XML 1.0 section 3.1).
 
-ghost use Rattle.std.specs.Prelude.{◌≡◌, ◌==◌, ◌||◌, ◌<◌, ◌≤◌, IfOk, slice_range, true};
+ghost use Rattle.std.specs.Prelude.{◌≡◌, ◌==◌, ◌||◌, ◌<◌, IfOk, slice_range, true};
 ghost use Rattle.rox_grammar.specs.Search.{stands};
 ghost use Rattle.rox_grammar.specs.FixedTexts.{word_text};
 ghost use Rattle.rox_grammar.specs.Content.{is_verbatim_value};
 ghost use Rattle.rox_grammar.specs.declared.fault.Word.TheVariants as word;
 ghost use Rattle.rox_reading.specs.Markup as spec;
-ghost use Rattle.rox_scan.specs.ScanResults.{Reads};
+ghost use Rattle.rox_scan.specs.ScanResults.{Steps};
 ghost use Rattle.rox_scan.specs.Views.{HasValue, TagItemHasValue, attribute_view, end_tag_view, tag_item_view};
 
 use crate::byte_set::{ValueByte, skip_set};
@@ -59,9 +59,7 @@ impl<'input> Cursor<'input> {
     #[tactic(auto, unfolding(rox_reading::specs::Markup::end_tag_at))]
     pub fn end_tag(&mut self) -> Result<EndTag<'input>, Fault>
         requires { stands (word_text word.EndTagStart) self.old.text.now self.old.pos ≡ true }
-        ensures value { Reads end_tag_view self.new result (spec.end_tag_at self.old.text.now self.old.pos) }
-        ensures source { self.new.text ≡ self.old.text }
-        ensures onward { self.old.pos ≤ self.new.pos }
+        ensures { Steps end_tag_view self.old self.new result spec.end_tag_at }
     {
         self.skip(Word::EndTagStart);
         let name = self.qname()?;
@@ -77,10 +75,9 @@ impl<'input> Cursor<'input> {
     fn raw_value(&mut self, quote: u8) -> Result<RawValue<'input>, Fault>
         requires ascii { quote < 128 }
         requires quote { (quote == 39 || quote == 34) ≡ true }
-        ensures value { Reads (λ x. x.text.now) self.new result (spec.raw_value_at quote self.old.text.now self.old.pos) }
-        ensures source { self.new.text ≡ self.old.text }
-        ensures onward { self.old.pos ≤ self.new.pos }
-        ensures text { IfOk result (λ x. x.text.now ≡ slice_range self.old.text.now self.old.pos self.new.pos) }
+        ensures read { Steps (λ x. x.text.now) self.old self.new result (spec.raw_value_at quote) }
+        ensures text { IfOk result
+            (λ x. x.text.now ≡ slice_range self.old.text.now self.old.pos self.new.pos) }
         ensures verbatim { IfOk result (λ x. x.is_verbatim ≡ is_verbatim_value x.text.now) }
     {
         let start = self.pos;
@@ -105,10 +102,12 @@ impl<'input> Cursor<'input> {
     fn value_by_characters(&mut self, quote: u8) -> Result<bool, Fault>
         requires ascii { quote < 128 }
         requires quote { (quote == 39 || quote == 34) ≡ true }
-        ensures value { Reads (λ _. slice_range self.old.text.now self.old.pos self.new.pos) self.new result (spec.raw_value_at quote self.old.text.now self.old.pos) }
-        ensures source { self.new.text ≡ self.old.text }
-        ensures onward { self.old.pos ≤ self.new.pos }
-        ensures verbatim { IfOk result (λ verbatim. verbatim ≡ is_verbatim_value (slice_range self.old.text.now self.old.pos self.new.pos)) }
+        ensures read { Steps
+            (λ _. slice_range self.old.text.now self.old.pos self.new.pos) self.old self.new result
+            (spec.raw_value_at quote) }
+        ensures verbatim { IfOk result
+            (λ verbatim. verbatim
+            ≡ is_verbatim_value (slice_range self.old.text.now self.old.pos self.new.pos)) }
     {
         let look = scan_value(self.text, self.pos, quote);
         if is_at(self.text, look.end, quote) {
@@ -123,10 +122,12 @@ impl<'input> Cursor<'input> {
     #[tactic(auto, unfolding(rox_reading::specs::Markup::raw_value_at))]
     fn slow_value(&mut self, quote: u8) -> Result<bool, Fault>
         requires ascii { quote < 128 }
-        ensures value { Reads (λ _. slice_range self.old.text.now self.old.pos self.new.pos) self.new result (spec.raw_value_at quote self.old.text.now self.old.pos) }
-        ensures source { self.new.text ≡ self.old.text }
-        ensures onward { self.old.pos ≤ self.new.pos }
-        ensures verbatim { IfOk result (λ verbatim. verbatim ≡ is_verbatim_value (slice_range self.old.text.now self.old.pos self.new.pos)) }
+        ensures read { Steps
+            (λ _. slice_range self.old.text.now self.old.pos self.new.pos) self.old self.new result
+            (spec.raw_value_at quote) }
+        ensures verbatim { IfOk result
+            (λ verbatim. verbatim
+            ≡ is_verbatim_value (slice_range self.old.text.now self.old.pos self.new.pos)) }
     {
         let end = either_from(self.text, self.pos, quote, b'<');
         if end >= self.text.len() {
@@ -141,9 +142,7 @@ impl<'input> Cursor<'input> {
     #[inline]
     #[tactic(auto, unfolding(rox_reading::specs::Markup::attribute_at))]
     pub fn attribute(&mut self) -> Result<RawAttribute<'input>, Fault>
-        ensures value { Reads attribute_view self.new result (spec.attribute_at self.old.text.now self.old.pos) }
-        ensures source { self.new.text ≡ self.old.text }
-        ensures onward { self.old.pos ≤ self.new.pos }
+        ensures read { Steps attribute_view self.old self.new result spec.attribute_at }
         ensures text { IfOk result (λ a. HasValue self.old.text.now a) }
     {
         let start = self.pos;
@@ -173,9 +172,7 @@ impl<'input> Cursor<'input> {
     #[inline]
     #[tactic(auto, unfolding(rox_reading::specs::Markup::tag_item_at))]
     pub fn tag_item(&mut self) -> Result<TagItem<'input>, Fault>
-        ensures value { Reads tag_item_view self.new result (spec.tag_item_at self.old.text.now self.old.pos) }
-        ensures source { self.new.text ≡ self.old.text }
-        ensures onward { self.old.pos ≤ self.new.pos }
+        ensures read { Steps tag_item_view self.old self.new result spec.tag_item_at }
         ensures text { IfOk result (λ t. TagItemHasValue self.old.text.now t) }
     {
         let start = self.pos;

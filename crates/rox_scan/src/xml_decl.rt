@@ -1,11 +1,11 @@
 //! The declaration that a text may begin with (XML 1.0 [23] XMLDecl, [77] TextDecl).
 
-ghost use Rattle.std.specs.Prelude.{◌≡◌, ◌≤◌, ◌+◌, true};
+ghost use Rattle.std.specs.Prelude.{◌≡◌, ◌+◌, true};
 ghost use Rattle.rox_grammar.specs.Search.{stands};
 ghost use Rattle.rox_grammar.specs.FixedTexts.{word_text};
 ghost use Rattle.rox_grammar.specs.declared.fault.Word.TheVariants as word;
 ghost use Rattle.rox_reading.specs.Markup as spec;
-ghost use Rattle.rox_scan.specs.ScanResults.{Reads};
+ghost use Rattle.rox_scan.specs.ScanResults.{Steps};
 ghost use Rattle.rox_scan.specs.DoctypeViews.{xml_decl_if};
 
 use crate::chars::is_space;
@@ -17,9 +17,7 @@ impl<'input> Cursor<'input> {
     /// A name, `=`, and a value in quotes, of the XML declaration.
     #[tactic(auto, unfolding(rox_reading::specs::Markup::pair_at))]
     fn pair(&mut self) -> Result<(), Fault>
-        ensures value { Reads (λ x. x) self.new result (spec.pair_at self.old.text.now self.old.pos) }
-        ensures source { self.new.text ≡ self.old.text }
-        ensures onward { self.old.pos ≤ self.new.pos }
+        ensures { Steps (λ x. x) self.old self.new result spec.pair_at }
     {
         let _name = self.qname()?;
         self.spaces();
@@ -34,9 +32,7 @@ impl<'input> Cursor<'input> {
     /// White space, or nothing where `?>` stands or the source ends.
     #[tactic(auto, unfolding(rox_reading::specs::Markup::gap_at))]
     fn gap(&mut self) -> Result<(), Fault>
-        ensures value { Reads (λ x. x) self.new result (spec.gap_at self.old.text.now self.old.pos) }
-        ensures source { self.new.text ≡ self.old.text }
-        ensures onward { self.old.pos ≤ self.new.pos }
+        ensures { Steps (λ x. x) self.old self.new result spec.gap_at }
     {
         if self.pos >= self.text.len() {
             return Ok(());
@@ -55,9 +51,7 @@ impl<'input> Cursor<'input> {
     /// A pair and a gap if the word stands here.
     #[tactic(auto, unfolding(rox_reading::specs::Markup::pair_if))]
     fn pair_if(&mut self, name: Word) -> Result<(), Fault>
-        ensures value { Reads (λ x. x) self.new result (spec.pair_if name self.old.text.now self.old.pos) }
-        ensures source { self.new.text ≡ self.old.text }
-        ensures onward { self.old.pos ≤ self.new.pos }
+        ensures { Steps (λ x. x) self.old self.new result (spec.pair_if name) }
     {
         if !self.starts(name) {
             return Ok(());
@@ -80,9 +74,7 @@ impl<'input> Cursor<'input> {
     #[tactic(auto, unfolding(rox_reading::specs::Markup::xml_decl_at))]
     pub fn declaration(&mut self) -> Result<(), Fault>
         requires { stands (word_text word.XmlDeclStart) self.old.text.now self.old.pos ≡ true }
-        ensures value { Reads (λ x. x) self.new result (spec.xml_decl_at self.old.text.now self.old.pos) }
-        ensures source { self.new.text ≡ self.old.text }
-        ensures onward { self.old.pos ≤ self.new.pos }
+        ensures { Steps (λ x. x) self.old self.new result spec.xml_decl_at }
     {
         self.skip_xml_decl_start();
         self.spaces();
@@ -100,9 +92,7 @@ impl<'input> Cursor<'input> {
 
     /// The declaration that a text begins with, if it does (XML 1.0 [23] XMLDecl, [77] TextDecl).
     pub fn xml_decl_if(&mut self) -> Result<(), Fault>
-        ensures value { Reads (λ x. x) self.new result (xml_decl_if self.old.text.now self.old.pos) }
-        ensures source { self.new.text ≡ self.old.text }
-        ensures onward { self.old.pos ≤ self.new.pos }
+        ensures { Steps (λ x. x) self.old self.new result xml_decl_if }
     {
         if self.starts(Word::XmlDeclStart) {
             return self.declaration();

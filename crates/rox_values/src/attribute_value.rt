@@ -21,37 +21,23 @@ use crate::reference::{Reference, found, read_reference};
 use crate::text_value::TextValue;
 use rox_grammar::failure::Failure;
 use rox_grammar::fault::Fault;
-use rox_scan::byte_set::{ValueByte, skip_set};
+use rox_scan::byte_set::skip_set;
 use rox_scan::cursor::Cursor;
-use rox_scan::lookahead::is_special;
+use rox_scan::lookahead::{StretchByte, is_special};
 use rox_scan::runs::is_at;
 use rox_scan::search::byte_from;
 use rox_scan::tag::RawAttribute;
 
-/// How many bytes come before the first special one, or all.
-fn before_special(bytes: &[u8]) -> usize
-    ensures value { result ≡ position_or_len spec.is_special bytes.now }
-    ensures within { result ≤ length bytes.now }
-    ensures found { result < length bytes.now → spec.is_special (slice_index bytes.now result) ≡ true }
-{
-    for (index, byte) in bytes.iter().enumerate() {
-        if is_special(*byte) {
-            return index;
-        }
-    }
-    bytes.len()
-}
-
 /// The first place from `at` on of a special byte of a value, or the end.
-#[tactic(auto, using(rox_scan::proofs::NearLemmas::special_goes_on, rox_scan::proofs::NearLemmas::value_cut), unfolding(rox_grammar::specs::Search::byte_from))]
+#[inline(always)]
+#[tactic(auto, using(rox_scan::proofs::NearLemmas::stretch_cut))]
 fn special_from(text: &str, at: usize) -> usize
     requires { IsCharBoundary text.now at }
     ensures place { result ≡ byte_from spec.is_special text.now at }
     ensures onward { at ≤ result }
     ensures cut { IsCharBoundary text.now result }
 {
-    let near = skip_set::<ValueByte>(text, at);
-    near + before_special(text[near..].as_bytes())
+    skip_set::<StretchByte>(text, at)
 }
 
 /// Appends a space for the white space byte that stands here, and nothing for a CR right before a LF.
@@ -61,7 +47,9 @@ fn white_space(cursor: &mut Cursor<'_>, stop: usize, out: &mut String) -> Result
     requires no_reference { slice_index cursor.old.text.now cursor.old.pos ≢ 38 }
     requires before { cursor.old.pos < stop }
     requires cut { IsCharBoundary cursor.old.text.now stop }
-    ensures value { (main : Bool) (es : List Entity) → Appends (string_bytes out.old) (string_bytes out.new) cursor.new result (spec.value_bit_at main es cursor.old.text.now stop cursor.old.pos) }
+    ensures value { (main : Bool) (es : List Entity)
+        → Appends (string_bytes out.old) (string_bytes out.new) cursor.new result
+        (spec.value_bit_at main es cursor.old.text.now stop cursor.old.pos) }
     ensures source { cursor.new.text ≡ cursor.old.text }
 {
     let here = cursor.text.as_bytes()[cursor.pos];
@@ -82,7 +70,9 @@ fn character_in_value(
     main: bool,
     out: &mut String,
 ) -> Result<(), Failure>
-    ensures { (read : Result spec.Bit Fault) → read ≡ Ok (spec.bytes_of (encode_utf8 character)) → AppendsCharacter (string_bytes out.old) (string_bytes out.new) result (spec.tested_bit main start (spec.character_of character) read) }
+    ensures { (read : Result spec.Bit Fault) → read ≡ Ok (spec.bytes_of (encode_utf8 character))
+        → AppendsCharacter (string_bytes out.old) (string_bytes out.new) result
+        (spec.tested_bit main start (spec.character_of character) read) }
 {
     if main {
         out.push(character)?;
@@ -109,7 +99,8 @@ fn expand_in_value<'input>(
 ) -> Result<Option<Cursor<'input>>, Failure>
     requires { slice_index cursor.old.text.now cursor.old.pos ≡ 38 }
     ensures value { (es : List Entity) → AreDeclared es context.entry.entities.now
-        → AppendsBit (string_bytes out.old) (string_bytes out.new) cursor.new result (spec.value_reference_at context.entry.main es cursor.old.text.now cursor.old.pos) }
+        → AppendsBit (string_bytes out.old) (string_bytes out.new) cursor.new result
+        (spec.value_reference_at context.entry.main es cursor.old.text.now cursor.old.pos) }
     ensures source { cursor.new.text ≡ cursor.old.text }
 {
     let start = cursor.pos;
@@ -166,7 +157,9 @@ fn inner_stretch(cursor: &mut Cursor<'_>, stop: usize, out: &mut String) -> Resu
     requires before { cursor.old.pos < stop }
     requires cut { IsCharBoundary cursor.old.text.now stop }
     requires plain { spec.is_special (slice_index cursor.old.text.now cursor.old.pos) ≡ false }
-    ensures value { (es : List Entity) → Appends (string_bytes out.old) (string_bytes out.new) cursor.new result (spec.value_bit_at false es cursor.old.text.now stop cursor.old.pos) }
+    ensures value { (es : List Entity)
+        → Appends (string_bytes out.old) (string_bytes out.new) cursor.new result
+        (spec.value_bit_at false es cursor.old.text.now stop cursor.old.pos) }
     ensures source { cursor.new.text ≡ cursor.old.text }
 {
     let text = cursor.text;
@@ -185,7 +178,9 @@ fn main_stretch(cursor: &mut Cursor<'_>, stop: usize, out: &mut String) -> Resul
     requires before { cursor.old.pos < stop }
     requires cut { IsCharBoundary cursor.old.text.now stop }
     requires plain { spec.is_special (slice_index cursor.old.text.now cursor.old.pos) ≡ false }
-    ensures value { (es : List Entity) → Appends (string_bytes out.old) (string_bytes out.new) cursor.new result (spec.value_bit_at true es cursor.old.text.now stop cursor.old.pos) }
+    ensures value { (es : List Entity)
+        → Appends (string_bytes out.old) (string_bytes out.new) cursor.new result
+        (spec.value_bit_at true es cursor.old.text.now stop cursor.old.pos) }
     ensures source { cursor.new.text ≡ cursor.old.text }
 {
     let start = cursor.pos;
@@ -209,7 +204,8 @@ fn value_bit<'input>(
     requires before { cursor.old.pos < stop }
     requires cut { IsCharBoundary cursor.old.text.now stop }
     ensures value { (es : List Entity) → AreDeclared es context.entry.entities.now
-        → AppendsBit (string_bytes out.old) (string_bytes out.new) cursor.new result (spec.value_bit_at context.entry.main es cursor.old.text.now stop cursor.old.pos) }
+        → AppendsBit (string_bytes out.old) (string_bytes out.new) cursor.new result
+        (spec.value_bit_at context.entry.main es cursor.old.text.now stop cursor.old.pos) }
     ensures source { cursor.new.text ≡ cursor.old.text }
 {
     let here = cursor.text.as_bytes()[cursor.pos];
@@ -241,7 +237,10 @@ fn value_text<'input>(
 ) -> Result<u32, ParseError<'input>>
     requires { IsCharBoundary cursor.old.text.now stop }
     ensures { (es : List Entity) → AreDeclared es context.entry.entities.now
-        → AppendsValue (string_bytes out.old) (string_bytes out.new) result (spec.value_text context.entry.main es (value_opener es context.entry.depth_left context.entry.main) bits cursor.old.text.now stop cursor.old.pos openings_left) }
+        → AppendsValue (string_bytes out.old) (string_bytes out.new) result
+        (spec.value_text context.entry.main es
+        (value_opener es context.entry.depth_left context.entry.main) bits cursor.old.text.now stop
+        cursor.old.pos openings_left) }
 {
     'bits: for _turn in 0..bits {
         if cursor.pos >= stop {
@@ -267,7 +266,9 @@ fn open_value<'input>(
     out: &mut String,
 ) -> Result<u32, ParseError<'input>>
     ensures { (es : List Entity) → AreDeclared es context.entry.entities.now
-        → AppendsValue (string_bytes out.old) (string_bytes out.new) result (value_opener es context.entry.depth_left context.entry.main (replacement_view text.entry) after openings_left) }
+        → AppendsValue (string_bytes out.old) (string_bytes out.new) result
+        (value_opener es context.entry.depth_left context.entry.main
+        (replacement_view text.entry) after openings_left) }
 {
     let (within, inner) = context.opened(after, openings_left, 0)?;
     let mut cursor = text;
@@ -291,8 +292,11 @@ pub fn value<'input>(
     scratch: &mut String,
 ) -> Result<(TextValue<'input>, u32), ParseError<'input>>
     requires { HasValue text.now raw.now }
-    ensures { (es : List Entity) → AreDeclared es context.entry.entities.now → GivesValue (λ p. piece_view p (string_bytes scratch.new)) result
-        (spec.value_at context.entry.main es (value_opener es context.entry.depth_left context.entry.main) text.entry.now raw.now.value_start raw.now.value_end openings_left) }
+    ensures { (es : List Entity) → AreDeclared es context.entry.entities.now
+        → GivesValue (λ p. piece_view p (string_bytes scratch.new)) result
+        (spec.value_at context.entry.main es
+        (value_opener es context.entry.depth_left context.entry.main) text.entry.now
+        raw.now.value_start raw.now.value_end openings_left) }
 {
     if raw.is_verbatim {
         return Ok((TextValue::Plain(raw.value), openings_left));

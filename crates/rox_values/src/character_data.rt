@@ -1,6 +1,7 @@
 //! What the parts of character data stand for, with references and line ends (XML 1.0 sections 2.4, 2.11 and 4.1).
 
-ghost use Rattle.std.specs.Prelude.{◌≡◌, ◌≢◌, ◌-◌, List, false, ◌<◌, slice_index, true};
+ghost use Rattle.std.specs.Prelude.{◌≡◌, ◌≢◌, ◌==◌, ◌||◌, ◌-◌, List, false, ◌<◌, ◌≤◌, slice_index, true};
+ghost use Rattle.rox_grammar.specs.Search.{byte_from};
 ghost use Rattle.std.specs.String.{string_bytes};
 ghost use Rattle.std.specs.Str.{IsCharBoundary};
 ghost use Rattle.rox_reading.specs.Values as spec;
@@ -12,8 +13,10 @@ use crate::context::Context;
 use crate::line_ends::line_end;
 use crate::reference::{Reference, found, read_reference};
 use rox_grammar::failure::Failure;
+use rox_scan::byte_set::skip_set;
 use rox_scan::cursor::Cursor;
-use rox_scan::search::{byte_from, either_from};
+use rox_scan::lookahead::RunByte;
+use rox_scan::search::byte_from;
 
 /// Appends the character of the reference that stands here, in a run; or answers the replacement text that it names.
 #[inline(always)]
@@ -25,7 +28,8 @@ fn expand<'input>(
 ) -> Result<Option<Cursor<'input>>, Failure>
     requires { slice_index cursor.old.text.now cursor.old.pos ≡ 38 }
     ensures value { (es : List Entity) → AreDeclared es context.entry.entities.now
-        → AppendsBit (string_bytes out.old) (string_bytes out.new) cursor.new result (spec.expansion_at es cursor.old.text.now cursor.old.pos) }
+        → AppendsBit (string_bytes out.old) (string_bytes out.new) cursor.new result
+        (spec.expansion_at es cursor.old.text.now cursor.old.pos) }
     ensures source { cursor.new.text ≡ cursor.old.text }
 {
     let start = cursor.pos;
@@ -41,6 +45,18 @@ fn expand<'input>(
     }
 }
 
+/// The first place from `at` on of a `&` or a CR, or the end.
+#[inline(always)]
+#[tactic(auto, using(rox_scan::proofs::NearLemmas::part_ends_cut))]
+fn change_from(text: &str, at: usize) -> usize
+    requires { IsCharBoundary text.now at }
+    ensures place { result ≡ byte_from (λ c. c == 38 || c == 13) text.now at }
+    ensures onward { at ≤ result }
+    ensures cut { IsCharBoundary text.now result }
+{
+    skip_set::<RunByte>(text, at)
+}
+
 /// Appends all of a run up to the next `&` or CR.
 #[tactic(auto, unfolding(rox_reading::specs::Values::data_bit_at))]
 fn main_data(cursor: &mut Cursor<'_>, stop: usize, out: &mut String) -> Result<(), Failure>
@@ -48,12 +64,14 @@ fn main_data(cursor: &mut Cursor<'_>, stop: usize, out: &mut String) -> Result<(
     requires cut { IsCharBoundary cursor.old.text.now stop }
     requires no_reference { slice_index cursor.old.text.now cursor.old.pos ≢ 38 }
     requires no_line_end { slice_index cursor.old.text.now cursor.old.pos ≢ 13 }
-    ensures value { (es : List Entity) → Appends (string_bytes out.old) (string_bytes out.new) cursor.new result (spec.data_bit_at true es cursor.old.text.now stop cursor.old.pos) }
+    ensures value { (es : List Entity)
+        → Appends (string_bytes out.old) (string_bytes out.new) cursor.new result
+        (spec.data_bit_at true es cursor.old.text.now stop cursor.old.pos) }
     ensures source { cursor.new.text ≡ cursor.old.text }
 {
     let start = cursor.pos;
     let text = cursor.text;
-    let end = either_from(&text[..stop], start, b'&', b'\r');
+    let end = change_from(&text[..stop], start);
     out.push_str(&text[start..end])?;
     cursor.pos = end;
     Ok(())
@@ -65,7 +83,9 @@ fn inner_data(cursor: &mut Cursor<'_>, stop: usize, out: &mut String) -> Result<
     requires before { cursor.old.pos < stop }
     requires cut { IsCharBoundary cursor.old.text.now stop }
     requires no_reference { slice_index cursor.old.text.now cursor.old.pos ≢ 38 }
-    ensures value { (es : List Entity) → Appends (string_bytes out.old) (string_bytes out.new) cursor.new result (spec.data_bit_at false es cursor.old.text.now stop cursor.old.pos) }
+    ensures value { (es : List Entity)
+        → Appends (string_bytes out.old) (string_bytes out.new) cursor.new result
+        (spec.data_bit_at false es cursor.old.text.now stop cursor.old.pos) }
     ensures source { cursor.new.text ≡ cursor.old.text }
 {
     let start = cursor.pos;
@@ -88,7 +108,8 @@ fn data_bit<'input>(
     requires before { cursor.old.pos < stop }
     requires cut { IsCharBoundary cursor.old.text.now stop }
     ensures value { (es : List Entity) → AreDeclared es context.entry.entities.now
-        → AppendsBit (string_bytes out.old) (string_bytes out.new) cursor.new result (spec.data_bit_at context.entry.main es cursor.old.text.now stop cursor.old.pos) }
+        → AppendsBit (string_bytes out.old) (string_bytes out.new) cursor.new result
+        (spec.data_bit_at context.entry.main es cursor.old.text.now stop cursor.old.pos) }
     ensures source { cursor.new.text ≡ cursor.old.text }
 {
     let here = cursor.text.as_bytes()[cursor.pos];
@@ -117,7 +138,9 @@ pub fn data_part<'input>(
 ) -> Result<Option<Cursor<'input>>, Failure>
     requires { IsCharBoundary cursor.old.text.now stop }
     ensures value { (es : List Entity) → AreDeclared es context.entry.entities.now
-        → AppendsPart (string_bytes out.old) (string_bytes out.new) cursor.new result (spec.data_part context.entry.main es (stop - cursor.old.pos) cursor.old.text.now stop cursor.old.pos) }
+        → AppendsPart (string_bytes out.old) (string_bytes out.new) cursor.new result
+        (spec.data_part context.entry.main es
+        (stop - cursor.old.pos) cursor.old.text.now stop cursor.old.pos) }
     ensures source { cursor.new.text ≡ cursor.old.text }
 {
     'bits: for _turn in cursor.pos..stop {

@@ -28,7 +28,12 @@ pub struct Context<'e, 'input> {
 impl<'e, 'input> Context<'e, 'input> {
     /// How the main text is read.
     pub fn main_text(entities: &'e Entities<'input>) -> Context<'e, 'input>
-        ensures { result ≡ record { main = true; depth_left = MOST_DEEP; open_around = 0; entities = entities.entry } }
+        ensures { result ≡ record {
+          main = true;
+          depth_left = MOST_DEEP;
+          open_around = 0;
+          entities = entities.entry;
+        } }
     {
         Context {
             main: true,
@@ -46,8 +51,14 @@ impl<'e, 'input> Context<'e, 'input> {
         openings_left: u32,
         open_around: usize,
     ) -> Result<(Context<'e, 'input>, u32), Fault>
-        ensures value { Opens result (opened_at self.entry.depth_left self.entry.main after openings_left) }
-        ensures context { IfOk result (λ x. x.0 ≡ record { main = false; depth_left = self.entry.depth_left - 1; open_around = open_around; entities = self.entry.entities }) }
+        ensures value { Opens result
+            (opened_at self.entry.depth_left self.entry.main after openings_left) }
+        ensures context { IfOk result (λ x. x.0 ≡ record {
+          main = false;
+          depth_left = self.entry.depth_left - 1;
+          open_around = open_around;
+          entities = self.entry.entities;
+        }) }
         ensures deeper { IfOk result (λ x. x.0.depth_left < self.entry.depth_left) }
     {
         if self.depth_left == 0 {

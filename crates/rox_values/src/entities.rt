@@ -39,7 +39,10 @@ impl<'input> Entities<'input> {
     /// Declares a name. Of several declarations of one name the first is binding (XML 1.0 section 4.2). The only error is want
     /// of memory.
     pub fn declare(&mut self, name: &'input str, text: Cursor<'input>) -> Result<(), AllocError>
-        ensures { (es : List Entity) → AreDeclared es self.old → OnOk result (AreDeclared (es ++ record { name = name.entry.now; text = replacement_view text.entry } ∷ []) self.new) }
+        ensures { (es : List Entity) → AreDeclared es self.old
+            → OnOk result
+            (AreDeclared (es ++ record { name = name.entry.now; text = replacement_view text.entry }
+            ∷ []) self.new) }
     {
         if self.texts.contains_key(name) {
             return Ok(());

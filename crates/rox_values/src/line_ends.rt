@@ -23,7 +23,9 @@ pub(crate) fn line_end(
     requires here { slice_index cursor.old.text.now cursor.old.pos ≡ 13 }
     requires before { cursor.old.pos < stop }
     requires cut { IsCharBoundary cursor.old.text.now stop }
-    ensures value { (es : List Entity) → Appends (string_bytes out.old) (string_bytes out.new) cursor.new result (spec.data_bit_at true es cursor.old.text.now stop cursor.old.pos) }
+    ensures value { (es : List Entity)
+        → Appends (string_bytes out.old) (string_bytes out.new) cursor.new result
+        (spec.data_bit_at true es cursor.old.text.now stop cursor.old.pos) }
     ensures source { cursor.new.text ≡ cursor.old.text }
 {
     cursor.advance();
@@ -50,7 +52,8 @@ pub fn line_feeds(raw: &str, out: &mut String) -> Result<(), AllocError>
 fn section_part(raw: &str, at: usize, out: &mut String) -> Result<usize, AllocError>
     requires within { at < length raw.now }
     requires cut { IsCharBoundary raw.now at }
-    ensures value { IfOk result (λ next. string_bytes out.new ++ section_rest raw.now next ≡ string_bytes out.old ++ section_rest raw.now at) }
+    ensures value { IfOk result (λ next. string_bytes out.new ++ section_rest raw.now next
+        ≡ string_bytes out.old ++ section_rest raw.now at) }
     ensures moves { IfOk result (λ next. at < next) }
     ensures cut { IfOk result (λ next. IsCharBoundary raw.now next) }
 {

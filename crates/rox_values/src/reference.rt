@@ -5,7 +5,7 @@ ghost use Rattle.rox_grammar.specs.Chars.{is_char};
 ghost use Rattle.rox_grammar.specs.Entities.{Entity, text_of};
 ghost use Rattle.rox_grammar.specs.References as spec;
 ghost use Rattle.rox_reading.specs.Values as reading;
-ghost use Rattle.rox_scan.specs.ScanResults.{Reads};
+ghost use Rattle.rox_scan.specs.ScanResults.{Steps};
 ghost use Rattle.rox_values.specs.DeclaredEntities.{AreDeclared};
 ghost use Rattle.rox_values.specs.Values.{FindsEntity, HasItsName, base_of, is_digit_of, reference_view};
 
@@ -66,7 +66,8 @@ fn digit_value(byte: u8) -> u64
 fn read_digits(text: &str, at: usize, hexadecimal: bool) -> Digits
     requires { at ≤ length text.now }
     ensures place { result.end ≡ spec.bytes_end (is_digit_of hexadecimal) text.now at }
-    ensures number { result.number ≡ min (spec.number (base_of hexadecimal) (slice_range text.now at result.end)) (2 ^ 32) }
+    ensures number { result.number
+        ≡ min (spec.number (base_of hexadecimal) (slice_range text.now at result.end)) (2 ^ 32) }
     ensures onward { at ≤ result.end }
     ensures within { result.end ≤ length text.now }
 {
@@ -108,9 +109,9 @@ fn number<'input>(
 ) -> Result<Reference<'input>, Fault>
     requires onward { cursor.old.pos ≤ digits }
     requires within { digits ≤ length cursor.old.text.now }
-    ensures value { Reads reference_view cursor.new result (reading.number_at (base_of hexadecimal) (is_digit_of hexadecimal) cursor.old.text.now cursor.old.pos digits) }
-    ensures source { cursor.new.text ≡ cursor.old.text }
-    ensures onward { cursor.old.pos ≤ cursor.new.pos }
+    ensures read { Steps reference_view cursor.old cursor.new result
+        (λ src at. reading.number_at (base_of hexadecimal)
+        (is_digit_of hexadecimal) src at digits) }
     ensures name { IfOk result (HasItsName cursor.old.text.now) }
 {
     let start = cursor.pos;
@@ -132,18 +133,13 @@ fn number<'input>(
 fn predefined(name: &str) -> Option<char>
     ensures { result ≡ spec.predefined name.now }
 {
-    if name == "lt" {
-        Some('<')
-    } else if name == "gt" {
-        Some('>')
-    } else if name == "amp" {
-        Some('&')
-    } else if name == "quot" {
-        Some('"')
-    } else if name == "apos" {
-        Some('\'')
-    } else {
-        None
+    match name.as_bytes() {
+        [b'l', b't'] => Some('<'),
+        [b'g', b't'] => Some('>'),
+        [b'a', b'm', b'p'] => Some('&'),
+        [b'q', b'u', b'o', b't'] => Some('"'),
+        [b'a', b'p', b'o', b's'] => Some('\''),
+        _ => None,
     }
 }
 
@@ -152,9 +148,7 @@ fn predefined(name: &str) -> Option<char>
 #[tactic(auto, unfolding(rox_reading::specs::Values::name_reference_at))]
 fn name_reference<'input>(cursor: &mut Cursor<'input>) -> Result<Reference<'input>, Fault>
     requires { slice_index cursor.old.text.now cursor.old.pos ≡ 38 }
-    ensures value { Reads reference_view cursor.new result (reading.name_reference_at cursor.old.text.now cursor.old.pos) }
-    ensures source { cursor.new.text ≡ cursor.old.text }
-    ensures onward { cursor.old.pos ≤ cursor.new.pos }
+    ensures read { Steps reference_view cursor.old cursor.new result reading.name_reference_at }
     ensures name { IfOk result (HasItsName cursor.old.text.now) }
 {
     let reference = cursor.pos;
@@ -180,9 +174,7 @@ fn name_reference<'input>(cursor: &mut Cursor<'input>) -> Result<Reference<'inpu
 #[tactic(auto, unfolding(rox_reading::specs::Values::reference_at))]
 pub fn read_reference<'input>(cursor: &mut Cursor<'input>) -> Result<Reference<'input>, Fault>
     requires { slice_index cursor.old.text.now cursor.old.pos ≡ 38 }
-    ensures value { Reads reference_view cursor.new result (reading.reference_at cursor.old.text.now cursor.old.pos) }
-    ensures source { cursor.new.text ≡ cursor.old.text }
-    ensures onward { cursor.old.pos ≤ cursor.new.pos }
+    ensures read { Steps reference_view cursor.old cursor.new result reading.reference_at }
     ensures name { IfOk result (HasItsName cursor.old.text.now) }
 {
     let start = cursor.pos;
@@ -208,7 +200,8 @@ pub(crate) fn found<'input>(
     span: Span,
     start: usize,
 ) -> Result<Cursor<'input>, Fault>
-    ensures { (es : List Entity) → AreDeclared es context.entry.entities.now → FindsEntity result (reading.entity_bit (text_of es name.now) start span) }
+    ensures { (es : List Entity) → AreDeclared es context.entry.entities.now
+        → FindsEntity result (reading.entity_bit (text_of es name.now) start span) }
 {
     match context.entities.get(name) {
         Some(text) => Ok(text),

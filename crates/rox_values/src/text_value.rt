@@ -1,14 +1,13 @@
 //! A text that is read: a slice of the source, or a text of its own where line ends, references or white space change it; and the
 //! text of a CDATA section as one (XML 1.0 sections 2.7 and 2.11).
 
-ghost use Rattle.std.specs.Prelude.{Ok};
+ghost use Rattle.std.specs.Prelude.{◌≡◌, IfOk};
 ghost use Rattle.std.specs.String.{string_bytes};
-ghost use Rattle.rox_grammar.specs.Failures.{Gives};
 ghost use Rattle.rox_values.specs.Values.{piece_view, section_text};
 
 use crate::line_ends::line_feeds;
-use rox_grammar::failure::Failure;
 use rox_scan::search::before_byte;
+use std::alloc::AllocError;
 
 /// A text: a slice of the source, or what the caller's buffer holds.
 #[derive(Clone, Copy)]
@@ -23,8 +22,8 @@ pub enum TextValue<'input> {
 pub fn cdata_text<'input>(
     raw: &'input str,
     scratch: &mut String,
-) -> Result<TextValue<'input>, Failure>
-    ensures { Gives (λ p. piece_view p (string_bytes scratch.new)) result (Ok (section_text raw.now)) }
+) -> Result<TextValue<'input>, AllocError>
+    ensures { IfOk result (λ p. piece_view p (string_bytes scratch.new) ≡ section_text raw.now) }
 {
     let bytes = raw.as_bytes();
     if before_byte(bytes, b'\r') == bytes.len() {

@@ -1,7 +1,11 @@
-use Rattle.std.proofs.Common.{sym, ◌∙◌}
+use Rattle.std.proofs.Common.{sym, ◌∙◌, rules}
 use Rattle.rox_scan.proofs.LongerLemmas.{looked_value}
 use Rattle.rox_scan.proofs.cursor.Cursor.value_by_characters.Goals as goal
 
-pub returns-then-is_at-clause-value : goal.returns-then-is_at-clause-value
-returns-then-is_at-clause-value c =
-    looked_value c.args.self.now.text.now c.args.quote c.args.self.now.pos _ _ c.requires.quote c.scan_value-look.ensures.looked (sym c.is_at.ensures ∙ c.if-is_at.true)
+pub returns-then-is_at-clause-read : goal.returns-then-is_at-clause-read
+returns-then-is_at-clause-read c =
+    record {
+      value = looked_value c.args.self.now.text.now c.args.quote c.args.self.now.pos _ _ c.requires.quote c.scan_value-look.ensures.looked (sym c.is_at.ensures ∙ c.if-is_at.true);
+      source = search rules;
+      onward = search rules;
+    }

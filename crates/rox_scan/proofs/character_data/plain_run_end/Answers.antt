@@ -1,0 +1,16 @@
+use Rattle.std.proofs.Common.{true}
+use Rattle.rox_scan.specs.Lookahead.{changes_run, ends_run}
+use Rattle.rox_scan.proofs.LongerLemmas.{looked_on, run_near}
+use Rattle.rox_scan.proofs.character_data.plain_run_end.Goals as goal
+
+pub returns-then-is_at : goal.returns-then-is_at
+returns-then-is_at c =
+    let src = c.args.text.now in
+    let n = c.skip_set-near.ensures in
+    let near = run_near src c.args.at _ c.utf8.text c.requires n.onward n.within n.passes n.stops in
+    looked_on changes_run (ends_run src) src c.args.at _ _ true true c.utf8.text c.requires near c.wide_run_end.ensures
+
+pub returns : goal.returns
+returns c =
+    let n = c.skip_set-near.ensures in
+    run_near c.args.text.now c.args.at _ c.utf8.text c.requires n.onward n.within n.passes n.stops
