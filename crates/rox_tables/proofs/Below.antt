@@ -142,12 +142,12 @@ pub stood_in : (namespaces seen : List Namespace) (ls seen_ls : List ℕ) (scope
     → AreBindingsOf (map namespace_view namespaces) (lists_of (map namespace_view namespaces) ls scopes) y × IsBound (map namespace_view namespaces) (bound_place y) (scope_at (lists_of (map namespace_view namespaces) ls scopes) i)
 stood_in namespaces seen ls seen_ls scopes seen_scopes x y i n l s f = rw (sym n, sym l, sym s) f
 
-pub entered_in : (namespaces seen : List Namespace) (ls seen_ls : List ℕ) (x y : PrefixBindings) (from until i : ℕ) (xml : Bool) → seen ≡ namespaces → seen_ls ≡ ls
+pub entered_in : (namespaces seen : List Namespace) (ls seen_ls : List ℕ) (x y : PrefixBindings) (from i : ℕ) (xml : Bool) → seen ≡ namespaces → seen_ls ≡ ls
     → ((lists : List (List NamespaceDecl)) (above : List NamespaceDecl) → AreBindingsOf (map namespace_view seen) lists x → IsBound (map namespace_view seen) (bound_place x) above
-    → IsEntered (entries (map namespace_view seen) (reverse (slice_range seen_ls from until))) xml above lists i → AreBindingsOf (map namespace_view seen) lists y × IsBound (map namespace_view seen) (bound_place y) (scope_at lists i))
+    → IsEntered (entries (map namespace_view seen) (reverse (slice_range seen_ls from (length seen_ls)))) xml above lists i → AreBindingsOf (map namespace_view seen) lists y × IsBound (map namespace_view seen) (bound_place y) (scope_at lists i))
     → (lists : List (List NamespaceDecl)) (above : List NamespaceDecl) → AreBindingsOf (map namespace_view namespaces) lists x → IsBound (map namespace_view namespaces) (bound_place x) above
-    → IsEntered (entries (map namespace_view namespaces) (reverse (slice_range ls from until))) xml above lists i → AreBindingsOf (map namespace_view namespaces) lists y × IsBound (map namespace_view namespaces) (bound_place y) (scope_at lists i)
-entered_in namespaces seen ls seen_ls x y from until i xml n l f = rw (sym n, sym l) f
+    → IsEntered (entries (map namespace_view namespaces) (reverse (slice_range ls from (length ls)))) xml above lists i → AreBindingsOf (map namespace_view namespaces) lists y × IsBound (map namespace_view namespaces) (bound_place y) (scope_at lists i)
+entered_in namespaces seen ls seen_ls x y from i xml n l f = rw (sym n, sym l) f
 
 pub entered : (namespaces : List NamespaceDecl) (listed after : List ℕ) (scopes rows : List Scope) (i own from until : ℕ) (xml : Bool) (above : List NamespaceDecl) → after ≡ listed ++ reverse (drop own listed) → from ≡ length listed → until ≡ length after
     → IsListed namespaces listed scopes after rows i (entries namespaces (drop own listed) ++ others (entries namespaces (drop own listed)) xml above)
@@ -166,12 +166,12 @@ entered namespaces listed after scopes rows i own from until xml above grown beg
     }
 
 -- what the scope lists that has this place
-pub has_scope : (o n : ElementTables) (above own i : ℕ) (xml : Bool) → n.namespaces ≡ o.namespaces → ArePlaces (length o.namespaces.items.items) o.listed.items → AreScopes own o.scopes.items → own ≤ length o.listed.items
+pub has_scope : (o n : ElementTables) (above own i : ℕ) (xml : Bool) → n.namespaces ≡ o.namespaces → n.attributes ≡ o.attributes → ArePlaces (length o.namespaces.items.items) o.listed.items → AreScopes own o.scopes.items → own ≤ length o.listed.items
     → PrefixesOnce (scope_at (lists_in o) above) → PrefixesOnce (entries (map namespace_view o.namespaces.items.items) (drop own o.listed.items)) → HasBindings n → HasBindingsOf n i
     → IsListed (map namespace_view o.namespaces.items.items) o.listed.items o.scopes.items n.listed.items n.scopes.items i
     (entries (map namespace_view o.namespaces.items.items) (drop own o.listed.items) ++ others (entries (map namespace_view o.namespaces.items.items) (drop own o.listed.items)) xml (scope_at (lists_in o) above))
     → HasScope o n above own xml i
-has_scope o n above own i xml same ok scopes le once own_once kept present x =
+has_scope o n above own i xml same attributes ok scopes le once own_once kept present x =
     let namespaces = map namespace_view o.namespaces.items.items in
     let mine = entries namespaces (drop own o.listed.items) in
     let names_are = ap (λ v. map namespace_view v.items.items) same in
@@ -181,6 +181,8 @@ has_scope o n above own i xml same ok scopes le once own_once kept present x =
     let lists : scope_at (lists_in n) i ≡ mine ++ others mine xml (scope_at (lists_in o) above) =
     ap (λ ns. scope_at (lists_of ns n.listed.items n.scopes.items) i) names_are ∙ scope_places namespaces n.listed.items n.scopes.items i ∙ x.lists in
     record {
+      namespaces = same;
+      attributes = attributes;
       more = l.0;
       lists_more = ap (λ ns. lists_of ns n.listed.items n.scopes.items) names_are ∙ l.1;
       places = subst (λ v. ArePlaces (length v.items.items) n.listed.items) (sym same) (subst (λ k. ArePlaces k n.listed.items) m (x.places (subst (λ k. ArePlaces k o.listed.items) (sym m) ok)));

@@ -4,8 +4,7 @@ use Rattle.std.specs.List.{slice_range}
 use Rattle.std.proofs.lemmas.List.{map-append, append-nil}
 use Rattle.std.proofs.lemmas.List.Elements.{filter-append}
 use Rattle.rox_grammar.specs.Written.{NamespaceDecl}
-use Rattle.rox_grammar.specs.Tree.{is_declared}
-use Rattle.rox_grammar.specs.WellNamed.{is_xml}
+use Rattle.rox_grammar.specs.Tree.{is_declared, is_xml}
 use Rattle.rox_reading.proofs.Stretches.{slice-more, slice-rest}
 use Rattle.rox_tables.specs.declared.rows.tables.Namespace.{Namespace}
 use Rattle.rox_tables.specs.Rows.{namespace_view, namespace_at}

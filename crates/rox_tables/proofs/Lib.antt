@@ -9,7 +9,8 @@ pub mod Indexing
 pub mod Inherits
 pub mod Listing
 pub mod NameTests
-pub mod Columns
+pub mod AttributeRows
+pub mod StoredNodes
 pub mod Resolving
 pub mod Declaring
 pub mod Seeing

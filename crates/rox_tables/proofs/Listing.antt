@@ -3,10 +3,8 @@ use Rattle.std.proofs.Common.{◌≡◌, ℕ, ◌≤◌, ◌&&◌, ◌||◌, not
 use Rattle.std.specs.List.{list_any}
 use Rattle.std.proofs.lemmas.Slice.Eq.{bytes_eq-Decides}
 use Rattle.rox_grammar.specs.Written.{NamespaceDecl}
-use Rattle.rox_grammar.specs.Tree.{same_prefix, is_declared, listed}
-use Rattle.rox_grammar.specs.WellNamed.{is_xml}
+use Rattle.rox_grammar.specs.Tree.{same_prefix, is_declared, listed, is_xml, listable_of}
 use Rattle.rox_grammar.specs.Document.{has_pair, with_new}
-use Rattle.rox_grammar.specs.Document.{listable_of}
 use Rattle.rox_tables.specs.Scopes.{others}
 use Rattle.rox_tables.proofs.Pairs.{same_prefix-true}
 

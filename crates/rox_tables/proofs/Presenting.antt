@@ -6,7 +6,7 @@ use Rattle.std.proofs.lemmas.List.{drop-append-le, append-nil, length-map, take_
 use Rattle.std.proofs.lemmas.Bool.{eq-eqb, ne_eqb}
 use Rattle.std.proofs.Math.ListN.{drop_of_length-le}
 use Rattle.rox_grammar.specs.Written.{NamespaceDecl}
-use Rattle.rox_grammar.specs.Tree.{same_prefix, is_declared, uri_of}
+use Rattle.rox_grammar.specs.Tree.{same_prefix, is_declared, uri_of, is_xml}
 use Rattle.rox_tables.specs.declared.rows.tables.Namespace.{Namespace}
 use Rattle.rox_tables.specs.Rows.{namespace_view, namespace_at, scope_at, OptionWithin}
 use Rattle.rox_tables.specs.Scopes.{prefix_view, entries, ArePlaces, others}
@@ -20,7 +20,6 @@ use Rattle.rox_tables.specs.declared.namespaces.bindings.ScopeFrame.{ScopeFrame}
 use Rattle.rox_tables.specs.declared.namespaces.bindings.PrefixBindings.{PrefixBindings}
 use Rattle.rox_grammar.specs.declared.fault.Word.TheVariants.{Xml}
 use Rattle.rox_grammar.specs.FixedTexts.{word_text}
-use Rattle.rox_grammar.specs.WellNamed.{is_xml}
 use Rattle.rox_tables.proofs.Listing.{same_prefix-sym}
 use Rattle.rox_tables.proofs.Stable.{namespace_at-append, scope_at-append}
 use Rattle.rox_reading.proofs.Stretches.{slice-more}

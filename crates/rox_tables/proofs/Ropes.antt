@@ -7,7 +7,6 @@ use Rattle.std.proofs.Math.Seq.{get_or-append_seam}
 use Rattle.std.proofs.lemmas.List.{append-nil, length-map, length-reverse, map-append, take-append-drop, take-append-le, get_or_append_left}
 use Rattle.rox_grammar.specs.Written.{NamespaceDecl}
 use Rattle.rox_reading.proofs.Stretches.{range_length}
-use Rattle.rox_grammar.specs.declared.failure.Failure.{Failure}
 use Rattle.rox_tables.specs.declared.rows.tables.Concat.{Concat}
 use Rattle.rox_tables.specs.declared.rows.tables.Scope.{Scope}
 use Rattle.rox_tables.specs.declared.rows.tables.Scope.TheVariants as scope
@@ -278,9 +277,16 @@ lists-append namespaces more ls moreL scopes all h = lists-listed (namespaces ++
 
 -- ---- rows made from others
 
-pub if_ok : {P Q : ℕ → Type 0} (r : Result ℕ Failure) → IfOk r P → ((s : ℕ) → P s → Q s) → IfOk r Q
+pub if_ok : {E : Type 0} {P Q : ℕ → Type 0} (r : Result ℕ E) → IfOk r P → ((s : ℕ) → P s → Q s) → IfOk r Q
 if_ok (Ok s) h f = f s h
 if_ok (Err e) h f = tt
+
+-- two that are put one behind the other are there
+pub two_put : (scopes one two : List Scope) (x y : Scope) (i j : ℕ) → one ≡ scopes ++ x ∷ [] → i ≡ length scopes → two ≡ one ++ y ∷ [] → j ≡ length one → (i < length two) × (j < length two)
+two_put scopes one two x y i j a b c d =
+    let n = ap length a ∙ length-append scopes (x ∷ []) in
+    let m = ap length c ∙ length-append one (y ∷ []) in
+    (omega arith, omega arith)
 
 -- one that is there
 pub rope_same : (scopes : List Scope) (i : ℕ) (list : List ℕ → List ℕ) → AreRows scopes → i < length scopes → ((listed : List ℕ) → AreScopes (length listed) scopes → places_in listed scopes i ≡ list listed)

@@ -105,7 +105,7 @@ pub lines-append : (as' moreA : List AttributeRow) (namespaces moreN : List Name
     → map (row_view (as' ++ moreA) (namespaces ++ moreN) (ls ++ moreL)) rows ≡ map (row_view as' namespaces ls) rows
 lines-append as' moreA namespaces moreN ls moreL rows ha h =
     map_same (row_view (as' ++ moreA) (namespaces ++ moreN) (ls ++ moreL)) (row_view as' namespaces ls) (λ r. KindWithin (length as') (length namespaces) (length ls) r.kind) rows
-    (λ r k. ap (λ n. let x : RowView = record { parent = r.parent; subtree_end = r.subtree_end; depth = r.depth; node = n } in x) (node-append as' moreA namespaces moreN ls moreL r.start r.end r.kind ha k)) h
+    (λ r k. ap (λ n. let x : RowView = record { parent = r.parent; subtree_end = r.subtree_end; node = n } in x) (node-append as' moreA namespaces moreN ls moreL r.start r.end r.kind ha k)) h
 
 -- ---- what a row names stays in the tables
 

@@ -1,5 +1,8 @@
+pub mod StoredNodes
 pub mod Rows
 pub mod Storage
+pub mod UsualPlaces
+pub mod StoredAttributes
 pub mod Growth
 pub mod Scopes
 pub mod ResolvedNames

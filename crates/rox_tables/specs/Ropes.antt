@@ -15,6 +15,16 @@ pub record IsRope (old new : List Scope) (scope : ℕ) (list : List ℕ → List
   pub within : scope < length new
   pub lists : (listed : List ℕ) → AreScopes (length listed) old → places_in listed new scope ≡ list listed
 
+-- two rows that can be joined, of rows that are in order
+pub record AreJoinable (scopes : List Scope) (i j : ℕ) : Type 0 where
+  pub first : i < length scopes
+  pub rest : j < length scopes
+  pub rows : AreRows scopes
+
+-- rows were put behind the others, and the row at this place lists what two of these do, the one behind the other
+abbrev pub Joins : (old new : List Scope) (scope first rest : ℕ) → Type 0
+Joins old new scope first rest = IsRope old new scope (λ listed. places_in listed old first ++ places_in listed old rest)
+
 -- More places may be listed, and more rows be there: the row at this place lists these.
 pub record IsListed (namespaces : List NamespaceDecl) (listed : List ℕ) (scopes : List Scope) (after : List ℕ) (rows : List Scope) (scope : ℕ) (ds : List NamespaceDecl) : Type 0 where
   pub more : List ℕ

@@ -1,12 +1,13 @@
 -- The rows of a tree, and the tree that tables hold.
 use Rattle.std.specs.Prelude.{◌≡◌, true, ℕ, ◌+◌, ◌-◌, ◌^◌, ◌<◌, ◌≤◌, List, [], ◌∷◌, ◌++◌, Option, Some, None, length, map, reverse, get_or, slice_range}
-use Rattle.std.specs.List.{AllByRecursion, zip}
+use Rattle.std.specs.List.{AllByRecursion}
 use Rattle.std.specs.Option.{option_map}
 use Rattle.rox_grammar.specs.Forest.{Forest, Nil, Cons, size}
 use Rattle.rox_grammar.specs.Written.{NamespaceDecl}
 use Rattle.rox_grammar.specs.Tree as tree
 use Rattle.rox_grammar.specs.Tree.{Node, xml_uri}
 use Rattle.rox_tables.specs.Storage.{storage_bytes, is_borrowed}
+use Rattle.rox_tables.specs.StoredAttributes.{row_in}
 use Rattle.rox_tables.specs.declared.rows.tables.Namespace.{Namespace}
 use Rattle.rox_tables.specs.declared.rows.tables.AttributeNamespace.{AttributeNamespace}
 use Rattle.rox_tables.specs.declared.rows.tables.AttributeNamespace.TheVariants as space
@@ -16,23 +17,28 @@ use Rattle.rox_tables.specs.declared.rows.attributes.AttributeTable.{AttributeTa
 use Rattle.rox_tables.specs.declared.rows.tables.NodeKind.{NodeKind}
 use Rattle.rox_tables.specs.declared.rows.tables.NodeKind.TheVariants as kind
 use Rattle.rox_tables.specs.declared.rows.tables.NodeData.{NodeData}
+use Rattle.rox_tables.specs.StoredNodes.{whole_rows}
+use Rattle.rox_tables.specs.declared.rows.node_table.NodeTable.{NodeTable}
 use Rattle.rox_tables.specs.declared.rows.tables.Scope.{Scope}
 use Rattle.rox_tables.specs.declared.rows.tables.Scope.TheVariants as scope
 use Rattle.rox_tables.specs.declared.rows.tables.Tables.{Tables}
+
+-- the rows of the nodes
+abbrev pub node_rows : NodeTable → List NodeData
+node_rows t = whole_rows t.instructions.items t.high.items t.rows.items
 
 -- one row: where its node stands, and the node
 pub record RowView : Type 0 where
   pub parent : ℕ
   pub subtree_end : ℕ
-  pub depth : ℕ
   pub node : Node
 
--- the rows of siblings and of what is below them, in preorder: under parent, at this depth, the first of them at this place
-abbrev pub preorder_rows : ℕ → ℕ → ℕ → Forest Node → List RowView
-preorder_rows parent depth at Nil = []
-preorder_rows parent depth at (Cons node children rest) =
-    record { parent = parent; subtree_end = at + 1 + size children; depth = depth; node = node }
-    ∷ (preorder_rows at (depth + 1) (at + 1) children ++ preorder_rows parent depth (at + 1 + size children) rest)
+-- the rows of siblings and of what is below them, in preorder: under parent, the first of them at this place
+abbrev pub preorder_rows : ℕ → ℕ → Forest Node → List RowView
+preorder_rows parent at Nil = []
+preorder_rows parent at (Cons node children rest) =
+    record { parent = parent; subtree_end = at + 1 + size children; node = node }
+    ∷ (preorder_rows at (at + 1) children ++ preorder_rows parent (at + 1 + size children) rest)
 
 abbrev pub namespace_view : Namespace → NamespaceDecl
 namespace_view n = record { prefix = option_map (λ p. p.now) n.name; uri = storage_bytes n.uri }
@@ -53,7 +59,7 @@ abbrev pub AttributeRow : Type 0
 AttributeRow = AttributeData × AttributePlaces
 
 abbrev pub attribute_rows : AttributeTable → List AttributeRow
-attribute_rows t = zip t.items.items t.places.items
+attribute_rows t = map (row_in t.unusual.items) t.items.items
 
 abbrev pub attribute : List NamespaceDecl → AttributeRow → tree.Attribute
 attribute namespaces a = record {
@@ -109,13 +115,12 @@ node attributes namespaces lists start end (kind.PI pi) = tree.PI start end pi.t
 
 abbrev pub row_view : List AttributeRow → List NamespaceDecl → List (List NamespaceDecl) → NodeData → RowView
 row_view attributes namespaces lists row =
-    record { parent = row.parent; subtree_end = row.subtree_end; depth = row.depth; node = node attributes namespaces lists row.start row.end row.kind }
+    record { parent = row.parent; subtree_end = row.subtree_end; node = node attributes namespaces lists row.start row.end row.kind }
 
 -- the namespaces that an attribute's or an element's row names are in the table
 abbrev pub NamespaceWithin : ℕ → AttributeNamespace → Type 0
-NamespaceWithin n space.None = Unit {0}
-NamespaceWithin n space.Xml = Unit {0}
 NamespaceWithin n (space.Listed i) = i < n
+NamespaceWithin n other = Unit {0}
 
 abbrev pub OptionWithin : ℕ → Option ℕ → Type 0
 OptionWithin n None = Unit {0}
@@ -123,12 +128,10 @@ OptionWithin n (Some i) = i < n
 
 -- what a row names is in the tables, of these lengths, and a comment is a slice of the input
 abbrev pub KindWithin : (attributes namespaces scopes : ℕ) → NodeKind → Type 0
-KindWithin attributes namespaces scopes kind.Root = Unit {0}
 KindWithin attributes namespaces scopes (kind.Element e) =
     (e.attributes_from ≤ e.attributes_until) × (e.attributes_until ≤ attributes) × (e.scope < scopes) × OptionWithin namespaces e.namespace
-KindWithin attributes namespaces scopes (kind.Text value) = Unit {0}
 KindWithin attributes namespaces scopes (kind.Comment text) = is_borrowed text ≡ true
-KindWithin attributes namespaces scopes (kind.PI pi) = Unit {0}
+KindWithin attributes namespaces scopes other = Unit {0}
 
 -- how many a row lists
 abbrev pub count_of : Scope → ℕ
@@ -163,7 +166,7 @@ pub record AreScopes (listed : ℕ) (scopes : List Scope) : Type 0 where
 
 -- each row names only what the tables have
 pub record Sound (t : Tables) : Type 0 where
-  pub nodes : AllByRecursion (λ row. KindWithin (length (attribute_rows t.attributes)) (length t.namespaces.items) (length t.scopes.items) row.kind) t.nodes.items
+  pub nodes : AllByRecursion (λ row. KindWithin (length (attribute_rows t.attributes)) (length t.namespaces.items) (length t.scopes.items) row.kind) (node_rows t.nodes)
   pub attributes : AllByRecursion (λ a. NamespaceWithin (length t.namespaces.items) a.0.namespace) (attribute_rows t.attributes)
   pub listed : AllByRecursion (λ i. i < length t.namespaces.items) t.listed.items
   pub scopes : AreScopes (length t.listed.items) t.scopes.items
@@ -175,10 +178,10 @@ abbrev pub scopes_of : Tables → List (List NamespaceDecl)
 scopes_of t = lists_of (names_of t) t.listed.items t.scopes.items
 
 abbrev pub row_views : Tables → List RowView
-row_views t = map (row_view (attribute_rows t.attributes) (names_of t) (scopes_of t)) t.nodes.items
+row_views t = map (row_view (attribute_rows t.attributes) (names_of t) (scopes_of t)) (node_rows t.nodes)
 
 -- the tables are those of the tree
 pub record HoldsTree (t : Tables) (tree : Forest Node) : Type 0 where
-  pub rows : row_views t ≡ preorder_rows 0 0 0 tree
+  pub rows : row_views t ≡ preorder_rows 0 0 tree
   pub sound : Sound t
-  pub few : length t.nodes.items < 2 ^ 32
+  pub few : length (node_rows t.nodes) < 2 ^ 32

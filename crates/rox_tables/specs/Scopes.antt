@@ -4,8 +4,7 @@ use Rattle.std.specs.Option.{option_map}
 use Rattle.std.specs.Borrow.{Bor}
 use Rattle.std.specs.List.{AllByRecursion}
 use Rattle.rox_grammar.specs.Written.{NamespaceDecl}
-use Rattle.rox_grammar.specs.Tree.{same_prefix, is_declared}
-use Rattle.rox_grammar.specs.WellNamed.{is_xml}
+use Rattle.rox_grammar.specs.Tree.{same_prefix, is_declared, is_xml}
 use Rattle.rox_tables.specs.Rows.{namespace_at, listed_at, places_of}
 use Rattle.rox_tables.specs.declared.rows.tables.Scope.{Scope}
 use Rattle.rox_tables.specs.declared.rows.tables.Scope.TheVariants as scope

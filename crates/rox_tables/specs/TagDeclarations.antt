@@ -3,9 +3,9 @@ use Rattle.std.specs.Prelude.{◌≡◌, ℕ, ◌≤◌, Bool, List, ◌++◌, l
 use Rattle.std.specs.List.{list_any}
 use Rattle.rox_grammar.specs.declared.failure.Failure.{Failure}
 use Rattle.rox_grammar.specs.declared.fault.Fault.{Fault}
-use Rattle.rox_grammar.specs.Document.{listable_of, with_new, most_pairs}
+use Rattle.rox_grammar.specs.Document.{with_new, most_pairs}
 use Rattle.rox_grammar.specs.Failures.{Fails, name_view}
-use Rattle.rox_grammar.specs.WellNamed.{is_xml}
+use Rattle.rox_grammar.specs.Tree.{is_xml, listable_of}
 use Rattle.rox_grammar.specs.Written.{Attribute, NamespaceDecl}
 use Rattle.rox_reading.specs.Tags.{TagSoFar}
 use Rattle.rox_tables.specs.Scopes.{entries, ArePlaces}

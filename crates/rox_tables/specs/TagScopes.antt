@@ -1,5 +1,5 @@
 -- The scope of an element, in the tables.
-use Rattle.std.specs.Prelude.{◌≡◌, ℕ, ◌<◌, Bool, false, List, ◌++◌, length, map, drop}
+use Rattle.std.specs.Prelude.{◌≡◌, ℕ, ◌<◌, ◌≤◌, Bool, false, List, ◌++◌, length, map, drop}
 use Rattle.rox_grammar.specs.Written.{NamespaceDecl}
 use Rattle.rox_tables.specs.Rows.{namespace_view, lists_of, scope_at, AreScopes}
 use Rattle.rox_tables.specs.Bindings.{AreBindingsOf, IsBound, bound_place}
@@ -18,9 +18,21 @@ HasBindings t = AreBindingsOf (map namespace_view t.namespaces.items.items) (lis
 unfoldable pub HasBindingsOf : ElementTables → ℕ → Type 0
 HasBindingsOf t scope = is_few_at t.scopes.items scope ≡ false → IsBound (map namespace_view t.namespaces.items.items) (bound_place t.present) (scope_at (lists_in t) scope)
 
+-- A start tag is read below an element of the scope `above`: what it declares is listed from `own` on, each prefix once.
+pub record HasOpenTag (t : ElementTables) (above own : ℕ) : Type 0 where
+  pub places : ArePlaces (length t.namespaces.items.items) t.listed.items
+  pub own_within : own ≤ length t.listed.items
+  pub scopes : AreScopes own t.scopes.items
+  pub above_within : above < length t.scopes.items
+  pub once : PrefixesOnce (scope_at (lists_in t) above)
+  pub own_once : PrefixesOnce (entries (map namespace_view t.namespaces.items.items) (drop own t.listed.items))
+  pub kept : HasBindings t
+
 -- The scope at this place is that of an element below one of the scope `above`, whose own declarations are those listed from `own`
 -- on, and `xml` if the flag says so.
 pub record HasScope (old new : ElementTables) (above own : ℕ) (xml : Bool) (scope : ℕ) : Type 0 where
+  pub namespaces : new.namespaces ≡ old.namespaces
+  pub attributes : new.attributes ≡ old.attributes
   pub more : List (List NamespaceDecl)
   pub lists_more : lists_in new ≡ lists_in old ++ more
   pub places : ArePlaces (length new.namespaces.items.items) new.listed.items

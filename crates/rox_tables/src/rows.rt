@@ -2,7 +2,9 @@
 
 pub mod attributes;
 pub mod growth;
-pub mod node_rows;
+pub mod node_table;
 pub mod recent_texts;
 pub mod storage;
+pub mod stored_attribute;
+pub mod stored_node;
 pub mod tables;

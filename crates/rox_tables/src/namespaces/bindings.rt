@@ -1,7 +1,7 @@
 //! The place that each prefix stands for, where an element lists many namespaces: a map of those of the innermost scope, and
 //! what they stood for around it, which is taken back when a scope around it is asked for.
 
-ghost use Rattle.std.specs.Prelude.{◌≡◌, ◌<◌, ◌≤◌, ◌+◌, ◌-◌, ◌++◌, ◌⊎◌, ℕ, List, Option, Some, None, Bool, true, length, map, take, reverse, slice_index, slice_range, OnOk, IfErr, if◌then◌else◌};
+ghost use Rattle.std.specs.Prelude.{◌≡◌, ◌<◌, ◌≤◌, ◌+◌, ◌-◌, ◌++◌, ◌⊎◌, ℕ, List, Option, Some, None, Bool, true, length, map, take, reverse, slice_index, slice_range, OnOk, if◌then◌else◌};
 ghost use Rattle.rox_grammar.specs.Tree.{same_prefix};
 ghost use Rattle.rox_grammar.specs.Written.{NamespaceDecl};
 ghost use Rattle.rox_tables.specs.Rows.{namespace_view, namespace_at, lists_of, scope_at, AreScopes};
@@ -10,8 +10,7 @@ ghost use Rattle.rox_tables.specs.Scopes.{prefix_view, entries, places_in, ArePl
 use crate::namespaces::rope::{count, position_at};
 use crate::rows::growth::push;
 use crate::rows::tables::{Namespace, Scope};
-use rox_grammar::failure::Failure;
-use std::alloc::Global;
+use std::alloc::{AllocError, Global};
 use std::collections::BTreeMap;
 
 /// What a prefix, or the default, stands for: a place in the table of namespaces, and where it stood among the listed places
@@ -51,13 +50,14 @@ pub struct PrefixBindings<'input> {
 
 impl<'input> PrefixBindings<'input> {
     ghost use Rattle.std.specs.Prelude.{◌∷◌, [], ◌&&◌, not, filter};
-    ghost use Rattle.rox_grammar.specs.WellNamed.{is_xml};
+    ghost use Rattle.rox_grammar.specs.Tree.{is_xml};
     ghost use Rattle.rox_tables.specs.Bindings.{bound_place, place_in, AreBindingsOf, IsBound, IsEntered, is_innermost};
     ghost use Rattle.rox_tables.specs.declared.namespaces.bindings.ScopeFrame.{ScopeFrame};
 
     /// Of no scope.
     pub fn new(alloc: Global) -> PrefixBindings<'input>
-        ensures { (namespaces : List NamespaceDecl) (lists : List (List NamespaceDecl)) → AreBindingsOf namespaces lists result }
+        ensures { (namespaces : List NamespaceDecl) (lists : List (List NamespaceDecl))
+            → AreBindingsOf namespaces lists result }
     {
         PrefixBindings {
             default: None,
@@ -82,11 +82,12 @@ impl<'input> PrefixBindings<'input> {
     }
 
     /// Gives a prefix, or the default, this place. The only error is want of memory.
-    fn set(&mut self, prefix: Option<&'input str>, place: Option<Binding>) -> Result<(), Failure>
-        ensures present { OnOk result ((p : Option (List ℕ)) → place_in self.new p ≡ (if same_prefix (prefix_view prefix.entry) p then place else place_in self.old p)) }
+    fn set(&mut self, prefix: Option<&'input str>, place: Option<Binding>) -> Result<(), AllocError>
+        ensures present { OnOk result ((p : Option (List ℕ))
+            → place_in self.new p ≡ (if same_prefix (prefix_view prefix.entry) p then place
+            else place_in self.old p)) }
         ensures replaced { self.new.replaced ≡ self.old.replaced }
         ensures layers { self.new.layers ≡ self.old.layers }
-        ensures err { IfErr result (λ e. e ≡ Failure.Memory) }
     {
         match prefix {
             None => {
@@ -95,17 +96,20 @@ impl<'input> PrefixBindings<'input> {
             }
             Some(prefix) => match self.prefixes.insert(prefix, place) {
                 Ok(_) => Ok(()),
-                Err(_) => Err(Failure::Memory),
+                Err(_) => Err(AllocError),
             },
         }
     }
 
     /// The same, so that it can be taken back.
-    fn put(&mut self, prefix: Option<&'input str>, place: Option<Binding>) -> Result<(), Failure>
-        ensures present { OnOk result ((p : Option (List ℕ)) → place_in self.new p ≡ (if same_prefix (prefix_view prefix.entry) p then place else place_in self.old p)) }
-        ensures keeps { OnOk result ((namespaces : List NamespaceDecl) (lists : List (List NamespaceDecl)) → AreBindingsOf namespaces lists self.old → AreBindingsOf namespaces lists self.new) }
+    fn put(&mut self, prefix: Option<&'input str>, place: Option<Binding>) -> Result<(), AllocError>
+        ensures present { OnOk result ((p : Option (List ℕ))
+            → place_in self.new p ≡ (if same_prefix (prefix_view prefix.entry) p then place
+            else place_in self.old p)) }
+        ensures keeps { OnOk result
+            ((namespaces : List NamespaceDecl) (lists : List (List NamespaceDecl))
+            → AreBindingsOf namespaces lists self.old → AreBindingsOf namespaces lists self.new) }
         ensures layers { self.new.layers ≡ self.old.layers }
-        ensures err { IfErr result (λ e. e ≡ Failure.Memory) }
     {
         let before = self.get(prefix);
         push(&mut self.replaced, ShadowedBinding { prefix, before })?;
@@ -114,13 +118,16 @@ impl<'input> PrefixBindings<'input> {
     }
 
     /// Takes back what was replaced last, if it was behind so many. The innermost scope has so many before it.
-    fn take_back(&mut self, count: usize) -> Result<(), Failure>
-        ensures back { OnOk result (count < length self.old.replaced.items → length self.new.replaced.items + 1 ≡ length self.old.replaced.items) }
+    fn take_back(&mut self, count: usize) -> Result<(), AllocError>
+        ensures back { OnOk result (count < length self.old.replaced.items
+            → length self.new.replaced.items + 1 ≡ length self.old.replaced.items) }
         ensures same { length self.old.replaced.items ≤ count → self.new ≡ self.old }
-        ensures keeps { OnOk result ((namespaces : List NamespaceDecl) (lists : List (List NamespaceDecl)) (ls : List ScopeFrame) (l : ScopeFrame) → self.old.layers.items ≡ ls ++ l ∷ [] → l.count ≡ count
+        ensures keeps { OnOk result
+            ((namespaces : List NamespaceDecl) (lists : List (List NamespaceDecl))
+            (ls : List ScopeFrame) (l : ScopeFrame) → self.old.layers.items ≡ ls ++ l ∷ []
+            → l.count ≡ count
             → AreBindingsOf namespaces lists self.old → AreBindingsOf namespaces lists self.new) }
         ensures layers { self.new.layers ≡ self.old.layers }
-        ensures err { IfErr result (λ e. e ≡ Failure.Memory) }
     {
         if self.replaced.len() <= count {
             return Ok(());
@@ -132,11 +139,15 @@ impl<'input> PrefixBindings<'input> {
     }
 
     /// Leaves the innermost scope.
-    fn leave(&mut self) -> Result<(), Failure>
-        ensures layers { OnOk result (self.new.layers.items ≡ take (length self.old.layers.items - 1) self.old.layers.items) }
-        ensures back { OnOk result ((ls : List ScopeFrame) (l : ScopeFrame) → self.new.layers.items ≡ ls ++ l ∷ [] → l.count ≤ length self.old.replaced.items → length self.new.replaced.items ≡ l.count) }
-        ensures keeps { OnOk result ((namespaces : List NamespaceDecl) (lists : List (List NamespaceDecl)) → AreBindingsOf namespaces lists self.old → AreBindingsOf namespaces lists self.new) }
-        ensures err { IfErr result (λ e. e ≡ Failure.Memory) }
+    fn leave(&mut self) -> Result<(), AllocError>
+        ensures layers { OnOk result (self.new.layers.items
+            ≡ take (length self.old.layers.items - 1) self.old.layers.items) }
+        ensures back { OnOk result ((ls : List ScopeFrame) (l : ScopeFrame)
+            → self.new.layers.items ≡ ls ++ l ∷ [] → l.count ≤ length self.old.replaced.items
+            → length self.new.replaced.items ≡ l.count) }
+        ensures keeps { OnOk result
+            ((namespaces : List NamespaceDecl) (lists : List (List NamespaceDecl))
+            → AreBindingsOf namespaces lists self.old → AreBindingsOf namespaces lists self.new) }
     {
         let _ = self.layers.pop();
         let Some(around) = self.layers.last() else {
@@ -150,11 +161,16 @@ impl<'input> PrefixBindings<'input> {
     }
 
     /// Leaves scopes until the innermost is this one, or there is none.
-    fn leave_inner(&mut self, scope: u32) -> Result<(), Failure>
-        ensures innermost { OnOk result ((self.new.layers.items ≡ []) ⊎ (is_innermost self.new.layers.items (length self.new.replaced.items) scope ≡ true)) }
-        ensures same { is_innermost self.old.layers.items (length self.old.replaced.items) scope ≡ true → self.new ≡ self.old }
-        ensures keeps { OnOk result ((namespaces : List NamespaceDecl) (lists : List (List NamespaceDecl)) → AreBindingsOf namespaces lists self.old → AreBindingsOf namespaces lists self.new) }
-        ensures err { IfErr result (λ e. e ≡ Failure.Memory) }
+    fn leave_inner(&mut self, scope: u32) -> Result<(), AllocError>
+        ensures innermost { OnOk result
+            ((self.new.layers.items
+            ≡ []) ⊎ (is_innermost self.new.layers.items (length self.new.replaced.items) scope
+            ≡ true)) }
+        ensures same { is_innermost self.old.layers.items (length self.old.replaced.items) scope
+            ≡ true → self.new ≡ self.old }
+        ensures keeps { OnOk result
+            ((namespaces : List NamespaceDecl) (lists : List (List NamespaceDecl))
+            → AreBindingsOf namespaces lists self.old → AreBindingsOf namespaces lists self.new) }
     {
         for _turn in 0..self.layers.len() {
             if self.is_in(scope) {
@@ -167,8 +183,12 @@ impl<'input> PrefixBindings<'input> {
 
     /// Whether this is the innermost scope.
     fn is_in(&self, scope: u32) -> bool
-        ensures value { result ≡ is_innermost self.now.layers.items (length self.now.replaced.items) scope }
-        ensures bound { result ≡ true → (namespaces : List NamespaceDecl) (lists : List (List NamespaceDecl)) → AreBindingsOf namespaces lists self.now → IsBound namespaces (bound_place self.now) (scope_at lists scope) }
+        ensures value { result
+            ≡ is_innermost self.now.layers.items (length self.now.replaced.items) scope }
+        ensures bound { result ≡ true
+            → (namespaces : List NamespaceDecl) (lists : List (List NamespaceDecl))
+            → AreBindingsOf namespaces lists self.now
+            → IsBound namespaces (bound_place self.now) (scope_at lists scope) }
     {
         match self.layers.last() {
             Some(layer) => layer.count == self.replaced.len() && layer.scope == scope,
@@ -177,11 +197,15 @@ impl<'input> PrefixBindings<'input> {
     }
 
     /// Hides `xml`, if the flag says so.
-    fn hide_xml(&mut self, xml: bool) -> Result<(), Failure>
-        ensures bound { OnOk result ((namespaces ds : List NamespaceDecl) → IsBound namespaces (bound_place self.old) ds → IsBound namespaces (bound_place self.new) (filter (λ d. not (xml && is_xml d.prefix)) ds)) }
-        ensures keeps { OnOk result ((namespaces : List NamespaceDecl) (lists : List (List NamespaceDecl)) → AreBindingsOf namespaces lists self.old → AreBindingsOf namespaces lists self.new) }
+    fn hide_xml(&mut self, xml: bool) -> Result<(), AllocError>
+        ensures bound { OnOk result ((namespaces ds : List NamespaceDecl)
+            → IsBound namespaces (bound_place self.old) ds
+            → IsBound namespaces (bound_place self.new) (filter
+            (λ d. not (xml && is_xml d.prefix)) ds)) }
+        ensures keeps { OnOk result
+            ((namespaces : List NamespaceDecl) (lists : List (List NamespaceDecl))
+            → AreBindingsOf namespaces lists self.old → AreBindingsOf namespaces lists self.new) }
         ensures layers { self.new.layers ≡ self.old.layers }
-        ensures err { IfErr result (λ e. e ≡ Failure.Memory) }
     {
         if !xml {
             return Ok(());
@@ -196,14 +220,18 @@ impl<'input> PrefixBindings<'input> {
         namespaces: &[Namespace<'input>],
         listed: &[u16],
         position: usize,
-    ) -> Result<(), Failure>
+    ) -> Result<(), AllocError>
         requires places { ArePlaces (length namespaces.now) listed.now }
         requires within { position < length listed.now }
-        ensures bound { OnOk result ((ds : List NamespaceDecl) → IsBound (map namespace_view namespaces.now) (bound_place self.old) ds
-            → IsBound (map namespace_view namespaces.now) (bound_place self.new) (namespace_at (map namespace_view namespaces.now) (slice_index listed.now position) ∷ ds)) }
-        ensures keeps { OnOk result ((namespaces : List NamespaceDecl) (lists : List (List NamespaceDecl)) → AreBindingsOf namespaces lists self.old → AreBindingsOf namespaces lists self.new) }
+        ensures bound { OnOk result ((ds : List NamespaceDecl)
+            → IsBound (map namespace_view namespaces.now) (bound_place self.old) ds
+            → IsBound (map namespace_view namespaces.now) (bound_place self.new)
+            (namespace_at (map namespace_view namespaces.now) (slice_index listed.now position)
+            ∷ ds)) }
+        ensures keeps { OnOk result
+            ((namespaces : List NamespaceDecl) (lists : List (List NamespaceDecl))
+            → AreBindingsOf namespaces lists self.old → AreBindingsOf namespaces lists self.new) }
         ensures layers { self.new.layers ≡ self.old.layers }
-        ensures err { IfErr result (λ e. e ≡ Failure.Memory) }
     {
         let namespace = listed[position];
         let place = Binding {
@@ -221,14 +249,18 @@ impl<'input> PrefixBindings<'input> {
         listed: &[u16],
         from: usize,
         until: usize,
-    ) -> Result<(), Failure>
+    ) -> Result<(), AllocError>
         requires places { ArePlaces (length namespaces.now) listed.now }
         requires stretch { (from ≤ until) × (until ≤ length listed.now) }
-        ensures bound { OnOk result ((ds : List NamespaceDecl) → IsBound (map namespace_view namespaces.now) (bound_place self.old) ds
-            → IsBound (map namespace_view namespaces.now) (bound_place self.new) (entries (map namespace_view namespaces.now) (reverse (slice_range listed.now from until)) ++ ds)) }
-        ensures keeps { OnOk result ((namespaces : List NamespaceDecl) (lists : List (List NamespaceDecl)) → AreBindingsOf namespaces lists self.old → AreBindingsOf namespaces lists self.new) }
+        ensures bound { OnOk result ((ds : List NamespaceDecl)
+            → IsBound (map namespace_view namespaces.now) (bound_place self.old) ds
+            → IsBound (map namespace_view namespaces.now) (bound_place self.new)
+            (entries (map namespace_view namespaces.now)
+            (reverse (slice_range listed.now from until)) ++ ds)) }
+        ensures keeps { OnOk result
+            ((namespaces : List NamespaceDecl) (lists : List (List NamespaceDecl))
+            → AreBindingsOf namespaces lists self.old → AreBindingsOf namespaces lists self.new) }
         ensures layers { self.new.layers ≡ self.old.layers }
-        ensures err { IfErr result (λ e. e ≡ Failure.Memory) }
     {
         for position in from..until {
             self.bind(namespaces, listed, position)?;
@@ -243,15 +275,18 @@ impl<'input> PrefixBindings<'input> {
         listed: &[u16],
         scopes: &[Scope],
         scope: u32,
-    ) -> Result<(), Failure>
+    ) -> Result<(), AllocError>
         requires places { ArePlaces (length namespaces.now) listed.now }
         requires scopes { AreScopes (length listed.now) scopes.now }
         requires within { scope < length scopes.now }
-        ensures bound { OnOk result (IsBound (map namespace_view namespaces.now) (bound_place self.old) []
-            → IsBound (map namespace_view namespaces.now) (bound_place self.new) (entries (map namespace_view namespaces.now) (places_in listed.now scopes.now scope))) }
-        ensures keeps { OnOk result ((namespaces : List NamespaceDecl) (lists : List (List NamespaceDecl)) → AreBindingsOf namespaces lists self.old → AreBindingsOf namespaces lists self.new) }
+        ensures bound { OnOk result (IsBound (map namespace_view namespaces.now)
+            (bound_place self.old) []
+            → IsBound (map namespace_view namespaces.now) (bound_place self.new)
+            (entries (map namespace_view namespaces.now) (places_in listed.now scopes.now scope))) }
+        ensures keeps { OnOk result
+            ((namespaces : List NamespaceDecl) (lists : List (List NamespaceDecl))
+            → AreBindingsOf namespaces lists self.old → AreBindingsOf namespaces lists self.new) }
         ensures layers { self.new.layers ≡ self.old.layers }
-        ensures err { IfErr result (λ e. e ≡ Failure.Memory) }
     {
         let count = count(scopes, scope);
         for turn in 0..count {
@@ -263,8 +298,10 @@ impl<'input> PrefixBindings<'input> {
 
     /// Leaves all scopes.
     fn clear(&mut self)
-        ensures bound { (namespaces : List NamespaceDecl) → IsBound namespaces (bound_place self.new) [] }
-        ensures keeps { (namespaces : List NamespaceDecl) (lists : List (List NamespaceDecl)) → AreBindingsOf namespaces lists self.new }
+        ensures bound { (namespaces : List NamespaceDecl)
+            → IsBound namespaces (bound_place self.new) [] }
+        ensures keeps { (namespaces : List NamespaceDecl) (lists : List (List NamespaceDecl))
+            → AreBindingsOf namespaces lists self.new }
     {
         self.default = None;
         self.prefixes.clear();
@@ -280,15 +317,18 @@ impl<'input> PrefixBindings<'input> {
         listed: &[u16],
         scopes: &[Scope],
         scope: u32,
-    ) -> Result<(), Failure>
+    ) -> Result<(), AllocError>
         requires places { ArePlaces (length namespaces.now) listed.now }
         requires scopes { AreScopes (length listed.now) scopes.now }
         requires within { scope < length scopes.now }
-        ensures value { OnOk result (AreBindingsOf (map namespace_view namespaces.now) (lists_of (map namespace_view namespaces.now) listed.now scopes.now) self.old
-            → AreBindingsOf (map namespace_view namespaces.now) (lists_of (map namespace_view namespaces.now) listed.now scopes.now) self.new
-            × IsBound (map namespace_view namespaces.now) (bound_place self.new) (scope_at (lists_of (map namespace_view namespaces.now) listed.now scopes.now) scope)) }
-        ensures same { is_innermost self.old.layers.items (length self.old.replaced.items) scope ≡ true → self.new ≡ self.old }
-        ensures err { IfErr result (λ e. e ≡ Failure.Memory) }
+        ensures value { OnOk result (AreBindingsOf (map namespace_view namespaces.now)
+            (lists_of (map namespace_view namespaces.now) listed.now scopes.now) self.old
+            → AreBindingsOf (map namespace_view namespaces.now)
+            (lists_of (map namespace_view namespaces.now) listed.now scopes.now) self.new
+            × IsBound (map namespace_view namespaces.now) (bound_place self.new)
+            (scope_at (lists_of (map namespace_view namespaces.now) listed.now scopes.now) scope)) }
+        ensures same { is_innermost self.old.layers.items (length self.old.replaced.items) scope
+            ≡ true → self.new ≡ self.old }
     {
         self.leave_inner(scope)?;
         if self.is_in(scope) {
@@ -301,26 +341,29 @@ impl<'input> PrefixBindings<'input> {
         Ok(())
     }
 
-    /// Enters a scope below the innermost one: that of an element which declares what is listed from `from` up to `until`, from
-    /// its back, and `xml` if the flag says so. The only error is want of memory.
+    /// Enters a scope below the innermost one: that of an element which declares what is listed from `from` on, from its
+    /// back, and `xml` if the flag says so. The only error is want of memory.
     pub fn enter(
         &mut self,
         namespaces: &[Namespace<'input>],
         listed: &[u16],
         from: usize,
-        until: usize,
         xml: bool,
         scope: u32,
-    ) -> Result<(), Failure>
+    ) -> Result<(), AllocError>
         requires places { ArePlaces (length namespaces.now) listed.now }
-        requires stretch { (from ≤ until) × (until ≤ length listed.now) }
-        ensures value { OnOk result ((lists : List (List NamespaceDecl)) (above : List NamespaceDecl) → AreBindingsOf (map namespace_view namespaces.now) lists self.old → IsBound (map namespace_view namespaces.now) (bound_place self.old) above
-            → IsEntered (entries (map namespace_view namespaces.now) (reverse (slice_range listed.now from until))) xml above lists scope
-            → AreBindingsOf (map namespace_view namespaces.now) lists self.new × IsBound (map namespace_view namespaces.now) (bound_place self.new) (scope_at lists scope)) }
-        ensures err { IfErr result (λ e. e ≡ Failure.Memory) }
+        requires stretch { from ≤ length listed.now }
+        ensures { OnOk result ((lists : List (List NamespaceDecl)) (above : List NamespaceDecl)
+            → AreBindingsOf (map namespace_view namespaces.now) lists self.old
+            → IsBound (map namespace_view namespaces.now) (bound_place self.old) above
+            → IsEntered (entries (map namespace_view namespaces.now)
+            (reverse (slice_range listed.now from (length listed.now)))) xml above lists scope
+            → AreBindingsOf (map namespace_view namespaces.now) lists self.new
+            × IsBound (map namespace_view namespaces.now) (bound_place self.new)
+            (scope_at lists scope)) }
     {
         self.hide_xml(xml)?;
-        self.add(namespaces, listed, from, until)?;
+        self.add(namespaces, listed, from, listed.len())?;
         let count = self.replaced.len();
         push(&mut self.layers, ScopeFrame { scope, count })?;
         Ok(())

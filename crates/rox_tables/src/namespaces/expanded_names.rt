@@ -1,10 +1,10 @@
 //! The expanded names of the attributes of a tag that has many.
 
-ghost use Rattle.std.specs.Prelude.{◌≡◌, ℕ, List, Option, IfOk, IfErr, false, ◌||◌};
+ghost use Rattle.std.specs.Prelude.{◌≡◌, ℕ, List, Option, IfOk, false, ◌||◌};
 ghost use Rattle.rox_tables.specs.Scopes.{prefix_view};
 ghost use Rattle.rox_tables.specs.ExpandedNames.{has_key, is_key};
 
-use rox_grammar::failure::Failure;
+use std::alloc::AllocError;
 use std::collections::BTreeSet;
 
 /// Whether the name is among these. If not, it is put there. The only error is want of memory.
@@ -12,13 +12,15 @@ pub fn is_repeated_name<'a>(
     seen: &mut BTreeSet<(&'a str, Option<&'a str>)>,
     local: &'a str,
     uri: Option<&'a str>,
-) -> Result<bool, Failure>
-    ensures value { IfOk result (λ again. again ≡ has_key local.entry.now (prefix_view uri.entry) seen.old.keys) }
-    ensures more { IfOk result (λ again. again ≡ false → (l : List ℕ) (u : Option (List ℕ)) → has_key l u seen.new.keys ≡ (has_key l u seen.old.keys || is_key l u (local.entry, uri.entry))) }
-    ensures err { IfErr result (λ e. e ≡ Failure.Memory) }
+) -> Result<bool, AllocError>
+    ensures value { IfOk result
+        (λ again. again ≡ has_key local.entry.now (prefix_view uri.entry) seen.old.keys) }
+    ensures more { IfOk result (λ again. again ≡ false → (l : List ℕ) (u : Option (List ℕ))
+        → has_key l u seen.new.keys
+        ≡ (has_key l u seen.old.keys || is_key l u (local.entry, uri.entry))) }
 {
     match seen.insert((local, uri)) {
         Ok(added) => Ok(!added),
-        Err(_) => Err(Failure::Memory),
+        Err(_) => Err(AllocError),
     }
 }

@@ -3,7 +3,7 @@
 ghost use Rattle.std.specs.Prelude.{◌≡◌, ◌<◌, ◌≤◌, ◌+◌, ◌-◌, ◌^◌, List, ℕ, false, length, map, drop, Ok, Err, OnOk};
 ghost use Rattle.rox_grammar.specs.declared.fault.Span.{Span as SpecSpan};
 ghost use Rattle.rox_grammar.specs.Written.{Attribute, NamespaceDecl, Name, is_namespace_decl, local_span, prefix_span};
-ghost use Rattle.rox_grammar.specs.Document.{listable_of, most_pairs};
+ghost use Rattle.rox_grammar.specs.Document.{most_pairs};
 ghost use Rattle.rox_reading.specs.Tags as spec;
 ghost use Rattle.rox_grammar.specs.Failures.{name_view};
 ghost use Rattle.rox_tables.specs.Rows.{namespace_view, lists_of, AreScopes};
@@ -13,7 +13,7 @@ ghost use Rattle.rox_tables.specs.Bindings.{AreBindingsOf};
 ghost use Rattle.rox_tables.specs.declared.namespaces.bindings.PrefixBindings.{PrefixBindings};
 ghost use Rattle.rox_tables.specs.declared.rows.tables.Scope.{Scope};
 ghost use Rattle.rox_tables.specs.TagDeclarations.{unresolved_view, declares_xml, Declares, Declared};
-ghost use Rattle.rox_grammar.specs.Tree.{is_declared};
+ghost use Rattle.rox_grammar.specs.Tree.{is_declared, listable_of};
 ghost use Rattle.rox_reading.specs.Tags.{TagSoFar};
 
 use crate::compare::same_text;
@@ -60,7 +60,8 @@ pub fn is_namespace_decl(name: QName<'_>) -> bool
 
 /// What may not be declared with a prefix.
 fn test_prefix_uri(local: &str, uri: &str, at: usize) -> Result<(), Fault>
-    ensures { (a : Attribute) → a.name.local ≡ local.now → a.value ≡ uri.now → a.start ≡ at → result ≡ spec.prefix_tested a }
+    ensures { (a : Attribute) → a.name.local ≡ local.now → a.value ≡ uri.now → a.start ≡ at
+        → result ≡ spec.prefix_tested a }
 {
     if uri == XMLNS_URI {
         return Err(Fault::UnexpectedXmlnsUri(at));
@@ -133,10 +134,14 @@ fn is_again<'a>(
     prefix: Option<&'a str>,
 ) -> bool
     requires places { ArePlaces (length namespaces.now) own.now }
-    requires prefix_set { IsPrefixSet (map namespace_view namespaces.now) own.now prefix_set.now.keys }
-    ensures value { (ds : List NamespaceDecl) → xml ≡ declares_xml ds → entries (map namespace_view namespaces.now) own.now ≡ listable_of ds
+    requires prefix_set { IsPrefixSet
+        (map namespace_view namespaces.now) own.now prefix_set.now.keys }
+    ensures value { (ds : List NamespaceDecl) → xml ≡ declares_xml ds
+        → entries (map namespace_view namespaces.now) own.now ≡ listable_of ds
         → result ≡ is_declared (prefix_view prefix.entry) ds }
-    ensures absent { result ≡ false → is_declared (prefix_view prefix.entry) (entries (map namespace_view namespaces.now) own.now) ≡ false }
+    ensures absent { result ≡ false
+        → is_declared (prefix_view prefix.entry)
+        (entries (map namespace_view namespaces.now) own.now) ≡ false }
 {
     is_own(namespaces, own, prefix_set, xml, prefix)
 }
@@ -154,19 +159,30 @@ pub fn declare_namespace<'input>(
     requires places { ArePlaces (length namespaces.old.items.items) listed.old.items }
     requires own { own ≤ length listed.old.items }
     requires few { length namespaces.old.items.items ≤ most_pairs }
-    requires prefix_set { IsPrefixSet (map namespace_view namespaces.old.items.items) (drop own listed.old.items) prefix_set.old.keys }
-    requires once { PrefixesOnce (entries (map namespace_view namespaces.old.items.items) (drop own listed.old.items)) }
+    requires prefix_set { IsPrefixSet (map namespace_view namespaces.old.items.items)
+        (drop own listed.old.items) prefix_set.old.keys }
+    requires once { PrefixesOnce (entries (map namespace_view namespaces.old.items.items)
+        (drop own listed.old.items)) }
     ensures places { OnOk result (ArePlaces (length namespaces.new.items.items) listed.new.items) }
     ensures own { OnOk result (own ≤ length listed.new.items) }
     ensures few { OnOk result (length namespaces.new.items.items ≤ most_pairs) }
     ensures lists { OnOk result ((scopes : List Scope) → AreScopes own scopes
-        → lists_of (map namespace_view namespaces.new.items.items) listed.new.items scopes ≡ lists_of (map namespace_view namespaces.old.items.items) listed.old.items scopes) }
-    ensures grown { OnOk result ((lists : List (List NamespaceDecl)) (x : PrefixBindings) → AreBindingsOf (map namespace_view namespaces.old.items.items) lists x → AreBindingsOf (map namespace_view namespaces.new.items.items) lists x) }
-    ensures prefix_set { OnOk result (IsPrefixSet (map namespace_view namespaces.new.items.items) (drop own listed.new.items) prefix_set.new.keys) }
-    ensures once { OnOk result (PrefixesOnce (entries (map namespace_view namespaces.new.items.items) (drop own listed.new.items))) }
-    ensures value { (known : List NamespaceDecl) (before : List ℕ) (h : TagSoFar) → own ≡ length before
-        → Declares known before (map namespace_view namespaces.old.items.items) listed.old.items xml h.own
-        → Declared known before (map namespace_view namespaces.new.items.items) listed.new.items result h (spec.declared known (unresolved_view taken.entry) h) }
+        → lists_of (map namespace_view namespaces.new.items.items) listed.new.items scopes
+        ≡ lists_of (map namespace_view namespaces.old.items.items) listed.old.items scopes) }
+    ensures grown { OnOk result ((lists : List (List NamespaceDecl)) (x : PrefixBindings)
+        → AreBindingsOf (map namespace_view namespaces.old.items.items) lists x
+        → AreBindingsOf (map namespace_view namespaces.new.items.items) lists x) }
+    ensures prefix_set { OnOk result (IsPrefixSet (map namespace_view namespaces.new.items.items)
+        (drop own listed.new.items) prefix_set.new.keys) }
+    ensures once { OnOk result
+        (PrefixesOnce (entries (map namespace_view namespaces.new.items.items)
+        (drop own listed.new.items))) }
+    ensures value { (known : List NamespaceDecl) (before : List ℕ) (h : TagSoFar)
+        → own ≡ length before
+        → Declares known before (map namespace_view namespaces.old.items.items) listed.old.items xml
+        h.own
+        → Declared known before (map namespace_view namespaces.new.items.items) listed.new.items
+        result h (spec.declared known (unresolved_view taken.entry) h) }
 {
     taken.test_uri()?;
     let prefix = taken.declared_prefix();

@@ -1,7 +1,7 @@
 //! The table of the distinct pairs of a prefix, or the default, and a URI. A pair is looked for among the first few of them, one
 //! after another, and then in a map of the others, so that a text of few pairs makes no map.
 
-ghost use Rattle.std.specs.Prelude.{◌≡◌, ◌<◌, ◌≤◌, ◌∷◌, ◌++◌, [], length, map, true, false, IfSome, IfNone, IfOk, OnOk, IfErr, Err};
+ghost use Rattle.std.specs.Prelude.{◌≡◌, ◌<◌, ◌≤◌, ◌∷◌, ◌++◌, [], length, map, true, false, IfSome, IfNone, IfOk, OnOk, Err};
 ghost use Rattle.rox_grammar.specs.Written.{NamespaceDecl};
 ghost use Rattle.rox_grammar.specs.Document.{has_pair, with_new, most_pairs};
 ghost use Rattle.rox_grammar.specs.declared.fault.Fault.{Fault};
@@ -14,7 +14,7 @@ use crate::rows::storage::StringStorage;
 use crate::rows::tables::Namespace;
 use rox_grammar::failure::Failure;
 use rox_grammar::fault::Fault;
-use std::alloc::Global;
+use std::alloc::{AllocError, Global};
 use std::cmp::Ordering;
 use std::collections::BTreeMap;
 
@@ -134,7 +134,8 @@ impl<'input> NamespaceTable<'input> {
 
     /// The place of a pair behind the first few.
     fn find_behind(&self, key: &Key<'input>) -> Option<u16>
-        ensures { result ≡ place_behind (map namespace_view self.now.items.items) (namespace_view key.now.namespace) }
+        ensures { result ≡ place_behind (map namespace_view self.now.items.items)
+            (namespace_view key.now.namespace) }
     {
         match self.places.get(key) {
             Some(place) => Some(*place),
@@ -145,9 +146,12 @@ impl<'input> NamespaceTable<'input> {
     /// The place of a pair.
     fn find(&self, key: &Key<'input>) -> Option<u16>
         ensures there { IfSome result (λ i. (i < length self.now.items.items)
-            × (namespace_at (map namespace_view self.now.items.items) i ≡ namespace_view key.now.namespace)
-            × (has_pair (map namespace_view self.now.items.items) (namespace_view key.now.namespace) ≡ true)) }
-        ensures absent { IfNone result (has_pair (map namespace_view self.now.items.items) (namespace_view key.now.namespace) ≡ false) }
+            × (namespace_at (map namespace_view self.now.items.items) i
+            ≡ namespace_view key.now.namespace)
+            × (has_pair (map namespace_view self.now.items.items) (namespace_view key.now.namespace)
+            ≡ true)) }
+        ensures absent { IfNone result (has_pair (map namespace_view self.now.items.items)
+            (namespace_view key.now.namespace) ≡ false) }
     {
         let few = self.items.len().min(FEW);
         match place_in(&self.items[..few], &key.namespace) {
@@ -157,12 +161,13 @@ impl<'input> NamespaceTable<'input> {
     }
 
     /// Puts a new pair at the end of the table. The only error is want of memory.
-    fn add(&mut self, key: Key<'input>) -> Result<u16, Failure>
+    fn add(&mut self, key: Key<'input>) -> Result<u16, AllocError>
         requires few { length self.old.items.items < most_pairs }
-        requires absent { has_pair (map namespace_view self.old.items.items) (namespace_view key.namespace) ≡ false }
-        ensures items { OnOk result (map namespace_view self.new.items.items ≡ map namespace_view self.old.items.items ++ namespace_view key.entry.namespace ∷ []) }
+        requires absent { has_pair (map namespace_view self.old.items.items)
+            (namespace_view key.namespace) ≡ false }
+        ensures items { OnOk result (map namespace_view self.new.items.items
+            ≡ map namespace_view self.old.items.items ++ namespace_view key.entry.namespace ∷ []) }
         ensures place { IfOk result (λ i. i ≡ length self.old.items.items) }
-        ensures err { IfErr result (λ e. e ≡ Failure.Memory) }
     {
         let place = self.items.len() as u16;
         if self.items.len() < FEW {
@@ -173,7 +178,7 @@ impl<'input> NamespaceTable<'input> {
         self.items.push(namespace)?;
         if self.places.insert(key, place).is_err() {
             self.items.pop();
-            return Err(Failure::Memory);
+            return Err(AllocError);
         }
         Ok(place)
     }
@@ -185,11 +190,18 @@ impl<'input> NamespaceTable<'input> {
         uri: StringStorage<'input>,
     ) -> Result<u16, Failure>
         requires { length self.old.items.items ≤ most_pairs }
-        ensures there { IfOk result (λ i. (i < length self.new.items.items) × (namespace_at (map namespace_view self.new.items.items) i ≡ pair (prefix_view prefix.entry) (storage_bytes uri.entry))) }
-        ensures table { OnOk result (map namespace_view self.new.items.items ≡ with_new (map namespace_view self.old.items.items) (pair (prefix_view prefix.entry) (storage_bytes uri.entry) ∷ [])) }
+        ensures there { IfOk result (λ i. (i < length self.new.items.items)
+            × (namespace_at (map namespace_view self.new.items.items) i
+            ≡ pair (prefix_view prefix.entry) (storage_bytes uri.entry))) }
+        ensures table { OnOk result (map namespace_view self.new.items.items
+            ≡ with_new (map namespace_view self.old.items.items)
+            (pair (prefix_view prefix.entry) (storage_bytes uri.entry) ∷ [])) }
         ensures few { OnOk result (length self.new.items.items ≤ most_pairs) }
-        ensures fault { (f : Fault) → result ≡ Err (Failure.Fault f) → (f ≡ Fault.NamespacesLimitReached)
-            × (most_pairs < length (with_new (map namespace_view self.old.items.items) (pair (prefix_view prefix.entry) (storage_bytes uri.entry) ∷ []))) }
+        ensures fault { (f : Fault) → result ≡ Err (Failure.Fault f)
+            → (f ≡ Fault.NamespacesLimitReached)
+            × (most_pairs
+            < length (with_new (map namespace_view self.old.items.items)
+            (pair (prefix_view prefix.entry) (storage_bytes uri.entry) ∷ []))) }
     {
         let namespace = Namespace { name: prefix, uri };
         let key = Key { namespace };
@@ -199,6 +211,6 @@ impl<'input> NamespaceTable<'input> {
         if self.items.len() >= MOST_PAIRS {
             return Err(Failure::Fault(Fault::NamespacesLimitReached));
         }
-        self.add(key)
+        Ok(self.add(key)?)
     }
 }

@@ -1,13 +1,13 @@
 //! The prefixes that a tag declares, where it has many declarations.
 
-ghost use Rattle.std.specs.Prelude.{◌≡◌, ◌<◌, ◌++◌, ◌∷◌, ◌||◌, [], ℕ, List, Option, length, map, OnOk, IfErr};
+ghost use Rattle.std.specs.Prelude.{◌≡◌, ◌<◌, ◌++◌, ◌∷◌, ◌||◌, [], ℕ, List, Option, length, map, OnOk};
 ghost use Rattle.rox_grammar.specs.Tree.{same_prefix, is_declared};
 ghost use Rattle.rox_tables.specs.Rows.{namespace_view, namespace_at};
 ghost use Rattle.rox_tables.specs.Scopes.{prefix_view, entries, ArePlaces};
 ghost use Rattle.rox_tables.specs.PrefixSet.{has_prefix, IsPrefixSet};
 
 use crate::rows::tables::Namespace;
-use rox_grammar::failure::Failure;
+use std::alloc::AllocError;
 use std::collections::BTreeSet;
 
 /// Up to so many declarations of a tag are compared one with another.
@@ -21,13 +21,17 @@ pub fn has_prefix<'a>(prefixes: &BTreeSet<Option<&'a str>>, prefix: Option<&'a s
 }
 
 /// Puts a prefix, or the default, among these. The only error is want of memory.
-fn add<'a>(prefixes: &mut BTreeSet<Option<&'a str>>, prefix: Option<&'a str>) -> Result<(), Failure>
-    ensures more { OnOk result ((p : Option (List ℕ)) → has_prefix p prefixes.new.keys ≡ (has_prefix p prefixes.old.keys || same_prefix (prefix_view prefix.entry) p)) }
-    ensures err { IfErr result (λ e. e ≡ Failure.Memory) }
+fn add<'a>(
+    prefixes: &mut BTreeSet<Option<&'a str>>,
+    prefix: Option<&'a str>,
+) -> Result<(), AllocError>
+    ensures { OnOk result ((p : Option (List ℕ))
+        → has_prefix p prefixes.new.keys
+        ≡ (has_prefix p prefixes.old.keys || same_prefix (prefix_view prefix.entry) p)) }
 {
     match prefixes.insert(prefix) {
         Ok(_) => Ok(()),
-        Err(_) => Err(Failure::Memory),
+        Err(_) => Err(AllocError),
     }
 }
 
@@ -36,10 +40,12 @@ fn add_all<'a>(
     prefixes: &mut BTreeSet<Option<&'a str>>,
     namespaces: &[Namespace<'a>],
     places: &[u16],
-) -> Result<(), Failure>
+) -> Result<(), AllocError>
     requires { ArePlaces (length namespaces.now) places.now }
-    ensures more { OnOk result ((p : Option (List ℕ)) → has_prefix p prefixes.new.keys ≡ (has_prefix p prefixes.old.keys || is_declared p (entries (map namespace_view namespaces.now) places.now))) }
-    ensures err { IfErr result (λ e. e ≡ Failure.Memory) }
+    ensures { OnOk result ((p : Option (List ℕ))
+        → has_prefix p prefixes.new.keys
+        ≡ (has_prefix p prefixes.old.keys
+        || is_declared p (entries (map namespace_view namespaces.now) places.now))) }
 {
     for place in places {
         add(prefixes, namespaces[*place as usize].name)?;
@@ -53,11 +59,12 @@ pub fn add_prefix<'a>(
     namespaces: &[Namespace<'a>],
     own: &[u16],
     prefix: Option<&'a str>,
-) -> Result<(), Failure>
+) -> Result<(), AllocError>
     requires { ArePlaces (length namespaces.now) own.now }
-    ensures value { OnOk result ((before : List ℕ) (place : ℕ) → own.now ≡ before ++ place ∷ [] → (namespace_at (map namespace_view namespaces.now) place).prefix ≡ prefix_view prefix.entry
-        → IsPrefixSet (map namespace_view namespaces.now) before prefixes.old.keys → IsPrefixSet (map namespace_view namespaces.now) own.now prefixes.new.keys) }
-    ensures err { IfErr result (λ e. e ≡ Failure.Memory) }
+    ensures { OnOk result ((before : List ℕ) (place : ℕ) → own.now ≡ before ++ place ∷ []
+        → (namespace_at (map namespace_view namespaces.now) place).prefix ≡ prefix_view prefix.entry
+        → IsPrefixSet (map namespace_view namespaces.now) before prefixes.old.keys
+        → IsPrefixSet (map namespace_view namespaces.now) own.now prefixes.new.keys) }
 {
     if own.len() <= FEW {
         return Ok(());

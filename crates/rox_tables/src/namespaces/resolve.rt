@@ -12,6 +12,7 @@ ghost use Rattle.rox_grammar.specs.WellNamed.{is_known, may_name};
 ghost use Rattle.rox_reading.specs.Tags.{names_tested};
 ghost use Rattle.rox_grammar.specs.Failures.{Fails, name_view};
 ghost use Rattle.rox_tables.specs.Rows.{AttributeRow, namespace_view, namespace_at, attribute, attribute_rows, attribute_uri, NamespaceWithin, OptionWithin};
+ghost use Rattle.rox_tables.specs.StoredAttributes.{data_of};
 ghost use Rattle.rox_tables.specs.Scopes.{prefix_view};
 ghost use Rattle.rox_tables.specs.Bindings.{FindsBinding, LooksWithin, places_view};
 ghost use Rattle.rox_tables.specs.TagDeclarations.{unresolved_view};
@@ -26,6 +27,7 @@ use crate::namespaces::scope::{XML_URI, find, find_default, same_prefix};
 use crate::namespaces::unresolved_attribute::UnresolvedAttribute;
 use crate::rows::attributes::AttributeTable;
 use crate::rows::storage::StringStorage;
+use crate::rows::stored_attribute::StoredAttribute;
 use crate::rows::tables::{AttributeData, AttributeNamespace, AttributePlaces, Namespace};
 use rox_grammar::failure::Failure;
 use rox_grammar::fault::Fault;
@@ -47,10 +49,16 @@ fn attribute_namespace(
 ) -> Option<AttributeNamespace>
     requires within { LooksWithin (length namespaces.now) (places_view few) present.now }
     ensures within { IfSome result (λ s. NamespaceWithin (length namespaces.now) s) }
-    ensures there { (ds : List NamespaceDecl) → FindsBinding (map namespace_view namespaces.now) (places_view few.entry) present.now ds
-        → IfSome result (λ s. attribute_uri (map namespace_view namespaces.now) s ≡ tree.attribute_namespace ds (name_view name.entry)) }
-    ensures known { (ds : List NamespaceDecl) → FindsBinding (map namespace_view namespaces.now) (places_view few.entry) present.now ds → IfSome result (λ _. is_known ds (name_view name.entry) ≡ true) }
-    ensures unknown { (ds : List NamespaceDecl) → FindsBinding (map namespace_view namespaces.now) (places_view few.entry) present.now ds → IfNone result (is_known ds (name_view name.entry) ≡ false) }
+    ensures there { (ds : List NamespaceDecl)
+        → FindsBinding (map namespace_view namespaces.now) (places_view few.entry) present.now ds
+        → IfSome result (λ s. attribute_uri (map namespace_view namespaces.now) s
+        ≡ tree.attribute_namespace ds (name_view name.entry)) }
+    ensures known { (ds : List NamespaceDecl)
+        → FindsBinding (map namespace_view namespaces.now) (places_view few.entry) present.now ds
+        → IfSome result (λ _. is_known ds (name_view name.entry) ≡ true) }
+    ensures unknown { (ds : List NamespaceDecl)
+        → FindsBinding (map namespace_view namespaces.now) (places_view few.entry) present.now ds
+        → IfNone result (is_known ds (name_view name.entry) ≡ false) }
 {
     if name.prefix.is_empty() {
         return Some(AttributeNamespace::None);
@@ -84,17 +92,18 @@ fn namespace_uri<'a>(
 #[inline]
 fn has_expanded(
     namespaces: &[Namespace<'_>],
-    attribute: &AttributeData<'_>,
+    attribute: &StoredAttribute<'_>,
     namespace: AttributeNamespace,
     local: &str,
 ) -> bool
-    requires one { NamespaceWithin (length namespaces.now) attribute.now.namespace }
+    requires one { NamespaceWithin (length namespaces.now) (data_of attribute.now).namespace }
     requires other { NamespaceWithin (length namespaces.now) namespace }
-    ensures { result ≡ has_expanded (map namespace_view namespaces.now) namespace local.now attribute.now }
+    ensures { result ≡ has_expanded (map namespace_view namespaces.now) namespace local.now
+        (data_of attribute.now) }
 {
     same_text(attribute.local, local)
         && same_prefix(
-            namespace_uri(namespaces, attribute.namespace),
+            namespace_uri(namespaces, attribute.namespace()),
             namespace_uri(namespaces, namespace),
         )
 }
@@ -102,13 +111,16 @@ fn has_expanded(
 /// Whether one of these attributes has this expanded name.
 fn is_repeated(
     namespaces: &[Namespace<'_>],
-    done: &[AttributeData<'_>],
+    done: &[StoredAttribute<'_>],
     namespace: AttributeNamespace,
     local: &str,
 ) -> bool
-    requires done { AllByRecursion (λ a. NamespaceWithin (length namespaces.now) a.namespace) done.now }
+    requires done { AllByRecursion
+        (λ a. NamespaceWithin (length namespaces.now) (data_of a).namespace) done.now }
     requires other { NamespaceWithin (length namespaces.now) namespace }
-    ensures { result ≡ list_any (has_expanded (map namespace_view namespaces.now) namespace local.now) done.now }
+    ensures { result ≡ list_any
+        (λ a. has_expanded (map namespace_view namespaces.now) namespace local.now
+        (data_of a)) done.now }
 {
     for attribute in done {
         if has_expanded(namespaces, attribute, namespace, local) {
@@ -124,16 +136,23 @@ fn tested_namespace(
     namespaces: &[Namespace<'_>],
     few: Option<&[u16]>,
     present: &PrefixBindings<'_>,
-    done: &[AttributeData<'_>],
+    done: &[StoredAttribute<'_>],
     taken: &UnresolvedAttribute<'_>,
 ) -> Result<AttributeNamespace, Fault>
     requires within { LooksWithin (length namespaces.now) (places_view few) present.now }
-    requires done { AllByRecursion (λ a. NamespaceWithin (length namespaces.now) a.namespace) done.now }
+    requires done { AllByRecursion
+        (λ a. NamespaceWithin (length namespaces.now) (data_of a).namespace) done.now }
     ensures within { IfOk result (λ s. NamespaceWithin (length namespaces.now) s) }
-    ensures there { (ds : List NamespaceDecl) → FindsBinding (map namespace_view namespaces.now) (places_view few.entry) present.now ds
-        → IfOk result (λ s. attribute_uri (map namespace_view namespaces.now) s ≡ tree.attribute_namespace ds (name_view taken.now.name)) }
-    ensures tested { (ds : List NamespaceDecl) (rows : List AttributeRow) (before rest : List Attribute) → FindsBinding (map namespace_view namespaces.now) (places_view few.entry) present.now ds
-        → map (λ r. r.0) rows ≡ done.now → map (attribute (map namespace_view namespaces.now)) rows ≡ map (attribute_in ds) before → Tested ds before (unresolved_view taken.now) rest result }
+    ensures there { (ds : List NamespaceDecl)
+        → FindsBinding (map namespace_view namespaces.now) (places_view few.entry) present.now ds
+        → IfOk result (λ s. attribute_uri (map namespace_view namespaces.now) s
+        ≡ tree.attribute_namespace ds (name_view taken.now.name)) }
+    ensures tested { (ds : List NamespaceDecl) (rows : List AttributeRow)
+        (before rest : List Attribute)
+        → FindsBinding (map namespace_view namespaces.now) (places_view few.entry) present.now ds
+        → map (λ r. r.0) rows ≡ map data_of done.now
+        → map (attribute (map namespace_view namespaces.now)) rows ≡ map (attribute_in ds) before
+        → Tested ds before (unresolved_view taken.now) rest result }
 {
     let name = taken.name;
     let Some(namespace) = attribute_namespace(namespaces, few, present, name) else {
@@ -155,12 +174,19 @@ fn seen_namespace<'a>(
 ) -> Result<AttributeNamespace, Failure>
     requires within { LooksWithin (length namespaces.now) (places_view few) present.now }
     ensures within { IfOk result (λ s. NamespaceWithin (length namespaces.now) s) }
-    ensures there { (ds : List NamespaceDecl) → FindsBinding (map namespace_view namespaces.now) (places_view few.entry) present.now ds
-        → IfOk result (λ s. attribute_uri (map namespace_view namespaces.now) s ≡ tree.attribute_namespace ds (name_view taken.now.name)) }
-    ensures tested { (ds : List NamespaceDecl) (rows : List AttributeRow) (before rest : List Attribute) → FindsBinding (map namespace_view namespaces.now) (places_view few.entry) present.now ds
-        → HasExpandedNames (map namespace_view namespaces.now) seen.old.keys (map (λ r. r.0) rows) → map (attribute (map namespace_view namespaces.now)) rows ≡ map (attribute_in ds) before
+    ensures there { (ds : List NamespaceDecl)
+        → FindsBinding (map namespace_view namespaces.now) (places_view few.entry) present.now ds
+        → IfOk result (λ s. attribute_uri (map namespace_view namespaces.now) s
+        ≡ tree.attribute_namespace ds (name_view taken.now.name)) }
+    ensures tested { (ds : List NamespaceDecl) (rows : List AttributeRow)
+        (before rest : List Attribute)
+        → FindsBinding (map namespace_view namespaces.now) (places_view few.entry) present.now ds
+        → HasExpandedNames (map namespace_view namespaces.now) seen.old.keys (map (λ r. r.0) rows)
+        → map (attribute (map namespace_view namespaces.now)) rows ≡ map (attribute_in ds) before
         → TestedOr ds before (unresolved_view taken.now) rest result }
-    ensures more { IfOk result (λ s. (done : List AttributeData) (a : AttributeData) → HasExpandedNames (map namespace_view namespaces.now) seen.old.keys done → a.namespace ≡ s → a.local ≡ taken.now.name.local
+    ensures more { IfOk result (λ s. (done : List AttributeData) (a : AttributeData)
+        → HasExpandedNames (map namespace_view namespaces.now) seen.old.keys done → a.namespace ≡ s
+        → a.local ≡ taken.now.name.local
         → HasExpandedNames (map namespace_view namespaces.now) seen.new.keys (done ++ a ∷ [])) }
 {
     let name = taken.name;
@@ -215,20 +241,20 @@ pub fn put_resolved<'input>(
 ) -> bool
     requires within { LooksWithin (length namespaces.now) (places_view few) present.now }
     requires from { from ≤ length (attribute_rows attributes.old) }
-    requires done { AllByRecursion (λ a. NamespaceWithin (length namespaces.now) a.0.namespace) (drop from (attribute_rows attributes.old)) }
-    ensures refused { result ≡ false → attribute_rows attributes.new ≡ attribute_rows attributes.old }
-    ensures added { result ≡ true → AddsResolved (map namespace_view namespaces.now) (places_view few.entry) present.now from (attribute_rows attributes.old) (attribute_rows attributes.new) one.entry }
+    requires done { AllByRecursion (λ a. NamespaceWithin (length namespaces.now) a.0.namespace)
+        (drop from (attribute_rows attributes.old)) }
+    ensures refused { result ≡ false
+        → attribute_rows attributes.new ≡ attribute_rows attributes.old }
+    ensures added { result ≡ true
+        → AddsResolved (map namespace_view namespaces.now) (places_view few.entry) present.now from
+        (attribute_rows attributes.old) (attribute_rows attributes.new) one.entry }
 {
-    if !attributes.has_room() {
-        return false;
-    }
     let Ok(namespace) = tested_namespace(namespaces, few, present, &attributes.items[from..], &one)
     else {
         return false;
     };
     let row = move_row(&mut one, namespace);
-    attributes.put(row);
-    true
+    attributes.put(row)
 }
 
 /// As `resolve`, of a tag with many attributes: their names are kept in a set, in time n log n.
@@ -243,12 +269,16 @@ fn resolve_many<'input>(
     attributes: &mut AttributeTable<'input>,
 ) -> Result<(), Failure>
     requires within { LooksWithin (length namespaces.now) (places_view few) present.now }
-    ensures ok { (ds : List NamespaceDecl) → FindsBinding (map namespace_view namespaces.now) (places_view few.entry) present.now ds
+    ensures ok { (ds : List NamespaceDecl)
+        → FindsBinding (map namespace_view namespaces.now) (places_view few.entry) present.now ds
         → OnOk result ((names_tested ds [] (map unresolved_view taken.old.items) ≡ Ok tt)
-        × ((more : List AttributeRow) × (attribute_rows attributes.new ≡ attribute_rows attributes.old ++ more)
-        × (map (attribute (map namespace_view namespaces.now)) more ≡ map (attribute_in ds) (map unresolved_view taken.old.items))
+        × ((more : List AttributeRow)
+        × (attribute_rows attributes.new ≡ attribute_rows attributes.old ++ more)
+        × (map (attribute (map namespace_view namespaces.now)) more
+        ≡ map (attribute_in ds) (map unresolved_view taken.old.items))
         × AllByRecursion (λ a. NamespaceWithin (length namespaces.now) a.0.namespace) more)) }
-    ensures err { (ds : List NamespaceDecl) → FindsBinding (map namespace_view namespaces.now) (places_view few.entry) present.now ds
+    ensures err { (ds : List NamespaceDecl)
+        → FindsBinding (map namespace_view namespaces.now) (places_view few.entry) present.now ds
         → IfErr result (λ e. Fails e (names_tested ds [] (map unresolved_view taken.old.items))) }
 {
     let mut seen = BTreeSet::new(alloc);
@@ -272,12 +302,16 @@ pub fn resolve<'input>(
     attributes: &mut AttributeTable<'input>,
 ) -> Result<(), Failure>
     requires within { LooksWithin (length namespaces.now) (places_view few) present.now }
-    ensures ok { (ds : List NamespaceDecl) → FindsBinding (map namespace_view namespaces.now) (places_view few.entry) present.now ds
+    ensures ok { (ds : List NamespaceDecl)
+        → FindsBinding (map namespace_view namespaces.now) (places_view few.entry) present.now ds
         → OnOk result ((names_tested ds [] (map unresolved_view taken.old.items) ≡ Ok tt)
-        × ((more : List AttributeRow) × (attribute_rows attributes.new ≡ attribute_rows attributes.old ++ more)
-        × (map (attribute (map namespace_view namespaces.now)) more ≡ map (attribute_in ds) (map unresolved_view taken.old.items))
+        × ((more : List AttributeRow)
+        × (attribute_rows attributes.new ≡ attribute_rows attributes.old ++ more)
+        × (map (attribute (map namespace_view namespaces.now)) more
+        ≡ map (attribute_in ds) (map unresolved_view taken.old.items))
         × AllByRecursion (λ a. NamespaceWithin (length namespaces.now) a.0.namespace) more)) }
-    ensures err { (ds : List NamespaceDecl) → FindsBinding (map namespace_view namespaces.now) (places_view few.entry) present.now ds
+    ensures err { (ds : List NamespaceDecl)
+        → FindsBinding (map namespace_view namespaces.now) (places_view few.entry) present.now ds
         → IfErr result (λ e. Fails e (names_tested ds [] (map unresolved_view taken.old.items))) }
 {
     if taken.len() > FEW {
@@ -311,10 +345,16 @@ pub fn element_namespace(
     requires within { LooksWithin (length namespaces.now) (places_view few) present.now }
     requires small { at < 2 ^ 63 }
     ensures within { IfOk result (λ o. OptionWithin (length namespaces.now) o) }
-    ensures ok { (ds : List NamespaceDecl) → FindsBinding (map namespace_view namespaces.now) (places_view few.entry) present.now ds
-        → IfOk result (λ o. (option_map (λ i. (namespace_at (map namespace_view namespaces.now) i).uri) o ≡ tree.element_namespace ds (name_view name.entry)) × (may_name ds (name_view name.entry) ≡ true)) }
-    ensures err { (ds : List NamespaceDecl) → FindsBinding (map namespace_view namespaces.now) (places_view few.entry) present.now ds
-        → IfErr result (λ f. (f ≡ fault.UnknownNamespace (prefix_span (name_view name.entry) at) at) × (may_name ds (name_view name.entry) ≡ false)) }
+    ensures ok { (ds : List NamespaceDecl)
+        → FindsBinding (map namespace_view namespaces.now) (places_view few.entry) present.now ds
+        → IfOk result (λ o. (option_map
+        (λ i. (namespace_at (map namespace_view namespaces.now) i).uri) o
+        ≡ tree.element_namespace ds (name_view name.entry))
+        × (may_name ds (name_view name.entry) ≡ true)) }
+    ensures err { (ds : List NamespaceDecl)
+        → FindsBinding (map namespace_view namespaces.now) (places_view few.entry) present.now ds
+        → IfErr result (λ f. (f ≡ fault.UnknownNamespace (prefix_span (name_view name.entry) at) at)
+        × (may_name ds (name_view name.entry) ≡ false)) }
 {
     if name.prefix.is_empty() {
         return Ok(find_default(namespaces, few, present));

@@ -1,17 +1,17 @@
 //! Scopes that list many namespaces: ropes of stretches of the listed places. A row is a leaf or joins two rows before it, so that
 //! a scope shares what it inherits with the scope above.
 
-ghost use Rattle.std.specs.Prelude.{◌≡◌, ◌<◌, ◌≤◌, ◌+◌, ◌-◌, ◌++◌, ◌∷◌, [], true, false, ℕ, List, length, map, take, drop, reverse, slice_index, slice_range, OnOk, IfOk, IfErr, IfSome, IfNone};
+ghost use Rattle.std.specs.Prelude.{◌≡◌, ◌<◌, ◌≤◌, ◌+◌, ◌-◌, ◌++◌, ◌∷◌, [], true, false, ℕ, List, length, map, take, drop, reverse, slice_index, slice_range, OnOk, IfOk, IfSome, IfNone};
 ghost use Rattle.rox_grammar.specs.Tree.{same_prefix, is_declared};
 ghost use Rattle.std.specs.List.{AllByRecursion};
 ghost use Rattle.rox_tables.specs.Rows.{namespace_view, namespace_at, count_at, AreRows, AreScopes, EndsWithin};
 ghost use Rattle.rox_tables.specs.Scopes.{prefix_view, entries, places_in, ArePlaces};
-ghost use Rattle.rox_tables.specs.Ropes.{IsRope};
+ghost use Rattle.rox_tables.specs.Ropes.{AreJoinable, IsRope, Joins};
 
 use crate::namespaces::scope::same_prefix;
 use crate::rows::growth::push;
 use crate::rows::tables::{Concat, Namespace, Scope, Stretch};
-use rox_grammar::failure::Failure;
+use std::alloc::AllocError;
 
 /// How many scopes the table holds at most: each has a number that a `u32` holds.
 const MOST_SCOPES: usize = 4294967296;
@@ -28,7 +28,8 @@ pub fn count(scopes: &[Scope], scope: u32) -> usize
     requires within { scope < length scopes.now }
     requires rows { AreRows scopes.now }
     ensures value { result ≡ count_at scopes.now scope }
-    ensures length { (listed : List ℕ) → AreScopes (length listed) scopes.now → result ≡ length (places_in listed scopes.now scope) }
+    ensures length { (listed : List ℕ) → AreScopes (length listed) scopes.now
+        → result ≡ length (places_in listed scopes.now scope) }
 {
     match scopes[scope as usize] {
         Scope::Few(stretch) => (stretch.until - stretch.from) as usize,
@@ -65,7 +66,8 @@ pub fn position_at(scopes: &[Scope], listed: &[u16], scope: u32, index: usize) -
     requires scopes { AreScopes (length listed.now) scopes.now }
     requires index { index < length (places_in listed.now scopes.now scope) }
     ensures within { result < length listed.now }
-    ensures value { slice_index listed.now result ≡ slice_index (places_in listed.now scopes.now scope) index }
+    ensures value { slice_index listed.now result
+        ≡ slice_index (places_in listed.now scopes.now scope) index }
 {
     match scopes[scope as usize] {
         Scope::Few(stretch) => stretch.from as usize + index,
@@ -93,13 +95,12 @@ pub fn place_at(scopes: &[Scope], listed: &[u16], scope: u32, index: usize) -> u
 }
 
 /// A stretch of what is listed. The only error is want of memory.
-pub fn stretch(from: usize, until: usize) -> Result<Stretch, Failure>
+pub fn stretch(from: usize, until: usize) -> Result<Stretch, AllocError>
     requires ordered { from ≤ until }
-    ensures value { IfOk result (λ s. s ≡ record { from = from; until = until }) }
-    ensures err { IfErr result (λ e. e ≡ Failure.Memory) }
+    ensures { IfOk result (λ s. s ≡ record { from = from; until = until }) }
 {
     if until > MOST_LISTED {
-        return Err(Failure::Memory);
+        return Err(AllocError);
     }
     Ok(Stretch {
         from: from as u32,
@@ -108,31 +109,27 @@ pub fn stretch(from: usize, until: usize) -> Result<Stretch, Failure>
 }
 
 /// Puts a row behind the others. The only error is want of memory.
-pub fn add(scopes: &mut Vec<Scope>, row: Scope) -> Result<u32, Failure>
+pub fn add(scopes: &mut Vec<Scope>, row: Scope) -> Result<u32, AllocError>
     ensures items { OnOk result (scopes.new.items ≡ scopes.old.items ++ row ∷ []) }
     ensures value { IfOk result (λ s. s ≡ length scopes.old.items) }
-    ensures err { IfErr result (λ e. e ≡ Failure.Memory) }
 {
     let place = scopes.len();
     if place >= MOST_SCOPES {
-        return Err(Failure::Memory);
+        return Err(AllocError);
     }
     push(scopes, row)?;
     Ok(place as u32)
 }
 
 /// The row of what two list, the one behind the other.
-fn pair(scopes: &mut Vec<Scope>, first: u32, rest: u32) -> Result<u32, Failure>
-    requires first { first < length scopes.old.items }
-    requires rest { rest < length scopes.old.items }
-    requires rows { AreRows scopes.old.items }
-    ensures value { IfOk result (λ s. IsRope scopes.old.items scopes.new.items s (λ listed. places_in listed scopes.old.items first ++ places_in listed scopes.old.items rest)) }
-    ensures err { IfErr result (λ e. e ≡ Failure.Memory) }
+fn pair(scopes: &mut Vec<Scope>, first: u32, rest: u32) -> Result<u32, AllocError>
+    requires { AreJoinable scopes.old.items first rest }
+    ensures { IfOk result (λ s. Joins scopes.old.items scopes.new.items s first rest) }
 {
     let before = count(scopes, first);
     let behind = count(scopes, rest);
     if behind > MOST_OF_SCOPE || before > MOST_OF_SCOPE - behind {
-        return Err(Failure::Memory);
+        return Err(AllocError);
     }
     let row = Concat {
         first,
@@ -147,12 +144,9 @@ fn pair(scopes: &mut Vec<Scope>, first: u32, rest: u32) -> Result<u32, Failure>
 }
 
 /// The same, where the one in front may be too high to be beside the other.
-fn lower_first(scopes: &mut Vec<Scope>, first: u32, rest: u32) -> Result<u32, Failure>
-    requires first { first < length scopes.old.items }
-    requires rest { rest < length scopes.old.items }
-    requires rows { AreRows scopes.old.items }
-    ensures value { IfOk result (λ s. IsRope scopes.old.items scopes.new.items s (λ listed. places_in listed scopes.old.items first ++ places_in listed scopes.old.items rest)) }
-    ensures err { IfErr result (λ e. e ≡ Failure.Memory) }
+fn lower_first(scopes: &mut Vec<Scope>, first: u32, rest: u32) -> Result<u32, AllocError>
+    requires { AreJoinable scopes.old.items first rest }
+    ensures { IfOk result (λ s. Joins scopes.old.items scopes.new.items s first rest) }
 {
     let Scope::Concat(high) = scopes[first as usize] else {
         return pair(scopes, first, rest);
@@ -169,12 +163,9 @@ fn lower_first(scopes: &mut Vec<Scope>, first: u32, rest: u32) -> Result<u32, Fa
 }
 
 /// The same, where the one behind may be too high.
-fn lower_rest(scopes: &mut Vec<Scope>, first: u32, rest: u32) -> Result<u32, Failure>
-    requires first { first < length scopes.old.items }
-    requires rest { rest < length scopes.old.items }
-    requires rows { AreRows scopes.old.items }
-    ensures value { IfOk result (λ s. IsRope scopes.old.items scopes.new.items s (λ listed. places_in listed scopes.old.items first ++ places_in listed scopes.old.items rest)) }
-    ensures err { IfErr result (λ e. e ≡ Failure.Memory) }
+fn lower_rest(scopes: &mut Vec<Scope>, first: u32, rest: u32) -> Result<u32, AllocError>
+    requires { AreJoinable scopes.old.items first rest }
+    ensures { IfOk result (λ s. Joins scopes.old.items scopes.new.items s first rest) }
 {
     let Scope::Concat(high) = scopes[rest as usize] else {
         return pair(scopes, first, rest);
@@ -191,12 +182,9 @@ fn lower_rest(scopes: &mut Vec<Scope>, first: u32, rest: u32) -> Result<u32, Fai
 }
 
 /// The row of what two list, of which one may be by two higher than the other.
-fn balanced(scopes: &mut Vec<Scope>, first: u32, rest: u32) -> Result<u32, Failure>
-    requires first { first < length scopes.old.items }
-    requires rest { rest < length scopes.old.items }
-    requires rows { AreRows scopes.old.items }
-    ensures value { IfOk result (λ s. IsRope scopes.old.items scopes.new.items s (λ listed. places_in listed scopes.old.items first ++ places_in listed scopes.old.items rest)) }
-    ensures err { IfErr result (λ e. e ≡ Failure.Memory) }
+fn balanced(scopes: &mut Vec<Scope>, first: u32, rest: u32) -> Result<u32, AllocError>
+    requires { AreJoinable scopes.old.items first rest }
+    ensures { IfOk result (λ s. Joins scopes.old.items scopes.new.items s first rest) }
 {
     let before = height(scopes, first);
     let behind = height(scopes, rest);
@@ -210,12 +198,9 @@ fn balanced(scopes: &mut Vec<Scope>, first: u32, rest: u32) -> Result<u32, Failu
 }
 
 /// A row of what two list, the one behind the other. It goes down the higher one, as in AVL trees, so that ropes stay low.
-pub fn both(scopes: &mut Vec<Scope>, first: u32, rest: u32) -> Result<u32, Failure>
-    requires first { first < length scopes.old.items }
-    requires rest { rest < length scopes.old.items }
-    requires rows { AreRows scopes.old.items }
-    ensures value { IfOk result (λ s. IsRope scopes.old.items scopes.new.items s (λ listed. places_in listed scopes.old.items first ++ places_in listed scopes.old.items rest)) }
-    ensures err { IfErr result (λ e. e ≡ Failure.Memory) }
+pub fn both(scopes: &mut Vec<Scope>, first: u32, rest: u32) -> Result<u32, AllocError>
+    requires { AreJoinable scopes.old.items first rest }
+    ensures { IfOk result (λ s. Joins scopes.old.items scopes.new.items s first rest) }
 {
     if count(scopes, first) == 0 {
         return Ok(rest);
@@ -241,13 +226,14 @@ pub fn both(scopes: &mut Vec<Scope>, first: u32, rest: u32) -> Result<u32, Failu
 }
 
 /// A row of a stretch from its front, but for the one at this index.
-fn without_few(scopes: &mut Vec<Scope>, stretch: Stretch, index: usize) -> Result<u32, Failure>
+fn without_few(scopes: &mut Vec<Scope>, stretch: Stretch, index: usize) -> Result<u32, AllocError>
     requires rows { AreRows scopes.old.items }
     requires ordered { stretch.from ≤ stretch.until }
     requires ends { (n : ℕ) → AllByRecursion (EndsWithin n) scopes.old.items → stretch.until ≤ n }
     requires index { index < stretch.until - stretch.from }
-    ensures value { IfOk result (λ s. IsRope scopes.old.items scopes.new.items s (λ listed. take index (slice_range listed stretch.from stretch.until) ++ drop (index + 1) (slice_range listed stretch.from stretch.until))) }
-    ensures err { IfErr result (λ e. e ≡ Failure.Memory) }
+    ensures { IfOk result (λ s. IsRope scopes.old.items scopes.new.items s
+        (λ listed. take index (slice_range listed stretch.from stretch.until)
+        ++ drop (index + 1) (slice_range listed stretch.from stretch.until))) }
 {
     let middle = stretch.from + index as u32;
     let before = Stretch {
@@ -264,13 +250,14 @@ fn without_few(scopes: &mut Vec<Scope>, stretch: Stretch, index: usize) -> Resul
 }
 
 /// The same of a stretch from its back.
-fn without_back(scopes: &mut Vec<Scope>, stretch: Stretch, index: usize) -> Result<u32, Failure>
+fn without_back(scopes: &mut Vec<Scope>, stretch: Stretch, index: usize) -> Result<u32, AllocError>
     requires rows { AreRows scopes.old.items }
     requires ordered { stretch.from ≤ stretch.until }
     requires ends { (n : ℕ) → AllByRecursion (EndsWithin n) scopes.old.items → stretch.until ≤ n }
     requires index { index < stretch.until - stretch.from }
-    ensures value { IfOk result (λ s. IsRope scopes.old.items scopes.new.items s (λ listed. take index (reverse (slice_range listed stretch.from stretch.until)) ++ drop (index + 1) (reverse (slice_range listed stretch.from stretch.until)))) }
-    ensures err { IfErr result (λ e. e ≡ Failure.Memory) }
+    ensures { IfOk result (λ s. IsRope scopes.old.items scopes.new.items s
+        (λ listed. take index (reverse (slice_range listed stretch.from stretch.until))
+        ++ drop (index + 1) (reverse (slice_range listed stretch.from stretch.until)))) }
 {
     let middle = stretch.until - index as u32;
     let before = Stretch {
@@ -287,12 +274,13 @@ fn without_back(scopes: &mut Vec<Scope>, stretch: Stretch, index: usize) -> Resu
 }
 
 /// A row of what a scope lists but for the one at this index.
-pub fn without(scopes: &mut Vec<Scope>, scope: u32, index: usize) -> Result<u32, Failure>
+pub fn without(scopes: &mut Vec<Scope>, scope: u32, index: usize) -> Result<u32, AllocError>
     requires within { scope < length scopes.old.items }
     requires rows { AreRows scopes.old.items }
     requires index { index < count_at scopes.old.items scope }
-    ensures value { IfOk result (λ s. IsRope scopes.old.items scopes.new.items s (λ listed. take index (places_in listed scopes.old.items scope) ++ drop (index + 1) (places_in listed scopes.old.items scope))) }
-    ensures err { IfErr result (λ e. e ≡ Failure.Memory) }
+    ensures { IfOk result (λ s. IsRope scopes.old.items scopes.new.items s
+        (λ listed. take index (places_in listed scopes.old.items scope)
+        ++ drop (index + 1) (places_in listed scopes.old.items scope))) }
 {
     match scopes[scope as usize] {
         Scope::Few(stretch) => without_few(scopes, stretch, index),
@@ -355,8 +343,12 @@ fn first_of(
     requires scopes { AreScopes (length listed.now) scopes.now }
     requires within { scope < length scopes.now }
     ensures there { IfSome result (λ i. (i < length (places_in listed.now scopes.now scope))
-        × (same_prefix (namespace_at (map namespace_view namespaces.now) (slice_index (places_in listed.now scopes.now scope) i)).prefix (prefix_view prefix.entry) ≡ true)) }
-    ensures absent { IfNone result (is_declared (prefix_view prefix.entry) (entries (map namespace_view namespaces.now) (places_in listed.now scopes.now scope)) ≡ false) }
+        × (same_prefix (namespace_at (map namespace_view namespaces.now)
+        (slice_index (places_in listed.now scopes.now scope) i)).prefix (prefix_view prefix.entry)
+        ≡ true)) }
+    ensures absent { IfNone result
+        (is_declared (prefix_view prefix.entry) (entries (map namespace_view namespaces.now)
+        (places_in listed.now scopes.now scope)) ≡ false) }
 {
     for index in 0..count(scopes, scope) {
         let place = place_at(scopes, listed, scope, index);
@@ -381,8 +373,12 @@ pub fn index_of(
     requires scopes { AreScopes (length listed.now) scopes.now }
     requires within { scope < length scopes.now }
     ensures there { IfSome result (λ i. (i < length (places_in listed.now scopes.now scope))
-        × (same_prefix (namespace_at (map namespace_view namespaces.now) (slice_index (places_in listed.now scopes.now scope) i)).prefix (prefix_view prefix.entry) ≡ true)) }
-    ensures absent { IfNone result (is_declared (prefix_view prefix.entry) (entries (map namespace_view namespaces.now) (places_in listed.now scopes.now scope)) ≡ false) }
+        × (same_prefix (namespace_at (map namespace_view namespaces.now)
+        (slice_index (places_in listed.now scopes.now scope) i)).prefix (prefix_view prefix.entry)
+        ≡ true)) }
+    ensures absent { IfNone result
+        (is_declared (prefix_view prefix.entry) (entries (map namespace_view namespaces.now)
+        (places_in listed.now scopes.now scope)) ≡ false) }
 {
     if let Some(index) = find(scopes, scope, guess) {
         let place = place_at(scopes, listed, scope, index);

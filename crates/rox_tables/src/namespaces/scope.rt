@@ -1,10 +1,9 @@
 //! Namespaces in scope (Namespaces in XML 1.0, section 6). A namespace is a place in the table of the distinct pairs of a
 //! prefix, or the default, and a URI; what an element lists is a row of such places.
 
-ghost use Rattle.std.specs.Prelude.{◌≡◌, ◌<◌, ◌≤◌, ◌++◌, ℕ, List, length, map, drop, slice_range, false, OnOk, IfSome, IfNone, Some, None, IfErr, ◌&&◌, ◌||◌};
+ghost use Rattle.std.specs.Prelude.{◌≡◌, ◌<◌, ◌≤◌, ◌++◌, ℕ, List, length, map, drop, slice_range, false, OnOk, IfSome, IfNone, Some, None, ◌&&◌, ◌||◌};
 ghost use Rattle.std.specs.Option.{option_map};
-ghost use Rattle.rox_grammar.specs.Tree.{same_prefix, is_declared, uri_of};
-ghost use Rattle.rox_grammar.specs.WellNamed.{is_xml};
+ghost use Rattle.rox_grammar.specs.Tree.{same_prefix, is_declared, uri_of, is_xml};
 ghost use Rattle.rox_tables.specs.Rows.{namespace_view, namespace_at, OptionWithin, AreScopes};
 ghost use Rattle.rox_tables.specs.Scopes.{prefix_view, entries, places_in, is_few_at, ArePlaces, others};
 ghost use Rattle.rox_tables.specs.PrefixSet.{IsPrefixSet};
@@ -14,7 +13,7 @@ use crate::compare::same_text;
 use crate::namespaces::bindings::PrefixBindings;
 use crate::namespaces::prefix_set::{FEW, has_prefix};
 use crate::rows::tables::{Namespace, Scope};
-use rox_grammar::failure::Failure;
+use std::alloc::AllocError;
 use std::collections::BTreeSet;
 
 /// The URI of the prefix `xml`.
@@ -39,8 +38,11 @@ pub fn same_prefix(one: Option<&str>, other: Option<&str>) -> bool
 pub fn place_of(namespaces: &[Namespace<'_>], places: &[u16], prefix: Option<&str>) -> Option<u16>
     requires { ArePlaces (length namespaces.now) places.now }
     ensures there { IfSome result (λ i. (i < length namespaces.now)
-        × (uri_of (entries (map namespace_view namespaces.now) places.now) (prefix_view prefix.entry) ≡ Some (namespace_at (map namespace_view namespaces.now) i).uri)) }
-    ensures absent { IfNone result (uri_of (entries (map namespace_view namespaces.now) places.now) (prefix_view prefix.entry) ≡ None) }
+        × (uri_of (entries (map namespace_view namespaces.now) places.now)
+        (prefix_view prefix.entry)
+        ≡ Some (namespace_at (map namespace_view namespaces.now) i).uri)) }
+    ensures absent { IfNone result (uri_of (entries (map namespace_view namespaces.now) places.now)
+        (prefix_view prefix.entry) ≡ None) }
 {
     for place in places {
         if same_prefix(namespaces[*place as usize].name, prefix) {
@@ -55,8 +57,10 @@ pub fn place_of(namespaces: &[Namespace<'_>], places: &[u16], prefix: Option<&st
 pub fn default_place(namespaces: &[Namespace<'_>], places: &[u16]) -> Option<u16>
     requires { ArePlaces (length namespaces.now) places.now }
     ensures there { IfSome result (λ i. (i < length namespaces.now)
-        × (uri_of (entries (map namespace_view namespaces.now) places.now) None ≡ Some (namespace_at (map namespace_view namespaces.now) i).uri)) }
-    ensures absent { IfNone result (uri_of (entries (map namespace_view namespaces.now) places.now) None ≡ None) }
+        × (uri_of (entries (map namespace_view namespaces.now) places.now) None
+        ≡ Some (namespace_at (map namespace_view namespaces.now) i).uri)) }
+    ensures absent { IfNone result
+        (uri_of (entries (map namespace_view namespaces.now) places.now) None ≡ None) }
 {
     for place in places {
         if same_prefix(namespaces[*place as usize].name, None) {
@@ -90,7 +94,10 @@ pub fn find(
 ) -> Option<u16>
     requires { LooksWithin (length namespaces.now) (places_view few) present.now }
     ensures within { OptionWithin (length namespaces.now) result }
-    ensures value { option_map (λ i. (namespace_at (map namespace_view namespaces.now) i).uri) result ≡ looked_up (map namespace_view namespaces.now) (places_view few.entry) present.now (prefix_view prefix.entry) }
+    ensures value { option_map
+        (λ i. (namespace_at (map namespace_view namespaces.now) i).uri) result
+        ≡ looked_up (map namespace_view namespaces.now) (places_view few.entry) present.now
+        (prefix_view prefix.entry) }
 {
     match few {
         Some(places) => place_of(namespaces, places, prefix),
@@ -110,7 +117,9 @@ pub fn find_default(
 ) -> Option<u16>
     requires { LooksWithin (length namespaces.now) (places_view few) present.now }
     ensures within { OptionWithin (length namespaces.now) result }
-    ensures value { option_map (λ i. (namespace_at (map namespace_view namespaces.now) i).uri) result ≡ looked_up (map namespace_view namespaces.now) (places_view few.entry) present.now None }
+    ensures value { option_map
+        (λ i. (namespace_at (map namespace_view namespaces.now) i).uri) result
+        ≡ looked_up (map namespace_view namespaces.now) (places_view few.entry) present.now None }
 {
     match few {
         Some(places) => default_place(namespaces, places),
@@ -125,7 +134,8 @@ pub fn find_default(
 #[tactic(auto, using(crate::proofs::Pairs::declared_some, crate::proofs::Pairs::declared_none))]
 pub fn is_declared(namespaces: &[Namespace<'_>], places: &[u16], prefix: Option<&str>) -> bool
     requires { ArePlaces (length namespaces.now) places.now }
-    ensures { result ≡ is_declared (prefix_view prefix.entry) (entries (map namespace_view namespaces.now) places.now) }
+    ensures { result ≡ is_declared (prefix_view prefix.entry)
+        (entries (map namespace_view namespaces.now) places.now) }
 {
     match place_of(namespaces, places, prefix) {
         Some(_) => true,
@@ -153,8 +163,10 @@ fn is_among<'a>(
     prefix: Option<&'a str>,
 ) -> bool
     requires places { ArePlaces (length namespaces.now) own.now }
-    requires prefix_set { IsPrefixSet (map namespace_view namespaces.now) own.now prefix_set.now.keys }
-    ensures { result ≡ is_declared (prefix_view prefix.entry) (entries (map namespace_view namespaces.now) own.now) }
+    requires prefix_set { IsPrefixSet
+        (map namespace_view namespaces.now) own.now prefix_set.now.keys }
+    ensures { result ≡ is_declared (prefix_view prefix.entry)
+        (entries (map namespace_view namespaces.now) own.now) }
 {
     if own.len() > FEW {
         return has_prefix(prefix_set, prefix);
@@ -173,39 +185,51 @@ pub fn is_own<'a>(
     prefix: Option<&'a str>,
 ) -> bool
     requires places { ArePlaces (length namespaces.now) own.now }
-    requires prefix_set { IsPrefixSet (map namespace_view namespaces.now) own.now prefix_set.now.keys }
-    ensures { result ≡ (is_declared (prefix_view prefix.entry) (entries (map namespace_view namespaces.now) own.now) || (xml && is_xml (prefix_view prefix.entry))) }
+    requires prefix_set { IsPrefixSet
+        (map namespace_view namespaces.now) own.now prefix_set.now.keys }
+    ensures { result ≡ (is_declared (prefix_view prefix.entry)
+        (entries (map namespace_view namespaces.now) own.now)
+        || (xml && is_xml (prefix_view prefix.entry))) }
 {
     is_among(namespaces, own, prefix_set, prefix) || (xml && is_xml(prefix))
+}
+
+/// What a tag declares itself: the listed places from `from` on, and `xml` if the flag says so.
+#[derive(Clone, Copy)]
+pub struct OwnDeclarations {
+    pub from: usize,
+    pub xml: bool,
 }
 
 /// Lists, behind what an element declares itself, what its parent lists from `from` up to `until` and it does not declare.
 pub fn inherit<'a>(
     namespaces: &[Namespace<'a>],
     listed: &mut Vec<u16>,
-    own: usize,
+    own: OwnDeclarations,
     prefix_set: &BTreeSet<Option<&'a str>>,
-    xml: bool,
     from: usize,
     until: usize,
-) -> Result<(), Failure>
+) -> Result<(), AllocError>
     requires places { ArePlaces (length namespaces.now) listed.old.items }
-    requires own { own ≤ length listed.old.items }
-    requires prefix_set { IsPrefixSet (map namespace_view namespaces.now) (drop own listed.old.items) prefix_set.now.keys }
-    requires parent { (from ≤ until) × (until ≤ own) }
-    ensures ok { OnOk result ((more : List ℕ) × (listed.new.items ≡ listed.old.items ++ more) × ArePlaces (length namespaces.now) more
+    requires own { own.from ≤ length listed.old.items }
+    requires prefix_set { IsPrefixSet (map namespace_view namespaces.now)
+        (drop own.from listed.old.items) prefix_set.now.keys }
+    requires parent { (from ≤ until) × (until ≤ own.from) }
+    ensures { OnOk result ((more : List ℕ) × (listed.new.items ≡ listed.old.items ++ more)
+        × ArePlaces (length namespaces.now) more
         × (entries (map namespace_view namespaces.now) more
-        ≡ others (entries (map namespace_view namespaces.now) (drop own listed.old.items)) xml (entries (map namespace_view namespaces.now) (slice_range listed.old.items from until)))) }
-    ensures err { IfErr result (λ e. e ≡ Failure.Memory) }
+        ≡ others (entries (map namespace_view namespaces.now) (drop own.from listed.old.items))
+        own.xml (entries (map namespace_view namespaces.now)
+        (slice_range listed.old.items from until)))) }
 {
     let end = listed.len();
     for turn in from..until {
         let place = listed[turn];
         if !is_own(
             namespaces,
-            &listed[own..end],
+            &listed[own.from..end],
             prefix_set,
-            xml,
+            own.xml,
             namespaces[place as usize].name,
         ) {
             listed.push(place)?;

@@ -1,31 +1,33 @@
 //! The scope of a start tag: what its element declares, and what it inherits and does not declare (Namespaces in XML 1.0,
 //! section 6).
 
-ghost use Rattle.std.specs.Prelude.{◌≡◌, ◌<◌, ◌≤◌, ◌++◌, Bool, false, ℕ, List, None, length, map, drop, reverse, slice_range, slice_index_or, IfOk, IfErr, OnOk};
+ghost use Rattle.std.specs.Prelude.{◌≡◌, ◌<◌, ◌≤◌, ◌++◌, Bool, false, ℕ, List, None, length, map, drop, reverse, slice_range, slice_index_or, IfOk, OnOk};
 ghost use Rattle.rox_grammar.specs.Written.{NamespaceDecl};
 ghost use Rattle.rox_grammar.specs.Tree.{is_declared};
-ghost use Rattle.rox_tables.specs.Rows.{namespace_view, scope_at, AreScopes};
+ghost use Rattle.rox_tables.specs.Rows.{namespace_view, AreScopes};
 ghost use Rattle.rox_tables.specs.Scopes.{prefix_view, entries, places_in, ArePlaces, PrefixesOnce, others, unlisted};
 ghost use Rattle.rox_tables.specs.PrefixSet.{IsPrefixSet};
 ghost use Rattle.rox_tables.specs.Bindings.{IsBound, bound_place};
 ghost use Rattle.rox_tables.specs.Ropes.{IsListed};
-ghost use Rattle.rox_tables.specs.TagScopes.{HasScope, HasBindings, lists_in};
+ghost use Rattle.rox_tables.specs.TagScopes.{HasOpenTag, HasScope};
 
 use crate::namespaces::bindings::PrefixBindings;
 use crate::namespaces::prefix_set::FEW;
 use crate::namespaces::rope::{add, both, index_of, stretch, without};
-use crate::namespaces::scope::inherit;
+use crate::namespaces::scope::{OwnDeclarations, inherit};
 use crate::rows::tables::{ElementTables, Namespace, Scope, Stretch};
-use rox_grammar::failure::Failure;
+use std::alloc::AllocError;
 use std::collections::BTreeSet;
 
 /// Lists once more, in reverse order, what is listed from `from` on: a row that reads it from its back.
-fn add_back(listed: &mut Vec<u16>, scopes: &mut Vec<Scope>, from: usize) -> Result<u32, Failure>
+fn add_back(listed: &mut Vec<u16>, scopes: &mut Vec<Scope>, from: usize) -> Result<u32, AllocError>
     requires from { from ≤ length listed.old.items }
     requires scopes { AreScopes (length listed.old.items) scopes.old.items }
-    ensures value { IfOk result (λ s. (namespaces : List NamespaceDecl) → IsListed namespaces listed.old.items scopes.old.items listed.new.items scopes.new.items s (entries namespaces (drop from listed.old.items))) }
-    ensures own { OnOk result (listed.new.items ≡ listed.old.items ++ reverse (drop from listed.old.items)) }
-    ensures err { IfErr result (λ e. e ≡ Failure.Memory) }
+    ensures value { IfOk result (λ s. (namespaces : List NamespaceDecl)
+        → IsListed namespaces listed.old.items scopes.old.items listed.new.items scopes.new.items s
+        (entries namespaces (drop from listed.old.items))) }
+    ensures own { OnOk result (listed.new.items
+        ≡ listed.old.items ++ reverse (drop from listed.old.items)) }
 {
     let end = listed.len();
     for turn in 0..end - from {
@@ -38,11 +40,16 @@ fn add_back(listed: &mut Vec<u16>, scopes: &mut Vec<Scope>, from: usize) -> Resu
 }
 
 /// A row of what is listed from `from` on: few are a stretch.
-fn add_stretch(listed: &mut Vec<u16>, scopes: &mut Vec<Scope>, from: usize) -> Result<u32, Failure>
+fn add_stretch(
+    listed: &mut Vec<u16>,
+    scopes: &mut Vec<Scope>,
+    from: usize,
+) -> Result<u32, AllocError>
     requires from { from ≤ length listed.old.items }
     requires scopes { AreScopes (length listed.old.items) scopes.old.items }
-    ensures value { IfOk result (λ s. (namespaces : List NamespaceDecl) → IsListed namespaces listed.old.items scopes.old.items listed.new.items scopes.new.items s (entries namespaces (drop from listed.old.items))) }
-    ensures err { IfErr result (λ e. e ≡ Failure.Memory) }
+    ensures { IfOk result (λ s. (namespaces : List NamespaceDecl)
+        → IsListed namespaces listed.old.items scopes.old.items listed.new.items scopes.new.items s
+        (entries namespaces (drop from listed.old.items))) }
 {
     let until = listed.len();
     if until - from > FEW {
@@ -61,23 +68,26 @@ pub fn listed_below_few<'input>(
     scopes: &mut Vec<Scope>,
     prefix_set: &BTreeSet<Option<&'input str>>,
     above: Stretch,
-    own: usize,
-    xml: bool,
-) -> Result<u32, Failure>
+    own: OwnDeclarations,
+) -> Result<u32, AllocError>
     requires places { ArePlaces (length namespaces.now) listed.old.items }
     requires scopes { AreScopes (length listed.old.items) scopes.old.items }
-    requires own { own ≤ length listed.old.items }
-    requires prefix_set { IsPrefixSet (map namespace_view namespaces.now) (drop own listed.old.items) prefix_set.now.keys }
-    requires above { (above.from ≤ above.until) × (above.until ≤ own) }
-    ensures value { IfOk result (λ s. IsListed (map namespace_view namespaces.now) listed.old.items scopes.old.items listed.new.items scopes.new.items s
-        (entries (map namespace_view namespaces.now) (drop own listed.old.items)
-        ++ others (entries (map namespace_view namespaces.now) (drop own listed.old.items)) xml (entries (map namespace_view namespaces.now) (slice_range listed.old.items above.from above.until)))) }
-    ensures err { IfErr result (λ e. e ≡ Failure.Memory) }
+    requires own { own.from ≤ length listed.old.items }
+    requires prefix_set { IsPrefixSet (map namespace_view namespaces.now)
+        (drop own.from listed.old.items) prefix_set.now.keys }
+    requires above { (above.from ≤ above.until) × (above.until ≤ own.from) }
+    ensures { IfOk result
+        (λ s. IsListed (map namespace_view namespaces.now) listed.old.items scopes.old.items
+        listed.new.items scopes.new.items s
+        (entries (map namespace_view namespaces.now) (drop own.from listed.old.items)
+        ++ others (entries (map namespace_view namespaces.now) (drop own.from listed.old.items))
+        own.xml (entries (map namespace_view namespaces.now)
+        (slice_range listed.old.items above.from above.until)))) }
 {
     let from = above.from as usize;
     let until = above.until as usize;
-    inherit(namespaces, listed, own, prefix_set, xml, from, until)?;
-    let place = add_stretch(listed, scopes, own)?;
+    inherit(namespaces, listed, own, prefix_set, from, until)?;
+    let place = add_stretch(listed, scopes, own.from)?;
     Ok(place)
 }
 
@@ -89,16 +99,20 @@ fn hide<'input>(
     present: &PrefixBindings<'input>,
     scope: u32,
     prefix: Option<&str>,
-) -> Result<u32, Failure>
+) -> Result<u32, AllocError>
     requires places { ArePlaces (length namespaces.now) listed.now }
     requires scopes { AreScopes (length listed.now) scopes.old.items }
     requires within { scope < length scopes.old.items }
-    requires once { PrefixesOnce (entries (map namespace_view namespaces.now) (places_in listed.now scopes.old.items scope)) }
+    requires once { PrefixesOnce (entries (map namespace_view namespaces.now)
+        (places_in listed.now scopes.old.items scope)) }
     requires absent { bound_place present.now (prefix_view prefix) ≡ None
-        → is_declared (prefix_view prefix) (entries (map namespace_view namespaces.now) (places_in listed.now scopes.old.items scope)) ≡ false }
-    ensures value { IfOk result (λ s. IsListed (map namespace_view namespaces.now) listed.now scopes.old.items listed.now scopes.new.items s
-        (unlisted (prefix_view prefix.entry) (entries (map namespace_view namespaces.now) (places_in listed.now scopes.old.items scope)))) }
-    ensures err { IfErr result (λ e. e ≡ Failure.Memory) }
+        → is_declared (prefix_view prefix) (entries (map namespace_view namespaces.now)
+        (places_in listed.now scopes.old.items scope)) ≡ false }
+    ensures { IfOk result
+        (λ s. IsListed (map namespace_view namespaces.now) listed.now scopes.old.items listed.now
+        scopes.new.items s
+        (unlisted (prefix_view prefix.entry) (entries (map namespace_view namespaces.now)
+        (places_in listed.now scopes.old.items scope)))) }
 {
     let Some(place) = present.get(prefix) else {
         return Ok(scope);
@@ -118,26 +132,31 @@ fn hide_own<'input>(
     scopes: &mut Vec<Scope>,
     present: &PrefixBindings<'input>,
     scope: u32,
-    own: usize,
-    xml: bool,
-) -> Result<u32, Failure>
+    own: OwnDeclarations,
+) -> Result<u32, AllocError>
     requires places { ArePlaces (length namespaces.now) listed.now }
     requires scopes { AreScopes (length listed.now) scopes.old.items }
     requires within { scope < length scopes.old.items }
-    requires own { own ≤ length listed.now }
-    requires once { PrefixesOnce (entries (map namespace_view namespaces.now) (places_in listed.now scopes.old.items scope)) }
-    requires bound { IsBound (map namespace_view namespaces.now) (bound_place present.now) (entries (map namespace_view namespaces.now) (places_in listed.now scopes.old.items scope)) }
-    ensures value { IfOk result (λ s. IsListed (map namespace_view namespaces.now) listed.now scopes.old.items listed.now scopes.new.items s
-        (others (entries (map namespace_view namespaces.now) (drop own listed.now)) xml (entries (map namespace_view namespaces.now) (places_in listed.now scopes.old.items scope)))) }
-    ensures err { IfErr result (λ e. e ≡ Failure.Memory) }
+    requires own { own.from ≤ length listed.now }
+    requires once { PrefixesOnce (entries (map namespace_view namespaces.now)
+        (places_in listed.now scopes.old.items scope)) }
+    requires bound { IsBound (map namespace_view namespaces.now) (bound_place present.now)
+        (entries (map namespace_view namespaces.now)
+        (places_in listed.now scopes.old.items scope)) }
+    ensures { IfOk result
+        (λ s. IsListed (map namespace_view namespaces.now) listed.now scopes.old.items listed.now
+        scopes.new.items s
+        (others (entries (map namespace_view namespaces.now) (drop own.from listed.now)) own.xml
+        (entries (map namespace_view namespaces.now)
+        (places_in listed.now scopes.old.items scope)))) }
 {
     let mut left = scope;
-    for turn in own..listed.len() {
+    for turn in own.from..listed.len() {
         let place = listed[turn];
         let prefix = namespaces[place as usize].name;
         left = hide(namespaces, listed, scopes, present, left, prefix)?;
     }
-    if xml {
+    if own.xml {
         left = hide(namespaces, listed, scopes, present, left, Some("xml"))?;
     }
     Ok(left)
@@ -151,23 +170,29 @@ pub fn listed_below_many<'input>(
     scopes: &mut Vec<Scope>,
     present: &PrefixBindings<'input>,
     above: u32,
-    own: usize,
-    xml: bool,
-) -> Result<u32, Failure>
+    own: OwnDeclarations,
+) -> Result<u32, AllocError>
     requires places { ArePlaces (length namespaces.now) listed.old.items }
     requires scopes { AreScopes (length listed.old.items) scopes.old.items }
     requires above { above < length scopes.old.items }
-    requires own { own ≤ length listed.old.items }
-    requires once { PrefixesOnce (entries (map namespace_view namespaces.now) (places_in listed.old.items scopes.old.items above)) }
-    requires bound { IsBound (map namespace_view namespaces.now) (bound_place present.now) (entries (map namespace_view namespaces.now) (places_in listed.old.items scopes.old.items above)) }
-    ensures value { IfOk result (λ s. IsListed (map namespace_view namespaces.now) listed.old.items scopes.old.items listed.new.items scopes.new.items s
-        (entries (map namespace_view namespaces.now) (drop own listed.old.items)
-        ++ others (entries (map namespace_view namespaces.now) (drop own listed.old.items)) xml (entries (map namespace_view namespaces.now) (places_in listed.old.items scopes.old.items above)))) }
-    ensures own { OnOk result (listed.new.items ≡ listed.old.items ++ reverse (drop own listed.old.items)) }
-    ensures err { IfErr result (λ e. e ≡ Failure.Memory) }
+    requires own { own.from ≤ length listed.old.items }
+    requires once { PrefixesOnce (entries (map namespace_view namespaces.now)
+        (places_in listed.old.items scopes.old.items above)) }
+    requires bound { IsBound (map namespace_view namespaces.now) (bound_place present.now)
+        (entries (map namespace_view namespaces.now)
+        (places_in listed.old.items scopes.old.items above)) }
+    ensures value { IfOk result
+        (λ s. IsListed (map namespace_view namespaces.now) listed.old.items scopes.old.items
+        listed.new.items scopes.new.items s
+        (entries (map namespace_view namespaces.now) (drop own.from listed.old.items)
+        ++ others (entries (map namespace_view namespaces.now) (drop own.from listed.old.items))
+        own.xml (entries (map namespace_view namespaces.now)
+        (places_in listed.old.items scopes.old.items above)))) }
+    ensures own { OnOk result (listed.new.items
+        ≡ listed.old.items ++ reverse (drop own.from listed.old.items)) }
 {
-    let rest = hide_own(namespaces, listed, scopes, present, above, own, xml)?;
-    let first = add_back(listed, scopes, own)?;
+    let rest = hide_own(namespaces, listed, scopes, present, above, own)?;
+    let first = add_back(listed, scopes, own.from)?;
     let place = both(scopes, first, rest)?;
     Ok(place)
 }
@@ -178,22 +203,14 @@ fn scope_below_few<'input>(
     prefix_set: &BTreeSet<Option<&'input str>>,
     above: u32,
     stretch: Stretch,
-    own: usize,
-    xml: bool,
-) -> Result<u32, Failure>
-    requires places { ArePlaces (length elements.old.namespaces.items.items) elements.old.listed.items }
-    requires own { own ≤ length elements.old.listed.items }
-    requires prefix_set { IsPrefixSet (map namespace_view elements.old.namespaces.items.items) (drop own elements.old.listed.items) prefix_set.now.keys }
-    requires scopes { AreScopes own elements.old.scopes.items }
-    requires above { above < length elements.old.scopes.items }
-    requires few { Scope.Few stretch ≡ slice_index_or elements.old.scopes.items above (Scope.Few stretch) }
-    requires once { PrefixesOnce (scope_at (lists_in elements.old) above) }
-    requires own_once { PrefixesOnce (entries (map namespace_view elements.old.namespaces.items.items) (drop own elements.old.listed.items)) }
-    requires kept { HasBindings elements.old }
-    ensures namespaces { elements.new.namespaces ≡ elements.old.namespaces }
-    ensures attributes { elements.new.attributes ≡ elements.old.attributes }
-    ensures value { IfOk result (λ s. HasScope elements.old elements.new above own xml s) }
-    ensures err { IfErr result (λ e. e ≡ Failure.Memory) }
+    own: OwnDeclarations,
+) -> Result<u32, AllocError>
+    requires tag { HasOpenTag elements.old above own.from }
+    requires prefix_set { IsPrefixSet (map namespace_view elements.old.namespaces.items.items)
+        (drop own.from elements.old.listed.items) prefix_set.now.keys }
+    requires few { Scope.Few stretch
+        ≡ slice_index_or elements.old.scopes.items above (Scope.Few stretch) }
+    ensures { IfOk result (λ s. HasScope elements.old elements.new above own.from own.xml s) }
 {
     let scope = listed_below_few(
         elements.namespaces.as_slice(),
@@ -202,7 +219,6 @@ fn scope_below_few<'input>(
         prefix_set,
         stretch,
         own,
-        xml,
     )?;
     if let Scope::Few(_) = elements.scopes[scope as usize] {
         return Ok(scope);
@@ -220,20 +236,10 @@ fn scope_below_few<'input>(
 fn scope_below_many<'input>(
     elements: &mut ElementTables<'input>,
     above: u32,
-    own: usize,
-    xml: bool,
-) -> Result<u32, Failure>
-    requires places { ArePlaces (length elements.old.namespaces.items.items) elements.old.listed.items }
-    requires own { own ≤ length elements.old.listed.items }
-    requires scopes { AreScopes own elements.old.scopes.items }
-    requires above { above < length elements.old.scopes.items }
-    requires once { PrefixesOnce (scope_at (lists_in elements.old) above) }
-    requires own_once { PrefixesOnce (entries (map namespace_view elements.old.namespaces.items.items) (drop own elements.old.listed.items)) }
-    requires kept { HasBindings elements.old }
-    ensures namespaces { elements.new.namespaces ≡ elements.old.namespaces }
-    ensures attributes { elements.new.attributes ≡ elements.old.attributes }
-    ensures value { IfOk result (λ s. HasScope elements.old elements.new above own xml s) }
-    ensures err { IfErr result (λ e. e ≡ Failure.Memory) }
+    own: OwnDeclarations,
+) -> Result<u32, AllocError>
+    requires tag { HasOpenTag elements.old above own.from }
+    ensures { IfOk result (λ s. HasScope elements.old elements.new above own.from own.xml s) }
 {
     elements.present.make_innermost(
         elements.namespaces.as_slice(),
@@ -241,7 +247,7 @@ fn scope_below_many<'input>(
         &elements.scopes,
         above,
     )?;
-    if own >= elements.listed.len() && !xml {
+    if own.from >= elements.listed.len() && !own.xml {
         return Ok(above);
     }
     let from = elements.listed.len();
@@ -252,14 +258,12 @@ fn scope_below_many<'input>(
         &elements.present,
         above,
         own,
-        xml,
     )?;
     elements.present.enter(
         elements.namespaces.as_slice(),
         &elements.listed,
         from,
-        elements.listed.len(),
-        xml,
+        own.xml,
         scope,
     )?;
     Ok(scope)
@@ -272,26 +276,17 @@ fn scope_below<'input>(
     elements: &mut ElementTables<'input>,
     prefix_set: &BTreeSet<Option<&'input str>>,
     above: u32,
-    own: usize,
-    xml: bool,
-) -> Result<u32, Failure>
-    requires places { ArePlaces (length elements.old.namespaces.items.items) elements.old.listed.items }
-    requires own { own ≤ length elements.old.listed.items }
-    requires prefix_set { IsPrefixSet (map namespace_view elements.old.namespaces.items.items) (drop own elements.old.listed.items) prefix_set.now.keys }
-    requires scopes { AreScopes own elements.old.scopes.items }
-    requires above { above < length elements.old.scopes.items }
-    requires once { PrefixesOnce (scope_at (lists_in elements.old) above) }
-    requires own_once { PrefixesOnce (entries (map namespace_view elements.old.namespaces.items.items) (drop own elements.old.listed.items)) }
-    requires kept { HasBindings elements.old }
-    ensures namespaces { elements.new.namespaces ≡ elements.old.namespaces }
-    ensures attributes { elements.new.attributes ≡ elements.old.attributes }
-    ensures value { IfOk result (λ s. HasScope elements.old elements.new above own xml s) }
-    ensures err { IfErr result (λ e. e ≡ Failure.Memory) }
+    own: OwnDeclarations,
+) -> Result<u32, AllocError>
+    requires tag { HasOpenTag elements.old above own.from }
+    requires prefix_set { IsPrefixSet (map namespace_view elements.old.namespaces.items.items)
+        (drop own.from elements.old.listed.items) prefix_set.now.keys }
+    ensures { IfOk result (λ s. HasScope elements.old elements.new above own.from own.xml s) }
 {
     if let Scope::Few(stretch) = elements.scopes[above as usize] {
-        return scope_below_few(elements, prefix_set, above, stretch, own, xml);
+        return scope_below_few(elements, prefix_set, above, stretch, own);
     }
-    scope_below_many(elements, above, own, xml)
+    scope_below_many(elements, above, own)
 }
 
 /// The scope of an element whose own declarations are those behind `own`, and `xml` if the flag says so, below one of the scope
@@ -302,26 +297,17 @@ pub fn scope_of_tag<'input>(
     elements: &mut ElementTables<'input>,
     prefix_set: &BTreeSet<Option<&'input str>>,
     above: u32,
-    own: usize,
-    xml: bool,
-) -> Result<u32, Failure>
-    requires places { ArePlaces (length elements.old.namespaces.items.items) elements.old.listed.items }
-    requires own { own ≤ length elements.old.listed.items }
-    requires prefix_set { IsPrefixSet (map namespace_view elements.old.namespaces.items.items) (drop own elements.old.listed.items) prefix_set.now.keys }
-    requires scopes { AreScopes own elements.old.scopes.items }
-    requires above { above < length elements.old.scopes.items }
-    requires once { PrefixesOnce (scope_at (lists_in elements.old) above) }
-    requires own_once { PrefixesOnce (entries (map namespace_view elements.old.namespaces.items.items) (drop own elements.old.listed.items)) }
-    requires kept { HasBindings elements.old }
-    ensures namespaces { elements.new.namespaces ≡ elements.old.namespaces }
-    ensures attributes { elements.new.attributes ≡ elements.old.attributes }
-    ensures value { IfOk result (λ s. HasScope elements.old elements.new above own xml s) }
-    ensures err { IfErr result (λ e. e ≡ Failure.Memory) }
+    own: OwnDeclarations,
+) -> Result<u32, AllocError>
+    requires tag { HasOpenTag elements.old above own.from }
+    requires prefix_set { IsPrefixSet (map namespace_view elements.old.namespaces.items.items)
+        (drop own.from elements.old.listed.items) prefix_set.now.keys }
+    ensures { IfOk result (λ s. HasScope elements.old elements.new above own.from own.xml s) }
 {
-    if own >= elements.listed.len() && !xml {
+    if own.from >= elements.listed.len() && !own.xml {
         if let Scope::Few(_) = elements.scopes[above as usize] {
             return Ok(above);
         }
     }
-    scope_below(elements, prefix_set, above, own, xml)
+    scope_below(elements, prefix_set, above, own)
 }

@@ -1,22 +1,24 @@
 //! The table of attributes.
 
-ghost use Rattle.std.specs.Prelude.{◌≡◌, ◌<◌, ◌+◌, ◌/◌, ◌++◌, ◌∷◌, [], true, length, take, min, vec_len, vec_capacity, if◌then◌else◌, is_ok, IfOk, OnOk, IfErr};
-ghost use Rattle.std.proofs.Props.{props};
+ghost use Rattle.std.specs.Prelude.{◌≡◌, ◌<◌, ◌≤◌, ◌+◌, ◌^◌, ◌/◌, ◌++◌, ◌∷◌, [], true, false, length, take, min, vec_len, vec_capacity, if◌then◌else◌, is_ok, IfOk, OnOk, IfErr};
+ghost use Rattle.rox_tables.specs.StoredAttributes.{AreNumbered, AreNumbered-prop, unusual_count};
 
 use crate::rows::growth::{make_room, reserve, trim, with_room};
+use crate::rows::stored_attribute::{StoredAttribute, UNUSUAL, usual_before};
 use crate::rows::tables::{AttributeData, AttributePlaces};
 use rox_grammar::failure::Failure;
 use std::alloc::Global;
 
-/// The attributes of all elements, in document order. What an attribute is and where it stands are columns of their own,
-/// since a reader who goes over the attributes seldom asks for places, and passes fewer bytes without them.
+/// The attributes of all elements, in document order.
 #[derive(Drop)]
 pub struct AttributeTable<'input> {
-    pub items: Vec<AttributeData<'input>>,
-    pub places: Vec<AttributePlaces>,
+    pub items: Vec<StoredAttribute<'input>>,
+    /// Where those stand whose places do not follow from their start, in order.
+    pub unusual: Vec<AttributePlaces>,
     /// Where the text ends.
     pub text_end: usize,
-    pub ghost even: { length places.items ≡ length items.items } by { Prim.hlevel props },
+    pub ghost numbered: { AreNumbered 0 items.items } by { AreNumbered-prop 0 items.items },
+    pub ghost counted: { length unusual.items ≡ unusual_count items.items },
 }
 
 /// How many attributes a table begins with room for, at most.
@@ -32,17 +34,32 @@ fn first_attributes(bytes: usize) -> usize
     (bytes / 112 + FEWEST).min(FIRST_ATTRIBUTES)
 }
 
+/// How many of these are unusual.
+fn count_unusual(rows: &[StoredAttribute<'_>]) -> usize
+    ensures { result ≡ unusual_count rows.now }
+{
+    let mut count = 0;
+    for row in rows {
+        if row.is_unusual() {
+            count += 1;
+        }
+    }
+    count
+}
+
 impl<'input> AttributeTable<'input> {
     ghost use Rattle.rox_tables.specs.Rows.{attribute_rows};
+    ghost use Rattle.rox_tables.specs.StoredAttributes.{places_in, place_bound};
+    ghost use Rattle.rox_tables.specs.UsualPlaces.{usual_places};
+    ghost use Rattle.rox_tables.specs.Storage.{storage_bytes};
 
     /// The table of a text of so many bytes, without attributes.
     pub fn of_text(alloc: Global, bytes: usize) -> AttributeTable<'input>
         ensures { attribute_rows result ≡ [] }
     {
-        let room = first_attributes(bytes);
         AttributeTable {
-            items: with_room(alloc, room),
-            places: with_room(alloc, room),
+            items: with_room(alloc, first_attributes(bytes)),
+            unusual: Vec::new(alloc),
             text_end: bytes,
         }
     }
@@ -55,17 +72,17 @@ impl<'input> AttributeTable<'input> {
         self.items.len()
     }
 
-    /// Makes room for the first attributes. The only error is want of memory.
-    fn make_first_room(&mut self) -> Result<(), Failure>
-        ensures items { self.new.items.items ≡ self.old.items.items }
-        ensures places { self.new.places.items ≡ self.old.places.items }
-        ensures item { OnOk result (vec_len self.new.items < vec_capacity self.new.items) }
-        ensures place { OnOk result (vec_len self.new.places < vec_capacity self.new.places) }
-        ensures err { IfErr result (λ e. e ≡ Failure.Memory) }
+    /// Where an attribute of these stands.
+    #[inline]
+    pub fn places(&self, row: &StoredAttribute<'input>) -> AttributePlaces
+        requires { place_bound row.now ≤ length self.now.unusual.items }
+        ensures { result ≡ places_in self.now.unusual.items row.now }
     {
-        let room = first_attributes(self.text_end);
-        reserve(&mut self.items, room, FEWEST)?;
-        reserve(&mut self.places, room, FEWEST)
+        if row.is_unusual() {
+            self.unusual[row.place as usize]
+        } else {
+            row.usual_places()
+        }
     }
 
     /// Makes room for more attributes, as those that there are foretell it, the next of which ends at `place`. The only error is
@@ -74,67 +91,112 @@ impl<'input> AttributeTable<'input> {
     #[inline(never)]
     fn make_room(&mut self, place: usize) -> Result<(), Failure>
         ensures items { self.new.items.items ≡ self.old.items.items }
-        ensures places { self.new.places.items ≡ self.old.places.items }
-        ensures item { OnOk result (vec_len self.new.items < vec_capacity self.new.items) }
-        ensures place { OnOk result (vec_len self.new.places < vec_capacity self.new.places) }
+        ensures unusual { self.new.unusual ≡ self.old.unusual }
+        ensures room { OnOk result (vec_len self.new.items < vec_capacity self.new.items) }
         ensures err { IfErr result (λ e. e ≡ Failure.Memory) }
     {
         if self.items.is_empty() {
-            return self.make_first_room();
+            let room = first_attributes(self.text_end);
+            return reserve(&mut self.items, room, FEWEST);
         }
-        make_room(&mut self.items, place, self.text_end)?;
-        make_room(&mut self.places, place, self.text_end)
+        make_room(&mut self.items, place, self.text_end)
     }
 
-    /// The same where there is no room for one more.
+    /// Puts an attribute at the end whose places follow from its start, so many bytes of its name standing before its local part.
     #[inline(always)]
-    fn foresee(&mut self, place: usize) -> Result<(), Failure>
-        ensures items { self.new.items.items ≡ self.old.items.items }
-        ensures places { self.new.places.items ≡ self.old.places.items }
-        ensures item { OnOk result (vec_len self.new.items < vec_capacity self.new.items) }
-        ensures place { OnOk result (vec_len self.new.places < vec_capacity self.new.places) }
+    fn put_usual(&mut self, item: AttributeData<'input>, places: AttributePlaces, before: u8)
+        requires room { vec_len self.old.items < vec_capacity self.old.items }
+        requires before { before < 255 }
+        requires start { places.start < 2 ^ 32 }
+        requires usual { places ≡ usual_places places.start before (length item.local.now)
+            (length (storage_bytes item.value)) }
+        ensures { attribute_rows self.new ≡ attribute_rows self.old ++ (item.entry, places) ∷ [] }
+    {
+        let row = StoredAttribute::new(item, before, places.start as u32);
+        self.items.push_reserved(row);
+    }
+
+    /// Puts any other attribute at the end, if there is room for its places.
+    #[cold]
+    #[inline(never)]
+    fn put_unusual(&mut self, item: AttributeData<'input>, places: AttributePlaces) -> bool
+        requires room { vec_len self.old.items < vec_capacity self.old.items }
+        ensures put { result ≡ true
+            → attribute_rows self.new ≡ attribute_rows self.old ++ (item.entry, places) ∷ [] }
+        ensures none { result ≡ false → attribute_rows self.new ≡ attribute_rows self.old }
+    {
+        let number = self.unusual.len();
+        if number >= self.unusual.capacity() || number > u32::MAX as usize {
+            return false;
+        }
+        let row = StoredAttribute::new(item, UNUSUAL, number as u32);
+        self.items.push_reserved(row);
+        self.unusual.push_reserved(places);
+        true
+    }
+
+    /// The same with room made for its places. The only error is want of memory, and then the table is as before.
+    #[cold]
+    #[inline(never)]
+    fn push_unusual(
+        &mut self,
+        item: AttributeData<'input>,
+        places: AttributePlaces,
+    ) -> Result<(), Failure>
+        requires room { vec_len self.old.items < vec_capacity self.old.items }
+        ensures rows { attribute_rows self.new ≡ (if is_ok result
+            then attribute_rows self.old ++ (item.entry, places) ∷ []
+            else attribute_rows self.old) }
         ensures err { IfErr result (λ e. e ≡ Failure.Memory) }
     {
-        let items = &self.items;
-        let places = &self.places;
-        if items.len() < items.capacity() && places.len() < places.capacity() {
-            return Ok(());
+        if self.unusual.len() >= self.unusual.capacity() {
+            make_room(&mut self.unusual, places.end, self.text_end)?;
         }
-        self.make_room(place)
+        if self.put_unusual(item, places) {
+            Ok(())
+        } else {
+            Err(Failure::Memory)
+        }
     }
 
     /// Puts an attribute at the end. The only error is want of memory, and then the table is as before.
     #[inline(always)]
     pub fn push(&mut self, row: (AttributeData<'input>, AttributePlaces)) -> Result<(), Failure>
-        ensures rows { attribute_rows self.new ≡ (if is_ok result then attribute_rows self.old ++ row.entry ∷ [] else attribute_rows self.old) }
+        ensures rows { attribute_rows self.new ≡ (if is_ok result
+            then attribute_rows self.old ++ row.entry ∷ [] else attribute_rows self.old) }
         ensures err { IfErr result (λ e. e ≡ Failure.Memory) }
     {
         let (item, places) = row;
-        self.foresee(places.end)?;
-        self.items.push_reserved(item);
-        self.places.push_reserved(places);
-        Ok(())
+        if self.items.len() >= self.items.capacity() {
+            self.make_room(places.end)?;
+        }
+        match usual_before(&item, &places) {
+            Some(before) => {
+                self.put_usual(item, places, before);
+                Ok(())
+            }
+            None => self.push_unusual(item, places),
+        }
     }
 
-    /// Whether there is room for one more.
+    /// Puts an attribute at the end, if there is room for it. Else the table is as before.
     #[inline(always)]
-    pub fn has_room(&self) -> bool
-        ensures item { result ≡ true → vec_len self.now.items < vec_capacity self.now.items }
-        ensures place { result ≡ true → vec_len self.now.places < vec_capacity self.now.places }
-    {
-        self.items.len() < self.items.capacity() && self.places.len() < self.places.capacity()
-    }
-
-    /// Puts an attribute at the end, where there is room for it.
-    #[inline(always)]
-    pub fn put(&mut self, row: (AttributeData<'input>, AttributePlaces))
-        requires item { vec_len self.old.items < vec_capacity self.old.items }
-        requires place { vec_len self.old.places < vec_capacity self.old.places }
-        ensures { attribute_rows self.new ≡ attribute_rows self.old ++ row.entry ∷ [] }
+    pub fn put(&mut self, row: (AttributeData<'input>, AttributePlaces)) -> bool
+        ensures put { result ≡ true
+            → attribute_rows self.new ≡ attribute_rows self.old ++ row.entry ∷ [] }
+        ensures none { result ≡ false → attribute_rows self.new ≡ attribute_rows self.old }
     {
         let (item, places) = row;
-        self.items.push_reserved(item);
-        self.places.push_reserved(places);
+        if self.items.len() >= self.items.capacity() {
+            return false;
+        }
+        match usual_before(&item, &places) {
+            Some(before) => {
+                self.put_usual(item, places, before);
+                true
+            }
+            None => self.put_unusual(item, places),
+        }
     }
 
     /// Takes back the attributes behind the first so many.
@@ -143,8 +205,13 @@ impl<'input> AttributeTable<'input> {
     pub fn truncate(&mut self, count: usize)
         ensures { attribute_rows self.new ≡ take count (attribute_rows self.old) }
     {
+        if count >= self.items.len() {
+            return;
+        }
+        let taken = count_unusual(&self.items[count..]);
+        let places = self.unusual.len() - taken;
         self.items.truncate(count);
-        self.places.truncate(count);
+        self.unusual.truncate(places);
     }
 
     /// Gives back room that it does not need.
@@ -152,6 +219,6 @@ impl<'input> AttributeTable<'input> {
         ensures { attribute_rows self.new ≡ attribute_rows self.old }
     {
         trim(&mut self.items);
-        trim(&mut self.places);
+        trim(&mut self.unusual);
     }
 }

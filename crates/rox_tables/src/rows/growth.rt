@@ -4,16 +4,15 @@ ghost use Rattle.std.specs.Prelude.{◌≡◌, ◌<◌, ◌≤◌, ◌+◌, ◌/
 ghost use Rattle.rox_tables.specs.Growth as room;
 
 use rox_grammar::failure::Failure;
-use std::alloc::Global;
+use std::alloc::{AllocError, Global};
 
 /// Makes room for one more. The only error is want of memory.
 #[cold]
 #[inline(never)]
-fn grow<T: Drop>(to: &mut Vec<T>) -> Result<(), Failure>
+fn grow<T: Drop>(to: &mut Vec<T>) -> Result<(), AllocError>
     ensures items { to.new.items ≡ to.old.items }
     ensures len { vec_len to.new ≡ vec_len to.old }
     ensures ok { OnOk result (vec_len to.new < vec_capacity to.new) }
-    ensures err { IfErr result (λ e. e ≡ Failure.Memory) }
 {
     to.reserve(1)?;
     Ok(())
@@ -22,10 +21,10 @@ fn grow<T: Drop>(to: &mut Vec<T>) -> Result<(), Failure>
 /// Puts a value at the end. The only error is want of memory, and then the value is dropped: unlike that of `Vec::push`, the
 /// answer has no room for it, which would be cleared at each call.
 #[inline(always)]
-pub fn push<T: Drop>(to: &mut Vec<T>, value: T) -> Result<(), Failure>
-    ensures items { to.new.items ≡ (if is_ok result then to.old.items ++ value ∷ [] else to.old.items) }
+pub fn push<T: Drop>(to: &mut Vec<T>, value: T) -> Result<(), AllocError>
+    ensures items { to.new.items ≡ (if is_ok result then to.old.items ++ value ∷ []
+        else to.old.items) }
     ensures len { vec_len to.new ≡ (if is_ok result then vec_len to.old + 1 else vec_len to.old) }
-    ensures err { IfErr result (λ e. e ≡ Failure.Memory) }
 {
     if to.len() >= to.capacity() {
         grow(to)?;
@@ -34,7 +33,7 @@ pub fn push<T: Drop>(to: &mut Vec<T>, value: T) -> Result<(), Failure>
     Ok(())
 }
 
-/// The room that is asked for but once, in rows: 16 KiB of rows of nodes, which are the widest.
+/// The room that is asked for but once, in rows: 9 KiB of rows of nodes, which are the widest.
 const SMALL: usize = 204;
 
 /// Makes room for `more` rows. Where that is refused and the table would not be small, it makes room for `fewer`. The only error
@@ -45,7 +44,8 @@ pub fn reserve<T: Drop>(to: &mut Vec<T>, more: usize, fewer: usize) -> Result<()
     ensures items { to.new.items ≡ to.old.items }
     ensures len { vec_len to.new ≡ vec_len to.old }
     ensures ok { OnOk result (vec_len to.new + min more fewer ≤ vec_capacity to.new) }
-    ensures small { OnOk result (vec_len to.old + more ≤ 204 → vec_len to.new + more ≤ vec_capacity to.new) }
+    ensures small { OnOk result (vec_len to.old + more ≤ 204
+        → vec_len to.new + more ≤ vec_capacity to.new) }
     ensures err { IfErr result (λ e. e ≡ Failure.Memory) }
 {
     if to.reserve_exact(more).is_ok() {
@@ -99,7 +99,8 @@ pub fn make_room<T: Drop>(to: &mut Vec<T>, place: usize, end: usize) -> Result<(
     ensures len { vec_len to.new ≡ vec_len to.old }
     ensures ok { OnOk result (vec_len to.new < vec_capacity to.new) }
     ensures eighth { OnOk result (vec_len to.new + vec_len to.new / 8 < vec_capacity to.new) }
-    ensures small { OnOk result (room.foreseen (vec_len to.old) place end ≤ 204 → room.foreseen (vec_len to.old) place end ≤ vec_capacity to.new) }
+    ensures small { OnOk result (room.foreseen (vec_len to.old) place end ≤ 204
+        → room.foreseen (vec_len to.old) place end ≤ vec_capacity to.new) }
     ensures err { IfErr result (λ e. e ≡ Failure.Memory) }
 {
     let len = to.len();
@@ -116,7 +117,8 @@ pub fn trim<T: Drop>(table: &mut Vec<T>)
     ensures items { table.new.items ≡ table.old.items }
     ensures len { vec_len table.new ≡ vec_len table.old }
     ensures room { vec_capacity table.new ≤ vec_capacity table.old }
-    ensures none { vec_len table.old ≡ 0 → 65536 < vec_capacity table.old → vec_capacity table.new ≡ 0 }
+    ensures none { vec_len table.old ≡ 0 → 65536 < vec_capacity table.old
+        → vec_capacity table.new ≡ 0 }
 {
     let len = table.len();
     let spare = table.capacity() - len;

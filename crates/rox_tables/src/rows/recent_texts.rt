@@ -1,12 +1,11 @@
 //! Owned texts that come again, as the indentation of a text whose lines end with a carriage return and a line feed does: a text
 //! that equals the last one of its length shares its storage.
 
-ghost use Rattle.std.specs.Prelude.{◌≡◌, ◌<◌, false, vec_len, OnOk, IfOk, IfErr};
+ghost use Rattle.std.specs.Prelude.{◌≡◌, ◌<◌, false, vec_len, OnOk, IfOk};
 ghost use Rattle.rox_tables.specs.Storage.{storage_bytes, is_borrowed};
 
 use crate::rows::storage::StringStorage;
-use rox_grammar::failure::Failure;
-use std::alloc::Global;
+use std::alloc::{AllocError, Global};
 use std::rc::RcStr;
 
 /// From this length on, in bytes, a text is not kept.
@@ -38,10 +37,9 @@ impl Recent {
         &mut self,
         alloc: Global,
         text: &str,
-    ) -> Result<StringStorage<'input>, Failure>
+    ) -> Result<StringStorage<'input>, AllocError>
         ensures bytes { IfOk result (λ s. storage_bytes s ≡ text.now) }
         ensures owned { IfOk result (λ s. is_borrowed s ≡ false) }
-        ensures err { IfErr result (λ e. e ≡ Failure.Memory) }
     {
         if let Some(Some(kept)) = self.texts.get(text.len()) {
             if kept.as_str() == text {
@@ -57,9 +55,7 @@ impl Recent {
     }
 
     /// Keeps a text of this length, unless it is one of the first.
-    fn keep(&mut self, text: &RcStr, length: usize) -> Result<(), Failure>
-        ensures err { IfErr result (λ e. e ≡ Failure.Memory) }
-    {
+    fn keep(&mut self, text: &RcStr, length: usize) -> Result<(), AllocError> {
         if self.passed < FEW {
             self.passed += 1;
             return Ok(());
@@ -73,9 +69,8 @@ impl Recent {
     }
 
     /// Makes a place for each length, if there are none. The only error is want of memory.
-    fn make_places(&mut self) -> Result<(), Failure>
-        ensures places { OnOk result (0 < vec_len self.new.texts) }
-        ensures err { IfErr result (λ e. e ≡ Failure.Memory) }
+    fn make_places(&mut self) -> Result<(), AllocError>
+        ensures { OnOk result (0 < vec_len self.new.texts) }
     {
         if self.texts.is_empty() {
             self.texts.resize_with(LONG, || None)?;

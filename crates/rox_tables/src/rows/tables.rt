@@ -3,6 +3,7 @@
 use crate::namespaces::bindings::PrefixBindings;
 use crate::namespaces::namespace_table::NamespaceTable;
 use crate::rows::attributes::AttributeTable;
+use crate::rows::node_table::NodeTable;
 use crate::rows::storage::StringStorage;
 
 /// A processing instruction: its target, and its value where it has one (XML 1.0 section 2.6).
@@ -29,7 +30,7 @@ pub enum AttributeNamespace {
     Listed(u16),
 }
 
-/// What an attribute is: 48 bytes.
+/// What an attribute is.
 #[derive(Drop)]
 pub struct AttributeData<'input> {
     pub local: &'input str,
@@ -67,15 +68,14 @@ pub enum NodeKind<'input> {
     PI(PI<'input>),
 }
 
-/// A node: 80 bytes. `parent`, `subtree_end` and `depth` are its only links: the id of its parent (0 at the root node too), the
-/// id past its last descendant, and how many nodes are above it.
+/// A node, as clauses and those that make it see it. `parent` and `subtree_end` are its only links: the id of its parent (0 at the
+/// root node too), and the id past its last descendant.
 #[derive(Drop)]
 pub struct NodeData<'input> {
     pub start: usize,
     pub end: usize,
     pub parent: u32,
     pub subtree_end: u32,
-    pub depth: u32,
     pub kind: NodeKind<'input>,
 }
 
@@ -83,7 +83,7 @@ pub struct NodeData<'input> {
 /// without declarations have their parent's scope. The first scope lists nothing: it is that of the root node.
 #[derive(Drop)]
 pub struct Tables<'input> {
-    pub nodes: Vec<NodeData<'input>>,
+    pub nodes: NodeTable<'input>,
     pub attributes: AttributeTable<'input>,
     pub namespaces: Vec<Namespace<'input>>,
     pub listed: Vec<u16>,

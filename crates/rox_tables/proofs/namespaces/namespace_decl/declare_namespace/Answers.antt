@@ -6,8 +6,7 @@ use Rattle.rox_grammar.specs.declared.fault.Fault.TheVariants as fault
 use Rattle.rox_grammar.specs.declared.fault.Fault.{Fault}
 use Rattle.rox_grammar.specs.declared.fault.Span.{Span}
 use Rattle.rox_grammar.specs.Written.{NamespaceDecl, namespace_decl_of}
-use Rattle.rox_grammar.specs.Tree.{is_declared}
-use Rattle.rox_grammar.specs.WellNamed.{is_xml}
+use Rattle.rox_grammar.specs.Tree.{is_declared, is_xml}
 use Rattle.rox_grammar.specs.Document.{with_new, most_pairs}
 use Rattle.rox_reading.specs.Tags.{uri_tested, declared}
 use Rattle.std.specs.List.{slice_range}
@@ -133,7 +132,7 @@ returns-clause-prefix_set c =
     let prefix_is = ap (λ (d : NamespaceDecl). d.prefix) c.in_ok-place.ensures.there.1 in
     subst (λ xs. IsPrefixSet namespaces xs c.add_prefix.new.prefixes.keys) seen
     (subst (λ ns. IsPrefixSet ns (slice_range c.deref-2.result.now c.args.own (length c.deref-2.result.now)) c.add_prefix.new.prefixes.keys) table
-    (c.in_ok-add_prefix.ensures.value before c.in_ok-place.place (seen ∙ mine)
+    (c.in_ok-add_prefix.ensures before c.in_ok-place.place (seen ∙ mine)
     (subst (λ ns. (namespace_at ns c.in_ok-place.place).prefix ≡ prefix_view c.declared_prefix-prefix.result) (sym table) prefix_is)
     (subst (λ ns. IsPrefixSet ns before c.args.prefix_set.now.keys) (sym table) old)))
 

@@ -1,7 +1,5 @@
 use Rattle.std.proofs.Common.{◌≡◌, ◌&&◌, ◌||◌, Bool, true, false, refl, sym, ap, ◌∙◌}
-use Rattle.rox_grammar.specs.Tree.{is_declared}
-use Rattle.rox_grammar.specs.WellNamed.{is_xml}
-use Rattle.rox_grammar.specs.Document.{listable_of}
+use Rattle.rox_grammar.specs.Tree.{is_declared, is_xml, listable_of}
 use Rattle.rox_tables.specs.Scopes.{prefix_view}
 use Rattle.rox_tables.proofs.Listing.{is_declared-own}
 use Rattle.rox_tables.proofs.namespaces.namespace_decl.is_again.Goals as goal

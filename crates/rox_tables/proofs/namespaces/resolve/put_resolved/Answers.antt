@@ -1,7 +1,7 @@
 use Rattle.std.proofs.Common.{◌≤◌, ◌++◌, ◌∷◌, [], length, drop, sym, ap, ◌∙◌, arith, subst}
 use Rattle.std.proofs.lemmas.List.{length-map}
 use Rattle.rox_tables.specs.Rows.{namespace_view, attribute_rows, AttributeRow, NamespaceWithin}
-use Rattle.rox_tables.proofs.Columns.{length_rows, column_behind, all_column}
+use Rattle.rox_tables.proofs.AttributeRows.{length_rows, column_behind, all_column}
 use Rattle.rox_tables.proofs.namespaces.resolve.put_resolved.Goals as goal
 
 pub slice_bounds-tested_namespace-count : goal.slice_bounds-tested_namespace-count
@@ -33,15 +33,15 @@ offset_bounds-deref-from c =
 
 pub tested_namespace-requires-clause-done : goal.tested_namespace-requires-clause-done
 tested_namespace-requires-clause-done c =
-    all_column (λ a. NamespaceWithin (length c.args.namespaces.now) a.namespace) c.args.attributes.now c.deref.result.now c.args.from c.deref.ensures.value c.requires.done
+    all_column (λ d. NamespaceWithin (length c.args.namespaces.now) d.namespace) c.args.attributes.now c.deref.result.now c.args.from c.deref.ensures.value c.requires.done
 
 pub returns-clause-added : goal.returns-clause-added
-returns-clause-added c = λ _.
+returns-clause-added c = λ done.
     let old = attribute_rows c.args.attributes.now in
     let column = column_behind c.args.attributes.now c.deref.result.now c.args.from c.deref.ensures.value in
     record {
       namespace = c.in-Ok.namespace;
-      rows = c.put.ensures ∙ ap (λ (r : AttributeRow). old ++ r ∷ []) c.move_row-row.ensures;
+      rows = c.put.ensures.put done ∙ ap (λ (r : AttributeRow). old ++ r ∷ []) c.move_row-row.ensures;
       within = subst (λ n. NamespaceWithin n c.in-Ok.namespace) (sym (length-map c.args.namespaces.now namespace_view)) c.in-Ok.ensures.within;
       there = λ ds h. c.in-Ok.ensures.there ds h;
       tested = λ ds before rest h shown. c.in-Ok.ensures.tested ds (drop c.args.from old) before rest h column shown;

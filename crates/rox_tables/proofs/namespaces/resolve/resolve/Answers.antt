@@ -1,7 +1,7 @@
 use Rattle.std.proofs.Common.{◌≡◌, ◌<◌, ◌≤◌, length, map, drop, arith}
 use Rattle.std.proofs.lemmas.Result.{err_from_is_err_and}
 use Rattle.rox_tables.specs.Rows.{namespace_view, attribute_rows, NamespaceWithin}
-use Rattle.rox_tables.proofs.Columns.{data_behind, old_within, all_behind}
+use Rattle.rox_tables.proofs.AttributeRows.{data_behind, old_within, all_behind}
 use Rattle.rox_tables.proofs.Resolving.{ends, refuses, moves, resolves, starts, resolves_first}
 use Rattle.rox_tables.proofs.namespaces.resolve.resolve.Goals as goal
 
@@ -30,7 +30,7 @@ pub tested_namespace-requires-clause-done : goal.tested_namespace-requires-claus
 tested_namespace-requires-clause-done c =
     let l = c.loop-turn in
     let m = l.invariant.moving in
-    all_behind (λ a. NamespaceWithin (length c.args.namespaces.now) a.namespace) l.attributes c.deref.result.now _ m.done c.len-from.result c.deref.ensures.value m.table_is c.len-from.ensures m.within
+    all_behind (λ d. NamespaceWithin (length c.args.namespaces.now) d.namespace) l.attributes c.deref.result.now _ m.done c.len-from.result c.deref.ensures.value m.table_is c.len-from.ensures m.within
 
 pub loop-turn-init : goal.loop-turn-init
 loop-turn-init c = record {

@@ -21,20 +21,20 @@ without_back-requires-clause-index t c =
     let k = c.requires.index in
     omega arith
 
-pub returns-in-Few-clause-value : goal.returns-in-Few-clause-value
-returns-in-Few-clause-value t c =
+pub returns-in-Few : goal.returns-in-Few
+returns-in-Few t c =
     let old = c.args.scopes.now.items in
-    if_ok c.without_few.result c.without_few.ensures.value (λ s x. rope_is old c.without_few.new.scopes.items s _ _ x
+    if_ok c.without_few.result c.without_few.ensures (λ s x. rope_is old c.without_few.new.scopes.items s _ _ x
     (λ l h. ap (cut c.args.index) (sym (row_is l old c.args.scope _ _ c.requires.rows c.requires.within c.index.ensures c.in-Few.is).lists)))
 
-pub returns-in-Back-clause-value : goal.returns-in-Back-clause-value
-returns-in-Back-clause-value t c =
+pub returns-in-Back : goal.returns-in-Back
+returns-in-Back t c =
     let old = c.args.scopes.now.items in
-    if_ok c.without_back.result c.without_back.ensures.value (λ s x. rope_is old c.without_back.new.scopes.items s _ _ x
+    if_ok c.without_back.result c.without_back.ensures (λ s x. rope_is old c.without_back.new.scopes.items s _ _ x
     (λ l h. ap (cut c.args.index) (sym (row_is l old c.args.scope _ _ c.requires.rows c.requires.within c.index.ensures c.in-Back.is).lists)))
 
-pub returns-then-index-before-clause-value : goal.returns-then-index-before-clause-value
-returns-then-index-before-clause-value t c =
+pub returns-then-index-before : goal.returns-then-index-before
+returns-then-index-before t c =
     let old = c.args.scopes.now.items in
     let p = c.in-Concat.parts in
     let i = c.args.index in
@@ -45,7 +45,7 @@ returns-then-index-before-clause-value t c =
     let lf : p.first < length old = omega arith in
     let lr : p.rest < length old = omega arith in
     let n : c.count-before.result ≡ count_at old p.first = cc in
-    if_ok c.both.result c.both.ensures.value (λ s z. rope_first old c.without.new.scopes.items c.both.new.scopes.items c.in_ok-first-in-Concat.first s p.rest _ _ c.in_ok-first-in-Concat.ensures.value z lr
+    if_ok c.both.result c.both.ensures (λ s z. rope_first old c.without.new.scopes.items c.both.new.scopes.items c.in_ok-first-in-Concat.first s p.rest _ _ c.in_ok-first-in-Concat.ensures z lr
     (λ l h.
     let m : count_at old p.first ≡ length (places_in l old p.first) = count_places l old p.first h lf in
     let less : i < length (places_in l old p.first) = omega arith in
@@ -65,8 +65,8 @@ without-requires-in-Concat t c =
     let y : p.count ≡ count_at old p.first + count_at old p.rest = r.row.2 in
     (omega arith, (omega arith, (c.requires.rows, omega arith)))
 
-pub returns-in_ok-rest-in-Concat-clause-value : goal.returns-in_ok-rest-in-Concat-clause-value
-returns-in_ok-rest-in-Concat-clause-value t c =
+pub returns-in_ok-rest-in-Concat : goal.returns-in_ok-rest-in-Concat
+returns-in_ok-rest-in-Concat t c =
     let old = c.args.scopes.now.items in
     let p = c.in-Concat.parts in
     let i = c.args.index in
@@ -76,7 +76,7 @@ returns-in_ok-rest-in-Concat-clause-value t c =
     let lf : p.first < length old = omega arith in
     let n : c.count-before.result ≡ count_at old p.first = cc in
     let le : c.count-before.result ≤ i = omega arith in
-    if_ok c.both-in-Concat.result c.both-in-Concat.ensures.value (λ s z. rope_rest old c.without-in-Concat.new.scopes.items c.both-in-Concat.new.scopes.items c.in_ok-rest-in-Concat.rest s p.first _ _ c.in_ok-rest-in-Concat.ensures.value z lf
+    if_ok c.both-in-Concat.result c.both-in-Concat.ensures (λ s z. rope_rest old c.without-in-Concat.new.scopes.items c.both-in-Concat.new.scopes.items c.in_ok-rest-in-Concat.rest s p.first _ _ c.in_ok-rest-in-Concat.ensures z lf
     (λ l h.
     sym (ap (cut i) (row_is l old c.args.scope _ _ c.requires.rows c.requires.within c.index.ensures c.in-Concat.is).lists
     ∙ cut_rest (places_in l old p.first) (places_in l old p.rest) i c.count-before.result (n ∙ count_places l old p.first h lf) le)))

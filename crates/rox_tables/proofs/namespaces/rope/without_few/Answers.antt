@@ -2,23 +2,28 @@ use Rattle.std.proofs.Common.{◌+◌, ◌≤◌, ℕ, length, arith}
 use Rattle.std.specs.List.{AllByRecursion}
 use Rattle.rox_tables.specs.Rows.{EndsWithin}
 use Rattle.rox_tables.proofs.Leaves.{cut_range}
-use Rattle.rox_tables.proofs.Ropes.{if_ok, leaves_rows, rope_leaves}
+use Rattle.rox_tables.proofs.Ropes.{if_ok, two_put, leaves_rows, rope_leaves}
 use Rattle.rox_tables.proofs.namespaces.rope.without_few.Goals as goal
 
-pub both-requires-clause-rows : goal.both-requires-clause-rows
-both-requires-clause-rows c =
+pub both-requires : goal.both-requires
+both-requires c =
     let s = c.args.stretch in
     let k = c.requires.index in
     let one : s.from ≤ s.from + c.args.index = omega arith in
     let two : s.from + c.args.index + 1 ≤ s.until = omega arith in
-    leaves_rows _ _ _ _ _ c.in_ok-first.ensures.items one c.in_ok-rest.ensures.items two c.requires.rows
+    let put = two_put _ _ _ _ _ _ _ c.in_ok-first.ensures.items c.in_ok-first.ensures.value c.in_ok-rest.ensures.items c.in_ok-rest.ensures.value in
+    record {
+      first = put.0;
+      rest = put.1;
+      rows = leaves_rows _ _ _ _ _ c.in_ok-first.ensures.items one c.in_ok-rest.ensures.items two c.requires.rows;
+    }
 
-pub returns-clause-value : goal.returns-clause-value
-returns-clause-value c =
+pub returns : goal.returns
+returns c =
     let s = c.args.stretch in
     let k = c.requires.index in
     let one : s.from ≤ s.from + c.args.index = omega arith in
     let two : s.from + c.args.index + 1 ≤ s.until = omega arith in
     let front : (n : ℕ) → AllByRecursion (EndsWithin n) c.args.scopes.now.items → s.from + c.args.index ≤ n = λ n h. (let e = c.requires.ends n h in omega arith) in
-    if_ok c.both.result c.both.ensures.value (λ i z. rope_leaves _ _ _ c.both.new.scopes.items _ _ c.in_ok-first.first c.in_ok-rest.rest i _ c.in_ok-first.ensures.items c.in_ok-first.ensures.value one front
+    if_ok c.both.result c.both.ensures (λ i z. rope_leaves _ _ _ c.both.new.scopes.items _ _ c.in_ok-first.first c.in_ok-rest.rest i _ c.in_ok-first.ensures.items c.in_ok-first.ensures.value one front
     c.in_ok-rest.ensures.items c.in_ok-rest.ensures.value two c.requires.ends c.requires.rows z (λ l h. cut_range l s.from s.until c.args.index c.requires.ordered (c.requires.ends (length l) h.within) c.requires.index))

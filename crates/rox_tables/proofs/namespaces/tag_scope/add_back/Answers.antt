@@ -18,5 +18,5 @@ returns-clause-value c = λ namespaces.
     let ends : c.len.result ≡ length now = omega arith in
     let s : Stretch = c.in_ok-turned.turned in
     turned_listed namespaces old now c.args.scopes.now.items c.add.new.scopes.items s c.in_ok-place.place c.args.from
-    (turn_ends old c.args.from c.loop-turn.turn c.len-end.result now c.loop-turn.invariant all) (ap (λ x. x.from) c.in_ok-turned.ensures.value ∙ c.loop-turn.invariant.end_is)
-    (ap (λ x. x.until) c.in_ok-turned.ensures.value ∙ ends) c.requires.scopes c.in_ok-place.ensures.items c.in_ok-place.ensures.value
+    (turn_ends old c.args.from c.loop-turn.turn c.len-end.result now c.loop-turn.invariant all) (ap (λ x. x.from) c.in_ok-turned.ensures ∙ c.loop-turn.invariant.end_is)
+    (ap (λ x. x.until) c.in_ok-turned.ensures ∙ ends) c.requires.scopes c.in_ok-place.ensures.items c.in_ok-place.ensures.value

@@ -9,16 +9,16 @@ use Rattle.rox_tables.proofs.Ropes.{count_places}
 use Rattle.rox_tables.proofs.Sharing.{same_listed, rope_listed}
 use Rattle.rox_tables.proofs.namespaces.tag_scope.hide.Goals as goal
 
-pub returns-in_default-clause-value : goal.returns-in_default-clause-value
-returns-in_default-clause-value c =
+pub returns-in_default : goal.returns-in_default
+returns-in_default c =
     let namespaces = map namespace_view c.args.namespaces.now in
     let ds = entries namespaces (places_in c.args.listed.now c.args.scopes.now.items c.args.scope) in
     let p = prefix_view c.args.prefix in
     same_listed namespaces c.args.listed.now c.args.scopes.now.items c.args.scope _ c.requires.scopes c.requires.within
     (sym (unlisted_none p ds (c.requires.absent (ap bound_namespace (sym c.in_default.ensures)))))
 
-pub returns-in_default-index_of-clause-value : goal.returns-in_default-index_of-clause-value
-returns-in_default-index_of-clause-value c =
+pub returns-in_default-index_of : goal.returns-in_default-index_of
+returns-in_default-index_of c =
     let namespaces = map namespace_view c.args.namespaces.now in
     let ds = entries namespaces (places_in c.args.listed.now c.args.scopes.now.items c.args.scope) in
     let p = prefix_view c.args.prefix in
@@ -33,8 +33,8 @@ without-requires-clause-index c =
     subst (λ ss. c.in-Some-index_of.index < length (places_in c.args.listed.now ss c.args.scope)) c.deref.ensures.value c.in-Some-index_of.ensures.there.0 in
     omega arith
 
-pub returns-clause-value : goal.returns-clause-value
-returns-clause-value c =
+pub returns : goal.returns
+returns c =
     let namespaces = map namespace_view c.args.namespaces.now in
     let old = c.args.scopes.now.items in
     let index = c.in-Some-index_of.index in
@@ -43,5 +43,5 @@ returns-clause-value c =
     let less : index < length places = subst (λ ss. index < length (places_in c.args.listed.now ss c.args.scope)) c.deref.ensures.value c.in-Some-index_of.ensures.there.0 in
     let same : same_prefix (namespace_at namespaces (get_or places index 0)).prefix p ≡ true =
     subst (λ ss. same_prefix (namespace_at namespaces (get_or (places_in c.args.listed.now ss c.args.scope) index 0)).prefix p ≡ true) c.deref.ensures.value c.in-Some-index_of.ensures.there.1 in
-    rope_listed namespaces c.args.listed.now old c.without.new.scopes.items c.in_ok-left.left (λ l. cut index (places_in l old c.args.scope)) _ c.requires.scopes c.in_ok-left.ensures.value
+    rope_listed namespaces c.args.listed.now old c.without.new.scopes.items c.in_ok-left.left (λ l. cut index (places_in l old c.args.scope)) _ c.requires.scopes c.in_ok-left.ensures
     (unlisted_one namespaces places index p c.requires.once less same)

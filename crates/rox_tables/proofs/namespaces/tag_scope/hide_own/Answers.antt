@@ -11,7 +11,7 @@ use Rattle.rox_tables.proofs.Below.{hides_none, hides_more, hides_xml, hides_own
 use Rattle.rox_tables.proofs.namespaces.tag_scope.hide_own.Goals as goal
 
 pub loop-turn-init : goal.loop-turn-init
-loop-turn-init c = hides_none (map namespace_view c.args.namespaces.now) c.args.listed.now c.args.scopes.now.items c.args.scope c.args.own c.requires.scopes c.requires.within
+loop-turn-init c = hides_none (map namespace_view c.args.namespaces.now) c.args.listed.now c.args.scopes.now.items c.args.scope c.args.own.from c.requires.scopes c.requires.within
 
 pub bounds-namespaces-place : goal.bounds-namespaces-place
 bounds-namespaces-place c = let lt : c.loop-turn.turn < length c.args.listed.now = omega arith in place_at (length c.args.namespaces.now) c.args.listed.now c.loop-turn.turn 0 c.requires.places lt
@@ -23,13 +23,13 @@ pub hide-requires-clause-once : goal.hide-requires-clause-once
 hide-requires-clause-once c =
     let namespaces = map namespace_view c.args.namespaces.now in
     subst PrefixesOnce (sym c.loop-turn.invariant.lists)
-    (once_others (entries namespaces (slice_range c.args.listed.now c.args.own c.loop-turn.turn)) false (entries namespaces (places_in c.args.listed.now c.args.scopes.now.items c.args.scope)) c.requires.once)
+    (once_others (entries namespaces (slice_range c.args.listed.now c.args.own.from c.loop-turn.turn)) false (entries namespaces (places_in c.args.listed.now c.args.scopes.now.items c.args.scope)) c.requires.once)
 
 pub hide-requires-clause-absent : goal.hide-requires-clause-absent
 hide-requires-clause-absent c = λ none.
     let namespaces = map namespace_view c.args.namespaces.now in
     let p = prefix_view (get_or c.args.namespaces.now (get_or c.args.listed.now c.loop-turn.turn 0) c.index-namespaces-place.result).name in
-    absent_bound namespaces (bound_place c.args.present.now) (entries namespaces (slice_range c.args.listed.now c.args.own c.loop-turn.turn)) (entries namespaces (places_in c.args.listed.now c.args.scopes.now.items c.args.scope))
+    absent_bound namespaces (bound_place c.args.present.now) (entries namespaces (slice_range c.args.listed.now c.args.own.from c.loop-turn.turn)) (entries namespaces (places_in c.args.listed.now c.args.scopes.now.items c.args.scope))
     (entries namespaces (places_in c.args.listed.now c.loop-turn.scopes.items c.loop-turn.left)) false p c.requires.bound c.loop-turn.invariant.lists none
 
 pub loop-turn-preserved : goal.loop-turn-preserved
@@ -38,34 +38,34 @@ loop-turn-preserved c =
     let place = get_or c.args.listed.now c.loop-turn.turn 0 in
     let p = prefix_view (get_or rows place c.index-namespaces-place.result).name in
     let ds = entries (map namespace_view rows) (places_in c.args.listed.now c.args.scopes.now.items c.args.scope) in
-    let low : c.args.own ≤ c.loop-turn.turn = omega arith in
+    let low : c.args.own.from ≤ c.loop-turn.turn = omega arith in
     let lt : c.loop-turn.turn < length c.args.listed.now = omega arith in
-    hides_more rows c.args.listed.now c.args.scopes.now.items c.loop-turn.scopes.items c.hide.new.scopes.items c.args.own c.loop-turn.turn place c.loop-turn.left c.in_ok-left.left c.index-namespaces-place.result p ds
-    low lt c.requires.places refl refl c.loop-turn.invariant c.in_ok-left.ensures.value
+    hides_more rows c.args.listed.now c.args.scopes.now.items c.loop-turn.scopes.items c.hide.new.scopes.items c.args.own.from c.loop-turn.turn place c.loop-turn.left c.in_ok-left.left c.index-namespaces-place.result p ds
+    low lt c.requires.places refl refl c.loop-turn.invariant c.in_ok-left.ensures
 
-pub hide-requires-then-xml-clause-once : goal.hide-requires-then-xml-clause-once
-hide-requires-then-xml-clause-once c =
+pub hide-requires-then-own-clause-once : goal.hide-requires-then-own-clause-once
+hide-requires-then-own-clause-once c =
     let namespaces = map namespace_view c.args.namespaces.now in
     subst PrefixesOnce (sym c.loop-turn.invariant.lists)
-    (once_others (entries namespaces (slice_range c.args.listed.now c.args.own c.loop-turn.turn)) false (entries namespaces (places_in c.args.listed.now c.args.scopes.now.items c.args.scope)) c.requires.once)
+    (once_others (entries namespaces (slice_range c.args.listed.now c.args.own.from c.loop-turn.turn)) false (entries namespaces (places_in c.args.listed.now c.args.scopes.now.items c.args.scope)) c.requires.once)
 
-pub hide-requires-then-xml-clause-absent : goal.hide-requires-then-xml-clause-absent
-hide-requires-then-xml-clause-absent c = λ none.
+pub hide-requires-then-own-clause-absent : goal.hide-requires-then-own-clause-absent
+hide-requires-then-own-clause-absent c = λ none.
     let namespaces = map namespace_view c.args.namespaces.now in
-    absent_bound namespaces (bound_place c.args.present.now) (entries namespaces (slice_range c.args.listed.now c.args.own c.loop-turn.turn)) (entries namespaces (places_in c.args.listed.now c.args.scopes.now.items c.args.scope))
+    absent_bound namespaces (bound_place c.args.present.now) (entries namespaces (slice_range c.args.listed.now c.args.own.from c.loop-turn.turn)) (entries namespaces (places_in c.args.listed.now c.args.scopes.now.items c.args.scope))
     (entries namespaces (places_in c.args.listed.now c.loop-turn.scopes.items c.loop-turn.left)) false (Some (word_text Xml)) c.requires.bound c.loop-turn.invariant.lists none
 
-pub returns-in_ok-left-2-clause-value : goal.returns-in_ok-left-2-clause-value
-returns-in_ok-left-2-clause-value c =
+pub returns-in_ok-left-2 : goal.returns-in_ok-left-2
+returns-in_ok-left-2 c =
     let namespaces = map namespace_view c.args.namespaces.now in
     let ds = entries namespaces (places_in c.args.listed.now c.args.scopes.now.items c.args.scope) in
     let all : length c.args.listed.now ≤ c.loop-turn.turn = omega arith in
-    hides_xml namespaces c.args.listed.now c.args.scopes.now.items c.loop-turn.scopes.items c.hide-then-xml.new.scopes.items c.args.own c.loop-turn.turn c.loop-turn.left c.in_ok-left-2.left c.args.xml ds
-    all c.if-xml.true c.loop-turn.invariant c.in_ok-left-2.ensures.value
+    hides_xml namespaces c.args.listed.now c.args.scopes.now.items c.loop-turn.scopes.items c.hide-then-own.new.scopes.items c.args.own.from c.loop-turn.turn c.loop-turn.left c.in_ok-left-2.left c.args.own.xml ds
+    all c.if-own.true c.loop-turn.invariant c.in_ok-left-2.ensures
 
-pub returns-else-xml-clause-value : goal.returns-else-xml-clause-value
-returns-else-xml-clause-value c =
+pub returns-else-own : goal.returns-else-own
+returns-else-own c =
     let namespaces = map namespace_view c.args.namespaces.now in
     let ds = entries namespaces (places_in c.args.listed.now c.args.scopes.now.items c.args.scope) in
     let all : length c.args.listed.now ≤ c.loop-turn.turn = omega arith in
-    hides_own namespaces c.args.listed.now c.args.scopes.now.items c.loop-turn.scopes.items c.args.own c.loop-turn.turn c.loop-turn.left c.args.xml ds all c.if-xml.false c.loop-turn.invariant
+    hides_own namespaces c.args.listed.now c.args.scopes.now.items c.loop-turn.scopes.items c.args.own.from c.loop-turn.turn c.loop-turn.left c.args.own.xml ds all c.if-own.false c.loop-turn.invariant

@@ -7,4 +7,4 @@ use Rattle.rox_tables.proofs.namespaces.tag_scope.hide_own.Given as goal
 
 abbrev pub invariant-loop-turn : goal.invariant-loop-turn
 invariant-loop-turn l = IsListed (map namespace_view l.namespaces) l.listed l.fn.scopes.items l.listed l.scopes.items l.left
-    (others (entries (map namespace_view l.namespaces) (slice_range l.listed l.own l.turn)) false (entries (map namespace_view l.namespaces) (places_in l.listed l.fn.scopes.items l.scope)))
+    (others (entries (map namespace_view l.namespaces) (slice_range l.listed l.own.from l.turn)) false (entries (map namespace_view l.namespaces) (places_in l.listed l.fn.scopes.items l.scope)))

@@ -11,9 +11,9 @@ returns-clause-value c =
     let listed = c.args.listed.now.items in
     let old = c.args.scopes.now.items in
     let mid = c.hide_own.new.scopes.items in
-    let ds = entries namespaces (drop c.args.own listed) in
-    let os = others ds c.args.xml (entries namespaces (places_in listed old c.args.above)) in
+    let ds = entries namespaces (drop c.args.own.from listed) in
+    let os = others ds c.args.own.xml (entries namespaces (places_in listed old c.args.above)) in
     let x : IsListed namespaces listed old listed mid c.in_ok-rest.rest os =
-    subst (λ l. IsListed namespaces l old l mid c.in_ok-rest.rest (others (entries namespaces (drop c.args.own l)) c.args.xml (entries namespaces (places_in l old c.args.above)))) c.deref.ensures.value c.in_ok-rest.ensures.value in
+    subst (λ l. IsListed namespaces l old l mid c.in_ok-rest.rest (others (entries namespaces (drop c.args.own.from l)) c.args.own.xml (entries namespaces (places_in l old c.args.above)))) c.deref.ensures.value c.in_ok-rest.ensures in
     joined_listed namespaces listed c.add_back.new.listed.items old mid c.add_back.new.scopes.items c.both.new.scopes.items c.in_ok-rest.rest c.in_ok-first.first c.in_ok-place.place os ds
-    x (c.in_ok-first.ensures.value namespaces) c.in_ok-place.ensures.value
+    x (c.in_ok-first.ensures.value namespaces) c.in_ok-place.ensures

@@ -5,8 +5,8 @@ use Rattle.rox_tables.specs.declared.namespaces.bindings.ScopeFrame.{ScopeFrame}
 use Rattle.rox_tables.proofs.Presenting.{stacked_push, keeps_by, bound_others}
 use Rattle.rox_tables.proofs.namespaces.bindings.PrefixBindings.enter.Goals as goal
 
-pub returns-clause-value : goal.returns-clause-value
-returns-clause-value c = λ lists above h around s.
+pub returns : goal.returns
+returns c = λ lists above h around s.
     let namespaces = map namespace_view c.args.namespaces.now in
     let x = c.add.new.self in
     let bound = bound_others namespaces _ above c.args.xml (bound_place x) (c.in_ok-add.ensures.bound _ (c.in_ok-hide_xml.ensures.bound namespaces above around)) in

@@ -1,7 +1,7 @@
 use Rattle.std.proofs.Common.{◌&&◌, not, filter, Some, None, subst, sym}
 use Rattle.rox_grammar.specs.declared.fault.Word.TheVariants.{Xml}
 use Rattle.rox_grammar.specs.FixedTexts.{word_text}
-use Rattle.rox_grammar.specs.WellNamed.{is_xml}
+use Rattle.rox_grammar.specs.Tree.{is_xml}
 use Rattle.rox_tables.specs.Bindings.{bound_place, IsBound}
 use Rattle.rox_tables.proofs.Presenting.{bound_hidden, bound_unhidden, found_put}
 use Rattle.rox_tables.proofs.namespaces.bindings.PrefixBindings.hide_xml.Goals as goal

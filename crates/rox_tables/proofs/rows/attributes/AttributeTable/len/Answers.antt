@@ -1,5 +1,5 @@
 use Rattle.std.proofs.Common.{arith}
-use Rattle.rox_tables.proofs.Columns.{length_rows}
+use Rattle.rox_tables.proofs.AttributeRows.{length_rows}
 use Rattle.rox_tables.proofs.rows.attributes.AttributeTable.len.Goals as goal
 
 pub returns : goal.returns

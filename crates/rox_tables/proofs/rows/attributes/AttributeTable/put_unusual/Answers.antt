@@ -1,0 +1,26 @@
+use Rattle.std.proofs.Common.{◌≡◌, ◌++◌, ◌∷◌, [], length, map, length-append, ap, ◌∙◌, arith}
+use Rattle.rox_tables.specs.StoredAttributes.{row_in}
+use Rattle.rox_tables.proofs.AttributeRows.{unusual_row, rows_push, rows_grown, numbered_unusual, count_one_more}
+use Rattle.rox_tables.proofs.rows.attributes.AttributeTable.put_unusual.Goals as goal
+
+pub invariant_of-self : goal.invariant_of-self
+invariant_of-self c =
+    let old = c.args.self.now in
+    let last : c.new-row.result.place ≡ length old.unusual.items = omega (arith, c.new-row.ensures.place, c.len-number.ensures, old.unusual.ok.0) in
+    let more = c.push_reserved.new.self.items in
+    let places = ap length c.push_reserved-2.ensures.items ∙ length-append old.unusual.items (c.args.places ∷ []) in
+    let count = count_one_more old.items.items more c.new-row.result c.push_reserved.ensures.items c.new-row.ensures.before in
+    record {
+      numbered = numbered_unusual old.items.items more c.new-row.result (length old.unusual.items) c.push_reserved.ensures.items old.numbered old.counted last;
+      counted = omega (arith, places, count, old.counted);
+    }
+
+pub returns-clause-put : goal.returns-clause-put
+returns-clause-put c = λ _.
+    let old = c.args.self.now in
+    let last : c.new-row.result.place ≡ length old.unusual.items = omega (arith, c.new-row.ensures.place, c.len-number.ensures, old.unusual.ok.0) in
+    let us = old.unusual.items ++ c.args.places ∷ [] in
+    let row = unusual_row old.unusual.items c.new-row.result c.args.item c.args.places c.new-row.ensures.is c.new-row.ensures.before last in
+    ap (λ ps. map (row_in ps) c.push_reserved.new.self.items) c.push_reserved-2.ensures.items
+    ∙ rows_push us old.items.items c.push_reserved.new.self.items c.new-row.result (c.args.item, c.args.places) c.push_reserved.ensures.items row
+    ∙ ap (λ rows. rows ++ (c.args.item, c.args.places) ∷ []) (rows_grown old.unusual.items (c.args.places ∷ []) old.items.items old.numbered old.counted)

@@ -1,0 +1,22 @@
+use Rattle.std.proofs.Common.{◌<◌, length, ap, ◌∙◌, sym, arith}
+use Rattle.rox_tables.specs.Storage.{storage_bytes}
+use Rattle.rox_tables.specs.UsualPlaces.{usual_places}
+use Rattle.rox_tables.proofs.AttributeRows.{usual_row, rows_push, numbered_usual, count_usual}
+use Rattle.rox_tables.proofs.rows.attributes.AttributeTable.put_usual.Goals as goal
+
+pub invariant_of-self : goal.invariant_of-self
+invariant_of-self c =
+    let old = c.args.self.now in
+    let few : c.new-row.result.before < 255 = omega (arith, c.new-row.ensures.before, c.requires.before) in
+    record {
+      numbered = numbered_usual old.items.items c.push_reserved.new.self.items c.new-row.result c.push_reserved.ensures.items old.numbered few;
+      counted = old.counted ∙ sym (count_usual old.items.items c.push_reserved.new.self.items c.new-row.result c.push_reserved.ensures.items few);
+    }
+
+pub returns : goal.returns
+returns c =
+    let old = c.args.self.now in
+    let few : c.new-row.result.before < 255 = omega (arith, c.new-row.ensures.before, c.requires.before) in
+    rows_push old.unusual.items old.items.items c.push_reserved.new.self.items c.new-row.result (c.args.item, c.args.places) c.push_reserved.ensures.items
+    (usual_row old.unusual.items c.new-row.result c.args.item c.args.places c.new-row.ensures.is few c.new-row.ensures.place
+    (c.requires.usual ∙ ap (λ n. usual_places c.args.places.start n (length c.args.item.local.now) (length (storage_bytes c.args.item.value))) (sym c.new-row.ensures.before)))

@@ -1,0 +1,14 @@
+use Rattle.rox_tables.proofs.StoredNodes.{a_row, root_is, within-root}
+use Rattle.std.proofs.Common.{arith}
+use Rattle.rox_tables.proofs.rows.node_table.NodeTable.end_root.Goals as goal
+
+pub invariant_of-self : goal.invariant_of-self
+invariant_of-self c =
+    let t = c.args.self.now in
+    record {
+      short = omega (arith, t.short, c.close_stored.ensures.count, c.close_stored.new.rows.ok.0, t.rows.ok.0);
+      within = rw (c.close_stored.ensures.rows a_row) (within-root _ t.rows.items c.args.count a_row t.within);
+    }
+
+pub returns-clause-rows : goal.returns-clause-rows
+returns-clause-rows c = λ d. root_is c.args.self.now c.args.count d _ (c.close_stored.ensures.rows a_row)

@@ -1,0 +1,18 @@
+use Rattle.std.proofs.Common.{arith}
+use Rattle.rox_tables.proofs.StoredNodes.{push_is, near_row, within-more, within-push}
+use Rattle.rox_tables.proofs.rows.node_table.NodeTable.push_near.Goals as goal
+
+pub invariant_of-self-2 : goal.invariant_of-self-2
+invariant_of-self-2 c =
+    let t = c.args.self.now in
+    record {
+      short = omega (arith, t.short, c.push_reserved.ensures.len, c.push_reserved.new.self.ok.0, t.rows.ok.0);
+      within = rw c.push_reserved.ensures.items (within-push _ t.rows.items _ (within-more _ _ t.rows.items c.store_kind.ensures.more t.within) c.in_ok-kind.ensures.within);
+    }
+
+pub returns-clause-rows : goal.returns-clause-rows
+returns-clause-rows c =
+    let t = c.args.self.now in
+    let pis = c.store_kind.new.instructions.items in
+    push_is t.instructions.items pis t.high.items t.rows.items _ _ c.args.row t.short c.push_reserved.ensures.items
+    (c.store_kind.ensures.same t.high.items t.rows.items t.within) (near_row pis c.args.row c.in_ok-kind.kind c.in_ok-kind.ensures.value)

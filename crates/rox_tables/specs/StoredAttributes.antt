@@ -1,0 +1,48 @@
+-- Attributes as their table stores them: most tell where they stand by their start, others by a place in a table of places.
+use Rattle.std.specs.Prelude.{◌≡◌, ◌==◌, true, ℕ, ◌+◌, List, [], ◌∷◌, length, get_or, if◌then◌else◌}
+use Rattle.std.specs.Coded.{×_prop, →_prop, Unit-prop, Coded-set, coded_ℕ}
+use Rattle.rox_tables.specs.Storage.{storage_bytes}
+use Rattle.rox_tables.specs.UsualPlaces.{usual_places}
+use Rattle.rox_tables.specs.declared.rows.tables.AttributeNamespace.{AttributeNamespace}
+use Rattle.rox_tables.specs.declared.rows.tables.AttributeNamespace.TheVariants as space
+use Rattle.rox_tables.specs.declared.rows.tables.AttributeData.{AttributeData}
+use Rattle.rox_tables.specs.declared.rows.tables.AttributePlaces.{AttributePlaces}
+use Rattle.rox_tables.specs.declared.rows.stored_attribute.NamespaceKind.{NamespaceKind}
+use Rattle.rox_tables.specs.declared.rows.stored_attribute.NamespaceKind.TheVariants as kind
+use Rattle.rox_tables.specs.declared.rows.stored_attribute.StoredAttribute.{StoredAttribute}
+
+abbrev pub namespace_of : NamespaceKind → ℕ → AttributeNamespace
+namespace_of kind.None listed = space.None
+namespace_of kind.Xml listed = space.Xml
+namespace_of kind.Listed listed = space.Listed listed
+
+-- what an attribute is
+abbrev pub data_of : StoredAttribute → AttributeData
+data_of r = record { local = r.local; value = r.value; namespace = namespace_of r.kind r.listed }
+
+-- where it stands, beside the table of unusual places
+abbrev pub places_in : List AttributePlaces → StoredAttribute → AttributePlaces
+places_in unusual r =
+    let usual = usual_places r.place r.before (length r.local.now) (length (storage_bytes r.value)) in
+    if r.before == 255 then get_or unusual r.place usual else usual
+
+abbrev pub row_in : List AttributePlaces → StoredAttribute → AttributeData × AttributePlaces
+row_in unusual r = (data_of r, places_in unusual r)
+
+-- how many unusual places there are, so that a row's own is one of them
+abbrev pub place_bound : StoredAttribute → ℕ
+place_bound r = if r.before == 255 then r.place + 1 else 0
+
+-- how many of these are unusual
+abbrev pub unusual_count : List StoredAttribute → ℕ
+unusual_count [] = 0
+unusual_count (r ∷ rs) = (if r.before == 255 then 1 else 0) + unusual_count rs
+
+-- those that are unusual have their places in order, from this one on
+abbrev pub AreNumbered : ℕ → List StoredAttribute → Type 0
+AreNumbered n [] = Unit {0}
+AreNumbered n (r ∷ rs) = ((r.before == 255) ≡ true → r.place ≡ n) × AreNumbered ((if r.before == 255 then 1 else 0) + n) rs
+
+pub AreNumbered-prop : (n : ℕ) (rows : List StoredAttribute) → IsProp (AreNumbered n rows)
+AreNumbered-prop n [] = Unit-prop
+AreNumbered-prop n (r ∷ rs) = ×_prop (→_prop (Coded-set coded_ℕ r.place n)) (AreNumbered-prop ((if r.before == 255 then 1 else 0) + n) rs)

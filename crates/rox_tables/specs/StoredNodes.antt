@@ -1,0 +1,97 @@
+-- The rows of nodes as their table stores them.
+use Rattle.std.specs.Prelude.{ℕ, ◌+◌, ◌*◌, ◌^◌, Bool, true, List, [], ◌∷◌, Option, Some, None, nat_lt}
+use Rattle.std.specs.List.{list_all}
+use Rattle.rox_tables.specs.declared.rows.tables.PI.{PI}
+use Rattle.rox_tables.specs.declared.rows.tables.NodeKind.{NodeKind}
+use Rattle.rox_tables.specs.declared.rows.tables.NodeKind.TheVariants as kind
+use Rattle.rox_tables.specs.declared.rows.tables.NodeData.{NodeData}
+use Rattle.rox_tables.specs.declared.rows.stored_node.StoredKind.{StoredKind}
+use Rattle.rox_tables.specs.declared.rows.stored_node.StoredKind.TheVariants as stored
+use Rattle.rox_tables.specs.declared.rows.stored_node.StoredNode.{StoredNode}
+use Rattle.rox_tables.specs.declared.rows.stored_node.HighPlaces.{HighPlaces}
+use Rattle.rox_tables.specs.declared.rows.stored_node.KindRef.{KindRef}
+use Rattle.rox_tables.specs.declared.rows.stored_node.KindRef.TheVariants as lent
+use Rattle.rox_tables.specs.declared.rows.stored_node.RowRef.{RowRef}
+
+-- a place, of its lower half and its upper one
+abbrev pub whole_place : ℕ → ℕ → ℕ
+whole_place low high = high * 2 ^ 32 + low
+
+-- the processing instruction at this place
+abbrev pub instruction_at : List PI → ℕ → NodeKind
+instruction_at [] i = kind.Root
+instruction_at (p ∷ ps) Prim.Native.Nat.zero = kind.PI p
+instruction_at (p ∷ ps) (Prim.Native.Nat.suc i) = instruction_at ps i
+
+-- what a node is
+abbrev pub whole_kind : List PI → StoredKind → NodeKind
+whole_kind pis stored.Root = kind.Root
+whole_kind pis (stored.Element scope local from until) =
+    kind.Element (record { local = local; attributes_from = from; attributes_until = until; scope = scope; namespace = None })
+whole_kind pis (stored.NamespacedElement namespace scope local from until) =
+    kind.Element (record { local = local; attributes_from = from; attributes_until = until; scope = scope; namespace = Some namespace })
+whole_kind pis (stored.Text text) = kind.Text text
+whole_kind pis (stored.Comment text) = kind.Comment text
+whole_kind pis (stored.Instruction i) = instruction_at pis i
+
+-- a row, with the upper halves of its places
+abbrev pub whole_row : List PI → HighPlaces → StoredNode → NodeData
+whole_row pis high row = record {
+  start = whole_place row.start high.start;
+  end = whole_place row.end high.end;
+  parent = row.parent;
+  subtree_end = row.subtree_end;
+  kind = whole_kind pis row.kind;
+}
+
+abbrev pub no_high : HighPlaces
+no_high = record { start = 0; end = 0 }
+
+-- the upper halves at this place
+abbrev pub high_at : List HighPlaces → ℕ → HighPlaces
+high_at [] i = no_high
+high_at (h ∷ hs) Prim.Native.Nat.zero = h
+high_at (h ∷ hs) (Prim.Native.Nat.suc i) = high_at hs i
+
+-- the rows: the first have upper halves of their places, and those behind have none
+abbrev pub whole_rows : List PI → List HighPlaces → List StoredNode → List NodeData
+whole_rows pis highs [] = []
+whole_rows pis [] (r ∷ rs) = whole_row pis no_high r ∷ whole_rows pis [] rs
+whole_rows pis (h ∷ hs) (r ∷ rs) = whole_row pis h r ∷ whole_rows pis hs rs
+
+-- a row names only one of so many processing instructions
+abbrev pub is_kind_within : ℕ → StoredKind → Bool
+is_kind_within n stored.Root = true
+is_kind_within n (stored.Element scope local from until) = true
+is_kind_within n (stored.NamespacedElement namespace scope local from until) = true
+is_kind_within n (stored.Text text) = true
+is_kind_within n (stored.Comment text) = true
+is_kind_within n (stored.Instruction i) = nat_lt i n
+
+abbrev pub are_within : ℕ → List StoredNode → Bool
+are_within n rows = list_all (λ r. is_kind_within n r.kind) rows
+
+-- a node that its row holds alone: its places have no upper halves, and it is no processing instruction
+abbrev pub IsSmallKind : NodeKind → Type 0
+IsSmallKind kind.Root = Unit {0}
+IsSmallKind (kind.Element e) = Unit {0}
+IsSmallKind (kind.Text text) = Unit {0}
+IsSmallKind (kind.Comment text) = Unit {0}
+IsSmallKind (kind.PI pi) = ⊥
+
+-- what is lent is this
+abbrev pub kind_of : KindRef → NodeKind
+kind_of lent.Root = kind.Root
+kind_of (lent.Element e) = kind.Element e
+kind_of (lent.Text text) = kind.Text text.now
+kind_of (lent.Comment text) = kind.Comment text.now
+kind_of (lent.PI pi) = kind.PI pi
+
+abbrev pub data_of : RowRef → NodeData
+data_of row = record {
+  start = row.start;
+  end = row.end;
+  parent = row.parent;
+  subtree_end = row.subtree_end;
+  kind = kind_of row.kind;
+}

@@ -1,0 +1,417 @@
+//! The table of nodes.
+
+ghost use Rattle.std.specs.Prelude.{◌≡◌, ◌<◌, ◌≤◌, ◌+◌, ◌++◌, ◌∷◌, [], ◌^◌, List, true, length, take, set, get_or, vec_len, vec_capacity, if◌then◌else◌, is_ok, IfOk, OnOk, IfErr};
+ghost use Rattle.std.proofs.Props.{props};
+ghost use Rattle.rox_tables.specs.StoredNodes as stored;
+ghost use Rattle.rox_tables.specs.StoredNodes.{are_within};
+ghost use Rattle.rox_tables.specs.declared.rows.tables.PI.{PI};
+ghost use Rattle.rox_tables.specs.declared.rows.tables.NodeData.{NodeData};
+ghost use Rattle.rox_tables.specs.declared.rows.tables.NodeKind.TheVariants as kind;
+ghost use Rattle.rox_tables.specs.declared.rows.stored_node.StoredNode.{StoredNode};
+ghost use Rattle.rox_tables.specs.declared.rows.stored_node.HighPlaces.{HighPlaces};
+
+use crate::rows::growth::{self, reserve, trim};
+use crate::rows::stored_node::{
+    FIRST_HIGH, HighPlaces, KindRef, RowRef, StoredNode, high_half, kind_ref, low_half, small_kind,
+    store_kind, whole_place,
+};
+use crate::rows::tables::{NodeData, NodeKind, PI};
+use rox_grammar::failure::Failure;
+use std::alloc::Global;
+
+/// The nodes of a text, in document order. What few nodes have is kept beside the rows, so that these are small: processing
+/// instructions, and the upper halves of places, which only texts of 4 GiB and more have.
+#[derive(Drop)]
+pub struct NodeTable<'input> {
+    pub rows: Vec<StoredNode<'input>>,
+    pub instructions: Vec<PI<'input>>,
+    /// Those of the first rows: the rows behind them have places of 32 bits.
+    pub high: Vec<HighPlaces>,
+    pub ghost short: { length high.items ≤ length rows.items },
+    pub ghost within: { are_within (length instructions.items) rows.items ≡ true } by { Prim.hlevel props },
+}
+
+/// How many rows a table begins with room for, at most.
+const FIRST_ROWS: usize = 65536;
+
+/// And at least.
+const FEWEST_ROWS: usize = 32;
+
+/// The upper halves of a row's places, where these are those of the first rows.
+#[inline(always)]
+fn high_places(high: &[HighPlaces], index: usize) -> HighPlaces
+    ensures { result ≡ stored.high_at high.now index }
+{
+    if index < high.len() {
+        return high[index];
+    }
+    HighPlaces { start: 0, end: 0 }
+}
+
+/// Fills up with upper halves of 0, and makes room for one more. The only error is want of memory.
+fn fill(high: &mut Vec<HighPlaces>, count: usize) -> Result<(), Failure>
+    requires { vec_len high.old ≤ count }
+    ensures same { (pis : List PI) (rows : List StoredNode)
+        → stored.whole_rows pis high.new.items rows ≡ stored.whole_rows pis high.old.items rows }
+    ensures count { OnOk result (vec_len high.new ≡ count) }
+    ensures most { vec_len high.new ≤ count }
+    ensures room { OnOk result (vec_len high.new < vec_capacity high.new) }
+    ensures err { IfErr result (λ e. e ≡ Failure.Memory) }
+{
+    while high.len() < count {
+        growth::push(high, HighPlaces { start: 0, end: 0 })?;
+    }
+    high.reserve(1)?;
+    Ok(())
+}
+
+/// Writes the lower half of an element's end into its row, and the id past its last descendant.
+#[inline(always)]
+fn end_stored(rows: &mut Vec<StoredNode<'_>>, row: u32, end: u32, subtree_end: u32)
+    ensures rows { (d : StoredNode)
+        → rows.new.items
+        ≡ set rows.old.items row
+        (record (get_or rows.old.items row d) { end = end; subtree_end = subtree_end }) }
+    ensures count { vec_len rows.new ≡ vec_len rows.old }
+    ensures room { vec_capacity rows.new ≡ vec_capacity rows.old }
+{
+    if let Some(node) = rows.get_mut(row as usize) {
+        node.end = end;
+        node.subtree_end = subtree_end;
+    }
+}
+
+/// Writes the upper half of an element's end, where it has one.
+#[inline(always)]
+fn end_high(high: &mut Vec<HighPlaces>, row: u32, end: u32)
+    ensures high { (d : HighPlaces)
+        → high.new.items
+        ≡ set high.old.items row (record (get_or high.old.items row d) { end = end }) }
+    ensures count { vec_len high.new ≡ vec_len high.old }
+{
+    if let Some(places) = high.get_mut(row as usize) {
+        places.end = end;
+    }
+}
+
+/// Writes the count of all rows into that of the root node.
+fn close_stored(rows: &mut Vec<StoredNode<'_>>, count: u32)
+    ensures rows { (d : StoredNode)
+        → rows.new.items
+        ≡ set rows.old.items 0 (record (get_or rows.old.items 0 d) { subtree_end = count }) }
+    ensures count { vec_len rows.new ≡ vec_len rows.old }
+{
+    if let Some(node) = rows.get_mut(0) {
+        node.subtree_end = count;
+    }
+}
+
+impl<'input> NodeTable<'input> {
+    ghost use Rattle.rox_tables.specs.Rows.{node_rows};
+
+    /// An empty table.
+    fn empty(alloc: Global) -> NodeTable<'input>
+        ensures rows { node_rows result ≡ [] }
+        ensures len { vec_len result.rows ≡ 0 }
+    {
+        NodeTable {
+            rows: Vec::new(alloc),
+            instructions: Vec::new(alloc),
+            high: Vec::new(alloc),
+        }
+    }
+
+    /// The root node of a text of so many bytes, with some room for more. The only error is want of memory.
+    pub fn of_text(alloc: Global, bytes: usize) -> Result<NodeTable<'input>, Failure>
+        ensures rows { IfOk result
+            (λ t. node_rows t
+            ≡ record { start = 0; end = bytes; parent = 0; subtree_end = 0; kind = kind.Root }
+            ∷ []) }
+        ensures len { IfOk result (λ t. vec_len t.rows ≡ 1) }
+        ensures err { IfErr result (λ e. e ≡ Failure.Memory) }
+    {
+        let room = (bytes / 48 + FEWEST_ROWS).min(FIRST_ROWS);
+        let mut table = NodeTable::empty(alloc);
+        reserve(&mut table.rows, room, FEWEST_ROWS)?;
+        table.push(NodeData {
+            start: 0,
+            end: bytes,
+            parent: 0,
+            subtree_end: 0,
+            kind: NodeKind::Root,
+        })?;
+        Ok(table)
+    }
+
+    /// How many nodes there are.
+    #[inline(always)]
+    pub fn len(&self) -> usize
+        ensures rows { result ≡ vec_len self.now.rows }
+        ensures nodes { result ≡ length (node_rows self.now) }
+    {
+        self.rows.len()
+    }
+
+    /// Whether there is room for one more row.
+    #[inline(always)]
+    pub fn has_room(&self) -> bool
+        ensures { result ≡ true → vec_len self.now.rows < vec_capacity self.now.rows }
+    {
+        self.rows.len() < self.rows.capacity()
+    }
+
+    /// A node.
+    #[inline(always)]
+    pub fn row(&self, index: usize) -> RowRef<'_, 'input>
+        requires { index < vec_len self.now.rows }
+        ensures { stored.data_of result
+            ≡ get_or (node_rows self.now) index (stored.data_of result) }
+    {
+        let row = &self.rows[index];
+        let high = high_places(&self.high, index);
+        RowRef {
+            start: whole_place(row.start, high.start),
+            end: whole_place(row.end, high.end),
+            parent: row.parent,
+            subtree_end: row.subtree_end,
+            kind: kind_ref(&row.kind, &self.instructions),
+        }
+    }
+
+    /// The row of a node: its links, for those that ask for no more.
+    #[inline(always)]
+    pub fn links(&self, index: usize) -> &StoredNode<'input>
+        requires { index < vec_len self.now.rows }
+        ensures { (let row = stored.whole_row self.now.instructions.items
+            (stored.high_at self.now.high.items index) result.now in row
+            ≡ get_or (node_rows self.now) index row) }
+    {
+        &self.rows[index]
+    }
+
+    /// What a node is.
+    #[inline(always)]
+    pub fn kind(&self, index: usize) -> KindRef<'_, 'input>
+        requires { index < vec_len self.now.rows }
+        ensures { (row : NodeData) × (row ≡ get_or (node_rows self.now) index row)
+            × (stored.kind_of result ≡ row.kind) }
+    {
+        let row = &self.rows[index];
+        kind_ref(&row.kind, &self.instructions)
+    }
+
+    /// Where the text ends: there the root node does, whose row is the first.
+    fn text_end(&self) -> usize {
+        if self.rows.is_empty() {
+            return 0;
+        }
+        self.row(0).end
+    }
+
+    /// Makes room for more rows, as those that there are foretell it, the next of which stands from `start` up to `end`. The only
+    /// error is want of memory.
+    #[cold]
+    #[inline(never)]
+    fn make_room(&mut self, start: usize, end: usize) -> Result<(), Failure>
+        ensures rows { node_rows self.new ≡ node_rows self.old }
+        ensures len { vec_len self.new.rows ≡ vec_len self.old.rows }
+        ensures ok { OnOk result (vec_len self.new.rows < vec_capacity self.new.rows) }
+        ensures err { IfErr result (λ e. e ≡ Failure.Memory) }
+    {
+        let text_end = self.text_end();
+        growth::make_room(&mut self.rows, start.max(end), text_end)
+    }
+
+    /// The same where there is no room for one more.
+    #[inline(always)]
+    fn foresee(&mut self, start: usize, end: usize) -> Result<(), Failure>
+        ensures rows { node_rows self.new ≡ node_rows self.old }
+        ensures len { vec_len self.new.rows ≡ vec_len self.old.rows }
+        ensures ok { OnOk result (vec_len self.new.rows < vec_capacity self.new.rows) }
+        ensures err { IfErr result (λ e. e ≡ Failure.Memory) }
+    {
+        if self.has_room() {
+            return Ok(());
+        }
+        self.make_room(start, end)
+    }
+
+    /// Puts a node at the end, where there is room for its row and the row holds it alone.
+    #[inline(always)]
+    pub fn put(&mut self, row: NodeData<'input>)
+        requires room { vec_len self.old.rows < vec_capacity self.old.rows }
+        requires start { row.start < 2 ^ 32 }
+        requires end { row.end < 2 ^ 32 }
+        requires small { stored.IsSmallKind row.kind }
+        ensures rows { node_rows self.new ≡ node_rows self.old ++ row.entry ∷ [] }
+        ensures len { vec_len self.new.rows ≡ vec_len self.old.rows + 1 }
+    {
+        self.rows.push_reserved(StoredNode {
+            start: row.start as u32,
+            end: row.end as u32,
+            parent: row.parent,
+            subtree_end: row.subtree_end,
+            kind: small_kind(row.kind),
+        });
+    }
+
+    /// Puts a node at the end. The only error is want of memory, and then the nodes are as before.
+    #[inline(always)]
+    pub fn push(&mut self, row: NodeData<'input>) -> Result<(), Failure>
+        ensures rows { node_rows self.new ≡ (if is_ok result
+            then node_rows self.old ++ row.entry ∷ [] else node_rows self.old) }
+        ensures len { vec_len self.new.rows ≡ (if is_ok result then vec_len self.old.rows + 1
+            else vec_len self.old.rows) }
+        ensures err { IfErr result (λ e. e ≡ Failure.Memory) }
+    {
+        self.foresee(row.start, row.end)?;
+        if row.start >= FIRST_HIGH || row.end >= FIRST_HIGH {
+            return self.push_far(row);
+        }
+        self.push_near(row)
+    }
+
+    /// The same of a node whose places have no upper halves, where there is room for its row.
+    #[inline(always)]
+    fn push_near(&mut self, row: NodeData<'input>) -> Result<(), Failure>
+        requires room { vec_len self.old.rows < vec_capacity self.old.rows }
+        requires start { row.start < 2 ^ 32 }
+        requires end { row.end < 2 ^ 32 }
+        ensures rows { node_rows self.new ≡ (if is_ok result
+            then node_rows self.old ++ row.entry ∷ [] else node_rows self.old) }
+        ensures len { vec_len self.new.rows ≡ (if is_ok result then vec_len self.old.rows + 1
+            else vec_len self.old.rows) }
+        ensures err { IfErr result (λ e. e ≡ Failure.Memory) }
+    {
+        let kind = store_kind(&mut self.instructions, row.kind)?;
+        self.rows.push_reserved(StoredNode {
+            start: row.start as u32,
+            end: row.end as u32,
+            parent: row.parent,
+            subtree_end: row.subtree_end,
+            kind,
+        });
+        Ok(())
+    }
+
+    /// The same of a node whose places have upper halves, where there is room for its row.
+    #[cold]
+    #[inline(never)]
+    fn push_far(&mut self, row: NodeData<'input>) -> Result<(), Failure>
+        requires { vec_len self.old.rows < vec_capacity self.old.rows }
+        ensures rows { node_rows self.new ≡ (if is_ok result
+            then node_rows self.old ++ row.entry ∷ [] else node_rows self.old) }
+        ensures len { vec_len self.new.rows ≡ (if is_ok result then vec_len self.old.rows + 1
+            else vec_len self.old.rows) }
+        ensures err { IfErr result (λ e. e ≡ Failure.Memory) }
+    {
+        fill(&mut self.high, self.rows.len())?;
+        let kind = store_kind(&mut self.instructions, row.kind)?;
+        self.high.push_reserved(HighPlaces {
+            start: high_half(row.start),
+            end: high_half(row.end),
+        });
+        self.rows.push_reserved(StoredNode {
+            start: low_half(row.start),
+            end: low_half(row.end),
+            parent: row.parent,
+            subtree_end: row.subtree_end,
+            kind,
+        });
+        Ok(())
+    }
+
+    /// Writes the end of an element into its row, and that all rows behind are of its descendants. Where the end has an upper
+    /// half there is room for it.
+    #[inline(always)]
+    pub fn put_end(&mut self, row: u32, end: usize)
+        requires few { vec_len self.old.rows < 2 ^ 32 }
+        requires room { vec_len self.old.high < vec_len self.old.rows → end < 2 ^ 32 }
+        ensures rows { (d : NodeData)
+            → node_rows self.new
+            ≡ set (node_rows self.old) row
+            (record (get_or (node_rows self.old) row d) {
+              end = end;
+              subtree_end = length
+                  (node_rows self.old);
+            }) }
+        ensures len { vec_len self.new.rows ≡ vec_len self.old.rows }
+    {
+        let subtree_end = self.rows.len() as u32;
+        end_stored(&mut self.rows, row, low_half(end), subtree_end);
+        end_high(&mut self.high, row, high_half(end));
+    }
+
+    /// The same, whatever the end is. The only error is want of memory, and then the nodes are as before.
+    #[inline(always)]
+    pub fn end_row(&mut self, row: u32, end: usize) -> Result<(), Failure>
+        requires { vec_len self.old.rows < 2 ^ 32 }
+        ensures rows { OnOk result ((d : NodeData)
+            → node_rows self.new
+            ≡ set (node_rows self.old) row
+            (record (get_or (node_rows self.old) row d) {
+              end = end;
+              subtree_end = length
+                  (node_rows self.old);
+            })) }
+        ensures len { vec_len self.new.rows ≡ vec_len self.old.rows }
+        ensures same { IfErr result (λ e. node_rows self.new ≡ node_rows self.old) }
+        ensures err { IfErr result (λ e. e ≡ Failure.Memory) }
+    {
+        if end >= FIRST_HIGH {
+            return self.end_far(row, end);
+        }
+        self.put_end(row, end);
+        Ok(())
+    }
+
+    /// The same of an end that has an upper half.
+    #[cold]
+    #[inline(never)]
+    fn end_far(&mut self, row: u32, end: usize) -> Result<(), Failure>
+        requires { vec_len self.old.rows < 2 ^ 32 }
+        ensures rows { OnOk result ((d : NodeData)
+            → node_rows self.new
+            ≡ set (node_rows self.old) row
+            (record (get_or (node_rows self.old) row d) {
+              end = end;
+              subtree_end = length
+                  (node_rows self.old);
+            })) }
+        ensures len { vec_len self.new.rows ≡ vec_len self.old.rows }
+        ensures same { IfErr result (λ e. node_rows self.new ≡ node_rows self.old) }
+        ensures err { IfErr result (λ e. e ≡ Failure.Memory) }
+    {
+        fill(&mut self.high, self.rows.len())?;
+        self.put_end(row, end);
+        Ok(())
+    }
+
+    /// Writes the count of all rows into that of the root node.
+    pub fn end_root(&mut self, count: u32)
+        ensures rows { (d : NodeData)
+            → node_rows self.new
+            ≡ set (node_rows self.old) 0
+            (record (get_or (node_rows self.old) 0 d) { subtree_end = count }) }
+        ensures len { vec_len self.new.rows ≡ vec_len self.old.rows }
+    {
+        close_stored(&mut self.rows, count);
+    }
+
+    /// Takes back the nodes behind the first so many.
+    pub fn truncate(&mut self, count: usize)
+        ensures rows { node_rows self.new ≡ take count (node_rows self.old) }
+        ensures len { count ≤ vec_len self.old.rows → vec_len self.new.rows ≡ count }
+    {
+        self.rows.truncate(count);
+        self.high.truncate(count);
+    }
+
+    /// Gives back room that it does not need.
+    pub fn trim(&mut self)
+        ensures rows { node_rows self.new ≡ node_rows self.old }
+        ensures len { vec_len self.new.rows ≡ vec_len self.old.rows }
+    {
+        trim(&mut self.rows);
+    }
+}
