@@ -13,28 +13,29 @@ use Rattle.rox_build.specs.BuilderState.{IsRowWithin, AreSound, RepresentsFlushe
 use Rattle.rox_tables.specs.declared.rows.tables.NodeData.{NodeData}
 use Rattle.rox_tables.specs.declared.rows.tables.Tables.{Tables}
 use Rattle.rox_build.specs.declared.builder.Builder.{Builder}
+use Rattle.rox_tables.specs.Rows.{node_rows}
 use Rattle.rox_build.proofs.Showing.{rows_count, within_set, within_at, some_row, first_within}
 
 root_closed : (end : ℕ) (f : Forest Item) (n : ℕ) → n ≡ 0 + 1 + size f
-    → set (so_far end root f) 0 (record (root_line end) { subtree_end = n }) ≡ preorder_rows 0 0 0 (document_tree end f)
+    → set (so_far end root f) 0 (record (root_line end) { subtree_end = n }) ≡ preorder_rows 0 0 (document_tree end f)
 root_closed end f n h =
     let k : n ≡ 1 + size (resolved [] f) = h ∙ ap (λ (m : ℕ). 1 + m) (sym (size-resolved [] f)) in
-    ap (λ (m : ℕ). record (root_line end) { subtree_end = m } ∷ preorder_rows 0 1 1 (resolved [] f)) k
-    ∙ ap (λ xs. record (root_line end) { subtree_end = 1 + size (resolved [] f) } ∷ xs) (sym (append-nil (preorder_rows 0 1 1 (resolved [] f))))
+    ap (λ (m : ℕ). record (root_line end) { subtree_end = m } ∷ preorder_rows 0 1 (resolved [] f)) k
+    ∙ ap (λ xs. record (root_line end) { subtree_end = 1 + size (resolved [] f) } ∷ xs) (sym (append-nil (preorder_rows 0 1 (resolved [] f))))
 
-finish_with : (end : ℕ) (done : Forest Item) (b : Builder) (u : Tables) (d : NodeData) → RepresentsFlushed end root done b → AreSound b.tables → length b.nodes.items < 2 ^ 32
-    → u.nodes.items ≡ set b.nodes.items 0 (record (get_or b.nodes.items 0 d) { subtree_end = length b.nodes.items }) → u.attributes ≡ b.tables.attributes → u.namespaces ≡ b.tables.namespaces.items
+finish_with : (end : ℕ) (done : Forest Item) (b : Builder) (u : Tables) (d : NodeData) → RepresentsFlushed end root done b → AreSound b.tables → length (node_rows b.nodes) < 2 ^ 32
+    → (node_rows u.nodes) ≡ set (node_rows b.nodes) 0 (record (get_or (node_rows b.nodes) 0 d) { subtree_end = length (node_rows b.nodes) }) → u.attributes ≡ b.tables.attributes → u.namespaces ≡ b.tables.namespaces.items
     → u.listed ≡ b.tables.listed → u.scopes ≡ b.tables.scopes → IsRowWithin b.tables d.kind → HoldsTree u (document_tree end (merge done))
 finish_with end done b u d h sound few change attributes namespaces listed scopes fine =
     let t = b.tables in
-    let n = rows_count t end root (merge done) b.nodes.items h.rows in
-    let found : line_in t (get_or b.nodes.items 0 d) ≡ root_line end = sym (get_or-map (line_in t) b.nodes.items 0 d) ∙ ap (λ xs. get_or xs 0 (line_in t d)) h.rows in
-    let new : NodeData = record (get_or b.nodes.items 0 d) { subtree_end = length b.nodes.items } in
-    let is_closed : line_in t new ≡ record (root_line end) { subtree_end = length b.nodes.items } = ap (λ (l : RowView). record l { subtree_end = length b.nodes.items }) found in
-    let g = map-set (line_in t) b.nodes.items 0 new ∙ ap (λ xs. set xs 0 (line_in t new)) h.rows ∙ ap (λ y. set (so_far end root (merge done)) 0 y) is_closed
-    ∙ root_closed end (merge done) (length b.nodes.items) n in
-    let w = within_set t b.nodes.items 0 new h.within (within_at t b.nodes.items 0 d h.within fine) in
-    let l : length u.nodes.items ≡ length b.nodes.items = ap length change ∙ length-set b.nodes.items 0 new in
+    let n = rows_count t end root (merge done) (node_rows b.nodes) h.rows in
+    let found : line_in t (get_or (node_rows b.nodes) 0 d) ≡ root_line end = sym (get_or-map (line_in t) (node_rows b.nodes) 0 d) ∙ ap (λ xs. get_or xs 0 (line_in t d)) h.rows in
+    let new : NodeData = record (get_or (node_rows b.nodes) 0 d) { subtree_end = length (node_rows b.nodes) } in
+    let is_closed : line_in t new ≡ record (root_line end) { subtree_end = length (node_rows b.nodes) } = ap (λ (l : RowView). record l { subtree_end = length (node_rows b.nodes) }) found in
+    let g = map-set (line_in t) (node_rows b.nodes) 0 new ∙ ap (λ xs. set xs 0 (line_in t new)) h.rows ∙ ap (λ y. set (so_far end root (merge done)) 0 y) is_closed
+    ∙ root_closed end (merge done) (length (node_rows b.nodes)) n in
+    let w = within_set t (node_rows b.nodes) 0 new h.within (within_at t (node_rows b.nodes) 0 d h.within fine) in
+    let l : length (node_rows u.nodes) ≡ length (node_rows b.nodes) = ap length change ∙ length-set (node_rows b.nodes) 0 new in
     let s : Sound u = record {
       nodes = rw (change, attributes, namespaces, scopes) w;
       attributes = rw (attributes, namespaces) sound.attributes;
@@ -43,17 +44,17 @@ finish_with end done b u d h sound few change attributes namespaces listed scope
     } in
     record { rows = rw (change, attributes, namespaces, listed, scopes) g; sound = s; few = rw l few }
 
-pub finish_holds : (end : ℕ) (done : Forest Item) (b : Builder) (u : Tables) → RepresentsFlushed end root done b → AreSound b.tables → length b.nodes.items < 2 ^ 32
-    → ((d : NodeData) → u.nodes.items ≡ set b.nodes.items 0 (record (get_or b.nodes.items 0 d) { subtree_end = length b.nodes.items })) → u.attributes ≡ b.tables.attributes
+pub finish_holds : (end : ℕ) (done : Forest Item) (b : Builder) (u : Tables) → RepresentsFlushed end root done b → AreSound b.tables → length (node_rows b.nodes) < 2 ^ 32
+    → ((d : NodeData) → (node_rows u.nodes) ≡ set (node_rows b.nodes) 0 (record (get_or (node_rows b.nodes) 0 d) { subtree_end = length (node_rows b.nodes) })) → u.attributes ≡ b.tables.attributes
     → u.namespaces ≡ b.tables.namespaces.items → u.listed ≡ b.tables.listed → u.scopes ≡ b.tables.scopes → HoldsTree u (document_tree end (merge done))
 finish_holds end done b u h sound few change attributes namespaces listed scopes =
-    let n = rows_count b.tables end root (merge done) b.nodes.items h.rows in
-    let some : 0 < length b.nodes.items = omega arith in
-    let d = some_row b.nodes.items some in
-    finish_with end done b u d h sound few (change d) attributes namespaces listed scopes (first_within b.tables b.nodes.items some h.within)
+    let n = rows_count b.tables end root (merge done) (node_rows b.nodes) h.rows in
+    let some : 0 < length (node_rows b.nodes) = omega arith in
+    let d = some_row (node_rows b.nodes) some in
+    finish_with end done b u d h sound few (change d) attributes namespaces listed scopes (first_within b.tables (node_rows b.nodes) some h.within)
 
 -- tables of the same rows hold the same tree, whatever room they have
-pub same_held : (t u : Tables) (tree : Forest Node) → u.nodes.items ≡ t.nodes.items → attribute_rows u.attributes ≡ attribute_rows t.attributes → u.namespaces ≡ t.namespaces → u.listed ≡ t.listed → u.scopes ≡ t.scopes
+pub same_held : (t u : Tables) (tree : Forest Node) → (node_rows u.nodes) ≡ (node_rows t.nodes) → attribute_rows u.attributes ≡ attribute_rows t.attributes → u.namespaces ≡ t.namespaces → u.listed ≡ t.listed → u.scopes ≡ t.scopes
     → HoldsTree t tree → HoldsTree u tree
 same_held t u tree nodes attributes namespaces listed scopes h = record {
   rows = rw (nodes, attributes, namespaces, listed, scopes) h.rows;

@@ -14,6 +14,7 @@ use Rattle.rox_tables.specs.declared.rows.tables.ElementTables.{ElementTables}
 use Rattle.rox_build.specs.declared.builder.OpenElement.{OpenElement}
 use Rattle.rox_build.specs.declared.builder.Builder.{Builder}
 use Rattle.rox_tables.proofs.Stable.{all_weaker, map_same, scope_at-append, lines-append, kind_more}
+use Rattle.rox_tables.specs.Rows.{node_rows}
 use Rattle.rox_tables.proofs.Ropes.{length-lists}
 
 opened-append : (lists more : List (List NamespaceDecl)) (o : OpenElement) → o.scope < length lists → opened (lists ++ more) o ≡ opened lists o
@@ -67,23 +68,23 @@ grown_shows end o done b u h sound elements g nodes opens waits joined =
     let m = lists_count t in
     let all_attributes : AllByRecursion (λ (a : AttributeRow). NamespaceWithin (length (names_in t)) a.0.namespace) (attribute_rows t.attributes) =
     subst (λ (n : ℕ). AllByRecursion (λ (a : AttributeRow). NamespaceWithin n a.0.namespace) (attribute_rows t.attributes)) (sym n) sound.attributes in
-    let all_rows : AllByRecursion (λ (r : NodeData). KindWithin (length (attribute_rows t.attributes)) (length (names_in t)) (length (lists_in t)) r.kind) b.nodes.items =
-    subst (λ (m : ℕ). AllByRecursion (λ (r : NodeData). KindWithin (length (attribute_rows t.attributes)) (length (names_in t)) m r.kind) b.nodes.items) (sym m)
-    (subst (λ (n : ℕ). AllByRecursion (λ (r : NodeData). KindWithin (length (attribute_rows t.attributes)) n (length t.scopes.items) r.kind) b.nodes.items) (sym n) h.within) in
+    let all_rows : AllByRecursion (λ (r : NodeData). KindWithin (length (attribute_rows t.attributes)) (length (names_in t)) (length (lists_in t)) r.kind) (node_rows b.nodes) =
+    subst (λ (m : ℕ). AllByRecursion (λ (r : NodeData). KindWithin (length (attribute_rows t.attributes)) (length (names_in t)) m r.kind) (node_rows b.nodes)) (sym m)
+    (subst (λ (n : ℕ). AllByRecursion (λ (r : NodeData). KindWithin (length (attribute_rows t.attributes)) n (length t.scopes.items) r.kind) (node_rows b.nodes)) (sym n) h.within) in
     let all_opened : AllByRecursion (λ (o : OpenElement). o.scope < length (lists_in t)) b.opened.items =
     subst (λ (m : ℕ). AllByRecursion (λ (o : OpenElement). o.scope < m) b.opened.items) (sym m)
     (all_weaker (IsOpenWithin t) (λ (o : OpenElement). o.scope < length t.scopes.items) b.opened.items (λ o x. x.0) elements) in
-    let rows : map (line_in u.tables) b.nodes.items ≡ map (line_in t) b.nodes.items =
-    ap (λ (xs : List AttributeRow). map (row_view xs (names_in u.tables) (lists_in u.tables)) b.nodes.items) g.attributes
-    ∙ ap (λ (ns : List NamespaceDecl). map (row_view ((attribute_rows t.attributes) ++ g.more_attributes) ns (lists_in u.tables)) b.nodes.items) g.namespaces
-    ∙ ap (λ (ls : List (List NamespaceDecl)). map (row_view ((attribute_rows t.attributes) ++ g.more_attributes) (names_in t ++ g.more_names) ls) b.nodes.items) g.lists
-    ∙ lines-append (attribute_rows t.attributes) g.more_attributes (names_in t) g.more_names (lists_in t) g.more_lists b.nodes.items all_attributes all_rows in
+    let rows : map (line_in u.tables) (node_rows b.nodes) ≡ map (line_in t) (node_rows b.nodes) =
+    ap (λ (xs : List AttributeRow). map (row_view xs (names_in u.tables) (lists_in u.tables)) (node_rows b.nodes)) g.attributes
+    ∙ ap (λ (ns : List NamespaceDecl). map (row_view ((attribute_rows t.attributes) ++ g.more_attributes) ns (lists_in u.tables)) (node_rows b.nodes)) g.namespaces
+    ∙ ap (λ (ls : List (List NamespaceDecl)). map (row_view ((attribute_rows t.attributes) ++ g.more_attributes) (names_in t ++ g.more_names) ls) (node_rows b.nodes)) g.lists
+    ∙ lines-append (attribute_rows t.attributes) g.more_attributes (names_in t) g.more_names (lists_in t) g.more_lists (node_rows b.nodes) all_attributes all_rows in
     let os : opened_in u.tables b.opened.items ≡ opened_in t b.opened.items =
     ap (λ (ls : List (List NamespaceDecl)). map (opened ls) b.opened.items) g.lists
     ∙ map_same (opened (lists_in t ++ g.more_lists)) (opened (lists_in t)) (λ (o : OpenElement). o.scope < length (lists_in t)) b.opened.items
     (λ o x. opened-append (lists_in t) g.more_lists o x) all_opened in
     let k = grown_counts t u.tables g in
-    let w = all_weaker (λ (r : NodeData). IsRowWithin t r.kind) (λ (r : NodeData). IsRowWithin u.tables r.kind) b.nodes.items
+    let w = all_weaker (λ (r : NodeData). IsRowWithin t r.kind) (λ (r : NodeData). IsRowWithin u.tables r.kind) (node_rows b.nodes)
     (λ r x. kind_more (length (attribute_rows t.attributes)) (length t.namespaces.items.items) (length t.scopes.items) (length (attribute_rows u.tables.attributes)) (length u.tables.namespaces.items.items) (length u.tables.scopes.items) r.kind k.0 k.1 k.2 x) h.within in
     record {
       front = h.front;

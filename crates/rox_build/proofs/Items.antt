@@ -9,8 +9,7 @@ use Rattle.rox_grammar.specs.declared.fault.Word.{Word}
 use Rattle.rox_grammar.specs.declared.fault.Word.TheVariants as word
 use Rattle.rox_grammar.specs.Search.{byte_from, stands}
 use Rattle.rox_grammar.specs.Names.{spaces_end}
-use Rattle.rox_grammar.specs.Constructs.{at}
-use Rattle.rox_grammar.specs.FixedTexts.{word_text}
+use Rattle.rox_grammar.specs.FixedTexts.{word_text, at}
 use Rattle.rox_grammar.specs.Doctype.{Request, Asked}
 use Rattle.rox_reading.specs.Refusals.{here, lifted}
 use Rattle.rox_reading.specs.State.{State}

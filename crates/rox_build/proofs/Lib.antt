@@ -13,6 +13,7 @@ pub mod Parting
 pub mod TextLooping
 pub mod TextOpening
 pub mod Looping
+pub mod Twice
 pub mod Wholes
 pub mod Asking
 pub mod Items

@@ -13,7 +13,7 @@ use Rattle.rox_reading.specs.Lexical.{◌>>=◌}
 use Rattle.rox_reading.specs.Refusals.{lifted}
 use Rattle.rox_reading.specs.Values.{data_bit_at, data_part, bytes_of, at_end}
 use Rattle.rox_reading.specs.Machine.{Context, with_item, data_parts, at_place}
-use Rattle.rox_build.specs.DataParts.{IsLine}
+use Rattle.rox_scan.specs.Lookahead.{IsLine}
 
 -- the first byte behind which a search goes on
 neither : (x : ℕ) (xs : List ℕ) → 0 < position_or_len (λ c. c == 38 || c == 13) (x ∷ xs) → ((x == 38) ≡ false) × ((x == 13) ≡ false)

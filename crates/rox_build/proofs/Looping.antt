@@ -3,7 +3,7 @@ use Rattle.std.proofs.Common.{◌≡◌, ℕ, zero, suc, ◌<◌, ◌≤◌, tru
 use Rattle.rox_grammar.specs.declared.fault.Fault.TheVariants as fault
 use Rattle.rox_grammar.specs.declared.fault.Word.TheVariants as word
 use Rattle.rox_grammar.specs.Names.{spaces_end}
-use Rattle.rox_grammar.specs.Constructs.{at}
+use Rattle.rox_grammar.specs.FixedTexts.{at}
 use Rattle.rox_reading.specs.Lexical.{◌>>=◌}
 use Rattle.rox_grammar.specs.State.{is_root}
 use Rattle.rox_reading.specs.Refusals.{Refusal, here, lifted}
@@ -27,7 +27,7 @@ pub record Driving (context : Context) (end : ℕ) (src : List ℕ) (whole : Res
   pub sees : IsInState context.limit end s c b
   pub same : drive context n src s ≡ whole
 
-driven : (context : Context) (n m : ℕ) (src : List ℕ) (s : State) → n ≡ suc m → is_root s.stack ≡ false → s.at < length src → drive context n src s ≡ (step context src s >>= λ t. drive context m src t)
+pub driven : (context : Context) (n m : ℕ) (src : List ℕ) (s : State) → n ≡ suc m → is_root s.stack ≡ false → s.at < length src → drive context n src s ≡ (step context src s >>= λ t. drive context m src t)
 unfolding drive
 driven context n m src s one inner inside = let k = lt-ltb _ _ inside in rw (one, inner, k) refl
 

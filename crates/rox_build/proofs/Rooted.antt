@@ -4,7 +4,7 @@ use Rattle.rox_grammar.specs.declared.fault.Fault.{Fault}
 use Rattle.rox_grammar.specs.declared.fault.Word.TheVariants as word
 use Rattle.rox_grammar.specs.Search.{byte_from}
 use Rattle.rox_grammar.specs.Names.{spaces_end}
-use Rattle.rox_grammar.specs.Constructs.{at}
+use Rattle.rox_grammar.specs.FixedTexts.{at}
 use Rattle.rox_grammar.specs.State.{Open}
 use Rattle.rox_reading.specs.Refusals.{lifted}
 use Rattle.rox_reading.specs.Lexical.{byte_at}

@@ -3,7 +3,7 @@ use Rattle.std.proofs.Common.{◌≡◌, ℕ, zero, suc, ◌+◌, ◌-◌, ◌<�
 use Rattle.std.specs.List.{AllByRecursion}
 use Rattle.std.proofs.Math.ListN.{get_or-map}
 use Rattle.std.proofs.lemmas.Bool.{le-leb, lt-leb}
-use Rattle.std.proofs.lemmas.List.{map-append, length-map, length_push, map-set, same_from_push, get_or_at, take_all, take_more}
+use Rattle.std.proofs.lemmas.List.{map-append, length-map, map-set, same_from_push, get_or_at, take_all, take_more}
 use Rattle.std.specs.String.{string_bytes}
 use Rattle.rox_grammar.specs.declared.fault.Fault.TheVariants as fault
 use Rattle.rox_grammar.specs.Forest.{Forest, Nil, Cons, join, size}
@@ -15,7 +15,7 @@ use Rattle.rox_reading.specs.State.{State}
 use Rattle.rox_reading.specs.Machine.{counted}
 use Rattle.rox_reading.proofs.Forests.{is_text, add, join-nil, size-join, merge-piece, add-text, add_clean, merge-item, clean-item}
 use Rattle.rox_tables.specs.Rows.{RowView, row_view, preorder_rows, node, AttributeRow, attribute_rows}
-use Rattle.rox_build.specs.OpenRows.{top, depth_of, open_line, rows_to, so_far}
+use Rattle.rox_build.specs.OpenRows.{top, open_line, rows_to, so_far}
 use Rattle.rox_build.specs.PendingText.{text_of, waiting}
 use Rattle.rox_tables.specs.TagScopes.{lists_in}
 use Rattle.rox_build.specs.BuilderState.{OpenRow, opened, open_lines, last_row, IsPending, with_rows, names_in, line_in, opened_in, IsRowWithin, Represents, RepresentsFlushed, IsNode}
@@ -28,6 +28,7 @@ use Rattle.rox_build.specs.declared.pending.Pending.TheVariants as pending
 use Rattle.rox_build.specs.declared.builder.OpenElement.{OpenElement}
 use Rattle.rox_build.specs.declared.builder.Builder.{Builder}
 use Rattle.rox_build.proofs.Rows.{length-so_far, nodes_are, so_far-join, so_far-open, so_far-closed, closed_line}
+use Rattle.rox_tables.specs.Rows.{node_rows}
 use Rattle.rox_tables.proofs.Stable.{all_append}
 
 -- ---- the open elements
@@ -41,13 +42,6 @@ pub last_row-open_lines : (o : Open) → last_row (open_lines o) ≡ top o
 last_row-open_lines root = refl
 last_row-open_lines (inside start tag before up) = last_row-push (open_lines up) _
 
-pub length-open_lines : (o : Open) → length (open_lines o) ≡ depth_of o
-length-open_lines root = refl
-length-open_lines (inside start tag before up) = length_push (open_lines up) _ ∙ ap (λ n. n + 1) (length-open_lines up)
-
-pub depth_is : (t : ElementTables) (o : Open) (os : List OpenElement) → opened_in t os ≡ open_lines o → length os ≡ depth_of o
-depth_is t o os h = sym (length-map os _) ∙ ap length h ∙ length-open_lines o
-
 parent_is : (t : ElementTables) (o : Open) (os : List OpenElement) → opened_in t os ≡ open_lines o → last_row (opened_in t os) ≡ top o
 parent_is t o os h = ap last_row h ∙ last_row-open_lines o
 
@@ -60,7 +54,7 @@ rows_count t end o front rows h = sym (length-map rows (line_in t)) ∙ ap lengt
 pub nothing_last : (b : Builder) (joined : List ℕ) (last : Forest Item) → b.pending ≡ pending.None → IsPending b.pending joined last → last ≡ Nil
 nothing_last b joined last was h = subst (λ (p : Pending). IsPending p joined last) was h
 
-pub rows_none : (end : ℕ) (o : Open) (done : Forest Item) (b : Builder) (h : Represents end o done b) → b.pending ≡ pending.None → map (line_in b.tables) b.nodes.items ≡ so_far end o h.front
+pub rows_none : (end : ℕ) (o : Open) (done : Forest Item) (b : Builder) (h : Represents end o done b) → b.pending ≡ pending.None → map (line_in b.tables) (node_rows b.nodes) ≡ so_far end o h.front
 rows_none end o done b h was = h.rows ∙ ap (λ (p : Pending). so_far end o (with_rows p h.front h.last)) was
 
 pub merged_none : (end : ℕ) (o : Open) (done : Forest Item) (b : Builder) (h : Represents end o done b) → b.pending ≡ pending.None → merge done ≡ h.front
@@ -68,7 +62,7 @@ merged_none end o done b h was = h.merged ∙ ap (join h.front) (nothing_last b 
 
 -- where the buffer has the text that may go on
 pub rows_joined : (end : ℕ) (o : Open) (done : Forest Item) (b : Builder) (x y : ℕ) (h : Represents end o done b) → b.pending ≡ pending.Joined x y
-    → map (line_in b.tables) b.nodes.items ≡ so_far end o h.front
+    → map (line_in b.tables) (node_rows b.nodes) ≡ so_far end o h.front
 rows_joined end o done b x y h was = h.rows ∙ ap (λ (p : Pending). so_far end o (with_rows p h.front h.last)) was
 
 pub merged_joined : (end : ℕ) (o : Open) (done : Forest Item) (b : Builder) (x y : ℕ) (h : Represents end o done b) → b.pending ≡ pending.Joined x y
@@ -79,13 +73,13 @@ merged_joined end o done b x y h was =
 
 -- where its row is written
 pub rows_written : (end : ℕ) (o : Open) (done : Forest Item) (b : Builder) (h : Represents end o done b) → b.pending ≡ pending.Written
-    → map (line_in b.tables) b.nodes.items ≡ so_far end o (merge done)
+    → map (line_in b.tables) (node_rows b.nodes) ≡ so_far end o (merge done)
 rows_written end o done b h was = h.rows ∙ ap (λ (p : Pending). so_far end o (with_rows p h.front h.last)) was ∙ ap (so_far end o) (sym h.merged)
 
-abbrev pub IsSlice : Forest Item → Type 0
-IsSlice last = (start : ℕ) × (end : ℕ) × (text : List ℕ) × (last ≡ leaf (Text start end text true))
+abbrev pub IsPiece : Forest Item → Type 0
+IsPiece last = (start : ℕ) × (end : ℕ) × (text : List ℕ) × (borrowed : Bool) × (last ≡ leaf (Text start end text borrowed))
 
-pub written_is : (end : ℕ) (o : Open) (done : Forest Item) (b : Builder) (h : Represents end o done b) → b.pending ≡ pending.Written → IsSlice h.last
+pub written_is : (end : ℕ) (o : Open) (done : Forest Item) (b : Builder) (h : Represents end o done b) → b.pending ≡ pending.Written → IsPiece h.last
 written_is end o done b h was = subst (λ (p : Pending). IsPending p (string_bytes b.joined) h.last) was h.is_last
 
 pub counted_ok : (limit : ℕ) (s : State) → nodes_so_far s.stack s.done ≤ limit → counted limit s ≡ Ok s
@@ -96,16 +90,16 @@ counted_err limit s h = let k = lt-leb (nodes_so_far s.stack s.done) limit h in 
 
 -- ---- one more row
 
-leaf_line : (p d at : ℕ) (scope : List NamespaceDecl) (i : Item)
-    → preorder_rows p d at (resolved scope (leaf i)) ≡ record { parent = p; subtree_end = at + 1; depth = d; node = node_in (scope_in scope i) i } ∷ []
-leaf_line p d at scope i = let e : at + 1 + 0 ≡ at + 1 = omega arith in rw e refl
+leaf_line : (p at : ℕ) (scope : List NamespaceDecl) (i : Item)
+    → preorder_rows p at (resolved scope (leaf i)) ≡ record { parent = p; subtree_end = at + 1; node = node_in (scope_in scope i) i } ∷ []
+leaf_line p at scope i = let e : at + 1 + 0 ≡ at + 1 = omega arith in rw e refl
 
 abbrev pub row_of : ElementTables → List NodeData → List OpenElement → ℕ → ℕ → NodeKind → NodeData
-row_of t rows os s e k = record { start = s; end = e; parent = last_row (opened_in t os); subtree_end = length rows + 1; depth = length os + 1; kind = k }
+row_of t rows os s e k = record { start = s; end = e; parent = last_row (opened_in t os); subtree_end = length rows + 1; kind = k }
 
 -- the row of an element that opens
 abbrev pub row_open : ElementTables → ℕ → List OpenElement → ℕ → NodeKind → NodeData
-row_open t subtree_end os s k = record { start = s; end = 0; parent = last_row (opened_in t os); subtree_end = subtree_end; depth = length os + 1; kind = k }
+row_open t subtree_end os s k = record { start = s; end = 0; parent = last_row (opened_in t os); subtree_end = subtree_end; kind = k }
 
 row_shows : (t : ElementTables) (end : ℕ) (o : Open) (front : Forest Item) (i : Item) (rows : List NodeData) (os : List OpenElement) (s e : ℕ) (k : NodeKind)
     → map (line_in t) rows ≡ so_far end o front → opened_in t os ≡ open_lines o
@@ -114,10 +108,10 @@ row_shows : (t : ElementTables) (end : ℕ) (o : Open) (front : Forest Item) (i 
 row_shows t end o front i rows os s e k h opens is =
     let n = rows_count t end o front rows h in
     let r = row_of t rows os s e k in
-    let row : line_in t r ≡ record { parent = top o; subtree_end = top o + 1 + size front + 1; depth = depth_of o + 1; node = node_in (scope_in (scope_of o) i) i } =
-    rw (parent_is t o os opens, depth_is t o os opens, n, is) refl in
+    let row : line_in t r ≡ record { parent = top o; subtree_end = top o + 1 + size front + 1; node = node_in (scope_in (scope_of o) i) i } =
+    rw (parent_is t o os opens, n, is) refl in
     map-append (line_in t) rows (r ∷ []) ∙ ap (λ xs. xs ++ line_in t r ∷ []) h ∙ ap (λ x. so_far end o front ++ x ∷ []) row
-    ∙ ap (λ xs. so_far end o front ++ xs) (sym (leaf_line (top o) (depth_of o + 1) (top o + 1 + size front) (scope_of o) i)) ∙ sym (so_far-join end o front (leaf i))
+    ∙ ap (λ xs. so_far end o front ++ xs) (sym (leaf_line (top o) (top o + 1 + size front) (scope_of o) i)) ∙ sym (so_far-join end o front (leaf i))
 
 -- ---- the text that may go on
 
@@ -145,13 +139,13 @@ settled_written end o done b u h was nodes tables opens empty =
 pub settled_joined : (end : ℕ) (o : Open) (done : Forest Item) (b u : Builder) (s e : ℕ) (k : NodeKind) → Represents end o done b
     → b.pending ≡ pending.Joined s e
     → node (attribute_rows b.tables.attributes) (names_in b.tables) (lists_in b.tables) s e k ≡ node_in (scope_of o) (Text s e (string_bytes b.joined) false)
-    → IsRowWithin b.tables k → u.nodes.items ≡ b.nodes.items ++ row_of b.tables b.nodes.items b.opened.items s e k ∷ [] → u.tables ≡ b.tables → u.opened ≡ b.opened
+    → IsRowWithin b.tables k → (node_rows u.nodes) ≡ (node_rows b.nodes) ++ row_of b.tables (node_rows b.nodes) b.opened.items s e k ∷ [] → u.tables ≡ b.tables → u.opened ≡ b.opened
     → u.pending ≡ pending.None → RepresentsFlushed end o done u
 settled_joined end o done b u s e k h was is within nodes tables opens empty =
     let i : Item = Text s e (string_bytes b.joined) false in
     let m : join h.front (leaf i) ≡ merge done = sym (merged_joined end o done b s e h was) in
-    let r = row_shows b.tables end o h.front i b.nodes.items b.opened.items s e k (rows_joined end o done b s e h was) h.open_rows is in
-    let w = all_append (λ (r : NodeData). IsRowWithin b.tables r.kind) b.nodes.items (row_of b.tables b.nodes.items b.opened.items s e k ∷ []) h.within (within, tt) in
+    let r = row_shows b.tables end o h.front i (node_rows b.nodes) b.opened.items s e k (rows_joined end o done b s e h was) h.open_rows is in
+    let w = all_append (λ (r : NodeData). IsRowWithin b.tables r.kind) (node_rows b.nodes) (row_of b.tables (node_rows b.nodes) b.opened.items s e k ∷ []) h.within (within, tt) in
     record {
       rows = rw (nodes, tables) (r ∙ ap (so_far end o) m);
       open_rows = rw (tables, opens) h.open_rows;
@@ -172,11 +166,11 @@ settled end o done b u h none nodes tables opens empty = by_cases b.pending refl
 -- ---- items
 
 pub leaf_shows : (end : ℕ) (o : Open) (done : Forest Item) (b u : Builder) (s e : ℕ) (k : NodeKind) (i : Item) → RepresentsFlushed end o done b → IsNode b.tables (scope_of o) s e k i
-    → u.nodes.items ≡ b.nodes.items ++ row_of b.tables b.nodes.items b.opened.items s e k ∷ [] → u.tables ≡ b.tables → u.opened ≡ b.opened → u.pending ≡ b.pending
+    → (node_rows u.nodes) ≡ (node_rows b.nodes) ++ row_of b.tables (node_rows b.nodes) b.opened.items s e k ∷ [] → u.tables ≡ b.tables → u.opened ≡ b.opened → u.pending ≡ b.pending
     → Represents end o (join done (leaf i)) u
 leaf_shows end o done b u s e k i h is nodes tables opens same =
-    let r = row_shows b.tables end o (merge done) i b.nodes.items b.opened.items s e k h.rows h.open_rows is.is in
-    let w = all_append (λ (r : NodeData). IsRowWithin b.tables r.kind) b.nodes.items (row_of b.tables b.nodes.items b.opened.items s e k ∷ []) h.within (is.within, tt) in
+    let r = row_shows b.tables end o (merge done) i (node_rows b.nodes) b.opened.items s e k h.rows h.open_rows is.is in
+    let w = all_append (λ (r : NodeData). IsRowWithin b.tables r.kind) (node_rows b.nodes) (row_of b.tables (node_rows b.nodes) b.opened.items s e k ∷ []) h.within (is.within, tt) in
     let z : u.pending ≡ pending.None = same ∙ h.empty in
     record {
       front = join (merge done) (leaf i);
@@ -195,42 +189,26 @@ leaf_count o done i no_text =
     let m = ap size (merge-item done i Nil no_text) ∙ size-join (merge done) (leaf i) in
     omega (arith, m, nodes_are o done, nodes_are o (join done (leaf i)))
 
-pub settled_count : (end : ℕ) (o : Open) (done : Forest Item) (b : Builder) → RepresentsFlushed end o done b → length b.nodes.items ≡ nodes_so_far o done
-settled_count end o done b h = omega (arith, rows_count b.tables end o (merge done) b.nodes.items h.rows, nodes_are o done)
+pub settled_count : (end : ℕ) (o : Open) (done : Forest Item) (b : Builder) → RepresentsFlushed end o done b → length (node_rows b.nodes) ≡ nodes_so_far o done
+settled_count end o done b h = omega (arith, rows_count b.tables end o (merge done) (node_rows b.nodes) h.rows, nodes_are o done)
 
 -- ---- text
 
--- the first piece of a text, into the buffer
-pub piece_first : (end : ℕ) (o : Open) (done : Forest Item) (b u : Builder) (s e : ℕ) (v : List ℕ) → Represents end o done b → b.pending ≡ pending.None
-    → u.nodes ≡ b.nodes → u.tables ≡ b.tables → u.opened ≡ b.opened → u.pending ≡ pending.Joined s e → string_bytes u.joined ≡ v → Represents end o (join done (leaf (Text s e v false))) u
-piece_first end o done b u s e v h was nodes tables opens waits joined =
+-- the first piece of a text, whose row is written
+pub piece_first : (end : ℕ) (o : Open) (done : Forest Item) (b u : Builder) (s e : ℕ) (v : List ℕ) (p : Bool) (k : NodeKind) → Represents end o done b → b.pending ≡ pending.None
+    → node (attribute_rows b.tables.attributes) (names_in b.tables) (lists_in b.tables) s e k ≡ node_in (scope_of o) (Text s e v p) → IsRowWithin b.tables k
+    → (node_rows u.nodes) ≡ (node_rows b.nodes) ++ row_of b.tables (node_rows b.nodes) b.opened.items s e k ∷ [] → u.tables ≡ b.tables → u.opened ≡ b.opened → u.pending ≡ pending.Written
+    → Represents end o (join done (leaf (Text s e v p))) u
+piece_first end o done b u s e v p k h was is within nodes tables opens waits =
+    let i : Item = Text s e v p in
     let m = merged_none end o done b h was in
-    record {
-      front = h.front;
-      last = leaf (Text s e v false);
-      merged = merge-piece done s e v false ∙ ap (add s e v false) m ∙ add_clean h.front s e v false h.clean;
-      is_last = rw (waits, joined) refl;
-      clean = h.clean;
-      rows = rw (waits, nodes, tables) (rows_none end o done b h was);
-      open_rows = rw (tables, opens) h.open_rows;
-      within = rw (nodes, tables) h.within;
-    }
-
--- a slice of the source, whose row is written
-pub slice_first : (end : ℕ) (o : Open) (done : Forest Item) (b u : Builder) (s e : ℕ) (v : List ℕ) (k : NodeKind) → Represents end o done b → b.pending ≡ pending.None
-    → node (attribute_rows b.tables.attributes) (names_in b.tables) (lists_in b.tables) s e k ≡ node_in (scope_of o) (Text s e v true) → IsRowWithin b.tables k
-    → u.nodes.items ≡ b.nodes.items ++ row_of b.tables b.nodes.items b.opened.items s e k ∷ [] → u.tables ≡ b.tables → u.opened ≡ b.opened → u.pending ≡ pending.Written
-    → Represents end o (join done (leaf (Text s e v true))) u
-slice_first end o done b u s e v k h was is within nodes tables opens waits =
-    let i : Item = Text s e v true in
-    let m = merged_none end o done b h was in
-    let r = row_shows b.tables end o h.front i b.nodes.items b.opened.items s e k (rows_none end o done b h was) h.open_rows is in
-    let w = all_append (λ (r : NodeData). IsRowWithin b.tables r.kind) b.nodes.items (row_of b.tables b.nodes.items b.opened.items s e k ∷ []) h.within (within, tt) in
+    let r = row_shows b.tables end o h.front i (node_rows b.nodes) b.opened.items s e k (rows_none end o done b h was) h.open_rows is in
+    let w = all_append (λ (r : NodeData). IsRowWithin b.tables r.kind) (node_rows b.nodes) (row_of b.tables (node_rows b.nodes) b.opened.items s e k ∷ []) h.within (within, tt) in
     record {
       front = h.front;
       last = leaf i;
-      merged = merge-piece done s e v true ∙ ap (add s e v true) m ∙ add_clean h.front s e v true h.clean;
-      is_last = rw waits (s, e, v, refl);
+      merged = merge-piece done s e v p ∙ ap (add s e v p) m ∙ add_clean h.front s e v p h.clean;
+      is_last = rw waits (s, e, v, p, refl);
       clean = h.clean;
       rows = rw (waits, nodes, tables) r;
       open_rows = rw (tables, opens) h.open_rows;
@@ -256,26 +234,26 @@ piece_more end o done b u x y s e v p h was nodes tables opens waits joined =
     }
 
 -- the text of a row that shows a text
-text_in : (as' : List AttributeRow) (namespaces : List NamespaceDecl) (ls : List (List NamespaceDecl)) (s e x y : ℕ) (w : List ℕ) (k : NodeKind) → node as' namespaces ls s e k ≡ tree.Text x y w true
+text_in : (as' : List AttributeRow) (namespaces : List NamespaceDecl) (ls : List (List NamespaceDecl)) (s e x y : ℕ) (w : List ℕ) (q : Bool) (k : NodeKind) → node as' namespaces ls s e k ≡ tree.Text x y w q
     → (s ≡ x) × (e ≡ y) × (text_of k ≡ w)
-text_in as' namespaces ls s e x y w kind.Root h = cc h
-text_in as' namespaces ls s e x y w (kind.Element d) h = cc h
-text_in as' namespaces ls s e x y w (kind.Text v) h = (cc h, cc h, cc h)
-text_in as' namespaces ls s e x y w (kind.Comment t) h = cc h
-text_in as' namespaces ls s e x y w (kind.PI p) h = cc h
+text_in as' namespaces ls s e x y w q kind.Root h = cc h
+text_in as' namespaces ls s e x y w q (kind.Element d) h = cc h
+text_in as' namespaces ls s e x y w q (kind.Text v) h = (cc h, cc h, cc h)
+text_in as' namespaces ls s e x y w q (kind.Comment t) h = cc h
+text_in as' namespaces ls s e x y w q (kind.PI p) h = cc h
 
 -- the last row, where it shows a text, and the rows before it
-pub last_text : (t : ElementTables) (end : ℕ) (o : Open) (front : Forest Item) (rows : List NodeData) (last : NodeData) (x y : ℕ) (w : List ℕ)
-    → map (line_in t) (rows ++ last ∷ []) ≡ so_far end o (join front (leaf (Text x y w true)))
+pub last_text : (t : ElementTables) (end : ℕ) (o : Open) (front : Forest Item) (rows : List NodeData) (last : NodeData) (x y : ℕ) (w : List ℕ) (q : Bool)
+    → map (line_in t) (rows ++ last ∷ []) ≡ so_far end o (join front (leaf (Text x y w q)))
     → (map (line_in t) rows ≡ so_far end o front) × (last.start ≡ x) × (last.end ≡ y) × (text_of last.kind ≡ w)
-last_text t end o front rows last x y w h =
-    let i : Item = Text x y w true in
-    let line = preorder_rows (top o) (depth_of o + 1) (top o + 1 + size front) (resolved (scope_of o) (leaf i)) in
-    let is : map (line_in t) rows ++ line_in t last ∷ [] ≡ so_far end o front ++ record { parent = top o; subtree_end = top o + 1 + size front + 1; depth = depth_of o + 1; node = node_in (scope_of o) i } ∷ [] =
+last_text t end o front rows last x y w q h =
+    let i : Item = Text x y w q in
+    let line = preorder_rows (top o) (top o + 1 + size front) (resolved (scope_of o) (leaf i)) in
+    let is : map (line_in t) rows ++ line_in t last ∷ [] ≡ so_far end o front ++ record { parent = top o; subtree_end = top o + 1 + size front + 1; node = node_in (scope_of o) i } ∷ [] =
     sym (map-append (line_in t) rows (last ∷ [])) ∙ h ∙ so_far-join end o front (leaf i)
-    ∙ ap (λ xs. so_far end o front ++ xs) (leaf_line (top o) (depth_of o + 1) (top o + 1 + size front) (scope_of o) i) in
+    ∙ ap (λ xs. so_far end o front ++ xs) (leaf_line (top o) (top o + 1 + size front) (scope_of o) i) in
     let both = same_from_push (map (line_in t) rows) (so_far end o front) (line_in t last) _ is in
-    let text = text_in (attribute_rows t.attributes) (names_in t) (lists_in t) last.start last.end x y w last.kind (ap (λ (l : RowView). l.node) both.1) in
+    let text = text_in (attribute_rows t.attributes) (names_in t) (lists_in t) last.start last.end x y w q last.kind (ap (λ (l : RowView). l.node) both.1) in
     (both.0, text.0, text.1, text.2)
 
 all_front : {X : Type 0} (P : X → Type 0) (xs : List X) (x : X) → AllByRecursion P (xs ++ x ∷ []) → AllByRecursion P xs
@@ -284,22 +262,22 @@ all_front P (y ∷ ys) x (p, h) = (p, all_front P ys x h)
 
 -- a piece that joins a text whose row is written: it is taken back
 pub slice_more : (end : ℕ) (o : Open) (done : Forest Item) (b u : Builder) (last : NodeData) (s e : ℕ) (v : List ℕ) (p : Bool) → Represents end o done b
-    → b.pending ≡ pending.Written → b.nodes.items ≡ u.nodes.items ++ last ∷ [] → u.tables ≡ b.tables → u.opened ≡ b.opened
+    → b.pending ≡ pending.Written → (node_rows b.nodes) ≡ (node_rows u.nodes) ++ last ∷ [] → u.tables ≡ b.tables → u.opened ≡ b.opened
     → u.pending ≡ pending.Joined last.start last.end → string_bytes u.joined ≡ text_of last.kind ++ v → Represents end o (join done (leaf (Text s e v p))) u
 slice_more end o done b u last s e v p h was nodes tables opens waits joined =
-    let slice = written_is end o done b h was in
-    let x = slice.0 in let y = slice.1 in let w = slice.2 in
-    let m : merge done ≡ join h.front (leaf (Text x y w true)) = h.merged ∙ ap (join h.front) slice.3 in
-    let all : map (line_in b.tables) (u.nodes.items ++ last ∷ []) ≡ so_far end o (join h.front (leaf (Text x y w true))) =
+    let piece = written_is end o done b h was in
+    let x = piece.0 in let y = piece.1 in let w = piece.2 in let q = piece.3 in
+    let m : merge done ≡ join h.front (leaf (Text x y w q)) = h.merged ∙ ap (join h.front) piece.4 in
+    let all : map (line_in b.tables) ((node_rows u.nodes) ++ last ∷ []) ≡ so_far end o (join h.front (leaf (Text x y w q))) =
     ap (map (line_in b.tables)) (sym nodes) ∙ rows_written end o done b h was ∙ ap (so_far end o) m in
-    let text = last_text b.tables end o h.front u.nodes.items last x y w all in
-    let kept : AllByRecursion (λ (r : NodeData). IsRowWithin b.tables r.kind) (u.nodes.items ++ last ∷ []) = subst (AllByRecursion (λ (r : NodeData). IsRowWithin b.tables r.kind)) nodes h.within in
-    let all_within = all_front (λ (r : NodeData). IsRowWithin b.tables r.kind) u.nodes.items last kept in
+    let text = last_text b.tables end o h.front (node_rows u.nodes) last x y w q all in
+    let kept : AllByRecursion (λ (r : NodeData). IsRowWithin b.tables r.kind) ((node_rows u.nodes) ++ last ∷ []) = subst (AllByRecursion (λ (r : NodeData). IsRowWithin b.tables r.kind)) nodes h.within in
+    let all_within = all_front (λ (r : NodeData). IsRowWithin b.tables r.kind) (node_rows u.nodes) last kept in
     let bytes : string_bytes u.joined ≡ w ++ v = joined ∙ ap (λ (l : List ℕ). l ++ v) text.3 in
     record {
       front = h.front;
       last = leaf (Text x y (w ++ v) false);
-      merged = merge-piece done s e v p ∙ ap (add s e v p) m ∙ add-text h.front x y w true s e v p;
+      merged = merge-piece done s e v p ∙ ap (add s e v p) m ∙ add-text h.front x y w q s e v p;
       is_last = rw (waits, text.1, text.2, bytes) refl;
       clean = h.clean;
       rows = rw (waits, tables) text.0;
@@ -308,44 +286,44 @@ slice_more end o done b u last s e v p h was nodes tables opens waits joined =
     }
 
 pub first_count : (end : ℕ) (o : Open) (done : Forest Item) (b : Builder) (s e : ℕ) (v : List ℕ) (p : Bool) → Represents end o done b → b.pending ≡ pending.None
-    → nodes_so_far o (join done (leaf (Text s e v p))) ≡ length b.nodes.items + 1
+    → nodes_so_far o (join done (leaf (Text s e v p))) ≡ length (node_rows b.nodes) + 1
 first_count end o done b s e v p h was =
     let m = merged_none end o done b h was in
     let k = ap size (merge-piece done s e v p ∙ ap (add s e v p) m ∙ add_clean h.front s e v p h.clean) ∙ size-join h.front (leaf (Text s e v p)) in
-    omega (arith, k, nodes_are o (join done (leaf (Text s e v p))), rows_count b.tables end o h.front b.nodes.items (rows_none end o done b h was))
+    omega (arith, k, nodes_are o (join done (leaf (Text s e v p))), rows_count b.tables end o h.front (node_rows b.nodes) (rows_none end o done b h was))
 
 pub more_count : (end : ℕ) (o : Open) (done : Forest Item) (b : Builder) (x y s e : ℕ) (v : List ℕ) (p : Bool) → Represents end o done b
-    → b.pending ≡ pending.Joined x y → nodes_so_far o (join done (leaf (Text s e v p))) ≡ length b.nodes.items + 1
+    → b.pending ≡ pending.Joined x y → nodes_so_far o (join done (leaf (Text s e v p))) ≡ length (node_rows b.nodes) + 1
 more_count end o done b x y s e v p h was =
     let w = string_bytes b.joined in
     let m = merged_joined end o done b x y h was in
     let k = ap size (merge-piece done s e v p ∙ ap (add s e v p) m ∙ add-text h.front x y w false s e v p) ∙ size-join h.front (leaf (Text x y (w ++ v) false)) in
-    omega (arith, k, nodes_are o (join done (leaf (Text s e v p))), rows_count b.tables end o h.front b.nodes.items (rows_joined end o done b x y h was))
+    omega (arith, k, nodes_are o (join done (leaf (Text s e v p))), rows_count b.tables end o h.front (node_rows b.nodes) (rows_joined end o done b x y h was))
 
 pub written_count : (end : ℕ) (o : Open) (done : Forest Item) (b : Builder) (s e : ℕ) (v : List ℕ) (p : Bool) → Represents end o done b
-    → b.pending ≡ pending.Written → nodes_so_far o (join done (leaf (Text s e v p))) ≡ length b.nodes.items
+    → b.pending ≡ pending.Written → nodes_so_far o (join done (leaf (Text s e v p))) ≡ length (node_rows b.nodes)
 written_count end o done b s e v p h was =
-    let slice = written_is end o done b h was in
-    let x = slice.0 in let y = slice.1 in let w = slice.2 in
-    let m : merge done ≡ join h.front (leaf (Text x y w true)) = h.merged ∙ ap (join h.front) slice.3 in
-    let k = ap size (merge-piece done s e v p ∙ ap (add s e v p) m ∙ add-text h.front x y w true s e v p) ∙ size-join h.front (leaf (Text x y (w ++ v) false)) in
-    let n = ap size m ∙ size-join h.front (leaf (Text x y w true)) in
-    omega (arith, k, n, nodes_are o (join done (leaf (Text s e v p))), rows_count b.tables end o (merge done) b.nodes.items (rows_written end o done b h was))
+    let piece = written_is end o done b h was in
+    let x = piece.0 in let y = piece.1 in let w = piece.2 in let q = piece.3 in
+    let m : merge done ≡ join h.front (leaf (Text x y w q)) = h.merged ∙ ap (join h.front) piece.4 in
+    let k = ap size (merge-piece done s e v p ∙ ap (add s e v p) m ∙ add-text h.front x y w q s e v p) ∙ size-join h.front (leaf (Text x y (w ++ v) false)) in
+    let n = ap size m ∙ size-join h.front (leaf (Text x y w q)) in
+    omega (arith, k, n, nodes_are o (join done (leaf (Text s e v p))), rows_count b.tables end o (merge done) (node_rows b.nodes) (rows_written end o done b h was))
 
 -- ---- elements
 
 pub open_shows : (end : ℕ) (o : Open) (done : Forest Item) (b u : Builder) (s : ℕ) (k : NodeKind) (t : Tag) (x : OpenElement) → RepresentsFlushed end o done b
     → node (attribute_rows b.tables.attributes) (names_in b.tables) (lists_in b.tables) s 0 k ≡ node_in (listed (scope_of o) t.declarations) (Element s 0 t) → IsRowWithin b.tables k
-    → x.row ≡ length b.nodes.items → opened (lists_in b.tables) x ≡ record { row = x.row; name = t.name; name_start = s + 1; name_end = t.name_end; scope = listed (scope_of o) t.declarations }
-    → u.nodes.items ≡ b.nodes.items ++ row_open b.tables 0 b.opened.items s k ∷ [] → u.tables ≡ b.tables → u.opened.items ≡ b.opened.items ++ x ∷ [] → u.pending ≡ b.pending
+    → x.row ≡ length (node_rows b.nodes) → opened (lists_in b.tables) x ≡ record { row = x.row; name = t.name; name_start = s + 1; name_end = t.name_end; scope = listed (scope_of o) t.declarations }
+    → (node_rows u.nodes) ≡ (node_rows b.nodes) ++ row_open b.tables 0 b.opened.items s k ∷ [] → u.tables ≡ b.tables → u.opened.items ≡ b.opened.items ++ x ∷ [] → u.pending ≡ b.pending
     → Represents end (inside s t done o) Nil u
 open_shows end o done b u s k t x h is within place view nodes tables opens same =
     let r = row_open b.tables 0 b.opened.items s k in
-    let row : line_in b.tables r ≡ open_line s t o = rw (parent_is b.tables o b.opened.items h.open_rows, depth_is b.tables o b.opened.items h.open_rows, is) refl in
-    let n = rows_count b.tables end o (merge done) b.nodes.items h.rows in
-    let w = all_append (λ (r : NodeData). IsRowWithin b.tables r.kind) b.nodes.items (r ∷ []) h.within (within, tt) in
+    let row : line_in b.tables r ≡ open_line s t o = rw (parent_is b.tables o b.opened.items h.open_rows, is) refl in
+    let n = rows_count b.tables end o (merge done) (node_rows b.nodes) h.rows in
+    let w = all_append (λ (r : NodeData). IsRowWithin b.tables r.kind) (node_rows b.nodes) (r ∷ []) h.within (within, tt) in
     let z : u.pending ≡ pending.None = same ∙ h.empty in
-    let g = map-append (line_in b.tables) b.nodes.items (r ∷ []) ∙ ap (λ xs. xs ++ line_in b.tables r ∷ []) h.rows ∙ ap (λ x. so_far end o (merge done) ++ x ∷ []) row ∙ sym (so_far-open end o s t done) in
+    let g = map-append (line_in b.tables) (node_rows b.nodes) (r ∷ []) ∙ ap (λ xs. xs ++ line_in b.tables r ∷ []) h.rows ∙ ap (λ x. so_far end o (merge done) ++ x ∷ []) row ∙ sym (so_far-open end o s t done) in
     let v : opened (lists_in b.tables) x ≡ record { row = top o + 1 + size (merge done); name = t.name; name_start = s + 1; name_end = t.name_end; scope = listed (scope_of o) t.declarations } =
     view ∙ ap (λ (n : ℕ). let l : OpenRow = record { row = n; name = t.name; name_start = s + 1; name_end = t.name_end; scope = listed (scope_of o) t.declarations } in l) (place ∙ n) in
     let os = map-append (opened (lists_in b.tables)) b.opened.items (x ∷ []) ∙ ap (λ xs. xs ++ opened (lists_in b.tables) x ∷ []) h.open_rows
@@ -409,10 +387,10 @@ node_end as' namespaces ls s x e (kind.PI p) = refl
 
 so_far-inside : (end : ℕ) (up : Open) (start : ℕ) (tag : Tag) (before front : Forest Item)
     → so_far end (inside start tag before up) front
-    ≡ so_far end up (merge before) ++ open_line start tag up ∷ preorder_rows (top (inside start tag before up)) (depth_of up + 1 + 1) (top (inside start tag before up) + 1) (resolved (listed (scope_of up) tag.declarations) front)
+    ≡ so_far end up (merge before) ++ open_line start tag up ∷ preorder_rows (top (inside start tag before up)) (top (inside start tag before up) + 1) (resolved (listed (scope_of up) tag.declarations) front)
 so_far-inside end up start tag before front =
-    let inner = preorder_rows (top (inside start tag before up)) (depth_of up + 1 + 1) (top (inside start tag before up) + 1) (resolved (listed (scope_of up) tag.declarations) front) in
-    let below = preorder_rows (top up) (depth_of up + 1) (top up + 1) (resolved (scope_of up) (merge before)) in
+    let inner = preorder_rows (top (inside start tag before up)) (top (inside start tag before up) + 1) (resolved (listed (scope_of up) tag.declarations) front) in
+    let below = preorder_rows (top up) (top up + 1) (resolved (scope_of up) (merge before)) in
     append_assoc (rows_to end up) (below ++ open_line start tag up ∷ []) inner
     ∙ ap (λ xs. rows_to end up ++ xs) (append_assoc below (open_line start tag up ∷ []) inner)
     ∙ sym (append_assoc (rows_to end up) below (open_line start tag up ∷ inner))
@@ -422,12 +400,12 @@ closed_is : (as' : List AttributeRow) (namespaces : List NamespaceDecl) (ls : Li
 unfolding with_end
 closed_is as' namespaces ls r s e subtree_end tag up h =
     let n : node as' namespaces ls r.start e r.kind ≡ with_end e (node as' namespaces ls r.start r.end r.kind) = node_end as' namespaces ls r.start r.end e r.kind in
-    ap (λ (n : Node). let l : RowView = record { parent = r.parent; subtree_end = subtree_end; depth = r.depth; node = n } in l) n
+    ap (λ (n : Node). let l : RowView = record { parent = r.parent; subtree_end = subtree_end; node = n } in l) n
     ∙ ap (λ (l : RowView). record l { subtree_end = subtree_end; node = with_end e l.node }) h
 
 close_with : (end s e : ℕ) (t : Tag) (before : Forest Item) (up : Open) (done : Forest Item) (b u : Builder) (outer : List OpenElement) (x : OpenElement) (d : NodeData)
     → RepresentsFlushed end (inside s t before up) done b → b.opened.items ≡ outer ++ x ∷ [] → u.opened.items ≡ outer → u.tables ≡ b.tables → u.pending ≡ b.pending
-    → u.nodes.items ≡ set b.nodes.items x.row (record (get_or b.nodes.items x.row d) { end = e; subtree_end = length b.nodes.items }) → IsRowWithin b.tables d.kind
+    → (node_rows u.nodes) ≡ set (node_rows b.nodes) x.row (record (get_or (node_rows b.nodes) x.row d) { end = e; subtree_end = length (node_rows b.nodes) }) → IsRowWithin b.tables d.kind
     → Represents end up (join before (Cons (Element s e t) (merge done) Nil)) u
 close_with end s e t before up done b u outer x d h was opens tables same change fine =
     let tt' = b.tables in
@@ -436,20 +414,20 @@ close_with end s e t before up done b u outer x d h was opens tables same change
     let l : OpenRow = record { row = k; name = t.name; name_start = s + 1; name_end = t.name_end; scope = listed (scope_of up) t.declarations } in
     let both = same_from_push (map view outer) (open_lines up) (view x) l (sym (map-append view outer (x ∷ [])) ∙ ap (map view) (sym was) ∙ h.open_rows) in
     let row : x.row ≡ k = ap (λ (x : OpenRow). x.row) both.1 in
-    let n = rows_count tt' end (inside s t before up) (merge done) b.nodes.items h.rows in
-    let rest = preorder_rows k (depth_of up + 1 + 1) (k + 1) (resolved (listed (scope_of up) t.declarations) (merge done)) in
-    let found : line_in tt' (get_or b.nodes.items k d) ≡ open_line s t up =
-    sym (get_or-map (line_in tt') b.nodes.items k d) ∙ ap (λ xs. get_or xs k (line_in tt' d)) (h.rows ∙ so_far-inside end up s t before (merge done))
+    let n = rows_count tt' end (inside s t before up) (merge done) (node_rows b.nodes) h.rows in
+    let rest = preorder_rows k (k + 1) (resolved (listed (scope_of up) t.declarations) (merge done)) in
+    let found : line_in tt' (get_or (node_rows b.nodes) k d) ≡ open_line s t up =
+    sym (get_or-map (line_in tt') (node_rows b.nodes) k d) ∙ ap (λ xs. get_or xs k (line_in tt' d)) (h.rows ∙ so_far-inside end up s t before (merge done))
     ∙ get_or_at (so_far end up (merge before)) (open_line s t up) rest (line_in tt' d) k (length-so_far end up (merge before)) in
-    let new : NodeData = record (get_or b.nodes.items k d) { end = e; subtree_end = length b.nodes.items } in
+    let new : NodeData = record (get_or (node_rows b.nodes) k d) { end = e; subtree_end = length (node_rows b.nodes) } in
     let is_closed : line_in tt' new ≡ closed_line s e t up (k + 1 + size (merge done)) =
-    closed_is (attribute_rows tt'.attributes) (names_in tt') (lists_in tt') (get_or b.nodes.items k d) s e (length b.nodes.items) t up found ∙ ap (closed_line s e t up) n in
+    closed_is (attribute_rows tt'.attributes) (names_in tt') (lists_in tt') (get_or (node_rows b.nodes) k d) s e (length (node_rows b.nodes)) t up found ∙ ap (closed_line s e t up) n in
     let one = Cons (Element s e t) (merge done) Nil in
     let z : u.pending ≡ pending.None = same ∙ h.empty in
-    let set_is : u.nodes.items ≡ set b.nodes.items k new = subst (λ (i : ℕ). u.nodes.items ≡ set b.nodes.items i (record (get_or b.nodes.items i d) { end = e; subtree_end = length b.nodes.items })) row change in
-    let g = map-set (line_in tt') b.nodes.items k new ∙ ap (λ xs. set xs k (line_in tt' new)) h.rows ∙ ap (λ y. set (so_far end (inside s t before up) (merge done)) k y) is_closed
+    let set_is : (node_rows u.nodes) ≡ set (node_rows b.nodes) k new = subst (λ (i : ℕ). (node_rows u.nodes) ≡ set (node_rows b.nodes) i (record (get_or (node_rows b.nodes) i d) { end = e; subtree_end = length (node_rows b.nodes) })) row change in
+    let g = map-set (line_in tt') (node_rows b.nodes) k new ∙ ap (λ xs. set xs k (line_in tt' new)) h.rows ∙ ap (λ y. set (so_far end (inside s t before up) (merge done)) k y) is_closed
     ∙ sym (so_far-closed end up s e t before (merge done)) in
-    let w = within_set tt' b.nodes.items k new h.within (within_at tt' b.nodes.items k d h.within fine) in
+    let w = within_set tt' (node_rows b.nodes) k new h.within (within_at tt' (node_rows b.nodes) k d h.within fine) in
     record {
       front = join (merge before) one;
       last = Nil;
@@ -463,10 +441,10 @@ close_with end s e t before up done b u outer x d h was opens tables same change
 
 pub close_shows : (end s e : ℕ) (t : Tag) (before : Forest Item) (up : Open) (done : Forest Item) (b u : Builder) (outer : List OpenElement) (x : OpenElement)
     → RepresentsFlushed end (inside s t before up) done b → b.opened.items ≡ outer ++ x ∷ [] → u.opened.items ≡ outer → u.tables ≡ b.tables → u.pending ≡ b.pending
-    → ((d : NodeData) → u.nodes.items ≡ set b.nodes.items x.row (record (get_or b.nodes.items x.row d) { end = e; subtree_end = length b.nodes.items }))
+    → ((d : NodeData) → (node_rows u.nodes) ≡ set (node_rows b.nodes) x.row (record (get_or (node_rows b.nodes) x.row d) { end = e; subtree_end = length (node_rows b.nodes) }))
     → Represents end up (join before (Cons (Element s e t) (merge done) Nil)) u
 close_shows end s e t before up done b u outer x h was opens tables same change =
-    let n = rows_count b.tables end (inside s t before up) (merge done) b.nodes.items h.rows in
-    let some : 0 < length b.nodes.items = omega arith in
-    let d = some_row b.nodes.items some in
-    close_with end s e t before up done b u outer x d h was opens tables same (change d) (first_within b.tables b.nodes.items some h.within)
+    let n = rows_count b.tables end (inside s t before up) (merge done) (node_rows b.nodes) h.rows in
+    let some : 0 < length (node_rows b.nodes) = omega arith in
+    let d = some_row (node_rows b.nodes) some in
+    close_with end s e t before up done b u outer x d h was opens tables same (change d) (first_within b.tables (node_rows b.nodes) some h.within)

@@ -12,13 +12,13 @@ use Rattle.rox_grammar.specs.declared.fault.Fault.{Fault}
 use Rattle.rox_grammar.specs.declared.fault.Span.{Span}
 use Rattle.rox_grammar.specs.declared.fault.Fault.TheVariants as fault
 use Rattle.rox_grammar.specs.Forest.{Forest, Nil, Cons, join, size}
-use Rattle.rox_grammar.specs.Written.{Name, Tag, Item, Element, Text, Comment, PI, NamespaceDecl, merge, leaf}
+use Rattle.rox_grammar.specs.Written.{Name, Tag, Item, Element, Text, Comment, PI, NamespaceDecl, merge, leaf, same_qname}
 use Rattle.rox_grammar.specs.Document.{own_pairs, own_attributes, pairs, attribute_count, distinct_pairs, listable}
 use Rattle.rox_reading.specs.State.{State, depth_of}
 use Rattle.rox_reading.specs.Refusals as refusal
 use Rattle.rox_reading.specs.Refusals.{lifted}
 use Rattle.rox_grammar.specs.State.{Open, root, inside, scope_of, nodes_so_far, pairs_so_far, attributes_so_far}
-use Rattle.rox_reading.specs.Machine.{Context, data_parts, counted, with_item, comment_step, instruction_step, cdata_step, character_data_step, end_step, tag_step, step, closed_by, same_qname, name_span}
+use Rattle.rox_reading.specs.Machine.{Context, data_parts, counted, with_item, comment_step, instruction_step, cdata_step, character_data_step, end_step, tag_step, step, closed_by, name_span}
 use Rattle.rox_reading.specs.Markup.{Instruction, EndTag, comment_at, instruction_at, cdata_at, end_tag_at}
 use Rattle.rox_grammar.specs.Content.{is_verbatim}
 use Rattle.rox_reading.specs.Values.{ReadText, raw_character_data_at}
@@ -33,6 +33,7 @@ use Rattle.rox_scan.specs.declared.cursor.Cursor.{Cursor}
 use Rattle.rox_grammar.specs.declared.failure.Failure.{Failure}
 use Rattle.rox_build.proofs.Lifting.{refuses}
 use Rattle.rox_build.specs.BuilderState.{OpenRow, opened, opened_in, open_lines, line_in, names_in, IsRowWithin, Represents, Adds, IsInState, KeepsState, ScansTo}
+use Rattle.rox_tables.specs.Rows.{node_rows}
 use Rattle.rox_build.specs.declared.builder.Builder.{Builder}
 
 pairs_last : (done : Forest Item) (i : Item) (c : Forest Item) → pairs (join done (Cons i c Nil)) ≡ pairs done ++ (own_pairs i ++ pairs c)
@@ -291,11 +292,11 @@ state_kept limit end s c d b u h same k =
     let v = u.tables in
     let namespaces : names_in v ≡ names_in t = ap names_in k.others in
     let lists : lists_in v ≡ lists_in t = ap lists_in k.others in
-    let rows : map (line_in v) b.nodes.items ≡ map (line_in t) b.nodes.items =
-    ap (λ (xs : List AttributeRow). map (row_view xs (names_in v) (lists_in v)) b.nodes.items) k.attributes
-    ∙ ap (λ (ns : List NamespaceDecl). map (row_view (attribute_rows t.attributes) ns (lists_in v)) b.nodes.items) namespaces
-    ∙ ap (λ (ls : List (List NamespaceDecl)). map (row_view (attribute_rows t.attributes) (names_in t) ls) b.nodes.items) lists in
-    let within : AllByRecursion (λ (r : NodeData). IsRowWithin v r.kind) b.nodes.items =
+    let rows : map (line_in v) (node_rows b.nodes) ≡ map (line_in t) (node_rows b.nodes) =
+    ap (λ (xs : List AttributeRow). map (row_view xs (names_in v) (lists_in v)) (node_rows b.nodes)) k.attributes
+    ∙ ap (λ (ns : List NamespaceDecl). map (row_view (attribute_rows t.attributes) ns (lists_in v)) (node_rows b.nodes)) namespaces
+    ∙ ap (λ (ls : List (List NamespaceDecl)). map (row_view (attribute_rows t.attributes) (names_in t) ls) (node_rows b.nodes)) lists in
+    let within : AllByRecursion (λ (r : NodeData). IsRowWithin v r.kind) (node_rows b.nodes) =
     rw (k.attributes, ap (λ (t : ElementTables). length t.namespaces.items.items) k.others, ap (λ (t : ElementTables). length t.scopes.items) k.others) h.shows.within in
     record {
       here = ap (λ (c : Cursor). c.pos) same ∙ h.here;

@@ -19,22 +19,27 @@ use Rattle.rox_scan.specs.declared.tag.RawAttribute.{RawAttribute as CodeRaw}
 use Rattle.rox_values.specs.Refusals.{IsRefusal, of_failure}
 use Rattle.rox_values.specs.declared.parse_error.ParseError.{ParseError}
 use Rattle.rox_values.proofs.PartLemmas.{refuses_by}
+use Rattle.rox_tables.specs.declared.rows.tables.ElementTables.{ElementTables}
 use Rattle.rox_tables.specs.Storage.{storage_bytes, is_borrowed}
 use Rattle.rox_tables.specs.declared.namespaces.unresolved_attribute.UnresolvedAttribute.{UnresolvedAttribute}
 use Rattle.rox_tables.specs.TagDeclarations.{unresolved_view, Declared}
-use Rattle.rox_build.specs.TagState.{HoldsTag, AddsAttribute, one_more}
+use Rattle.rox_build.specs.TagState.{HoldsTag, KeepsScopes, GivesAttribute, AddsAttribute, value_of}
 
 -- an attribute with its value is the one that the code makes of it
 pub view_is : (raw : CodeRaw) (v : ReadText) (t : UnresolvedAttribute) → t.start ≡ raw.start → t.name_end ≡ raw.name_end → t.value_start ≡ raw.value_start → t.end ≡ raw.value_end + 1
     → t.name ≡ raw.name → storage_bytes t.value ≡ v.value → is_borrowed t.value ≡ v.borrowed → attribute_with (attribute_view raw) v ≡ unresolved_view t
 view_is raw v t a b c d e f g = rw (a, b, c, d, e, f, g) refl
 
+-- what is read of one more attribute or declaration, with its value
+abbrev pub one_more : Values → List NamespaceDecl → List ℕ → RawAttribute → ℕ → TagSoFar → Result (TagSoFar × ℕ) Refusal
+one_more context known src raw openings_left h = value_of context src raw openings_left >>= λ v. lifted (tags.taken known (attribute_with raw v.0) h) >>= λ held. Ok (held, v.1)
+
 -- what is read of one attribute, where so many may be opened behind it
 abbrev kept_left : ℕ → Result TagSoFar Fault → Result (TagSoFar × ℕ) Refusal
 kept_left openings_left r = lifted r >>= λ held. Ok (held, openings_left)
 
 one_is : (context : Values) (known : List NamespaceDecl) (src : List ℕ) (raw : RawAttribute) (openings_left l : ℕ) (h : TagSoFar) (v : ReadText) (a : Attribute)
-    → value_at context.main context.entities context.opener src raw.value_start raw.value_end openings_left ≡ Ok (v, l) → attribute_with raw v ≡ a
+    → value_of context src raw openings_left ≡ Ok (v, l) → attribute_with raw v ≡ a
     → one_more context known src raw openings_left h ≡ kept_left l (tags.taken known a h)
 one_is context known src raw openings_left l h v a is view =
     ap (λ (r : Result (ReadText × ℕ) Refusal). r >>= λ v. lifted (tags.taken known (attribute_with raw v.0) h) >>= λ held. Ok (held, v.1)) is ∙ ap (λ (a : Attribute). kept_left l (tags.taken known a h)) view
@@ -43,36 +48,50 @@ stops_left : (openings_left : ℕ) (e : Failure) (r : Result TagSoFar Fault) →
 stops_left openings_left failure.Memory r h = tt
 stops_left openings_left (failure.Fault f) r h = ap (kept_left openings_left) h
 
-pub took_declaration : (context : Values) (known : List NamespaceDecl) (before : List ℕ) (namespaces : List NamespaceDecl) (listed : List ℕ) (xml : Bool) (taken : List UnresolvedAttribute) (src : List ℕ) (raw : RawAttribute) (openings_left l : ℕ) (h : TagSoFar)
-    (v : ReadText) (a : Attribute) → value_at context.main context.entities context.opener src raw.value_start raw.value_end openings_left ≡ Ok (v, l) → attribute_with raw v ≡ a → is_namespace_decl a.name ≡ true → map unresolved_view taken ≡ h.attributes
-    → Declared known before namespaces listed (Ok xml) h (declared known a h) → AddsAttribute known before namespaces listed taken (Ok (xml, l)) (one_more context known src raw openings_left h)
-took_declaration context known before namespaces listed xml taken src raw openings_left l h v a is view dec same (own, read, d) =
-    (record { own = own; attributes = h.attributes }, one_is context known src raw openings_left l h v a is view ∙ rw dec (ap (kept_left l) read), record { declares = d; attributes = same })
+-- ---- an attribute that is put
 
-pub refused_declaration : (context : Values) (known : List NamespaceDecl) (src : List ℕ) (raw : RawAttribute) (openings_left l : ℕ) (h : TagSoFar) (v : ReadText) (a : Attribute) (e : Failure)
-    → value_at context.main context.entities context.opener src raw.value_start raw.value_end openings_left ≡ Ok (v, l) → attribute_with raw v ≡ a → is_namespace_decl a.name ≡ true
-    → Fails e (declared known a h) → IsRefusal (of_failure e) (one_more context known src raw openings_left h)
-refused_declaration context known src raw openings_left l h v a e is view dec fails =
-    let k : kept_left l (declared known a h) ≡ one_more context known src raw openings_left h = sym (one_is context known src raw openings_left l h v a is view ∙ rw dec refl) in
-    subst (λ (r : Result (TagSoFar × ℕ) Refusal). IsRefusal (of_failure e) r) k (stops_left l e (declared known a h) fails)
+pub kept_scopes : {a b c : ElementTables} → KeepsScopes b c → KeepsScopes a b → KeepsScopes a c
+kept_scopes k h = record { scopes = k.scopes ∙ h.scopes; lists = k.lists ∙ h.lists; attributes = k.attributes ∙ h.attributes }
+
+pub took_declaration : (known : List NamespaceDecl) (before : List ℕ) (namespaces : List NamespaceDecl) (listed : List ℕ) (xml : Bool) (taken : List UnresolvedAttribute) (h : TagSoFar) (a : Attribute)
+    → is_namespace_decl a.name ≡ true → map unresolved_view taken ≡ h.attributes → Declared known before namespaces listed (Ok xml) h (declared known a h) → AddsAttribute known before namespaces listed taken (Ok xml) (tags.taken known a h)
+took_declaration known before namespaces listed xml taken h a dec same (own, read, d) = (record { own = own; attributes = h.attributes }, rw dec read, record { declares = d; attributes = same })
+
+pub refused_declaration : (known : List NamespaceDecl) (h : TagSoFar) (a : Attribute) (e : Failure) → is_namespace_decl a.name ≡ true → Fails e (declared known a h) → Fails e (tags.taken known a h)
+refused_declaration known h a e dec fails = subst (Fails e) (same dec) fails
+  where
+    same : is_namespace_decl a.name ≡ true → declared known a h ≡ tags.taken known a h
+    same dec = rw dec refl
+
+pub took_attribute : (known : List NamespaceDecl) (before : List ℕ) (namespaces : List NamespaceDecl) (listed : List ℕ) (xml : Bool) (taken kept : List UnresolvedAttribute) (h : TagSoFar) (t : UnresolvedAttribute) → kept ≡ taken ++ t ∷ []
+    → is_namespace_decl (name_view t.name) ≡ false → HoldsTag known before namespaces listed xml taken h → AddsAttribute known before namespaces listed kept (Ok xml) (tags.taken known (unresolved_view t) h)
+took_attribute known before namespaces listed xml taken kept h t push dec hold =
+    let other : is_namespace_decl (unresolved_view t).name ≡ false = dec in (
+      record { own = h.own; attributes = h.attributes ++ unresolved_view t ∷ [] },
+      rw other refl,
+      record { declares = hold.declares; attributes = ap (map unresolved_view) push ∙ map-append unresolved_view taken (t ∷ []) ∙ ap (λ xs. xs ++ unresolved_view t ∷ []) hold.attributes },
+    )
+
+-- ---- and read before
+
+-- what one more attribute or declaration makes of the tag, and how many replacement texts may be opened behind it
+abbrev pub AddsOne : (known : List NamespaceDecl) (before : List ℕ) (namespaces : List NamespaceDecl) (listed : List ℕ) (taken : List UnresolvedAttribute) (xml : Bool) (l : ℕ) → Result (TagSoFar × ℕ) Refusal → Type 0
+AddsOne known before namespaces listed taken xml l read = (h : TagSoFar) × (read ≡ Ok (h, l)) × HoldsTag known before namespaces listed xml taken h
+
+pub took_one : (context : Values) (known : List NamespaceDecl) (before : List ℕ) (namespaces : List NamespaceDecl) (listed : List ℕ) (xml : Bool) (taken : List UnresolvedAttribute) (src : List ℕ) (raw : RawAttribute) (openings_left l : ℕ) (h : TagSoFar) (t : UnresolvedAttribute)
+    → GivesAttribute raw (Ok (t, l)) (value_of context src raw openings_left) → AddsAttribute known before namespaces listed taken (Ok xml) (tags.taken known (unresolved_view t) h)
+    → AddsOne known before namespaces listed taken xml l (one_more context known src raw openings_left h)
+took_one context known before namespaces listed xml taken src raw openings_left l h t (v, is, view) (x, read, hold) = (x, one_is context known src raw openings_left l h v (unresolved_view t) is view ∙ ap (kept_left l) read, hold)
+
+pub refused_one : (context : Values) (known : List NamespaceDecl) (src : List ℕ) (raw : RawAttribute) (openings_left l : ℕ) (h : TagSoFar) (t : UnresolvedAttribute) (e : Failure)
+    → GivesAttribute raw (Ok (t, l)) (value_of context src raw openings_left) → Fails e (tags.taken known (unresolved_view t) h) → IsRefusal (of_failure e) (one_more context known src raw openings_left h)
+refused_one context known src raw openings_left l h t e (v, is, view) fails =
+    subst (λ (r : Result (TagSoFar × ℕ) Refusal). IsRefusal (of_failure e) r) (sym (one_is context known src raw openings_left l h v (unresolved_view t) is view)) (stops_left l e (tags.taken known (unresolved_view t) h) fails)
 
 -- its value is refused
 pub refused_value : (context : Values) (known : List NamespaceDecl) (src : List ℕ) (raw : RawAttribute) (openings_left : ℕ) (h : TagSoFar) (e : ParseError)
-    → IsRefusal e (value_at context.main context.entities context.opener src raw.value_start raw.value_end openings_left) → IsRefusal e (one_more context known src raw openings_left h)
-refused_value context known src raw openings_left h e fails = refuses_by e (value_at context.main context.entities context.opener src raw.value_start raw.value_end openings_left) (one_more context known src raw openings_left h) (λ r is. rw is refl) fails
-
-pub took_attribute : (context : Values) (known : List NamespaceDecl) (before : List ℕ) (namespaces : List NamespaceDecl) (listed : List ℕ) (xml : Bool) (taken kept : List UnresolvedAttribute) (src : List ℕ) (raw : CodeRaw) (openings_left l : ℕ) (h : TagSoFar)
-    (v : ReadText) (t : UnresolvedAttribute) → kept ≡ taken ++ t ∷ [] → value_at context.main context.entities context.opener src raw.value_start raw.value_end openings_left ≡ Ok (v, l) → t.start ≡ raw.start → t.name_end ≡ raw.name_end → t.value_start ≡ raw.value_start
-    → t.end ≡ raw.value_end + 1 → t.name ≡ raw.name → storage_bytes t.value ≡ v.value → is_borrowed t.value ≡ v.borrowed → is_namespace_decl (name_view raw.name) ≡ false
-    → HoldsTag known before namespaces listed xml taken h
-    → (x : TagSoFar) × (one_more context known src (attribute_view raw) openings_left h ≡ Ok (x, l)) × HoldsTag known before namespaces listed xml kept x
-took_attribute context known before namespaces listed xml taken kept src raw openings_left l h v t push is a b d e n f g dec hold =
-    let view = view_is raw v t a b d e n f g in
-    let other : is_namespace_decl (unresolved_view t).name ≡ false = ap (λ n. is_namespace_decl (name_view n)) n ∙ dec in (
-      record { own = h.own; attributes = h.attributes ++ unresolved_view t ∷ [] },
-      one_is context known src (attribute_view raw) openings_left l h v (unresolved_view t) is view ∙ rw other refl,
-      record { declares = hold.declares; attributes = ap (map unresolved_view) push ∙ map-append unresolved_view taken (t ∷ []) ∙ ap (λ xs. xs ++ unresolved_view t ∷ []) hold.attributes },
-    )
+    → IsRefusal e (value_of context src raw openings_left) → IsRefusal e (one_more context known src raw openings_left h)
+refused_value context known src raw openings_left h e fails = refuses_by e (value_of context src raw openings_left) (one_more context known src raw openings_left h) (λ r is. rw is refl) fails
 
 -- ---- what a turn gives
 
@@ -194,7 +213,7 @@ more_turn context cut known src n m i j openings_left h raw one inside is = turn
 
 pub going_on : (context : Values) (known : List NamespaceDecl) (before : List ℕ) (cut : Fault) (src : List ℕ) (whole : Result (TagRest × ℕ) Refusal) (n m i j openings_left l : ℕ) (namespaces next : List NamespaceDecl) (listed after : List ℕ) (xml now : Bool) (taken kept : List UnresolvedAttribute) (raw : RawAttribute)
     → (g : Going context known before cut src whole n i openings_left namespaces listed xml taken) → n ≡ suc m → i < length src → tag_item_at src i ≡ Ok (more raw, j)
-    → AddsAttribute known before next after kept (Ok (now, l)) (one_more context known src raw openings_left g.h) → Going context known before cut src whole m j l next after now kept
+    → AddsOne known before next after kept now l (one_more context known src raw openings_left g.h) → Going context known before cut src whole m j l next after now kept
 going_on context known before cut src whole n m i j openings_left l namespaces next listed after xml now taken kept raw g one inside is (h, read, hold) =
     record { h = h; holding = hold; same = sym (more_turn context cut known src n m i j openings_left g.h raw one inside is ∙ rw read refl) ∙ g.same }
 

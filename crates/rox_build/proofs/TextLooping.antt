@@ -1,7 +1,6 @@
 -- The constructs of a replacement text, one after another, up to its end.
 use Rattle.std.proofs.Common.{◌≡◌, ℕ, zero, suc, ◌+◌, ◌<◌, ◌≤◌, List, Result, Ok, Err, length, refl, sym, ap, ◌∙◌, lt-ltb, le-ltb, eq-eqb, ne_eqb}
 use Rattle.rox_grammar.specs.declared.fault.Fault.TheVariants as fault
-use Rattle.rox_grammar.specs.State.{Open, root, inside}
 use Rattle.rox_reading.specs.Lexical.{◌>>=◌}
 use Rattle.rox_reading.specs.Refusals as refusal
 use Rattle.rox_reading.specs.Refusals.{Refusal}
@@ -9,17 +8,12 @@ use Rattle.rox_reading.specs.State as reading
 use Rattle.rox_reading.specs.State.{State}
 use Rattle.rox_reading.specs.Machine.{Context, step, drive_text, text_ends}
 use Rattle.rox_scan.specs.declared.cursor.Cursor.{Cursor}
-use Rattle.rox_build.specs.OpenRows.{depth_of}
 use Rattle.rox_values.specs.Refusals.{IsRefusal}
 use Rattle.rox_build.specs.BuilderState.{IsInState, HoldsState, ParsesToHeld, ParsesTo}
 use Rattle.rox_values.specs.declared.parse_error.ParseError.{ParseError}
 use Rattle.rox_build.specs.declared.builder.Builder.{Builder}
 use Rattle.rox_values.proofs.PartLemmas.{refuses_by}
-use Rattle.rox_build.proofs.Showing.{depth_is}
-
-pub same_depth : (o : Open) → depth_of o ≡ reading.depth_of o
-same_depth root = refl
-same_depth (inside start tag before up) = ap (λ (n : ℕ). n + 1) (same_depth up)
+use Rattle.rox_build.proofs.Stepping.{opened_deep}
 
 pub record Texting (context : Context) (end : ℕ) (src : List ℕ) (whole : Result State Refusal) (n : ℕ) (c : Cursor) (b : Builder) : Type 0 where
   pub s : State
@@ -63,7 +57,7 @@ text_spent context end src whole n c b r g none h = moved context.limit end b r 
 -- ---- whether it ends where it began
 
 pub opened_depth : (limit end : ℕ) (s : State) (b : Builder) → HoldsState limit end s b → length b.opened.items ≡ reading.depth_of s.stack
-opened_depth limit end s b h = depth_is b.tables s.stack b.opened.items h.shows.open_rows ∙ same_depth s.stack
+opened_depth limit end s b h = opened_deep end s.stack s.done b h.shows
 
 pub text_closed : (context : Context) (s : State) → reading.depth_of s.stack ≡ context.open_around → text_ends context s ≡ Ok s
 text_closed context s h = let k = eq-eqb _ _ h in rw k refl

@@ -14,7 +14,7 @@ use Rattle.rox_reading.proofs.Forests.{Clean, is_text}
 use Rattle.rox_grammar.specs.Failures.{Fails, name_view}
 use Rattle.rox_scan.specs.declared.cursor.Cursor.{Cursor}
 use Rattle.rox_grammar.specs.declared.failure.Failure.{Failure}
-use Rattle.rox_tables.specs.Rows.{RowView, row_view, node, namespace_view, scope_at, NamespaceWithin, KindWithin, AreScopes, AttributeRow, attribute_rows}
+use Rattle.rox_tables.specs.Rows.{node_rows, RowView, row_view, node, namespace_view, scope_at, NamespaceWithin, KindWithin, AreScopes, AttributeRow, attribute_rows}
 use Rattle.rox_reading.specs.Values.{Next, part_text}
 use Rattle.rox_values.specs.Refusals.{IsFailure, IsRefusal}
 use Rattle.rox_values.specs.Values.{next_view}
@@ -58,10 +58,10 @@ last_row [] = 0
 last_row (o ∷ []) = o.row
 last_row (o ∷ p ∷ ps) = last_row (p ∷ ps)
 
--- the text that may go on, where the buffer holds this: none, a slice of the source, or what the buffer holds
+-- the text that may go on, where the buffer holds this: none, a piece, or what the buffer holds
 abbrev pub IsPending : Pending → List ℕ → Forest Item → Type 0
 IsPending pending.None joined last = last ≡ Nil
-IsPending pending.Written joined last = (start : ℕ) × (end : ℕ) × (text : List ℕ) × (last ≡ leaf (Text start end text true))
+IsPending pending.Written joined last = (start : ℕ) × (end : ℕ) × (text : List ℕ) × (borrowed : Bool) × (last ≡ leaf (Text start end text borrowed))
 IsPending (pending.Joined start end) joined last = last ≡ leaf (Text start end joined false)
 
 -- the items that have rows, where these do, and behind them is the text that may go on
@@ -91,15 +91,15 @@ pub record Represents (end : ℕ) (stack : Open) (done : Forest Item) (b : Build
   pub merged : merge done ≡ join front last
   pub is_last : IsPending b.pending (string_bytes b.joined) last
   pub clean : Clean front
-  pub rows : map (line_in b.tables) b.nodes.items ≡ so_far end stack (with_rows b.pending front last)
+  pub rows : map (line_in b.tables) (node_rows b.nodes) ≡ so_far end stack (with_rows b.pending front last)
   pub open_rows : opened_in b.tables b.opened.items ≡ open_lines stack
-  pub within : AllByRecursion (λ r. IsRowWithin b.tables r.kind) b.nodes.items
+  pub within : AllByRecursion (λ r. IsRowWithin b.tables r.kind) (node_rows b.nodes)
 
 -- the same with no text that may go on
 pub record RepresentsFlushed (end : ℕ) (stack : Open) (done : Forest Item) (b : Builder) : Type 0 where
-  pub rows : map (line_in b.tables) b.nodes.items ≡ so_far end stack (merge done)
+  pub rows : map (line_in b.tables) (node_rows b.nodes) ≡ so_far end stack (merge done)
   pub open_rows : opened_in b.tables b.opened.items ≡ open_lines stack
-  pub within : AllByRecursion (λ r. IsRowWithin b.tables r.kind) b.nodes.items
+  pub within : AllByRecursion (λ r. IsRowWithin b.tables r.kind) (node_rows b.nodes)
   pub empty : b.pending ≡ pending.None
 
 -- a row shows an item with nothing below it, below an element that lists these
@@ -198,9 +198,9 @@ pub record Grown (old new : ElementTables) : Type 0 where
 
 -- there is room for a row and for an open element, and no text waits for its row
 pub record IsReady (b : Builder) : Type 0 where
-  pub room : vec_len b.nodes < vec_capacity b.nodes
-  pub few : vec_len b.nodes < b.nodes_limit
-  pub small : vec_len b.nodes + 1 < 2 ^ 32
+  pub room : vec_len b.nodes.rows < vec_capacity b.nodes.rows
+  pub few : vec_len b.nodes.rows < b.nodes_limit
+  pub small : vec_len b.nodes.rows + 1 < 2 ^ 32
   pub depth : vec_len b.opened < vec_capacity b.opened
   pub settled : waiting b.pending ≡ 0
 

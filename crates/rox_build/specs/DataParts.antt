@@ -23,11 +23,3 @@ next_part context src start stop s =
 abbrev pub GivesDataPart : ℕ → ℕ → Result (Option Cursor) Failure → Cursor → Builder → Result (State × Next) Fault → Type 0
 GivesDataPart limit end (Ok next) c b read = (t : State) × (read ≡ Ok (t, next_view next c.pos)) × HoldsState limit end t b
 GivesDataPart limit end (Err e) c b read = Fails e read
-
--- from i up to j a CR, a LF, and bytes that are no `&` and no CR
-pub record IsLine (src : List ℕ) (i j : ℕ) : Type 0 where
-  pub some : i + 1 < j
-  pub within : j ≤ length src
-  pub cr : slice_index src i ≡ 13
-  pub feed : slice_index src (i + 1) ≡ 10
-  pub rest : byte_from (λ c. c == 38 || c == 13) (take j src) (i + 1 + 1) ≡ j

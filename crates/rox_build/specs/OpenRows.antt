@@ -11,25 +11,21 @@ abbrev pub top : Open → ℕ
 top root = 0
 top (inside start tag before up) = top up + 1 + size (merge before)
 
-abbrev pub depth_of : Open → ℕ
-depth_of root = 0
-depth_of (inside start tag before up) = depth_of up + 1
-
 -- the row of the root node while its descendants are not all known
 abbrev pub root_line : ℕ → RowView
-root_line end = record { parent = 0; subtree_end = 0; depth = 0; node = Root end }
+root_line end = record { parent = 0; subtree_end = 0; node = Root end }
 
 -- the row of an element while it is open
 abbrev pub open_line : ℕ → Tag → Open → RowView
 open_line start tag up =
-    record { parent = top up; subtree_end = 0; depth = depth_of up + 1; node = node_in (listed (scope_of up) tag.declarations) (Element start 0 tag) }
+    record { parent = top up; subtree_end = 0; node = node_in (listed (scope_of up) tag.declarations) (Element start 0 tag) }
 
 -- the rows up to that of the innermost open element
 abbrev pub rows_to : ℕ → Open → List RowView
 rows_to end root = root_line end ∷ []
 rows_to end (inside start tag before up) =
-    rows_to end up ++ (preorder_rows (top up) (depth_of up + 1) (top up + 1) (resolved (scope_of up) (merge before)) ++ open_line start tag up ∷ [])
+    rows_to end up ++ (preorder_rows (top up) (top up + 1) (resolved (scope_of up) (merge before)) ++ open_line start tag up ∷ [])
 
 -- and those below it, where this is merged
 abbrev pub so_far : ℕ → Open → Forest Item → List RowView
-so_far end stack front = rows_to end stack ++ preorder_rows (top stack) (depth_of stack + 1) (top stack + 1) (resolved (scope_of stack) front)
+so_far end stack front = rows_to end stack ++ preorder_rows (top stack) (top stack + 1) (resolved (scope_of stack) front)

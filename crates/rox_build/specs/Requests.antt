@@ -3,10 +3,7 @@ use Rattle.std.specs.Prelude.{◌≡◌, ℕ, List, [], ◌∷◌, Option, Some,
 use Rattle.std.specs.Borrow.{Bor}
 use Rattle.std.specs.declared.alloc.Global.{Global}
 use Rattle.rox_grammar.specs.Doctype.{Request, Asked}
-
--- a text, or none; or a refusal with its message
-abbrev pub Reply : Type 0
-Reply = Result (Option (List ℕ)) (List ℕ)
+pub use Rattle.rox_grammar.specs.Doctype.{Reply}
 
 abbrev pub text_view : Option (Bor (List ℕ)) → Option (List ℕ)
 text_view o = option_map (λ x. x.now) o

@@ -2,6 +2,8 @@
 
 ghost use Rattle.std.specs.Prelude.{◌<◌, ◌≤◌, ◌+◌, ◌++◌, ◌^◌, ◌≡◌, ◌∷◌, [], ℕ, length, vec_len, set, get_or, max, IfOk, IfErr, OnOk};
 ghost use Rattle.rox_tables.specs.declared.rows.tables.NodeData.{NodeData};
+ghost use Rattle.rox_tables.specs.Rows.{node_rows};
+ghost use Rattle.rox_tables.specs.StoredNodes.{kind_of};
 ghost use Rattle.rox_tables.specs.declared.rows.tables.NodeKind.TheVariants as kind;
 ghost use Rattle.rox_grammar.specs.declared.failure.Failure.TheVariants as failure;
 ghost use Rattle.rox_build.specs.PendingText.{waiting, written, text_of};
@@ -17,16 +19,18 @@ use rox_scan::search::Finders;
 use rox_tables::namespaces::bindings::PrefixBindings;
 use rox_tables::namespaces::namespace_table::NamespaceTable;
 use rox_tables::rows::attributes::AttributeTable;
-use rox_tables::rows::growth::{push, reserve, trim};
-use rox_tables::rows::node_rows;
+use rox_tables::rows::growth::push;
+use rox_tables::rows::node_table::NodeTable;
 use rox_tables::rows::recent_texts::Recent;
 use rox_tables::rows::storage::StringStorage;
-use rox_tables::rows::tables::{ElementTables, NodeData, NodeKind, Scope, Stretch, Tables};
+use rox_tables::rows::stored_node::KindRef;
+use rox_tables::rows::tables::{
+    ElementData, ElementTables, NodeData, NodeKind, Scope, Stretch, Tables,
+};
 use rox_values::context::MOST_WITHIN;
 use rox_values::text_value::TextValue;
 use std::alloc::Global;
 use std::collections::BTreeSet;
-use std::mem;
 
 /// An element that is open: its row, its name, which stands from `name_start` up to `name_end`, and its scope.
 #[derive(Clone, Copy)]
@@ -41,7 +45,7 @@ pub struct OpenElement<'input> {
 /// The tables of what is read so far. The root node has row 0.
 #[derive(Drop)]
 pub struct Builder<'input> {
-    pub nodes: Vec<NodeData<'input>>,
+    pub nodes: NodeTable<'input>,
     pub tables: ElementTables<'input>,
     /// Outermost first.
     pub opened: Vec<OpenElement<'input>>,
@@ -55,67 +59,20 @@ pub struct Builder<'input> {
     pub nodes_limit: u32,
     /// How many replacement texts may still be opened within the one that is read.
     pub openings_left: u32,
-    pub ghost few: { vec_len nodes + waiting pending < 2 ^ 32 },
-    pub ghost counted: { vec_len nodes + waiting pending ≤ max 1 nodes_limit },
-    pub ghost shallow: { vec_len opened + written pending < vec_len nodes },
-}
-
-/// How many rows a table begins with room for, at most.
-const FIRST_ROWS: usize = 65536;
-
-/// And at least.
-const FEWEST_ROWS: usize = 32;
-
-/// The row of the root node of a text of so many bytes, with some room for more.
-fn root_row<'input>(alloc: Global, bytes: usize) -> Result<Vec<NodeData<'input>>, Failure>
-    ensures ok { IfOk result (λ nodes. nodes.items ≡ record { start = 0; end = bytes; parent = 0; subtree_end = 0; depth = 0; kind = kind.Root } ∷ []) }
-    ensures err { IfErr result (λ e. e ≡ failure.Memory) }
-{
-    let room = (bytes / 48 + FEWEST_ROWS).min(FIRST_ROWS);
-    let mut nodes = Vec::new(alloc);
-    reserve(&mut nodes, room, FEWEST_ROWS)?;
-    nodes.push(NodeData {
-        start: 0,
-        end: bytes,
-        parent: 0,
-        subtree_end: 0,
-        depth: 0,
-        kind: NodeKind::Root,
-    })?;
-    Ok(nodes)
+    pub ghost few: { vec_len nodes.rows + waiting pending < 2 ^ 32 },
+    pub ghost counted: { vec_len nodes.rows + waiting pending ≤ max 1 nodes_limit },
+    pub ghost shallow: { vec_len opened + written pending < vec_len nodes.rows },
 }
 
 /// The scope of the root node, which lists nothing.
 fn empty_scope(alloc: Global) -> Result<Vec<Scope>, Failure>
-    ensures ok { IfOk result (λ scopes. scopes.items ≡ Scope.Few (record { from = 0; until = 0 }) ∷ []) }
+    ensures ok { IfOk result (λ scopes. scopes.items ≡ Scope.Few (record { from = 0; until = 0 })
+        ∷ []) }
     ensures err { IfErr result (λ e. e ≡ failure.Memory) }
 {
     let mut scopes = Vec::new(alloc);
     push(&mut scopes, Scope::Few(Stretch { from: 0, until: 0 }))?;
     Ok(scopes)
-}
-
-/// Writes the end of an element into its row.
-#[inline]
-fn end_row(nodes: &mut Vec<NodeData<'_>>, row: u32, end: usize)
-    requires { vec_len nodes.old < 2 ^ 32 }
-    ensures rows { (d : NodeData) → nodes.new.items ≡ set nodes.old.items row (record (get_or nodes.old.items row d) { end = end; subtree_end = length nodes.old.items }) }
-    ensures count { vec_len nodes.new ≡ vec_len nodes.old }
-{
-    let subtree_end = nodes.len() as u32;
-    if let Some(node) = nodes.get_mut(row as usize) {
-        node.end = end;
-        node.subtree_end = subtree_end;
-    }
-}
-
-/// Writes the count of all rows into that of the root node.
-fn end_root(nodes: &mut Vec<NodeData<'_>>, count: u32)
-    ensures rows { (d : NodeData) → nodes.new.items ≡ set nodes.old.items 0 (record (get_or nodes.old.items 0 d) { subtree_end = count }) }
-{
-    if let Some(node) = nodes.get_mut(0) {
-        node.subtree_end = count;
-    }
 }
 
 /// Where a text stands, in bytes of its source.
@@ -125,36 +82,46 @@ struct TextRange {
     end: usize,
 }
 
+/// Puts the text of a text node into an empty buffer. The only error is want of memory.
+fn start_joined(joined: &mut String, kind: KindRef<'_, '_>) -> Result<(), Failure>
+    ensures ok { OnOk result (string_bytes joined.new ≡ text_of (kind_of kind.entry)) }
+    ensures err { IfErr result (λ e. e ≡ failure.Memory) }
+{
+    joined.clear();
+    if let KindRef::Text(before) = kind {
+        joined.push_str(before.as_str())?;
+    }
+    Ok(())
+}
+
 /// Takes the last row, of a text, back: its text and this one behind it are in the buffer then. Answers where the row's text
 /// stands. The only error is want of memory, and then the rows are as before.
 #[cold]
 #[inline(never)]
 fn join_last(
-    nodes: &mut Vec<NodeData<'_>>,
+    nodes: &mut NodeTable<'_>,
     joined: &mut String,
     text: &str,
 ) -> Result<TextRange, Failure>
-    requires { 0 < vec_len nodes.old }
-    ensures taken { IfOk result (λ r. (last : NodeData) × (nodes.old.items ≡ nodes.new.items ++ last ∷ []) × (r ≡ record { start = last.start; end = last.end })
+    requires { 0 < vec_len nodes.old.rows }
+    ensures taken { IfOk result (λ r. (last : NodeData)
+        × (node_rows nodes.old ≡ node_rows nodes.new ++ last ∷ [])
+        × (r ≡ record { start = last.start; end = last.end })
         × (string_bytes joined.new ≡ text_of last.kind ++ text.now)) }
-    ensures count { OnOk result (vec_len nodes.old ≡ vec_len nodes.new + 1) }
+    ensures count { OnOk result (vec_len nodes.old.rows ≡ vec_len nodes.new.rows + 1) }
     ensures same { IfErr result (λ e. nodes.new ≡ nodes.old) }
     ensures err { IfErr result (λ e. e ≡ failure.Memory) }
 {
-    joined.clear();
-    if let Some(row) = nodes.last() {
-        if let NodeKind::Text(before) = &row.kind {
-            joined.push_str(before.as_str())?;
-        }
-    }
+    let last = nodes.len() - 1;
+    let row = nodes.row(last);
+    let range = TextRange {
+        start: row.start,
+        end: row.end,
+    };
+    start_joined(joined, row.kind)?;
     joined.push_str(text)?;
-    match nodes.pop() {
-        Some(row) => Ok(TextRange {
-            start: row.start,
-            end: row.end,
-        }),
-        None => Err(Failure::Memory),
-    }
+    nodes.truncate(last);
+    Ok(range)
 }
 
 impl<'input> Builder<'input> {
@@ -176,7 +143,8 @@ impl<'input> Builder<'input> {
 
     /// The tables with the root node of a text of so many bytes.
     pub fn new(alloc: Global, bytes: usize, nodes_limit: u32) -> Result<Builder<'input>, Failure>
-        ensures empty { IfOk result (λ b. (names_in b.tables ≡ []) × (length (attribute_rows b.tables.attributes) ≡ 0)) }
+        ensures empty { IfOk result (λ b. (names_in b.tables ≡ [])
+            × (length (attribute_rows b.tables.attributes) ≡ 0)) }
         ensures fine { IfOk result (λ b. IsConsistent b.tables b.opened.items) }
         ensures shows { IfOk result (λ b. Represents bytes root Nil b) }
         ensures limit { IfOk result (λ b. b.nodes_limit ≡ nodes_limit) }
@@ -186,7 +154,7 @@ impl<'input> Builder<'input> {
         // An allocator often gives places in turn, and a table behind which nothing stands grows where it is: the rows come last.
         let attributes = AttributeTable::of_text(alloc, bytes);
         let scopes = empty_scope(alloc)?;
-        let nodes = root_row(alloc, bytes)?;
+        let nodes = NodeTable::of_text(alloc, bytes)?;
         Ok(Builder {
             nodes,
             tables: ElementTables {
@@ -215,7 +183,8 @@ impl<'input> Builder<'input> {
     /// No element is open.
     #[inline]
     pub fn is_at_root(&self) -> bool
-        ensures { (end : ℕ) (stack : Open) (done : Forest Item) → Represents end stack done self.now → result ≡ is_root stack }
+        ensures { (end : ℕ) (stack : Open) (done : Forest Item) → Represents end stack done self.now
+            → result ≡ is_root stack }
     {
         self.opened.is_empty()
     }
@@ -234,10 +203,13 @@ impl<'input> Builder<'input> {
     /// The scope of the innermost open element, or of the root node.
     #[inline]
     pub fn scope(&self) -> u32
-        ensures value { IsConsistent self.now.tables self.now.opened.items → (end : ℕ) (stack : Open) (done : Forest Item) → Represents end stack done self.now
+        ensures value { IsConsistent self.now.tables self.now.opened.items
+            → (end : ℕ) (stack : Open) (done : Forest Item) → Represents end stack done self.now
             → scope_in_tables self.now.tables result ≡ scope_of stack }
-        ensures within { IsConsistent self.now.tables self.now.opened.items → result < length self.now.tables.scopes.items }
-        ensures once { IsConsistent self.now.tables self.now.opened.items → PrefixesOnce (scope_in_tables self.now.tables result) }
+        ensures within { IsConsistent self.now.tables self.now.opened.items
+            → result < length self.now.tables.scopes.items }
+        ensures once { IsConsistent self.now.tables self.now.opened.items
+            → PrefixesOnce (scope_in_tables self.now.tables result) }
     {
         match self.opened.last() {
             Some(element) => element.scope,
@@ -248,7 +220,7 @@ impl<'input> Builder<'input> {
     /// How many nodes there are, the text that may go on counted.
     #[inline]
     fn count(&self) -> usize
-        ensures { result ≡ vec_len self.now.nodes + waiting self.now.pending }
+        ensures { result ≡ vec_len self.now.nodes.rows + waiting self.now.pending }
     {
         match self.pending {
             Pending::Joined(_, _) => self.nodes.len() + 1,
@@ -259,9 +231,12 @@ impl<'input> Builder<'input> {
     /// The only fault is that one more node would be too many.
     #[inline(always)]
     fn room(&self) -> Result<(), Failure>
-        ensures ok { OnOk result (vec_len self.now.nodes + waiting self.now.pending < self.now.nodes_limit) }
-        ensures few { OnOk result (vec_len self.now.nodes + waiting self.now.pending + 1 < 2 ^ 32) }
-        ensures err { IfErr result (λ e. (e ≡ failure.Fault fault.NodesLimitReached) × (self.now.nodes_limit ≤ vec_len self.now.nodes + waiting self.now.pending)) }
+        ensures ok { OnOk result (vec_len self.now.nodes.rows + waiting self.now.pending
+            < self.now.nodes_limit) }
+        ensures few { OnOk result (vec_len self.now.nodes.rows + waiting self.now.pending + 1
+            < 2 ^ 32) }
+        ensures err { IfErr result (λ e. (e ≡ failure.Fault fault.NodesLimitReached)
+            × (self.now.nodes_limit ≤ vec_len self.now.nodes.rows + waiting self.now.pending)) }
     {
         if self.count() >= self.nodes_limit as usize {
             return Err(Failure::Fault(Fault::NodesLimitReached));
@@ -272,13 +247,12 @@ impl<'input> Builder<'input> {
     /// A row without rows below it, behind those that there are.
     #[inline(always)]
     fn row(&self, start: usize, end: usize, kind: NodeKind<'input>) -> NodeData<'input>
-        requires { vec_len self.now.nodes + 1 < 2 ^ 32 }
+        requires { vec_len self.now.nodes.rows + 1 < 2 ^ 32 }
         ensures { result ≡ record {
           start = start;
           end = end;
           parent = last_row (opened_in self.now.tables self.now.opened.items);
-          subtree_end = length self.now.nodes.items + 1;
-          depth = length self.now.opened.items + 1;
+          subtree_end = length (node_rows self.now.nodes) + 1;
           kind = kind.entry;
         } }
     {
@@ -287,7 +261,6 @@ impl<'input> Builder<'input> {
             end,
             parent: self.parent(),
             subtree_end: self.nodes.len() as u32 + 1,
-            depth: self.opened.len() as u32 + 1,
             kind,
         }
     }
@@ -295,9 +268,11 @@ impl<'input> Builder<'input> {
     /// Writes the text that may go on.
     #[inline(always)]
     fn flush(&mut self, alloc: Global) -> Result<(), Failure>
-        ensures ok { OnOk result ((end : ℕ) (stack : Open) (done : Forest Item) → Represents end stack done self.old → RepresentsFlushed end stack done self.new) }
+        ensures ok { OnOk result ((end : ℕ) (stack : Open) (done : Forest Item)
+            → Represents end stack done self.old → RepresentsFlushed end stack done self.new) }
         ensures empty { OnOk result (waiting self.new.pending ≡ 0) }
-        ensures count { OnOk result (vec_len self.new.nodes ≡ vec_len self.old.nodes + waiting self.old.pending) }
+        ensures count { OnOk result (vec_len self.new.nodes.rows ≡ vec_len self.old.nodes.rows
+            + waiting self.old.pending) }
         ensures tables { self.new.tables ≡ self.old.tables }
         ensures opened { self.new.opened ≡ self.old.opened }
         ensures limit { self.new.nodes_limit ≡ self.old.nodes_limit }
@@ -321,9 +296,11 @@ impl<'input> Builder<'input> {
     #[inline(never)]
     fn flush_joined(&mut self, alloc: Global, start: usize, end: usize) -> Result<(), Failure>
         requires { self.old.pending ≡ pending.Joined start end }
-        ensures ok { OnOk result ((end : ℕ) (stack : Open) (done : Forest Item) → Represents end stack done self.old → RepresentsFlushed end stack done self.new) }
+        ensures ok { OnOk result ((end : ℕ) (stack : Open) (done : Forest Item)
+            → Represents end stack done self.old → RepresentsFlushed end stack done self.new) }
         ensures empty { OnOk result (waiting self.new.pending ≡ 0) }
-        ensures count { OnOk result (vec_len self.new.nodes ≡ vec_len self.old.nodes + 1) }
+        ensures count { OnOk result (vec_len self.new.nodes.rows ≡ vec_len self.old.nodes.rows
+            + 1) }
         ensures tables { self.new.tables ≡ self.old.tables }
         ensures opened { self.new.opened ≡ self.old.opened }
         ensures limit { self.new.nodes_limit ≡ self.old.nodes_limit }
@@ -333,7 +310,7 @@ impl<'input> Builder<'input> {
         let text = self.recent.owned(alloc, self.joined.as_str())?;
         let row = self.row(start, end, NodeKind::Text(text));
         self.pending = Pending::None;
-        node_rows::push(&mut self.nodes, row)?;
+        self.nodes.push(row)?;
         Ok(())
     }
 
@@ -346,7 +323,9 @@ impl<'input> Builder<'input> {
         end: usize,
         kind: NodeKind<'input>,
     ) -> Result<(), Failure>
-        ensures value { (total at : ℕ) (s : State) (item : Item) → Represents total s.stack s.done self.old → IsNode self.old.tables (scope_of s.stack) start end kind.entry item
+        ensures value { (total at : ℕ) (s : State) (item : Item)
+            → Represents total s.stack s.done self.old
+            → IsNode self.old.tables (scope_of s.stack) start end kind.entry item
             → Adds total result self.new (with_item self.old.nodes_limit s at item) }
         ensures tables { self.new.tables ≡ self.old.tables }
         ensures opened { self.new.opened ≡ self.old.opened }
@@ -356,7 +335,7 @@ impl<'input> Builder<'input> {
         self.flush(alloc)?;
         self.room()?;
         let row = self.row(start, end, kind);
-        node_rows::push(&mut self.nodes, row)?;
+        self.nodes.push(row)?;
         Ok(())
     }
 
@@ -369,7 +348,8 @@ impl<'input> Builder<'input> {
         text: &'input str,
     ) -> Result<(), Failure>
         ensures value { (total at : ℕ) (s : State) → Represents total s.stack s.done self.old
-            → Adds total result self.new (with_item self.old.nodes_limit s at (Text start end text.now true)) }
+            → Adds total result self.new
+            (with_item self.old.nodes_limit s at (Text start end text.now true)) }
         ensures tables { self.new.tables ≡ self.old.tables }
         ensures opened { self.new.opened ≡ self.old.opened }
         ensures limit { self.new.nodes_limit ≡ self.old.nodes_limit }
@@ -379,7 +359,7 @@ impl<'input> Builder<'input> {
             Pending::None => {
                 self.room()?;
                 let row = self.row(start, end, NodeKind::Text(StringStorage::Borrowed(text)));
-                node_rows::push(&mut self.nodes, row)?;
+                self.nodes.push(row)?;
                 self.pending = Pending::Written;
             }
             Pending::Written => {
@@ -391,10 +371,19 @@ impl<'input> Builder<'input> {
         Ok(())
     }
 
-    /// A piece of text that stands in the buffer for values. The only fault is that there are too many nodes.
-    pub fn buffered_piece(&mut self, start: usize, end: usize) -> Result<(), Failure>
+    /// A piece of text of these bytes that counts as owned: what the source has there is longer. The only fault is that there are
+    /// too many nodes.
+    #[inline(always)]
+    pub fn owned_piece(
+        &mut self,
+        alloc: Global,
+        start: usize,
+        end: usize,
+        changed: &str,
+    ) -> Result<(), Failure>
         ensures value { (total at : ℕ) (s : State) → Represents total s.stack s.done self.old
-            → Adds total result self.new (with_item self.old.nodes_limit s at (Text start end (string_bytes self.old.buffers.scratch) false)) }
+            → Adds total result self.new
+            (with_item self.old.nodes_limit s at (Text start end changed.now false)) }
         ensures tables { self.new.tables ≡ self.old.tables }
         ensures opened { self.new.opened ≡ self.old.opened }
         ensures limit { self.new.nodes_limit ≡ self.old.nodes_limit }
@@ -403,8 +392,38 @@ impl<'input> Builder<'input> {
         match self.pending {
             Pending::None => {
                 self.room()?;
-                mem::swap(&mut self.joined, &mut self.buffers.scratch);
-                self.pending = Pending::Joined(start, end);
+                let owned = self.recent.owned(alloc, changed)?;
+                let row = self.row(start, end, NodeKind::Text(owned));
+                self.nodes.push(row)?;
+                self.pending = Pending::Written;
+            }
+            Pending::Written => {
+                let range = join_last(&mut self.nodes, &mut self.joined, changed)?;
+                self.pending = Pending::Joined(range.start, range.end);
+            }
+            Pending::Joined(_, _) => self.joined.push_str(changed)?,
+        }
+        Ok(())
+    }
+
+    /// A piece of text that stands in the buffer for values. The only fault is that there are too many nodes.
+    pub fn buffered_piece(&mut self, alloc: Global, start: usize, end: usize) -> Result<(), Failure>
+        ensures value { (total at : ℕ) (s : State) → Represents total s.stack s.done self.old
+            → Adds total result self.new
+            (with_item self.old.nodes_limit s at
+            (Text start end (string_bytes self.old.buffers.scratch) false)) }
+        ensures tables { self.new.tables ≡ self.old.tables }
+        ensures opened { self.new.opened ≡ self.old.opened }
+        ensures limit { self.new.nodes_limit ≡ self.old.nodes_limit }
+        ensures openings_left { self.new.openings_left ≡ self.old.openings_left }
+    {
+        match self.pending {
+            Pending::None => {
+                self.room()?;
+                let owned = self.recent.owned(alloc, self.buffers.scratch.as_str())?;
+                let row = self.row(start, end, NodeKind::Text(owned));
+                self.nodes.push(row)?;
+                self.pending = Pending::Written;
             }
             Pending::Written => {
                 let text = self.buffers.scratch.as_str();
@@ -421,13 +440,15 @@ impl<'input> Builder<'input> {
     #[inline(always)]
     pub fn piece(
         &mut self,
+        alloc: Global,
         start: usize,
         end: usize,
         piece: TextValue<'input>,
     ) -> Result<(), Failure>
         ensures value { (total at : ℕ) (s : State) → Represents total s.stack s.done self.old
             → let text = piece_view piece.entry (string_bytes self.old.buffers.scratch) in
-            Adds total result self.new (with_item self.old.nodes_limit s at (Text start end text.value text.borrowed)) }
+            Adds total result self.new
+            (with_item self.old.nodes_limit s at (Text start end text.value text.borrowed)) }
         ensures tables { self.new.tables ≡ self.old.tables }
         ensures opened { self.new.opened ≡ self.old.opened }
         ensures limit { self.new.nodes_limit ≡ self.old.nodes_limit }
@@ -435,7 +456,7 @@ impl<'input> Builder<'input> {
     {
         match piece {
             TextValue::Plain(text) => self.slice_piece(start, end, text),
-            TextValue::Changed => self.buffered_piece(start, end),
+            TextValue::Changed => self.buffered_piece(alloc, start, end),
         }
     }
 
@@ -447,10 +468,15 @@ impl<'input> Builder<'input> {
         start: usize,
         tag: &StartTag<'input>,
     ) -> Result<(), Failure>
-        ensures value { (total at openings_left : ℕ) (s : State) (t : Tag) → Represents total s.stack s.done self.old → s.at ≡ start → IsOpening self.old.tables (scope_of s.stack) start tag.now t
-            → Adds total result self.new (opened_by self.old.nodes_limit s t false openings_left at) }
+        ensures value { (total at openings_left : ℕ) (s : State) (t : Tag)
+            → Represents total s.stack s.done self.old → s.at ≡ start
+            → IsOpening self.old.tables (scope_of s.stack) start tag.now t
+            → Adds total result self.new
+            (opened_by self.old.nodes_limit s t false openings_left at) }
         ensures tables { self.new.tables ≡ self.old.tables }
-        ensures opened { OnOk result ((x : OpenElement) × (self.new.opened.items ≡ self.old.opened.items ++ x ∷ []) × (x.scope ≡ tag.now.element.scope)) }
+        ensures opened { OnOk result ((x : OpenElement)
+            × (self.new.opened.items ≡ self.old.opened.items ++ x ∷ [])
+            × (x.scope ≡ tag.now.element.scope)) }
         ensures limit { self.new.nodes_limit ≡ self.old.nodes_limit }
         ensures openings_left { self.new.openings_left ≡ self.old.openings_left }
     {
@@ -459,7 +485,7 @@ impl<'input> Builder<'input> {
         let row = self.nodes.len() as u32;
         let mut opening = self.row(start, 0, NodeKind::Element(tag.element));
         opening.subtree_end = 0;
-        node_rows::push(&mut self.nodes, opening)?;
+        self.nodes.push(opening)?;
         let element = OpenElement {
             row,
             name: tag.name,
@@ -474,17 +500,20 @@ impl<'input> Builder<'input> {
     /// The innermost open element ends. The only error is want of memory.
     #[inline(always)]
     pub fn close(&mut self, alloc: Global, end: usize) -> Result<(), Failure>
-        ensures ok { OnOk result ((total start : ℕ) (t : Tag) (before : Forest Item) (up : Open) (done : Forest Item) → Represents total (inside start t before up) done self.old
-            → Represents total up (join before (Cons (Element start end t) (merge done) Nil)) self.new) }
+        ensures ok { OnOk result ((total start : ℕ) (t : Tag) (before : Forest Item) (up : Open)
+            (done : Forest Item) → Represents total (inside start t before up) done self.old
+            → Represents total up (join before (Cons (Element start end t) (merge done) Nil))
+            self.new) }
         ensures tables { self.new.tables ≡ self.old.tables }
-        ensures opened { OnOk result (self.new.opened.items ≡ take (length self.old.opened.items - 1) self.old.opened.items) }
+        ensures opened { OnOk result (self.new.opened.items
+            ≡ take (length self.old.opened.items - 1) self.old.opened.items) }
         ensures limit { self.new.nodes_limit ≡ self.old.nodes_limit }
         ensures openings_left { self.new.openings_left ≡ self.old.openings_left }
         ensures err { IfErr result (λ e. e ≡ failure.Memory) }
     {
         self.flush(alloc)?;
         if let Some(element) = self.opened.pop() {
-            end_row(&mut self.nodes, element.row, end);
+            self.nodes.end_row(element.row, end)?;
         }
         Ok(())
     }
@@ -498,7 +527,7 @@ impl<'input> Builder<'input> {
         match self.pending {
             Pending::Joined(_, _) => false,
             _ => {
-                count < self.nodes.capacity()
+                self.nodes.has_room()
                     && count < self.nodes_limit as usize
                     && self.opened.len() < self.opened.capacity()
             }
@@ -520,7 +549,8 @@ impl<'input> Builder<'input> {
     #[inline(always)]
     fn settle(&mut self)
         requires { waiting self.old.pending ≡ 0 }
-        ensures ok { (end : ℕ) (stack : Open) (done : Forest Item) → Represents end stack done self.old → RepresentsFlushed end stack done self.new }
+        ensures ok { (end : ℕ) (stack : Open) (done : Forest Item)
+            → Represents end stack done self.old → RepresentsFlushed end stack done self.new }
         ensures nodes { self.new.nodes ≡ self.old.nodes }
         ensures tables { self.new.tables ≡ self.old.tables }
         ensures opened { self.new.opened ≡ self.old.opened }
@@ -536,23 +566,30 @@ impl<'input> Builder<'input> {
     pub fn put_text(&mut self, start: usize, end: usize, text: &'input str)
         requires ready { IsReady self.old }
         requires apart { self.old.pending ≡ pending.None }
+        requires start { start < 2 ^ 32 }
+        requires end { end < 2 ^ 32 }
         ensures value { (total at : ℕ) (s : State) → Represents total s.stack s.done self.old
-            → Adds total (Ok tt) self.new (with_item self.old.nodes_limit s at (Text start end text.now true)) }
+            → Adds total (Ok tt) self.new
+            (with_item self.old.nodes_limit s at (Text start end text.now true)) }
         ensures tables { self.new.tables ≡ self.old.tables }
         ensures opened { self.new.opened ≡ self.old.opened }
         ensures limit { self.new.nodes_limit ≡ self.old.nodes_limit }
         ensures openings_left { self.new.openings_left ≡ self.old.openings_left }
     {
         let row = self.row(start, end, NodeKind::Text(StringStorage::Borrowed(text)));
-        self.nodes.push_reserved(row);
+        self.nodes.put(row);
         self.pending = Pending::Written;
     }
 
-    /// A node that is no text and has no nodes below it, where there is room for its row.
+    /// An element without nodes below it, where there is room for its row.
     #[inline(always)]
-    pub fn put_leaf(&mut self, start: usize, end: usize, kind: NodeKind<'input>)
-        requires { IsReady self.old }
-        ensures value { (total at : ℕ) (s : State) (item : Item) → Represents total s.stack s.done self.old → IsNode self.old.tables (scope_of s.stack) start end kind.entry item
+    pub fn put_leaf(&mut self, start: usize, end: usize, element: ElementData<'input>)
+        requires ready { IsReady self.old }
+        requires start { start < 2 ^ 32 }
+        requires end { end < 2 ^ 32 }
+        ensures value { (total at : ℕ) (s : State) (item : Item)
+            → Represents total s.stack s.done self.old
+            → IsNode self.old.tables (scope_of s.stack) start end (kind.Element element.entry) item
             → Adds total (Ok tt) self.new (with_item self.old.nodes_limit s at item) }
         ensures tables { self.new.tables ≡ self.old.tables }
         ensures opened { self.new.opened ≡ self.old.opened }
@@ -560,18 +597,24 @@ impl<'input> Builder<'input> {
         ensures openings_left { self.new.openings_left ≡ self.old.openings_left }
     {
         self.settle();
-        let row = self.row(start, end, kind);
-        self.nodes.push_reserved(row);
+        let row = self.row(start, end, NodeKind::Element(element));
+        self.nodes.put(row);
     }
 
     /// An element opens at `start`, where there is room for it.
     #[inline(always)]
     pub fn put_open(&mut self, start: usize, tag: &StartTag<'input>)
-        requires { IsReady self.old }
-        ensures value { (total at openings_left : ℕ) (s : State) (t : Tag) → Represents total s.stack s.done self.old → s.at ≡ start → IsOpening self.old.tables (scope_of s.stack) start tag.now t
-            → Adds total (Ok tt) self.new (opened_by self.old.nodes_limit s t false openings_left at) }
+        requires ready { IsReady self.old }
+        requires start { start < 2 ^ 32 }
+        ensures value { (total at openings_left : ℕ) (s : State) (t : Tag)
+            → Represents total s.stack s.done self.old → s.at ≡ start
+            → IsOpening self.old.tables (scope_of s.stack) start tag.now t
+            → Adds total (Ok tt) self.new
+            (opened_by self.old.nodes_limit s t false openings_left at) }
         ensures tables { self.new.tables ≡ self.old.tables }
-        ensures opened { (x : OpenElement) × (self.new.opened.items ≡ self.old.opened.items ++ x ∷ []) × (x.scope ≡ tag.now.element.scope) }
+        ensures opened { (x : OpenElement)
+            × (self.new.opened.items ≡ self.old.opened.items ++ x ∷ [])
+            × (x.scope ≡ tag.now.element.scope) }
         ensures limit { self.new.nodes_limit ≡ self.old.nodes_limit }
         ensures openings_left { self.new.openings_left ≡ self.old.openings_left }
     {
@@ -579,7 +622,7 @@ impl<'input> Builder<'input> {
         let row = self.nodes.len() as u32;
         let mut opening = self.row(start, 0, NodeKind::Element(tag.element));
         opening.subtree_end = 0;
-        self.nodes.push_reserved(opening);
+        self.nodes.put(opening);
         self.opened.push_reserved(OpenElement {
             row,
             name: tag.name,
@@ -592,29 +635,35 @@ impl<'input> Builder<'input> {
     /// The innermost open element ends, where no text waits for its row.
     #[inline(always)]
     pub fn put_close(&mut self, end: usize)
-        requires { waiting self.old.pending ≡ 0 }
-        ensures ok { (total start : ℕ) (t : Tag) (before : Forest Item) (up : Open) (done : Forest Item) → Represents total (inside start t before up) done self.old
-            → Represents total up (join before (Cons (Element start end t) (merge done) Nil)) self.new }
+        requires settled { waiting self.old.pending ≡ 0 }
+        requires short { end < 2 ^ 32 }
+        ensures ok { (total start : ℕ) (t : Tag) (before : Forest Item) (up : Open)
+            (done : Forest Item) → Represents total (inside start t before up) done self.old
+            → Represents total up (join before (Cons (Element start end t) (merge done) Nil))
+            self.new }
         ensures tables { self.new.tables ≡ self.old.tables }
-        ensures opened { self.new.opened.items ≡ take (length self.old.opened.items - 1) self.old.opened.items }
+        ensures opened { self.new.opened.items
+            ≡ take (length self.old.opened.items - 1) self.old.opened.items }
         ensures limit { self.new.nodes_limit ≡ self.old.nodes_limit }
         ensures openings_left { self.new.openings_left ≡ self.old.openings_left }
     {
         self.settle();
         if let Some(element) = self.opened.pop() {
-            end_row(&mut self.nodes, element.row, end);
+            self.nodes.put_end(element.row, end);
         }
     }
 
     /// The tables of a whole text. The only error is want of memory.
     pub fn finish(mut self, alloc: Global) -> Result<Tables<'input>, Failure>
-        ensures ok { IfOk result (λ t. (end : ℕ) (done : Forest Item) → Represents end root done self.entry → AreSound self.entry.tables → HoldsTree t (document_tree end (merge done))) }
+        ensures ok { IfOk result (λ t. (end : ℕ) (done : Forest Item)
+            → Represents end root done self.entry → AreSound self.entry.tables
+            → HoldsTree t (document_tree end (merge done))) }
         ensures err { IfErr result (λ e. e ≡ failure.Memory) }
     {
         self.flush(alloc)?;
         let count = self.nodes.len() as u32;
-        end_root(&mut self.nodes, count);
-        trim(&mut self.nodes);
+        self.nodes.end_root(count);
+        self.nodes.trim();
         let Builder {
             nodes,
             tables,

@@ -9,7 +9,7 @@ ghost use Rattle.rox_reading.specs.State.{State};
 ghost use Rattle.rox_reading.specs.Machine as machine;
 ghost use Rattle.rox_grammar.specs.Failures.{name_view};
 ghost use Rattle.rox_grammar.specs.Forest.{Forest};
-ghost use Rattle.rox_grammar.specs.Written.{Item, local_span};
+ghost use Rattle.rox_grammar.specs.Written.{Item, local_span, same_qname};
 ghost use Rattle.rox_grammar.specs.State.{Open};
 ghost use Rattle.rox_grammar.specs.Entities.{Entity};
 ghost use Rattle.rox_reading.specs.Refusals.{lifted};
@@ -18,7 +18,7 @@ ghost use Rattle.rox_values.specs.Contexts.{context_of};
 ghost use Rattle.rox_build.specs.BuilderState.{IsConsistent, IsInState, ScansTo, ParsesTo, Represents};
 
 use crate::builder::Builder;
-use crate::tag::start_tag;
+use crate::tag::{TagContext, start_tag};
 use rox_grammar::failure::Failure;
 use rox_grammar::fault::{Fault, Span, Word};
 use rox_grammar::name::QName;
@@ -40,7 +40,8 @@ pub fn comment<'input>(
     requires here { stands (word_text word.CommentStart) cursor.old.text.now cursor.old.pos ≡ true }
     requires fine { IsConsistent builder.old.tables builder.old.opened.items }
     ensures value { (limit end : ℕ) (s : State) → IsInState limit end s cursor.old builder.old
-        → ScansTo limit end result cursor.new builder.new (lifted (machine.comment_step limit cursor.old.text.now s)) }
+        → ScansTo limit end result cursor.new builder.new
+        (lifted (machine.comment_step limit cursor.old.text.now s)) }
     ensures fine { OnOk result (IsConsistent builder.new.tables builder.new.opened.items) }
     ensures source { cursor.new.text ≡ cursor.old.text }
 {
@@ -63,7 +64,8 @@ pub fn instruction<'input>(
     requires here { stands (word_text word.PIStart) cursor.old.text.now cursor.old.pos ≡ true }
     requires fine { IsConsistent builder.old.tables builder.old.opened.items }
     ensures value { (limit end : ℕ) (s : State) → IsInState limit end s cursor.old builder.old
-        → ScansTo limit end result cursor.new builder.new (lifted (machine.instruction_step limit cursor.old.text.now s)) }
+        → ScansTo limit end result cursor.new builder.new
+        (lifted (machine.instruction_step limit cursor.old.text.now s)) }
     ensures fine { OnOk result (IsConsistent builder.new.tables builder.new.opened.items) }
     ensures source { cursor.new.text ≡ cursor.old.text }
 {
@@ -81,18 +83,23 @@ pub fn instruction<'input>(
 }
 
 /// A CDATA section, from `<![CDATA[`.
-fn cdata<'input>(cursor: &mut Cursor<'input>, builder: &mut Builder<'input>) -> Result<(), Failure>
+fn cdata<'input>(
+    alloc: Global,
+    cursor: &mut Cursor<'input>,
+    builder: &mut Builder<'input>,
+) -> Result<(), Failure>
     requires here { stands (word_text word.CDataStart) cursor.old.text.now cursor.old.pos ≡ true }
     requires fine { IsConsistent builder.old.tables builder.old.opened.items }
     ensures value { (limit end : ℕ) (s : State) → IsInState limit end s cursor.old builder.old
-        → ScansTo limit end result cursor.new builder.new (lifted (machine.cdata_step limit cursor.old.text.now s)) }
+        → ScansTo limit end result cursor.new builder.new
+        (lifted (machine.cdata_step limit cursor.old.text.now s)) }
     ensures fine { OnOk result (IsConsistent builder.new.tables builder.new.opened.items) }
     ensures source { cursor.new.text ≡ cursor.old.text }
 {
     let start = cursor.pos;
     let raw = cursor.cdata(&builder.finders)?;
     let piece = cdata_text(raw, &mut builder.buffers.scratch)?;
-    builder.piece(start, cursor.pos, piece)
+    builder.piece(alloc, start, cursor.pos, piece)
 }
 
 /// What `<!` begins.
@@ -106,8 +113,10 @@ fn comment_or_section<'input>(
     requires here { slice_index cursor.old.text.now cursor.old.pos ≡ 60 }
     requires next { slice_index cursor.old.text.now (cursor.old.pos + 1) ≡ 33 }
     requires fine { IsConsistent builder.old.tables builder.old.opened.items }
-    ensures value { (context : machine.Context) (end : ℕ) (s : State) → IsInState context.limit end s cursor.old builder.old
-        → ScansTo context.limit end result cursor.new builder.new (machine.step context cursor.old.text.now s) }
+    ensures value { (context : machine.Context) (end : ℕ) (s : State)
+        → IsInState context.limit end s cursor.old builder.old
+        → ScansTo context.limit end result cursor.new builder.new
+        (machine.step context cursor.old.text.now s) }
     ensures fine { OnOk result (IsConsistent builder.new.tables builder.new.opened.items) }
     ensures source { cursor.new.text ≡ cursor.old.text }
 {
@@ -115,14 +124,15 @@ fn comment_or_section<'input>(
         return comment(alloc, cursor, builder);
     }
     if cursor.starts(Word::CDataStart) {
-        return cdata(cursor, builder);
+        return cdata(alloc, cursor, builder);
     }
     Err(Failure::Fault(Fault::UnknownToken(cursor.pos)))
 }
 
 /// The fault of a start tag that is cut off by the end of the text.
 fn cut_off_fault(builder: &Builder<'_>, context: Context<'_, '_>) -> Fault
-    ensures { (end : ℕ) (stack : Open) (done : Forest Item) → Represents end stack done builder.now → result ≡ machine.cut_off_fault context.entry.main stack }
+    ensures { (end : ℕ) (stack : Open) (done : Forest Item) → Represents end stack done builder.now
+        → result ≡ machine.cut_off_fault context.entry.main stack }
 {
     if !context.main {
         Fault::UnexpectedEndOfStream
@@ -143,8 +153,10 @@ pub fn element<'input>(
     requires there { cursor.old.pos < length cursor.old.text.now }
     requires here { slice_index cursor.old.text.now cursor.old.pos ≡ 60 }
     requires fine { IsConsistent builder.old.tables builder.old.opened.items }
-    ensures value { (limit end : ℕ) (es : List Entity) (s : State) → AreDeclared es context.entry.entities.now → IsInState limit end s cursor.old builder.old
-        → ParsesTo limit end result cursor.new builder.new (machine.tag_step (context_of limit es context.entry) cursor.old.text.now s) }
+    ensures value { (limit end : ℕ) (es : List Entity) (s : State)
+        → AreDeclared es context.entry.entities.now → IsInState limit end s cursor.old builder.old
+        → ParsesTo limit end result cursor.new builder.new
+        (machine.tag_step (context_of limit es context.entry) cursor.old.text.now s) }
     ensures fine { OnOk result (IsConsistent builder.new.tables builder.new.opened.items) }
     ensures source { cursor.new.text ≡ cursor.old.text }
 {
@@ -152,16 +164,13 @@ pub fn element<'input>(
     let cut = cut_off_fault(builder, context);
     let openings_left = builder.openings_left;
     let above = builder.scope();
-    let tag = start_tag(
-        alloc,
-        cursor,
-        &mut builder.tables,
-        &mut builder.buffers,
+    let around = TagContext {
         above,
         cut,
-        context,
         openings_left,
-    )?;
+    };
+    let (tables, buffers) = (&mut builder.tables, &mut builder.buffers);
+    let tag = start_tag(alloc, cursor, tables, buffers, around, context)?;
     builder.openings_left = tag.openings_left;
     if tag.empty {
         builder.leaf(alloc, start, cursor.pos, NodeKind::Element(tag.element))?;
@@ -196,7 +205,7 @@ fn name_span(name: QName<'_>, start: usize, end: usize) -> Span
 /// Whether two names are written alike.
 #[inline(always)]
 pub fn same_qname(one: QName<'_>, other: QName<'_>) -> bool
-    ensures { result ≡ machine.same_qname (name_view one.entry) (name_view other.entry) }
+    ensures { result ≡ same_qname (name_view one.entry) (name_view other.entry) }
 {
     same_text(one.prefix, other.prefix) && same_text(one.local, other.local)
 }
@@ -211,8 +220,10 @@ pub fn end_tag<'input>(
 ) -> Result<(), Failure>
     requires here { stands (word_text word.EndTagStart) cursor.old.text.now cursor.old.pos ≡ true }
     requires fine { IsConsistent builder.old.tables builder.old.opened.items }
-    ensures value { (limit end : ℕ) (es : List Entity) (s : State) → IsInState limit end s cursor.old builder.old
-        → ScansTo limit end result cursor.new builder.new (lifted (machine.end_step (context_of limit es context.entry) cursor.old.text.now s)) }
+    ensures value { (limit end : ℕ) (es : List Entity) (s : State)
+        → IsInState limit end s cursor.old builder.old
+        → ScansTo limit end result cursor.new builder.new
+        (lifted (machine.end_step (context_of limit es context.entry) cursor.old.text.now s)) }
     ensures fine { OnOk result (IsConsistent builder.new.tables builder.new.opened.items) }
     ensures source { cursor.new.text ≡ cursor.old.text }
 {
@@ -246,8 +257,10 @@ pub fn markup<'input>(
     requires here { slice_index cursor.old.text.now cursor.old.pos ≡ 60 }
     requires no_end_tag { slice_index cursor.old.text.now (cursor.old.pos + 1) ≢ 47 }
     requires fine { IsConsistent builder.old.tables builder.old.opened.items }
-    ensures value { (limit end : ℕ) (es : List Entity) (s : State) → AreDeclared es context.entry.entities.now → IsInState limit end s cursor.old builder.old
-        → ParsesTo limit end result cursor.new builder.new (machine.step (context_of limit es context.entry) cursor.old.text.now s) }
+    ensures value { (limit end : ℕ) (es : List Entity) (s : State)
+        → AreDeclared es context.entry.entities.now → IsInState limit end s cursor.old builder.old
+        → ParsesTo limit end result cursor.new builder.new
+        (machine.step (context_of limit es context.entry) cursor.old.text.now s) }
     ensures fine { OnOk result (IsConsistent builder.new.tables builder.new.opened.items) }
     ensures source { cursor.new.text ≡ cursor.old.text }
 {

@@ -13,62 +13,23 @@ ghost use Rattle.rox_scan.specs.DoctypeViews.{replacement_view};
 ghost use Rattle.rox_values.specs.DeclaredEntities.{AreDeclared};
 ghost use Rattle.rox_values.specs.Contexts.{context_of};
 ghost use Rattle.rox_build.specs.BuilderState.{IsConsistent, IsInState, ParsesTo, HoldsState, ParsesToHeld, GivesPart, Adds, Represents};
-ghost use Rattle.rox_build.specs.DataParts.{GivesDataPart, IsLine, next_part};
+ghost use Rattle.rox_build.specs.DataParts.{GivesDataPart, next_part};
 
 use crate::builder::Builder;
 use crate::constructs::{end_tag, markup};
-use crate::plain_constructs::plain_step;
+use crate::plain_constructs::{plain_step, plain_steps};
 use crate::tag::Buffers;
 use rox_grammar::failure::Failure;
 use rox_grammar::fault::Fault;
-use rox_scan::byte_set::skip_set;
-use rox_scan::character_data::{TextByte, ends_character_data, raw_character_data};
+use rox_scan::character_data::{
+    ends_character_data, line_run_end, plain_run_end, raw_character_data,
+};
 use rox_scan::cursor::Cursor;
-use rox_scan::runs::{after_byte, is_at};
-use rox_scan::search::either_from;
 use rox_values::character_data::data_part;
 use rox_values::context::Context;
 use rox_values::line_ends::line_feeds;
 use rox_values::parse_error::ParseError;
 use std::alloc::Global;
-
-/// Whether a run is a line end, a CR and a LF, and then bytes that stand for themselves.
-#[inline(always)]
-fn is_line(text: &str, start: usize, stop: usize) -> bool
-    requires cut { IsCharBoundary text.now stop }
-    ensures { result ≡ true → IsLine text.now start stop }
-{
-    if !is_at(text, start, b'\r') {
-        return false;
-    }
-    let feed = after_byte(text, start, b'\r');
-    if !is_at(text, feed, b'\n') {
-        return false;
-    }
-    let rest = after_byte(text, feed, b'\n');
-    rest <= stop && either_from(&text[..stop], rest, b'&', b'\r') == stop
-}
-
-/// A piece of text of these bytes that counts as owned: what the source has there is longer. The only fault is that there are too
-/// many nodes.
-#[inline(always)]
-fn changed_piece(
-    builder: &mut Builder<'_>,
-    start: usize,
-    end: usize,
-    text: &str,
-) -> Result<(), Failure>
-    ensures value { (total at : ℕ) (s : State) → Represents total s.stack s.done builder.old
-        → Adds total result builder.new (with_item builder.old.nodes_limit s at (Text start end text.now false)) }
-    ensures tables { builder.new.tables ≡ builder.old.tables }
-    ensures opened { builder.new.opened ≡ builder.old.opened }
-    ensures limit { builder.new.nodes_limit ≡ builder.old.nodes_limit }
-    ensures openings_left { builder.new.openings_left ≡ builder.old.openings_left }
-{
-    builder.buffers.scratch.clear();
-    builder.buffers.scratch.push_str(text)?;
-    builder.buffered_piece(start, end)
-}
 
 /// Character data, up to the next `<` or the end, which is no slice of the source as far as a quick look tells.
 #[cycle(content)]
@@ -80,23 +41,28 @@ fn slow_character_data<'input>(
     context: Context<'_, 'input>,
 ) -> Result<(), ParseError<'input>>
     requires fine { IsConsistent builder.old.tables builder.old.opened.items }
-    ensures value { (limit end : ℕ) (es : List Entity) (s : State) → AreDeclared es context.entry.entities.now → IsInState limit end s cursor.old builder.old
-        → ParsesTo limit end result cursor.new builder.new (machine.character_data_step (context_of limit es context.entry) cursor.old.text.now s) }
+    ensures value { (limit end : ℕ) (es : List Entity) (s : State)
+        → AreDeclared es context.entry.entities.now → IsInState limit end s cursor.old builder.old
+        → ParsesTo limit end result cursor.new builder.new
+        (machine.character_data_step (context_of limit es context.entry) cursor.old.text.now s) }
     ensures fine { OnOk result (IsConsistent builder.new.tables builder.new.opened.items) }
     ensures source { cursor.new.text ≡ cursor.old.text }
 {
     let start = cursor.pos;
+    let text = cursor.text;
+    if context.main {
+        if let Some(end) = line_run_end(text, start) {
+            cursor.pos = end;
+            builder.owned_piece(alloc, start, end, &text[start + 1..end])?;
+            return Ok(());
+        }
+    }
     let raw = raw_character_data(cursor)?;
     if raw.is_verbatim {
         builder.slice_piece(start, cursor.pos, raw.text)?;
         return Ok(());
     }
     let stop = cursor.pos;
-    let text = cursor.text;
-    if context.main && is_line(text, start, stop) {
-        changed_piece(builder, start, stop, &text[start + 1..stop])?;
-        return Ok(());
-    }
     cursor.pos = start;
     data_parts(alloc, cursor, builder, context, start, stop)
 }
@@ -111,14 +77,16 @@ fn character_data<'input>(
     context: Context<'_, 'input>,
 ) -> Result<(), ParseError<'input>>
     requires fine { IsConsistent builder.old.tables builder.old.opened.items }
-    ensures value { (limit end : ℕ) (es : List Entity) (s : State) → AreDeclared es context.entry.entities.now → IsInState limit end s cursor.old builder.old
-        → ParsesTo limit end result cursor.new builder.new (machine.character_data_step (context_of limit es context.entry) cursor.old.text.now s) }
+    ensures value { (limit end : ℕ) (es : List Entity) (s : State)
+        → AreDeclared es context.entry.entities.now → IsInState limit end s cursor.old builder.old
+        → ParsesTo limit end result cursor.new builder.new
+        (machine.character_data_step (context_of limit es context.entry) cursor.old.text.now s) }
     ensures fine { OnOk result (IsConsistent builder.new.tables builder.new.opened.items) }
     ensures source { cursor.new.text ≡ cursor.old.text }
 {
     let start = cursor.pos;
     let text = cursor.text;
-    let near = skip_set::<TextByte>(text, start);
+    let near = plain_run_end(text, start);
     if ends_character_data(text, near) {
         cursor.pos = near;
         builder.slice_piece(start, near, &text[start..near])?;
@@ -139,13 +107,16 @@ fn data_parts<'input>(
 ) -> Result<(), ParseError<'input>>
     requires stop { IsCharBoundary cursor.old.text.now stop }
     requires fine { IsConsistent builder.old.tables builder.old.opened.items }
-    ensures value { (limit end : ℕ) (es : List Entity) (s : State) → AreDeclared es context.entry.entities.now → IsInState limit end s cursor.old builder.old
-        → ParsesTo limit end result cursor.new builder.new (machine.data_parts (context_of limit es context.entry) (length cursor.old.text.now) cursor.old.text.now start stop s) }
+    ensures value { (limit end : ℕ) (es : List Entity) (s : State)
+        → AreDeclared es context.entry.entities.now → IsInState limit end s cursor.old builder.old
+        → ParsesTo limit end result cursor.new builder.new
+        (machine.data_parts (context_of limit es context.entry)
+        (length cursor.old.text.now) cursor.old.text.now start stop s) }
     ensures fine { OnOk result (IsConsistent builder.new.tables builder.new.opened.items) }
     ensures source { cursor.new.text ≡ cursor.old.text }
 {
     for _turn in 0..cursor.text.len() {
-        match part_piece(cursor, builder, context, start, stop)? {
+        match part_piece(alloc, cursor, builder, context, start, stop)? {
             Some(text) => open_text(alloc, cursor.pos, builder, context, text)?,
             None => {
                 cursor.pos = stop;
@@ -166,7 +137,9 @@ fn part<'input>(
 ) -> Result<Option<Cursor<'input>>, Failure>
     requires { IsCharBoundary cursor.old.text.now stop }
     ensures value { (es : List Entity) → AreDeclared es context.entry.entities.now
-        → GivesPart context.entry.main (string_bytes buffers.new.scratch) cursor.new result (spec.data_part context.entry.main es (stop - cursor.old.pos) cursor.old.text.now stop cursor.old.pos) }
+        → GivesPart context.entry.main (string_bytes buffers.new.scratch) cursor.new result
+        (spec.data_part context.entry.main es
+        (stop - cursor.old.pos) cursor.old.text.now stop cursor.old.pos) }
     ensures source { cursor.new.text ≡ cursor.old.text }
 {
     buffers.scratch.clear();
@@ -182,6 +155,7 @@ fn part<'input>(
 /// A part of a run from `start` up to `stop`: its piece, if it has a character. It ends at the run's end or a reference to an
 /// entity, whose replacement text it answers.
 fn part_piece<'input>(
+    alloc: Global,
     cursor: &mut Cursor<'input>,
     builder: &mut Builder<'input>,
     context: Context<'_, 'input>,
@@ -190,8 +164,10 @@ fn part_piece<'input>(
 ) -> Result<Option<Cursor<'input>>, Failure>
     requires stop { IsCharBoundary cursor.old.text.now stop }
     requires fine { IsConsistent builder.old.tables builder.old.opened.items }
-    ensures value { (limit end : ℕ) (es : List Entity) (s : State) → AreDeclared es context.entry.entities.now → IsInState limit end s cursor.old builder.old
-        → GivesDataPart limit end result cursor.new builder.new (next_part (context_of limit es context.entry) cursor.old.text.now start stop s) }
+    ensures value { (limit end : ℕ) (es : List Entity) (s : State)
+        → AreDeclared es context.entry.entities.now → IsInState limit end s cursor.old builder.old
+        → GivesDataPart limit end result cursor.new builder.new
+        (next_part (context_of limit es context.entry) cursor.old.text.now start stop s) }
     ensures fine { OnOk result (IsConsistent builder.new.tables builder.new.opened.items) }
     ensures source { cursor.new.text ≡ cursor.old.text }
 {
@@ -199,7 +175,7 @@ fn part_piece<'input>(
     if builder.buffers.scratch.is_empty() {
         return Ok(next);
     }
-    builder.buffered_piece(start, stop)?;
+    builder.buffered_piece(alloc, start, stop)?;
     Ok(next)
 }
 
@@ -215,8 +191,11 @@ fn open_text<'input>(
     text: Cursor<'input>,
 ) -> Result<(), ParseError<'input>>
     requires fine { IsConsistent builder.old.tables builder.old.opened.items }
-    ensures value { (limit end : ℕ) (es : List Entity) (s : State) → AreDeclared es context.entry.entities.now → HoldsState limit end s builder.old
-        → ParsesToHeld limit end result builder.new (machine.opener limit es context.entry.depth_left context.entry.main (replacement_view text.entry) after s) }
+    ensures value { (limit end : ℕ) (es : List Entity) (s : State)
+        → AreDeclared es context.entry.entities.now → HoldsState limit end s builder.old
+        → ParsesToHeld limit end result builder.new
+        (machine.opener limit es context.entry.depth_left context.entry.main
+        (replacement_view text.entry) after s) }
     ensures fine { OnOk result (IsConsistent builder.new.tables builder.new.opened.items) }
 {
     let before = builder.openings_left;
@@ -240,8 +219,12 @@ fn content_text<'input>(
     text: Cursor<'input>,
 ) -> Result<(), ParseError<'input>>
     requires fine { IsConsistent builder.old.tables builder.old.opened.items }
-    ensures value { (limit end : ℕ) (es : List Entity) (s : State) → AreDeclared es context.entry.entities.now → HoldsState limit end s builder.old → s.at ≡ text.entry.pos
-        → ParsesToHeld limit end result builder.new (machine.drive_text (context_of limit es context.entry) (length text.entry.text.now) text.entry.text.now s) }
+    ensures value { (limit end : ℕ) (es : List Entity) (s : State)
+        → AreDeclared es context.entry.entities.now → HoldsState limit end s builder.old
+        → s.at ≡ text.entry.pos
+        → ParsesToHeld limit end result builder.new
+        (machine.drive_text (context_of limit es context.entry)
+        (length text.entry.text.now) text.entry.text.now s) }
     ensures fine { OnOk result (IsConsistent builder.new.tables builder.new.opened.items) }
 {
     let mut cursor = text;
@@ -259,7 +242,9 @@ fn text_end<'input>(
     builder: &Builder<'input>,
     context: Context<'_, 'input>,
 ) -> Result<(), ParseError<'input>>
-    ensures { (limit end : ℕ) (es : List Entity) (s : State) → HoldsState limit end s builder.now → ParsesToHeld limit end result builder.now (machine.text_ends (context_of limit es context.entry) s) }
+    ensures { (limit end : ℕ) (es : List Entity) (s : State) → HoldsState limit end s builder.now
+        → ParsesToHeld limit end result builder.now
+        (machine.text_ends (context_of limit es context.entry) s) }
 {
     if builder.opened.len() == context.open_around {
         Ok(())
@@ -280,8 +265,10 @@ fn general_step<'input>(
 ) -> Result<(), ParseError<'input>>
     requires there { cursor.old.pos < length cursor.old.text.now }
     requires fine { IsConsistent builder.old.tables builder.old.opened.items }
-    ensures value { (limit end : ℕ) (es : List Entity) (s : State) → AreDeclared es context.entry.entities.now → IsInState limit end s cursor.old builder.old
-        → ParsesTo limit end result cursor.new builder.new (machine.step (context_of limit es context.entry) cursor.old.text.now s) }
+    ensures value { (limit end : ℕ) (es : List Entity) (s : State)
+        → AreDeclared es context.entry.entities.now → IsInState limit end s cursor.old builder.old
+        → ParsesTo limit end result cursor.new builder.new
+        (machine.step (context_of limit es context.entry) cursor.old.text.now s) }
     ensures fine { OnOk result (IsConsistent builder.new.tables builder.new.opened.items) }
     ensures source { cursor.new.text ≡ cursor.old.text }
 {
@@ -312,8 +299,10 @@ fn step<'input>(
 ) -> Result<(), ParseError<'input>>
     requires there { cursor.old.pos < length cursor.old.text.now }
     requires fine { IsConsistent builder.old.tables builder.old.opened.items }
-    ensures value { (limit end : ℕ) (es : List Entity) (s : State) → AreDeclared es context.entry.entities.now → IsInState limit end s cursor.old builder.old
-        → ParsesTo limit end result cursor.new builder.new (machine.step (context_of limit es context.entry) cursor.old.text.now s) }
+    ensures value { (limit end : ℕ) (es : List Entity) (s : State)
+        → AreDeclared es context.entry.entities.now → IsInState limit end s cursor.old builder.old
+        → ParsesTo limit end result cursor.new builder.new
+        (machine.step (context_of limit es context.entry) cursor.old.text.now s) }
     ensures fine { OnOk result (IsConsistent builder.new.tables builder.new.opened.items) }
     ensures source { cursor.new.text ≡ cursor.old.text }
 {
@@ -332,19 +321,38 @@ pub fn content<'input>(
     context: Context<'_, 'input>,
 ) -> Result<(), ParseError<'input>>
     requires fine { IsConsistent builder.old.tables builder.old.opened.items }
-    ensures value { (limit end : ℕ) (es : List Entity) (s : State) → AreDeclared es context.entry.entities.now → IsInState limit end s cursor.old builder.old
-        → ParsesTo limit end result cursor.new builder.new (machine.drive (context_of limit es context.entry) (length cursor.old.text.now) cursor.old.text.now s) }
+    ensures value { (limit end : ℕ) (es : List Entity) (s : State)
+        → AreDeclared es context.entry.entities.now → IsInState limit end s cursor.old builder.old
+        → ParsesTo limit end result cursor.new builder.new
+        (machine.drive (context_of limit es context.entry)
+        (length cursor.old.text.now) cursor.old.text.now s) }
     ensures fine { OnOk result (IsConsistent builder.new.tables builder.new.opened.items) }
     ensures source { cursor.new.text ≡ cursor.old.text }
 {
-    for _turn in 0..cursor.text.len() {
+    let mut left = cursor.text.len();
+    while left > 0 {
         if builder.is_at_root() {
             return Ok(());
         }
         if cursor.is_at_end() {
             return Err(ParseError::Fault(Fault::UnclosedRootNode));
         }
-        step(alloc, cursor, builder, context)?;
+        let read = plain_steps(cursor, builder, context.open_around, left > 1);
+        if read == 1 {
+            left -= 1;
+            continue;
+        }
+        if read == 2 {
+            left -= 2;
+            continue;
+        }
+        if read == 3 {
+            general_step(alloc, cursor, builder, context)?;
+            left -= 2;
+            continue;
+        }
+        general_step(alloc, cursor, builder, context)?;
+        left -= 1;
     }
     if builder.is_at_root() {
         Ok(())

@@ -33,7 +33,9 @@ fn answer_for<'input, R: EntityResolver<'input>>(
     resolver: &Option<R>,
 ) -> Result<Option<Cursor<'input>>, ParseError<'input>>
     requires { MayAsk R.can_resolve resolver.now }
-    ensures { AskOutcome (Allows R.allows resolver.now) (reading.defined (reading.outer (request_view id.entry)) at) (IsDefined (reading.outer (request_view id.entry)) at) result }
+    ensures { AskOutcome (Allows R.allows resolver.now)
+        (reading.defined (reading.outer (request_view id.entry)) at)
+        (IsDefined (reading.outer (request_view id.entry)) at) result }
 {
     match ask(resolver, id.public_id, id.uri) {
         Ok(Some(answer)) => match replacement_in(answer) {
@@ -52,7 +54,9 @@ fn text_of<'input, R: EntityResolver<'input>>(
     resolver: &Option<R>,
 ) -> Result<Option<Cursor<'input>>, ParseError<'input>>
     requires { MayAsk R.can_resolve resolver.now }
-    ensures { AskOutcome (Allows R.allows resolver.now) (reading.defined (definition_view definition.entry) at) (IsDefined (definition_view definition.entry) at) result }
+    ensures { AskOutcome (Allows R.allows resolver.now)
+        (reading.defined (definition_view definition.entry) at)
+        (IsDefined (definition_view definition.entry) at) result }
 {
     match definition {
         Definition::Inner(text) => Ok(Some(text)),
@@ -69,8 +73,11 @@ fn entity<'input, R: EntityResolver<'input>>(
     requires here { stands (word_text word.EntityStart) cursor.old.text.now cursor.old.pos ≡ true }
     requires may { MayAsk R.can_resolve resolver.now }
     ensures value { (d : Dtd) → cursor.old.pos ≡ d.state.at → AreDeclared d.entities entities.old
-        → AskOutcome (Allows R.allows resolver.now) (λ replies. reading.entity_step cursor.old.text.now (left_with replies d))
-        (λ asked x. IsEntityRead (λ replies. reading.entity_step cursor.old.text.now (left_with replies d)) d cursor.new entities.new asked) result }
+        → AskOutcome (Allows R.allows resolver.now)
+        (λ replies. reading.entity_step cursor.old.text.now (left_with replies d))
+        (λ asked x. IsEntityRead
+        (λ replies. reading.entity_step cursor.old.text.now (left_with replies d)) d cursor.new
+        entities.new asked) result }
     ensures source { cursor.new.text ≡ cursor.old.text }
 {
     let head = cursor.entity_head()?;
@@ -98,8 +105,10 @@ fn item<'input, R: EntityResolver<'input>>(
     requires may { MayAsk R.can_resolve resolver.now }
     requires fine { IsConsistent builder.old.tables builder.old.opened.items }
     ensures value { (limit end n m : ℕ) (run : List Reply → Asks Dtd) → n ≡ suc m
-        → IsSubsetSoFar limit end start n cursor.old.text.now (Allows R.allows resolver.now) run cursor.old builder.old entities.old
-        → ItemOutcome limit end start m cursor.old.text.now (Allows R.allows resolver.now) run cursor.new builder.new entities.new result }
+        → IsSubsetSoFar limit end start n cursor.old.text.now
+        (Allows R.allows resolver.now) run cursor.old builder.old entities.old
+        → ItemOutcome limit end start m cursor.old.text.now
+        (Allows R.allows resolver.now) run cursor.new builder.new entities.new result }
     ensures fine { OnOk result (IsConsistent builder.new.tables builder.new.opened.items) }
     ensures source { cursor.new.text ≡ cursor.old.text }
 {
@@ -139,9 +148,14 @@ fn subset<'input, R: EntityResolver<'input>>(
 ) -> Result<(), ParseError<'input>>
     requires may { MayAsk R.can_resolve resolver.now }
     requires fine { IsConsistent builder.old.tables builder.old.opened.items }
-    ensures value { (limit end : ℕ) (d : Dtd) → IsInState limit end d.state cursor.old builder.old → AreDeclared d.entities entities.old
-        → AskOutcome (Allows R.allows resolver.now) (λ replies. reading.subset limit start (length cursor.old.text.now) cursor.old.text.now (left_with replies d))
-        (λ asked x. IsDoctypeRead limit end (λ replies. reading.subset limit start (length cursor.old.text.now) cursor.old.text.now (left_with replies d)) cursor.new builder.new entities.new asked) result }
+    ensures value { (limit end : ℕ) (d : Dtd) → IsInState limit end d.state cursor.old builder.old
+        → AreDeclared d.entities entities.old
+        → AskOutcome (Allows R.allows resolver.now)
+        (λ replies. reading.subset limit start (length cursor.old.text.now) cursor.old.text.now
+        (left_with replies d))
+        (λ asked x. IsDoctypeRead limit end
+        (λ replies. reading.subset limit start (length cursor.old.text.now) cursor.old.text.now
+        (left_with replies d)) cursor.new builder.new entities.new asked) result }
     ensures fine { OnOk result (IsConsistent builder.new.tables builder.new.opened.items) }
     ensures source { cursor.new.text ≡ cursor.old.text }
 {
@@ -167,9 +181,13 @@ pub fn document_type<'input, R: EntityResolver<'input>>(
     requires here { stands (word_text word.DoctypeStart) cursor.old.text.now cursor.old.pos ≡ true }
     requires may { MayAsk R.can_resolve resolver.now }
     requires fine { IsConsistent builder.old.tables builder.old.opened.items }
-    ensures value { (limit end : ℕ) (d : Dtd) → IsInState limit end d.state cursor.old builder.old → AreDeclared d.entities entities.old
-        → AskOutcome (Allows R.allows resolver.now) (λ replies. reading.doctype_step limit cursor.old.text.now (left_with replies d))
-        (λ asked x. IsDoctypeRead limit end (λ replies. reading.doctype_step limit cursor.old.text.now (left_with replies d)) cursor.new builder.new entities.new asked) result }
+    ensures value { (limit end : ℕ) (d : Dtd) → IsInState limit end d.state cursor.old builder.old
+        → AreDeclared d.entities entities.old
+        → AskOutcome (Allows R.allows resolver.now)
+        (λ replies. reading.doctype_step limit cursor.old.text.now (left_with replies d))
+        (λ asked x. IsDoctypeRead limit end
+        (λ replies. reading.doctype_step limit cursor.old.text.now (left_with replies d)) cursor.new
+        builder.new entities.new asked) result }
     ensures fine { OnOk result (IsConsistent builder.new.tables builder.new.opened.items) }
     ensures source { cursor.new.text ≡ cursor.old.text }
 {

@@ -4,7 +4,7 @@
 #[derive(Clone, Copy)]
 pub enum Pending {
     None,
-    /// One piece, a slice of the source, whose row is the last.
+    /// One piece, whose row is the last.
     Written,
     /// Pieces in a buffer, with the range of the first.
     Joined(usize, usize),

@@ -2,11 +2,13 @@
 //! Nothing fails here: what is not plain, or finds no room, is left to the general step, which reads that one construct from the
 //! same place.
 
-ghost use Rattle.std.specs.Prelude.{◌≡◌, ◌≢◌, ◌<◌, ◌+◌, ◌-◌, ℕ, Ok, length, take, slice_index, true, false};
+ghost use Rattle.std.specs.Prelude.{◌≡◌, ◌≢◌, ◌<◌, ◌≤◌, ◌+◌, ◌-◌, ◌^◌, ℕ, Ok, length, take, slice_index, true, false};
 ghost use Rattle.rox_reading.specs.Machine as machine;
 ghost use Rattle.rox_reading.specs.Refusals.{lifted};
 ghost use Rattle.rox_reading.specs.State.{State};
+ghost use Rattle.rox_grammar.specs.State.{is_root};
 ghost use Rattle.rox_build.specs.BuilderState.{IsConsistent, IsInState, IsReady, KeepsState, ScansTo};
+ghost use Rattle.rox_build.specs.PlainSteps.{StepsOnce, StepsTwice};
 ghost use Rattle.rox_build.specs.PendingText.{waiting};
 
 use crate::builder::Builder;
@@ -16,14 +18,19 @@ use rox_scan::byte_set::skip_set;
 use rox_scan::character_data::{TextByte, ends_character_data};
 use rox_scan::cursor::Cursor;
 use rox_scan::runs::{after_byte, is_at, space_end};
-use rox_tables::rows::tables::NodeKind;
+
+/// The most bytes of a text whose places all fit rows.
+const MOST_BYTES: usize = 4294967295;
 
 /// Character data, up to the next `<` or the end, if it is a slice of the source, and no text is open that it goes on with.
 #[inline(always)]
 fn plain_character_data<'input>(cursor: &mut Cursor<'input>, builder: &mut Builder<'input>) -> bool
+    requires short { length cursor.old.text.now < 2 ^ 32 }
     requires ready { IsReady builder.old }
-    ensures value { result ≡ true → (context : machine.Context) (end : ℕ) (s : State) → IsInState context.limit end s cursor.old builder.old
-        → ScansTo context.limit end (Ok tt) cursor.new builder.new (machine.character_data_step context cursor.old.text.now s) }
+    ensures value { result ≡ true → (context : machine.Context) (end : ℕ) (s : State)
+        → IsInState context.limit end s cursor.old builder.old
+        → ScansTo context.limit end (Ok tt) cursor.new builder.new
+        (machine.character_data_step context cursor.old.text.now s) }
     ensures other { result ≡ false → (cursor.new ≡ cursor.old) × (builder.new ≡ builder.old) }
     ensures tables { builder.new.tables ≡ builder.old.tables }
     ensures opened { builder.new.opened ≡ builder.old.opened }
@@ -49,10 +56,13 @@ fn plain_character_data<'input>(cursor: &mut Cursor<'input>, builder: &mut Build
 fn plain_end_tag(cursor: &mut Cursor<'_>, builder: &mut Builder<'_>, open_around: usize) -> bool
     requires here { slice_index cursor.old.text.now cursor.old.pos ≡ 60 }
     requires next { slice_index cursor.old.text.now (cursor.old.pos + 1) ≡ 47 }
+    requires short { length cursor.old.text.now < 2 ^ 32 }
     requires settled { waiting builder.old.pending ≡ 0 }
     requires fine { IsConsistent builder.old.tables builder.old.opened.items }
-    ensures value { result ≡ true → (context : machine.Context) (end : ℕ) (s : State) → context.open_around ≡ open_around → IsInState context.limit end s cursor.old builder.old
-        → ScansTo context.limit end (Ok tt) cursor.new builder.new (lifted (machine.end_step context cursor.old.text.now s)) }
+    ensures value { result ≡ true → (context : machine.Context) (end : ℕ) (s : State)
+        → context.open_around ≡ open_around → IsInState context.limit end s cursor.old builder.old
+        → ScansTo context.limit end (Ok tt) cursor.new builder.new
+        (lifted (machine.end_step context cursor.old.text.now s)) }
     ensures other { result ≡ false → (cursor.new ≡ cursor.old) × (builder.new ≡ builder.old) }
     ensures fine { IsConsistent builder.new.tables builder.new.opened.items }
     ensures source { cursor.new.text ≡ cursor.old.text }
@@ -82,11 +92,15 @@ fn plain_end_tag(cursor: &mut Cursor<'_>, builder: &mut Builder<'_>, open_around
 #[inline(never)]
 fn plain_element<'input>(cursor: &mut Cursor<'input>, builder: &mut Builder<'input>) -> bool
     requires here { slice_index cursor.old.text.now cursor.old.pos ≡ 60 }
+    requires short { length cursor.old.text.now < 2 ^ 32 }
     requires ready { IsReady builder.old }
     requires fine { IsConsistent builder.old.tables builder.old.opened.items }
-    ensures value { result ≡ true → (context : machine.Context) (end : ℕ) (s : State) → IsInState context.limit end s cursor.old builder.old
-        → ScansTo context.limit end (Ok tt) cursor.new builder.new (machine.tag_step context cursor.old.text.now s) }
-    ensures other { result ≡ false → (cursor.new ≡ cursor.old) × KeepsState builder.old builder.new }
+    ensures value { result ≡ true → (context : machine.Context) (end : ℕ) (s : State)
+        → IsInState context.limit end s cursor.old builder.old
+        → ScansTo context.limit end (Ok tt) cursor.new builder.new
+        (machine.tag_step context cursor.old.text.now s) }
+    ensures other { result ≡ false → (cursor.new ≡ cursor.old)
+        × KeepsState builder.old builder.new }
     ensures fine { IsConsistent builder.new.tables builder.new.opened.items }
     ensures source { cursor.new.text ≡ cursor.old.text }
 {
@@ -104,37 +118,37 @@ fn plain_element<'input>(cursor: &mut Cursor<'input>, builder: &mut Builder<'inp
     };
     cursor.pos = read.end;
     if read.tag.empty {
-        builder.put_leaf(start, read.end, NodeKind::Element(read.tag.element));
+        builder.put_leaf(start, read.end, read.tag.element);
         return true;
     }
     builder.put_open(start, &read.tag);
     true
 }
 
-/// The construct that stands here, if it is plain and finds room; else nothing is read.
+/// What `<` begins, if it is plain and finds room; else nothing is read.
 #[inline(always)]
 #[tactic(auto, unfolding(rox_reading::specs::Machine::step))]
-pub fn plain_step<'input>(
+fn plain_markup<'input>(
     cursor: &mut Cursor<'input>,
     builder: &mut Builder<'input>,
     open_around: usize,
 ) -> bool
-    requires there { cursor.old.pos < length cursor.old.text.now }
+    requires here { slice_index cursor.old.text.now cursor.old.pos ≡ 60 }
+    requires short { length cursor.old.text.now < 2 ^ 32 }
+    requires ready { IsReady builder.old }
     requires fine { IsConsistent builder.old.tables builder.old.opened.items }
-    ensures value { result ≡ true → (context : machine.Context) (end : ℕ) (s : State) → context.open_around ≡ open_around → IsInState context.limit end s cursor.old builder.old
-        → ScansTo context.limit end (Ok tt) cursor.new builder.new (machine.step context cursor.old.text.now s) }
-    ensures other { result ≡ false → (context : machine.Context) (end : ℕ) (s : State) → IsInState context.limit end s cursor.old builder.old → IsInState context.limit end s cursor.new builder.new }
+    ensures value { result ≡ true → (context : machine.Context) (end : ℕ) (s : State)
+        → context.open_around ≡ open_around → IsInState context.limit end s cursor.old builder.old
+        → ScansTo context.limit end (Ok tt) cursor.new builder.new
+        (machine.step context cursor.old.text.now s) }
+    ensures other { result ≡ false → (context : machine.Context) (end : ℕ) (s : State)
+        → IsInState context.limit end s cursor.old builder.old
+        → IsInState context.limit end s cursor.new builder.new }
     ensures place { result ≡ false → cursor.new ≡ cursor.old }
     ensures fine { IsConsistent builder.new.tables builder.new.opened.items }
     ensures source { cursor.new.text ≡ cursor.old.text }
 {
-    if !builder.is_ready() {
-        return false;
-    }
     let bytes = cursor.text.as_bytes();
-    if bytes[cursor.pos] != b'<' {
-        return plain_character_data(cursor, builder);
-    }
     if cursor.pos + 1 >= bytes.len() {
         return false;
     }
@@ -146,4 +160,84 @@ pub fn plain_step<'input>(
         return false;
     }
     plain_element(cursor, builder)
+}
+
+/// The construct that stands here, if it is plain and finds room, and behind a run also what ends it, where `two` may be read.
+/// Answers how many were read, or 3 where a run was read and what ends it is not plain.
+#[inline(always)]
+pub fn plain_steps<'input>(
+    cursor: &mut Cursor<'input>,
+    builder: &mut Builder<'input>,
+    open_around: usize,
+    two: bool,
+) -> usize
+    requires there { cursor.old.pos < length cursor.old.text.now }
+    requires fine { IsConsistent builder.old.tables builder.old.opened.items }
+    ensures one { result ≡ 1 → (context : machine.Context) (end : ℕ) (s : State)
+        → context.open_around ≡ open_around → IsInState context.limit end s cursor.old builder.old
+        → ScansTo context.limit end (Ok tt) cursor.new builder.new
+        (machine.step context cursor.old.text.now s) }
+    ensures two { result ≡ 2 → (two ≡ true) × ((context : machine.Context) (end : ℕ) (s : State)
+        → context.open_around ≡ open_around → IsInState context.limit end s cursor.old builder.old
+        → is_root s.stack ≡ false
+        → StepsTwice context end cursor.new builder.new cursor.old.text.now s) }
+    ensures apart { result ≡ 3 → (two ≡ true) × ((context : machine.Context) (end : ℕ) (s : State)
+        → context.open_around ≡ open_around → IsInState context.limit end s cursor.old builder.old
+        → is_root s.stack ≡ false
+        → StepsOnce context end cursor.new builder.new cursor.old.text.now s) }
+    ensures inside { result ≡ 3 → cursor.new.pos < length cursor.old.text.now }
+    ensures none { result ≡ 0 → (context : machine.Context) (end : ℕ) (s : State)
+        → IsInState context.limit end s cursor.old builder.old
+        → IsInState context.limit end s cursor.new builder.new }
+    ensures place { result ≡ 0 → cursor.new ≡ cursor.old }
+    ensures count { result ≤ 3 }
+    ensures fine { IsConsistent builder.new.tables builder.new.opened.items }
+    ensures source { cursor.new.text ≡ cursor.old.text }
+{
+    if !builder.is_ready() {
+        return 0;
+    }
+    let bytes = cursor.text.as_bytes();
+    if bytes.len() > MOST_BYTES {
+        return 0;
+    }
+    if bytes[cursor.pos] == b'<' {
+        if plain_markup(cursor, builder, open_around) {
+            return 1;
+        }
+        return 0;
+    }
+    if !plain_character_data(cursor, builder) {
+        return 0;
+    }
+    if !two || !is_at(cursor.text, cursor.pos, b'<') || !builder.is_ready() {
+        return 1;
+    }
+    if plain_markup(cursor, builder, open_around) {
+        return 2;
+    }
+    3
+}
+
+/// The construct that stands here, if it is plain and finds room; else nothing is read.
+#[inline(always)]
+pub fn plain_step<'input>(
+    cursor: &mut Cursor<'input>,
+    builder: &mut Builder<'input>,
+    open_around: usize,
+) -> bool
+    requires there { cursor.old.pos < length cursor.old.text.now }
+    requires fine { IsConsistent builder.old.tables builder.old.opened.items }
+    ensures value { result ≡ true → (context : machine.Context) (end : ℕ) (s : State)
+        → context.open_around ≡ open_around → IsInState context.limit end s cursor.old builder.old
+        → ScansTo context.limit end (Ok tt) cursor.new builder.new
+        (machine.step context cursor.old.text.now s) }
+    ensures other { result ≡ false → (context : machine.Context) (end : ℕ) (s : State)
+        → IsInState context.limit end s cursor.old builder.old
+        → IsInState context.limit end s cursor.new builder.new }
+    ensures place { result ≡ false → cursor.new ≡ cursor.old }
+    ensures fine { IsConsistent builder.new.tables builder.new.opened.items }
+    ensures source { cursor.new.text ≡ cursor.old.text }
+{
+    plain_steps(cursor, builder, open_around, false) == 1
 }

@@ -46,7 +46,8 @@ pub struct PlainName<'input> {
 #[tactic(auto, unfolding(rox_reading::specs::Lexical::qname_at))]
 pub fn plain_name<'input>(text: &'input str, start: usize) -> Option<PlainName<'input>>
     requires { IsCharBoundary text.now start }
-    ensures value { IfSome result (λ n. qname_at text.entry.now start ≡ Ok (name_view n.name, n.end)) }
+    ensures value { IfSome result (λ n. qname_at text.entry.now start
+        ≡ Ok (name_view n.name, n.end)) }
     ensures onward { IfSome result (λ n. start ≤ n.end) }
     ensures cut { IfSome result (λ n. IsCharBoundary text.entry.now n.end) }
 {
@@ -74,7 +75,8 @@ fn second_part<'input>(text: &'input str, start: usize, colon: usize) -> Option<
     requires first { colon ≡ run_end is_part_char text.now start }
     requires begins { begins is_name_start text.now start ≡ true }
     requires here { slice_index text.now colon ≡ 58 }
-    ensures value { IfSome result (λ n. qname_at text.entry.now start ≡ Ok (name_view n.name, n.end)) }
+    ensures value { IfSome result (λ n. qname_at text.entry.now start
+        ≡ Ok (name_view n.name, n.end)) }
     ensures onward { IfSome result (λ n. start ≤ n.end) }
     ensures cut { IfSome result (λ n. IsCharBoundary text.entry.now n.end) }
 {
@@ -96,7 +98,8 @@ fn second_part<'input>(text: &'input str, start: usize, colon: usize) -> Option<
 fn verbatim_value_end(text: &str, start: usize, quote: u8) -> usize
     requires cut { IsCharBoundary text.now start }
     requires quote { (quote == 39 || quote == 34) ≡ true }
-    ensures read { 0 < result → raw_value_at quote text.now start ≡ Ok (slice_range text.now start result, result) }
+    ensures read { 0 < result
+        → raw_value_at quote text.now start ≡ Ok (slice_range text.now start result, result) }
     ensures verbatim { 0 < result → is_verbatim_value (slice_range text.now start result) ≡ true }
     ensures here { 0 < result → slice_index text.now result ≡ quote }
     ensures onward { 0 < result → start ≤ result }
@@ -116,8 +119,10 @@ fn verbatim_value_end(text: &str, start: usize, quote: u8) -> usize
 fn plain_value_end(text: &str, start: usize, quote: u8) -> Option<usize>
     requires cut { IsCharBoundary text.now start }
     requires quote { (quote == 39 || quote == 34) ≡ true }
-    ensures read { IfSome result (λ j. raw_value_at quote text.now start ≡ Ok (slice_range text.now start j, j)) }
-    ensures verbatim { IfSome result (λ j. is_verbatim_value (slice_range text.now start j) ≡ true) }
+    ensures read { IfSome result (λ j. raw_value_at quote text.now start
+        ≡ Ok (slice_range text.now start j, j)) }
+    ensures verbatim { IfSome result (λ j. is_verbatim_value (slice_range text.now start j)
+        ≡ true) }
     ensures here { IfSome result (λ j. slice_index text.now j ≡ quote) }
     ensures onward { IfSome result (λ j. start ≤ j) }
     ensures cut { IfSome result (λ j. IsCharBoundary text.now j) }
@@ -136,7 +141,8 @@ fn plain_value_end(text: &str, start: usize, quote: u8) -> Option<usize>
 /// The quote that stands at `at`, or 0.
 #[inline(always)]
 fn quote_here(text: &str, at: usize) -> u8
-    ensures some { 0 < result → (slice_index text.now at ≡ result) × ((result == 39 || result == 34) ≡ true) }
+    ensures some { 0 < result → (slice_index text.now at ≡ result)
+        × ((result == 39 || result == 34) ≡ true) }
     ensures within { 0 < result → at < length text.now }
 {
     let bytes = text.as_bytes();
@@ -221,9 +227,13 @@ fn plain_attributes<'input>(
 ) -> Option<TagEnd>
     requires cut { IsCharBoundary text.now start }
     requires within { LooksWithin (length namespaces.now) (places_view few) present.now }
-    ensures read { IfSome result (λ e. ArePlainAttributes (map namespace_view namespaces.now) (places_view few.entry) present.now text.entry.now start (attribute_rows attributes.old) e.at e.empty (attribute_rows attributes.new)) }
+    ensures read { IfSome result
+        (λ e. ArePlainAttributes (map namespace_view namespaces.now)
+        (places_view few.entry) present.now text.entry.now start
+        (attribute_rows attributes.old) e.at e.empty (attribute_rows attributes.new)) }
     ensures cut { IfSome result (λ e. IsCharBoundary text.entry.now e.at) }
-    ensures grown { (more : List AttributeRow) × (attribute_rows attributes.new ≡ attribute_rows attributes.old ++ more) }
+    ensures grown { (more : List AttributeRow)
+        × (attribute_rows attributes.new ≡ attribute_rows attributes.old ++ more) }
 {
     let from = attributes.len();
     let mut at = start;
@@ -272,15 +282,21 @@ fn read_tag<'input>(
     openings_left: u32,
 ) -> Option<PlainTag<'input>>
     requires here { slice_index text.now start ≡ 60 }
-    requires places { ArePlaces (length elements.old.namespaces.items.items) elements.old.listed.items }
+    requires places { ArePlaces
+        (length elements.old.namespaces.items.items) elements.old.listed.items }
     requires few { length elements.old.namespaces.items.items ≤ most_pairs }
     requires scopes { AreScopes (length elements.old.listed.items) elements.old.scopes.items }
     requires above { above < length elements.old.scopes.items }
     requires once { PrefixesOnce (scope_in_tables elements.old above) }
     requires kept { HasBindings elements.old }
-    ensures read { IfSome result (λ t. IsPlainTag elements.old elements.new (scope_in_tables elements.old above) text.entry.now start t.end t.tag) }
+    ensures read { IfSome result
+        (λ t. IsPlainTag elements.old elements.new
+        (scope_in_tables elements.old above) text.entry.now start t.end t.tag) }
     ensures openings_left { IfSome result (λ t. t.tag.openings_left ≡ openings_left) }
-    ensures grown { (more : List AttributeRow) × (elements.new ≡ record elements.old { attributes = elements.new.attributes }) × (attribute_rows elements.new.attributes ≡ attribute_rows elements.old.attributes ++ more) }
+    ensures grown { (more : List AttributeRow)
+        × (elements.new ≡ record elements.old { attributes = elements.new.attributes })
+        × (attribute_rows elements.new.attributes ≡ attribute_rows elements.old.attributes
+        ++ more) }
 {
     let small = byte_count(text);
     let name_start = after_byte(text, start, b'<');
@@ -336,13 +352,16 @@ pub fn plain_start_tag<'input>(
     openings_left: u32,
 ) -> Option<PlainTag<'input>>
     requires here { slice_index text.now start ≡ 60 }
-    requires places { ArePlaces (length elements.old.namespaces.items.items) elements.old.listed.items }
+    requires places { ArePlaces
+        (length elements.old.namespaces.items.items) elements.old.listed.items }
     requires few { length elements.old.namespaces.items.items ≤ most_pairs }
     requires scopes { AreScopes (length elements.old.listed.items) elements.old.scopes.items }
     requires above { above < length elements.old.scopes.items }
     requires once { PrefixesOnce (scope_in_tables elements.old above) }
     requires kept { HasBindings elements.old }
-    ensures read { IfSome result (λ t. IsPlainTag elements.old elements.new (scope_in_tables elements.old above) text.entry.now start t.end t.tag) }
+    ensures read { IfSome result
+        (λ t. IsPlainTag elements.old elements.new
+        (scope_in_tables elements.old above) text.entry.now start t.end t.tag) }
     ensures openings_left { IfSome result (λ t. t.tag.openings_left ≡ openings_left) }
     ensures none { IfNone result (HoldSame elements.old elements.new) }
 {

@@ -48,7 +48,8 @@ fn misc<'input>(
 ) -> Result<(), Failure>
     requires fine { IsConsistent builder.old.tables builder.old.opened.items }
     ensures value { (limit end : ℕ) (s : State) → IsInState limit end s cursor.old builder.old
-        → ScansTo limit end result cursor.new builder.new (lifted (whole.misc limit (length cursor.old.text.now) cursor.old.text.now s)) }
+        → ScansTo limit end result cursor.new builder.new
+        (lifted (whole.misc limit (length cursor.old.text.now) cursor.old.text.now s)) }
     ensures fine { OnOk result (IsConsistent builder.new.tables builder.new.opened.items) }
     ensures source { cursor.new.text ≡ cursor.old.text }
 {
@@ -73,8 +74,10 @@ fn body<'input>(
     entities: &Entities<'input>,
 ) -> Result<bool, ParseError<'input>>
     requires fine { IsConsistent builder.old.tables builder.old.opened.items }
-    ensures value { (limit end : ℕ) (es : List Entity) (s : State) → AreDeclared es entities.now → IsInState limit end s cursor.old builder.old
-        → ParsesToWith limit end result cursor.new builder.new (whole.body limit es cursor.old.text.now s) }
+    ensures value { (limit end : ℕ) (es : List Entity) (s : State) → AreDeclared es entities.now
+        → IsInState limit end s cursor.old builder.old
+        → ParsesToWith limit end result cursor.new builder.new
+        (whole.body limit es cursor.old.text.now s) }
     ensures fine { OnOk result (IsConsistent builder.new.tables builder.new.opened.items) }
     ensures source { cursor.new.text ≡ cursor.old.text }
 {
@@ -95,8 +98,10 @@ fn prolog_start<'input>(
     builder: &mut Builder<'input>,
 ) -> Result<(), Failure>
     requires fine { IsConsistent builder.old.tables builder.old.opened.items }
-    ensures value { (limit end : ℕ) → cursor.old.pos ≡ after_bom cursor.old.text.now → IsInState limit end (start_state cursor.old.pos) cursor.old builder.old
-        → ScansTo limit end result cursor.new builder.new (lifted (beginning limit cursor.old.text.now)) }
+    ensures value { (limit end : ℕ) → cursor.old.pos ≡ after_bom cursor.old.text.now
+        → IsInState limit end (start_state cursor.old.pos) cursor.old builder.old
+        → ScansTo limit end result cursor.new builder.new
+        (lifted (beginning limit cursor.old.text.now)) }
     ensures fine { OnOk result (IsConsistent builder.new.tables builder.new.opened.items) }
     ensures source { cursor.new.text ≡ cursor.old.text }
 {
@@ -116,9 +121,12 @@ fn doctype<'input, R: EntityResolver<'input>>(
 ) -> Result<bool, ParseError<'input>>
     requires may { MayAsk R.can_resolve resolver.now }
     requires fine { IsConsistent builder.old.tables builder.old.opened.items }
-    ensures value { (limit end : ℕ) (d : Dtd) → IsInState limit end d.state cursor.old builder.old → AreDeclared d.entities entities.old
-        → AskOutcome (Allows R.allows resolver.now) (λ replies. whole.doctype limit allow cursor.old.text.now (left_with replies d))
-        (λ asked some. IsDoctypeReadTo limit end allow cursor.old.text.now d cursor.new builder.new entities.new asked some) result }
+    ensures value { (limit end : ℕ) (d : Dtd) → IsInState limit end d.state cursor.old builder.old
+        → AreDeclared d.entities entities.old
+        → AskOutcome (Allows R.allows resolver.now)
+        (λ replies. whole.doctype limit allow cursor.old.text.now (left_with replies d))
+        (λ asked some. IsDoctypeReadTo limit end allow cursor.old.text.now d cursor.new builder.new
+        entities.new asked some) result }
     ensures fine { OnOk result (IsConsistent builder.new.tables builder.new.opened.items) }
     ensures source { cursor.new.text ≡ cursor.old.text }
 {
@@ -141,7 +149,8 @@ fn rest<'input>(
     entities: &Entities<'input>,
 ) -> Result<(), ParseError<'input>>
     requires fine { IsConsistent builder.old.tables builder.old.opened.items }
-    ensures value { (limit end : ℕ) (es : List Entity) (s : State) → AreDeclared es entities.now → IsInState limit end s cursor.old builder.old → s.stack ≡ root
+    ensures value { (limit end : ℕ) (es : List Entity) (s : State) → AreDeclared es entities.now
+        → IsInState limit end s cursor.old builder.old → s.stack ≡ root
         → Finishes end result builder.new (root_read limit es cursor.old.text.now s) }
     ensures fine { OnOk result (IsConsistent builder.new.tables builder.new.opened.items) }
     ensures source { cursor.new.text ≡ cursor.old.text }
@@ -166,9 +175,12 @@ fn document<'input, R: EntityResolver<'input>>(
 ) -> Result<bool, ParseError<'input>>
     requires may { MayAsk R.can_resolve resolver.now }
     requires fine { IsConsistent builder.old.tables builder.old.opened.items }
-    ensures value { (limit end : ℕ) → cursor.old.pos ≡ after_bom cursor.old.text.now → IsInState limit end (start_state cursor.old.pos) cursor.old builder.old
-        → AskOutcome (Allows R.allows resolver.now) (λ replies. whole.reading limit allow replies cursor.old.text.now)
-        (λ asked dtd. IsWholeRead limit end allow cursor.old.text.now builder.new asked dtd) result }
+    ensures value { (limit end : ℕ) → cursor.old.pos ≡ after_bom cursor.old.text.now
+        → IsInState limit end (start_state cursor.old.pos) cursor.old builder.old
+        → AskOutcome (Allows R.allows resolver.now)
+        (λ replies. whole.reading limit allow replies cursor.old.text.now)
+        (λ asked dtd. IsWholeRead limit end allow cursor.old.text.now builder.new asked dtd)
+        result }
     ensures fine { OnOk result (IsConsistent builder.new.tables builder.new.opened.items) }
 {
     let mut entities: Entities<'input> = Entities::new(alloc);
@@ -186,8 +198,12 @@ pub fn build<'input, R: EntityResolver<'input>>(
     resolver: &Option<R>,
 ) -> Result<(Tables<'input>, bool), ParseError<'input>>
     requires may { MayAsk R.can_resolve resolver.now }
-    ensures ok { IfOk result (λ x. Built options.nodes_limit options.allow_dtd (Allows R.allows resolver.now) text.now x.0 x.1) }
-    ensures refused { IfErr result (λ e. BuiltRefusal options.nodes_limit options.allow_dtd (Allows R.allows resolver.now) text.now e) }
+    ensures ok { IfOk result
+        (λ x. Built options.nodes_limit options.allow_dtd
+        (Allows R.allows resolver.now) text.now x.0 x.1) }
+    ensures refused { IfErr result
+        (λ e. BuiltRefusal options.nodes_limit options.allow_dtd
+        (Allows R.allows resolver.now) text.now e) }
 {
     let mut cursor: Cursor<'input> = start_of(text);
     let mut builder: Builder<'input> = Builder::new(alloc, text.len(), options.nodes_limit)?;

@@ -3,7 +3,7 @@
 ghost use Rattle.std.specs.Prelude.{◌≡◌, ◌<◌, ◌≤◌, ◌+◌, ◌-◌, ◌^◌, ◌∷◌, [], Bool, false, true, List, ℕ, length, map, drop, Ok, Err, OnOk, IfOk, slice_index, IfErr, ◌++◌};
 ghost use Rattle.rox_grammar.specs.Written.{NamespaceDecl};
 ghost use Rattle.rox_grammar.specs.Document.{most_pairs, most_attributes};
-ghost use Rattle.rox_reading.specs.Tags.{TagSoFar, attributes_at, tag_at, tested_at};
+ghost use Rattle.rox_reading.specs.Tags.{TagSoFar, taken, attributes_at, tag_at, tested_at};
 ghost use Rattle.rox_grammar.specs.Failures.{Fails, name_view};
 ghost use Rattle.rox_tables.specs.TagScopes.{HasBindingsOf, HasBindings, lists_in};
 ghost use Rattle.rox_build.specs.ElementRow.{IsElement, GivesTag, scope_in_tables};
@@ -16,7 +16,7 @@ ghost use Rattle.rox_tables.specs.Rows.{namespace_view, scope_at, AreScopes, att
 ghost use Rattle.rox_tables.specs.Scopes.{ArePlaces, PrefixesOnce, entries};
 ghost use Rattle.rox_tables.specs.PrefixSet.{IsPrefixSet};
 ghost use Rattle.rox_tables.specs.TagDeclarations.{Declares, unresolved_view};
-ghost use Rattle.rox_build.specs.TagState.{HoldsTag, AddsAttribute, AddsAttributes, one_more};
+ghost use Rattle.rox_build.specs.TagState.{HoldsTag, IsReadingTag, KeepsScopes, GivesAttribute, AddsAttribute, AddsAttributes, value_of};
 ghost use Rattle.rox_grammar.specs.Tree.{listed};
 
 use rox_grammar::failure::Failure;
@@ -27,7 +27,7 @@ use rox_scan::tag::{RawAttribute, TagItem};
 use rox_tables::compare::same_text;
 use rox_tables::namespaces::namespace_decl::{declare_namespace, is_namespace_decl};
 use rox_tables::namespaces::resolve::{element_namespace, resolve};
-use rox_tables::namespaces::scope::few_places;
+use rox_tables::namespaces::scope::{OwnDeclarations, few_places};
 use rox_tables::namespaces::tag_scope::scope_of_tag;
 use rox_tables::namespaces::unresolved_attribute::UnresolvedAttribute;
 use rox_tables::rows::growth::push;
@@ -73,8 +73,10 @@ pub fn stored<'input>(
     piece: TextValue<'input>,
     scratch: &str,
 ) -> Result<StringStorage<'input>, Failure>
-    ensures bytes { IfOk result (λ s. storage_bytes s ≡ (piece_view piece.entry scratch.now).value) }
-    ensures kind { IfOk result (λ s. is_borrowed s ≡ (piece_view piece.entry scratch.now).borrowed) }
+    ensures bytes { IfOk result
+        (λ s. storage_bytes s ≡ (piece_view piece.entry scratch.now).value) }
+    ensures kind { IfOk result
+        (λ s. is_borrowed s ≡ (piece_view piece.entry scratch.now).borrowed) }
     ensures err { IfErr result (λ e. e ≡ Failure.Memory) }
 {
     match piece {
@@ -86,66 +88,85 @@ pub fn stored<'input>(
     }
 }
 
-/// One attribute or declaration as written, which ends at `end`; `own` is where the listed places of the tag begin. Answers
-/// whether the tag declares `xml` now, and how many replacement texts may be opened behind it, where so many could before.
-fn add_attribute<'input>(
-    alloc: Global,
-    text: &'input str,
-    raw: &RawAttribute<'input>,
-    end: usize,
-    elements: &mut ElementTables<'input>,
-    buffers: &mut Buffers<'input>,
+/// What a start tag is read below: the scope of its parent, the fault of a tag that is cut off by the end of the text right behind
+/// its name or an attribute, and how many replacement texts may be opened in it.
+#[derive(Clone, Copy)]
+pub struct TagContext {
+    pub above: u32,
+    pub cut: Fault,
+    pub openings_left: u32,
+}
+
+/// The same once its name is read; `own` is where its listed places begin.
+#[derive(Clone, Copy)]
+struct OpenTag {
     own: usize,
-    xml: bool,
+    cut: Fault,
+    openings_left: u32,
+}
+
+/// One attribute or declaration as written, which ends where the cursor is, with its value, and how many replacement texts may be
+/// opened behind it, where so many could before.
+fn unresolved<'input>(
+    alloc: Global,
+    cursor: &Cursor<'input>,
+    raw: &RawAttribute<'input>,
     context: Context<'_, 'input>,
     openings_left: u32,
-) -> Result<(bool, u32), ParseError<'input>>
-    requires value { HasValue text.now raw.now }
+    scratch: &mut String,
+) -> Result<(UnresolvedAttribute<'input>, u32), ParseError<'input>>
+    requires value { HasValue cursor.now.text.now raw.now }
     requires placed { raw.now.start < 2 ^ 63 }
-    requires end { end ≡ raw.now.value_end + 1 }
-    requires places { ArePlaces (length elements.old.namespaces.items.items) elements.old.listed.items }
-    requires own { own ≤ length elements.old.listed.items }
-    requires few { length elements.old.namespaces.items.items ≤ most_pairs }
-    requires prefix_set { IsPrefixSet (map namespace_view elements.old.namespaces.items.items) (drop own elements.old.listed.items) buffers.old.prefix_set.keys }
-    requires once { PrefixesOnce (entries (map namespace_view elements.old.namespaces.items.items) (drop own elements.old.listed.items)) }
-    requires scopes { AreScopes own elements.old.scopes.items }
-    requires kept { HasBindings elements.old }
-    ensures places { OnOk result (ArePlaces (length elements.new.namespaces.items.items) elements.new.listed.items) }
-    ensures own { OnOk result (own ≤ length elements.new.listed.items) }
-    ensures few { OnOk result (length elements.new.namespaces.items.items ≤ most_pairs) }
-    ensures prefix_set { OnOk result (IsPrefixSet (map namespace_view elements.new.namespaces.items.items) (drop own elements.new.listed.items) buffers.new.prefix_set.keys) }
-    ensures once { OnOk result (PrefixesOnce (entries (map namespace_view elements.new.namespaces.items.items) (drop own elements.new.listed.items))) }
-    ensures kept { OnOk result (HasBindings elements.new) }
-    ensures scopes { elements.new.scopes ≡ elements.old.scopes }
-    ensures lists { OnOk result (lists_in elements.new ≡ lists_in elements.old) }
-    ensures attributes { elements.new.attributes ≡ elements.old.attributes }
-    ensures took { (es : List Entity) (known : List NamespaceDecl) (before : List ℕ) (h : TagSoFar) → AreDeclared es context.entry.entities.now → own ≡ length before
-        → HoldsTag known before (map namespace_view elements.old.namespaces.items.items) elements.old.listed.items xml buffers.old.taken.items h
-        → AddsAttribute known before (map namespace_view elements.new.namespaces.items.items) elements.new.listed.items buffers.new.taken.items result (one_more (values_in es context.entry) known text.now (attribute_view raw.now) openings_left h) }
+    requires end { cursor.now.pos ≡ raw.now.value_end + 1 }
+    ensures { (es : List Entity) → AreDeclared es context.entry.entities.now
+        → GivesAttribute (attribute_view raw.now) result
+        (value_of (values_in es context.entry) cursor.now.text.now
+        (attribute_view raw.now) openings_left) }
 {
-    let (piece, openings_left) = value(text, raw, context, openings_left, &mut buffers.scratch)?;
-    let value = stored(alloc, piece, buffers.scratch.as_str())?;
+    let (piece, openings_left) = value(cursor.text, raw, context, openings_left, scratch)?;
+    let value = stored(alloc, piece, scratch.as_str())?;
     let one = UnresolvedAttribute {
         start: raw.start,
         name_end: raw.name_end,
         value_start: raw.value_start,
-        end,
+        end: cursor.pos,
         name: raw.name,
         value,
     };
-    if is_namespace_decl(raw.name) {
+    Ok((one, openings_left))
+}
+
+/// Puts an attribute or a declaration of a tag that has these declarations so far, and answers whether it declares `xml` now.
+fn add_attribute<'input>(
+    elements: &mut ElementTables<'input>,
+    buffers: &mut Buffers<'input>,
+    own: OwnDeclarations,
+    one: UnresolvedAttribute<'input>,
+) -> Result<bool, Failure>
+    requires tables { IsReadingTag elements.old buffers.old.prefix_set.keys own.from }
+    ensures tables { OnOk result (IsReadingTag elements.new buffers.new.prefix_set.keys own.from) }
+    ensures kept { OnOk result (KeepsScopes elements.old elements.new) }
+    ensures took { (known : List NamespaceDecl) (before : List ℕ) (h : TagSoFar)
+        → own.from ≡ length before
+        → HoldsTag known before (map namespace_view elements.old.namespaces.items.items)
+        elements.old.listed.items own.xml buffers.old.taken.items h
+        → AddsAttribute known before (map namespace_view elements.new.namespaces.items.items)
+        elements.new.listed.items buffers.new.taken.items result
+        (taken known (unresolved_view one.entry) h) }
+{
+    if is_namespace_decl(one.name) {
         let xml = declare_namespace(
             &mut elements.namespaces,
             &mut elements.listed,
             &mut buffers.prefix_set,
-            own,
-            xml,
+            own.from,
+            own.xml,
             one,
         )?;
-        return Ok((xml, openings_left));
+        return Ok(xml);
     }
     push(&mut buffers.taken, one)?;
-    Ok((xml, openings_left))
+    Ok(own.xml)
 }
 
 /// How many bytes a text has, which is always less than 2^63.
@@ -158,9 +179,8 @@ pub fn byte_count(text: &str) -> usize
     bytes.len()
 }
 
-/// Attributes and declarations, up to the end of the tag; `own` is where the listed places of the tag begin. Answers whether
-/// the tag declares `xml`, whether it is empty, and how many replacement texts may be opened behind it, where so many could
-/// before. A tag that is cut off right behind its name or an attribute is refused as `cut`.
+/// Attributes and declarations, up to the end of the tag. Answers whether the tag declares `xml`, whether it is empty, and how
+/// many replacement texts may be opened behind it.
 #[inline(always)]
 #[tactic(auto, unfolding(rox_reading::specs::Tags::attributes_at))]
 fn attributes<'input>(
@@ -168,59 +188,43 @@ fn attributes<'input>(
     cursor: &mut Cursor<'input>,
     elements: &mut ElementTables<'input>,
     buffers: &mut Buffers<'input>,
-    own: usize,
-    cut: Fault,
+    tag: OpenTag,
     context: Context<'_, 'input>,
-    mut openings_left: u32,
 ) -> Result<(bool, bool, u32), ParseError<'input>>
-    requires places { ArePlaces (length elements.old.namespaces.items.items) elements.old.listed.items }
-    requires own { own ≤ length elements.old.listed.items }
-    requires few { length elements.old.namespaces.items.items ≤ most_pairs }
-    requires prefix_set { IsPrefixSet (map namespace_view elements.old.namespaces.items.items) (drop own elements.old.listed.items) buffers.old.prefix_set.keys }
-    requires once { PrefixesOnce (entries (map namespace_view elements.old.namespaces.items.items) (drop own elements.old.listed.items)) }
-    requires scopes { AreScopes own elements.old.scopes.items }
-    requires kept { HasBindings elements.old }
-    ensures places { OnOk result (ArePlaces (length elements.new.namespaces.items.items) elements.new.listed.items) }
-    ensures own { OnOk result (own ≤ length elements.new.listed.items) }
-    ensures few { OnOk result (length elements.new.namespaces.items.items ≤ most_pairs) }
-    ensures prefix_set { OnOk result (IsPrefixSet (map namespace_view elements.new.namespaces.items.items) (drop own elements.new.listed.items) buffers.new.prefix_set.keys) }
-    ensures once { OnOk result (PrefixesOnce (entries (map namespace_view elements.new.namespaces.items.items) (drop own elements.new.listed.items))) }
-    ensures kept { OnOk result (HasBindings elements.new) }
-    ensures scopes { elements.new.scopes ≡ elements.old.scopes }
-    ensures lists { OnOk result (lists_in elements.new ≡ lists_in elements.old) }
-    ensures attributes { elements.new.attributes ≡ elements.old.attributes }
+    requires tables { IsReadingTag elements.old buffers.old.prefix_set.keys tag.own }
+    ensures tables { OnOk result (IsReadingTag elements.new buffers.new.prefix_set.keys tag.own) }
+    ensures kept { OnOk result (KeepsScopes elements.old elements.new) }
     ensures source { cursor.new.text ≡ cursor.old.text }
-    ensures took { (es : List Entity) (known : List NamespaceDecl) (before : List ℕ) (h : TagSoFar) → AreDeclared es context.entry.entities.now → own ≡ length before
-        → HoldsTag known before (map namespace_view elements.old.namespaces.items.items) elements.old.listed.items false buffers.old.taken.items h
-        → AddsAttributes known before (map namespace_view elements.new.namespaces.items.items) elements.new.listed.items buffers.new.taken.items cursor.new result
-        (attributes_at (length cursor.old.text.now) (values_in es context.entry) cut known cursor.old.text.now cursor.old.pos openings_left h) }
+    ensures took { (es : List Entity) (known : List NamespaceDecl) (before : List ℕ) (h : TagSoFar)
+        → AreDeclared es context.entry.entities.now → tag.own ≡ length before
+        → HoldsTag known before (map namespace_view elements.old.namespaces.items.items)
+        elements.old.listed.items false buffers.old.taken.items h
+        → AddsAttributes known before (map namespace_view elements.new.namespaces.items.items)
+        elements.new.listed.items buffers.new.taken.items cursor.new result
+        (attributes_at (length cursor.old.text.now)
+        (values_in es context.entry) tag.cut known cursor.old.text.now cursor.old.pos
+        tag.openings_left h) }
 {
     let mut xml = false;
+    let mut openings_left = tag.openings_left;
     let count = byte_count(cursor.text);
     'attributes: for _turn in 0..count {
         if cursor.is_at_end() {
-            return Err(ParseError::Fault(cut));
+            return Err(ParseError::Fault(tag.cut));
         }
         match cursor.tag_item()? {
             TagItem::More(raw) => {
-                (xml, openings_left) = add_attribute(
-                    alloc,
-                    cursor.text,
-                    &raw,
-                    cursor.pos,
-                    elements,
-                    buffers,
-                    own,
-                    xml,
-                    context,
-                    openings_left,
-                )?;
+                let scratch = &mut buffers.scratch;
+                let (one, left) = unresolved(alloc, cursor, &raw, context, openings_left, scratch)?;
+                let own = OwnDeclarations { from: tag.own, xml };
+                xml = add_attribute(elements, buffers, own, one)?;
+                openings_left = left;
             }
             TagItem::Open => return Ok((xml, false, openings_left)),
             TagItem::Empty => return Ok((xml, true, openings_left)),
         }
     }
-    Err(ParseError::Fault(cut))
+    Err(ParseError::Fault(tag.cut))
 }
 
 /// How many attributes a document may have.
@@ -236,7 +240,8 @@ fn element_data<'input>(
     at: usize,
     scope: u32,
 ) -> Result<ElementData<'input>, Failure>
-    requires places { ArePlaces (length elements.old.namespaces.items.items) elements.old.listed.items }
+    requires places { ArePlaces
+        (length elements.old.namespaces.items.items) elements.old.listed.items }
     requires scopes { AreScopes (length elements.old.listed.items) elements.old.scopes.items }
     requires within { scope < length elements.old.scopes.items }
     requires present { HasBindingsOf elements.old scope }
@@ -246,9 +251,16 @@ fn element_data<'input>(
     ensures listed { elements.new.listed ≡ elements.old.listed }
     ensures scopes { elements.new.scopes ≡ elements.old.scopes }
     ensures present { elements.new.present ≡ elements.old.present }
-    ensures tested { OnOk result (tested_at (scope_in_tables elements.old scope) (length (attribute_rows elements.old.attributes)) at (name_view name.entry) (map unresolved_view taken.old.items) ≡ Ok tt) }
-    ensures element { IfOk result (λ e. IsElement elements.old elements.new e (scope_in_tables elements.old scope) (name_view name.entry) (map unresolved_view taken.old.items)) }
-    ensures err { IfErr result (λ e. Fails e (tested_at (scope_in_tables elements.old scope) (length (attribute_rows elements.old.attributes)) at (name_view name.entry) (map unresolved_view taken.old.items))) }
+    ensures tested { OnOk result (tested_at (scope_in_tables elements.old scope)
+        (length (attribute_rows elements.old.attributes)) at (name_view name.entry)
+        (map unresolved_view taken.old.items) ≡ Ok tt) }
+    ensures element { IfOk result
+        (λ e. IsElement elements.old elements.new e (scope_in_tables elements.old scope)
+        (name_view name.entry) (map unresolved_view taken.old.items)) }
+    ensures err { IfErr result
+        (λ e. Fails e (tested_at (scope_in_tables elements.old scope)
+        (length (attribute_rows elements.old.attributes)) at (name_view name.entry)
+        (map unresolved_view taken.old.items))) }
 {
     let from = elements.attributes.len();
     if taken.len() > MOST_ATTRIBUTES - from {
@@ -279,8 +291,7 @@ fn element_data<'input>(
     })
 }
 
-/// A start tag, from its `<`, of an element whose parent has the scope `above`. A tag that is cut off by the end of the text right
-/// behind its name or an attribute is refused as `cut`. So many replacement texts may be opened in it.
+/// A start tag, from its `<`, below what is told.
 #[inline(always)]
 #[tactic(auto, unfolding(rox_reading::specs::Tags::tag_at))]
 pub fn start_tag<'input>(
@@ -288,24 +299,28 @@ pub fn start_tag<'input>(
     cursor: &mut Cursor<'input>,
     elements: &mut ElementTables<'input>,
     buffers: &mut Buffers<'input>,
-    above: u32,
-    cut: Fault,
+    around: TagContext,
     context: Context<'_, 'input>,
-    openings_left: u32,
 ) -> Result<StartTag<'input>, ParseError<'input>>
     requires there { cursor.old.pos < length cursor.old.text.now }
     requires here { slice_index cursor.old.text.now cursor.old.pos ≡ 60 }
-    requires places { ArePlaces (length elements.old.namespaces.items.items) elements.old.listed.items }
+    requires places { ArePlaces
+        (length elements.old.namespaces.items.items) elements.old.listed.items }
     requires few { length elements.old.namespaces.items.items ≤ most_pairs }
     requires few_attributes { length (attribute_rows elements.old.attributes) ≤ most_attributes }
     requires scopes { AreScopes (length elements.old.listed.items) elements.old.scopes.items }
-    requires above { above < length elements.old.scopes.items }
-    requires once { PrefixesOnce (scope_in_tables elements.old above) }
+    requires above { around.above < length elements.old.scopes.items }
+    requires once { PrefixesOnce (scope_in_tables elements.old around.above) }
     requires kept { HasBindings elements.old }
     ensures source { cursor.new.text ≡ cursor.old.text }
     ensures starts { IfOk result (λ t. t.name_start ≡ cursor.old.pos + 1) }
-    ensures value { (es : List Entity) → AreDeclared es context.entry.entities.now → GivesTag elements.old elements.new cursor.new result (scope_in_tables elements.old above)
-        (tag_at (values_in es context.entry) cut (scope_in_tables elements.old above) (length (attribute_rows elements.old.attributes)) (map namespace_view elements.old.namespaces.items.items) cursor.old.text.now cursor.old.pos openings_left) }
+    ensures value { (es : List Entity) → AreDeclared es context.entry.entities.now
+        → GivesTag elements.old elements.new cursor.new result
+        (scope_in_tables elements.old around.above)
+        (tag_at (values_in es context.entry) around.cut (scope_in_tables elements.old around.above)
+        (length (attribute_rows elements.old.attributes))
+        (map namespace_view elements.old.namespaces.items.items) cursor.old.text.now cursor.old.pos
+        around.openings_left) }
 {
     let small = byte_count(cursor.text);
     cursor.advance();
@@ -316,18 +331,15 @@ pub fn start_tag<'input>(
         return Err(ParseError::Fault(Fault::InvalidElementNamePrefix(name_start)));
     }
     let own = elements.listed.len();
-    buffers.taken.clear();
-    let (xml, empty, openings_left) = attributes(
-        alloc,
-        cursor,
-        elements,
-        buffers,
+    let open = OpenTag {
         own,
-        cut,
-        context,
-        openings_left,
-    )?;
-    let scope = scope_of_tag(elements, &buffers.prefix_set, above, own, xml)?;
+        cut: around.cut,
+        openings_left: around.openings_left,
+    };
+    buffers.taken.clear();
+    let (xml, empty, openings_left) = attributes(alloc, cursor, elements, buffers, open, context)?;
+    let declared = OwnDeclarations { from: own, xml };
+    let scope = scope_of_tag(elements, &buffers.prefix_set, around.above, declared)?;
     let element = element_data(alloc, elements, &mut buffers.taken, name, name_start, scope)?;
     Ok(StartTag {
         name,

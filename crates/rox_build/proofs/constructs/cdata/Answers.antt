@@ -1,9 +1,9 @@
-use Rattle.std.proofs.Common.{◌≡◌, refl, ap}
+use Rattle.std.proofs.Common.{◌≡◌, refl, sym, ap}
 use Rattle.std.proofs.lemmas.Result.{err_from_is_err_and}
 use Rattle.std.specs.String.{string_bytes}
 use Rattle.rox_values.specs.Values.{piece_view, section_text}
 use Rattle.rox_reading.specs.Refusals.{lifted}
-use Rattle.rox_build.proofs.Stepping.{cdata_is, cdata_fails, text_stepped, text_or, same_shows}
+use Rattle.rox_build.proofs.Stepping.{cdata_is, cdata_fails, text_stepped, same_shows}
 use Rattle.rox_build.proofs.constructs.cdata.Goals as goal
 
 pub returns-clause-value : goal.returns-clause-value
@@ -13,7 +13,7 @@ returns-clause-value c = λ limit end s h.
     let j = c.cdata.new.self.pos in
     let raw = c.in_ok-raw.raw.now in
     let t = piece_view c.in_ok-piece.piece (string_bytes c.cdata_text.new.scratch) in
-    let k : section_text raw ≡ t = ap text_or c.in_ok-piece.ensures in
+    let k : section_text raw ≡ t = sym c.in_ok-piece.ensures in
     let a = c.piece.ensures.value end j s (same_shows end s.stack s.done b _ h.shows refl refl refl refl refl) in
     rw (cdata_is limit src s c.args.cursor.now.pos j raw t h.here c.in_ok-raw.ensures.value k)
     (text_stepped limit end s c.args.cursor.now c.cdata.new.self b c.piece.new.self c.piece.result t h c.piece.ensures.tables c.piece.ensures.limit c.piece.ensures.openings_left a)

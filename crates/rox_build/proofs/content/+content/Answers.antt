@@ -5,36 +5,29 @@ use Rattle.rox_grammar.specs.Content.{is_verbatim}
 use Rattle.rox_reading.specs.State.{depth_of}
 use Rattle.rox_reading.specs.Values.{ReadText}
 use Rattle.rox_scan.specs.DoctypeViews.{replacement_view}
-use Rattle.rox_scan.proofs.NearLemmas.{text_cut}
 use Rattle.rox_values.specs.Contexts.{context_of}
 use Rattle.rox_build.proofs.Lifting.{refused_too}
 use Rattle.rox_build.proofs.Stepping.{two_stand, step_is_run, step_is_markup, plain_run, parted_run, run_fails, text_stepped, same_shows}
-use Rattle.rox_scan.proofs.ShortLemmas.{short_run}
+use Rattle.rox_scan.proofs.ShortLemmas.{longer_run}
 use Rattle.rox_build.proofs.Parting.{rests_of, parting_ends, parting_on, parting_fails, parting_stops, parting_out}
 use Rattle.rox_build.proofs.TextLooping.{opened_depth, text_on, text_fails, text_at_end, text_spent}
 use Rattle.rox_build.proofs.TextOpening.{inner_state, outer_state, opens_err, opens_reads, opens_refuses, opener_at}
-use Rattle.rox_build.specs.DataParts.{IsLine}
 use Rattle.rox_build.proofs.LineRuns.{line_run}
 use Rattle.rox_build.proofs.content.+content.Goals as goal
 
 -- ---- a run
-
-stands_here : (ends : Bool) (b : ℕ) → (ends || b == 60) ≡ true → ends ≡ false → b ≡ 60
-stands_here true b h other = cc other
-stands_here false b h other = eqb-true b 60 h
 
 pub character_data-returns-then-ends_character_data-clause-value : goal.character_data-returns-then-ends_character_data-clause-value
 character_data-returns-then-ends_character_data-clause-value t c = λ limit end es s declared h.
     let src = c.args.cursor.now.text.now in
     let b = c.args.builder.now in
     let i = c.args.cursor.now.pos in
-    let e = c.skip_set-near.result in
-    let n = c.skip_set-near.ensures in
-    let cut = text_cut src e n.within n.stops in
-    let here : e < length src → get_or src e 0 ≡ 60 = λ more. stands_here _ _ (sym c.ends_character_data.ensures ∙ c.if-ends_character_data.true) (ne_eqb e (length src) (λ same. absurd (omega arith))) in
-    let r = short_run src i e c.args.cursor.now.utf8 c.args.cursor.now.cut n.onward cut n.passes here in
+    let e = c.plain_run_end-near.result in
+    let look = c.plain_run_end-near.ensures in
+    let read = longer_run src i e true look (sym c.ends_character_data.ensures ∙ c.if-ends_character_data.true) in
+    let plain : is_verbatim (slice_range src i e) ≡ true = sym look.verbatim_is in
     let text : ReadText = record { value = slice_range src i e; borrowed = true } in
-    rw (plain_run (context_of limit es c.args.context) src s i e (slice_range src i e) h.here r.0 r.1)
+    rw (plain_run (context_of limit es c.args.context) src s i e (slice_range src i e) h.here read plain)
     (text_stepped limit end s c.args.cursor.now _ b c.slice_piece.new.self (Ok c.in_ok-slice_piece.field-0) text h c.slice_piece.ensures.tables c.slice_piece.ensures.limit c.slice_piece.ensures.openings_left
     (rw c.range.ensures.value at (c.in_ok-slice_piece.ensures.value end e s h.shows)))
 
@@ -43,22 +36,21 @@ character_data-returns-in_err-slice_piece-clause-value t c = λ limit end es s d
     let src = c.args.cursor.now.text.now in
     let b = c.args.builder.now in
     let i = c.args.cursor.now.pos in
-    let e = c.skip_set-near.result in
-    let n = c.skip_set-near.ensures in
-    let cut = text_cut src e n.within n.stops in
-    let here : e < length src → get_or src e 0 ≡ 60 = λ more. stands_here _ _ (sym c.ends_character_data.ensures ∙ c.if-ends_character_data.true) (ne_eqb e (length src) (λ same. absurd (omega arith))) in
-    let r = short_run src i e c.args.cursor.now.utf8 c.args.cursor.now.cut n.onward cut n.passes here in
+    let e = c.plain_run_end-near.result in
+    let look = c.plain_run_end-near.ensures in
+    let read = longer_run src i e true look (sym c.ends_character_data.ensures ∙ c.if-ends_character_data.true) in
+    let plain : is_verbatim (slice_range src i e) ≡ true = sym look.verbatim_is in
     let text : ReadText = record { value = slice_range src i e; borrowed = true } in
     let p = err_from_is_err_and c.from_residual.result c.from_residual.ensures.1 in
-    rw (p.1, p.2, plain_run (context_of limit es c.args.context) src s i e (slice_range src i e) h.here r.0 r.1)
+    rw (p.1, p.2, plain_run (context_of limit es c.args.context) src s i e (slice_range src i e) h.here read plain)
     (refused_too c.in_err-slice_piece.field-0.0 _
-    (text_stepped limit end s c.args.cursor.now (record { text = c.args.cursor.now.text; pos = e; utf8 = c.args.cursor.now.utf8; cut = cut }) b c.slice_piece.new.self (Err c.in_err-slice_piece.field-0.0) text h c.slice_piece.ensures.tables c.slice_piece.ensures.limit c.slice_piece.ensures.openings_left
+    (text_stepped limit end s c.args.cursor.now (record { text = c.args.cursor.now.text; pos = e; utf8 = c.args.cursor.now.utf8; cut = look.cut }) b c.slice_piece.new.self (Err c.in_err-slice_piece.field-0.0) text h c.slice_piece.ensures.tables c.slice_piece.ensures.limit c.slice_piece.ensures.openings_left
     (rw c.range.ensures.value at (c.in_err-slice_piece.ensures.value end e s h.shows))))
 
 pub slow_character_data-returns-in_err-raw-clause-value : goal.slow_character_data-returns-in_err-raw-clause-value
 slow_character_data-returns-in_err-raw-clause-value t c = λ limit end es s declared h.
-    let p = err_from_is_err_and c.from_residual.result c.from_residual.ensures.1 in
-    rw (p.1, p.2) (run_fails (context_of limit es c.args.context) c.args.cursor.now.text.now s c.args.cursor.now.pos c.in_err-raw.field-0.0 h.here c.in_err-raw.ensures.value)
+    let p = err_from_is_err_and c.from_residual-in_err-raw.result c.from_residual-in_err-raw.ensures.1 in
+    rw (p.1, p.2) (run_fails (context_of limit es c.args.context) c.args.cursor.now.text.now s c.args.cursor.now.pos c.in_err-raw.field-0.0 h.here c.in_err-raw.ensures.read.value)
 
 pub slow_character_data-returns-then-raw-clause-value : goal.slow_character_data-returns-then-raw-clause-value
 slow_character_data-returns-then-raw-clause-value t c = λ limit end es s declared h.
@@ -68,7 +60,7 @@ slow_character_data-returns-then-raw-clause-value t c = λ limit end es s declar
     let j = c.raw_character_data.new.cursor.pos in
     let plain : is_verbatim raw ≡ true = sym c.in_ok-raw.ensures.verbatim ∙ c.if-raw.true in
     let text : ReadText = record { value = raw; borrowed = true } in
-    rw (plain_run (context_of limit es c.args.context) src s c.args.cursor.now.pos j raw h.here c.in_ok-raw.ensures.value plain)
+    rw (plain_run (context_of limit es c.args.context) src s c.args.cursor.now.pos j raw h.here c.in_ok-raw.ensures.read.value plain)
     (text_stepped limit end s c.args.cursor.now c.raw_character_data.new.cursor b c.slice_piece.new.self (Ok c.in_ok-slice_piece.field-0) text h c.slice_piece.ensures.tables c.slice_piece.ensures.limit c.slice_piece.ensures.openings_left
     (c.in_ok-slice_piece.ensures.value end j s h.shows))
 
@@ -81,7 +73,7 @@ slow_character_data-returns-in_err-slice_piece-clause-value t c = λ limit end e
     let plain : is_verbatim raw ≡ true = sym c.in_ok-raw.ensures.verbatim ∙ c.if-raw.true in
     let text : ReadText = record { value = raw; borrowed = true } in
     let p = err_from_is_err_and c.from_residual-in_err-slice_piece.result c.from_residual-in_err-slice_piece.ensures.1 in
-    rw (p.1, p.2, plain_run (context_of limit es c.args.context) src s c.args.cursor.now.pos j raw h.here c.in_ok-raw.ensures.value plain)
+    rw (p.1, p.2, plain_run (context_of limit es c.args.context) src s c.args.cursor.now.pos j raw h.here c.in_ok-raw.ensures.read.value plain)
     (refused_too c.in_err-slice_piece.field-0.0 _
     (text_stepped limit end s c.args.cursor.now c.raw_character_data.new.cursor b c.slice_piece.new.self (Err c.in_err-slice_piece.field-0.0) text h c.slice_piece.ensures.tables c.slice_piece.ensures.limit c.slice_piece.ensures.openings_left
     (c.in_err-slice_piece.ensures.value end j s h.shows)))
@@ -91,43 +83,37 @@ slow_character_data-returns-clause-value t c = λ limit end es s declared h.
     let src = c.args.cursor.now.text.now in
     let raw = c.in_ok-raw.raw.text.now in
     let j = c.raw_character_data.new.cursor.pos in
-    let same = ap (λ t. t.now) c.in_ok-raw.ensures.source in
+    let same = ap (λ t. t.now) c.in_ok-raw.ensures.read.source in
     let other : is_verbatim raw ≡ false = sym c.in_ok-raw.ensures.verbatim ∙ c.if-raw.false in
-    rw (parted_run (context_of limit es c.args.context) src s c.args.cursor.now.pos j raw h.here c.in_ok-raw.ensures.value other, ← same)
+    rw (parted_run (context_of limit es c.args.context) src s c.args.cursor.now.pos j raw h.here c.in_ok-raw.ensures.read.value other, ← same)
     (c.data_parts.ensures.value limit end es s declared (record { here = h.here; limit_is = h.limit_is; shows = h.shows; namespaces = h.namespaces; attributes = h.attributes; openings_left_is = h.openings_left_is }))
 
 -- a line end and bytes that stand for themselves
-pub slow_character_data-returns-then-is_line-clause-value : goal.slow_character_data-returns-then-is_line-clause-value
-slow_character_data-returns-then-is_line-clause-value t c = λ limit end es s declared h.
+pub slow_character_data-returns-in-Some-clause-value : goal.slow_character_data-returns-in-Some-clause-value
+slow_character_data-returns-in-Some-clause-value t c = λ limit end es s declared h.
     let src = c.args.cursor.now.text.now in
     let b = c.args.builder.now in
     let i = c.args.cursor.now.pos in
-    let raw = c.in_ok-raw.raw.text.now in
-    let j = c.raw_character_data.new.cursor.pos in
-    let same = ap (λ t. t.now) c.in_ok-raw.ensures.source in
-    let other : is_verbatim raw ≡ false = sym c.in_ok-raw.ensures.verbatim ∙ c.if-raw.false in
-    let line : IsLine src i j = rw same at (c.is_line.ensures c.if-is_line.true) in
+    let j = c.in-Some.end in
+    let run = c.in-Some.ensures in
     let text : ReadText = record { value = slice_range src (i + 1) j; borrowed = false } in
-    rw (parted_run (context_of limit es c.args.context) src s i j raw h.here c.in_ok-raw.ensures.value other, line_run (context_of limit es c.args.context) src s i j h.here c.if-context.true line)
-    (text_stepped limit end s c.args.cursor.now c.raw_character_data.new.cursor b c.changed_piece.new.builder (Ok c.in_ok-changed_piece.field-0) text h c.changed_piece.ensures.tables c.changed_piece.ensures.limit c.changed_piece.ensures.openings_left
-    (rw (c.range.ensures.value, same) at (c.in_ok-changed_piece.ensures.value end j s h.shows)))
+    rw (parted_run (context_of limit es c.args.context) src s i j (slice_range src i j) h.here run.value run.verbatim, line_run (context_of limit es c.args.context) src s i j h.here c.if-context.true run.line)
+    (text_stepped limit end s c.args.cursor.now _ b c.owned_piece.new.self (Ok c.in_ok-owned_piece.field-0) text h c.owned_piece.ensures.tables c.owned_piece.ensures.limit c.owned_piece.ensures.openings_left
+    (rw c.range.ensures.value at (c.in_ok-owned_piece.ensures.value end j s h.shows)))
 
-pub slow_character_data-returns-in_err-changed_piece-clause-value : goal.slow_character_data-returns-in_err-changed_piece-clause-value
-slow_character_data-returns-in_err-changed_piece-clause-value t c = λ limit end es s declared h.
+pub slow_character_data-returns-in_err-owned_piece-clause-value : goal.slow_character_data-returns-in_err-owned_piece-clause-value
+slow_character_data-returns-in_err-owned_piece-clause-value t c = λ limit end es s declared h.
     let src = c.args.cursor.now.text.now in
     let b = c.args.builder.now in
     let i = c.args.cursor.now.pos in
-    let raw = c.in_ok-raw.raw.text.now in
-    let j = c.raw_character_data.new.cursor.pos in
-    let same = ap (λ t. t.now) c.in_ok-raw.ensures.source in
-    let other : is_verbatim raw ≡ false = sym c.in_ok-raw.ensures.verbatim ∙ c.if-raw.false in
-    let line : IsLine src i j = rw same at (c.is_line.ensures c.if-is_line.true) in
+    let j = c.in-Some.end in
+    let run = c.in-Some.ensures in
     let text : ReadText = record { value = slice_range src (i + 1) j; borrowed = false } in
-    let p = err_from_is_err_and c.from_residual-in_err-changed_piece.result c.from_residual-in_err-changed_piece.ensures.1 in
-    rw (p.1, p.2, parted_run (context_of limit es c.args.context) src s i j raw h.here c.in_ok-raw.ensures.value other, line_run (context_of limit es c.args.context) src s i j h.here c.if-context.true line)
-    (refused_too c.in_err-changed_piece.field-0.0 _
-    (text_stepped limit end s c.args.cursor.now c.raw_character_data.new.cursor b c.changed_piece.new.builder (Err c.in_err-changed_piece.field-0.0) text h c.changed_piece.ensures.tables c.changed_piece.ensures.limit c.changed_piece.ensures.openings_left
-    (rw (c.range.ensures.value, same) at (c.in_err-changed_piece.ensures.value end j s h.shows))))
+    let p = err_from_is_err_and c.from_residual.result c.from_residual.ensures.1 in
+    rw (p.1, p.2, parted_run (context_of limit es c.args.context) src s i j (slice_range src i j) h.here run.value run.verbatim, line_run (context_of limit es c.args.context) src s i j h.here c.if-context.true run.line)
+    (refused_too c.in_err-owned_piece.field-0.0 _
+    (text_stepped limit end s c.args.cursor.now (record { text = c.args.cursor.now.text; pos = j; utf8 = c.args.cursor.now.utf8; cut = run.cut }) b c.owned_piece.new.self (Err c.in_err-owned_piece.field-0.0) text h c.owned_piece.ensures.tables c.owned_piece.ensures.limit c.owned_piece.ensures.openings_left
+    (rw c.range.ensures.value at (c.in_err-owned_piece.ensures.value end j s h.shows))))
 
 -- ---- its parts
 

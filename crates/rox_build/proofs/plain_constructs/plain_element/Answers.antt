@@ -1,4 +1,4 @@
-use Rattle.std.proofs.Common.{◌≡◌, ℕ, Bool, Ok, refl, sym, ap, subst, ◌∙◌, List}
+use Rattle.std.proofs.Common.{◌≡◌, ℕ, Bool, Ok, arith, refl, sym, ap, subst, ◌∙◌, List}
 use Rattle.rox_grammar.specs.Written.{Element, NamespaceDecl}
 use Rattle.rox_grammar.specs.State.{scope_of}
 use Rattle.rox_reading.specs.Machine.{opened_by, cut_off_fault}
@@ -68,3 +68,12 @@ returns-clause-fine c =
     let x = c.in-Some.ensures.read in
     fine_more (Ok tt) c.plain_start_tag.new.elements b.opened.items c.put_open.new.self c.in-Some.read.tag
     (fine_by b.tables c.plain_start_tag.new.elements c.in-Some.read.tag _ x.tag b.opened.items x.tagged c.requires.fine) c.put_open.ensures.tables c.put_open.ensures.opened x.tagged.element.scope_within x.tagged.once
+
+pub put_leaf-requires-clause-start : goal.put_leaf-requires-clause-start
+put_leaf-requires-clause-start c = omega (arith, c.requires.short, c.args.cursor.now.cut.0)
+
+pub put_leaf-requires-clause-end : goal.put_leaf-requires-clause-end
+put_leaf-requires-clause-end c = omega (arith, c.requires.short, c.in-Some.ensures.read.cut.0)
+
+pub put_open-requires-clause-start : goal.put_open-requires-clause-start
+put_open-requires-clause-start c = omega (arith, c.requires.short, c.args.cursor.now.cut.0)

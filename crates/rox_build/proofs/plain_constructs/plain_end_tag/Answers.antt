@@ -31,3 +31,6 @@ returns-clause-value c = λ _ context end s around h.
     let within : leb (depth_of s.stack) context.open_around ≡ false = (let d = opened_deep end s.stack s.done b h.shows in let l = c.len.ensures in let m = c.if-len-open_around.false in lt-leb _ _ (omega arith)) in
     rw (end_is context src s pos j _ h.here tag within)
     (closed_stepped context.limit end s cursor _ b c.put_close.new.self outer o pos name.end (name_view name.name) h split same c.put_close.ensures.tables c.put_close.ensures.limit c.put_close.ensures.openings_left c.put_close.ensures.ok)
+
+pub put_close-requires-clause-short : goal.put_close-requires-clause-short
+put_close-requires-clause-short c = omega (arith, c.requires.short, c.after_byte-end.ensures.cut.0)

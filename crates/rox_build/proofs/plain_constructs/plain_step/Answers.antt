@@ -1,24 +1,13 @@
-use Rattle.std.proofs.Common.{◌+◌, slice_index, ne_eqb, refl}
-use Rattle.rox_build.proofs.Stepping.{step_is_run, step_is_markup, state_kept}
+use Rattle.std.proofs.lemmas.Bool.{eqb-true}
+use Rattle.rox_build.proofs.Twice.{none_read}
 use Rattle.rox_build.proofs.plain_constructs.plain_step.Goals as goal
 
-pub returns-then-bytes-cursor-ne60-clause-value : goal.returns-then-bytes-cursor-ne60-clause-value
-returns-then-bytes-cursor-ne60-clause-value c = λ yes context end s around h.
-    rw (step_is_run context c.args.cursor.now.text.now _ s c.args.cursor.now.pos c.as_bytes-bytes.ensures.value h.here c.if-bytes-cursor-ne60.true) (c.plain_character_data.ensures.value yes context end s h)
-
-pub returns-then-next-eq47-clause-value : goal.returns-then-next-eq47-clause-value
-returns-then-next-eq47-clause-value c = λ yes context end s around h.
-    rw (step_is_markup context c.args.cursor.now.text.now _ s c.args.cursor.now.pos 47 c.as_bytes-bytes.ensures.value h.here c.if-bytes-cursor-ne60.false c.if-cursor-bytes.false c.if-next-eq47.true (λ e. cc e))
-    (c.plain_end_tag.ensures.value yes context end s around h)
-
 pub returns-clause-value : goal.returns-clause-value
-returns-clause-value c = λ yes context end s around h.
-    let i = c.args.cursor.now.pos in
-    let b = slice_index c.as_bytes-bytes.result.now (i + 1) in
-    let is = step_is_markup context c.args.cursor.now.text.now _ s i b c.as_bytes-bytes.ensures.value h.here c.if-bytes-cursor-ne60.false c.if-cursor-bytes.false refl c.if-next-eq33.false in
-    rw (is, ne_eqb b 63 c.if-next-eq63.false, ne_eqb b 47 c.if-next-eq47.false) (c.plain_element.ensures.value yes context end s h)
+returns-clause-value c = λ yes context end s around h. c.plain_steps.ensures.one (eqb-true _ _ yes) context end s around h
 
 pub returns-clause-other : goal.returns-clause-other
 returns-clause-other c = λ no context end s h.
-    let o = c.plain_element.ensures.other no in
-    state_kept context.limit end s c.args.cursor.now c.plain_element.new.cursor c.args.builder.now c.plain_element.new.builder h o.0 o.1
+    c.plain_steps.ensures.none (none_read _ c.plain_steps.ensures.count no (λ two. cc (c.plain_steps.ensures.two two).0) (λ three. cc (c.plain_steps.ensures.apart three).0)) context end s h
+
+pub returns-clause-place : goal.returns-clause-place
+returns-clause-place c = λ no. c.plain_steps.ensures.place (none_read _ c.plain_steps.ensures.count no (λ two. cc (c.plain_steps.ensures.two two).0) (λ three. cc (c.plain_steps.ensures.apart three).0))

@@ -1,7 +1,7 @@
 use Rattle.std.proofs.Common.{◌≡◌, [], true, false, sym, ap, ◌∙◌}
 use Rattle.std.proofs.lemmas.Result.{err_from_is_err_and}
 use Rattle.rox_grammar.specs.declared.fault.Word.TheVariants as word
-use Rattle.rox_grammar.specs.Constructs.{at}
+use Rattle.rox_grammar.specs.FixedTexts.{at}
 use Rattle.rox_reading.specs.Doctype.{with_state}
 use Rattle.rox_reading.proofs.Settling.{no_doctype_here, forbidden_stops, doctype_stops, doctype_read, doctype_run, step_run}
 use Rattle.rox_build.specs.Requests.{Allows}

@@ -2,7 +2,7 @@ use Rattle.std.proofs.Common.{◌≡◌, ◌-◌, ◌+◌, suc, true, false, sym
 use Rattle.std.proofs.lemmas.Result.{err_from_is_err_and}
 use Rattle.rox_grammar.specs.declared.fault.Word.TheVariants as word
 use Rattle.rox_grammar.specs.Names.{spaces_end}
-use Rattle.rox_grammar.specs.Constructs.{at}
+use Rattle.rox_grammar.specs.FixedTexts.{at}
 use Rattle.rox_reading.specs.Refusals.{lifted}
 use Rattle.rox_values.specs.Refusals.{IsFailure}
 use Rattle.rox_scan.specs.declared.cursor.Cursor.{Cursor}

@@ -12,41 +12,42 @@ use Rattle.rox_values.specs.DeclaredEntities.{values_in}
 use Rattle.rox_tables.specs.Rows.{namespace_view, scope_at, AreScopes, attribute_rows}
 use Rattle.rox_tables.specs.Scopes.{PrefixesOnce}
 use Rattle.rox_build.specs.ElementRow.{scope_in_tables}
+use Rattle.rox_build.specs.TagState.{IsReadingTag}
 use Rattle.rox_tables.proofs.Declaring.{scope_declared, once_none}
 use Rattle.rox_tables.proofs.Remembering.{remembers_none}
 use Rattle.rox_build.proofs.Starting.{holds_nothing, tag_unread, tag_untested, tag_made, tagged, tested_fails, tested_passes}
 use Rattle.rox_build.proofs.tag.start_tag.Goals as goal
 
-pub attributes-requires-clause-prefix_set : goal.attributes-requires-clause-prefix_set
-attributes-requires-clause-prefix_set c =
-    let listed = c.args.elements.now.listed.items in
-    let k = c.args.elements.now.listed.ok.0 in
+pub attributes-requires : goal.attributes-requires
+attributes-requires c =
+    let old = c.args.elements.now in
+    let namespaces = map namespace_view old.namespaces.items.items in
+    let listed = old.listed.items in
+    let k = old.listed.ok.0 in
     let own : c.len-own.result ≡ length listed = omega arith in
-    remembers_none (map namespace_view c.args.elements.now.namespaces.items.items) listed c.len-own.result c.args.buffers.now.prefix_set.keys own
+    let tables : IsReadingTag old c.args.buffers.now.prefix_set.keys c.len-own.result = record {
+      places = c.requires.places;
+      own_within = omega arith;
+      few = c.requires.few;
+      prefixes = remembers_none namespaces listed c.len-own.result c.args.buffers.now.prefix_set.keys own;
+      once = once_none namespaces listed c.len-own.result own;
+      scopes = subst (λ n. AreScopes n old.scopes.items) (sym own) c.requires.scopes;
+      kept = c.requires.kept;
+    } in
+    record { tables = tables }
 
-pub attributes-requires-clause-scopes : goal.attributes-requires-clause-scopes
-attributes-requires-clause-scopes c =
-    let old = c.args.elements.now in
-    let k = old.listed.ok.0 in
-    let own : length old.listed.items ≡ c.len-own.result = omega arith in
-    subst (λ n. AreScopes n old.scopes.items) own c.requires.scopes
-
-pub attributes-requires-clause-once : goal.attributes-requires-clause-once
-attributes-requires-clause-once c =
-    let old = c.args.elements.now in
-    let k = old.listed.ok.0 in
-    let own : c.len-own.result ≡ length old.listed.items = omega arith in
-    once_none (map namespace_view old.namespaces.items.items) old.listed.items c.len-own.result own
-
-pub scope_of_tag-requires-clause-once : goal.scope_of_tag-requires-clause-once
-scope_of_tag-requires-clause-once c = subst (λ ls. PrefixesOnce (scope_at ls c.args.above)) (sym c.in_ok-xml.ensures.lists) c.requires.once
-
-pub scope_of_tag-requires-clause-scopes : goal.scope_of_tag-requires-clause-scopes
-scope_of_tag-requires-clause-scopes c =
-    let old = c.args.elements.now in
-    let k = old.listed.ok.0 in
-    let own : length old.listed.items ≡ c.len-own.result = omega arith in
-    rw c.in_ok-xml.ensures.scopes (subst (λ n. AreScopes n old.scopes.items) own c.requires.scopes)
+pub scope_of_tag-requires-clause-tag : goal.scope_of_tag-requires-clause-tag
+scope_of_tag-requires-clause-tag c =
+    let t = c.in_ok-xml.ensures.tables in
+    record {
+      places = t.places;
+      own_within = t.own_within;
+      scopes = t.scopes;
+      above_within = rw c.in_ok-xml.ensures.kept.scopes c.requires.above;
+      once = subst (λ ls. PrefixesOnce (scope_at ls c.args.around.above)) (sym c.in_ok-xml.ensures.kept.lists) c.requires.once;
+      own_once = t.once;
+      kept = t.kept;
+    }
 
 pub returns-in_err-xml-clause-value : goal.returns-in_err-xml-clause-value
 returns-in_err-xml-clause-value c = λ es declared.
@@ -54,7 +55,7 @@ returns-in_err-xml-clause-value c = λ es declared.
     let src = c.args.cursor.now.text.now in
     let i = c.args.cursor.now.pos in
     let known = map namespace_view old.namespaces.items.items in
-    let above = scope_in_tables old c.args.above in
+    let above = scope_in_tables old c.args.around.above in
     let s = ap (λ t. t.now) c.advance.ensures.source in
     let s2 = ap (λ t. t.now) c.qname.ensures.source ∙ s in
     let name = name_view c.in_ok-name.name in
@@ -68,7 +69,7 @@ returns-in_err-xml-clause-value c = λ es declared.
     let nothing = holds_nothing known old.listed.items _ few c.clear.ensures.items in
     let took = c.in_err-xml.ensures.took es known old.listed.items start declared own nothing in
     let p = err_from_is_err_and c.from_residual-in_err-xml.result c.from_residual-in_err-xml.ensures.1 in
-    rw (p.1, p.2) (tag_unread (values_in es c.args.context) c.args.cut above (length (attribute_rows old.attributes)) known src i c.args.openings_left name n c.in_err-xml.field-0.0 is other (rw s2 at took))
+    rw (p.1, p.2) (tag_unread (values_in es c.args.context) c.args.around.cut above (length (attribute_rows old.attributes)) known src i c.args.around.openings_left name n c.in_err-xml.field-0.0 is other (rw s2 at took))
 
 pub returns-in_err-element-clause-value : goal.returns-in_err-element-clause-value
 returns-in_err-element-clause-value c = λ es declared.
@@ -76,7 +77,7 @@ returns-in_err-element-clause-value c = λ es declared.
     let src = c.args.cursor.now.text.now in
     let i = c.args.cursor.now.pos in
     let known = map namespace_view old.namespaces.items.items in
-    let above = scope_in_tables old c.args.above in
+    let above = scope_in_tables old c.args.around.above in
     let s = ap (λ t. t.now) c.advance.ensures.source in
     let s2 = ap (λ t. t.now) c.qname.ensures.source ∙ s in
     let name = name_view c.in_ok-name.name in
@@ -90,18 +91,18 @@ returns-in_err-element-clause-value c = λ es declared.
     let nothing = holds_nothing known old.listed.items _ few c.clear.ensures.items in
     let took = c.in_ok-xml.ensures.took es known old.listed.items start declared own nothing in
     let h = took.0 in
-    let read : attributes_at (length src) (values_in es c.args.context) c.args.cut known src n c.args.openings_left start ≡ Ok (record { held = h; empty = c.in_ok-xml.empty; openings_left = c.in_ok-xml.openings_left }, c.attributes.new.cursor.pos) = rw s2 at took.1 in
+    let read : attributes_at (length src) (values_in es c.args.context) c.args.around.cut known src n c.args.around.openings_left start ≡ Ok (record { held = h; empty = c.in_ok-xml.empty; openings_left = c.in_ok-xml.openings_left }, c.attributes.new.cursor.pos) = rw s2 at took.1 in
     let scopes : scope_in_tables c.scope_of_tag.new.elements c.in_ok-scope.scope ≡ listed above h.own =
     scope_declared known old.listed.items (map namespace_view c.attributes.new.elements.namespaces.items.items) c.attributes.new.elements.listed.items c.in_ok-xml.xml h.own
-    (scope_in_tables c.attributes.new.elements c.args.above) (scope_in_tables c.scope_of_tag.new.elements c.in_ok-scope.scope) c.len-own.result own took.2.declares c.in_ok-scope.ensures.value.lists
-    ∙ ap (λ xs. listed xs h.own) (ap (λ ls. scope_at ls c.args.above) c.in_ok-xml.ensures.lists) in
+    (scope_in_tables c.attributes.new.elements c.args.around.above) (scope_in_tables c.scope_of_tag.new.elements c.in_ok-scope.scope) c.len-own.result own took.2.declares c.in_ok-scope.ensures.lists
+    ∙ ap (λ xs. listed xs h.own) (ap (λ ls. scope_at ls c.args.around.above) c.in_ok-xml.ensures.kept.lists) in
     let written = took.2.attributes in
     let count : length (attribute_rows c.scope_of_tag.new.elements.attributes) ≡ length (attribute_rows old.attributes) =
-    ap (λ v. length (attribute_rows v)) (c.in_ok-scope.ensures.attributes ∙ c.in_ok-xml.ensures.attributes) in
+    ap (λ v. length (attribute_rows v)) (c.in_ok-scope.ensures.attributes ∙ c.in_ok-xml.ensures.kept.attributes) in
     let p = err_from_is_err_and c.from_residual-in_err-element.result c.from_residual-in_err-element.ensures.1 in
     let fails : Fails c.in_err-element.field-0.0 (tag_tested (listed above h.own) (length (attribute_rows old.attributes)) i name h.attributes) =
     tested_fails c.in_err-element.field-0.0 (listed above h.own) (length (attribute_rows old.attributes)) i name h.attributes (rw (scopes, count, written, c.advance.ensures.place) at c.in_err-element.ensures.err) in
-    rw (p.1, p.2) (tag_untested (values_in es c.args.context) c.args.cut above (length (attribute_rows old.attributes)) known src i c.args.openings_left name n c.attributes.new.cursor.pos h c.in_ok-xml.empty c.in_ok-xml.openings_left c.in_err-element.field-0.0 is other read fails)
+    rw (p.1, p.2) (tag_untested (values_in es c.args.context) c.args.around.cut above (length (attribute_rows old.attributes)) known src i c.args.around.openings_left name n c.attributes.new.cursor.pos h c.in_ok-xml.empty c.in_ok-xml.openings_left c.in_err-element.field-0.0 is other read fails)
 
 pub returns-clause-value : goal.returns-clause-value
 returns-clause-value c = λ es declared.
@@ -109,7 +110,7 @@ returns-clause-value c = λ es declared.
     let src = c.args.cursor.now.text.now in
     let i = c.args.cursor.now.pos in
     let known = map namespace_view old.namespaces.items.items in
-    let above = scope_in_tables old c.args.above in
+    let above = scope_in_tables old c.args.around.above in
     let s = ap (λ t. t.now) c.advance.ensures.source in
     let s2 = ap (λ t. t.now) c.qname.ensures.source ∙ s in
     let name = name_view c.in_ok-name.name in
@@ -123,19 +124,19 @@ returns-clause-value c = λ es declared.
     let nothing = holds_nothing known old.listed.items _ few c.clear.ensures.items in
     let took = c.in_ok-xml.ensures.took es known old.listed.items start declared own nothing in
     let h = took.0 in
-    let read : attributes_at (length src) (values_in es c.args.context) c.args.cut known src n c.args.openings_left start ≡ Ok (record { held = h; empty = c.in_ok-xml.empty; openings_left = c.in_ok-xml.openings_left }, c.attributes.new.cursor.pos) = rw s2 at took.1 in
+    let read : attributes_at (length src) (values_in es c.args.context) c.args.around.cut known src n c.args.around.openings_left start ≡ Ok (record { held = h; empty = c.in_ok-xml.empty; openings_left = c.in_ok-xml.openings_left }, c.attributes.new.cursor.pos) = rw s2 at took.1 in
     let scopes : scope_in_tables c.scope_of_tag.new.elements c.in_ok-scope.scope ≡ listed above h.own =
     scope_declared known old.listed.items (map namespace_view c.attributes.new.elements.namespaces.items.items) c.attributes.new.elements.listed.items c.in_ok-xml.xml h.own
-    (scope_in_tables c.attributes.new.elements c.args.above) (scope_in_tables c.scope_of_tag.new.elements c.in_ok-scope.scope) c.len-own.result own took.2.declares c.in_ok-scope.ensures.value.lists
-    ∙ ap (λ xs. listed xs h.own) (ap (λ ls. scope_at ls c.args.above) c.in_ok-xml.ensures.lists) in
+    (scope_in_tables c.attributes.new.elements c.args.around.above) (scope_in_tables c.scope_of_tag.new.elements c.in_ok-scope.scope) c.len-own.result own took.2.declares c.in_ok-scope.ensures.lists
+    ∙ ap (λ xs. listed xs h.own) (ap (λ ls. scope_at ls c.args.around.above) c.in_ok-xml.ensures.kept.lists) in
     let written = took.2.attributes in
     let count : length (attribute_rows c.scope_of_tag.new.elements.attributes) ≡ length (attribute_rows old.attributes) =
-    ap (λ v. length (attribute_rows v)) (c.in_ok-scope.ensures.attributes ∙ c.in_ok-xml.ensures.attributes) in
+    ap (λ v. length (attribute_rows v)) (c.in_ok-scope.ensures.attributes ∙ c.in_ok-xml.ensures.kept.attributes) in
     let fine : tag_tested (listed above h.own) (length (attribute_rows old.attributes)) i name h.attributes ≡ Ok tt =
     tested_passes (listed above h.own) (length (attribute_rows old.attributes)) i name h.attributes (rw (scopes, count, written, c.advance.ensures.place) at c.in_ok-element.ensures.tested) in (
       record { name = name; name_end = n; declarations = h.own; attributes = h.attributes },
-      tag_made (values_in es c.args.context) c.args.cut above (length (attribute_rows old.attributes)) known src i c.args.openings_left name n c.attributes.new.cursor.pos h c.in_ok-xml.empty c.in_ok-xml.openings_left is other read fine,
+      tag_made (values_in es c.args.context) c.args.around.cut above (length (attribute_rows old.attributes)) known src i c.args.around.openings_left name n c.attributes.new.cursor.pos h c.in_ok-xml.empty c.in_ok-xml.openings_left is other read fine,
       tagged old c.attributes.new.elements c.scope_of_tag.new.elements c.element_data.new.elements _ above name n h c.in_ok-xml.xml _ c.in_ok-scope.scope refl refl
-          c.in_ok-xml.ensures.attributes took.2 c.in_ok-xml.ensures.few c.in_ok-scope.ensures.namespaces c.in_ok-scope.ensures.attributes c.in_ok-xml.ensures.lists (c.in_ok-scope.ensures.value.more, c.in_ok-scope.ensures.value.lists_more) c.in_ok-scope.ensures.value.places
-          c.in_ok-scope.ensures.value.scopes scopes c.in_ok-element.ensures.namespaces c.in_ok-element.ensures.listed c.in_ok-element.ensures.scopes c.in_ok-element.ensures.element c.in_ok-scope.ensures.value.kept c.in_ok-element.ensures.present c.in_ok-scope.ensures.value.once,
+          c.in_ok-xml.ensures.kept.attributes took.2 c.in_ok-xml.ensures.tables.few c.in_ok-scope.ensures.namespaces c.in_ok-scope.ensures.attributes c.in_ok-xml.ensures.kept.lists (c.in_ok-scope.ensures.more, c.in_ok-scope.ensures.lists_more) c.in_ok-scope.ensures.places
+          c.in_ok-scope.ensures.scopes scopes c.in_ok-element.ensures.namespaces c.in_ok-element.ensures.listed c.in_ok-element.ensures.scopes c.in_ok-element.ensures.element c.in_ok-scope.ensures.kept c.in_ok-element.ensures.present c.in_ok-scope.ensures.once,
     )

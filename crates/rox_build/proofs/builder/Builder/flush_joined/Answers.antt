@@ -10,6 +10,7 @@ use Rattle.rox_tables.specs.declared.rows.tables.NodeKind.TheVariants as kind
 use Rattle.rox_tables.specs.declared.rows.tables.NodeData.{NodeData}
 use Rattle.std.specs.String.{string_bytes}
 use Rattle.rox_build.proofs.Showing.{settled_joined}
+use Rattle.rox_tables.specs.Rows.{node_rows}
 use Rattle.rox_build.proofs.builder.Builder.flush_joined.Goals as goal
 
 pub returns-clause-ok : goal.returns-clause-ok
@@ -20,4 +21,4 @@ returns-clause-ok c = λ end stack done sh.
     let k : NodeKind = kind.Text c.in_ok-text.text in
     let is : node (attribute_rows b.tables.attributes) (names_in b.tables) (lists_in b.tables) c.args.start c.args.end k ≡ node_in (scope_of stack) (Text c.args.start c.args.end (string_bytes b.joined) false) = rw (v, o) refl in
     settled_joined end stack done b _ c.args.start c.args.end k sh c.requires is tt
-    (c.in_ok-push.ensures.items ∙ ap (λ (r : NodeData). b.nodes.items ++ r ∷ []) c.row-row.ensures) refl refl refl
+    (c.in_ok-push.ensures.rows ∙ ap (λ (r : NodeData). (node_rows b.nodes) ++ r ∷ []) c.row-row.ensures) refl refl refl

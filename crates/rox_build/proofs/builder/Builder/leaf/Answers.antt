@@ -7,6 +7,8 @@ use Rattle.rox_grammar.specs.State.{scope_of}
 use Rattle.rox_reading.specs.State.{State}
 use Rattle.rox_tables.specs.declared.rows.tables.NodeData.{NodeData}
 use Rattle.rox_build.proofs.Showing.{leaf_shows, leaf_count, settled_count, counted_ok, counted_err}
+use Rattle.rox_tables.specs.Rows.{node_rows}
+use Rattle.rox_tables.proofs.StoredNodes.{count_nodes}
 use Rattle.rox_build.proofs.builder.Builder.leaf.Goals as goal
 
 pub returns-clause-value : goal.returns-clause-value
@@ -18,13 +20,13 @@ returns-clause-value c = λ total at s item sh is.
     let n = settled_count total s.stack s.done f st in
     let m = leaf_count s.stack s.done item is.no_text in
     let room = c.in_ok-room.ensures.ok in
-    let len = f.nodes.ok.0 in
+    let len = count_nodes f.nodes in
     let limit = c.flush.ensures.limit in
     let empty = c.in_ok-flush.ensures.empty in (
       t,
       counted_ok c.args.self.now.nodes_limit t (omega arith),
       leaf_shows total s.stack s.done f _ c.args.start c.args.end c.args.kind item st k
-          (c.in_ok-push.ensures.items ∙ ap (λ (r : NodeData). f.nodes.items ++ r ∷ []) c.row-row.ensures) refl refl refl,
+          (c.in_ok-push.ensures.rows ∙ ap (λ (r : NodeData). (node_rows f.nodes) ++ r ∷ []) c.row-row.ensures) refl refl refl,
     )
 
 pub returns-in_err-room-clause-value : goal.returns-in_err-room-clause-value
@@ -37,7 +39,7 @@ returns-in_err-room-clause-value c = λ total at s item sh is.
     let m = leaf_count s.stack s.done item is.no_text in
     let e = c.in_err-room.ensures.err in
     let over = e.1 in
-    let len = f.nodes.ok.0 in
+    let len = count_nodes f.nodes in
     let limit = c.flush.ensures.limit in
     let empty = c.in_ok-flush.ensures.empty in
     rw (p.1, p.2, e.0) (counted_err c.args.self.now.nodes_limit t (omega arith))

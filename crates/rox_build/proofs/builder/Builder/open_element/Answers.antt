@@ -11,6 +11,8 @@ use Rattle.rox_tables.specs.declared.rows.tables.NodeKind.{NodeKind}
 use Rattle.rox_tables.specs.declared.rows.tables.NodeKind.TheVariants as kind
 use Rattle.rox_tables.specs.declared.rows.tables.NodeData.{NodeData}
 use Rattle.rox_build.proofs.Showing.{row_open, open_shows, open_count, settled_count, counted_ok, counted_err}
+use Rattle.rox_tables.specs.Rows.{node_rows}
+use Rattle.rox_tables.proofs.StoredNodes.{count_nodes}
 use Rattle.rox_build.proofs.builder.Builder.open_element.Goals as goal
 
 pub returns-clause-value : goal.returns-clause-value
@@ -23,16 +25,16 @@ returns-clause-value c = λ total at openings_left s t sh here is.
     let n = settled_count total s.stack s.done f st in
     let m = open_count s.stack s.at t s.done in
     let room = c.in_ok-room.ensures.ok in
-    let len = f.nodes.ok.0 in
+    let len = count_nodes f.nodes in
     let limit = c.flush.ensures.limit in
     let empty = c.in_ok-flush.ensures.empty in
     let k : NodeKind = kind.Element tag.element in
     let x : OpenElement = record { row = c.len-row.result; name = tag.name; name_start = tag.name_start; name_end = tag.name_end; scope = tag.element.scope } in
-    let place : c.len-row.result ≡ length f.nodes.items = omega (arith, c.len-row.ensures) in
+    let place : c.len-row.result ≡ length (node_rows f.nodes) = omega (arith, c.len-row.ensures.nodes) in
     let view : opened (lists_in f.tables) x ≡ record { row = x.row; name = t.name; name_start = s.at + 1; name_end = t.name_end; scope = listed (scope_of s.stack) t.declarations } =
     rw (op.name, op.name_start, op.name_end, op.scope) refl in
-    let rows : c.push.new.to.items ≡ f.nodes.items ++ row_open f.tables 0 f.opened.items s.at k ∷ [] =
-    rw here (c.in_ok-push.ensures.items ∙ ap (λ (r : NodeData). f.nodes.items ++ record r { subtree_end = 0 } ∷ []) c.row-opening.ensures) in (
+    let rows : node_rows c.push.new.self ≡ (node_rows f.nodes) ++ row_open f.tables 0 f.opened.items s.at k ∷ [] =
+    rw here (c.in_ok-push.ensures.rows ∙ ap (λ (r : NodeData). (node_rows f.nodes) ++ record r { subtree_end = 0 } ∷ []) c.row-opening.ensures) in (
       next,
       counted_ok c.args.self.now.nodes_limit next (omega arith),
       open_shows total s.stack s.done f _ s.at k t x st op.node.is op.node.within place view rows refl c.in_ok-push-2.ensures.items refl,
@@ -48,7 +50,7 @@ returns-in_err-room-clause-value c = λ total at openings_left s t sh here is.
     let m = open_count s.stack s.at t s.done in
     let e = c.in_err-room.ensures.err in
     let over = e.1 in
-    let len = f.nodes.ok.0 in
+    let len = count_nodes f.nodes in
     let limit = c.flush.ensures.limit in
     let empty = c.in_ok-flush.ensures.empty in
     rw (p.1, p.2, e.0) (counted_err c.args.self.now.nodes_limit next (omega arith))

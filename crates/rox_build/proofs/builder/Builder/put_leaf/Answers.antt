@@ -5,26 +5,29 @@ use Rattle.rox_build.specs.BuilderState.{IsNode}
 use Rattle.rox_grammar.specs.State.{scope_of}
 use Rattle.rox_reading.specs.State.{State}
 use Rattle.rox_tables.specs.declared.rows.tables.NodeData.{NodeData}
+use Rattle.rox_tables.specs.declared.rows.tables.NodeKind.TheVariants as kind
 use Rattle.rox_build.proofs.Showing.{leaf_shows, leaf_count, settled_count, counted_ok}
+use Rattle.rox_tables.specs.Rows.{node_rows}
+use Rattle.rox_tables.proofs.StoredNodes.{count_nodes}
 use Rattle.rox_build.proofs.builder.Builder.put_leaf.Goals as goal
 
 pub row-row-requires : goal.row-row-requires
-row-row-requires c = let small = c.requires.small in let same = ap (λ v. v.len) c.settle.ensures.nodes in omega arith
+row-row-requires c = let small = c.requires.ready.small in let same = ap (λ v. v.rows.len) c.settle.ensures.nodes in omega arith
 
 pub returns-clause-value : goal.returns-clause-value
 returns-clause-value c = λ total at s item sh is.
     let f = c.settle.new.self in
     let st = c.settle.ensures.ok total s.stack s.done sh in
-    let k : IsNode f.tables (scope_of s.stack) c.args.start c.args.end c.args.kind item = rw c.settle.ensures.tables is in
+    let k : IsNode f.tables (scope_of s.stack) c.args.start c.args.end (kind.Element c.args.element) item = rw c.settle.ensures.tables is in
     let t : State = record { at = at; done = join s.done (leaf item); stack = s.stack; openings_left = s.openings_left } in
     let n = settled_count total s.stack s.done f st in
     let m = leaf_count s.stack s.done item is.no_text in
-    let few = c.requires.few in
-    let same = ap (λ v. v.len) c.settle.ensures.nodes in
-    let len = f.nodes.ok.0 in
-    let old = c.args.self.now.nodes.ok.0 in (
+    let few = c.requires.ready.few in
+    let same = ap (λ v. v.rows.len) c.settle.ensures.nodes in
+    let len = count_nodes f.nodes in
+    let old = count_nodes c.args.self.now.nodes in (
       t,
       counted_ok c.args.self.now.nodes_limit t (omega arith),
-      leaf_shows total s.stack s.done f _ c.args.start c.args.end c.args.kind item st k
-          (c.push_reserved.ensures.items ∙ ap (λ (r : NodeData). f.nodes.items ++ r ∷ []) c.row-row.ensures) refl refl refl,
+      leaf_shows total s.stack s.done f _ c.args.start c.args.end (kind.Element c.args.element) item st k
+          (c.put.ensures.rows ∙ ap (λ (r : NodeData). (node_rows f.nodes) ++ r ∷ []) c.row-row.ensures) refl refl refl,
     )

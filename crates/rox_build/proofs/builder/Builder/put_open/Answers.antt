@@ -10,10 +10,12 @@ use Rattle.rox_tables.specs.declared.rows.tables.NodeKind.{NodeKind}
 use Rattle.rox_tables.specs.declared.rows.tables.NodeKind.TheVariants as kind
 use Rattle.rox_tables.specs.declared.rows.tables.NodeData.{NodeData}
 use Rattle.rox_build.proofs.Showing.{row_open, open_shows, open_count, settled_count, counted_ok}
+use Rattle.rox_tables.specs.Rows.{node_rows}
+use Rattle.rox_tables.proofs.StoredNodes.{count_nodes}
 use Rattle.rox_build.proofs.builder.Builder.put_open.Goals as goal
 
 pub row-opening-requires : goal.row-opening-requires
-row-opening-requires c = let small = c.requires.small in let same = ap (λ v. v.len) c.settle.ensures.nodes in omega arith
+row-opening-requires c = let small = c.requires.ready.small in let same = ap (λ v. v.rows.len) c.settle.ensures.nodes in omega arith
 
 pub returns-clause-value : goal.returns-clause-value
 returns-clause-value c = λ total at openings_left s t sh here is.
@@ -24,18 +26,18 @@ returns-clause-value c = λ total at openings_left s t sh here is.
     let next : State = record { at = at; done = Nil; stack = inside s.at t s.done s.stack; openings_left = openings_left } in
     let n = settled_count total s.stack s.done f st in
     let m = open_count s.stack s.at t s.done in
-    let few = c.requires.few in
-    let len = f.nodes.ok.0 in
-    let old = c.args.self.now.nodes.ok.0 in
-    let same = ap (λ v. v.len) c.settle.ensures.nodes in
+    let few = c.requires.ready.few in
+    let len = count_nodes f.nodes in
+    let old = count_nodes c.args.self.now.nodes in
+    let same = ap (λ v. v.rows.len) c.settle.ensures.nodes in
     let k : NodeKind = kind.Element tag.element in
     let x : OpenElement = record { row = c.len-row.result; name = tag.name; name_start = tag.name_start; name_end = tag.name_end; scope = tag.element.scope } in
-    let place : c.len-row.result ≡ length f.nodes.items = omega (arith, c.len-row.ensures) in
+    let place : c.len-row.result ≡ length (node_rows f.nodes) = omega (arith, c.len-row.ensures.nodes) in
     let view : opened (lists_in f.tables) x ≡ record { row = x.row; name = t.name; name_start = s.at + 1; name_end = t.name_end; scope = listed (scope_of s.stack) t.declarations } =
     rw (op.name, op.name_start, op.name_end, op.scope) refl in
-    let rows : c.push_reserved.new.self.items ≡ f.nodes.items ++ row_open f.tables 0 f.opened.items s.at k ∷ [] =
-    rw here (c.push_reserved.ensures.items ∙ ap (λ (r : NodeData). f.nodes.items ++ record r { subtree_end = 0 } ∷ []) c.row-opening.ensures) in (
+    let rows : node_rows c.put.new.self ≡ (node_rows f.nodes) ++ row_open f.tables 0 f.opened.items s.at k ∷ [] =
+    rw here (c.put.ensures.rows ∙ ap (λ (r : NodeData). (node_rows f.nodes) ++ record r { subtree_end = 0 } ∷ []) c.row-opening.ensures) in (
       next,
       counted_ok c.args.self.now.nodes_limit next (omega arith),
-      open_shows total s.stack s.done f _ s.at k t x st op.node.is op.node.within place view rows refl c.push_reserved-2.ensures.items refl,
+      open_shows total s.stack s.done f _ s.at k t x st op.node.is op.node.within place view rows refl c.push_reserved.ensures.items refl,
     )

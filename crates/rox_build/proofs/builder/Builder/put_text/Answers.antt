@@ -6,7 +6,9 @@ use Rattle.rox_tables.specs.declared.rows.tables.NodeData.{NodeData}
 use Rattle.rox_tables.specs.declared.rows.tables.NodeKind.{NodeKind}
 use Rattle.rox_tables.specs.declared.rows.tables.NodeKind.TheVariants as kind
 use Rattle.rox_tables.specs.declared.rows.storage.StringStorage.TheVariants as storage
-use Rattle.rox_build.proofs.Showing.{slice_first, first_count, counted_ok}
+use Rattle.rox_build.proofs.Showing.{piece_first, first_count, counted_ok}
+use Rattle.rox_tables.specs.Rows.{node_rows}
+use Rattle.rox_tables.proofs.StoredNodes.{count_nodes}
 use Rattle.rox_build.proofs.builder.Builder.put_text.Goals as goal
 
 pub row-row-requires : goal.row-row-requires
@@ -19,7 +21,7 @@ returns-clause-value c = λ total at s sh.
     let t : State = record { at = at; done = join s.done (leaf (Text c.args.start c.args.end v true)); stack = s.stack; openings_left = s.openings_left } in
     let n = first_count total s.stack s.done b c.args.start c.args.end v true sh c.requires.apart in
     let few = c.requires.ready.few in
-    let len = b.nodes.ok.0 in
+    let len = count_nodes b.nodes in
     let k : NodeKind = kind.Text (storage.Borrowed c.args.text) in
-    let rows = c.push_reserved.ensures.items ∙ ap (λ (r : NodeData). b.nodes.items ++ r ∷ []) c.row-row.ensures in
-    (t, counted_ok b.nodes_limit t (omega arith), slice_first total s.stack s.done b _ c.args.start c.args.end v k sh c.requires.apart refl tt rows refl refl refl)
+    let rows = c.put.ensures.rows ∙ ap (λ (r : NodeData). (node_rows b.nodes) ++ r ∷ []) c.row-row.ensures in
+    (t, counted_ok b.nodes_limit t (omega arith), piece_first total s.stack s.done b _ c.args.start c.args.end v true k sh c.requires.apart refl tt rows refl refl refl)

@@ -8,7 +8,9 @@ use Rattle.rox_tables.specs.declared.rows.tables.NodeData.{NodeData}
 use Rattle.rox_tables.specs.declared.rows.tables.NodeKind.{NodeKind}
 use Rattle.rox_tables.specs.declared.rows.tables.NodeKind.TheVariants as kind
 use Rattle.rox_tables.specs.declared.rows.storage.StringStorage.TheVariants as storage
-use Rattle.rox_build.proofs.Showing.{slice_first, slice_more, piece_more, first_count, written_count, more_count, counted_ok, counted_err}
+use Rattle.rox_build.proofs.Showing.{piece_first, slice_more, piece_more, first_count, written_count, more_count, counted_ok, counted_err}
+use Rattle.rox_tables.specs.Rows.{node_rows}
+use Rattle.rox_tables.proofs.StoredNodes.{count_nodes}
 use Rattle.rox_build.proofs.builder.Builder.slice_piece.Goals as goal
 
 pub returns-in_err-room-in-None-clause-value : goal.returns-in_err-room-in-None-clause-value
@@ -21,7 +23,7 @@ returns-in_err-room-in-None-clause-value c = λ total at s sh.
     let e = c.in_err-room-in-None.ensures.err in
     let over = e.1 in
     let w = ap waiting c.in-None.is in
-    let len = b.nodes.ok.0 in
+    let len = count_nodes b.nodes in
     rw (p.1, p.2, e.0) (counted_err b.nodes_limit t (omega arith))
 
 pub returns-in_ok-push-in-None-clause-value : goal.returns-in_ok-push-in-None-clause-value
@@ -32,10 +34,10 @@ returns-in_ok-push-in-None-clause-value c = λ total at s sh.
     let n = first_count total s.stack s.done b c.args.start c.args.end v true sh c.in-None.is in
     let room = c.in_ok-room-in-None.ensures.ok in
     let w = ap waiting c.in-None.is in
-    let len = b.nodes.ok.0 in
+    let len = count_nodes b.nodes in
     let k : NodeKind = kind.Text (storage.Borrowed c.args.text) in
-    let rows = c.in_ok-push-in-None.ensures.items ∙ ap (λ (r : NodeData). b.nodes.items ++ r ∷ []) c.row-row.ensures in
-    (t, counted_ok b.nodes_limit t (omega arith), slice_first total s.stack s.done b _ c.args.start c.args.end v k sh c.in-None.is refl tt rows refl refl refl)
+    let rows = c.in_ok-push-in-None.ensures.rows ∙ ap (λ (r : NodeData). (node_rows b.nodes) ++ r ∷ []) c.row-row.ensures in
+    (t, counted_ok b.nodes_limit t (omega arith), piece_first total s.stack s.done b _ c.args.start c.args.end v true k sh c.in-None.is refl tt rows refl refl refl)
 
 pub returns-in_ok-range-in-Written-clause-value : goal.returns-in_ok-range-in-Written-clause-value
 returns-in_ok-range-in-Written-clause-value c = λ total at s sh.
@@ -43,7 +45,7 @@ returns-in_ok-range-in-Written-clause-value c = λ total at s sh.
     let v : List ℕ = c.args.text.now in
     let t : State = record { at = at; done = join s.done (leaf (Text c.args.start c.args.end v true)); stack = s.stack; openings_left = s.openings_left } in
     let n = written_count total s.stack s.done b c.args.start c.args.end v true sh c.in-Written.is in
-    let len = b.nodes.ok.0 in
+    let len = count_nodes b.nodes in
     let most = b.counted in
     let some = b.shallow in
     let w = ap waiting c.in-Written.is in
@@ -57,7 +59,7 @@ returns-in_ok-push_str-in-Joined-clause-value c = λ total at s sh.
     let t : State = record { at = at; done = join s.done (leaf (Text c.args.start c.args.end v true)); stack = s.stack; openings_left = s.openings_left } in
     let n = more_count total s.stack s.done b c.in-Joined.field-0 c.in-Joined.field-1 c.args.start c.args.end v true sh c.in-Joined.is in
     let w = ap waiting c.in-Joined.is in
-    let len = b.nodes.ok.0 in
+    let len = count_nodes b.nodes in
     let most = b.counted in
     let some = b.shallow in (
       t,
