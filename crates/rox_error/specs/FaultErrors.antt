@@ -29,13 +29,7 @@ position_of (error.MalformedEntityReference p) = p
 position_of (error.EntityReferenceLoop p) = p
 position_of (error.InvalidAttributeValue p) = p
 position_of (error.DuplicatedAttribute n p) = p
-position_of error.NoRootNode = record { row = 1; col = 1 }
-position_of error.UnclosedRootNode = record { row = 1; col = 1 }
 position_of (error.UnexpectedDeclaration p) = p
-position_of error.DtdDetected = record { row = 1; col = 1 }
-position_of error.NodesLimitReached = record { row = 1; col = 1 }
-position_of error.AttributesLimitReached = record { row = 1; col = 1 }
-position_of error.NamespacesLimitReached = record { row = 1; col = 1 }
 position_of (error.InvalidName p) = p
 position_of (error.NonXmlChar c p) = p
 position_of (error.InvalidChar e a p) = p
@@ -46,8 +40,7 @@ position_of (error.EntityResolver p m) = p
 position_of (error.InvalidComment p) = p
 position_of (error.InvalidCharacterData p) = p
 position_of (error.UnknownToken p) = p
-position_of error.UnexpectedEndOfStream = record { row = 1; col = 1 }
-position_of error.OutOfMemory = record { row = 1; col = 1 }
+position_of other = record { row = 1; col = 1 }
 
 -- the position of a place in a source
 abbrev pub position_at : List ℕ → ℕ → TextPos

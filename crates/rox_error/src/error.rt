@@ -289,7 +289,8 @@ fn write_around<W: fmt::Write>(
     pos: &TextPos,
     end: &str,
 ) -> fmt::Result
-    ensures { WritesOnOk W.write_str_gives f.old result (front.now ++ (position_text pos.now ++ end.now)) f.new }
+    ensures { WritesOnOk W.write_str_gives f.old result
+        (front.now ++ (position_text pos.now ++ end.now)) f.new }
 {
     write!(f, "{front}{pos}{end}")
 }
@@ -301,7 +302,8 @@ fn write_named<W: fmt::Write>(
     name: &str,
     pos: &TextPos,
 ) -> fmt::Result
-    ensures { WritesOnOk W.write_str_gives f.old result (front.now ++ (name.now ++ (codes "' at " ++ position_text pos.now))) f.new }
+    ensures { WritesOnOk W.write_str_gives f.old result
+        (front.now ++ (name.now ++ (codes "' at " ++ position_text pos.now))) f.new }
 {
     write!(f, "{front}{name}' at {pos}")
 }
@@ -313,7 +315,9 @@ fn write_defined<W: fmt::Write>(
     name: &str,
     pos: &TextPos,
 ) -> fmt::Result
-    ensures { WritesOnOk W.write_str_gives f.old result (front.now ++ (name.now ++ (codes "' at " ++ (position_text pos.now ++ codes " is already defined")))) f.new }
+    ensures { WritesOnOk W.write_str_gives f.old result
+        (front.now ++ (name.now
+        ++ (codes "' at " ++ (position_text pos.now ++ codes " is already defined")))) f.new }
 {
     write!(f, "{front}{name}' at {pos} is already defined")
 }
@@ -325,7 +329,10 @@ fn write_names<W: fmt::Write>(
     actual: &str,
     pos: &TextPos,
 ) -> fmt::Result
-    ensures { WritesOnOk W.write_str_gives f.old result (codes "expected '" ++ (expected.now ++ (codes "' tag, not '" ++ (actual.now ++ (codes "' at " ++ position_text pos.now))))) f.new }
+    ensures { WritesOnOk W.write_str_gives f.old result (codes "expected '"
+        ++ (expected.now
+        ++ (codes "' tag, not '" ++ (actual.now ++ (codes "' at " ++ position_text pos.now)))))
+        f.new }
 {
     write!(f, "expected '{expected}' tag, not '{actual}' at {pos}")
 }
@@ -336,7 +343,9 @@ fn write_char<W: fmt::Write>(
     character: char,
     pos: &TextPos,
 ) -> fmt::Result
-    ensures { DisplaysOnOk W.write_str_gives f.old result (Some (codes "a non-XML character ") ++? quoted character ++? Some (codes " found at " ++ position_text pos.now)) f.new }
+    ensures { DisplaysOnOk W.write_str_gives f.old result
+        (Some (codes "a non-XML character ") ++? quoted character ++? Some (codes " found at "
+        ++ position_text pos.now)) f.new }
 {
     let quoted = Quoted(character);
     write!(f, "a non-XML character {quoted} found at {pos}")
@@ -349,7 +358,10 @@ fn write_bytes<W: fmt::Write>(
     actual: u8,
     pos: &TextPos,
 ) -> fmt::Result
-    ensures { WritesOnOk W.write_str_gives f.old result (codes "expected '" ++ (encode_utf8 expected ++ (codes "' not '" ++ (encode_utf8 actual ++ (codes "' at " ++ position_text pos.now))))) f.new }
+    ensures { WritesOnOk W.write_str_gives f.old result (codes "expected '"
+        ++ (encode_utf8 expected
+        ++ (codes "' not '" ++ (encode_utf8 actual ++ (codes "' at " ++ position_text pos.now)))))
+        f.new }
 {
     let expected = char::from(expected);
     let actual = char::from(actual);
@@ -363,7 +375,10 @@ fn write_byte<W: fmt::Write>(
     actual: u8,
     pos: &TextPos,
 ) -> fmt::Result
-    ensures { WritesOnOk W.write_str_gives f.old result (codes "expected " ++ (expected.now ++ (codes " not '" ++ (encode_utf8 actual ++ (codes "' at " ++ position_text pos.now))))) f.new }
+    ensures { WritesOnOk W.write_str_gives f.old result (codes "expected "
+        ++ (expected.now
+        ++ (codes " not '" ++ (encode_utf8 actual ++ (codes "' at " ++ position_text pos.now)))))
+        f.new }
 {
     let actual = char::from(actual);
     write!(f, "expected {expected} not '{actual}' at {pos}")
@@ -375,7 +390,8 @@ fn write_reason<W: fmt::Write>(
     pos: &TextPos,
     reason: &str,
 ) -> fmt::Result
-    ensures { WritesOnOk W.write_str_gives f.old result (codes "entity resolver failed at " ++ (position_text pos.now ++ (codes ": " ++ reason.now))) f.new }
+    ensures { WritesOnOk W.write_str_gives f.old result (codes "entity resolver failed at "
+        ++ (position_text pos.now ++ (codes ": " ++ reason.now))) f.new }
 {
     write!(f, "entity resolver failed at {pos}: {reason}")
 }

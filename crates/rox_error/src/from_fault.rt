@@ -35,7 +35,8 @@ impl<'w> Error<'w> {
 
 /// The error of a fault. The only `Err` is want of memory for a name.
 fn told<'w>(alloc: Global, text: &str, fault: Fault) -> Result<Error<'w>, AllocError>
-    ensures { MatchResult result (IsErrorOf text.now fault) (λ _. IsErrorOf text.now fault error.OutOfMemory) }
+    ensures { MatchResult result (IsErrorOf text.now fault)
+        (λ _. IsErrorOf text.now fault error.OutOfMemory) }
 {
     match fault {
         Fault::InvalidXmlPrefixUri(at) => Ok(Error::InvalidXmlPrefixUri(pos(text, at))),

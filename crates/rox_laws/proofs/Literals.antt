@@ -31,30 +31,30 @@ IsOwn text source f = (source ≡ text) ⊎ IsPlaced source f
 
 from_placed : (opens : ℕ → Inclusion) (es : List Entity) (limit : ℕ) (text : List ℕ) (declared : Bool) (Front : ℕ → Forest Item → Type 0) (source : List ℕ) (f : Fault) → IsUtf8 source → FaultFrom opens es limit text declared Front source f
     → IsOwn text source f
-from_placed opens es limit text declared Front source f utf8 (faults.FaultFrom.in_misc_ahead p items _ front fits ill) = inl refl
-from_placed opens es limit text declared Front source f utf8 (faults.FaultFrom.too_many_ahead p j items item front fits is over) = inl refl
+from_placed opens es limit text declared Front source f utf8 (faults.FaultFrom.misc_ahead p items _ front fits (faults.InMiscs.in_one _ ill)) = inl refl
+from_placed opens es limit text declared Front source f utf8 (faults.FaultFrom.misc_ahead p items _ front fits (faults.InMiscs.one_too_many j item is over)) = inl refl
 from_placed opens es limit text declared Front source f utf8 (faults.FaultFrom.no_root items front fits) = inl refl
 from_placed opens es limit text declared Front source f utf8 (faults.FaultFrom.unknown_ahead p items front fits inside no_space no_less) = inl refl
-from_placed opens es limit text declared Front source f utf8 (faults.FaultFrom.at_place k open_around b _ s _ place fits ill) = inr (stands_placed source utf8 limit es k open_around (opens k) s b f ill)
-from_placed opens es limit text declared Front source f utf8 (faults.FaultFrom.in_value k open_around b p c n v e j l i stop d src _ s as' name _ place fits tag to space named eq literal part ill) =
+from_placed opens es limit text declared Front source f utf8 (faults.FaultFrom.at_point k open_around b _ s _ _ place fits (faults.AtPoint.at_place _ ill)) = inr (stands_placed source utf8 limit es k open_around (opens k) s b f ill)
+from_placed opens es limit text declared Front source f utf8 (faults.FaultFrom.at_point k open_around b src s _ _ place fits (faults.AtPoint.in_value v e c l i stop d _ _ value part ill)) =
     inr (value_placed source utf8 es l (opens l) i stop d f ill)
-from_placed opens es limit text declared Front source f utf8 (faults.FaultFrom.in_misc_behind p items _ behind fits ill) = inl refl
-from_placed opens es limit text declared Front source f utf8 (faults.FaultFrom.too_many_behind p j items item behind fits is over) = inl refl
+from_placed opens es limit text declared Front source f utf8 (faults.FaultFrom.misc_behind p items _ behind fits (faults.InMiscs.in_one _ ill)) = inl refl
+from_placed opens es limit text declared Front source f utf8 (faults.FaultFrom.misc_behind p items _ behind fits (faults.InMiscs.one_too_many j item is over)) = inl refl
 from_placed opens es limit text declared Front source f utf8 (faults.FaultFrom.unknown_behind p items behind fits inside no_space no_comment no_instruction) = inl refl
 
 doctype_placed : (limit : ℕ) (text : List ℕ) (i : ℕ) (before : Forest Item) (asked : List Asked) (source : List ℕ) (f : Fault) → InDoctype limit text i before asked source f → IsOwn text source f
 doctype_placed limit text i before asked source f (refused.InDoctype.head_lacks p t _ due lacks) = inl refl
 doctype_placed limit text i before asked source f (refused.InDoctype.no_name n is cut) = inl refl
-doctype_placed limit text i before asked source f (refused.InDoctype.in_misc p items _ _ to fits ill) = inl refl
-doctype_placed limit text i before asked source f (refused.InDoctype.too_many p j items item _ to fits is over) = inl refl
-doctype_placed limit text i before asked source f (refused.InDoctype.not_passed p items _ to fits is none) = inl refl
-doctype_placed limit text i before asked source f (refused.InDoctype.in_entity p q items _ t _ to fits is due lacks) = inl refl
-doctype_placed limit text i before asked source f (refused.InDoctype.entity_open p n m d e parameter items before' first o _ to fits begins definition lacks) = inl refl
-doctype_placed limit text i before asked source f (refused.InDoctype.entity_cut p n m d e j parameter items before' request answer o to fits begins id cuts gives) = inl refl
-doctype_placed limit text i before asked source f (refused.InDoctype.in_answer p n m d e j q parameter items first request answer t _ to fits begins id behind utf8 opens due lacks) =
+doctype_placed limit text i before asked source f (refused.InDoctype.in_subset p items _ _ _ _ to fits (refused.InSubset.in_miscs _ (faults.InMiscs.in_one _ ill))) = inl refl
+doctype_placed limit text i before asked source f (refused.InDoctype.in_subset p items _ _ _ _ to fits (refused.InSubset.in_miscs _ (faults.InMiscs.one_too_many j item is over))) = inl refl
+doctype_placed limit text i before asked source f (refused.InDoctype.in_subset p items _ _ _ _ to fits (refused.InSubset.not_passed is none)) = inl refl
+doctype_placed limit text i before asked source f (refused.InDoctype.in_subset p items _ _ _ _ to fits (refused.InSubset.in_entity q t _ is due lacks)) = inl refl
+doctype_placed limit text i before asked source f (refused.InDoctype.in_subset p items before' _ _ _ to fits (refused.InSubset.entity_open n m d e parameter first o _ begins definition lacks)) = inl refl
+doctype_placed limit text i before asked source f (refused.InDoctype.in_subset p items before' _ _ _ to fits (refused.InSubset.entity_cut n m d e j parameter request answer o begins id cuts gives)) = inl refl
+doctype_placed limit text i before asked source f (refused.InDoctype.in_subset p items first _ _ _ to fits (refused.InSubset.in_answer n m d e j q parameter request answer t _ begins id behind utf8 opens due lacks)) =
     inr (declaration_placed source utf8 (after_bom source) q t f opens due lacks)
-doctype_placed limit text i before asked source f (refused.InDoctype.end_lacks p items _ _ to fits is lacks) = inl refl
-doctype_placed limit text i before asked source f (refused.InDoctype.unknown p items _ to fits none inside) = inl refl
+doctype_placed limit text i before asked source f (refused.InDoctype.in_subset p items _ _ _ _ to fits (refused.InSubset.end_lacks _ is lacks)) = inl refl
+doctype_placed limit text i before asked source f (refused.InDoctype.in_subset p items _ _ _ _ to fits (refused.InSubset.unknown none inside)) = inl refl
 doctype_placed limit text i before asked source f (refused.InDoctype.no_root items _ to fits none) = inl refl
 
 refusal_placed : (limit : ℕ) (allow : Bool) (text : List ℕ) (asked : List Asked) (source : List ℕ) (f : Fault) → IsUtf8 source → RefusalOf limit allow text asked source f → IsOwn text source f

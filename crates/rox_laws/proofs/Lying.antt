@@ -96,34 +96,34 @@ module _ (opens : ℕ → Inclusion) (es : List Entity) (text : List ℕ) where
 
   from_of : (limit : ℕ) (declared : Bool) (Front : ℕ → Forest Item → Type 0) (source : List ℕ) (f : Fault) → FaultFrom opens es limit text declared Front source f
       → (source ≡ text) ⊎ (((p : ℕ) × (items : Forest Item) × Front p items) × IsOf text es source)
-  from_of limit declared Front source f (faults.FaultFrom.in_misc_ahead p items _ front fits ill) = inl refl
-  from_of limit declared Front source f (faults.FaultFrom.too_many_ahead p j items item front fits is over) = inl refl
+  from_of limit declared Front source f (faults.FaultFrom.misc_ahead p items _ front fits (faults.InMiscs.in_one _ ill)) = inl refl
+  from_of limit declared Front source f (faults.FaultFrom.misc_ahead p items _ front fits (faults.InMiscs.one_too_many j item is over)) = inl refl
   from_of limit declared Front source f (faults.FaultFrom.no_root items front fits) = inl refl
   from_of limit declared Front source f (faults.FaultFrom.unknown_ahead p items front fits inside no_space no_less) = inl refl
-  from_of limit declared Front source f (faults.FaultFrom.at_place k open_around b _ s _ place fits ill) =
+  from_of limit declared Front source f (faults.FaultFrom.at_point k open_around b _ s _ _ place fits (faults.AtPoint.at_place _ ill)) =
       let root = place_root _ k open_around b source s place in
       inr ((root.0, root.1, root.2.0), place_of _ k open_around b source s place)
-  from_of limit declared Front source f (faults.FaultFrom.in_value k open_around b p c n v e j l i stop d src _ s as' name _ place fits tag to space named eq literal part ill) =
+  from_of limit declared Front source f (faults.FaultFrom.at_point k open_around b src s _ _ place fits (faults.AtPoint.in_value v e c l i stop d _ _ value part ill)) =
       let root = place_root _ k open_around b src s place in
       inr ((root.0, root.1, root.2.0), part_of k src (v + 1) e c l source i stop d (place_of _ k open_around b src s place) part)
-  from_of limit declared Front source f (faults.FaultFrom.in_misc_behind p items _ behind fits ill) = inl refl
-  from_of limit declared Front source f (faults.FaultFrom.too_many_behind p j items item behind fits is over) = inl refl
+  from_of limit declared Front source f (faults.FaultFrom.misc_behind p items _ behind fits (faults.InMiscs.in_one _ ill)) = inl refl
+  from_of limit declared Front source f (faults.FaultFrom.misc_behind p items _ behind fits (faults.InMiscs.one_too_many j item is over)) = inl refl
   from_of limit declared Front source f (faults.FaultFrom.unknown_behind p items behind fits inside no_space no_comment no_instruction) = inl refl
 
 -- in a document type declaration it is the text, or an answer as a whole
 in_doctype : (limit : ℕ) (text : List ℕ) (i : ℕ) (before : Forest Item) (asked : List Asked) (source : List ℕ) (f : Fault) → InDoctype limit text i before asked source f → (source ≡ text) ⊎ IsAnswerIn asked source
 in_doctype limit text i before asked source f (refused.InDoctype.head_lacks p t _ due lacks) = inl refl
 in_doctype limit text i before asked source f (refused.InDoctype.no_name n is cut) = inl refl
-in_doctype limit text i before asked source f (refused.InDoctype.in_misc p items _ _ to fits ill) = inl refl
-in_doctype limit text i before asked source f (refused.InDoctype.too_many p j items item _ to fits is over) = inl refl
-in_doctype limit text i before asked source f (refused.InDoctype.not_passed p items _ to fits is none) = inl refl
-in_doctype limit text i before asked source f (refused.InDoctype.in_entity p q items _ t _ to fits is due lacks) = inl refl
-in_doctype limit text i before asked source f (refused.InDoctype.entity_open p n m d e parameter items before' first o _ to fits begins definition lacks) = inl refl
-in_doctype limit text i before asked source f (refused.InDoctype.entity_cut p n m d e j parameter items before' request answer o to fits begins id cuts gives) = inl refl
-in_doctype limit text i before asked source f (refused.InDoctype.in_answer p n m d e j q parameter items first request answer t _ to fits begins id behind utf8 opens due lacks) =
+in_doctype limit text i before asked source f (refused.InDoctype.in_subset p items _ _ _ _ to fits (refused.InSubset.in_miscs _ (faults.InMiscs.in_one _ ill))) = inl refl
+in_doctype limit text i before asked source f (refused.InDoctype.in_subset p items _ _ _ _ to fits (refused.InSubset.in_miscs _ (faults.InMiscs.one_too_many j item is over))) = inl refl
+in_doctype limit text i before asked source f (refused.InDoctype.in_subset p items _ _ _ _ to fits (refused.InSubset.not_passed is none)) = inl refl
+in_doctype limit text i before asked source f (refused.InDoctype.in_subset p items _ _ _ _ to fits (refused.InSubset.in_entity q t _ is due lacks)) = inl refl
+in_doctype limit text i before asked source f (refused.InDoctype.in_subset p items before' _ _ _ to fits (refused.InSubset.entity_open n m d e parameter first o _ begins definition lacks)) = inl refl
+in_doctype limit text i before asked source f (refused.InDoctype.in_subset p items before' _ _ _ to fits (refused.InSubset.entity_cut n m d e j parameter request answer o begins id cuts gives)) = inl refl
+in_doctype limit text i before asked source f (refused.InDoctype.in_subset p items first _ _ _ to fits (refused.InSubset.in_answer n m d e j q parameter request answer t _ begins id behind utf8 opens due lacks)) =
     inr (record { request = request; answer = source; given = Contains-append_right first _ _ (0, omega arith, refl); part = inl refl })
-in_doctype limit text i before asked source f (refused.InDoctype.end_lacks p items _ _ to fits is lacks) = inl refl
-in_doctype limit text i before asked source f (refused.InDoctype.unknown p items _ to fits none inside) = inl refl
+in_doctype limit text i before asked source f (refused.InDoctype.in_subset p items _ _ _ _ to fits (refused.InSubset.end_lacks _ is lacks)) = inl refl
+in_doctype limit text i before asked source f (refused.InDoctype.in_subset p items _ _ _ _ to fits (refused.InSubset.unknown none inside)) = inl refl
 in_doctype limit text i before asked source f (refused.InDoctype.no_root items _ to fits none) = inl refl
 
 pub source_lies : (limit : ℕ) (allow : Bool) (text : List ℕ) (asked : List Asked) (source : List ℕ) (f : Fault) → RefusalOf limit allow text asked source f → (source ≡ text) ⊎ (IsLiteralIn text source ⊎ IsAnswerIn asked source)

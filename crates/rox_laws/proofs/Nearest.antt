@@ -8,7 +8,8 @@ use Rattle.rox_grammar.specs.Forest.{Forest, Nil, Cons, size}
 use Rattle.rox_grammar.specs.Written.{NamespaceDecl, Item, Element, Text, Comment, PI}
 use Rattle.rox_grammar.specs.Tree as tree
 use Rattle.rox_grammar.specs.Tree.{Node, is_declared, uri_of, scope_in, node_in, resolved, document_tree}
-use Rattle.rox_grammar.specs.WellNamed.{AreDeclarable, AreWellNamed}
+use Rattle.rox_grammar.specs.WellNamed.{AreWellNamed}
+use Rattle.rox_grammar.proofs.NamesApart.{DeclarableBehind}
 use Rattle.rox_grammar.specs.Doctype.{Asked}
 use Rattle.rox_grammar.specs.Document.{ParseOf}
 use Rattle.rox_reading.proofs.Forests.{size-resolved}
@@ -55,15 +56,15 @@ have_rows rows b (Cons item c r) h =
     )
 
 -- each of them may be declared
-rows_declarable : (above : List NamespaceDecl) (f : Forest Item) → AreWellNamed above f → All (AreDeclarable []) (declared_in f)
-rows_declarable above Nil h = All-nil (AreDeclarable [])
+rows_declarable : (above : List NamespaceDecl) (f : Forest Item) → AreWellNamed above f → All (DeclarableBehind []) (declared_in f)
+rows_declarable above Nil h = All-nil (DeclarableBehind [])
 rows_declarable above (Cons item c r) h =
-    All-cons (AreDeclarable []) (declared_at item) (declared_in c ++ declared_in r) (item_declares (scope_in above item) item h.0)
-    (All-append (AreDeclarable []) (declared_in c) (declared_in r) (rows_declarable (scope_in above item) c h.1) (rows_declarable above r h.2))
+    All-cons (DeclarableBehind []) (declared_at item) (declared_in c ++ declared_in r) (item_declares (scope_in above item) item h.0)
+    (All-append (DeclarableBehind []) (declared_in c) (declared_in r) (rows_declarable (scope_in above item) c h.1) (rows_declarable above r h.2))
 
-row_declarable : (rows : List (List NamespaceDecl)) → All (AreDeclarable []) rows → (id : ℕ) → AreDeclarable [] (row rows id)
+row_declarable : (rows : List (List NamespaceDecl)) → All (DeclarableBehind []) rows → (id : ℕ) → DeclarableBehind [] (row rows id)
 row_declarable rows h id =
-    ⊎_elim (λ inside. All-get_or (AreDeclarable []) rows id [] inside h) (λ past. rw (get_or_past rows id [] past) tt) (cases_lt id (length rows))
+    ⊎_elim (λ inside. All-get_or (DeclarableBehind []) rows id [] inside h) (λ past. rw (get_or_past rows id [] past) tt) (cases_lt id (length rows))
 
 -- ---- each element
 
@@ -151,7 +152,7 @@ module _ (rows : List (List NamespaceDecl)) (p : Option (List ℕ)) where
       }
       by_test rest false s = later s (rest (rw s at e))
 
-  first_is : All (AreDeclarable []) rows → (u : List ℕ) (nearer : List ℕ) (i : ℕ) (farther : List ℕ)
+  first_is : All (DeclarableBehind []) rows → (u : List ℕ) (nearer : List ℕ) (i : ℕ) (farther : List ℕ)
       → All Silent nearer → Contains (row rows i) (record { prefix = p; uri = u }) → nearest p (map (row rows) (nearer ++ i ∷ farther)) ≡ Some u
   first_is w u [] i farther n h =
       let uri : uri_of (row rows i) p ≡ Some u = declared_says p u [] (row rows i) (row_declarable rows w i) h in
@@ -178,7 +179,7 @@ found_in : (n : ℕ) (tops : Forest Item) → AreWellNamed [] tops → (id : ℕ
 found_in n tops w id p u e x =
     let tree = document_tree n tops in
     let rows = [] ∷ declared_in tops in
-    let all : All (AreDeclarable []) rows = All-cons (AreDeclarable []) [] (declared_in tops) tt (rows_declarable [] tops w) in
+    let all : All (DeclarableBehind []) rows = All-cons (DeclarableBehind []) [] (declared_in tops) tt (rows_declarable [] tops w) in
     let agree = follows n tops id e p x in (
       (λ found. let h = first_found rows p u (upwards tree id) (sym agree ∙ found) in
           record { nearer = h.nearer; declarer = h.declarer; farther = h.farther; way = h.way; none_nearer = h.none_nearer; declares = h.declares }),

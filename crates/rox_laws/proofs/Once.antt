@@ -9,7 +9,8 @@ use Rattle.rox_grammar.specs.Forest.{Forest, Nil, Cons}
 use Rattle.rox_grammar.specs.Written as written
 use Rattle.rox_grammar.specs.Written.{NamespaceDecl, Item}
 use Rattle.rox_grammar.specs.Tree.{Node, Attribute, same_prefix, is_declared, listed, attribute_in, resolved}
-use Rattle.rox_grammar.specs.WellNamed.{AreDeclarable, AreDistinct, AreWellNamed}
+use Rattle.rox_grammar.specs.WellNamed.{AreWellNamed}
+use Rattle.rox_grammar.proofs.NamesApart.{DeclarableBehind, DistinctBehind, declarable_behind, distinct_behind}
 use Rattle.rox_grammar.specs.Doctype.{Asked}
 use Rattle.rox_grammar.specs.Document.{IsTreeOf}
 use Rattle.rox_laws.specs.TreeLaws.{PrefixesOnce, same_attribute_name, NamesOnce, NamesDistinct}
@@ -58,7 +59,7 @@ once_append b (x ∷ xs) ys (n, h) k =
     (n, once_append (b ++ x ∷ []) xs ys h (subst (λ (b : List NamespaceDecl). PrefixesOnce b ys) (sym (append_assoc b (x ∷ []) xs)) k))
 
 -- what a tag declares has each prefix once
-declares_once : (b ds : List NamespaceDecl) → AreDeclarable b ds → PrefixesOnce b ds
+declares_once : (b ds : List NamespaceDecl) → DeclarableBehind b ds → PrefixesOnce b ds
 declares_once b [] h = tt
 declares_once b (d ∷ ds) h = (h.1, declares_once (b ++ d ∷ []) ds h.2)
 
@@ -67,7 +68,7 @@ not_true true h = sym h
 not_true false h = refl
 
 -- and so has what its element lists
-listed_once : (above own : List NamespaceDecl) → PrefixesOnce [] above → AreDeclarable [] own → PrefixesOnce [] (listed above own)
+listed_once : (above own : List NamespaceDecl) → PrefixesOnce [] above → DeclarableBehind [] own → PrefixesOnce [] (listed above own)
 listed_once above own h k =
     let kept : NamespaceDecl → Bool = λ (d : NamespaceDecl). not (same_prefix d.prefix (Some (word_text Xml))) in
     let other : NamespaceDecl → Bool = λ (d : NamespaceDecl). not (is_declared d.prefix own) in
@@ -82,7 +83,7 @@ any_map p f [] = refl
 any_map p f (x ∷ xs) = ap (λ (z : Bool). p (f x) || z) (any_map p f xs)
 
 -- the attributes of a tag have each expanded name once
-names_once : (scope : List NamespaceDecl) (before as' : List written.Attribute) → AreDistinct scope before as'
+names_once : (scope : List NamespaceDecl) (before as' : List written.Attribute) → DistinctBehind scope before as'
     → NamesOnce (map (attribute_in scope) before) (map (attribute_in scope) as')
 names_once scope before [] h = tt
 names_once scope before (a ∷ as') h = (
@@ -95,8 +96,8 @@ resolved_distinct : (above : List NamespaceDecl) (f : Forest Item) → PrefixesO
 resolved_distinct above Nil once h = tt
 resolved_distinct above (Cons (written.Element a e t) c r) once h =
     let scope = listed above t.declarations in
-    let inner = listed_once above t.declarations once h.0.declarations in
-    ((inner, names_once scope [] t.attributes h.0.attributes), resolved_distinct scope c inner h.1, resolved_distinct above r once h.2)
+    let inner = listed_once above t.declarations once (declarable_behind t.declarations h.0.declarations) in
+    ((inner, names_once scope [] t.attributes (distinct_behind scope t.attributes h.0.attributes)), resolved_distinct scope c inner h.1, resolved_distinct above r once h.2)
 resolved_distinct above (Cons (written.Text a e v b) c r) once h = ((tt, tt), resolved_distinct above c once h.1, resolved_distinct above r once h.2)
 resolved_distinct above (Cons (written.Comment a e t) c r) once h = ((tt, tt), resolved_distinct above c once h.1, resolved_distinct above r once h.2)
 resolved_distinct above (Cons (written.PI a e t o) c r) once h = ((tt, tt), resolved_distinct above c once h.1, resolved_distinct above r once h.2)

@@ -9,11 +9,11 @@ use Rattle.rox_grammar.specs.declared.fault.Word.TheVariants as word
 use Rattle.rox_grammar.specs.declared.fault.Fault.{Fault}
 use Rattle.rox_grammar.specs.Chars.{is_space, is_name_start, is_name_char}
 use Rattle.rox_grammar.specs.Runs.{StandsAt}
-use Rattle.rox_grammar.specs.FixedTexts.{word_text}
+use Rattle.rox_grammar.specs.FixedTexts.{word_text, at, first}
 use Rattle.rox_grammar.specs.Search.{before_mark, mark_from}
 use Rattle.rox_grammar.specs.Written.{Name, Attribute, NamespaceDecl, is_namespace_decl, plain_attributes_of}
 use Rattle.rox_grammar.specs.Names.{byte, spaces_end, IsName, IsQName, unprefixed, prefixed, colon_first}
-use Rattle.rox_grammar.specs.Constructs.{at, first, IsLiteral, IsPair, IsGap, MayBePair, MayEndPair}
+use Rattle.rox_grammar.specs.Constructs.{IsLiteral, IsPair, IsGap, MayBePair, MayEndPair}
 use Rattle.rox_grammar.specs.Constructs as constructs
 use Rattle.rox_grammar.specs.References.{IsReference, IsCharacter, decimal, hexadecimal, named}
 use Rattle.rox_grammar.specs.Content.{Inclusion, Attributes}
@@ -147,11 +147,11 @@ module _ (src : List ℕ) (utf8 : IsUtf8 src) where
   gap_cut j k cut (constructs.IsGap.some_space _ some) = run_cut is_space src j utf8 cut
   gap_cut j k cut (constructs.IsGap.no_space _ none) = cut
 
-  may_cut : (w : Word) (i k : ℕ) → IsCharBoundary src i → MayBePair w src i k → IsCharBoundary src k
+  may_cut : (w : Word) (i k : ℕ) → IsCharBoundary src i → MayBePair (word_text w) src i k → IsCharBoundary src k
   may_cut w i k cut (constructs.MayBePair.is_pair _ j _ stands pair gap) = gap_cut j k (pair_cut i j pair) gap
   may_cut w i k cut (constructs.MayBePair.no_pair _ none) = cut
 
-  last_cut : (w : Word) (i k : ℕ) → IsCharBoundary src i → MayEndPair w src i k → IsCharBoundary src k
+  last_cut : (w : Word) (i k : ℕ) → IsCharBoundary src i → MayEndPair (word_text w) src i k → IsCharBoundary src k
   last_cut w i k cut (constructs.MayEndPair.is_last _ _ stands pair) = pair_cut i k pair
   last_cut w i k cut (constructs.MayEndPair.no_last _ none) = cut
 
@@ -247,18 +247,18 @@ module _ (src : List ℕ) (utf8 : IsUtf8 src) where
   tag_placed : (main : Bool) (O : Inclusion) (s : State) (b : ℕ) (f : Fault) → s.at < length src → InTag main O src s b f → IsPlaced src f
   tag_placed main O s b f le (rows.InTag.no_name _ lacks) = lacks_placed src (s.at + 1) a_qname f (omega arith) lacks
   tag_placed main O s b f le (rows.InTag.xmlns_prefix name n is xmlns) = omega arith
-  tag_placed main O s b f le (rows.InTag.cut p c as' to past in_main) = cut_placed s.stack
-  tag_placed main O s b f le (rows.InTag.cut_in_replacement p c as' to past inner) = tt
-  tag_placed main O s b f le (rows.InTag.no_rest p c as' _ to before lacks) = lacks_placed src (spaces_end src p) tag_rest f tt lacks
-  tag_placed main O s b f le (rows.InTag.no_space p c as' _ to before no_slash no_end lacks) = lacks_placed src p a_space f tt lacks
-  tag_placed main O s b f le (rows.InTag.not_closed p c as' _ to slash lacks) = lacks_placed src (spaces_end src p + 1) (a_byte 62) f tt lacks
-  tag_placed main O s b f le (rows.InTag.in_pair p c q as' t _ to space before no_slash no_end is lacks) = lacks_placed src q t f (pair_fits (spaces_end src p) q t (omega arith) is) lacks
-  tag_placed main O s b f le (rows.InTag.ill_declared p c d j as' a _ to space is declares ill) =
+  tag_placed main O s b f le (rows.InTag.in_rest p c as' _ to (rows.InTagRest.cut past in_main)) = cut_placed s.stack
+  tag_placed main O s b f le (rows.InTag.in_rest p c as' _ to (rows.InTagRest.cut_in_replacement past inner)) = tt
+  tag_placed main O s b f le (rows.InTag.in_rest p c as' _ to (rows.InTagRest.no_rest _ before lacks)) = lacks_placed src (spaces_end src p) tag_rest f tt lacks
+  tag_placed main O s b f le (rows.InTag.in_rest p c as' _ to (rows.InTagRest.no_space _ before no_slash no_end lacks)) = lacks_placed src p a_space f tt lacks
+  tag_placed main O s b f le (rows.InTag.in_rest p c as' _ to (rows.InTagRest.not_closed _ slash lacks)) = lacks_placed src (spaces_end src p + 1) (a_byte 62) f tt lacks
+  tag_placed main O s b f le (rows.InTag.in_rest p c as' _ to (rows.InTagRest.in_pair q t _ space before no_slash no_end is lacks)) = lacks_placed src q t f (pair_fits (spaces_end src p) q t (omega arith) is) lacks
+  tag_placed main O s b f le (rows.InTag.in_rest p c as' _ to (rows.InTagRest.ill_declared d j a _ space is declares ill)) =
       let there = qname_within src (spaces_end src p) a.name a.name_end is.is_name in
       declared_placed _ a f (omega (arith, is.starts)) ill
-  tag_placed main O s b f le (rows.InTag.too_many_pairs p c d j as' a to space is declares may first over) = tt
-  tag_placed main O s b f le (rows.InTag.too_many_attributes p c j empty as' to ends over) = tt
-  tag_placed main O s b f le (rows.InTag.ill_named p c j empty as' _ to ends few ill) =
+  tag_placed main O s b f le (rows.InTag.in_rest p c as' _ to (rows.InTagRest.too_many_pairs d j a space is declares may first over)) = tt
+  tag_placed main O s b f le (rows.InTag.in_rest p c as' _ to (rows.InTagRest.too_many_attributes j empty ends over)) = tt
+  tag_placed main O s b f le (rows.InTag.in_rest p c as' _ to (rows.InTagRest.ill_named j empty _ ends few ill)) =
       named_placed s.at _ to.name (plain_attributes_of as') f (omega arith) (attributes_start as' (written_start main O to.name_end p b c as' to.attributes)) ill
 
   end_placed : (open_around : ℕ) (s : State) (f : Fault) → InEnd open_around src s f → IsPlaced src f

@@ -5,7 +5,8 @@ use Rattle.std.proofs.lemmas.Bool.{cases_Bool, or_parts, or_from, false_from_ne_
 use Rattle.std.proofs.lemmas.List.Folds.{list_any-append}
 use Rattle.rox_grammar.specs.Written.{NamespaceDecl, Item, Element, Text, Comment, PI}
 use Rattle.rox_grammar.specs.Tree.{same_prefix, is_declared, listed, uri_of, scope_in}
-use Rattle.rox_grammar.specs.WellNamed.{AreDeclarable, ItemWellNamed}
+use Rattle.rox_grammar.specs.WellNamed.{ItemWellNamed}
+use Rattle.rox_grammar.proofs.NamesApart.{DeclarableBehind, declarable_behind}
 use Rattle.rox_laws.specs.NearestDeclaration.{declared_at, xml}
 use Rattle.rox_tables.proofs.Pairs.{same_prefix-true, same_prefix-refl}
 use Rattle.rox_laws.proofs.Once.{some_none}
@@ -53,7 +54,7 @@ says_declared p u (d ∷ ds) e = by_test (says_declared p u ds) (same_prefix d.p
     by_test rest false s = later (rest (rw s at e))
 
 -- where each prefix is declared once, none before it is that of one of these
-none_before : (p : Option (List ℕ)) (u : List ℕ) (before ds : List NamespaceDecl) → AreDeclarable before ds → Contains ds (record { prefix = p; uri = u }) → is_declared p before ≡ false
+none_before : (p : Option (List ℕ)) (u : List ℕ) (before ds : List NamespaceDecl) → DeclarableBehind before ds → Contains ds (record { prefix = p; uri = u }) → is_declared p before ≡ false
 none_before p u before [] h (k, l, e) = absurd (omega arith)
 none_before p u before (d ∷ ds) h (zero, l, e) = let same : d.prefix ≡ p = ap (λ (d : NamespaceDecl). d.prefix) e in rw same at h.1
 none_before p u before (d ∷ ds) h (suc k, l, e) =
@@ -61,7 +62,7 @@ none_before p u before (d ∷ ds) h (suc k, l, e) =
     (or_parts (is_declared p before) (is_declared p (d ∷ [])) (sym (list_any-append (λ (d : NamespaceDecl). same_prefix d.prefix p) before (d ∷ [])) ∙ n)).0
 
 -- so it says what is declared
-pub declared_says : (p : Option (List ℕ)) (u : List ℕ) (before ds : List NamespaceDecl) → AreDeclarable before ds → Contains ds (record { prefix = p; uri = u }) → uri_of ds p ≡ Some u
+pub declared_says : (p : Option (List ℕ)) (u : List ℕ) (before ds : List NamespaceDecl) → DeclarableBehind before ds → Contains ds (record { prefix = p; uri = u }) → uri_of ds p ≡ Some u
 declared_says p u before [] h (k, l, e) = absurd (omega arith)
 declared_says p u before (d ∷ ds) h (zero, l, e) =
     let first : d ≡ record { prefix = p; uri = u } = e in
@@ -73,8 +74,8 @@ declared_says p u before (d ∷ ds) h (suc k, l, e) =
     rw other (declared_says p u (before ++ d ∷ []) ds h.2 (k, omega arith, e))
 
 -- each item declares what may be declared
-pub item_declares : (scope : List NamespaceDecl) (item : Item) → ItemWellNamed scope item → AreDeclarable [] (declared_at item)
-item_declares scope (Element start end tag) h = h.declarations
+pub item_declares : (scope : List NamespaceDecl) (item : Item) → ItemWellNamed scope item → DeclarableBehind [] (declared_at item)
+item_declares scope (Element start end tag) h = declarable_behind tag.declarations h.declarations
 item_declares scope (Text start end value borrowed) h = tt
 item_declares scope (Comment start end text) h = tt
 item_declares scope (PI start end target value) h = tt

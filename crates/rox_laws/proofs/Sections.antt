@@ -3,12 +3,12 @@ use Rattle.std.proofs.Common.{◌≡◌, ◌≢◌, ℕ, ◌+◌, ◌-◌, ◌<�
 use Rattle.std.specs.Char.{encode_utf8}
 use Rattle.std.proofs.lemmas.Bool.{false_from_ne_true, cases_Bool}
 use Rattle.rox_grammar.specs.declared.fault.Word.TheVariants as word
-use Rattle.rox_grammar.specs.FixedTexts.{word_text}
+use Rattle.rox_grammar.specs.FixedTexts.{word_text, at}
 use Rattle.rox_grammar.specs.Forest.{Forest, Nil, Cons, join}
 use Rattle.rox_grammar.specs.Written.{Name, NamespaceDecl, Tag, Item, Element, Text, Comment, PI, glue, merge}
 use Rattle.rox_grammar.specs.Tree.{Node, node_in}
 use Rattle.rox_grammar.specs.Names.{byte, slice}
-use Rattle.rox_grammar.specs.Constructs.{at, IsCData, IsEnd}
+use Rattle.rox_grammar.specs.Constructs.{IsCData, IsEnd}
 use Rattle.rox_grammar.specs.Content.{DataByte, literal, kept, is_literal, data_bytes_of, literals, line_ends, piece, Part, part_ends, as_written, from_reference, Parts, last_part, then_entity, IsTag, IsMisc, comment, instruction, IsElement, empty, nest, Content, ends, run, cdata, misc, node}
 use Rattle.rox_grammar.specs.Document.{Misc, no_misc, space, an_item, ParseOf, IsTreeOf}
 use Rattle.rox_theory.proofs.Without.{parse_without}
@@ -202,7 +202,7 @@ top_sound src i j items (an_item _ k _ item others is rest) = (misc_sound src i 
 parse_sound : (src : List ℕ) (tops : Forest Item) → ParseOf src false [] tops → EachNode (Sound src) tops
 parse_sound src tops q =
     let p = (parse_without src [] tops q).1 in
-    let front = top_sound src p.declared_to p.start p.before p.misc_before in
+    let front = top_sound src p.prolog.declared_to p.start p.before p.prolog.misc in
     let one = element_sound src p.start p.end 255 p.openings_left p.one p.element in
     let back = top_sound src p.end (length src) p.after p.misc_after in
     subst (λ (f : Forest Item). EachNode (Sound src) f) (sym p.is_tree)

@@ -4,7 +4,8 @@ use Rattle.rox_grammar.specs.declared.fault.Word.TheVariants as word
 use Rattle.rox_grammar.specs.Forest.{Forest}
 use Rattle.rox_grammar.specs.Tree.{Node, Text}
 use Rattle.rox_grammar.specs.Names.{byte}
-use Rattle.rox_grammar.specs.Constructs.{at, IsCData}
+use Rattle.rox_grammar.specs.Constructs.{IsCData}
+use Rattle.rox_grammar.specs.FixedTexts.{at}
 use Rattle.rox_grammar.specs.Entities.{Entity}
 use Rattle.rox_theory.specs.Pieces.{IsSourceIn, IsEmptySection}
 use Rattle.roxmltree.specs.EachNode.{EachNode}

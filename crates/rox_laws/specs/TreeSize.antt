@@ -1,7 +1,9 @@
 -- How much the nodes of a tree say, and how many they are, against their text.
+use Prim.Native.Char.{code}
 use Rattle.std.specs.Prelude.{ℕ, ◌+◌, ◌*◌, ◌≤◌, ◌==◌, List, [], ◌∷◌, length, count_by}
 use Rattle.rox_grammar.specs.Forest.{Forest, Nil, Cons, size}
-use Rattle.rox_grammar.specs.Tree.{Attribute, Node, Root, Element, Text, Comment, PI}
+use Rattle.rox_grammar.specs.Tree.{Attribute, Node, Element, Text}
+use Rattle.rox_grammar.specs.Entities.{most_within}
 
 abbrev pub attribute_bytes : List Attribute → ℕ
 attribute_bytes [] = 0
@@ -9,18 +11,13 @@ attribute_bytes (a ∷ as') = length a.value + attribute_bytes as'
 
 -- the bytes of the value of a text, or of those of an element's attributes
 abbrev pub bytes_of : Node → ℕ
-bytes_of (Root end) = 0
 bytes_of (Element start end namespace local listed attributes) = attribute_bytes attributes
 bytes_of (Text start end value borrowed) = length value
-bytes_of (Comment start end text) = 0
-bytes_of (PI start end target value) = 0
+bytes_of other = 0
 
 abbrev pub attribute_count_of : Node → ℕ
-attribute_count_of (Root end) = 0
 attribute_count_of (Element start end namespace local listed attributes) = length attributes
-attribute_count_of (Text start end value borrowed) = 0
-attribute_count_of (Comment start end text) = 0
-attribute_count_of (PI start end target value) = 0
+attribute_count_of other = 0
 
 -- the values of all texts and attributes together
 abbrev pub all_bytes : Forest Node → ℕ
@@ -32,9 +29,9 @@ abbrev pub all_attributes : Forest Node → ℕ
 all_attributes Nil = 0
 all_attributes (Cons node children rest) = attribute_count_of node + all_attributes children + all_attributes rest
 
--- the bytes of the text, and for each `&` in it 256 times so many
+-- the bytes of the text, and for each `&` in it so many as often as one reference may open some
 abbrev pub most_tree_bytes : (text : List ℕ) (longest : ℕ) → ℕ
-most_tree_bytes text longest = length text + 256 * count_by (λ b. b == 38) text * longest
+most_tree_bytes text longest = length text + (most_within + 1) * count_by (λ b. b == code "&") text * longest
 
 -- The values have at most these bytes, where `longest` is how many a replacement text has at most; nodes, the root node aside, and
 -- attributes together are no more than that.

@@ -15,6 +15,7 @@ use Rattle.roxmltree.specs.Stripped.{stripped, stripped_row}
 use Rattle.roxmltree.specs.NodeParts.{is_root_node, is_element_node, is_text_node, is_comment_node, is_pi_node, start_of, end_of, local_of, pi_of, text_content, content_of}
 use Rattle.roxmltree.specs.Kinds.{type_of}
 use Rattle.roxmltree.specs.StoredText.{content_in}
+use Rattle.rox_tables.specs.Rows.{node_rows}
 use Rattle.roxmltree.proofs.Rows.{row_line, in_rows}
 
 bare_node : (az : List AttributeRow) (namespaces : List NamespaceDecl) (lists : List (List NamespaceDecl)) (start end : ℕ) (k : NodeKind) → stripped_row start end k ≡ stripped (node az namespaces lists start end k)
@@ -25,7 +26,7 @@ bare_node az namespaces lists start end (kind.Comment text) = refl
 bare_node az namespaces lists start end (kind.PI pi) = refl
 
 -- a row's node is the tree's
-pub row_item : (t : Tables) (f : Forest Node) (i : ℕ) (x : NodeData) → HoldsTree t f → i < size f → x ≡ get_or t.nodes.items i x → stripped_row x.start x.end x.kind ≡ stripped (place f i).item
+pub row_item : (t : Tables) (f : Forest Node) (i : ℕ) (x : NodeData) → HoldsTree t f → i < size f → x ≡ get_or (node_rows t.nodes) i x → stripped_row x.start x.end x.kind ≡ stripped (place f i).item
 row_item t f i x h l e =
     bare_node (attribute_rows t.attributes) (names_of t) (scopes_of t) x.start x.end x.kind ∙ ap (λ r. stripped r.node) (row_line t f i x h (in_rows t f i h l) e)
 
@@ -79,6 +80,26 @@ end_of_bare (Text start end value borrowed) = refl
 end_of_bare (Comment start end text) = refl
 end_of_bare (PI start end target value) = refl
 
+-- a row without its places says the rest
+pub stripped_again : (s e : ℕ) (k : NodeKind) (n : Node) → stripped_row s e k ≡ stripped n → stripped_row (start_of n) (end_of n) k ≡ stripped n
+stripped_again s e kind.Root n h = let b : end_of n ≡ e = end_of_bare n ∙ ap end_of (sym h) in rw b h
+stripped_again s e (kind.Element x) n h =
+    let a : start_of n ≡ s = start_of_bare n ∙ ap start_of (sym h) in
+    let b : end_of n ≡ e = end_of_bare n ∙ ap end_of (sym h) in
+    rw (a, b) h
+stripped_again s e (kind.Text x) n h =
+    let a : start_of n ≡ s = start_of_bare n ∙ ap start_of (sym h) in
+    let b : end_of n ≡ e = end_of_bare n ∙ ap end_of (sym h) in
+    rw (a, b) h
+stripped_again s e (kind.Comment x) n h =
+    let a : start_of n ≡ s = start_of_bare n ∙ ap start_of (sym h) in
+    let b : end_of n ≡ e = end_of_bare n ∙ ap end_of (sym h) in
+    rw (a, b) h
+stripped_again s e (kind.PI x) n h =
+    let a : start_of n ≡ s = start_of_bare n ∙ ap start_of (sym h) in
+    let b : end_of n ≡ e = end_of_bare n ∙ ap end_of (sym h) in
+    rw (a, b) h
+
 pub local_of_bare : (i : Node) → local_of i ≡ local_of (stripped i)
 local_of_bare (Root end) = refl
 local_of_bare (Element start end namespace local listed attributes) = refl
@@ -116,12 +137,12 @@ content_kind az namespaces lists a n l start end (kind.Comment text) w = ap (λ 
 content_kind az namespaces lists a n l start end (kind.PI pi) w = refl
 
 -- what a row names is in the tables
-pub row_within : (t : Tables) (f : Forest Node) (i : ℕ) (x : NodeData) → HoldsTree t f → i < size f → x ≡ get_or t.nodes.items i x → KindWithin (length (attribute_rows t.attributes)) (length t.namespaces.items) (length t.scopes.items) x.kind
+pub row_within : (t : Tables) (f : Forest Node) (i : ℕ) (x : NodeData) → HoldsTree t f → i < size f → x ≡ get_or (node_rows t.nodes) i x → KindWithin (length (attribute_rows t.attributes)) (length t.namespaces.items) (length t.scopes.items) x.kind
 row_within t f i x h l e =
     let P : NodeData → Type 0 = λ r. KindWithin (length (attribute_rows t.attributes)) (length t.namespaces.items) (length t.scopes.items) r.kind in
-    subst P (sym e) (All-from_recursion P t.nodes.items h.sound.nodes i x (in_rows t f i h l))
+    subst P (sym e) (All-from_recursion P (node_rows t.nodes) h.sound.nodes i x (in_rows t f i h l))
 
-pub row_content : (t : Tables) (f : Forest Node) (i : ℕ) (x : NodeData) → HoldsTree t f → i < size f → x ≡ get_or t.nodes.items i x → content_in x.kind ≡ content_of (place f i).item
+pub row_content : (t : Tables) (f : Forest Node) (i : ℕ) (x : NodeData) → HoldsTree t f → i < size f → x ≡ get_or (node_rows t.nodes) i x → content_in x.kind ≡ content_of (place f i).item
 row_content t f i x h l e =
     content_kind (attribute_rows t.attributes) (names_of t) (scopes_of t) _ _ _ x.start x.end x.kind (row_within t f i x h l e)
     ∙ ap (λ r. content_of r.node) (row_line t f i x h (in_rows t f i h l) e)

@@ -5,7 +5,7 @@ use Rattle.std.proofs.lemmas.Bool.{cases_Bool, cases_lt, ne_eqb}
 use Rattle.rox_grammar.specs.Forest.{Forest, Nil, Cons, size}
 use Rattle.rox_grammar.specs.Written.{NamespaceDecl}
 use Rattle.rox_grammar.specs.Tree.{Node, Root, Element, Text, Comment, PI}
-use Rattle.rox_grammar.specs.Exchange.{is_an_element, none_of, lists_none, self_contained, first_byte, past_byte, start_at, end_at}
+use Rattle.rox_grammar.specs.Exchange.{none_of, lists_none, self_contained, start_at, end_at}
 use Rattle.roxmltree.specs.Places.{Place, preorder, place}
 use Rattle.roxmltree.specs.NodeParts.{node_at, is_element_node, start_of, end_of, listed_of}
 use Rattle.roxmltree.specs.DocumentView.{DocumentView}
@@ -16,33 +16,12 @@ use Rattle.roxmltree.proofs.Tops.{whole_sits}
 
 -- ---- what a node says of itself
 
-element_says : (node : Node) → is_element_node node ≡ is_an_element node
-element_says (Root end) = refl
-element_says (Element start end namespace local listed attributes) = refl
-element_says (Text start end value borrowed) = refl
-element_says (Comment start end text) = refl
-element_says (PI start end target value) = refl
-
 lists_says : (node : Node) → none_of (listed_of node) ≡ lists_none node
 lists_says (Root end) = refl
 lists_says (Element start end namespace local listed attributes) = refl
 lists_says (Text start end value borrowed) = refl
 lists_says (Comment start end text) = refl
 lists_says (PI start end target value) = refl
-
-start_says : (node : Node) → start_of node ≡ first_byte node
-start_says (Root end) = refl
-start_says (Element start end namespace local listed attributes) = refl
-start_says (Text start end value borrowed) = refl
-start_says (Comment start end text) = refl
-start_says (PI start end target value) = refl
-
-end_says : (node : Node) → end_of node ≡ past_byte node
-end_says (Root end) = refl
-end_says (Element start end namespace local listed attributes) = refl
-end_says (Text start end value borrowed) = refl
-end_says (Comment start end text) = refl
-end_says (PI start end target value) = refl
 
 -- ---- nodes in their places
 
@@ -62,7 +41,7 @@ module _ (T : List Place) where
   contained_sits up left b Nil id s lt = absurd (omega arith)
   contained_sits up left b (Cons node children rest) zero s lt =
       let e : b + 0 ≡ b = omega arith in
-      rw (e, s.0) (ap (λ (q : Bool). q && list_all bare_at up) (element_says node))
+      rw (e, s.0) refl
   contained_sits up left b (Cons node children rest) (suc id) s lt =
       elim (cases_lt id (size children)) as (λ q. (is_element_node (at T (b + suc id)).item && list_all bare_at (at T (b + suc id)).above) ≡ (self_contained (Cons node children rest) (suc id) && list_all bare_at up)) [
         | inl under ↦ (
@@ -82,7 +61,7 @@ module _ (T : List Place) where
   bounds_sit up left b Nil id s lt = absurd (omega arith)
   bounds_sit up left b (Cons node children rest) zero s lt =
       let e : b + 0 ≡ b = omega arith in
-      rw (e, s.0) (start_says node, end_says node)
+      rw (e, s.0) (refl, refl)
   bounds_sit up left b (Cons node children rest) (suc id) s lt =
       elim (cases_lt id (size children)) as (λ q. (start_of (at T (b + suc id)).item ≡ start_at (Cons node children rest) (suc id)) × (end_of (at T (b + suc id)).item ≡ end_at (Cons node children rest) (suc id))) [
         | inl under ↦ (

@@ -72,7 +72,7 @@ few_last_children f i l =
     rw (place_is f i h) k
 
 -- what `children` has left at first
-pub few_left_of_children : (d : DocumentView) (f : Forest Node) (i a u h : ℕ) → i < size f → a ≡ i + 1 → u ≡ i + (place f i).count → h ≡ length (place f i).above + 1
+pub few_left_of_children : (d : DocumentView) (f : Forest Node) (i a u h : ℕ) → i < size f → a ≡ i + 1 → u ≡ i + (place f i).count → h ≡ i
     → length (node_refs d (between f a u h)) < size f
 few_left_of_children d f i a u h l ea eu eh =
     omega (arith, ap length (children_left d f i a u h l ea eu eh), length_spots d (children f i), few_children f i l)

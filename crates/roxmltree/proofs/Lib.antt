@@ -10,7 +10,7 @@ pub mod Entries
 pub mod ListedFirst
 pub mod Parts
 pub mod Ends
-pub mod Columns
+pub mod AttributeRows
 pub mod Stretches
 pub mod Ranges
 pub mod Few

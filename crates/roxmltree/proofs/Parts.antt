@@ -15,27 +15,28 @@ use Rattle.rox_tables.proofs.Ropes.{scope_places, all_places}
 use Rattle.roxmltree.specs.Places.{place}
 use Rattle.roxmltree.specs.NodeParts.{namespace_of, listed_of, attributes_of}
 use Rattle.roxmltree.proofs.Rows.{row_line, in_rows}
+use Rattle.rox_tables.specs.Rows.{node_rows}
 use Rattle.roxmltree.proofs.Bare.{row_within}
 
 -- the node of a row
-row_node : (t : Tables) (f : Forest Node) (i : ℕ) (x : NodeData) → HoldsTree t f → i < size f → x ≡ get_or t.nodes.items i x → node (attribute_rows t.attributes) (names_of t) (scopes_of t) x.start x.end x.kind ≡ (place f i).item
+row_node : (t : Tables) (f : Forest Node) (i : ℕ) (x : NodeData) → HoldsTree t f → i < size f → x ≡ get_or (node_rows t.nodes) i x → node (attribute_rows t.attributes) (names_of t) (scopes_of t) x.start x.end x.kind ≡ (place f i).item
 row_node t f i x h l e = ap (λ r. r.node) (row_line t f i x h (in_rows t f i h l) e)
 
 -- an element's row
-pub row_namespace : (t : Tables) (f : Forest Node) (i : ℕ) (x : NodeData) (e : ElementData) → HoldsTree t f → i < size f → x ≡ get_or t.nodes.items i x → x.kind ≡ kind.Element e → option_map (λ p. (namespace_at (names_of t) p).uri) e.namespace ≡ namespace_of (place f i).item
+pub row_namespace : (t : Tables) (f : Forest Node) (i : ℕ) (x : NodeData) (e : ElementData) → HoldsTree t f → i < size f → x ≡ get_or (node_rows t.nodes) i x → x.kind ≡ kind.Element e → option_map (λ p. (namespace_at (names_of t) p).uri) e.namespace ≡ namespace_of (place f i).item
 row_namespace t f i x e h l r k =
     ap (λ v. namespace_of (node (attribute_rows t.attributes) (names_of t) (scopes_of t) x.start x.end v)) (sym k) ∙ ap namespace_of (row_node t f i x h l r)
 
-pub row_attributes : (t : Tables) (f : Forest Node) (i : ℕ) (x : NodeData) (e : ElementData) → HoldsTree t f → i < size f → x ≡ get_or t.nodes.items i x → x.kind ≡ kind.Element e → map (attribute (names_of t)) (slice_range (attribute_rows t.attributes) e.attributes_from e.attributes_until) ≡ attributes_of (place f i).item
+pub row_attributes : (t : Tables) (f : Forest Node) (i : ℕ) (x : NodeData) (e : ElementData) → HoldsTree t f → i < size f → x ≡ get_or (node_rows t.nodes) i x → x.kind ≡ kind.Element e → map (attribute (names_of t)) (slice_range (attribute_rows t.attributes) e.attributes_from e.attributes_until) ≡ attributes_of (place f i).item
 row_attributes t f i x e h l r k =
     ap (λ v. attributes_of (node (attribute_rows t.attributes) (names_of t) (scopes_of t) x.start x.end v)) (sym k) ∙ ap attributes_of (row_node t f i x h l r)
 
-pub element_within : (t : Tables) (f : Forest Node) (i : ℕ) (x : NodeData) (e : ElementData) → HoldsTree t f → i < size f → x ≡ get_or t.nodes.items i x → x.kind ≡ kind.Element e → KindWithin (length (attribute_rows t.attributes)) (length t.namespaces.items) (length t.scopes.items) (kind.Element e)
+pub element_within : (t : Tables) (f : Forest Node) (i : ℕ) (x : NodeData) (e : ElementData) → HoldsTree t f → i < size f → x ≡ get_or (node_rows t.nodes) i x → x.kind ≡ kind.Element e → KindWithin (length (attribute_rows t.attributes)) (length t.namespaces.items) (length t.scopes.items) (kind.Element e)
 element_within t f i x e h l r k =
     subst (λ v. KindWithin (length (attribute_rows t.attributes)) (length t.namespaces.items) (length t.scopes.items) v) k (row_within t f i x h l r)
 
 -- its namespaces
-pub row_listed : (t : Tables) (f : Forest Node) (i : ℕ) (x : NodeData) (e : ElementData) → HoldsTree t f → i < size f → x ≡ get_or t.nodes.items i x → x.kind ≡ kind.Element e → map (namespace_at (names_of t)) (places_in t.listed.items t.scopes.items e.scope) ≡ listed_of (place f i).item
+pub row_listed : (t : Tables) (f : Forest Node) (i : ℕ) (x : NodeData) (e : ElementData) → HoldsTree t f → i < size f → x ≡ get_or (node_rows t.nodes) i x → x.kind ≡ kind.Element e → map (namespace_at (names_of t)) (places_in t.listed.items t.scopes.items e.scope) ≡ listed_of (place f i).item
 row_listed t f i x e h l r k =
     sym (scope_places (names_of t) t.listed.items t.scopes.items e.scope)
     ∙ ap (λ v. listed_of (node (attribute_rows t.attributes) (names_of t) (scopes_of t) x.start x.end v)) (sym k) ∙ ap listed_of (row_node t f i x h l r)
@@ -62,15 +63,15 @@ none_listed az namespaces lists start end (kind.Text value) n = refl
 none_listed az namespaces lists start end (kind.Comment text) n = refl
 none_listed az namespaces lists start end (kind.PI pi) n = refl
 
-pub row_no_namespace : (t : Tables) (f : Forest Node) (i : ℕ) (x : NodeData) → HoldsTree t f → i < size f → x ≡ get_or t.nodes.items i x → ((e : ElementData) → x.kind ≡ kind.Element e → ⊥) → None ≡ namespace_of (place f i).item
+pub row_no_namespace : (t : Tables) (f : Forest Node) (i : ℕ) (x : NodeData) → HoldsTree t f → i < size f → x ≡ get_or (node_rows t.nodes) i x → ((e : ElementData) → x.kind ≡ kind.Element e → ⊥) → None ≡ namespace_of (place f i).item
 row_no_namespace t f i x h l r n =
     sym (none_namespace (attribute_rows t.attributes) (names_of t) (scopes_of t) x.start x.end x.kind n) ∙ ap namespace_of (row_node t f i x h l r)
 
-pub row_no_attributes : (t : Tables) (f : Forest Node) (i : ℕ) (x : NodeData) → HoldsTree t f → i < size f → x ≡ get_or t.nodes.items i x → ((e : ElementData) → x.kind ≡ kind.Element e → ⊥) → [] ≡ attributes_of (place f i).item
+pub row_no_attributes : (t : Tables) (f : Forest Node) (i : ℕ) (x : NodeData) → HoldsTree t f → i < size f → x ≡ get_or (node_rows t.nodes) i x → ((e : ElementData) → x.kind ≡ kind.Element e → ⊥) → [] ≡ attributes_of (place f i).item
 row_no_attributes t f i x h l r n =
     sym (none_attributes (attribute_rows t.attributes) (names_of t) (scopes_of t) x.start x.end x.kind n) ∙ ap attributes_of (row_node t f i x h l r)
 
-pub row_no_listed : (t : Tables) (f : Forest Node) (i : ℕ) (x : NodeData) → HoldsTree t f → i < size f → x ≡ get_or t.nodes.items i x → ((e : ElementData) → x.kind ≡ kind.Element e → ⊥) → [] ≡ listed_of (place f i).item
+pub row_no_listed : (t : Tables) (f : Forest Node) (i : ℕ) (x : NodeData) → HoldsTree t f → i < size f → x ≡ get_or (node_rows t.nodes) i x → ((e : ElementData) → x.kind ≡ kind.Element e → ⊥) → [] ≡ listed_of (place f i).item
 row_no_listed t f i x h l r n =
     sym (none_listed (attribute_rows t.attributes) (names_of t) (scopes_of t) x.start x.end x.kind n) ∙ ap listed_of (row_node t f i x h l r)
 
@@ -86,7 +87,7 @@ lists_nothing az namespaces lists start end (kind.Text value) n = refl
 lists_nothing az namespaces lists start end (kind.Comment text) n = refl
 lists_nothing az namespaces lists start end (kind.PI pi) n = refl
 
-pub row_lists_nothing : (t : Tables) (f : Forest Node) (i : ℕ) (x : NodeData) → HoldsTree t f → i < size f → x ≡ get_or t.nodes.items i x → length t.namespaces.items ≡ 0 → [] ≡ listed_of (place f i).item
+pub row_lists_nothing : (t : Tables) (f : Forest Node) (i : ℕ) (x : NodeData) → HoldsTree t f → i < size f → x ≡ get_or (node_rows t.nodes) i x → length t.namespaces.items ≡ 0 → [] ≡ listed_of (place f i).item
 row_lists_nothing t f i x h l r z =
     let places : ElementData → List ℕ = λ e. places_in t.listed.items t.scopes.items e.scope in
     let none : (e : ElementData) → places e ≡ [] =

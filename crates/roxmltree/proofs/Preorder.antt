@@ -1,10 +1,10 @@
 -- What stands round each node of a tree's preorder list.
-use Rattle.std.proofs.Common.{◌≡◌, ℕ, suc, ◌+◌, ◌-◌, ◌<◌, ◌≤◌, List, [], ◌∷◌, ◌++◌, Some, None, length, get_or, refl, sym, ap, ◌∙◌, arith, length-append, append_assoc, ⊎_elim}
+use Rattle.std.proofs.Common.{◌≡◌, ℕ, suc, ◌+◌, ◌<◌, ◌≤◌, List, [], ◌∷◌, ◌++◌, Some, None, length, get_or, refl, sym, ap, subst, ◌∙◌, arith, length-append, append_assoc, ⊎_elim, eq-eqb, ne_eqb}
 use Rattle.std.proofs.lemmas.List.{get_or_append_left, get_or-append-add}
 use Rattle.std.proofs.lemmas.Bool.{cases_lt, cases_eq}
 use Rattle.rox_grammar.specs.Forest.{Forest, Nil, Cons, size}
 use Rattle.rox_grammar.specs.Tree.{Node}
-use Rattle.roxmltree.specs.Places.{ids, Place, place_at, places, nowhere, preorder, place, first, last, parent, first_child, last_child, next_sibling, prev_sibling, up_to}
+use Rattle.roxmltree.specs.Places.{ids, Place, place_at, places, nowhere, preorder, place, first, last, parent, first_child, last_child, next_sibling, prev_sibling, child_in, up_to}
 
 pub length-places : (up left : List ℕ) (b : ℕ) (f : Forest Node) → length (places up left b f) ≡ size f
 length-places up left b Nil = refl
@@ -202,18 +202,18 @@ next_some : (T : List Place) (up left : List ℕ) (e : ℕ) (r : Forest Node) �
 next_some T up left e Nil s h l d = let z : e + 0 ≡ e = omega arith in let k : length (at T e).above < length up = (rw z at h) l in absurd (omega arith)
 next_some T up left e (Cons x c r) s h l d = refl
 
-next_none : (T : List Place) (up left : List ℕ) (e : ℕ) (r : Forest Node) → Sits T up left e r → (e < length T → length (at T e).above ≡ length up → ⊥) → first (ids e r) ≡ None
+next_none : (T : List Place) (up left : List ℕ) (e : ℕ) (r : Forest Node) → Sits T up left e r → (e < length T → (at T e).above ≡ up → ⊥) → first (ids e r) ≡ None
 next_none T up left e Nil s h = refl
-next_none T up left e (Cons x c r) s h = absurd (h s.1 (ap (λ p. length p.above) s.0))
+next_none T up left e (Cons x c r) s h = absurd (h s.1 (ap (λ p. p.above) s.0))
 
-pub next_sibling_some : (f : Forest Node) (i : ℕ) → i < size f → i + (place f i).count < size f → length (place f (i + (place f i).count)).above ≡ length (place f i).above → next_sibling f i ≡ Some (i + (place f i).count)
+next_sibling_some : (f : Forest Node) (i : ℕ) → i < size f → i + (place f i).count < size f → length (place f (i + (place f i).count)).above ≡ length (place f i).above → next_sibling f i ≡ Some (i + (place f i).count)
 unfolding place
 next_sibling_some f i l =
     let h = here f i l in
     let n = length-preorder f in
     rw h.is (λ m d. next_some (preorder f) h.up (i ∷ h.left) (i + (1 + size h.below)) h.beside h.next h.follow (omega arith) d)
 
-pub next_sibling_none : (f : Forest Node) (i : ℕ) → i < size f → (i + (place f i).count < size f → length (place f (i + (place f i).count)).above ≡ length (place f i).above → ⊥) → next_sibling f i ≡ None
+next_sibling_none : (f : Forest Node) (i : ℕ) → i < size f → (i + (place f i).count < size f → (place f (i + (place f i).count)).above ≡ (place f i).above → ⊥) → next_sibling f i ≡ None
 unfolding place
 next_sibling_none f i l =
     let h = here f i l in
@@ -239,45 +239,106 @@ no_first (x ∷ xs) e = cc
 pub parent_depth : (f : Forest Node) (i q : ℕ) → i < size f → parent f i ≡ Some q → length (place f i).above ≡ length (place f q).above + 1
 parent_depth f i q l e = omega (arith, ap length (parent_is f i q l e).1)
 
-pub parent_none : (f : Forest Node) (i : ℕ) → parent f i ≡ None → length (place f i).above ≡ 0
-parent_none f i e = no_first (place f i).above e
-
 pub depth_le : (f : Forest Node) (i : ℕ) → i < size f → length (place f i).above ≤ i
 depth_le f i l = let h = here f i l in rw (place_is f i h) h.deep
 
--- ---- up to a depth
-pub up_to_here : (f : Forest Node) (i d : ℕ) → length (place f i).above ≤ d → up_to f i d ≡ i
-unfolding up_to
-up_to_here f i d l = let e : length (place f i).above - d ≡ 0 = omega arith in rw e refl
+-- ---- the next sibling, by its parent
+pub next_child : (f : Forest Node) (i e q : ℕ) → i < size f → e ≡ i + (place f i).count → e < size f → (i ≡ 0 → e ≡ size f) → (0 < i → parent f i ≡ Some q) → (0 < e → parent f e ≡ Some q) → next_sibling f i ≡ Some e
+next_child f i e q l is m root one other =
+    let low : 0 < i = ⊎_elim (λ none. absurd (let z = root none in omega arith)) (λ some. omega arith) (cases_eq i 0) in
+    let a = parent_is f i q l (one low) in
+    let b = parent_is f e q m (other (omega arith)) in
+    let k = next_sibling_some f i l in
+    rw (← is) at k (omega arith) (ap length b.1 ∙ sym (ap length a.1))
 
-pub up_to_parent : (f : Forest Node) (i d q : ℕ) → i < size f → d < length (place f i).above → parent f i ≡ Some q → up_to f i d ≡ up_to f q d
-unfolding up_to
-up_to_parent f i d q l m e =
-    let k = parent_is f i q l e in
-    let a : length (place f i).above ≡ suc (length (place f q).above) = ap length k.1 in
-    let s : length (place f i).above - d ≡ suc (length (place f q).above - d) = omega arith in
-    rw (s, k.1) refl
+pub no_next_child : (f : Forest Node) (i e q r : ℕ) → i < size f → e ≡ i + (place f i).count → e < size f → (i ≡ 0 → e ≡ size f) → (0 < i → parent f i ≡ Some q) → (0 < e → parent f e ≡ Some r) → (r ≡ q → ⊥) → next_sibling f i ≡ None
+no_next_child f i e q r l is m root one other ne =
+    let low : 0 < i = ⊎_elim (λ none. absurd (let z = root none in omega arith)) (λ some. omega arith) (cases_eq i 0) in
+    next_sibling_none f i l (λ k same.
+    let p : parent f e ≡ parent f i = rw is (ap first same) in
+    let z : Some r ≡ Some q = sym (other (omega arith)) ∙ p ∙ one low in
+    ne cc)
 
-pub up_to_leads : (f : Forest Node) (j q : ℕ) (up : List ℕ) → Leads (preorder f) j q up → up_to f j (length up) ≡ q
+pub no_next_row : (f : Forest Node) (i e : ℕ) → i < size f → e ≡ i + (place f i).count → size f ≤ e → next_sibling f i ≡ None
+no_next_row f i e l is past = next_sibling_none f i l (λ k same. absurd (omega arith))
+
+-- ---- up to a child of a node
+child_here : (i : ℕ) (up : List ℕ) (q : ℕ) → first up ≡ Some q → child_in (i ∷ up) q ≡ i
+child_here i [] q e = cc
+child_here i (p ∷ up) q e = let same : p ≡ q = cc in let k = eq-eqb p q same in rw k refl
+
+child_outermost : (i : ℕ) (up : List ℕ) (q : ℕ) → first up ≡ None → child_in (i ∷ up) q ≡ i
+child_outermost i [] q e = refl
+child_outermost i (p ∷ up) q e = cc
+
+child_above : (i p : ℕ) (up : List ℕ) (q : ℕ) → (p ≡ q → ⊥) → child_in (i ∷ p ∷ up) q ≡ child_in (p ∷ up) q
+child_above i p up q ne = let k = ne_eqb p q ne in rw k refl
+
+pub up_to_root : (f : Forest Node) (i q : ℕ) → parent f i ≡ None → up_to f i q ≡ i
+unfolding up_to
+up_to_root f i q e = child_outermost i (place f i).above q e
+
+up_to_child : (f : Forest Node) (i q : ℕ) → parent f i ≡ Some q → up_to f i q ≡ i
+unfolding up_to
+up_to_child f i q e = child_here i (place f i).above q e
+
+pub up_to_here : (f : Forest Node) (i q : ℕ) → (i ≡ 0 → parent f i ≡ None) → (0 < i → parent f i ≡ Some q) → up_to f i q ≡ i
+up_to_here f i q none some = ⊎_elim (λ low. up_to_root f i q (none low)) (λ high. up_to_child f i q (some (omega arith))) (cases_eq i 0)
+
+up_to_above : (f : Forest Node) (i p q : ℕ) → i < size f → parent f i ≡ Some p → (p ≡ q → ⊥) → up_to f i q ≡ up_to f p q
+unfolding up_to
+up_to_above f i p q l e ne = let k = parent_is f i p l e in rw k.1 (child_above i p (place f p).above q ne)
+
+pub up_to_parent : (f : Forest Node) (i p q r : ℕ) → i < size f → parent f i ≡ Some p → (i ≡ 0 → parent f i ≡ None) → (0 < i → parent f i ≡ Some r) → (r ≡ q → ⊥) → up_to f i q ≡ up_to f p q
+up_to_parent f i p q r l e none some ne =
+    ⊎_elim
+    (λ low. absurd (let z : None ≡ Some p = sym (none low) ∙ e in cc))
+    (λ high.
+    let z : Some r ≡ Some p = sym (some (omega arith)) ∙ e in
+    let same : r ≡ p = cc in
+    up_to_above f i p q l e (rw same at ne))
+    (cases_eq i 0)
+
+-- the node after these has what is behind it above it
+chain_at : (T : List Place) (xs : List ℕ) (i : ℕ) (up : List ℕ) → Chain T (xs ++ i ∷ up) → (at T i).above ≡ up
+chain_at T [] i up c = c.1
+chain_at T (x ∷ xs) i up c = chain_at T xs i up c.2
+
+-- a node is not among those below it
+not_among : (T : List Place) (y : ℕ) (xs : List ℕ) (i : ℕ) (up : List ℕ) → Chain T (y ∷ (xs ++ i ∷ up)) → y ≡ i → ⊥
+not_among T y xs i up c same =
+    let a = chain_at T xs i up c.2 in
+    let b : (at T i).above ≡ xs ++ i ∷ up = rw same at c.1 in
+    omega (arith, ap length a, ap length b, length-append xs (i ∷ up))
+
+child_behind : (T : List Place) (xs : List ℕ) (q i : ℕ) (up : List ℕ) → Chain T (xs ++ q ∷ i ∷ up) → child_in (xs ++ q ∷ i ∷ up) i ≡ q
+child_behind T [] q i up c = child_here q (i ∷ up) i refl
+child_behind T (x ∷ []) q i up c = child_above x q (i ∷ up) i (not_among T q [] i up c.2) ∙ child_behind T [] q i up c.2
+child_behind T (x ∷ y ∷ xs) q i up c =
+    let e : (xs ++ q ∷ []) ++ i ∷ up ≡ xs ++ q ∷ i ∷ up = append_assoc xs (q ∷ []) (i ∷ up) in
+    let c' : Chain T (y ∷ ((xs ++ q ∷ []) ++ i ∷ up)) = rw e c.2 in
+    child_above x y (xs ++ q ∷ i ∷ up) i (not_among T y (xs ++ q ∷ []) i up c') ∙ child_behind T (y ∷ xs) q i up c.2
+
+pub up_to_leads : (f : Forest Node) (j q i : ℕ) (up : List ℕ) → Leads (preorder f) j q (i ∷ up) → up_to f j i ≡ q
 unfolding up_to place
-up_to_leads f j q up g =
-    let n : suc (length (at (preorder f) j).above) ≡ length (g.through ++ q ∷ up) = ap length g.is in
-    let m : length (at (preorder f) j).above - length up ≡ length g.through + 0 = omega (arith, length-append g.through (q ∷ up)) in
-    rw (m, g.is) (get_or-append-add g.through (q ∷ up) 0 0)
+up_to_leads f j q i up g =
+    let h = here f j (omega (arith, g.inside, length-preorder f)) in
+    let c : Chain (preorder f) (j ∷ (at (preorder f) j).above) = (g.inside, refl, rw h.is h.chain) in
+    let c' : Chain (preorder f) (g.through ++ q ∷ i ∷ up) = subst (λ (xs : List ℕ). Chain (preorder f) xs) g.is c in
+    subst (λ (xs : List ℕ). child_in xs i ≡ q) (sym g.is) (child_behind (preorder f) g.through q i up c')
 
 last_none : (b : ℕ) (f : Forest Node) → size f ≡ 0 → last (ids b f) ≡ None
 last_none b Nil e = refl
 last_none b (Cons x c r) e = absurd (omega arith)
 
-pub last_child_some : (f : Forest Node) (i j : ℕ) → i < size f → 1 < (place f i).count → i + (place f i).count ≡ j + 1 → last_child f i ≡ Some (up_to f j (length (place f i).above + 1))
+pub last_child_some : (f : Forest Node) (i j : ℕ) → i < size f → 1 < (place f i).count → i + (place f i).count ≡ j + 1 → last_child f i ≡ Some (up_to f j i)
 last_child_some f i j l m e =
     let h = here f i l in
     let k : 1 < 1 + size h.below = rw (place_is f i h) at m in
     let e' : i + (1 + size h.below) ≡ j + 1 = rw (place_is f i h) at e in
     let r = right_end (preorder f) (i ∷ h.up) [] (i + 1) h.below j h.under (omega arith) (omega arith) in
-    let u = up_to_leads f j r.top (i ∷ h.up) r.leads in
-    let a : length h.up + 1 ≡ suc (length h.up) = omega arith in
-    rw (place_is f i h) (rw (a, u) r.is)
+    let u = up_to_leads f j r.top i h.up r.leads in
+    rw (place_is f i h) (rw u r.is)
 
 pub last_child_none : (f : Forest Node) (i : ℕ) → i < size f → (place f i).count ≤ 1 → last_child f i ≡ None
 last_child_none f i l m =
@@ -286,14 +347,15 @@ last_child_none f i l m =
     rw (place_is f i h) (last_none (i + 1) h.below (omega arith))
 
 -- ---- the previous sibling
-prev_some : (f : Forest Node) (i j : ℕ) (up left : List ℕ) → Prior (preorder f) i up left → i ≡ j + 1 → (first up ≡ Some j → ⊥) → first left ≡ Some (up_to f j (length up))
-prev_some f i j [] [] p e n = absurd (omega (arith, p))
-prev_some f i j (q ∷ up) [] p e n = let same : q ≡ j = omega (arith, p) in absurd (n (ap Some same))
-prev_some f i j up (q ∷ left) p e n =
-    let same : p.0 ≡ j = omega (arith, p.1) in
-    let k = up_to_leads f p.0 q up p.2 in
-    let k' : up_to f j (length up) ≡ q = rw same at k in
-    ap Some (sym k')
+prev_some : (f : Forest Node) (i j p : ℕ) (up left : List ℕ) → Prior (preorder f) i up left → i ≡ j + 1 → first up ≡ Some p → (p ≡ j → ⊥) → first left ≡ Some (up_to f j p)
+prev_some f i j p [] left prior e is n = cc
+prev_some f i j p (q ∷ up) [] prior e is n = let same : q ≡ p = cc in absurd (n (omega (arith, prior)))
+prev_some f i j p (k ∷ up) (q ∷ left) prior e is n =
+    let same : prior.0 ≡ j = omega (arith, prior.1) in
+    let parent_same : k ≡ p = cc in
+    let u = up_to_leads f prior.0 q k up prior.2 in
+    let u' : up_to f j p ≡ q = rw (same, parent_same) at u in
+    ap Some (sym u')
 
 prev_none : (f : Forest Node) (i j : ℕ) (up left : List ℕ) → Chain (preorder f) up → Prior (preorder f) i up left → i ≡ j + 1 → first up ≡ Some j → first left ≡ None
 prev_none f i j up [] c p e n = refl
@@ -309,8 +371,8 @@ no_before : (f : Forest Node) (i : ℕ) (up left : List ℕ) → Prior (preorder
 no_before f i up [] p e = refl
 no_before f i up (q ∷ left) p e = absurd (omega (arith, p.1))
 
-pub prev_sibling_some : (f : Forest Node) (i j : ℕ) → i < size f → i ≡ j + 1 → (parent f i ≡ Some j → ⊥) → prev_sibling f i ≡ Some (up_to f j (length (place f i).above))
-prev_sibling_some f i j l e = let h = here f i l in rw (place_is f i h) (prev_some f i j h.up h.left h.prior e)
+pub prev_sibling_some : (f : Forest Node) (i j p : ℕ) → i < size f → i ≡ j + 1 → parent f i ≡ Some p → (p ≡ j → ⊥) → prev_sibling f i ≡ Some (up_to f j p)
+prev_sibling_some f i j p l e = let h = here f i l in rw (place_is f i h) (prev_some f i j p h.up h.left h.prior e)
 
 pub prev_sibling_none : (f : Forest Node) (i j : ℕ) → i < size f → i ≡ j + 1 → parent f i ≡ Some j → prev_sibling f i ≡ None
 prev_sibling_none f i j l e = let h = here f i l in rw (place_is f i h) (prev_none f i j h.up h.left h.chain h.prior e)

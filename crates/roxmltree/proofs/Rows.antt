@@ -1,5 +1,5 @@
 -- The rows of a tree hold that tree and no other, and what a row says of its node.
-use Rattle.std.proofs.Common.{◌≡◌, ℕ, suc, ◌+◌, ◌-◌, ◌<◌, Bool, List, [], ◌∷◌, ◌++◌, Some, None, length, get_or, map, refl, sym, ap, ◌∙◌, arith}
+use Rattle.std.proofs.Common.{◌≡◌, ℕ, ◌+◌, ◌-◌, ◌<◌, Bool, List, [], ◌∷◌, ◌++◌, Some, None, length, get_or, map, refl, sym, ap, ◌∙◌, arith}
 use Rattle.std.proofs.lemmas.List.{get_or-map, length-map, map-append}
 use Rattle.rox_grammar.specs.Forest.{Forest, Nil, Cons, size}
 use Rattle.rox_grammar.specs.Tree.{Node}
@@ -9,7 +9,9 @@ use Rattle.rox_tables.specs.declared.rows.tables.Tables.{Tables}
 use Rattle.roxmltree.specs.TreeCodes.{flattened, unflattened, unflattened-flattened}
 use Rattle.roxmltree.specs.Places.{Place, places, preorder, place, nowhere, first, parent}
 use Rattle.roxmltree.specs.DocumentTables.{tree_in, nodes_from, HoldsDocument, IsWhole}
+use Rattle.rox_tables.specs.Rows.{node_rows}
 use Rattle.roxmltree.proofs.Preorder.{length-places, place_id}
+use Rattle.roxmltree.proofs.Tops.{IsDocument, none_above, some_above, all_below}
 
 -- the nearest node above, or 0
 abbrev pub top : List ℕ → ℕ
@@ -18,15 +20,14 @@ top (q ∷ up) = q
 
 -- the row of a place
 abbrev pub place_line : Place → RowView
-place_line p = record { parent = top p.above; subtree_end = p.id + p.count; depth = length p.above; node = p.item }
+place_line p = record { parent = top p.above; subtree_end = p.id + p.count; node = p.item }
 
 -- the rows of a forest are those of its places
-pub preorder_rows-places : (up left : List ℕ) (b : ℕ) (f : Forest Node) → map place_line (places up left b f) ≡ preorder_rows (top up) (length up) b f
+pub preorder_rows-places : (up left : List ℕ) (b : ℕ) (f : Forest Node) → map place_line (places up left b f) ≡ preorder_rows (top up) b f
 preorder_rows-places up left b Nil = refl
 preorder_rows-places up left b (Cons x c r) =
     let e : (b + 1) + size c ≡ b + (1 + size c) = omega arith in
-    let d : length up + 1 ≡ suc (length up) = omega arith in
-    rw (e, d) (ap (λ l. place_line (record { id = b; item = x; above = up; before = left; after = []; children = []; descendants = []; first_children = []; last_children = []; count = 1 + size c }) ∷ l)
+    rw e (ap (λ l. place_line (record { id = b; item = x; above = up; before = left; after = []; children = []; descendants = []; first_children = []; last_children = []; count = 1 + size c }) ∷ l)
     (map-append place_line (places (b ∷ up) [] (b + 1) c) (places up (b ∷ left) (b + (1 + size c)) r)
     ∙ rw (preorder_rows-places (b ∷ up) [] (b + 1) c, preorder_rows-places up (b ∷ left) (b + (1 + size c)) r) refl))
 
@@ -77,49 +78,44 @@ is_whole text dtd t h =
     record { holds = rw e h.holds; asked = h.asked; parsed = rw e h.parsed; utf8 = h.utf8 }
 
 -- there are as many rows as nodes
-pub row_count : (t : Tables) (f : Forest Node) → HoldsTree t f → length t.nodes.items ≡ size f
+pub row_count : (t : Tables) (f : Forest Node) → HoldsTree t f → length (node_rows t.nodes) ≡ size f
 unfolding preorder
 row_count t f h =
-    sym (length-map t.nodes.items (row_view (attribute_rows t.attributes) (names_of t) (scopes_of t)))
+    sym (length-map (node_rows t.nodes) (row_view (attribute_rows t.attributes) (names_of t) (scopes_of t)))
     ∙ ap length (h.rows ∙ sym (preorder_rows-places [] [] 0 f))
     ∙ length-map (places [] [] 0 f) place_line
     ∙ length-places [] [] 0 f
 
 -- a row is that of its node's place
-pub row_line : (t : Tables) (f : Forest Node) (i : ℕ) (x : NodeData) → HoldsTree t f → i < length t.nodes.items → x ≡ get_or t.nodes.items i x → row_view (attribute_rows t.attributes) (names_of t) (scopes_of t) x ≡ place_line (place f i)
+pub row_line : (t : Tables) (f : Forest Node) (i : ℕ) (x : NodeData) → HoldsTree t f → i < length (node_rows t.nodes) → x ≡ get_or (node_rows t.nodes) i x → row_view (attribute_rows t.attributes) (names_of t) (scopes_of t) x ≡ place_line (place f i)
 unfolding place preorder
 row_line t f i x h l e =
     let read = row_view (attribute_rows t.attributes) (names_of t) (scopes_of t) in
     let n : i < length (places [] [] 0 f) = omega (arith, row_count t f h, length-places [] [] 0 f) in
     ap read e
-    ∙ sym (get_or-map read t.nodes.items i x (read x) l)
+    ∙ sym (get_or-map read (node_rows t.nodes) i x (read x) l)
     ∙ ap (λ ls. get_or ls i (read x)) (h.rows ∙ sym (preorder_rows-places [] [] 0 f))
     ∙ get_or-map place_line (places [] [] 0 f) i nowhere (read x) n
 
 -- an id of the tree is a row's
-pub in_rows : (t : Tables) (f : Forest Node) (i : ℕ) → HoldsTree t f → i < size f → i < length t.nodes.items
+pub in_rows : (t : Tables) (f : Forest Node) (i : ℕ) → HoldsTree t f → i < size f → i < length (node_rows t.nodes)
 in_rows t f i h l = omega (arith, row_count t f h)
 
 top_some : (up : List ℕ) → 0 < length up → Some (top up) ≡ first up
 top_some [] l = absurd (omega arith)
 top_some (q ∷ up) l = refl
 
-top_none : (up : List ℕ) → length up ≡ 0 → first up ≡ None
-top_none [] e = refl
-top_none (q ∷ up) e = absurd (omega arith)
-
--- What the row of a node says: the id past its subtree, how many nodes are above it, and its parent.
-pub row_next : (t : Tables) (f : Forest Node) (i : ℕ) (x : NodeData) → HoldsTree t f → i < size f → x ≡ get_or t.nodes.items i x → x.subtree_end ≡ i + (place f i).count
+-- What the row of a node says: the id past its subtree, and its parent.
+pub row_next : (t : Tables) (f : Forest Node) (i : ℕ) (x : NodeData) → HoldsTree t f → i < size f → x ≡ get_or (node_rows t.nodes) i x → x.subtree_end ≡ i + (place f i).count
 row_next t f i x h l e = rw (place_id f i l) at (ap (λ r. r.subtree_end) (row_line t f i x h (in_rows t f i h l) e))
 
-pub row_depth : (t : Tables) (f : Forest Node) (i : ℕ) (x : NodeData) → HoldsTree t f → i < size f → x ≡ get_or t.nodes.items i x → x.depth ≡ length (place f i).above
-row_depth t f i x h l e = ap (λ r. r.depth) (row_line t f i x h (in_rows t f i h l) e)
+pub row_parent : (t : Tables) (n : ℕ) (f : Forest Node) (i : ℕ) (x : NodeData) → HoldsTree t f → IsDocument n f → i < size f → x ≡ get_or (node_rows t.nodes) i x → 0 < i → parent f i ≡ Some x.parent
+row_parent t n f i x h d l e low =
+    sym (top_some (place f i).above (some_above n f i d l low)) ∙ ap Some (sym (ap (λ r. r.parent) (row_line t f i x h (in_rows t f i h l) e)))
 
-pub row_parent : (t : Tables) (f : Forest Node) (i : ℕ) (x : NodeData) → HoldsTree t f → i < size f → x ≡ get_or t.nodes.items i x → 0 < x.depth → parent f i ≡ Some x.parent
-row_parent t f i x h l e d =
-    let n : 0 < length (place f i).above = omega (arith, row_depth t f i x h l e) in
-    sym (top_some (place f i).above n) ∙ ap Some (sym (ap (λ r. r.parent) (row_line t f i x h (in_rows t f i h l) e)))
+-- The row of the root node.
+pub row_no_parent : (n : ℕ) (f : Forest Node) (i : ℕ) → IsDocument n f → i ≡ 0 → parent f i ≡ None
+row_no_parent n f i d e = rw e (none_above n f d)
 
-pub row_no_parent : (t : Tables) (f : Forest Node) (i : ℕ) (x : NodeData) → HoldsTree t f → i < size f → x ≡ get_or t.nodes.items i x → x.depth ≡ 0 → parent f i ≡ None
-row_no_parent t f i x h l e d =
-    top_none (place f i).above (omega (arith, row_depth t f i x h l e))
+pub row_whole : (t : Tables) (n : ℕ) (f : Forest Node) (i : ℕ) (x : NodeData) → HoldsTree t f → IsDocument n f → i < size f → x ≡ get_or (node_rows t.nodes) i x → i ≡ 0 → x.subtree_end ≡ size f
+row_whole t n f i x h d l e root = row_next t f i x h l e ∙ rw root (all_below n f d)

@@ -290,7 +290,7 @@ child_parent f i k l =
     rw h.is (λ m. ap first (sib (preorder f) (i ∷ h.up) [] (i + 1) h.below k h.under m).above)
 
 -- above each node of a forest are those above the forest, last
-above_ends : (T : List Place) (up left : List ℕ) (b : ℕ) (f : Forest Node) → Sits T up left b f → (j : ℕ) → b ≤ j → j < b + size f → (xs : List ℕ) × ((at T j).above ≡ xs ++ up)
+pub above_ends : (T : List Place) (up left : List ℕ) (b : ℕ) (f : Forest Node) → Sits T up left b f → (j : ℕ) → b ≤ j → j < b + size f → (xs : List ℕ) × ((at T j).above ≡ xs ++ up)
 above_ends T up left b Nil s j l m = absurd (omega arith)
 above_ends T up left b (Cons x c r) s j l m =
     ⊎_elim

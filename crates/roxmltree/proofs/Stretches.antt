@@ -7,20 +7,24 @@ use Rattle.rox_grammar.specs.Forest.{Forest, Nil, Cons, size}
 use Rattle.rox_grammar.specs.Tree.{Node}
 use Rattle.roxmltree.specs.DocumentView.{DocumentView}
 use Rattle.roxmltree.specs.NodeRef.{node_refs}
-use Rattle.roxmltree.specs.Places.{ids, Place, preorder, place, first, last, children, last_child, next_sibling, prev_sibling, up_to}
+use Rattle.roxmltree.specs.Places.{ids, Place, preorder, place, first, last, parent, children, last_child, next_sibling, prev_sibling, up_to}
 use Rattle.roxmltree.specs.SiblingRange.{row_from, apart, siblings_through, IsSiblingRange}
 use Rattle.roxmltree.specs.ChildrenLeft.{if_some, last_before, between, IsStretch}
-use Rattle.roxmltree.proofs.Preorder.{at, Sits, here, place_is, prior_rest, up_to_leads, length-preorder, first_child_some, first_child_none, last_child_some, place_end}
+use Rattle.roxmltree.proofs.Preorder.{at, Sits, Leads, here, place_is, prior_rest, up_to_leads, length-preorder, first_child_some, first_child_none, last_child_some, place_end}
 use Rattle.roxmltree.proofs.Siblings.{row_sits, row_at, second, next_row, prev_row, prev_next, run_same, run_next, run_next_none, run_back, run_back_none, run_children, no_children}
 
 -- from the last node of a subtree one comes up to its top
-end_up : (f : Forest Node) (i j : ℕ) → i < size f → i + (place f i).count ≡ j + 1 → up_to f j (length (place f i).above) ≡ i
-end_up f i j l =
+end_up : (f : Forest Node) (i j q : ℕ) → i < size f → i + (place f i).count ≡ j + 1 → parent f i ≡ Some q → up_to f j q ≡ i
+end_up f i j q l =
     let h = here f i l in
-    rw (place_is f i h) (λ e.
+    rw (place_is f i h) (λ e is.
     let p = prior_rest (preorder f) h.up h.left i h.item h.below h.beside (row_sits f i h) in
     let same : p.0 ≡ j = omega (arith, p.1, e) in
-    subst (λ k. up_to f k (length h.up) ≡ i) same (up_to_leads f p.0 i h.up p.2))
+    subst (λ k. up_to f k q ≡ i) same (end_leads f p.0 i q h.up is p.2))
+  where
+    end_leads : (f : Forest Node) (k i q : ℕ) (up : List ℕ) → first up ≡ Some q → Leads (preorder f) k i up → up_to f k q ≡ i
+    end_leads f k i q [] is g = cc
+    end_leads f k i q (p ∷ up) is g = let same : p ≡ q = cc in rw same at (up_to_leads f k i p up g)
 
 -- a node's subtree has the node itself
 count_some : (f : Forest Node) (i : ℕ) → i < size f → 0 < (place f i).count
@@ -102,7 +106,7 @@ front f a u h l s =
     let low = run_low f n z i.0 r.1 in
     record {
       rest = whole ∙ r.0 ∙ ap (λ xs. a ∷ xs) (sym (some_of (u - n) (siblings_through f n z) (omega (arith, s.ends))));
-      sound = λ m. record { inside = i.0; is_run = r.1; last_inside = s.last_inside; ends = s.ends; deep = s.deep };
+      sound = λ m. record { inside = i.0; is_run = r.1; last_inside = s.last_inside; ends = s.ends; is_child = s.is_child };
     })
     (option_cases (next_sibling f a)))
     (cases_eq a z)
@@ -136,10 +140,9 @@ back f a u h l s =
     let i = prev_row f z p s.last_inside some.1 in
     let next = prev_next f z p s.last_inside some.1 in
     let e : z ≡ p + (place f p).count = next_is_end f p z i.0 next in
-    let deep : length (place f p).above ≡ h = ap length (sym (next_above f p z i.0 next)) ∙ s.deep in
+    let child : parent f p ≡ Some h = ap first (sym (next_above f p z i.0 next)) ∙ s.is_child in
     let c = count_some f p i.0 in
-    let up : up_to f (z - 1) (length (place f p).above) ≡ p = end_up f p (z - 1) i.0 (omega arith) in
-    let is : last_before f z h ≡ p = rw deep at up in
+    let is : last_before f z h ≡ p = end_up f p (z - 1) h i.0 (omega arith) child in
     let low = run_low f a p s.inside r.1 in
     record {
       rest = whole ∙ r.0 ∙ ap (λ xs. xs ++ z ∷ []) (sym (some_of (z - a) (siblings_through f a (last_before f z h)) (omega arith) ∙ ap (siblings_through f a) is));
@@ -148,7 +151,7 @@ back f a u h l s =
         is_run = rw is r.1;
         last_inside = rw is i.0;
         ends = rw is (sym e);
-        deep = rw is deep;
+        is_child = rw is child;
       };
     })
     (option_cases (prev_sibling f z)))
@@ -174,7 +177,7 @@ last_top T up left b (Cons x c (Cons x' c' r')) d s e =
 record LastChild (f : Forest Node) (i d : ℕ) : Type 0 where
   inside : d < size f
   ends : d + (place f d).count ≡ i + (place f i).count
-  deep : length (place f d).above ≡ length (place f i).above + 1
+  is_child : parent f d ≡ Some i
 
 last_child_is : (f : Forest Node) (i d : ℕ) → i < size f → last_child f i ≡ Some d → LastChild f i d
 unfolding place
@@ -183,18 +186,17 @@ last_child_is f i d l =
     let n = length-preorder f in
     rw h.is (λ e.
     let k = last_top (preorder f) (i ∷ h.up) [] (i + 1) h.below d h.under e in
-    record { inside = omega (arith, k.0); ends = rw h.is (k.1 ∙ omega arith); deep = rw h.is (ap length k.2 ∙ omega arith) })
+    record { inside = omega (arith, k.0); ends = rw h.is (k.1 ∙ omega arith); is_child = ap first k.2 })
 
 record Whole (f : Forest Node) (i : ℕ) : Type 0 where
-  rest : between f (i + 1) (i + (place f i).count) (length (place f i).above + 1) ≡ children f i
-  sound : i + 1 < i + (place f i).count → IsStretch f (i + 1) (i + (place f i).count) (length (place f i).above + 1)
+  rest : between f (i + 1) (i + (place f i).count) i ≡ children f i
+  sound : i + 1 < i + (place f i).count → IsStretch f (i + 1) (i + (place f i).count) i
 
 whole_children : (f : Forest Node) (i : ℕ) → i < size f → Whole f i
 whole_children f i l =
     let n = (place f i).count in
-    let h = length (place f i).above + 1 in
     let j = (i + n) - 1 in
-    let z = last_before f (i + n) h in
+    let z = last_before f (i + n) i in
     ⊎_elim
     (λ more.
     let c = first_child_some f i l more in
@@ -203,7 +205,7 @@ whole_children f i l =
     let k = last_child_is f i z l d in
     record {
       rest = some_of ((i + n) - (i + 1)) (siblings_through f (i + 1) z) (omega arith) ∙ r.0;
-      sound = λ m. record { inside = omega (arith, place_end f i l); is_run = r.1; last_inside = k.inside; ends = k.ends; deep = k.deep };
+      sound = λ m. record { inside = omega (arith, place_end f i l); is_run = r.1; last_inside = k.inside; ends = k.ends; is_child = k.is_child };
     })
     (λ few.
     record {
@@ -212,10 +214,10 @@ whole_children f i l =
     })
     (cases_lt 1 n)
 
-pub children_left : (d : DocumentView) (f : Forest Node) (i a u h : ℕ) → i < size f → a ≡ i + 1 → u ≡ i + (place f i).count → h ≡ length (place f i).above + 1 → node_refs d (between f a u h) ≡ node_refs d (children f i)
+pub children_left : (d : DocumentView) (f : Forest Node) (i a u h : ℕ) → i < size f → a ≡ i + 1 → u ≡ i + (place f i).count → h ≡ i → node_refs d (between f a u h) ≡ node_refs d (children f i)
 children_left d f i a u h l ea eu eh = rw (ea, eu, eh) (ap (node_refs d) (whole_children f i l).rest)
 
-pub children_stretch : (f : Forest Node) (i a u h : ℕ) → i < size f → a ≡ i + 1 → u ≡ i + (place f i).count → h ≡ length (place f i).above + 1 → a < u → IsStretch f a u h
+pub children_stretch : (f : Forest Node) (i a u h : ℕ) → i < size f → a ≡ i + 1 → u ≡ i + (place f i).count → h ≡ i → a < u → IsStretch f a u h
 children_stretch f i a u h l ea eu eh = rw (ea, eu, eh) (whole_children f i l).sound
 
 -- fewer are left

@@ -1,5 +1,5 @@
 -- An element is among the top nodes of a document.
-use Rattle.std.proofs.Common.{◌≡◌, ℕ, ◌+◌, Bool, List, [], ◌∷◌, length, None, Some, true, false, refl, ap, subst, arith}
+use Rattle.std.proofs.Common.{◌≡◌, ℕ, ◌+◌, ◌<◌, Bool, List, [], ◌∷◌, length, None, Some, true, false, refl, ap, subst, arith, length-append}
 use Rattle.rox_grammar.specs.Forest.{Forest, Nil, Cons, size}
 use Rattle.rox_grammar.specs.Written as written
 use Rattle.rox_grammar.specs.Written.{NamespaceDecl}
@@ -9,11 +9,12 @@ use Rattle.rox_theory.specs.Apart.{AnyElement}
 use Rattle.rox_theory.proofs.Apart.{parse_has}
 use Rattle.rox_grammar.specs.Doctype.{Asked}
 use Rattle.roxmltree.specs.DocumentView.{DocumentView}
-use Rattle.roxmltree.specs.Places.{places, preorder, place, ids, children}
+use Rattle.roxmltree.specs.Places.{places, preorder, place, first, parent, ids, children}
 use Rattle.roxmltree.specs.NodeParts.{is_element_node}
 use Rattle.roxmltree.specs.NodeRef.{node_refs}
 use Rattle.roxmltree.specs.Elements.{nearest_element}
 use Rattle.roxmltree.proofs.Preorder.{Sits, sits, length-places}
+use Rattle.roxmltree.proofs.Siblings.{above_ends}
 
 -- there is an element among these nodes side by side
 abbrev pub HasElement : Forest Node → Type 0
@@ -61,11 +62,29 @@ unfolding preorder
 whole_sits f =
     sits (places [] [] 0 f) [] [] 0 f (λ k m. let e : 0 + k ≡ k = omega arith in rw e refl) (omega (arith, length-places [] [] 0 f))
 
+-- the root node has all nodes below it, and no other has none above it
+root_sits : (n : ℕ) (f : Forest Node) (d : IsDocument n f) → Sits (preorder f) [] [] 0 (Cons (Root n) d.tops Nil)
+root_sits n f d = subst (λ g. Sits (preorder f) [] [] 0 g) d.rooted (whole_sits f)
+
+pub none_above : (n : ℕ) (f : Forest Node) → IsDocument n f → parent f 0 ≡ None
+unfolding place
+none_above n f d = ap (λ p. first p.above) (root_sits n f d).0
+
+pub some_above : (n : ℕ) (f : Forest Node) (i : ℕ) → IsDocument n f → i < size f → 0 < i → 0 < length (place f i).above
+unfolding place
+some_above n f i d l low =
+    let k = above_ends (preorder f) (0 ∷ []) [] 1 d.tops (root_sits n f d).2 i (omega arith) (omega (arith, ap size d.rooted)) in
+    omega (arith, ap length k.1, length-append k.0 (0 ∷ []))
+
+pub all_below : (n : ℕ) (f : Forest Node) → IsDocument n f → 0 + (place f 0).count ≡ size f
+unfolding place
+all_below n f d = omega (arith, ap (λ p. p.count) (root_sits n f d).0, ap size d.rooted)
+
 -- a document has an outermost element
 pub root_element_there : (d : DocumentView) (n : ℕ) → IsDocument n d.tree → nearest_element (node_refs d (children d.tree 0)) ≡ None → ⊥
 unfolding place
 root_element_there d n w h =
-    let s : Sits (preorder d.tree) [] [] 0 (Cons (Root n) w.tops Nil) = subst (λ f. Sits (preorder d.tree) [] [] 0 f) w.rooted (whole_sits d.tree) in
+    let s = root_sits n d.tree w in
     let c : children d.tree 0 ≡ ids 1 w.tops = ap (λ p. p.children) s.0 in
     none_among d (0 ∷ []) [] 1 w.tops s.2 w.element (rw c at h)
 

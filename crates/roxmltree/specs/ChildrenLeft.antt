@@ -1,9 +1,9 @@
 -- What `Children` has left.
-use Rattle.std.specs.Prelude.{◌≡◌, ℕ, zero, suc, ◌+◌, ◌-◌, ◌<◌, ◌≤◌, List, [], length}
+use Rattle.std.specs.Prelude.{◌≡◌, ℕ, zero, suc, ◌+◌, ◌-◌, ◌<◌, ◌≤◌, List, [], Some}
 use Rattle.rox_grammar.specs.Forest.{Forest, size}
 use Rattle.rox_grammar.specs.Tree as grammar
 use Rattle.roxmltree.specs.DocumentView.{DocumentView}
-use Rattle.roxmltree.specs.Places.{place, up_to}
+use Rattle.roxmltree.specs.Places.{place, parent, up_to}
 use Rattle.roxmltree.specs.NodeRef.{node_refs}
 use Rattle.roxmltree.specs.SiblingRange.{siblings_through, IsSiblingRange}
 use Rattle.roxmltree.specs.declared.iterators.Children.TheInside.{Inside}
@@ -13,25 +13,25 @@ abbrev pub if_some : ℕ → List ℕ → List ℕ
 if_some zero ids = []
 if_some (suc n) ids = ids
 
--- the last of the siblings that end before this id, and have this many nodes above them
+-- the last of the children of this node that end before this id
 abbrev pub last_before : Forest grammar.Node → ℕ → ℕ → ℕ
-last_before tree until depth = up_to tree (until - 1) depth
+last_before tree until node = up_to tree (until - 1) node
 
--- the siblings from one on, up to the last that ends before this id
-abbrev pub between : Forest grammar.Node → (from until depth : ℕ) → List ℕ
-between tree from until depth = if_some (until - from) (siblings_through tree from (last_before tree until depth))
+-- the children of this node from one on, up to the last that ends before this id
+abbrev pub between : Forest grammar.Node → (from until node : ℕ) → List ℕ
+between tree from until node = if_some (until - from) (siblings_through tree from (last_before tree until node))
 
 -- the last one is the first, or a sibling after it, and ends there
-pub record IsStretch (tree : Forest grammar.Node) (from until depth : ℕ) : Type 0 where
+pub record IsStretch (tree : Forest grammar.Node) (from until node : ℕ) : Type 0 where
   pub inside : from < size tree
-  pub is_run : IsSiblingRange tree from (last_before tree until depth)
-  pub last_inside : last_before tree until depth < size tree
-  pub ends : last_before tree until depth + (place tree (last_before tree until depth)).count ≡ until
-  pub deep : length (place tree (last_before tree until depth)).above ≡ depth
+  pub is_run : IsSiblingRange tree from (last_before tree until node)
+  pub last_inside : last_before tree until node < size tree
+  pub ends : last_before tree until node + (place tree (last_before tree until node)).count ≡ until
+  pub is_child : parent tree (last_before tree until node) ≡ Some node
 
 abbrev pub left : Inside → List (DocumentView × ℕ)
-left c = node_refs c.document.now (between c.document.now.tree c.from.0 c.until.0 c.depth)
+left c = node_refs c.document.now (between c.document.now.tree c.from.0 c.until.0 c.parent.0)
 
 pub record IsChildrenStretch (c : Inside) : Type 0 where
-  pub stretch : c.from.0 < c.until.0 → IsStretch c.document.now.tree c.from.0 c.until.0 c.depth
+  pub stretch : c.from.0 < c.until.0 → IsStretch c.document.now.tree c.from.0 c.until.0 c.parent.0
   pub fits : c.until.0 ≤ size c.document.now.tree

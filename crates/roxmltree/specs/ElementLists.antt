@@ -1,10 +1,11 @@
 -- What an element has, as callers and as the tables say it.
 use Rattle.std.specs.Prelude.{◌≡◌, ℕ, ◌<◌, ◌≤◌, List, map, length, slice_range}
 use Rattle.std.specs.Coded.{Coded, coded_list}
-use Rattle.std.specs.List.{AllByRecursion, zip}
+use Rattle.std.specs.List.{AllByRecursion}
 use Rattle.rox_grammar.specs.Written.{NamespaceDecl}
 use Rattle.rox_grammar.specs.Tree as tree
-use Rattle.rox_tables.specs.Rows.{attribute, namespace_view, namespace_at, AreScopes, NamespaceWithin}
+use Rattle.rox_tables.specs.Rows.{attribute, attribute_rows, namespace_view, namespace_at, AreScopes, NamespaceWithin}
+use Rattle.rox_tables.specs.StoredAttributes.{row_in}
 use Rattle.rox_tables.specs.Scopes.{places_in, ArePlaces}
 use Rattle.roxmltree.specs.TreeCodes.{attribute_code, namespace_decl_code}
 use Rattle.roxmltree.specs.declared.attributes.Attribute.{Attribute}
@@ -19,18 +20,17 @@ namespace_decls_code = coded_list namespace_decl_code
 
 -- an attribute as callers see it
 abbrev pub attribute_of : Attribute → tree.Attribute
-attribute_of a = attribute (map namespace_view a.namespaces.now) (a.data.now, a.places.now)
+attribute_of a = attribute (map namespace_view a.namespaces.now) (row_in a.table.now.unusual.items a.row.now)
 
 -- those that are left
 abbrev pub attributes_left : attributes.Inside → List tree.Attribute
-attributes_left a = map (attribute (map namespace_view a.namespaces.now)) (slice_range (zip a.items.now a.places.now) a.from a.until)
+attributes_left a = map (attribute (map namespace_view a.namespaces.now)) (slice_range (attribute_rows a.table.now) a.from a.until)
 
--- they are a stretch of two columns, and each of these has its namespace in the table
+-- they are a stretch of the table, and each of its rows has its namespace in the other
 pub record AttributesWithin (a : attributes.Inside) : Type 0 where
-  pub even : length a.places.now ≡ length a.items.now
   pub ordered : a.from ≤ a.until
-  pub within : a.until ≤ length a.items.now
-  pub each : AllByRecursion (λ d. NamespaceWithin (length a.namespaces.now) d.namespace) a.items.now
+  pub within : a.until ≤ length (attribute_rows a.table.now)
+  pub each : AllByRecursion (λ r. NamespaceWithin (length a.namespaces.now) r.0.namespace) (attribute_rows a.table.now)
 
 -- the places that are left of those that the scope lists
 abbrev pub places_left : namespaces.Inside → List ℕ

@@ -4,6 +4,7 @@ use Rattle.std.specs.Option.{option_map}
 use Rattle.rox_grammar.specs.Forest.{Forest}
 use Rattle.rox_grammar.specs.Written.{NamespaceDecl}
 use Rattle.rox_grammar.specs.Tree.{Node, Attribute, Root, Element, Text, Comment, PI}
+pub use Rattle.rox_grammar.specs.Tree.{is_element_node, start_of, end_of}
 use Rattle.roxmltree.specs.Places.{place, first_child, next_sibling}
 
 -- the node of this id
@@ -13,10 +14,6 @@ node_at tree id = (place tree id).item
 abbrev pub is_root_node : Node → Bool
 is_root_node (Root end) = true
 is_root_node other = false
-
-abbrev pub is_element_node : Node → Bool
-is_element_node (Element start end namespace local listed attributes) = true
-is_element_node other = false
 
 abbrev pub is_text_node : Node → Bool
 is_text_node (Text start end value borrowed) = true
@@ -29,21 +26,6 @@ is_comment_node other = false
 abbrev pub is_pi_node : Node → Bool
 is_pi_node (PI start end target value) = true
 is_pi_node other = false
-
--- where its range starts and ends, in bytes of its source
-abbrev pub start_of : Node → ℕ
-start_of (Root end) = 0
-start_of (Element start end namespace local listed attributes) = start
-start_of (Text start end value borrowed) = start
-start_of (Comment start end text) = start
-start_of (PI start end target value) = start
-
-abbrev pub end_of : Node → ℕ
-end_of (Root end) = end
-end_of (Element start end namespace local listed attributes) = end
-end_of (Text start end value borrowed) = end
-end_of (Comment start end text) = end
-end_of (PI start end target value) = end
 
 -- of an element, and nothing for other nodes
 abbrev pub local_of : Node → List ℕ

@@ -17,8 +17,6 @@ instruction pi = (pi.target.now, option_map (λ v. v.now) pi.value)
 
 -- the text of a text node's or a comment's row
 abbrev pub content_in : NodeKind → Option (List ℕ × Bool)
-content_in kind.Root = None
-content_in (kind.Element e) = None
 content_in (kind.Text value) = Some (stored value)
 content_in (kind.Comment text) = Some (stored text)
-content_in (kind.PI pi) = None
+content_in other = None

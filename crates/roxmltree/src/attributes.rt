@@ -3,11 +3,14 @@
 ghost use Rattle.std.specs.Prelude.{◌≡◌, ◌≤◌, ◌-◌, None, length, bytes_eq};
 ghost use Rattle.std.specs.Option.{option_map, option_eq};
 ghost use Rattle.rox_tables.specs.Rows.{namespace_view};
+ghost use Rattle.rox_tables.specs.StoredAttributes.{data_of, place_bound};
 ghost use Rattle.roxmltree.specs.NamespaceBound.{namespace_bound};
 
 use crate::names::{ExpandedName, NS_XML_URI, equal_names};
+use rox_tables::rows::attributes::AttributeTable;
 use rox_tables::rows::storage::StringStorage;
-use rox_tables::rows::tables::{AttributeData, AttributeNamespace, AttributePlaces, Namespace};
+use rox_tables::rows::stored_attribute::{NamespaceKind, StoredAttribute};
+use rox_tables::rows::tables::{AttributeNamespace, Namespace};
 use std::fmt;
 use std::marker::Model;
 use std::ops::Range;
@@ -15,10 +18,11 @@ use std::ops::Range;
 /// An attribute of an element (XML 1.0 section 3.1).
 #[derive(Clone, Copy)]
 pub struct Attribute<'a, 'input> {
-    data: &'a AttributeData<'input>,
-    places: &'a AttributePlaces,
+    row: &'a StoredAttribute<'input>,
+    table: &'a AttributeTable<'input>,
     namespaces: &'a [Namespace<'input>],
-    ghost within: { namespace_bound data.now.namespace ≤ length namespaces.now },
+    ghost within: { namespace_bound (data_of row.now).namespace ≤ length namespaces.now },
+    ghost placed: { place_bound row.now ≤ length table.now.unusual.items },
 }
 
 impl<'a, 'input> Attribute<'a, 'input> {
@@ -32,7 +36,7 @@ impl<'a, 'input> Attribute<'a, 'input> {
     pub fn namespace(&self) -> Option<&'a str>
         ensures { option_map (λ u. u.now) result ≡ (attribute_of self.now).namespace }
     {
-        match self.data.namespace {
+        match self.row.namespace() {
             AttributeNamespace::None => None,
             AttributeNamespace::Xml => Some(NS_XML_URI),
             AttributeNamespace::Listed(place) => {
@@ -47,13 +51,15 @@ impl<'a, 'input> Attribute<'a, 'input> {
     pub fn name(&self) -> &'input str
         ensures { result.now ≡ (attribute_of self.now).local }
     {
-        self.data.local
+        self.row.local
     }
 
     /// Whether it has this name.
     #[inline]
     pub(crate) fn has_name(&self, name: &ExpandedName<'_, '_>) -> bool
-        ensures { result ≡ same_expanded_name ((attribute_of self.now).namespace, (attribute_of self.now).local) (expanded name.now) }
+        ensures { result
+            ≡ same_expanded_name ((attribute_of self.now).namespace, (attribute_of self.now).local)
+            (expanded name.now) }
     {
         equal_names(self.name(), name.name()) && self.has_namespace(name.namespace())
     }
@@ -61,13 +67,15 @@ impl<'a, 'input> Attribute<'a, 'input> {
     /// Whether it has this local name, and no namespace.
     #[inline(always)]
     fn has_plain_name(&self, local: &str) -> bool
-        ensures { result ≡ same_expanded_name ((attribute_of self.now).namespace, (attribute_of self.now).local) (None, local.now) }
+        ensures { result
+            ≡ same_expanded_name ((attribute_of self.now).namespace, (attribute_of self.now).local)
+            (None, local.now) }
     {
         if !equal_names(self.name(), local) {
             return false;
         }
-        match self.data.namespace {
-            AttributeNamespace::None => true,
+        match self.row.kind {
+            NamespaceKind::None => true,
             _ => false,
         }
     }
@@ -75,7 +83,8 @@ impl<'a, 'input> Attribute<'a, 'input> {
     /// Whether it has this namespace, or none.
     #[inline]
     fn has_namespace(&self, uri: Option<&str>) -> bool
-        ensures { result ≡ option_eq bytes_eq (attribute_of self.now).namespace (option_map (λ u. u.now) uri.entry) }
+        ensures { result ≡ option_eq bytes_eq (attribute_of self.now).namespace (option_map
+            (λ u. u.now) uri.entry) }
     {
         match (self.namespace(), uri) {
             (None, None) => true,
@@ -89,15 +98,16 @@ impl<'a, 'input> Attribute<'a, 'input> {
     pub fn value(&self) -> &'a str
         ensures { result.now ≡ (attribute_of self.now).value }
     {
-        self.data.value.as_str()
+        self.row.value.as_str()
     }
 
     /// Its value, with whether it is a slice of the input.
     #[inline]
     pub fn value_storage(&self) -> &StringStorage<'input>
-        ensures { stored result.now ≡ ((attribute_of self.now).value, (attribute_of self.now).borrowed) }
+        ensures { stored result.now
+            ≡ ((attribute_of self.now).value, (attribute_of self.now).borrowed) }
     {
-        &self.data.value
+        &self.row.value
     }
 
     /// Where it starts in its source, in bytes.
@@ -105,7 +115,7 @@ impl<'a, 'input> Attribute<'a, 'input> {
     pub fn position(&self) -> usize
         ensures { result ≡ (attribute_of self.now).start }
     {
-        self.places.start
+        self.table.places(self.row).start
     }
 
     /// Where it stands in its source, in bytes: from its name to its closing quote, the quote included.
@@ -114,7 +124,8 @@ impl<'a, 'input> Attribute<'a, 'input> {
         ensures start { result.start ≡ (attribute_of self.now).start }
         ensures end { result.end ≡ (attribute_of self.now).end }
     {
-        self.places.start..self.places.end
+        let places = self.table.places(self.row);
+        places.start..places.end
     }
 
     /// Where its name stands in its source, in bytes.
@@ -123,7 +134,8 @@ impl<'a, 'input> Attribute<'a, 'input> {
         ensures start { result.start ≡ (attribute_of self.now).start }
         ensures end { result.end ≡ (attribute_of self.now).name_end }
     {
-        self.places.start..self.places.name_end
+        let places = self.table.places(self.row);
+        places.start..places.name_end
     }
 
     /// Where its value stands in its source, in bytes, without the quotes.
@@ -132,7 +144,8 @@ impl<'a, 'input> Attribute<'a, 'input> {
         ensures start { result.start ≡ (attribute_of self.now).value_start }
         ensures end { result.end ≡ (attribute_of self.now).end - 1 }
     {
-        self.places.value_start..self.places.end.saturating_sub(1)
+        let places = self.table.places(self.row);
+        places.value_start..places.end.saturating_sub(1)
     }
 }
 
@@ -161,11 +174,10 @@ impl fmt::Debug for Attribute<'_, '_> {
     }
 }
 
-/// Attributes of one element, from both ends: a stretch of the table of attributes, which has two columns.
+/// Attributes of one element, from both ends: a stretch of the table of attributes.
 #[derive(Clone, Drop)]
 pub struct Attributes<'a, 'input> {
-    pub(crate) items: &'a [AttributeData<'input>],
-    pub(crate) places: &'a [AttributePlaces],
+    pub(crate) table: &'a AttributeTable<'input>,
     pub(crate) namespaces: &'a [Namespace<'input>],
     pub(crate) from: usize,
     pub(crate) until: usize,
@@ -187,29 +199,29 @@ impl<'a, 'input> Model for Attributes<'a, 'input> {
 
 impl<'a, 'input> Attributes<'a, 'input> {
     ghost use Rattle.std.specs.Prelude.{map, slice_range};
-    ghost use Rattle.std.specs.List.{AllByRecursion, zip};
-    ghost use Rattle.rox_tables.specs.Rows.{attribute, NamespaceWithin};
+    ghost use Rattle.std.specs.List.{AllByRecursion};
+    ghost use Rattle.rox_tables.specs.Rows.{attribute, attribute_rows, NamespaceWithin};
     ghost use Rattle.roxmltree.specs.ElementLists.{attribute_of};
     ghost use Rattle.roxmltree.specs.ExpandedNames.{expanded, named};
 
     /// A stretch of the attributes of all elements, whose namespaces are in this table.
     #[inline]
     pub(crate) fn part(
-        items: &'a [AttributeData<'input>],
-        places: &'a [AttributePlaces],
+        table: &'a AttributeTable<'input>,
         from: usize,
         until: usize,
         namespaces: &'a [Namespace<'input>],
     ) -> Attributes<'a, 'input>
-        requires even { length places.now ≡ length items.now }
         requires ordered { from ≤ until }
-        requires within { until ≤ length items.now }
-        requires named { AllByRecursion (λ a. NamespaceWithin (length namespaces.now) a.namespace) items.now }
-        ensures { result ≡ map (attribute (map namespace_view namespaces.now)) (slice_range (zip items.now places.now) from until) }
+        requires within { until ≤ length (attribute_rows table.now) }
+        requires named { AllByRecursion (λ a. NamespaceWithin (length namespaces.now) a.0.namespace)
+            (attribute_rows table.now) }
+        ensures { result
+            ≡ map (attribute (map namespace_view namespaces.now))
+            (slice_range (attribute_rows table.now) from until) }
     {
         Attributes {
-            items,
-            places,
+            table,
             namespaces,
             from,
             until,
@@ -270,7 +282,7 @@ impl<'a, 'input> Iterator for Attributes<'a, 'input> {
     ghost remaining = { item_count (λ s. s) };
 
     #[inline]
-    #[tactic(auto, using(crate::proofs::Columns::reach_at, crate::proofs::Columns::first_row))]
+    #[tactic(auto, using(crate::proofs::AttributeRows::first_row, crate::proofs::AttributeRows::stored_at))]
     fn next(&mut self) -> Option<Attribute<'a, 'input>> {
         if self.from == self.until {
             return None;
@@ -278,8 +290,8 @@ impl<'a, 'input> Iterator for Attributes<'a, 'input> {
         let place = self.from;
         self.from = place + 1;
         Some(Attribute {
-            data: &self.items[place],
-            places: &self.places[place],
+            row: &self.table.items[place],
+            table: self.table,
             namespaces: self.namespaces,
         })
     }
@@ -300,7 +312,7 @@ impl<'a, 'input> DoubleEndedIterator for Attributes<'a, 'input> {
 
     ghost next_back_gives = { YieldsLastBy attribute_of (λ s. s) };
 
-    #[tactic(auto, using(crate::proofs::Columns::reach_at))]
+    #[tactic(auto, using(crate::proofs::AttributeRows::stored_at))]
     fn next_back(&mut self) -> Option<Attribute<'a, 'input>> {
         if self.from == self.until {
             return None;
@@ -308,8 +320,8 @@ impl<'a, 'input> DoubleEndedIterator for Attributes<'a, 'input> {
         let place = self.until - 1;
         self.until = place;
         Some(Attribute {
-            data: &self.items[place],
-            places: &self.places[place],
+            row: &self.table.items[place],
+            table: self.table,
             namespaces: self.namespaces,
         })
     }

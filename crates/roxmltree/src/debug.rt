@@ -4,7 +4,7 @@ ghost use Rattle.std.specs.Iterator.{IsFinite};
 
 use crate::nodes::Node;
 use crate::tree::Document;
-use rox_tables::rows::tables::NodeKind;
+use rox_tables::rows::stored_node::KindRef;
 use std::fmt;
 
 /// Prints the tree, a node after the other, by a loop: however deep it is, no stack is used up.
@@ -13,14 +13,20 @@ impl fmt::Debug for Document<'_> {
         writeln!(f, "Document [")?;
         let mut nodes = self.descendants();
         nodes.next();
-        // how many elements are open: their ends are yet to be printed
+        // the node that the next one is below, and how many elements are open: their ends are yet to be printed
+        let mut innermost = self.root();
         let mut open = 0;
         for node in nodes {
-            let depth = node.document.row(node.id).depth;
-            let around = depth.saturating_sub(1);
+            let around = count_around(innermost, open, node);
             close_elements(f, around, open)?;
             write_node(f, node, around)?;
-            open = if node.has_children() { depth } else { around };
+            if node.has_children() {
+                innermost = node;
+                open = around.saturating_add(1);
+            } else {
+                innermost = node.parent().unwrap_or(node);
+                open = around;
+            }
         }
         close_elements(f, 0, open)?;
         writeln!(f, "]")
@@ -30,9 +36,9 @@ impl fmt::Debug for Document<'_> {
 /// Prints its kind, with its names or its text; the nodes below it are not printed.
 impl fmt::Debug for Node<'_, '_> {
     fn fmt<W: fmt::Write>(&self, f: &mut fmt::Formatter<W>) -> fmt::Result {
-        match &self.document.row(self.id).kind {
-            NodeKind::Root => write!(f, "Root"),
-            NodeKind::Element(_) => {
+        match self.document.kind(self.id) {
+            KindRef::Root => write!(f, "Root"),
+            KindRef::Element(_) => {
                 let name = self.tag_name();
                 let attributes = self.attributes();
                 let namespaces = self.namespaces();
@@ -41,17 +47,30 @@ impl fmt::Debug for Node<'_, '_> {
                     "Element {{ tag_name: {name:?}, attributes: {attributes:?}, namespaces: {namespaces:?} }}"
                 )
             }
-            NodeKind::Text(text) => {
+            KindRef::Text(text) => {
                 let text = text.as_str();
                 write!(f, "Text({text:?})")
             }
-            NodeKind::Comment(text) => {
+            KindRef::Comment(text) => {
                 let text = text.as_str();
                 write!(f, "Comment({text:?})")
             }
-            NodeKind::PI(pi) => write!(f, "{pi:?}"),
+            KindRef::PI(pi) => write!(f, "{pi:?}"),
         }
     }
+}
+
+// How many elements are around a node, where so many are around what is in the innermost of those that are open.
+fn count_around(innermost: Node<'_, '_>, open: u32, node: Node<'_, '_>) -> u32 {
+    let parent = node.document.row(node.id).parent;
+    let mut around = open;
+    for above in innermost.ancestors() {
+        if above.id.0 == parent {
+            return around;
+        }
+        around = around.saturating_sub(1);
+    }
+    around
 }
 
 // A node, and how many elements are around it. An element with children is left open.

@@ -33,7 +33,9 @@ impl<'a, 'input> Node<'a, 'input> {
     /// want of memory.
     pub fn reparse(&self, alloc: Global) -> Result<Document<'input>, Error<'static>>
         requires { stands_alone (document_of self.now) (id_of self.now) ≡ true }
-        ensures node { IfOk result (λ d. IsReparse (tree_of self.now) (document_of self.now).text (id_of self.now) d.tree d.text) }
+        ensures node { IfOk result
+            (λ d. IsReparse (tree_of self.now) (document_of self.now).text
+            (id_of self.now) d.tree d.text) }
         ensures key { IfOk result (λ d. d.key ≡ 0) }
         ensures dtd { IfOk result (λ d. d.dtd ≡ false) }
         ensures memory { IfErr result (λ e. e ≡ Error.OutOfMemory) }
@@ -48,7 +50,10 @@ impl<'a, 'input> Node<'a, 'input> {
     pub fn exchange(&self, alloc: Global, other: &Document<'_>) -> Result<String, AllocError>
         requires mine { stands_alone (document_of self.now) (id_of self.now) ≡ true }
         requires others { stands_alone other.now (root_id other.now.tree) ≡ true }
-        ensures { IfOk result (λ text. IsExchange (tree_of self.now) (document_of self.now).text (id_of self.now) other.now.tree other.now.text (root_id other.now.tree) (string_bytes text)) }
+        ensures { IfOk result
+            (λ text. IsExchange (tree_of self.now) (document_of self.now).text
+            (id_of self.now) other.now.tree other.now.text (root_id other.now.tree)
+            (string_bytes text)) }
     {
         self.document.whole();
         other.whole();
@@ -69,7 +74,8 @@ impl<'a, 'input> Node<'a, 'input> {
 
     /// The nodes above it, nearest first.
     fn above(&self) -> AxisIter<'a, 'input>
-        ensures { result ≡ node_refs (document_of self.now) (place (tree_of self.now) (id_of self.now)).above }
+        ensures { result
+            ≡ node_refs (document_of self.now) (place (tree_of self.now) (id_of self.now)).above }
     {
         let mut nodes = self.ancestors();
         nodes.next();
@@ -87,7 +93,9 @@ impl<'a, 'input> Node<'a, 'input> {
     /// Its part of the text.
     fn own_text(&self) -> &'input str
         requires { stands_alone (document_of self.now) (id_of self.now) ≡ true }
-        ensures { result.now ≡ slice (document_of self.now).text (start_at (tree_of self.now) (id_of self.now)) (end_at (tree_of self.now) (id_of self.now)) }
+        ensures { result.now
+            ≡ slice (document_of self.now).text (start_at (tree_of self.now) (id_of self.now))
+            (end_at (tree_of self.now) (id_of self.now)) }
     {
         self.document.whole();
         let range = self.range();

@@ -45,7 +45,8 @@ impl<'a, 'input> AxisIter<'a, 'input> {
 
     #[tactic(auto, using(crate::proofs::Preorder::parent_is, crate::proofs::Siblings::no_parent, crate::proofs::Siblings::prev_row, crate::proofs::Siblings::no_prev, crate::proofs::Siblings::next_row, crate::proofs::Siblings::no_next, crate::proofs::Siblings::first_children_step, crate::proofs::Siblings::no_first_child, crate::proofs::Siblings::last_children_step, crate::proofs::Siblings::no_last_child))]
     fn step(axis: Axis, node: Node<'a, 'input>) -> Option<Node<'a, 'input>>
-        ensures { axis_nodes_from axis (Some node.entry) ≡ node_ref node.entry ∷ axis_nodes_from axis result }
+        ensures { axis_nodes_from axis (Some node.entry)
+            ≡ node_ref node.entry ∷ axis_nodes_from axis result }
     {
         match axis {
             Axis::Ancestors => node.parent(),
@@ -239,13 +240,13 @@ impl<'a, 'input> DoubleEndedIterator for Descendants<'a, 'input> {
     }
 }
 
-/// Children of one node, from both ends: those from one on that end before an id, each with this many nodes above it.
+/// Children of one node, from both ends: those from one on that end before an id.
 #[derive(Drop)]
 pub struct Children<'a, 'input> {
     pub(crate) document: &'a Document<'input>,
     pub(crate) from: NodeId,
     pub(crate) until: NodeId,
-    pub(crate) depth: u32,
+    pub(crate) parent: NodeId,
 }
 
 impl<'a, 'input> Model for Children<'a, 'input> {
@@ -306,7 +307,7 @@ impl<'a, 'input> Children<'a, 'input> {
             document: self.document,
             from: self.from,
             until: self.until,
-            depth: self.depth,
+            parent: self.parent,
         }
     }
 }
@@ -376,7 +377,7 @@ impl<'a, 'input> DoubleEndedIterator for Children<'a, 'input> {
             document,
             id: NodeId(self.until.0 - 1),
         };
-        let back = below.climb(self.depth);
+        let back = below.climb(self.parent);
         self.until = back.id;
         Some(back)
     }

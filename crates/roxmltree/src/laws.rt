@@ -11,7 +11,8 @@ use crate::tree::Document;
 
 /// What is true of every document: its tree is that of its text, which is in UTF-8.
 pub fn document_is_whole(document: &Document<'_>)
-    ensures parsed { (asked : List Asked) × IsTreeOf document.now.text document.now.dtd asked 4294967295 document.now.tree }
+    ensures parsed { (asked : List Asked)
+        × IsTreeOf document.now.text document.now.dtd asked 4294967295 document.now.tree }
     ensures utf8 { IsUtf8 document.now.text }
 {
     document.whole();
@@ -21,7 +22,8 @@ pub fn document_is_whole(document: &Document<'_>)
 #[tactic(auto, using(crate::proofs::Preorder::place_id, crate::proofs::Preorder::place_end))]
 pub fn ids_are_places(document: &Document<'_>)
     ensures place { (i : ℕ) → i < size document.now.tree → (place document.now.tree i).id ≡ i }
-    ensures within { (i : ℕ) → i < size document.now.tree → i + (place document.now.tree i).count ≤ size document.now.tree }
+    ensures within { (i : ℕ) → i < size document.now.tree
+        → i + (place document.now.tree i).count ≤ size document.now.tree }
 {
     let _ = document;
 }
@@ -29,8 +31,10 @@ pub fn ids_are_places(document: &Document<'_>)
 /// The nodes above a node are its parent and the nodes above that.
 #[tactic(auto, using(crate::proofs::Preorder::parent_is))]
 pub fn parents_are_the_nearest_above(document: &Document<'_>)
-    ensures inside { (i q : ℕ) → i < size document.now.tree → parent document.now.tree i ≡ Some q → q < size document.now.tree }
-    ensures above { (i q : ℕ) → i < size document.now.tree → parent document.now.tree i ≡ Some q → (place document.now.tree i).above ≡ q ∷ (place document.now.tree q).above }
+    ensures inside { (i q : ℕ) → i < size document.now.tree → parent document.now.tree i ≡ Some q
+        → q < size document.now.tree }
+    ensures above { (i q : ℕ) → i < size document.now.tree → parent document.now.tree i ≡ Some q
+        → (place document.now.tree i).above ≡ q ∷ (place document.now.tree q).above }
 {
     let _ = document;
 }
@@ -38,7 +42,9 @@ pub fn parents_are_the_nearest_above(document: &Document<'_>)
 /// The nodes from one on in its subtree are the ids from its own on, each once: as many as the subtree has.
 #[tactic(auto, using(crate::proofs::Siblings::descendants_is))]
 pub fn descendants_are_in_order(document: &Document<'_>)
-    ensures { (i : ℕ) → i < size document.now.tree → (place document.now.tree i).descendants ≡ range_with_len i (place document.now.tree i).count }
+    ensures { (i : ℕ) → i < size document.now.tree
+        → (place document.now.tree i).descendants
+        ≡ range_with_len i (place document.now.tree i).count }
 {
     let _ = document;
 }
@@ -46,8 +52,13 @@ pub fn descendants_are_in_order(document: &Document<'_>)
 /// From each node of a subtree but its top one comes up to the top: above it are some nodes, the top, and those above that.
 /// And a node is in the subtrees of all nodes above it.
 pub fn descendants_are_below(document: &Document<'_>)
-    ensures leads { (i j : ℕ) → i < size document.now.tree → i < j → j < i + (place document.now.tree i).count → (between : List ℕ) × ((place document.now.tree j).above ≡ between ++ i ∷ (place document.now.tree i).above) }
-    ensures inside { (i j : ℕ) → j < size document.now.tree → Contains (place document.now.tree j).above i → (i < j) × (j < i + (place document.now.tree i).count) }
+    ensures leads { (i j : ℕ) → i < size document.now.tree → i < j
+        → j < i + (place document.now.tree i).count
+        → (between : List ℕ)
+        × ((place document.now.tree j).above ≡ between ++ i ∷ (place document.now.tree i).above) }
+    ensures inside { (i j : ℕ) → j < size document.now.tree
+        → Contains (place document.now.tree j).above i
+        → (i < j) × (j < i + (place document.now.tree i).count) }
 {
     let _ = document;
 }

@@ -13,7 +13,7 @@ use crate::attributes::{Attribute, Attributes};
 use crate::names::{ExpandedName, NS_XML_URI, equal_names};
 use crate::namespaces::NamespaceIter;
 use crate::nodes::Node;
-use rox_tables::rows::tables::NodeKind;
+use rox_tables::rows::stored_node::KindRef;
 
 impl<'a, 'input> Node<'a, 'input> {
     /// The name of an element. The empty name without namespace for other nodes.
@@ -30,15 +30,18 @@ impl<'a, 'input> Node<'a, 'input> {
     fn local_name(&self) -> &'input str
         ensures { result.now ≡ local_of (item_of self.now) }
     {
-        match &self.document.row(self.id).kind {
-            NodeKind::Element(element) => element.local,
+        match self.document.kind(self.id) {
+            KindRef::Element(element) => element.local,
             _ => "",
         }
     }
 
     /// Whether it is an element of this name.
     pub fn has_tag_name(&self, name: ExpandedName<'_, '_>) -> bool
-        ensures { result ≡ (is_element_node (item_of self.now) && same_expanded_name (namespace_of (item_of self.now), local_of (item_of self.now)) (expanded name.entry)) }
+        ensures { result
+            ≡ (is_element_node (item_of self.now)
+            && same_expanded_name (namespace_of (item_of self.now), local_of (item_of self.now))
+            (expanded name.entry)) }
     {
         self.is_element()
             && self.local_name() == name.name()
@@ -47,7 +50,9 @@ impl<'a, 'input> Node<'a, 'input> {
 
     /// Whether it is an element of this local name, whatever its namespace.
     pub fn has_local_name(&self, local: &str) -> bool
-        ensures { result ≡ (is_element_node (item_of self.now) && bytes_eq (local_of (item_of self.now)) local.now) }
+        ensures { result
+            ≡ (is_element_node (item_of self.now)
+            && bytes_eq (local_of (item_of self.now)) local.now) }
     {
         self.is_element() && self.local_name() == local
     }
@@ -75,7 +80,8 @@ impl<'a, 'input> Node<'a, 'input> {
     /// The attribute of this name.
     #[inline(always)]
     pub fn attribute_node(&self, name: ExpandedName<'_, '_>) -> Option<Attribute<'a, 'input>>
-        ensures { option_map attribute_of result ≡ named (expanded name.entry) (attributes_of (item_of self.now)) }
+        ensures { option_map attribute_of result
+            ≡ named (expanded name.entry) (attributes_of (item_of self.now)) }
     {
         match name.namespace() {
             None => Attributes::plain_named(self.attributes(), name.name()),
@@ -86,7 +92,9 @@ impl<'a, 'input> Node<'a, 'input> {
     /// The value of the attribute of this name.
     #[inline(always)]
     pub fn attribute(&self, name: ExpandedName<'_, '_>) -> Option<&'a str>
-        ensures { option_map (λ s. s.now) result ≡ option_map (λ a. a.value) (named (expanded name.entry) (attributes_of (item_of self.now))) }
+        ensures { option_map (λ s. s.now) result
+            ≡ option_map
+            (λ a. a.value) (named (expanded name.entry) (attributes_of (item_of self.now))) }
     {
         match self.attribute_node(name) {
             Some(attribute) => Some(attribute.value()),
@@ -97,7 +105,8 @@ impl<'a, 'input> Node<'a, 'input> {
     /// Whether there is an attribute of this name.
     #[inline(always)]
     pub fn has_attribute(&self, name: ExpandedName<'_, '_>) -> bool
-        ensures { result ≡ is_some (named (expanded name.entry) (attributes_of (item_of self.now))) }
+        ensures { result
+            ≡ is_some (named (expanded name.entry) (attributes_of (item_of self.now))) }
     {
         self.attribute_node(name).is_some()
     }
@@ -105,7 +114,8 @@ impl<'a, 'input> Node<'a, 'input> {
     /// The first attribute of this local name, whatever its namespace.
     #[inline]
     pub fn attribute_local(&self, local: &str) -> Option<Attribute<'a, 'input>>
-        ensures { option_map attribute_of result ≡ named_locally local.now (attributes_of (item_of self.now)) }
+        ensures { option_map attribute_of result
+            ≡ named_locally local.now (attributes_of (item_of self.now)) }
     {
         for attribute in self.attributes() {
             if equal_names(attribute.name(), local) {
@@ -128,7 +138,8 @@ impl<'a, 'input> Node<'a, 'input> {
     /// and on nodes that are no element.
     #[inline(always)]
     pub fn lookup_namespace_uri(&self, prefix: Option<&str>) -> Option<&'a str>
-        ensures { option_map (λ s. s.now) result ≡ uri_of (listed_of (item_of self.now)) (option_map (λ s. s.now) prefix.entry) }
+        ensures { option_map (λ s. s.now) result
+            ≡ uri_of (listed_of (item_of self.now)) (option_map (λ s. s.now) prefix.entry) }
     {
         match self.document.listed_for(self.id, prefix) {
             Some(namespace) => Some(namespace.uri()),
@@ -139,7 +150,8 @@ impl<'a, 'input> Node<'a, 'input> {
     /// The prefix of the first listed namespace of this URI: None where that is the default, and where none is listed, as on
     /// nodes that are no element. `xml` for the URI of `xml`, on every node (Namespaces in XML 1.0 section 3).
     pub fn lookup_prefix(&self, uri: &str) -> Option<&'input str>
-        ensures { option_map (λ s. s.now) result ≡ prefix_of uri.now (listed_of (item_of self.now)) }
+        ensures { option_map (λ s. s.now) result
+            ≡ prefix_of uri.now (listed_of (item_of self.now)) }
     {
         if uri == NS_XML_URI {
             return Some("xml");

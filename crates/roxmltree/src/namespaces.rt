@@ -50,7 +50,8 @@ impl<'a, 'input> NamespaceIter<'a, 'input> {
         requires is_row { scope < length scopes.now }
         requires scopes { AreScopes (length listed.now) scopes.now }
         requires named { ArePlaces (length namespaces.now) listed.now }
-        ensures value { result ≡ map (namespace_at (map namespace_view namespaces.now)) (places_in listed.now scopes.now scope) }
+        ensures value { result ≡ map (namespace_at (map namespace_view namespaces.now))
+            (places_in listed.now scopes.now scope) }
         ensures few { length result < 2 ^ 64 }
     {
         NamespaceIter {

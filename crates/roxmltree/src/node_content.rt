@@ -9,7 +9,8 @@ ghost use Rattle.roxmltree.specs.NodeRef.{id_of, tree_of, item_of};
 
 use crate::nodes::Node;
 use rox_tables::rows::storage::StringStorage;
-use rox_tables::rows::tables::{NodeKind, PI};
+use rox_tables::rows::stored_node::KindRef;
+use rox_tables::rows::tables::PI;
 use std::ops::Range;
 
 /// The kinds of node.
@@ -30,12 +31,12 @@ impl<'a, 'input> Node<'a, 'input> {
     pub fn node_type(&self) -> NodeType
         ensures { result ≡ type_of (item_of self.now) }
     {
-        match self.document.row(self.id).kind {
-            NodeKind::Root => NodeType::Root,
-            NodeKind::Element(_) => NodeType::Element,
-            NodeKind::Text(_) => NodeType::Text,
-            NodeKind::Comment(_) => NodeType::Comment,
-            NodeKind::PI(_) => NodeType::PI,
+        match self.document.kind(self.id) {
+            KindRef::Root => NodeType::Root,
+            KindRef::Element(_) => NodeType::Element,
+            KindRef::Text(_) => NodeType::Text,
+            KindRef::Comment(_) => NodeType::Comment,
+            KindRef::PI(_) => NodeType::PI,
         }
     }
 
@@ -45,8 +46,8 @@ impl<'a, 'input> Node<'a, 'input> {
     pub fn is_root(&self) -> bool
         ensures { result ≡ is_root_node (item_of self.now) }
     {
-        match self.document.row(self.id).kind {
-            NodeKind::Root => true,
+        match self.document.kind(self.id) {
+            KindRef::Root => true,
             _ => false,
         }
     }
@@ -57,8 +58,8 @@ impl<'a, 'input> Node<'a, 'input> {
     pub fn is_element(&self) -> bool
         ensures { result ≡ is_element_node (item_of self.now) }
     {
-        match self.document.row(self.id).kind {
-            NodeKind::Element(_) => true,
+        match self.document.kind(self.id) {
+            KindRef::Element(_) => true,
             _ => false,
         }
     }
@@ -69,8 +70,8 @@ impl<'a, 'input> Node<'a, 'input> {
     pub fn is_pi(&self) -> bool
         ensures { result ≡ is_pi_node (item_of self.now) }
     {
-        match self.document.row(self.id).kind {
-            NodeKind::PI(_) => true,
+        match self.document.kind(self.id) {
+            KindRef::PI(_) => true,
             _ => false,
         }
     }
@@ -81,8 +82,8 @@ impl<'a, 'input> Node<'a, 'input> {
     pub fn is_comment(&self) -> bool
         ensures { result ≡ is_comment_node (item_of self.now) }
     {
-        match self.document.row(self.id).kind {
-            NodeKind::Comment(_) => true,
+        match self.document.kind(self.id) {
+            KindRef::Comment(_) => true,
             _ => false,
         }
     }
@@ -93,8 +94,8 @@ impl<'a, 'input> Node<'a, 'input> {
     pub fn is_text(&self) -> bool
         ensures { result ≡ is_text_node (item_of self.now) }
     {
-        match self.document.row(self.id).kind {
-            NodeKind::Text(_) => true,
+        match self.document.kind(self.id) {
+            KindRef::Text(_) => true,
             _ => false,
         }
     }
@@ -107,9 +108,9 @@ impl<'a, 'input> Node<'a, 'input> {
         ensures start { result.start ≡ start_of (item_of self.now) }
         ensures end { result.end ≡ end_of (item_of self.now) }
     {
-        let row = self.document.row(self.id);
+        let row = self.document.node(self.id);
         match row.kind {
-            NodeKind::Root => 0..row.end,
+            KindRef::Root => 0..row.end,
             _ => row.start..row.end,
         }
     }
@@ -120,8 +121,8 @@ impl<'a, 'input> Node<'a, 'input> {
     pub fn pi(&self) -> Option<PI<'input>>
         ensures { option_map instruction result ≡ pi_of (item_of self.now) }
     {
-        match self.document.row(self.id).kind {
-            NodeKind::PI(pi) => Some(pi),
+        match self.document.kind(self.id) {
+            KindRef::PI(pi) => Some(pi),
             _ => None,
         }
     }
@@ -141,14 +142,15 @@ impl<'a, 'input> Node<'a, 'input> {
     #[inline]
     #[tactic(auto, using(crate::proofs::Bare::says_element_bare))]
     pub fn text_storage(&self) -> Option<&'a StringStorage<'input>>
-        ensures { option_map (λ s. stored s.now) result ≡ stored_text (tree_of self.now) (id_of self.now) }
+        ensures { option_map (λ s. stored s.now) result
+            ≡ stored_text (tree_of self.now) (id_of self.now) }
     {
-        match &self.document.row(self.id).kind {
-            NodeKind::Element(_) => match self.first_child() {
+        match self.document.kind(self.id) {
+            KindRef::Element(_) => match self.first_child() {
                 Some(child) => child.own_text_storage(),
                 None => None,
             },
-            NodeKind::Text(text) | NodeKind::Comment(text) => Some(text),
+            KindRef::Text(text) | KindRef::Comment(text) => Some(text),
             _ => None,
         }
     }
@@ -166,7 +168,8 @@ impl<'a, 'input> Node<'a, 'input> {
 
     /// As `tail`, with whether it is a slice of the input.
     pub fn tail_storage(&self) -> Option<&'a StringStorage<'input>>
-        ensures { option_map (λ s. stored s.now) result ≡ stored_tail (tree_of self.now) (id_of self.now) }
+        ensures { option_map (λ s. stored s.now) result
+            ≡ stored_tail (tree_of self.now) (id_of self.now) }
     {
         if !self.is_element() {
             return None;
@@ -183,8 +186,8 @@ impl<'a, 'input> Node<'a, 'input> {
     fn own_text_storage(&self) -> Option<&'a StringStorage<'input>>
         ensures { option_map (λ s. stored s.now) result ≡ text_content (item_of self.now) }
     {
-        match &self.document.row(self.id).kind {
-            NodeKind::Text(text) => Some(text),
+        match self.document.kind(self.id) {
+            KindRef::Text(text) => Some(text),
             _ => None,
         }
     }

@@ -121,7 +121,7 @@ impl<'a, 'input> Node<'a, 'input> {
     {
         let document = self.document;
         let row = document.row(self.id);
-        if row.depth == 0 {
+        if self.id.0 == 0 {
             None
         } else {
             Some(Node {
@@ -151,30 +151,29 @@ impl<'a, 'input> Node<'a, 'input> {
 
     /// The next child of its parent.
     #[inline]
-    #[tactic(auto, using(crate::proofs::Preorder::next_sibling_some, crate::proofs::Preorder::next_sibling_none))]
     pub fn next_sibling(&self) -> Option<Node<'a, 'input>>
         ensures { GivesNode self.now (next_sibling (tree_of self.now) (id_of self.now)) result }
     {
         let document = self.document;
         let row = document.row(self.id);
         let id = NodeId(row.subtree_end);
-        if (id.0 as usize) < document.count() && document.row(id).depth == row.depth {
+        if (id.0 as usize) < document.count() && document.row(id).parent == row.parent {
             Some(Node { document, id })
         } else {
             None
         }
     }
 
-    /// Of itself and the nodes above it, the one that has this many nodes above it.
-    #[tactic(auto, using(crate::proofs::Preorder::up_to_here, crate::proofs::Preorder::up_to_parent, crate::proofs::Preorder::parent_depth, crate::proofs::Preorder::parent_none))]
-    pub(crate) fn climb(self, depth: u32) -> Node<'a, 'input>
-        ensures id { id_of result ≡ up_to (tree_of self.entry) (id_of self.entry) depth }
+    /// Of itself and the nodes above it, the nearest that is a child of this one, or else the root node.
+    #[tactic(auto, using(crate::proofs::Preorder::up_to_here, crate::proofs::Preorder::up_to_root, crate::proofs::Preorder::parent_depth))]
+    pub(crate) fn climb(self, parent: NodeId) -> Node<'a, 'input>
+        ensures id { id_of result ≡ up_to (tree_of self.entry) (id_of self.entry) (number parent) }
         ensures document { result.document ≡ self.entry.document }
     {
         let mut node = self;
-        while node.document.row(node.id).depth > depth {
+        while node.document.row(node.id).parent != parent.0 {
             match node.parent() {
-                Some(parent) => node = parent,
+                Some(above) => node = above,
                 None => return node,
             }
         }
@@ -182,7 +181,7 @@ impl<'a, 'input> Node<'a, 'input> {
     }
 
     /// Its last child.
-    #[tactic(auto, using(crate::proofs::Preorder::place_end, crate::proofs::Preorder::depth_le, crate::proofs::Preorder::last_child_some, crate::proofs::Preorder::last_child_none))]
+    #[tactic(auto, using(crate::proofs::Preorder::place_end, crate::proofs::Preorder::last_child_some, crate::proofs::Preorder::last_child_none))]
     pub fn last_child(&self) -> Option<Node<'a, 'input>>
         ensures { GivesNode self.now (last_child (tree_of self.now) (id_of self.now)) result }
     {
@@ -193,7 +192,7 @@ impl<'a, 'input> Node<'a, 'input> {
                 document,
                 id: NodeId(row.subtree_end - 1),
             };
-            Some(last.climb(row.depth + 1))
+            Some(last.climb(self.id))
         } else {
             None
         }
@@ -208,21 +207,22 @@ impl<'a, 'input> Node<'a, 'input> {
         if self.id.0 == 0 {
             return None;
         }
-        let row = document.row(self.id);
+        let parent = document.row(self.id).parent;
         let id = NodeId(self.id.0 - 1);
-        if row.depth > 0 && row.parent == id.0 {
+        if parent == id.0 {
             None
         } else {
             let before = Node { document, id };
-            Some(before.climb(row.depth))
+            Some(before.climb(NodeId(parent)))
         }
     }
 
     /// Its children, in order.
     #[inline]
-    #[tactic(auto, using(crate::proofs::Preorder::place_end, crate::proofs::Preorder::depth_le, crate::proofs::Stretches::children_left, crate::proofs::Stretches::children_stretch, crate::proofs::Few::few_left_of_children))]
+    #[tactic(auto, using(crate::proofs::Preorder::place_end, crate::proofs::Stretches::children_left, crate::proofs::Stretches::children_stretch, crate::proofs::Few::few_left_of_children))]
     pub fn children(&self) -> Children<'a, 'input>
-        ensures value { result ≡ node_refs (document_of self.now) (children (tree_of self.now) (id_of self.now)) }
+        ensures value { result
+            ≡ node_refs (document_of self.now) (children (tree_of self.now) (id_of self.now)) }
         ensures few { length result < 2 ^ 32 }
     {
         let document = self.document;
@@ -231,7 +231,7 @@ impl<'a, 'input> Node<'a, 'input> {
             document,
             from: NodeId(self.id.0 + 1),
             until: NodeId(row.subtree_end),
-            depth: row.depth + 1,
+            parent: self.id,
         }
     }
 
@@ -239,7 +239,9 @@ impl<'a, 'input> Node<'a, 'input> {
     #[inline]
     #[tactic(auto, using(crate::proofs::Preorder::place_end, crate::proofs::Siblings::descendants_is, crate::proofs::Ranges::spots_length))]
     pub fn descendants(&self) -> Descendants<'a, 'input>
-        ensures value { result ≡ node_refs (document_of self.now) (place (tree_of self.now) (id_of self.now)).descendants }
+        ensures value { result
+            ≡ node_refs (document_of self.now)
+            (place (tree_of self.now) (id_of self.now)).descendants }
         ensures few { length result < 2 ^ 32 }
     {
         let document = self.document;
@@ -255,7 +257,9 @@ impl<'a, 'input> Node<'a, 'input> {
     #[inline]
     #[tactic(auto, using(crate::proofs::Preorder::depth_le, crate::proofs::Ranges::length_spots))]
     pub fn ancestors(&self) -> AxisIter<'a, 'input>
-        ensures value { result ≡ node_refs (document_of self.now) (id_of self.now ∷ (place (tree_of self.now) (id_of self.now)).above) }
+        ensures value { result
+            ≡ node_refs (document_of self.now) (id_of self.now
+            ∷ (place (tree_of self.now) (id_of self.now)).above) }
         ensures few { length result < 2 ^ 32 }
     {
         let _nodes = self.document.count();
@@ -269,7 +273,9 @@ impl<'a, 'input> Node<'a, 'input> {
     #[inline]
     #[tactic(auto, using(crate::proofs::Few::few_before, crate::proofs::Ranges::length_spots))]
     pub fn prev_siblings(&self) -> AxisIter<'a, 'input>
-        ensures value { result ≡ node_refs (document_of self.now) (id_of self.now ∷ (place (tree_of self.now) (id_of self.now)).before) }
+        ensures value { result
+            ≡ node_refs (document_of self.now) (id_of self.now
+            ∷ (place (tree_of self.now) (id_of self.now)).before) }
         ensures few { length result < 2 ^ 32 }
     {
         let _nodes = self.document.count();
@@ -283,7 +289,9 @@ impl<'a, 'input> Node<'a, 'input> {
     #[inline]
     #[tactic(auto, using(crate::proofs::Few::few_after, crate::proofs::Ranges::length_spots))]
     pub fn next_siblings(&self) -> AxisIter<'a, 'input>
-        ensures value { result ≡ node_refs (document_of self.now) (id_of self.now ∷ (place (tree_of self.now) (id_of self.now)).after) }
+        ensures value { result
+            ≡ node_refs (document_of self.now) (id_of self.now
+            ∷ (place (tree_of self.now) (id_of self.now)).after) }
         ensures few { length result < 2 ^ 32 }
     {
         let _nodes = self.document.count();
@@ -297,7 +305,9 @@ impl<'a, 'input> Node<'a, 'input> {
     #[inline]
     #[tactic(auto, using(crate::proofs::Few::few_first_children, crate::proofs::Ranges::length_spots))]
     pub fn first_children(&self) -> AxisIter<'a, 'input>
-        ensures value { result ≡ node_refs (document_of self.now) (place (tree_of self.now) (id_of self.now)).first_children }
+        ensures value { result
+            ≡ node_refs (document_of self.now)
+            (place (tree_of self.now) (id_of self.now)).first_children }
         ensures few { length result < 2 ^ 32 }
     {
         let _nodes = self.document.count();
@@ -311,7 +321,9 @@ impl<'a, 'input> Node<'a, 'input> {
     #[inline]
     #[tactic(auto, using(crate::proofs::Few::few_last_children, crate::proofs::Ranges::length_spots))]
     pub fn last_children(&self) -> AxisIter<'a, 'input>
-        ensures value { result ≡ node_refs (document_of self.now) (place (tree_of self.now) (id_of self.now)).last_children }
+        ensures value { result
+            ≡ node_refs (document_of self.now)
+            (place (tree_of self.now) (id_of self.now)).last_children }
         ensures few { length result < 2 ^ 32 }
     {
         let _nodes = self.document.count();
@@ -323,7 +335,9 @@ impl<'a, 'input> Node<'a, 'input> {
 
     /// The nearest element above it.
     pub fn parent_element(&self) -> Option<Node<'a, 'input>>
-        ensures { option_map node_ref result ≡ nearest_element (node_refs (document_of self.now) (place (tree_of self.now) (id_of self.now)).above) }
+        ensures { option_map node_ref result
+            ≡ nearest_element
+            (node_refs (document_of self.now) (place (tree_of self.now) (id_of self.now)).above) }
     {
         let mut nodes = self.ancestors();
         nodes.next();
@@ -332,7 +346,9 @@ impl<'a, 'input> Node<'a, 'input> {
 
     /// The nearest element among its siblings before it.
     pub fn prev_sibling_element(&self) -> Option<Node<'a, 'input>>
-        ensures { option_map node_ref result ≡ nearest_element (node_refs (document_of self.now) (place (tree_of self.now) (id_of self.now)).before) }
+        ensures { option_map node_ref result
+            ≡ nearest_element
+            (node_refs (document_of self.now) (place (tree_of self.now) (id_of self.now)).before) }
     {
         let mut nodes = self.prev_siblings();
         nodes.next();
@@ -341,7 +357,9 @@ impl<'a, 'input> Node<'a, 'input> {
 
     /// The nearest element among its siblings after it.
     pub fn next_sibling_element(&self) -> Option<Node<'a, 'input>>
-        ensures { option_map node_ref result ≡ nearest_element (node_refs (document_of self.now) (place (tree_of self.now) (id_of self.now)).after) }
+        ensures { option_map node_ref result
+            ≡ nearest_element
+            (node_refs (document_of self.now) (place (tree_of self.now) (id_of self.now)).after) }
     {
         let mut nodes = self.next_siblings();
         nodes.next();
@@ -350,14 +368,19 @@ impl<'a, 'input> Node<'a, 'input> {
 
     /// The first element among its children.
     pub fn first_element_child(&self) -> Option<Node<'a, 'input>>
-        ensures { option_map node_ref result ≡ nearest_element (node_refs (document_of self.now) (children (tree_of self.now) (id_of self.now))) }
+        ensures { option_map node_ref result
+            ≡ nearest_element
+            (node_refs (document_of self.now) (children (tree_of self.now) (id_of self.now))) }
     {
         Children::first_element(self.children())
     }
 
     /// The last element among its children.
     pub fn last_element_child(&self) -> Option<Node<'a, 'input>>
-        ensures { option_map node_ref result ≡ nearest_element (reverse (node_refs (document_of self.now) (children (tree_of self.now) (id_of self.now)))) }
+        ensures { option_map node_ref result
+            ≡ nearest_element
+            (reverse (node_refs (document_of self.now)
+            (children (tree_of self.now) (id_of self.now)))) }
     {
         Children::last_element(self.children())
     }
@@ -372,7 +395,8 @@ impl<'a, 'input> Node<'a, 'input> {
 
     /// Whether its parent has another child.
     pub fn has_siblings(&self) -> bool
-        ensures { IsTrue result ↔ ((next_sibling (tree_of self.now) (id_of self.now) ≢ None) ⊎ (prev_sibling (tree_of self.now) (id_of self.now) ≢ None)) }
+        ensures { IsTrue result ↔ ((next_sibling (tree_of self.now) (id_of self.now) ≢ None) ⊎
+            (prev_sibling (tree_of self.now) (id_of self.now) ≢ None)) }
     {
         self.prev_sibling().is_some() || self.next_sibling().is_some()
     }

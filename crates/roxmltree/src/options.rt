@@ -39,7 +39,8 @@ impl<R> ParsingOptions<R> {
     /// The defaults with this resolver. It is asked only once `allow_dtd` is set.
     pub fn with_resolver(resolver: R) -> ParsingOptions<R>
         ensures resolver { result.entity_resolver ≡ Some resolver }
-        ensures others { (result.allow_dtd ≡ false) × (result.nodes_limit ≡ 4294967295) × (result.document_key ≡ 0) }
+        ensures others { (result.allow_dtd ≡ false) × (result.nodes_limit ≡ 4294967295)
+            × (result.document_key ≡ 0) }
     {
         ParsingOptions {
             allow_dtd: false,

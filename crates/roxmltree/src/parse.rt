@@ -38,13 +38,19 @@ impl<'input> Document<'input> {
     /// all before the construct that it is found in is as it should be and within the limits. By the clause `first`, the one
     /// that speaks of `reading`, it is the fault which reading from left to right meets first.
     pub fn parse(alloc: Global, text: &'input str) -> Result<Document<'input>, Error<'static>>
-        ensures is_parse { IfOk result (λ document. IsTreeOf text.now false [] 4294967295 document.tree) }
+        ensures is_parse { IfOk result
+            (λ document. IsTreeOf text.now false [] 4294967295 document.tree) }
         ensures dtd { IfOk result (λ document. document.dtd ≡ false) }
         ensures text { IfOk result (λ document. document.text ≡ text.now) }
         ensures key { IfOk result (λ document. document.key ≡ 0) }
-        ensures no_parse { IfErr result (λ e. e ≢ Error.OutOfMemory → (tree : Forest grammar.Node) → IsTreeOf text.now false [] 4294967295 tree → ⊥) }
-        ensures fault { IfErr result (λ e. e ≢ Error.OutOfMemory → (f : Fault) × FaultOf 4294967295 text.now f × NamesText text.now f × IsErrorOf text.now f e) }
-        ensures first { IfErr result (λ e. e ≢ Error.OutOfMemory → (f : Fault) × (reading 4294967295 false [] text.now ≡ ([], Err (here f))) × FaultOf 4294967295 text.now f × NamesText text.now f × IsErrorOf text.now f e) }
+        ensures no_parse { IfErr result (λ e. e ≢ Error.OutOfMemory → (tree : Forest grammar.Node)
+            → IsTreeOf text.now false [] 4294967295 tree → ⊥) }
+        ensures fault { IfErr result (λ e. e ≢ Error.OutOfMemory
+            → (f : Fault) × FaultOf 4294967295 text.now f × NamesText text.now f
+            × IsErrorOf text.now f e) }
+        ensures first { IfErr result (λ e. e ≢ Error.OutOfMemory
+            → (f : Fault) × (reading 4294967295 false [] text.now ≡ ([], Err (here f)))
+            × FaultOf 4294967295 text.now f × NamesText text.now f × IsErrorOf text.now f e) }
     {
         Document::parse_with_options(alloc, text, ParsingOptions::default())
     }
@@ -68,13 +74,32 @@ impl<'input> Document<'input> {
         opt: ParsingOptions<R>,
     ) -> Result<Document<'input>, Error<'w>>
         requires may { MayAsk R.can_resolve opt.entity_resolver }
-        ensures is_parse { IfOk result (λ document. (asked : List Asked) × AreAllowed (Allows R.allows opt.entity_resolver) asked × Permits opt.allow_dtd document.dtd × IsTreeOf text.now document.dtd asked opt.nodes_limit document.tree) }
+        ensures is_parse { IfOk result (λ document. (asked : List Asked)
+            × AreAllowed (Allows R.allows opt.entity_resolver) asked
+            × Permits opt.allow_dtd document.dtd
+            × IsTreeOf text.now document.dtd asked opt.nodes_limit document.tree) }
         ensures text { IfOk result (λ document. document.text ≡ text.now) }
         ensures key { IfOk result (λ document. document.key ≡ opt.document_key) }
-        ensures no_parse { IfErr result (λ e. IsTextError e → (asked : List Asked) × HasAsked text.now opt.allow_dtd asked × AreAllowed (Allows R.allows opt.entity_resolver) asked × ((dtd : Bool) (later : List Asked) (tree : Forest grammar.Node) → Permits opt.allow_dtd dtd → IsTreeOf text.now dtd (asked ++ later) opt.nodes_limit tree → ⊥)) }
-        ensures resolver { IfErr result (λ e. (p : TextPos) (words : String Global) → e ≡ Error.EntityResolver p words → (asked : List Asked) × (request : Request) × (at : ℕ) × (opt.allow_dtd ≡ true) × AreAllowed (Allows R.allows opt.entity_resolver) asked × AsksNext text.now asked request at × Allows R.allows opt.entity_resolver request (Err (string_bytes words)) × (p ≡ position_at text.now at)) }
-        ensures fault { IfErr result (λ e. IsTextError e → (asked : List Asked) × (source : List ℕ) × (f : Fault) × AreAllowed (Allows R.allows opt.entity_resolver) asked × RefusalOf opt.nodes_limit opt.allow_dtd text.now asked source f × NamesText source f × IsErrorOf source f e) }
-        ensures first { IfErr result (λ e. e ≢ Error.OutOfMemory → IsFirst opt.nodes_limit opt.allow_dtd (Allows R.allows opt.entity_resolver) text.now e) }
+        ensures no_parse { IfErr result (λ e. IsTextError e
+            → (asked : List Asked) × HasAsked text.now opt.allow_dtd asked
+            × AreAllowed (Allows R.allows opt.entity_resolver) asked
+            × ((dtd : Bool) (later : List Asked) (tree : Forest grammar.Node)
+            → Permits opt.allow_dtd dtd
+            → IsTreeOf text.now dtd (asked ++ later) opt.nodes_limit tree → ⊥)) }
+        ensures resolver { IfErr result (λ e. (p : TextPos) (words : String Global)
+            → e ≡ Error.EntityResolver p words → (asked : List Asked) × (request : Request)
+            × (at : ℕ) × (opt.allow_dtd ≡ true)
+            × AreAllowed (Allows R.allows opt.entity_resolver) asked
+            × AsksNext text.now asked request at
+            × Allows R.allows opt.entity_resolver request (Err (string_bytes words))
+            × (p ≡ position_at text.now at)) }
+        ensures fault { IfErr result (λ e. IsTextError e → (asked : List Asked) × (source : List ℕ)
+            × (f : Fault) × AreAllowed (Allows R.allows opt.entity_resolver) asked
+            × RefusalOf opt.nodes_limit opt.allow_dtd text.now asked source f × NamesText source f
+            × IsErrorOf source f e) }
+        ensures first { IfErr result (λ e. e ≢ Error.OutOfMemory
+            → IsFirst opt.nodes_limit opt.allow_dtd
+            (Allows R.allows opt.entity_resolver) text.now e) }
     {
         read(alloc, text, opt)
     }
@@ -87,10 +112,13 @@ fn read<'input, 'w, R: EntityResolver<'input> + Drop>(
     opt: ParsingOptions<R>,
 ) -> Result<Document<'input>, Error<'w>>
     requires may { MayAsk R.can_resolve opt.entity_resolver }
-    ensures tree { IfOk result (λ document. IsReadDocument opt.nodes_limit opt.allow_dtd (Allows R.allows opt.entity_resolver) text.now document) }
+    ensures tree { IfOk result
+        (λ document. IsReadDocument opt.nodes_limit opt.allow_dtd
+        (Allows R.allows opt.entity_resolver) text.now document) }
     ensures text { IfOk result (λ document. document.text ≡ text.now) }
     ensures key { IfOk result (λ document. document.key ≡ opt.document_key) }
-    ensures told { IfErr result (λ e. e ≢ Error.OutOfMemory → IsFirst opt.nodes_limit opt.allow_dtd (Allows R.allows opt.entity_resolver) text.now e) }
+    ensures told { IfErr result (λ e. e ≢ Error.OutOfMemory
+        → IsFirst opt.nodes_limit opt.allow_dtd (Allows R.allows opt.entity_resolver) text.now e) }
 {
     let options = Options {
         nodes_limit: opt.nodes_limit,

@@ -13,7 +13,8 @@ use rox_tables::rows::tables::{Concat, Namespace, Scope};
 /// Whether a namespace is of this prefix, or is the default.
 #[inline(always)]
 fn has_prefix(namespace: &Namespace<'_>, prefix: Option<&str>) -> bool
-    ensures { result ≡ same_prefix (namespace_view namespace.now).prefix (prefix_view prefix.entry) }
+    ensures { result ≡ same_prefix (namespace_view namespace.now).prefix
+        (prefix_view prefix.entry) }
 {
     match (namespace.name(), prefix) {
         (None, None) => true,
@@ -30,7 +31,9 @@ fn first_of<'a, 'input>(
     prefix: Option<&str>,
 ) -> Option<&'a Namespace<'input>>
     requires { ArePlaces (length namespaces.now) places.now }
-    ensures { option_map (λ n. (namespace_view n.now).uri) result ≡ uri_of (entries (map namespace_view namespaces.now) places.now) (prefix_view prefix.entry) }
+    ensures { option_map (λ n. (namespace_view n.now).uri) result
+        ≡ uri_of (entries (map namespace_view namespaces.now) places.now)
+        (prefix_view prefix.entry) }
 {
     for place in places {
         let namespace = &namespaces[*place as usize];
@@ -49,7 +52,9 @@ fn last_of<'a, 'input>(
     prefix: Option<&str>,
 ) -> Option<&'a Namespace<'input>>
     requires { ArePlaces (length namespaces.now) places.now }
-    ensures { option_map (λ n. (namespace_view n.now).uri) result ≡ uri_of (entries (map namespace_view namespaces.now) (reverse places.now)) (prefix_view prefix.entry) }
+    ensures { option_map (λ n. (namespace_view n.now).uri) result
+        ≡ uri_of (entries (map namespace_view namespaces.now) (reverse places.now))
+        (prefix_view prefix.entry) }
 {
     let end = places.len();
     for turn in 0..end {
@@ -74,7 +79,9 @@ pub(crate) fn first_in_scope<'a, 'input>(
     requires is_row { scope < length scopes.now }
     requires scopes { AreScopes (length listed.now) scopes.now }
     requires named { ArePlaces (length namespaces.now) listed.now }
-    ensures { option_map (λ n. (namespace_view n.now).uri) result ≡ uri_of (entries (map namespace_view namespaces.now) (places_in listed.now scopes.now scope)) (prefix_view prefix.entry) }
+    ensures { option_map (λ n. (namespace_view n.now).uri) result
+        ≡ uri_of (entries (map namespace_view namespaces.now)
+        (places_in listed.now scopes.now scope)) (prefix_view prefix.entry) }
 {
     match scopes[scope as usize] {
         Scope::Few(stretch) => {
@@ -103,7 +110,10 @@ fn first_in_parts<'a, 'input>(
     requires rest { parts.rest < length scopes.now }
     requires scopes { AreScopes (length listed.now) scopes.now }
     requires named { ArePlaces (length namespaces.now) listed.now }
-    ensures { option_map (λ n. (namespace_view n.now).uri) result ≡ uri_of (entries (map namespace_view namespaces.now) (places_in listed.now scopes.now parts.first ++ places_in listed.now scopes.now parts.rest)) (prefix_view prefix.entry) }
+    ensures { option_map (λ n. (namespace_view n.now).uri) result
+        ≡ uri_of (entries (map namespace_view namespaces.now)
+        (places_in listed.now scopes.now parts.first ++ places_in listed.now scopes.now parts.rest))
+        (prefix_view prefix.entry) }
 {
     match first_in_scope(scopes, listed, namespaces, parts.first, prefix) {
         Some(namespace) => Some(namespace),

@@ -6,14 +6,15 @@ ghost use Rattle.rox_grammar.specs.Forest.{Forest, size};
 ghost use Rattle.rox_grammar.specs.Tree.{uri_of};
 ghost use Rattle.rox_tables.specs.Rows.{namespace_view};
 ghost use Rattle.roxmltree.specs.Places.{place, parent, children};
-ghost use Rattle.roxmltree.specs.NodeParts.{node_at, content_of, namespace_of, listed_of, attributes_of};
+ghost use Rattle.roxmltree.specs.NodeParts.{node_at, start_of, end_of, content_of, namespace_of, listed_of, attributes_of};
 
 use crate::attributes::Attributes;
 use crate::iterators::Descendants;
 use crate::namespaces::NamespaceIter;
 use crate::nodes::{Node, NodeId};
 use crate::scopes::first_in_scope;
-use rox_tables::rows::tables::{Namespace, NodeData, NodeKind, Tables};
+use rox_tables::rows::stored_node::{KindRef, RowRef, StoredNode};
+use rox_tables::rows::tables::{Namespace, Tables};
 use std::marker::Model;
 
 /// An XML document as a read-only tree of nodes.
@@ -45,6 +46,7 @@ impl<'input> Document<'input> {
     ghost use Rattle.rox_grammar.specs.Document.{IsTreeOf};
     ghost use Rattle.std.specs.Prelude.{IsUtf8};
     ghost use Rattle.rox_tables.specs.Rows.{HoldsTree};
+    ghost use Rattle.rox_tables.specs.StoredNodes.{kind_of};
     ghost use Rattle.roxmltree.specs.DocumentTables.{HoldsDocument};
     ghost use Rattle.roxmltree.specs.Stripped.{stripped, stripped_row};
     ghost use Rattle.roxmltree.specs.StoredText.{content_in};
@@ -59,7 +61,8 @@ impl<'input> Document<'input> {
         tables: Tables<'input>,
     ) -> Document<'input>
         requires { HoldsDocument text.now dtd tables }
-        ensures tree { (tree : Forest grammar.Node) → HoldsTree tables.entry tree → result.tree ≡ tree }
+        ensures tree { (tree : Forest grammar.Node) → HoldsTree tables.entry tree
+            → result.tree ≡ tree }
         ensures text { result.text ≡ text.now }
         ensures key { result.key ≡ key }
         ensures dtd { result.dtd ≡ dtd }
@@ -75,7 +78,8 @@ impl<'input> Document<'input> {
     /// What is true of every document.
     #[inline]
     pub(crate) fn whole(&self)
-        ensures parsed { (asked : List Asked) × IsTreeOf self.now.text self.now.dtd asked 4294967295 self.now.tree }
+        ensures parsed { (asked : List Asked)
+            × IsTreeOf self.now.text self.now.dtd asked 4294967295 self.now.tree }
         ensures utf8 { IsUtf8 self.now.text }
     {
         let _ = &self.text;
@@ -90,19 +94,40 @@ impl<'input> Document<'input> {
         self.tables.nodes.len()
     }
 
-    /// The row of a node.
-    #[inline]
-    pub(crate) fn row(&self, id: NodeId) -> &NodeData<'input>
+    /// The row of a node, for its links.
+    #[inline(always)]
+    pub(crate) fn row(&self, id: NodeId) -> &StoredNode<'input>
         requires { number id < size self.now.tree }
-        ensures no_parent { result.now.depth ≡ 0 → parent self.now.tree (number id) ≡ None }
-        ensures parent { 0 < result.now.depth → parent self.now.tree (number id) ≡ Some result.now.parent }
-        ensures subtree_end { result.now.subtree_end ≡ number id + (place self.now.tree (number id)).count }
-        ensures depth { result.now.depth ≡ length (place self.now.tree (number id)).above }
-        ensures item { stripped_row result.now.start result.now.end result.now.kind ≡ stripped (node_at self.now.tree (number id)) }
-        ensures content { content_in result.now.kind ≡ content_of (node_at self.now.tree (number id)) }
+        ensures no_parent { number id ≡ 0 → parent self.now.tree (number id) ≡ None }
+        ensures parent { 0 < number id → parent self.now.tree (number id) ≡ Some result.now.parent }
+        ensures subtree_end { result.now.subtree_end
+            ≡ number id + (place self.now.tree (number id)).count }
+        ensures whole { number id ≡ 0 → result.now.subtree_end ≡ size self.now.tree }
         ensures few { size self.now.tree < 2 ^ 32 }
     {
-        &self.tables.nodes[id.0 as usize]
+        self.tables.nodes.links(id.0 as usize)
+    }
+
+    /// What a node is.
+    #[inline(always)]
+    pub(crate) fn kind(&self, id: NodeId) -> KindRef<'_, 'input>
+        requires { number id < size self.now.tree }
+        ensures item { let node = node_at self.now.tree (number id) in stripped_row (start_of node)
+            (end_of node) (kind_of result) ≡ stripped node }
+        ensures content { content_in (kind_of result)
+            ≡ content_of (node_at self.now.tree (number id)) }
+    {
+        self.tables.nodes.kind(id.0 as usize)
+    }
+
+    /// A node: where it stands, and what it is.
+    #[inline(always)]
+    pub(crate) fn node(&self, id: NodeId) -> RowRef<'_, 'input>
+        requires { number id < size self.now.tree }
+        ensures { stripped_row result.start result.end (kind_of result.kind)
+            ≡ stripped (node_at self.now.tree (number id)) }
+    {
+        self.tables.nodes.row(id.0 as usize)
     }
 
     /// What the caller gave to tell this document's nodes from those of others.
@@ -145,7 +170,8 @@ impl<'input> Document<'input> {
     /// The outermost element (XML 1.0 section 2.1).
     #[tactic(auto, using(crate::proofs::Tops::root_element_there, crate::proofs::Contained::nearest_is))]
     pub fn root_element(&self) -> Node<'_, 'input>
-        ensures element { Some (node_ref result) ≡ nearest_element (node_refs self.now (children self.now.tree 0)) }
+        ensures element { Some (node_ref result)
+            ≡ nearest_element (node_refs self.now (children self.now.tree 0)) }
         ensures id { id_of result ≡ root_id self.now.tree }
         ensures document { document_of result ≡ self.now }
     {
@@ -160,7 +186,8 @@ impl<'input> Document<'input> {
     /// The node of an id, if the document has one.
     #[inline]
     pub fn get_node(&self, id: NodeId) -> Option<Node<'_, 'input>>
-        ensures some { IfSome result (λ node. (number id < size self.now.tree) × (id_of node ≡ number id) × (document_of node ≡ self.now)) }
+        ensures some { IfSome result (λ node. (number id < size self.now.tree)
+            × (id_of node ≡ number id) × (document_of node ≡ self.now)) }
         ensures none { IfNone result (size self.now.tree ≤ number id) }
     {
         if (id.0 as usize) < self.count() {
@@ -183,10 +210,11 @@ impl<'input> Document<'input> {
     #[inline]
     pub(crate) fn namespace_of(&self, id: NodeId) -> Option<&str>
         requires { number id < size self.now.tree }
-        ensures { option_map (λ u. u.now) result ≡ namespace_of (node_at self.now.tree (number id)) }
+        ensures { option_map (λ u. u.now) result
+            ≡ namespace_of (node_at self.now.tree (number id)) }
     {
-        match &self.tables.nodes[id.0 as usize].kind {
-            NodeKind::Element(element) => match element.namespace {
+        match self.tables.nodes.kind(id.0 as usize) {
+            KindRef::Element(element) => match element.namespace {
                 Some(place) => Some(self.tables.namespaces[place as usize].uri()),
                 None => None,
             },
@@ -200,16 +228,15 @@ impl<'input> Document<'input> {
         requires { number id < size self.now.tree }
         ensures { result ≡ attributes_of (node_at self.now.tree (number id)) }
     {
-        let items = self.tables.attributes.items.as_slice();
-        let places = self.tables.attributes.places.as_slice();
+        let table = &self.tables.attributes;
         let namespaces = self.tables.namespaces.as_slice();
-        match &self.tables.nodes[id.0 as usize].kind {
-            NodeKind::Element(element) => {
+        match self.tables.nodes.kind(id.0 as usize) {
+            KindRef::Element(element) => {
                 let from = element.attributes_from as usize;
                 let until = element.attributes_until as usize;
-                Attributes::part(items, places, from, until, namespaces)
+                Attributes::part(table, from, until, namespaces)
             }
-            _ => Attributes::part(items, places, 0, 0, namespaces),
+            _ => Attributes::part(table, 0, 0, namespaces),
         }
     }
 
@@ -220,7 +247,7 @@ impl<'input> Document<'input> {
         ensures value { result ≡ listed_of (node_at self.now.tree (number id)) }
         ensures few { length result < 2 ^ 64 }
     {
-        let NodeKind::Element(element) = &self.tables.nodes[id.0 as usize].kind else {
+        let KindRef::Element(element) = self.tables.nodes.kind(id.0 as usize) else {
             return NamespaceIter::empty();
         };
         let scopes = self.tables.scopes.as_slice();
@@ -233,14 +260,16 @@ impl<'input> Document<'input> {
     #[inline(always)]
     pub(crate) fn listed_for(&self, id: NodeId, prefix: Option<&str>) -> Option<&Namespace<'input>>
         requires { number id < size self.now.tree }
-        ensures { option_map (λ n. (namespace_view n.now).uri) result ≡ uri_of (listed_of (node_at self.now.tree (number id))) (option_map (λ s. s.now) prefix.entry) }
+        ensures { option_map (λ n. (namespace_view n.now).uri) result
+            ≡ uri_of (listed_of (node_at self.now.tree (number id))) (option_map
+            (λ s. s.now) prefix.entry) }
     {
-        let row = &self.tables.nodes[id.0 as usize];
+        let node_kind = self.tables.nodes.kind(id.0 as usize);
         let namespaces = self.tables.namespaces.as_slice();
         if namespaces.is_empty() {
             return None;
         }
-        let NodeKind::Element(element) = &row.kind else {
+        let KindRef::Element(element) = node_kind else {
             return None;
         };
         let scopes = self.tables.scopes.as_slice();

@@ -1,8 +1,10 @@
-use Rattle.std.proofs.Common.{◌-◌, ◌∷◌, [], length, map, sym, ap, ◌∙◌, arith}
-use Rattle.std.specs.List.{slice_range, zip}
+use Rattle.std.proofs.Common.{◌-◌, ◌<◌, ◌∷◌, ◌++◌, [], get_or, length, map, sym, ap, ◌∙◌, arith}
+use Rattle.std.specs.List.{slice_range}
 use Rattle.std.proofs.lemmas.List.{map-append}
-use Rattle.rox_tables.specs.Rows.{attribute, namespace_view}
-use Rattle.roxmltree.proofs.Columns.{last_row, length_left}
+use Rattle.rox_tables.specs.Rows.{attribute, attribute_rows, namespace_view}
+use Rattle.rox_tables.specs.StoredAttributes.{row_in}
+use Rattle.rox_tables.specs.declared.rows.stored_attribute.StoredAttribute.{StoredAttribute}
+use Rattle.roxmltree.proofs.AttributeRows.{last_row, length_left, stored_at, reach_at, place_at}
 use Rattle.roxmltree.proofs.attributes.AttributesDoubleEndedIterator.next_back.Goals as goal
 
 pub returns-clause-steps : goal.returns-clause-steps
@@ -10,14 +12,28 @@ returns-clause-steps c =
     let d = c.self.inside in
     let v = c.self.invariant in
     let f = attribute (map namespace_view d.namespaces.now) in
-    sym c.self.view_is ∙ ap (map f) (last_row d.items.now d.places.now d.from d.until _ _ v.even v.ordered c.if-self.false v.within)
-    ∙ map-append f (slice_range (zip d.items.now d.places.now) d.from (d.until - 1)) (_ ∷ [])
+    let x = c.index.result.now in
+    let front = slice_range (attribute_rows d.table.now) d.from (d.until - 1) in
+    let row = row_in d.table.now.unusual.items in
+    sym c.self.view_is ∙ ap (map f) (last_row d.table.now d.from d.until x v.ordered c.if-self.false v.within)
+    ∙ map-append f front (row (get_or d.table.now.items.items (d.until - 1) x) ∷ [])
+    ∙ ap (λ (y : StoredAttribute). map f front ++ f (row y) ∷ []) (sym c.index.ensures)
 
 pub returns-clause-goes : goal.returns-clause-goes
 returns-clause-goes c =
     let d = c.self.inside in
     let v = c.self.invariant in
     let namespaces = map namespace_view d.namespaces.now in
-    let old = length_left namespaces d.items.now d.places.now d.from d.until v.even v.ordered v.within in
-    let new = length_left namespaces d.items.now d.places.now d.from (d.until - 1) v.even (omega arith) (omega (arith, v.within)) in
+    let old = length_left namespaces d.table.now d.from d.until v.ordered v.within in
+    let new = length_left namespaces d.table.now d.from (d.until - 1) (omega arith) (omega (arith, v.within)) in
     record { on = λ _. (tt, tt, omega (arith, old, new, ap length c.self.view_is)); keeps = tt; rests = λ _. tt }
+
+pub invariant_of-result : goal.invariant_of-result
+invariant_of-result c =
+    let d = c.self.inside in
+    let v = c.self.invariant in
+    let there = stored_at d.table.now (d.until - 1) d.until (omega (arith, v.ordered, c.if-self.false)) v.within in
+    record {
+      within = reach_at (length d.namespaces.now) d.table.now (d.until - 1) c.index.result.now v.each there c.index.ensures;
+      placed = place_at d.table.now (d.until - 1) c.index.result.now there c.index.ensures;
+    }

@@ -1,10 +1,10 @@
 use Rattle.std.proofs.Common.{length, map, ap, ◌∙◌, sym}
 use Rattle.rox_tables.specs.Rows.{namespace_view}
-use Rattle.roxmltree.proofs.Columns.{length_left}
+use Rattle.roxmltree.proofs.AttributeRows.{length_left}
 use Rattle.roxmltree.proofs.attributes.AttributesExactSizeIterator.len.Goals as goal
 
 pub returns-clause-value : goal.returns-clause-value
 returns-clause-value c =
     let d = c.self.inside in
     let v = c.self.invariant in
-    sym (length_left (map namespace_view d.namespaces.now) d.items.now d.places.now d.from d.until v.even v.ordered v.within) ∙ ap length c.self.view_is
+    sym (length_left (map namespace_view d.namespaces.now) d.table.now d.from d.until v.ordered v.within) ∙ ap length c.self.view_is

@@ -1,4 +1,4 @@
-use Rattle.std.proofs.Common.{◌+◌, refl, ap}
+use Rattle.std.proofs.Common.{refl}
 use Rattle.roxmltree.proofs.Preorder.{place_end}
 use Rattle.roxmltree.proofs.Stretches.{children_stretch}
 use Rattle.roxmltree.proofs.nodes.Node.children.Goals as goal
@@ -7,6 +7,6 @@ pub invariant_of-result : goal.invariant_of-result
 invariant_of-result c =
     let node = c.args.self.now in
     record {
-      stretch = children_stretch node.document.now.tree node.id.0 _ _ _ node.in_tree refl c.row-row.ensures.subtree_end (ap (λ d. d + 1) c.row-row.ensures.depth);
+      stretch = children_stretch node.document.now.tree node.id.0 _ _ _ node.in_tree refl c.row-row.ensures.subtree_end refl;
       fits = rw c.row-row.ensures.subtree_end (place_end node.document.now.tree node.id.0 node.in_tree);
     }

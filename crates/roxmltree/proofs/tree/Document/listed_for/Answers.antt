@@ -8,19 +8,22 @@ use Rattle.rox_tables.specs.Scopes.{prefix_view}
 use Rattle.roxmltree.specs.DocumentTables.{tree_in}
 use Rattle.roxmltree.proofs.Rows.{in_rows}
 use Rattle.roxmltree.proofs.Parts.{row_listed, row_no_listed, row_lists_nothing, element_within}
+use Rattle.rox_tables.proofs.StoredNodes.{count_nodes}
+use Rattle.rox_tables.specs.StoredNodes.{kind_of}
+use Rattle.rox_tables.proofs.StoredNodes.{lent_element}
 use Rattle.roxmltree.proofs.tree.Document.listed_for.Goals as goal
 
-pub index-row-requires : goal.index-row-requires
-index-row-requires c =
+pub kind-node_kind-requires : goal.kind-node_kind-requires
+kind-node_kind-requires c =
     let v : tree_in c.self.inside.tables ≡ c.args.self.now.tree = ap (λ d. d.tree) c.self.view_is in
     let l : c.args.id.0 < size (tree_in c.self.inside.tables) = rw v c.requires in
-    omega (arith, in_rows c.self.inside.tables (tree_in c.self.inside.tables) c.args.id.0 c.self.invariant.holds l, c.self.inside.tables.nodes.ok.0)
+    omega (arith, in_rows c.self.inside.tables (tree_in c.self.inside.tables) c.args.id.0 c.self.invariant.holds l, count_nodes c.self.inside.tables.nodes)
 
 pub first_in_scope-requires-clause-is_row : goal.first_in_scope-requires-clause-is_row
 first_in_scope-requires-clause-is_row c =
     let v : tree_in c.self.inside.tables ≡ c.args.self.now.tree = ap (λ d. d.tree) c.self.view_is in
     let l : c.args.id.0 < size (tree_in c.self.inside.tables) = rw v c.requires in
-    rw c.as_slice-scopes.ensures.value ((element_within c.self.inside.tables (tree_in c.self.inside.tables) _ _ _ c.self.invariant.holds l c.index-row.ensures c.in-Element.is).2)
+    rw c.as_slice-scopes.ensures.value ((element_within c.self.inside.tables (tree_in c.self.inside.tables) _ _ _ c.self.invariant.holds l c.kind-node_kind.ensures.1 (sym c.kind-node_kind.ensures.2 ∙ ap kind_of c.in-Element.is)).2)
 
 pub first_in_scope-requires-clause-scopes : goal.first_in_scope-requires-clause-scopes
 first_in_scope-requires-clause-scopes c = rw (c.as_slice-scopes.ensures.value, c.as_slice-listed.ensures.value) c.self.invariant.holds.sound.scopes
@@ -33,17 +36,17 @@ returns c =
     let v : tree_in c.self.inside.tables ≡ c.args.self.now.tree = ap (λ d. d.tree) c.self.view_is in
     let l : c.args.id.0 < size (tree_in c.self.inside.tables) = rw v c.requires in
     rw (c.first_in_scope.ensures, c.as_slice-scopes.ensures.value, c.as_slice-listed.ensures.value, c.as_slice-namespaces.ensures.value, ← v)
-    (ap (λ (ds : List NamespaceDecl). uri_of ds (prefix_view c.args.prefix)) (row_listed c.self.inside.tables (tree_in c.self.inside.tables) _ _ _ c.self.invariant.holds l c.index-row.ensures c.in-Element.is))
+    (ap (λ (ds : List NamespaceDecl). uri_of ds (prefix_view c.args.prefix)) (row_listed c.self.inside.tables (tree_in c.self.inside.tables) _ _ _ c.self.invariant.holds l c.kind-node_kind.ensures.1 (sym c.kind-node_kind.ensures.2 ∙ ap kind_of c.in-Element.is)))
 
 pub returns-in_default : goal.returns-in_default
 returns-in_default c =
     let v : tree_in c.self.inside.tables ≡ c.args.self.now.tree = ap (λ d. d.tree) c.self.view_is in
     let l : c.args.id.0 < size (tree_in c.self.inside.tables) = rw v c.requires in
-    rw (← v) (ap (λ (ds : List NamespaceDecl). uri_of ds (prefix_view c.args.prefix)) (row_no_listed c.self.inside.tables (tree_in c.self.inside.tables) _ _ c.self.invariant.holds l c.index-row.ensures c.in_default.not-Element))
+    rw (← v) (ap (λ (ds : List NamespaceDecl). uri_of ds (prefix_view c.args.prefix)) (row_no_listed c.self.inside.tables (tree_in c.self.inside.tables) _ _ c.self.invariant.holds l c.kind-node_kind.ensures.1 (λ e h. c.in_default.not-Element e (lent_element _ e (c.kind-node_kind.ensures.2 ∙ h)))))
 
 pub returns-then-is_empty : goal.returns-then-is_empty
 returns-then-is_empty c =
     let none : length c.self.inside.tables.namespaces.items ≡ 0 = ap length (sym c.as_slice-namespaces.ensures.value) ∙ eqb-true _ _ (sym c.is_empty.ensures ∙ c.if-is_empty.true) in
     let v : tree_in c.self.inside.tables ≡ c.args.self.now.tree = ap (λ d. d.tree) c.self.view_is in
     let l : c.args.id.0 < size (tree_in c.self.inside.tables) = rw v c.requires in
-    rw (← v) (ap (λ (ds : List NamespaceDecl). uri_of ds (prefix_view c.args.prefix)) (row_lists_nothing c.self.inside.tables (tree_in c.self.inside.tables) _ _ c.self.invariant.holds l c.index-row.ensures none))
+    rw (← v) (ap (λ (ds : List NamespaceDecl). uri_of ds (prefix_view c.args.prefix)) (row_lists_nothing c.self.inside.tables (tree_in c.self.inside.tables) _ _ c.self.invariant.holds l c.kind-node_kind.ensures.1 none))

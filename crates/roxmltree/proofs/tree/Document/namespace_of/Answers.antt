@@ -1,45 +1,48 @@
-use Rattle.std.proofs.Common.{◌≡◌, ◌<◌, ℕ, Option, Some, ap, arith, subst, ◌∙◌}
+use Rattle.std.proofs.Common.{◌≡◌, ◌<◌, ℕ, Option, Some, ap, arith, subst, ◌∙◌, sym}
 use Rattle.rox_tables.specs.Rows.{OptionWithin}
 use Rattle.rox_grammar.specs.Forest.{size}
 use Rattle.roxmltree.specs.DocumentTables.{tree_in}
 use Rattle.roxmltree.proofs.Rows.{in_rows}
 use Rattle.roxmltree.proofs.Parts.{row_namespace, row_no_namespace, element_within}
 use Rattle.roxmltree.proofs.Entries.{entry_uri}
+use Rattle.rox_tables.proofs.StoredNodes.{count_nodes}
+use Rattle.rox_tables.specs.StoredNodes.{kind_of}
+use Rattle.rox_tables.proofs.StoredNodes.{lent_element}
 use Rattle.roxmltree.proofs.tree.Document.namespace_of.Goals as goal
 
-pub index-requires : goal.index-requires
-index-requires c =
+pub kind-requires : goal.kind-requires
+kind-requires c =
     let v : tree_in c.self.inside.tables ≡ c.args.self.now.tree = ap (λ d. d.tree) c.self.view_is in
     let l : c.args.id.0 < size (tree_in c.self.inside.tables) = rw v c.requires in
-    omega (arith, in_rows c.self.inside.tables (tree_in c.self.inside.tables) c.args.id.0 c.self.invariant.holds l, c.self.inside.tables.nodes.ok.0)
+    omega (arith, in_rows c.self.inside.tables (tree_in c.self.inside.tables) c.args.id.0 c.self.invariant.holds l, count_nodes c.self.inside.tables.nodes)
 
 -- an element's namespace is in the table
 place_within : (n : ℕ) (o : Option ℕ) (p : ℕ) → OptionWithin n o → o ≡ Some p → p < n
 place_within n o p w e = let w' : OptionWithin n (Some p) = subst (λ v. OptionWithin n v) e w in w'
 
-pub index-requires-in-Some : goal.index-requires-in-Some
-index-requires-in-Some c =
+pub index-requires : goal.index-requires
+index-requires c =
     let v : tree_in c.self.inside.tables ≡ c.args.self.now.tree = ap (λ d. d.tree) c.self.view_is in
     let l : c.args.id.0 < size (tree_in c.self.inside.tables) = rw v c.requires in
-    omega (arith, place_within _ _ c.in-Some.place (element_within c.self.inside.tables (tree_in c.self.inside.tables) _ _ _ c.self.invariant.holds l c.index.ensures c.in-Element.is).3 c.in-Some.is, c.self.inside.tables.namespaces.ok.0)
+    omega (arith, place_within _ _ c.in-Some.place (element_within c.self.inside.tables (tree_in c.self.inside.tables) _ _ _ c.self.invariant.holds l c.kind.ensures.1 (sym c.kind.ensures.2 ∙ ap kind_of c.in-Element.is)).3 c.in-Some.is, c.self.inside.tables.namespaces.ok.0)
 
 pub returns-in-Some : goal.returns-in-Some
 returns-in-Some c =
     let v : tree_in c.self.inside.tables ≡ c.args.self.now.tree = ap (λ d. d.tree) c.self.view_is in
     let l : c.args.id.0 < size (tree_in c.self.inside.tables) = rw v c.requires in
-    let h = row_namespace c.self.inside.tables (tree_in c.self.inside.tables) _ _ _ c.self.invariant.holds l c.index.ensures c.in-Element.is in
-    let m = place_within _ _ c.in-Some.place (element_within c.self.inside.tables (tree_in c.self.inside.tables) _ _ _ c.self.invariant.holds l c.index.ensures c.in-Element.is).3 c.in-Some.is in
-    rw (c.uri.ensures, ← v) (ap Some (entry_uri c.self.inside.tables.namespaces.items c.in-Some.place _ m c.index-in-Some.ensures) ∙ (rw c.in-Some.is at h))
+    let h = row_namespace c.self.inside.tables (tree_in c.self.inside.tables) _ _ _ c.self.invariant.holds l c.kind.ensures.1 (sym c.kind.ensures.2 ∙ ap kind_of c.in-Element.is) in
+    let m = place_within _ _ c.in-Some.place (element_within c.self.inside.tables (tree_in c.self.inside.tables) _ _ _ c.self.invariant.holds l c.kind.ensures.1 (sym c.kind.ensures.2 ∙ ap kind_of c.in-Element.is)).3 c.in-Some.is in
+    rw (c.uri.ensures, ← v) (ap Some (entry_uri c.self.inside.tables.namespaces.items c.in-Some.place _ m c.index.ensures) ∙ (rw c.in-Some.is at h))
 
 pub returns-in-None : goal.returns-in-None
 returns-in-None c =
     let v : tree_in c.self.inside.tables ≡ c.args.self.now.tree = ap (λ d. d.tree) c.self.view_is in
     let l : c.args.id.0 < size (tree_in c.self.inside.tables) = rw v c.requires in
-    let h = row_namespace c.self.inside.tables (tree_in c.self.inside.tables) _ _ _ c.self.invariant.holds l c.index.ensures c.in-Element.is in
+    let h = row_namespace c.self.inside.tables (tree_in c.self.inside.tables) _ _ _ c.self.invariant.holds l c.kind.ensures.1 (sym c.kind.ensures.2 ∙ ap kind_of c.in-Element.is) in
     rw (← v) (rw c.in-None.is at h)
 
 pub returns-in_default : goal.returns-in_default
 returns-in_default c =
     let v : tree_in c.self.inside.tables ≡ c.args.self.now.tree = ap (λ d. d.tree) c.self.view_is in
     let l : c.args.id.0 < size (tree_in c.self.inside.tables) = rw v c.requires in
-    rw (← v) (row_no_namespace c.self.inside.tables (tree_in c.self.inside.tables) _ _ c.self.invariant.holds l c.index.ensures c.in_default.not-Element)
+    rw (← v) (row_no_namespace c.self.inside.tables (tree_in c.self.inside.tables) _ _ c.self.invariant.holds l c.kind.ensures.1 (λ e h. c.in_default.not-Element e (lent_element _ e (c.kind.ensures.2 ∙ h))))
