@@ -46,7 +46,8 @@ impl<'a> Answers<'a> {
         alloc: Global,
         call: usize,
     ) -> Result<Result<Option<&'a str>, String>, AllocError>
-        ensures { IfOk result (λ r. result_map_both (option_map (λ x. x.now)) string_bytes r ≡ spec.reply_at self.now call) }
+        ensures { IfOk result (λ r. result_map_both (option_map (λ x. x.now)) string_bytes r
+            ≡ spec.reply_at self.now call) }
     {
         let answers = match self {
             Answers::InOrder(answers) => *answers,

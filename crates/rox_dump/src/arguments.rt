@@ -57,9 +57,12 @@ fn no_command<'a>(alloc: Global) -> Command<'a>
 
 /// What the first of these words asks for, and the words behind it. None where it is no option.
 fn next_option(words: &[String]) -> Option<(Change<'_>, &[String])>
-    ensures some { IfSome result (λ next. (a : CommandView) → command_with a (map string_bytes words.now) ≡ command_with (changed a next.0) (map string_bytes next.1.now)) }
+    ensures some { IfSome result (λ next. (a : CommandView)
+        → command_with a (map string_bytes words.now)
+        ≡ command_with (changed a next.0) (map string_bytes next.1.now)) }
     ensures fewer { IfSome result (λ next. length next.1.now < length words.now) }
-    ensures none { IsNone result → (a : CommandView) → command_with a (map string_bytes words.now) ≡ with_last a (map string_bytes words.now) }
+    ensures none { IsNone result → (a : CommandView)
+        → command_with a (map string_bytes words.now) ≡ with_last a (map string_bytes words.now) }
 {
     let (word, rest) = words.split_first()?;
     if let Some(change) = flag(word.as_str()) {

@@ -48,7 +48,8 @@ fn line_number(line: &[u8]) -> Option<usize>
 fn split_text(bytes: &[u8], count: usize) -> Option<Case<'_>>
     ensures some { IfSome result (λ case. bytes.now ≡ case.text.now ++ (10 ∷ case.rest.now)) }
     ensures long { IfSome result (λ case. length case.text.now ≡ count) }
-    ensures none { IsNone result → (text rest : List ℕ) → bytes.now ≡ text ++ (10 ∷ rest) → length text ≢ count }
+    ensures none { IsNone result → (text rest : List ℕ) → bytes.now ≡ text ++ (10 ∷ rest)
+        → length text ≢ count }
 {
     if bytes.len() <= count || bytes[count] != b'\n' {
         return None;

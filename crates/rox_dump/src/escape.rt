@@ -10,7 +10,8 @@ use std::io::Write;
 
 /// Writes a text between quotes.
 pub fn write_quoted<W: Write>(text: &str, out: &mut W) -> io::Result<()>
-    ensures { OnOk result (Appends (W.contents out.old) (W.contents out.new) (quoted_bytes text.now)) }
+    ensures { OnOk result (Appends (W.contents out.old) (W.contents out.new)
+        (quoted_bytes text.now)) }
 {
     out.write_all(b"\"")?;
     write_escaped(text, out)?;

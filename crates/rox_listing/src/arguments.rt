@@ -29,7 +29,8 @@ fn with_path(
     allow_dtd: bool,
     words: &[String],
 ) -> Result<Option<Command>, AllocError>
-    ensures { IfOk result (λ c. option_map meaning c ≡ command_behind allow_dtd (map string_bytes words.now)) }
+    ensures { IfOk result
+        (λ c. option_map meaning c ≡ command_behind allow_dtd (map string_bytes words.now)) }
 {
     match words {
         [option, path, rest @ ..] if option.as_str() == "--path" => {
@@ -47,7 +48,9 @@ fn with_file(
     path: Option<String>,
     words: &[String],
 ) -> Result<Option<Command>, AllocError>
-    ensures { IfOk result (λ c. option_map meaning c ≡ command_with allow_dtd (option_map string_bytes path) (map string_bytes words.now)) }
+    ensures { IfOk result
+        (λ c. option_map meaning c
+        ≡ command_with allow_dtd (option_map string_bytes path) (map string_bytes words.now)) }
 {
     match words {
         [] => Ok(Some(Command {

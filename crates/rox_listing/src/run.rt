@@ -32,7 +32,8 @@ pub fn run<I: Read + Drop, O: Write, E: Write>(
     ensures status { result ≤ 2 }
     ensures none { IsNone input → 0 < result }
     ensures unopened { IsNone input → command.now.path ≡ None → result ≡ 2 }
-    ensures bad_path { IfSome command.now.path (λ p. ((steps : List PathStep) → IsPath (string_bytes p) 0 steps → ⊥) → 0 < result) }
+    ensures bad_path { IfSome command.now.path (λ p. ((steps : List PathStep)
+        → IsPath (string_bytes p) 0 steps → ⊥) → 0 < result) }
 {
     match print(alloc, command, input, out) {
         Ok(()) => 0,
@@ -52,8 +53,10 @@ fn print<I: Read + Drop, O: Write>(
     out: &mut O,
 ) -> Result<(), Fault>
     ensures none { IsNone input → IsErr result }
-    ensures unopened { IsNone input → command.now.path ≡ None → IsErrOf result (Fault.Program ProgramError.CannotRead) }
-    ensures bad_path { IfSome command.now.path (λ p. ((steps : List PathStep) → IsPath (string_bytes p) 0 steps → ⊥) → IsErr result) }
+    ensures unopened { IsNone input → command.now.path ≡ None
+        → IsErrOf result (Fault.Program ProgramError.CannotRead) }
+    ensures bad_path { IfSome command.now.path (λ p. ((steps : List PathStep)
+        → IsPath (string_bytes p) 0 steps → ⊥) → IsErr result) }
 {
     let steps = steps_of(alloc, command)?;
     let bytes = input::read_all(alloc, input)?;
@@ -79,7 +82,9 @@ fn print_text<O: Write>(
 /// The steps of the path that is asked for, if one is.
 fn steps_of(alloc: Global, command: &Command) -> Result<Option<Vec<Step<'_>>>, PathError>
     ensures none { command.now.path ≡ None → IsOk result }
-    ensures path { IfSome command.now.path (λ p. IfOk result (λ steps. IfSome steps (λ v. IsPath (string_bytes p) 0 (map step_of v.items)))) }
+    ensures path { IfSome command.now.path
+        (λ p. IfOk result
+        (λ steps. IfSome steps (λ v. IsPath (string_bytes p) 0 (map step_of v.items)))) }
     ensures read { IfSome command.now.path (λ p. IfOk result IsSome) }
 {
     match &command.path {

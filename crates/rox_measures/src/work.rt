@@ -93,7 +93,8 @@ impl Work for WalkLinks<'_> {
 /// The time of a turn, where all its walks together came to so many times what one comes to. Sums wrap.
 fn confirmed(time: u64, sum: u64, one: u64, repeats: u32) -> Result<u64, Fault>
     ensures ok { IfOk result (λ t. (t ≡ time) × (sum ≡ one * repeats % 2 ^ 64)) }
-    ensures err { IfErr result (λ fault. (fault ≡ Fault.UnequalWalks) × (sum ≢ one * repeats % 2 ^ 64)) }
+    ensures err { IfErr result (λ fault. (fault ≡ Fault.UnequalWalks)
+        × (sum ≢ one * repeats % 2 ^ 64)) }
 {
     if sum == one.wrapping_mul(repeats as u64) {
         Ok(time)

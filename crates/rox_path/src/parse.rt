@@ -60,7 +60,8 @@ impl<T: Drop> From<AllocFailed<T>> for PathError {
 pub fn parse_path<'q>(alloc: Global, text: &'q str) -> Result<Vec<Step<'q>>, PathError>
     ensures ok { IfOk result (λ steps. IsPath text.now 0 (map step_of steps.items)) }
     ensures bad { (k : ℕ) → result ≡ Err (PathError.BadPath k) → IsBadAt text.now k }
-    ensures no_path { (k : ℕ) → result ≡ Err (PathError.BadPath k) → (steps : List PathStep) → IsPath text.now 0 steps → ⊥ }
+    ensures no_path { (k : ℕ) → result ≡ Err (PathError.BadPath k) → (steps : List PathStep)
+        → IsPath text.now 0 steps → ⊥ }
 {
     let mut steps = Vec::new(alloc);
     let mut at = 0;

@@ -39,7 +39,8 @@ pub fn select<'a, 'input>(
 
 /// A mark on the start, and none on the nodes below it.
 fn start_alone(alloc: Global, start: Node<'_, '_>) -> Result<Vec<bool>, AllocError>
-    ensures { IfOk result (λ marks. marks.items ≡ map (is_first (id_of start.entry)) (subtree_of start.entry)) }
+    ensures { IfOk result
+        (λ marks. marks.items ≡ map (is_first (id_of start.entry)) (subtree_of start.entry)) }
 {
     let mut marks = Vec::new(alloc);
     for node in start.descendants() {
@@ -55,7 +56,9 @@ fn mark_children(
     marks: &[bool],
     name: ExpandedName<'_, '_>,
 ) -> Result<Vec<bool>, AllocError>
-    ensures { IfOk result (λ next. next.items ≡ map (is_child (id_of start.entry) marks.now (expanded name.entry)) (subtree_of start.entry)) }
+    ensures { IfOk result
+        (λ next. next.items ≡ map (is_child (id_of start.entry) marks.now (expanded name.entry))
+        (subtree_of start.entry)) }
 {
     let mut next = Vec::new(alloc);
     for node in start.descendants() {
@@ -75,7 +78,10 @@ fn mark_descendants(
     marks: &[bool],
     name: ExpandedName<'_, '_>,
 ) -> Result<Vec<bool>, AllocError>
-    ensures { IfOk result (λ next. next.items ≡ map (is_descendant (id_of start.entry) marks.now (expanded name.entry)) (subtree_of start.entry)) }
+    ensures { IfOk result
+        (λ next. next.items
+        ≡ map (is_descendant (id_of start.entry) marks.now (expanded name.entry))
+        (subtree_of start.entry)) }
 {
     laws(start);
     // of each node whether one above it is marked
@@ -93,7 +99,8 @@ fn mark_descendants(
 fn is_below(start: Node<'_, '_>, marks: &[bool], below: &[bool], node: Node<'_, '_>) -> bool
     requires document { document_of node ≡ document_of start }
     requires place { id_of node ≡ id_of start + length below.now }
-    requires so_far { below.now ≡ marks_by (is_below (id_of start) marks.now) (document_of start) (id_of start) (length below.now) }
+    requires so_far { below.now ≡ marks_by (is_below (id_of start) marks.now) (document_of start)
+        (id_of start) (length below.now) }
     ensures { result ≡ is_below (id_of start.entry) marks.now (node_ref node.entry) }
 {
     laws(node);
@@ -109,7 +116,8 @@ fn marked_nodes<'a, 'input>(
     start: Node<'a, 'input>,
     marks: &[bool],
 ) -> Result<Vec<Node<'a, 'input>>, AllocError>
-    ensures { IfOk result (λ nodes. map node_ref nodes.items ≡ filter (is_marked_node (id_of start.entry) marks.now) (subtree_of start.entry)) }
+    ensures { IfOk result (λ nodes. map node_ref nodes.items
+        ≡ filter (is_marked_node (id_of start.entry) marks.now) (subtree_of start.entry)) }
 {
     let mut nodes = Vec::new(alloc);
     for node in start.descendants() {

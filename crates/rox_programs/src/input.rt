@@ -9,7 +9,9 @@ use std::io::{ErrorKind, Read};
 /// The bytes of the input, to its end. None is an input that could not be opened.
 pub fn read_all<I: Read + Drop>(alloc: Global, input: Option<I>) -> Result<Vec<u8>, ProgramError>
     ensures none { IsNone input → IsErrOf result ProgramError.CannotRead }
-    ensures bytes { IfSome input (λ reader. IfOk result (λ bytes. IfSome (I.remaining reader) (λ left. bytes.items ≡ left))) }
+    ensures bytes { IfSome input
+        (λ reader. IfOk result
+        (λ bytes. IfSome (I.remaining reader) (λ left. bytes.items ≡ left))) }
 {
     let Some(mut input) = input else {
         return Err(ProgramError::CannotRead);
@@ -24,7 +26,8 @@ pub fn read_all<I: Read + Drop>(alloc: Global, input: Option<I>) -> Result<Vec<u
 
 /// The text of these bytes.
 pub fn decode(bytes: &[u8]) -> Result<&str, ProgramError>
-    ensures { MatchResult result (λ text. text.now ≡ bytes.now) (λ fault. (fault ≡ ProgramError.NotUtf8) × ¬ IsUtf8 bytes.now) }
+    ensures { MatchResult result (λ text. text.now ≡ bytes.now)
+        (λ fault. (fault ≡ ProgramError.NotUtf8) × ¬ IsUtf8 bytes.now) }
 {
     str::from_utf8(bytes).map_err(|_| ProgramError::NotUtf8)
 }

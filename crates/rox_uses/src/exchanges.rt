@@ -18,8 +18,10 @@ pub fn with_copy(alloc: Global, element: Node<'_, '_>, other: Node<'_, '_>) -> R
     requires mine { stands_alone (document_of element) (id_of element) ≡ true }
     requires others { stands_alone (document_of other) (id_of other) ≡ true }
     ensures exchanged { IfOk result (λ text. (own : Forest grammar.Node) × (own_text : List ℕ)
-        × IsReparse (tree_of other.entry) (document_of other.entry).text (id_of other.entry) own own_text
-        × IsExchange (tree_of element.entry) (document_of element.entry).text (id_of element.entry) own own_text (root_id own) (string_bytes text)) }
+        × IsReparse (tree_of other.entry) (document_of other.entry).text
+        (id_of other.entry) own own_text
+        × IsExchange (tree_of element.entry) (document_of element.entry).text
+        (id_of element.entry) own own_text (root_id own) (string_bytes text)) }
     ensures memory { IfErr result (λ e. e ≡ OutOfMemory) }
 {
     let copy = match other.reparse(alloc) {

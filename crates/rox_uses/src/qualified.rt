@@ -20,9 +20,12 @@ pub fn resolve<'a, 'name>(
     name: &'name str,
 ) -> Option<ExpandedName<'a, 'name>>
     ensures prefixed { Contains name.now 58
-        → option_map expanded result ≡ option_map (λ uri. (Some uri, qname_local name.now)) (uri_of (listed_of (item_of element.entry)) (Some (qname_prefix name.now))) }
+        → option_map expanded result
+        ≡ option_map (λ uri. (Some uri, qname_local name.now))
+        (uri_of (listed_of (item_of element.entry)) (Some (qname_prefix name.now))) }
     ensures plain { ¬ Contains name.now 58
-        → option_map expanded result ≡ Some (uri_of (listed_of (item_of element.entry)) None, name.now) }
+        → option_map expanded result
+        ≡ Some (uri_of (listed_of (item_of element.entry)) None, name.now) }
 {
     let Some((prefix, local)) = name.split_once(':') else {
         return Some(in_default(element, name));

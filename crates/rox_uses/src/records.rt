@@ -61,9 +61,11 @@ impl<T: Drop> From<AllocFailed<T>> for RecordsError {
 
 /// The rows among the children of an element, in order. Other children are passed over.
 pub fn read_records(alloc: Global, table: Node<'_, '_>) -> Result<Vec<Record>, RecordsError>
-    ensures ok { IfOk result (λ records. map written records.items ≡ map said (rows_of (children_of table.entry))) }
+    ensures ok { IfOk result (λ records. map written records.items
+        ≡ map said (rows_of (children_of table.entry))) }
     ensures incomplete { (start : ℕ) → result ≡ Err (RecordsError.Incomplete start)
-        → option_map (λ row. start_of (item_at row)) (find is_incomplete (rows_of (children_of table.entry))) ≡ Some start }
+        → option_map (λ row. start_of (item_at row))
+        (find is_incomplete (rows_of (children_of table.entry))) ≡ Some start }
 {
     let mut records = Vec::new(alloc);
     for row in table.children() {
@@ -77,7 +79,8 @@ pub fn read_records(alloc: Global, table: Node<'_, '_>) -> Result<Vec<Record>, R
 pub(crate) fn read_record(alloc: Global, row: Node<'_, '_>) -> Result<Record, RecordsError>
     ensures ok { IfOk result (λ record'. written record' ≡ said (node_ref row.entry)) }
     ensures incomplete { (start : ℕ) → result ≡ Err (RecordsError.Incomplete start)
-        → (is_incomplete (node_ref row.entry) ≡ true) × (start_of (item_at (node_ref row.entry)) ≡ start) }
+        → (is_incomplete (node_ref row.entry) ≡ true)
+        × (start_of (item_at (node_ref row.entry)) ≡ start) }
 {
     let incomplete = RecordsError::Incomplete(row.range().start);
     let name = row.attribute("name".into()).ok_or(incomplete)?;

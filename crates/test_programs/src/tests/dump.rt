@@ -25,7 +25,16 @@ fn wants(
     out: &str,
     err: &str,
 ) {
-    wants_with(rt, options, &no_sources(rt), input, status, out, err);
+    let wanted = Wanted { status, out, err };
+    wants_with(rt, options, &no_sources(rt), input, wanted);
+}
+
+/// What a run has to end with, and to write.
+#[derive(Drop)]
+struct Wanted<'a> {
+    status: u8,
+    out: &'a str,
+    err: &'a str,
 }
 
 /// The same with what is read beside the input.
@@ -34,17 +43,15 @@ fn wants_with(
     options: Options,
     sources: &Sources,
     input: &[u8],
-    status: u8,
-    out: &str,
-    err: &str,
+    wanted: Wanted<'_>,
 ) {
     let alloc = rt.alloc();
     let (mut got_out, mut got_err) = (Vec::new(alloc), Vec::new(alloc));
     let input = Some(input);
     let got = run(alloc, options, sources, input, &mut got_out, &mut got_err);
-    same(rt, "standard error", text_in(&got_err), err);
-    same(rt, "standard output", text_in(&got_out), out);
-    same(rt, "status", got, status);
+    same(rt, "standard error", text_in(&got_err), wanted.err);
+    same(rt, "standard output", text_in(&got_out), wanted.out);
+    same(rt, "status", got, wanted.status);
 }
 
 /// What these words ask for, which are right.
@@ -226,7 +233,12 @@ fn is_answered(rt: &impl Abort, sources: &mut Sources, answer: Answer) {
 fn external_wants(rt: &(impl Abort + AllocGlobal), allow_dtd: bool, sources: &Sources, out: &str) {
     let mut options = Options::default();
     options.allow_dtd = allow_dtd;
-    wants_with(rt, options, sources, EXTERNAL.as_bytes(), 0, out, "");
+    let wanted = Wanted {
+        status: 0,
+        out,
+        err: "",
+    };
+    wants_with(rt, options, sources, EXTERNAL.as_bytes(), wanted);
 }
 
 #[test]
@@ -285,7 +297,12 @@ NOTUTF8
 END 3
 ";
     let batch = b"1\nx\n3\n&b;\n1\n\xff\n";
-    wants_with(&rt, options, &sources, batch, 0, out, "");
+    let wanted = Wanted {
+        status: 0,
+        out,
+        err: "",
+    };
+    wants_with(&rt, options, &sources, batch, wanted);
 }
 
 #[test]

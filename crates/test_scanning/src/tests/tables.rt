@@ -4,11 +4,11 @@
 ghost use Rattle.std.specs.Prelude.{◌<◌, length, IfOk, OnOk};
 ghost use Rattle.rox_tables.specs.Rows.{AreRows};
 
-use rox_grammar::failure::Failure;
 use rox_tables::namespaces::rope::{add, both, count, find, height, without};
 use rox_tables::rows::recent_texts::Recent;
 use rox_tables::rows::storage::StringStorage;
 use rox_tables::rows::tables::{Scope, Stretch};
+use std::alloc::AllocError;
 use std::process::Abort;
 use std::test::Fail;
 
@@ -16,7 +16,7 @@ use std::test::Fail;
 const MANY: u32 = 4000;
 
 /// A row of one place in front of what a scope lists.
-fn with_one(scopes: &mut Vec<Scope>, from: u32, scope: u32) -> Result<u32, Failure>
+fn with_one(scopes: &mut Vec<Scope>, from: u32, scope: u32) -> Result<u32, AllocError>
     requires few { from < 4000 }
     requires within { scope < length scopes.old.items }
     requires rows { AreRows scopes.old.items }
@@ -32,7 +32,7 @@ fn with_one(scopes: &mut Vec<Scope>, from: u32, scope: u32) -> Result<u32, Failu
 }
 
 /// A row of stretches of one place each, the last one first: so do elements list that declare one each, one in another.
-fn nested(scopes: &mut Vec<Scope>) -> Result<u32, Failure>
+fn nested(scopes: &mut Vec<Scope>) -> Result<u32, AllocError>
     requires rows { AreRows scopes.old.items }
     ensures within { IfOk result (λ s. s < length scopes.new.items) }
     ensures rows { OnOk result (AreRows scopes.new.items) }
@@ -46,7 +46,7 @@ fn nested(scopes: &mut Vec<Scope>) -> Result<u32, Failure>
 }
 
 /// What a scope lists, without the first of every two.
-fn halved(scopes: &mut Vec<Scope>, scope: u32) -> Result<u32, Failure>
+fn halved(scopes: &mut Vec<Scope>, scope: u32) -> Result<u32, AllocError>
     requires within { scope < length scopes.old.items }
     requires rows { AreRows scopes.old.items }
     ensures within { IfOk result (λ s. s < length scopes.new.items) }
