@@ -140,17 +140,19 @@ module _ (src to : List ℕ) (m : ℕ) (same : take m src ≡ take m to) where
   pub literal_cut : (i e j : ℕ) → j ≤ m → IsLiteral src i e j → IsLiteral to i e j
   unfolding run_end
   literal_cut i e j fits is =
-      let next = is.next in
+      let next = is.quoted.next in
       let chars = is.chars in
       let le : i + 1 ≤ e = omega arith in
       let first = byte_cut i (omega arith) in
       record {
-        quote = subst (λ (b : ℕ). (b ≡ 39) ⊎ (b ≡ 34)) first is.quote;
-        end = byte_from_cut (λ c. c == byte src i) (i + 1) e is.end (omega arith) ∙ ap (λ (q : ℕ). byte_from (λ c. c == q) to (i + 1)) first;
-        closes = within_cut e (omega arith) is.closes;
+        quoted = record {
+          quote = subst (λ (b : ℕ). (b ≡ 39) ⊎ (b ≡ 34)) first is.quoted.quote;
+          end = byte_from_cut (λ c. c == byte src i) (i + 1) e is.quoted.end (omega arith) ∙ ap (λ (q : ℕ). byte_from (λ c. c == q) to (i + 1)) first;
+          closes = within_cut e (omega arith) is.quoted.closes;
+          next = is.quoted.next;
+        };
         chars = chars_cut (i + 1) e (omega arith) is.chars;
         no_markup = is.no_markup ∙ ap (λ (bs : List ℕ). byte_from (λ c. c == 60) bs (i + 1)) (front e (omega arith));
-        next = is.next;
       }
 
   -- a run that `<` ends

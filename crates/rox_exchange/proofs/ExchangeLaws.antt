@@ -7,7 +7,8 @@ use Rattle.std.proofs.Math.Seq.{drop-append_seam}
 use Rattle.rox_grammar.specs.Forest.{Forest, Nil, Cons, size}
 use Rattle.rox_grammar.specs.Written.{NamespaceDecl, Item, Element, Text, Comment, PI}
 use Rattle.rox_grammar.specs.Tree as tree
-use Rattle.rox_grammar.specs.Tree.{Node, listed, resolved, document_tree, is_element_node, start_of, end_of}
+use Rattle.rox_grammar.specs.Tree.{Node, listed, resolved, document_tree}
+use Rattle.rox_grammar.specs.NodeRanges.{is_element_node, start_of, end_of}
 use Rattle.rox_grammar.specs.Names.{slice}
 use Rattle.rox_grammar.specs.Exchange.{Move, moved, moved_node, shifted, subtree, exchanged, lists_none, none_of, self_contained, row_start, row_end, start_at, end_at, replaced, HasTree, change, with_other, text_with, AreSeparate, id_after, StaysContained, GoesBack, Commutes}
 use Rattle.std.proofs.lemmas.Bool.{and_parts}

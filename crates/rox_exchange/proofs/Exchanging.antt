@@ -2,7 +2,8 @@
 use Rattle.std.proofs.Common.{◌≡◌, ℕ, zero, suc, ◌+◌, ◌-◌, ◌<◌, ◌≤◌, ◌&&◌, Bool, true, lt-ltb, le-ltb, refl, ap, ◌∙◌, arith, inl, inr}
 use Rattle.std.proofs.lemmas.Bool.{cases_lt, and_parts}
 use Rattle.rox_grammar.specs.Forest.{Forest, Nil, Cons, size}
-use Rattle.rox_grammar.specs.Tree.{Node, Root, Element, Text, Comment, PI, is_element_node}
+use Rattle.rox_grammar.specs.Tree.{Node, Root, Element, Text, Comment, PI}
+use Rattle.rox_grammar.specs.NodeRanges.{is_element_node}
 use Rattle.rox_grammar.specs.Exchange.{Move, moved_node, shifted, stretched, subtree, exchanged, lists_none, self_contained}
 
 pub shifted_size : (m : Move) (f : Forest Node) → size (shifted m f) ≡ size f

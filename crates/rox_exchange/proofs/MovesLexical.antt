@@ -176,20 +176,22 @@ module _ (m : Move) (src to : List ℕ) where
   pub literal_moves : (i k e j : ℕ) → Follows m src i to k → IsLiteral src i e j → IsLiteral to k (moved m e) (moved m j)
   literal_moves i k e j f is =
       let at = f.at in
-      let next = is.next in
-      let inside = is.closes in
+      let next = is.quoted.next in
+      let inside = is.quoted.closes in
       let lt = literal_lt src i e j is in
       let le : i + 1 ≤ e = omega arith in
       let g = on m src to i k 1 f in
       let first = byte_moves m src to i k f in
       let left = rest_moves m src to i k f in
       record {
-        quote = subst (λ (b : ℕ). (b ≡ 39) ⊎ (b ≡ 34)) first is.quote;
-        end = byte_from_moves m src to (λ c. c == byte src i) (i + 1) (k + 1) e g is.end ∙ ap (λ (q : ℕ). byte_from (λ c. c == q) to (k + 1)) first;
-        closes = omega arith;
+        quoted = record {
+          quote = subst (λ (b : ℕ). (b ≡ 39) ⊎ (b ≡ 34)) first is.quoted.quote;
+          end = byte_from_moves m src to (λ c. c == byte src i) (i + 1) (k + 1) e g is.quoted.end ∙ ap (λ (q : ℕ). byte_from (λ c. c == q) to (k + 1)) first;
+          closes = omega arith;
+          next = omega arith;
+        };
         chars = chars_move m src to (i + 1) (k + 1) e le g is.chars;
         no_markup = markup_moves m src to (λ c. c == 60) (i + 1) (k + 1) e le g is.no_markup;
-        next = omega arith;
       }
 
   -- a run

@@ -53,7 +53,7 @@ module _ (src : List ℕ) where
 
   pub attribute_lt : (main : Bool) (Includes : Inclusion) (i j b c : ℕ) (a : Attribute) → IsAttribute main Includes src i j b c a → i < j
   attribute_lt main Includes i j b c a is =
-      let next = is.literal.next in
+      let next = is.literal.quoted.next in
       omega (arith, qname_le i a.name a.name_end is.is_name, eq_lt a.name_end is.v is.eq, literal_lt is.v is.e j is.literal)
 
   pub attributes_le : (main : Bool) (Includes : Inclusion) (i j b c : ℕ) (as' : List Attribute) → Attributes main Includes src i j b c as' → i ≤ j

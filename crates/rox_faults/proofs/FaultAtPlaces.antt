@@ -48,6 +48,7 @@ use Rattle.rox_faults.proofs.FaultPairs.{one_qname}
 use Rattle.rox_faults.proofs.FaultReferences.{run_reference_apart, value_reference_apart, value_gives_less, value_no_less}
 use Rattle.rox_faults.proofs.FaultInTags.{tag_apart, value_there}
 use Rattle.rox_faults.proofs.FaultWay.{state_of, OpensAt, may_deep, may_once, same_text, Trail, stays, follows, Ends, Reached, step_there, there_by, one_step, place_within, takes_there, run_there, opened_there}
+use Rattle.rox_faults.proofs.StateCounts.{too_many_counted}
 
 -- where a text may be opened the openings are not spent
 spent_apart : (k b r : ℕ) → MayOpen k b r → IsSpent k b → ⊥
@@ -229,14 +230,16 @@ module _ (opens : ℕ → Inclusion) (es : List Entity) (all : OpensAt opens es)
         let same = trail_past here r.end r.trail past in
         let depth : depth_of s.stack ≡ open_around = ap (λ (s : State). depth_of s.stack) same ∙ ends_inner k open_around src r.end inner r.ends in
         absurd (omega arith)
-    stands_apart f (too_many_nodes c t takes few few' over) =
+    stands_apart f (too_many_nodes c t takes many) =
+        let over = too_many_counted limit t.stack t.done many in
         let below = place_within k (opens k) src r.utf8 s t b c takes in
         let there = step_there opens es all limit W k open_around src here r below in
         nodes_over W (λ w.
         (let fine = subst (IsValidState limit) (one_step opens es all limit W k open_around src here r (state_of t c) (takes_there opens es all limit W k open_around b src s r t c takes) below) (there.fine w) in
         let nodes = fine.nodes in
         omega arith))
-    stands_apart f (too_many_pieces stop q j c front t inner is to named below refers few few' over) =
+    stands_apart f (too_many_pieces stop q j c front t inner is to named below refers many) =
+        let over = too_many_counted limit s.stack (join s.done front) many in
         let there = opened_there opens es all limit W k open_around b src s r stop q c j front t is to below refers in
         let run = there.0 in let found = there.1 in
         let split : join s.done run.items ≡ join (join s.done front) (join found.opened found.rest) = ap (join s.done) found.all ∙ sym (join_assoc s.done front (join found.opened found.rest)) in
@@ -271,10 +274,10 @@ module _ (opens : ℕ → Inclusion) (es : List Entity) (all : OpensAt opens es)
 
   part_read : (k : ℕ) (src : List ℕ) (start end b l : ℕ) (part : List ℕ) (i stop d : ℕ) → PartRead k src start end b → ValuePart opens es k src start end b l part i stop d → PartRead l part i stop d
   part_read k src start end b l part i stop d whole itself = whole
-  part_read k src start end b l part i stop d whole (opened m i' stop' d' c _ p j part' t within' to below refers may) =
+  part_read k src start end b l part i stop d whole (opened m i' stop' d' c _ p j part' front t within' to below refers may) =
       let outer = part_read k src start end b m part' i' stop' d' whole within' in
       let name = slice part' (p + 1) refers.n in
-      let there = value_front (is_main m) (opens m) (spends_once outer.depth m outer.deep) part' stop' i' p refers.n j d' c outer.openings_left outer.bytes to outer.value below refers.is_reference refers.no_character in
+      let there = value_front (is_main m) (opens m) (spends_once outer.depth m outer.deep) part' stop' i' p refers.n j d' c outer.openings_left front outer.bytes to outer.value below refers.is_reference refers.no_character in
       let x = all.value m c there.1 name there.0 there.2 in
       let text = all.texts name t refers.found in
       let text_is : x.0 ≡ t = same_text es name x.0 t x.3 refers.found in
@@ -297,8 +300,8 @@ module _ (opens : ℕ → Inclusion) (es : List Entity) (all : OpensAt opens es)
   -- no fault stands in it
   part_apart : (l : ℕ) (part : List ℕ) (i stop d : ℕ) (f : Fault) → PartRead l part i stop d → InValue es l (opens l) part i stop d f → ⊥
   part_apart l part i stop d f r (faults.InValue.in_reference q _ from below ill) = value_reference_apart es (is_main l) (opens l) part r.utf8 (value_declared l) i stop d r.openings_left q r.bytes f r.value from below ill
-  part_apart l part i stop d f r (faults.InValue.too_many q j c t to below refers spent) =
-      let there = value_front (is_main l) (opens l) (spends_once r.depth l r.deep) part stop i q refers.n j d c r.openings_left r.bytes to r.value below refers.is_reference refers.no_character in
+  part_apart l part i stop d f r (faults.InValue.too_many q j c front t to below refers spent) =
+      let there = value_front (is_main l) (opens l) (spends_once r.depth l r.deep) part stop i q refers.n j d c r.openings_left front r.bytes to r.value below refers.is_reference refers.no_character in
       let x = all.value l c there.1 (slice part (q + 1) refers.n) there.0 there.2 in
       spent_apart l c x.1 x.4 spent
   part_apart l part i stop d f r (less q inner from below here) = value_no_less es (is_main l) (opens l) part r.utf8 stop i q d r.openings_left r.bytes r.value from below here
@@ -317,8 +320,8 @@ module _ (opens : ℕ → Inclusion) (es : List Entity) (all : OpensAt opens es)
           let adds : W → Adds (state_of s b) (Element s.at j' x) = λ w. tag_adds k open_around b src s r j' c' x empty (subst (IsValidState limit) leads (fine w)) in
           let well_named = tag_named k open_around b src s r j' c' x empty (subst (λ (u : State). AreNamed u.stack u.done) leads named') in
           let value = value_there (context_at limit es r.d k open_around).values (opens k) (all.values r.d k r.deep) src r.utf8 s j' b c' empty x is' well_named W (λ w. (adds w).attributes) (λ w. (adds w).pairs) p c n v e j as' name to named eq literal in
-          let low = quote_ascii (byte src v) literal.quote in
-          let end = literal.end in let closes = literal.closes in
+          let low = quote_ascii (byte src v) literal.quoted.quote in
+          let end = literal.quoted.end in let closes = literal.quoted.closes in
           let h = from_here (λ c. c == byte src v) src (v + 1) (rw (← end) closes) in
           let same : byte src e ≡ byte src v = eqb-true _ _ (rw (← end) at h) in
           record {

@@ -20,7 +20,7 @@ use Rattle.rox_grammar.specs.Doctype as dtd
 use Rattle.rox_grammar.specs.Due.{DueItem, a_byte, a_space, a_quote, a_name, a_definition, subset_or_end, doctype_end, IsMissing, no_quote, no_definition, no_end, ends_before, DueInXmlDecl, DueInLiteral, its_quote, its_end, DueInExternalID, space_before, its_literal, space_between, second_literal, DueInEntity, DueInDoctype}
 use Rattle.rox_grammar.specs.Due as due
 use Rattle.rox_grammar.specs.Faults.{in_one, one_too_many}
-use Rattle.rox_grammar.specs.FaultsWithDoctype.{IsPassed, NoItem, InDoctype, head_lacks, no_name, not_passed, in_entity, entity_open, entity_cut, in_answer, end_lacks, unknown, no_root, in_subset, in_miscs}
+use Rattle.rox_grammar.specs.FaultsWithDoctype.{NoItem, InDoctype, head_lacks, no_name, not_passed, in_entity, entity_open, entity_cut, in_answer, end_lacks, unknown, no_root, in_subset, in_miscs}
 use Rattle.rox_reading.proofs.Forests.{join_assoc, merge-more}
 use Rattle.rox_theory.specs.Answers.{SameAnswers}
 use Rattle.rox_theory.proofs.Basics.{within}
@@ -343,17 +343,12 @@ module _ (src : List ℕ) (utf8 : IsUtf8 src) where
   in_doctype_apart W limit i j before nodes after asked given es source f is few same (in_subset p items _ _ _ _ to fits (unknown none inside)) =
       let c = closed_there i j p items nodes asked given [] es is to (subst (λ (a : List Asked). SameAnswers a given) (sym (append-nil asked)) same) in
       let r = c.front in
-      let at_end = nothing_there src utf8 c.k c.bracket p r.rest r.more r.gs r.left none.no_space (no_item p none) (no_passed p none) none.no_entity in
+      let at_end = nothing_there src utf8 c.k c.bracket p r.rest r.more r.gs r.left none.no_space (no_item p none) none.no_declaration none.no_entity in
       absurd (none.no_bracket (ap (byte src) at_end ∙ c.bracket))
     where
       no_item : (p : ℕ) → NoItem src p → OpensItem src p → ⊥
       no_item p none (inl is) = true≢false (sym is ∙ none.no_comment)
       no_item p none (inr is) = true≢false (sym is ∙ none.no_instruction)
-
-      no_passed : (p : ℕ) → NoItem src p → IsPassed src p → ⊥
-      no_passed p none (inl is) = true≢false (sym is ∙ none.no_element)
-      no_passed p none (inr (inl is)) = true≢false (sym is ∙ none.no_attlist)
-      no_passed p none (inr (inr is)) = true≢false (sym is ∙ none.no_notation)
   in_doctype_apart W limit i j before nodes after asked given es source f is few same (no_root items _ to fits solid) =
       let c = closed_there i j (length src) items nodes asked given [] es is to (subst (λ (a : List Asked). SameAnswers a given) (sym (append-nil asked)) same) in
       let r = c.front in

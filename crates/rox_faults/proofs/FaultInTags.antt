@@ -43,6 +43,7 @@ use Rattle.rox_theory.proofs.TagOnce.{apart, same_more, Reads, turn_is, one_attr
 use Rattle.rox_faults.proofs.FaultTags.{attribute_cut}
 use Rattle.rox_faults.proofs.FaultApart.{qname_stands, byte_stands, space_stands}
 use Rattle.rox_faults.proofs.FaultPairs.{one_qname, eq_one, pair_apart}
+use Rattle.rox_faults.proofs.StateCounts.{attributes_are, more_pairs_counted}
 
 -- ---- names
 
@@ -272,7 +273,8 @@ module _ (context : Values) (O : Inclusion) (agrees : AgreesValue context.entiti
     tag_apart f (in_rest p c as' _ to (not_closed _ slash lack)) = let x = tag_front p c as' to in absurd (slash_apart p j c empty x.0 f x.2 slash lack)
     tag_apart f (in_rest p c as' _ to (in_pair q t _ spaces inside no_slash no_close due lack)) = let x = tag_front p c as' to in absurd (pair_in p q c x.0 t f x.2 no_slash no_close due lack)
     tag_apart f (in_rest p c as' _ to (ill_declared d k a _ spaces is' declares' ill)) = let x = tag_front p c as' to in absurd (declared_in p k c d as' x.0 a f x.1 x.2 spaces is' declares' ill)
-    tag_apart f (in_rest p c as' _ to (too_many_pairs d k a spaces is' declares' may once over)) =
+    tag_apart f (in_rest p c as' _ to (too_many_pairs d k a spaces is' declares' may once many)) =
+        let over = more_pairs_counted s.stack s.done (namespace_decls_of as' ++ namespace_decl_of a ∷ []) many in
         let x = tag_front p c as' to in
         let known = distinct_pairs (pairs_so_far s.stack s.done) in
         let there = declared_there p k c d as' x.0 a x.1 x.2 spaces is' declares' in
@@ -283,7 +285,7 @@ module _ (context : Values) (O : Inclusion) (agrees : AgreesValue context.entiti
         omega arith))
     tag_apart f (in_rest p c as' _ to (too_many_attributes k x ends over)) =
         let same : length (plain_attributes_of as') ≡ length tag.attributes = ap (λ (t : Tag). length t.attributes) (same_tag p k c x as' to ends) in
-        attributes_over W (λ w. (let all = few w in omega arith))
+        attributes_over W (λ w. (let all = few w in omega (arith, attributes_are s.stack s.done)))
     tag_apart f (in_rest p c as' _ to (ill_named k x _ ends few' ill)) =
         absurd (named_in f (subst (λ (t : Tag). IllNamed src s.at (listed (scope_of s.stack) t.declarations) t.name t.attributes f) (same_tag p k c x as' to ends) ill))
 

@@ -18,7 +18,9 @@ use Rattle.rox_grammar.specs.Document.{Misc, no_misc, an_item, no_doctype, Parse
 use Rattle.rox_grammar.specs.State as grammar
 use Rattle.rox_grammar.specs.State.{root, nodes_so_far, FitsLimits}
 use Rattle.rox_grammar.specs.ContentPoints.{is_main, RootBegins, Behind, ContentPoint}
-use Rattle.rox_grammar.specs.Faults.{without, FaultFrom, in_declaration, doctype, no_root, unknown_ahead, at_place, in_value, unknown_behind, FaultOf, in_one, misc_ahead, misc_behind, one_too_many, at_point}
+use Rattle.rox_grammar.specs.Faults.{FaultFrom, no_root, unknown_ahead, at_place, in_value, unknown_behind, in_one, misc_ahead, misc_behind, one_too_many, at_point}
+use Rattle.rox_grammar.specs.FaultsWithDoctype.{RefusalOf, FaultOf, without, in_declaration, not_allowed, in_doctype}
+use Rattle.rox_grammar.specs.FaultsWithDoctype as rows
 use Rattle.rox_reading.specs.State.{State}
 use Rattle.rox_reading.specs.Machine.{value_opener, opener}
 use Rattle.rox_reading.specs.WholeText.{prolog}
@@ -238,16 +240,22 @@ module _ (src : List ℕ) (utf8 : IsUtf8 src) (limit : ℕ) (tree : Forest Item)
       let r = ahead_rest i before ahead in
       doctype_at src utf8 i p.start r.0 r.1 (element_stops true no_entities src p.start p.end 255 p.openings_left p.one p.element).1 here
 
--- a fault that stands in a text that has a parse is that of a limit, and the parse is not within the limits
-pub fault_over : (limit : ℕ) (src : List ℕ) (f : Fault) (asked : List Asked) (tree : Forest Item) → IsUtf8 src → FaultOf limit src f → ParseOf src false asked tree → IsOver (IsWithinLimits limit tree) f
-fault_over limit src f asked tree utf8 (without _ stands) parse =
+-- a refusal that stands in a text that has a parse is that of a limit, and the parse is not within the limits
+no_doctype_over : (limit : ℕ) (src source : List ℕ) (given asked : List Asked) (f : Fault) (tree : Forest Item) → IsUtf8 src → RefusalOf limit false src given source f → ParseOf src false asked tree → IsOver (IsWithinLimits limit tree) f
+no_doctype_over limit src source given asked f tree utf8 (without _ stands) parse =
     never (λ k. no_entities) [] plain_opens limit (IsWithinLimits limit tree) src utf8 (PrologTo src) (plain_parsed src utf8 limit tree (parse_without src asked tree parse).1) false src f stands
-fault_over limit src f asked tree utf8 (doctype q items ahead fits here) parse = absurd (doctype_apart src utf8 limit tree (parse_without src asked tree parse).1 q items ahead here)
-fault_over limit src f asked tree utf8 (in_declaration q t _ here due lack) parse = let p = (parse_without src asked tree parse).1 in absurd (declared_apart p.prolog.declared_to p.prolog.declaration)
+no_doctype_over limit src source given asked f tree utf8 (not_allowed q items _ ahead fits here) parse = absurd (doctype_apart src utf8 limit tree (parse_without src asked tree parse).1 q items ahead here)
+no_doctype_over limit src source given asked f tree utf8 (in_doctype _ _ _ _ _ may _ _ _ _) parse = cc may
+no_doctype_over limit src source given asked f tree utf8 (rows.RefusalOf.behind _ _ _ _ may _) parse = cc may
+no_doctype_over limit src source given asked f tree utf8 (in_declaration q t _ here due lack) parse = let p = (parse_without src asked tree parse).1 in absurd (declared_apart p.prolog.declared_to p.prolog.declaration)
   where
     declared_apart : (d : ℕ) → MayHaveXmlDecl src (after_bom src) d → ⊥
     declared_apart d (declared _ _ is) = declaration_apart src utf8 (after_bom src) d q t f is due lack
     declared_apart d (not_declared _ none) = true≢false (sym here ∙ none)
+
+-- and so is a fault
+pub fault_over : (limit : ℕ) (src : List ℕ) (f : Fault) (asked : List Asked) (tree : Forest Item) → IsUtf8 src → FaultOf limit src f → ParseOf src false asked tree → IsOver (IsWithinLimits limit tree) f
+fault_over limit src f asked tree utf8 stands parse = no_doctype_over limit src src [] asked f tree utf8 stands parse
 
 -- so a fault that stands is a fault: the text has no parse within the limits
 pub no_false_faults : (limit : ℕ) (src : List ℕ) (f : Fault) (asked : List Asked) (tree : Forest Item) → IsUtf8 src → FaultOf limit src f → ParseOf src false asked tree → IsWithinLimits limit tree → ⊥

@@ -46,6 +46,7 @@ use Rattle.rox_faults.proofs.FaultPoints.{Refuses, refuses_by, refuses_here, els
 use Rattle.rox_faults.proofs.FaultRuns.{OpenerFails, run_fails}
 use Rattle.rox_faults.proofs.FaultValues.{InPart, in_part}
 use Rattle.rox_faults.proofs.FaultTags.{tag_values, TagFails, itself, ill_value, tag_at_fails}
+use Rattle.rox_faults.proofs.StateCounts.{fits_few}
 
 -- The names of the open elements stand behind their `<`, of those that this source opens: around them so many are open.
 abbrev pub AreOpened : List ℕ → ℕ → Open → Type 0
@@ -198,7 +199,7 @@ module _ (opens : ℕ → Inclusion) (es : List Entity) (limit : ℕ) (text : Li
     unfolding tag_step
     tag_fails s e begins opens' fine place h =
         let fits = fits_at s fine in
-        let few = fits.namespaces in
+        let few = (fits_few limit s.stack s.done fits).1 in
         let cut = machine.cut_off_fault (is_main k) s.stack in
         bind_err (tag_at (tag_values es d k) cut (scope_of s.stack) (attributes_so_far s.stack s.done) (distinct_pairs (pairs_so_far s.stack s.done)) src s.at s.openings_left) _ e h
         (λ bad. by_kind (tag_at_fails opens es values texts d k deep src utf8 (place_of s) s.openings_left few e opens' bad))
@@ -208,7 +209,7 @@ module _ (opens : ℕ → Inclusion) (es : List Entity) (limit : ℕ) (text : Li
         (λ f bad is. refuses_here es P src f e is (opened_fails s x.0.tag x.1 x.0.openings_left x.0.empty f fine place stands.is_tag stands.well_named stands.attributes stands.pairs bad)))
       where
         few_pairs : length (distinct_pairs (pairs_so_far s.stack s.done)) ≤ most_pairs
-        few_pairs = let fits = fits_at s fine in fits.namespaces
+        few_pairs = (fits_few limit s.stack s.done (fits_at s fine)).1
 
         by_kind : TagFails opens es values texts d k deep src utf8 (place_of s) s.openings_left few_pairs e → Refuses es P src e
         by_kind (itself f is ill) = refuses_here es P src f e is (stands_here s f place fine (in_tag f begins ill))

@@ -25,6 +25,8 @@ use Rattle.rox_theory.proofs.Basics.{chosen}
 use Rattle.rox_theory.proofs.Standing.{AreNamed, IsValidState, distinct-append, attributes-item, pairs-item}
 use Rattle.rox_theory.proofs.Steps.{after}
 use Rattle.rox_theory.proofs.FailedReadings.{no_fault}
+pub use Rattle.rox_faults.proofs.StateCounts.{AreFew}
+use Rattle.rox_faults.proofs.StateCounts.{nodes_are, attributes_are, pairs_are, fits_few, too_many_there}
 
 -- ---- refusals
 
@@ -73,13 +75,14 @@ named_last (inside start tag before up) done items named = named-right (listed (
 
 -- a fine state is within the limits
 pub fine_fits : (limit most : ℕ) (s : State) → most ≤ max limit 1 → IsValidState most s → FitsLimits limit s.stack s.done
-fine_fits limit most s least fine = record { nodes = omega (arith, fine.nodes); attributes = fine.attributes; namespaces = fine.pairs }
+fine_fits limit most s least fine =
+    record {
+      nodes = omega (arith, fine.nodes, nodes_are s.stack s.done);
+      attributes = omega (arith, fine.attributes, attributes_are s.stack s.done);
+      namespaces = subst (λ (ds : List NamespaceDecl). length (distinct_pairs ds) ≤ most_pairs) (sym (pairs_are s.stack s.done)) fine.pairs;
+    }
 
 -- ---- one node too many
-
--- the attributes and the pairs are within their limits
-abbrev pub AreFew : Open → Forest Item → Type 0
-AreFew stack done = (attributes_so_far stack done ≤ most_attributes) × (length (distinct_pairs (pairs_so_far stack done)) ≤ most_pairs)
 
 -- with one more item
 pub item_few : (s : State) (item : Item) → attributes_so_far s.stack s.done + own_attributes item ≤ most_attributes → length (with_new (distinct_pairs (pairs_so_far s.stack s.done)) (own_pairs item)) ≤ most_pairs
@@ -96,7 +99,7 @@ opened_few s j openings_left tag attributes few = (omega arith, rw (append-nil (
 
 -- of an item that neither declares anything nor has attributes
 pub plain_few : (limit : ℕ) (s : State) (item : Item) → own_attributes item ≡ 0 → own_pairs item ≡ [] → FitsLimits limit s.stack s.done → AreFew s.stack (join s.done (leaf item))
-plain_few limit s item no_attributes no_pairs fits = item_few s item (omega (arith, fits.attributes)) (rw no_pairs fits.namespaces)
+plain_few limit s item no_attributes no_pairs fits = let few = fits_few limit s.stack s.done fits in item_few s item (omega (arith, few.0)) (rw no_pairs few.1)
 
 -- ---- openings
 
@@ -139,4 +142,4 @@ module _ (opens : ℕ → Inclusion) (es : List Entity) (limit : ℕ) (text : Li
       chosen (nat_le (nodes_so_far t.stack t.done) limit) _ _ _ h (λ fewer h. no_fault t f h)
       (λ more h.
       let is : fault.NodesLimitReached ≡ f = cc in
-      subst (From src) is (stand k open_around src s fault.NodesLimitReached place fits (too_many_nodes t.openings_left (place_of t) takes few.0 few.1 (leb-false _ _ more))))
+      subst (From src) is (stand k open_around src s fault.NodesLimitReached place fits (too_many_nodes t.openings_left (place_of t) takes (too_many_there limit t.stack t.done few (leb-false _ _ more)))))

@@ -20,9 +20,8 @@ use Rattle.rox_grammar.specs.Document.{Misc, no_misc, MayHaveDoctype, PrologTo}
 use Rattle.rox_grammar.specs.Document as document
 use Rattle.rox_grammar.specs.State.{root, FitsLimits}
 use Rattle.rox_grammar.specs.ContentPoints.{is_main, PrologWithDoctype}
-use Rattle.rox_grammar.specs.Faults.{InMisc, FaultFrom, FaultOf, in_one, misc_ahead, one_too_many}
-use Rattle.rox_grammar.specs.Faults as faults
-use Rattle.rox_grammar.specs.FaultsWithDoctype.{opens_at, RefusalOf, in_declaration, without, not_allowed, in_doctype, behind}
+use Rattle.rox_grammar.specs.Faults.{InMisc, FaultFrom, in_one, misc_ahead, one_too_many}
+use Rattle.rox_grammar.specs.FaultsWithDoctype.{opens_at, RefusalOf, FaultOf, in_declaration, without, not_allowed, in_doctype, behind}
 use Rattle.rox_grammar.specs.FaultsWithDoctype as rows
 use Rattle.rox_reading.specs.Refusals.{Refusal, here, there, refused, lifted}
 use Rattle.rox_reading.specs.State.{State}
@@ -298,13 +297,11 @@ refusal_there limit allow replies src source asked f utf8 texts h = subst (Whole
 
 -- where no document type declaration may stand the refusals are the faults of the text
 pub refusal_plain : (limit : ℕ) (src source : List ℕ) (asked : List Asked) (f : Fault) → RefusalOf limit false src asked source f → (asked ≡ []) × (source ≡ src) × FaultOf limit src f
-refusal_plain limit src source asked f (in_declaration p t _ is due lack) = (refl, refl, faults.FaultOf.in_declaration p t f is due lack)
-refusal_plain limit src source asked f (without _ ill) = (refl, refl, faults.FaultOf.without f ill)
-refusal_plain limit src source asked f (not_allowed i before _ ahead fits is) = (refl, refl, faults.FaultOf.doctype i before ahead fits is)
+refusal_plain limit src source asked f (in_declaration p t _ is due lack) = (refl, refl, in_declaration p t f is due lack)
+refusal_plain limit src source asked f (without _ ill) = (refl, refl, without f ill)
+refusal_plain limit src source asked f (not_allowed i before _ ahead fits is) = (refl, refl, not_allowed i before refl ahead fits is)
 refusal_plain limit src source asked f (in_doctype i before _ _ _ may ahead fits is ill) = cc may
 refusal_plain limit src source asked f (behind _ es _ _ may ill) = cc may
 
 pub plain_refusal : (limit : ℕ) (src : List ℕ) (f : Fault) → FaultOf limit src f → RefusalOf limit false src [] src f
-plain_refusal limit src f (faults.FaultOf.in_declaration p t _ is due lack) = in_declaration p t f is due lack
-plain_refusal limit src f (faults.FaultOf.doctype i before ahead fits is) = not_allowed i before refl ahead fits is
-plain_refusal limit src f (faults.FaultOf.without _ ill) = without f ill
+plain_refusal limit src f stands = stands

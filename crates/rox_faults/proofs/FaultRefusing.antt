@@ -20,7 +20,6 @@ use Rattle.rox_grammar.specs.State as grammar
 use Rattle.rox_grammar.specs.State.{root}
 use Rattle.rox_grammar.specs.ContentPoints.{is_main, PrologWithDoctype, Behind, MayOpen, RootBegins, ContentPoint, begins, goes, enters}
 use Rattle.rox_grammar.specs.Faults.{FaultFrom, no_root, unknown_ahead, at_place, in_value, unknown_behind, in_one, misc_ahead, misc_behind, one_too_many, at_point}
-use Rattle.rox_grammar.specs.Faults as faults
 use Rattle.rox_grammar.specs.FaultsWithDoctype.{InDoctype, opens_at, RefusalOf, in_declaration, without, not_allowed, in_doctype, behind}
 use Rattle.rox_reading.specs.WholeText.{prolog}
 use Rattle.rox_reading.proofs.Forests.{join_assoc, merge-more}
@@ -71,8 +70,8 @@ begins_there src i p dtd nodes asked es is (no_doctype _) = cc is
 
 -- no refusal stands in a text that has a parse without one, but those of the limits
 plain_over : (limit : ℕ) (allow : Bool) (src source : List ℕ) (asked given : List Asked) (f : Fault) (tree : Forest Item) → IsUtf8 src → RefusalOf limit allow src asked source f → ParseOf src false given tree → IsOver (IsWithinLimits limit tree) f
-plain_over limit allow src source asked given f tree utf8 (in_declaration p t _ is due lack) parse = fault_over limit src f given tree utf8 (faults.FaultOf.in_declaration p t f is due lack) parse
-plain_over limit allow src source asked given f tree utf8 (without _ ill) parse = fault_over limit src f given tree utf8 (faults.FaultOf.without f ill) parse
+plain_over limit allow src source asked given f tree utf8 (in_declaration p t _ is due lack) parse = fault_over limit src f given tree utf8 (in_declaration p t f is due lack) parse
+plain_over limit allow src source asked given f tree utf8 (without _ ill) parse = fault_over limit src f given tree utf8 (without f ill) parse
 plain_over limit allow src source asked given f tree utf8 (not_allowed i before _ ahead fits is) parse = absurd (no_doctype_there limit src given tree i before utf8 ahead is parse)
 plain_over limit allow src source asked given f tree utf8 (in_doctype i before _ _ _ may ahead fits is ill) parse = absurd (no_doctype_there limit src given tree i before utf8 ahead is parse)
 plain_over limit allow src source asked given f tree utf8 (behind _ es _ _ may ill) parse =

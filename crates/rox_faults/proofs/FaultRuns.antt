@@ -37,6 +37,7 @@ use Rattle.rox_theory.proofs.Leaves.{state, with_leaf}
 use Rattle.rox_theory.proofs.FailedReadings.{bind_err, lifted_err, lifted_only, no_fault, chars_fails}
 use Rattle.rox_faults.proofs.FaultRows.{run_stops_cut, expansion_fails}
 use Rattle.rox_faults.proofs.FaultPoints.{Refuses, refuses_here, place_of, context_at, named_last, fine_fits, AreFew, plain_few, From, At, stand, over}
+use Rattle.rox_faults.proofs.StateCounts.{too_many_there}
 
 module _ (src : List ℕ) (utf8 : IsUtf8 src) (es : List Entity) (main : Bool) where
   -- what follows a bit fails
@@ -136,12 +137,12 @@ module _ (opens : ℕ → Inclusion) (es : List Entity) (limit : ℕ) (text : Li
           subst (λ (p : Bool). Parts (is_main k) (opens k) src s.at stop u.at u.openings_left u.openings_left (piece s.at stop p ss)) marked
           (last_part u.at u.openings_left ss (subst (λ (q : ℕ). Part (is_main k) src q u.at ss) same part)) in
           stand opens es limit text declared Front k open_around src s fault.NodesLimitReached place fits
-          (too_many_nodes u.openings_left (place_of (state stop (join s.done items) s.stack u.openings_left)) (a_run stop s.openings_left u.openings_left items inner run (b.all u.openings_left (piece s.at stop false ss) last) named) few.0 few.1 many)
+          (too_many_nodes u.openings_left (place_of (state stop (join s.done items) s.stack u.openings_left)) (a_run stop s.openings_left u.openings_left items inner run (b.all u.openings_left (piece s.at stop false ss) last) named) (too_many_there limit s.stack (join s.done items) few many))
       by_end u b q ss next part (ends_entity _ n j t ref none to found) named few many =
           let moves = reference_opens src q n j ref in
           stand opens es limit text declared Front k open_around src s fault.NodesLimitReached place fits
           (too_many_pieces stop q j u.openings_left (join b.front (piece s.at stop false ss)) t inner run (b.to q u.openings_left (piece s.at stop false ss) (one_part u.at q u.openings_left ss part)) named (omega (arith, moves.2))
-          (record { n = n; is_reference = ref; no_character = none; found = found }) few.0 few.1 many)
+          (record { n = n; is_reference = ref; no_character = none; found = found }) (too_many_there limit s.stack (join s.done (join b.front (piece s.at stop false ss))) few many))
 
       -- a text that is one node too many
       piece_over : (u : State) (b : Begun u) (q : ℕ) (ss : List DataByte) (v : List ℕ) (next : Next) (f : Fault) → IsValidState most u → Part (is_main k) src q u.at ss → Ends es src stop q next → line_ends ss ≡ v

@@ -3,7 +3,7 @@ use Rattle.std.proofs.Common.{◌≡◌, ◌≢◌, ℕ, zero, suc, ◌+◌, ◌
 use Rattle.std.specs.Prelude.{Result, Ok, Err, Option, Some, None}
 use Rattle.std.specs.Str.{IsUtf8, IsCharBoundary}
 use Rattle.std.proofs.lemmas.List.{append-nil}
-use Rattle.std.proofs.lemmas.Bool.{cases_Bool, cond_both, eqb-true, eqb-false, leb-false, leb-true, ltb-true, ltb-false, or_cases, or_parts}
+use Rattle.std.proofs.lemmas.Bool.{cases_Bool, cond_both, eqb-true, eqb-false, leb-false, leb-true, ltb-true, ltb-false, or_cases, or_parts, true≢false}
 use Rattle.rox_grammar.specs.declared.fault.Fault.{Fault}
 use Rattle.rox_grammar.specs.declared.fault.Fault.TheVariants as fault
 use Rattle.rox_grammar.specs.declared.fault.Due.TheVariants as due
@@ -352,9 +352,14 @@ module _ (src : List ℕ) (utf8 : IsUtf8 src) (limit most : ℕ) (less : limit �
           let both = or_parts (at word.ElementStart src k) (at word.AttlistStart src k || at word.NotationStart src k) no_passed in
           let others = or_parts (at word.AttlistStart src k) (at word.NotationStart src k) both.1 in
           let none : NoItem src k =
-          record { no_space = no_more_space src d.state.at utf8 cut; no_entity = no_entity; no_comment = no_comment; no_instruction = no_instruction; no_element = both.0; no_attlist = others.0; no_notation = others.1; no_bracket = no_end' } in
+          record { no_space = no_more_space src d.state.at utf8 cut; no_entity = no_entity; no_comment = no_comment; no_instruction = no_instruction; no_declaration = no_declared k both.0 others.0 others.1; no_bracket = no_end' } in
           here_now asked0 (fault.UnknownToken k) (in_subset k so.items asked0 _ _ _ to_here fits (unknown none (where_it_is inside)))
         where
+          no_declared : (k : ℕ) → at word.ElementStart src k ≡ false → at word.AttlistStart src k ≡ false → at word.NotationStart src k ≡ false → IsPassed src k → ⊥
+          no_declared k no_element no_attlist no_notation (inl is) = true≢false (sym is ∙ no_element)
+          no_declared k no_element no_attlist no_notation (inr (inl is)) = true≢false (sym is ∙ no_attlist)
+          no_declared k no_element no_attlist no_notation (inr (inr is)) = true≢false (sym is ∙ no_notation)
+
           -- behind white space, where the text ends
           where_it_is : (d.state.at < length src) → (spaces_end src d.state.at < length src) ⊎ (is_space (byte src (spaces_end src d.state.at - 1)) ≡ true)
           where_it_is inside =

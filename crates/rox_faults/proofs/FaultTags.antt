@@ -21,10 +21,11 @@ use Rattle.rox_grammar.specs.Constructs.{AreChars, IsEq, IsLiteral}
 use Rattle.rox_grammar.specs.Content.{Inclusion, IsAttribute, Attributes, no_more, one_more}
 use Rattle.rox_grammar.specs.WellNamed.{may_declare, is_known, same_expanded, may_name}
 use Rattle.rox_grammar.proofs.NamesApart.{DeclarableBehind, DistinctBehind, declarable_behind, are_declarable, are_distinct}
-use Rattle.rox_grammar.specs.Document.{with_new, distinct_pairs, most_attributes, most_pairs}
+use Rattle.rox_grammar.specs.Document.{attribute_count, with_new, distinct_pairs, most_attributes, most_pairs}
 use Rattle.rox_grammar.specs.Entities.{Entity, most_deep}
 use Rattle.rox_grammar.specs.State as grammar
 use Rattle.rox_grammar.specs.State.{Open, root, State, scope_of, attributes_so_far, pairs_so_far}
+use Rattle.rox_grammar.specs.OpenElements.{tree_so_far}
 use Rattle.rox_grammar.specs.Due.{DueItem, a_byte, a_quote, a_qname, chars_to, tag_rest, IsMissing, no_space, no_quote, ends_before, DueInPair, its_name, equals, opening, its_value, closing, value_end}
 use Rattle.rox_grammar.specs.ContentPoints.{is_main, TagTo}
 use Rattle.rox_grammar.specs.Faults.{SpanIs, cut_off, IllDeclared, other_uri, uri_of_xml, uri_of_xmlns, again, IllNamed, unknown_attribute, twice, unknown_element, InTag, no_name, xmlns_prefix, cut, cut_in_replacement, no_rest, not_closed, in_pair, ill_declared, too_many_pairs, too_many_attributes, ill_named, in_rest}
@@ -50,6 +51,7 @@ use Rattle.rox_theory.proofs.FailedReadings.{bind_err, lifted_err, no_fault, cha
 use Rattle.rox_faults.proofs.FaultRows.{local_holds, qname_inside}
 use Rattle.rox_faults.proofs.FaultPoints.{Refuses}
 use Rattle.rox_faults.proofs.FaultValues.{InPart, value_fails}
+use Rattle.rox_faults.proofs.StateCounts.{attributes_are, pairs_there, pairs_counted, more_pairs_there}
 
 -- a quote that is due
 pub quote_fails : (src : List ℕ) (i : ℕ) (f : Fault) → quote_at src i ≡ Err f → IsMissing src i a_quote f
@@ -233,8 +235,8 @@ attributes_more main O src k d i j b c as' a (one_more _ m _ _ e _ first rest sp
 -- a character begins behind an attribute
 pub attribute_cut : (main : Bool) (O : Inclusion) (src : List ℕ) (utf8 : IsUtf8 src) (i j b c : ℕ) (a : Attribute) → IsAttribute main O src i j b c a → IsCharBoundary src j
 attribute_cut main O src utf8 i j b c a is =
-    let quote = quote_ascii (byte src is.v) is.literal.quote in
-    let next = is.literal.next in
+    let quote = quote_ascii (byte src is.v) is.literal.quoted.quote in
+    let next = is.literal.quoted.next in
     rw next (cut_behind src is.e (byte src is.v) utf8 (literal_closes src is.v is.e j is.literal) (omega arith) (omega arith))
 
 module _ (opens : ℕ → Inclusion) (es : List Entity) (agrees : (d l : ℕ) → d + l ≡ most_deep → AgreesValue es (opens l) (value_opener es d (is_main l))) (texts : AreTexts es) (deeper level : ℕ) (deep : deeper + level ≡ most_deep)
@@ -295,7 +297,7 @@ module _ (opens : ℕ → Inclusion) (es : List Entity) (agrees : (d l : ℕ) �
           no_xmlns = to.no_xmlns;
           attributes = attributes_more (is_main level) (opens level) src k d to.name_end p b c as' a to.attributes spaces is;
           declarable = are_declarable _ may.0;
-          few_pairs = may.1;
+          few_pairs = pairs_there s.stack s.done (namespace_decls_of (as' ++ a ∷ [])) may.1;
         }
 
     -- what is due behind these attributes: rows 21 to 24 and 31
@@ -341,7 +343,7 @@ module _ (opens : ℕ → Inclusion) (es : List Entity) (agrees : (d l : ℕ) �
         let over = ltb-true _ _ many in
         let once' : is_declared (namespace_decl_of a).prefix (namespace_decls_of as') ≡ false = rw own at once in
         let all : h.own ++ namespace_decl_of a ∷ [] ≡ namespace_decls_of as' ++ namespace_decl_of a ∷ [] = ap (λ (ds : List NamespaceDecl). ds ++ namespace_decl_of a ∷ []) own in
-        subst Fails e (in_rest p c as' _ to (too_many_pairs d k a spaces is declares' (uri_sound a u tested) once' (subst (λ (ds : List NamespaceDecl). most_pairs < length (with_new known (listable_of ds))) all over))))
+        subst Fails e (in_rest p c as' _ to (too_many_pairs d k a spaces is declares' (uri_sound a u tested) once' (more_pairs_there s.stack s.done (namespace_decls_of as' ++ namespace_decl_of a ∷ []) (subst (λ (ds : List NamespaceDecl). most_pairs < length (with_new known (listable_of ds))) all over)))))
         (λ fits bad. no_fault _ f bad)))
 
     -- what is held behind one more attribute
@@ -381,11 +383,11 @@ module _ (opens : ℕ → Inclusion) (es : List Entity) (agrees : (d l : ℕ) �
         let stands = turn_sound src utf8 p (more raw, j) turn in
         let spaces = stands.0 in
         let r = stands.1 in
-        let closes = r.literal.closes in
+        let closes = r.literal.quoted.closes in
         bind_err (value_at (is_main level) es alone.opener src raw.value_start raw.value_end c) _ e bad
         (λ ill. let start = r.value_start in
         let w = value_fails opens es level src raw.value_start raw.value_end c agrees texts deeper e deep utf8 (omega arith) (λ z. literal_stop src r.v raw.value_end j r.literal)
-        (λ k from below. literal_plain src r.v raw.value_end j r.literal k (omega arith) below) (subst (IsCharBoundary src) (sym start) (let quote = quote_ascii (byte src r.v) r.literal.quote in cut_behind src r.v (byte src r.v) utf8 refl (omega arith) (omega arith))) ill in
+        (λ k from below. literal_plain src r.v raw.value_end j r.literal k (omega arith) below) (subst (IsCharBoundary src) (sym start) (let quote = quote_ascii (byte src r.v) r.literal.quoted.quote in cut_behind src r.v (byte src r.v) utf8 refl (omega arith) (omega arith))) ill in
         (ill_value p c raw.name_end r.v raw.value_end j as' raw.name to spaces r.is_name r.eq r.literal
         (subst (λ (i : ℕ). Refuses es (InPart opens es level src i raw.value_end c) src e) start w)))
         (λ v read bad.
@@ -395,7 +397,7 @@ module _ (opens : ℕ → Inclusion) (es : List Entity) (agrees : (d l : ℕ) �
         lifted_err (taken (distinct_pairs (pairs_so_far s.stack s.done)) (attribute_with raw v.0) h) _ e bad
         (λ f ill same. chosen (is_namespace_decl raw.name) _ _ _ ill (λ declares' ill. itself f same (declared_fails p j c v.1 as' (attribute_with raw v.0) h f to spaces is named declares' own ill)) (λ other ill. no_fault _ f ill))
         (λ held took bad.
-        let more' = held_more as' (attribute_with raw v.0) h held (declarable_behind (namespace_decls_of as') to.declarable, to.few_pairs) own took in
+        let more' = held_more as' (attribute_with raw v.0) h held (declarable_behind (namespace_decls_of as') to.declarable, pairs_counted s.stack s.done (namespace_decls_of as') to.few_pairs) own took in
         next j v.1 (as' ++ attribute_with raw v.0 ∷ []) held (up_to_more p j c v.1 as' (attribute_with raw v.0) to spaces is more'.1) (attribute_cut (is_main level) (opens level) src utf8 (spaces_end src p) j c v.1 (attribute_with raw v.0) is) (omega arith) more'.0 bad))
 
     -- attributes and declarations up to the end of the tag
@@ -429,13 +431,13 @@ module _ (opens : ℕ → Inclusion) (es : List Entity) (agrees : (d l : ℕ) �
         let text = qname_text src (s.at + 1) name.0 name.1 utf8 behind is_name in
         bind_err (attributes_at (length src) alone (machine.cut_off_fault (is_main level) s.stack) known src name.1 b none_yet) _ e h
         (λ bad. attributes_fail (length src) name.1 b [] none_yet e
-        (record { name = name.0; name_end = name.1; is_name = is_name; no_xmlns = free; attributes = no_more name.1 b; declarable = are_declarable [] tt; few_pairs = few }) text.3 (omega arith) refl bad)
+        (record { name = name.0; name_end = name.1; is_name = is_name; no_xmlns = free; attributes = no_more name.1 b; declarable = are_declarable [] tt; few_pairs = pairs_there s.stack s.done [] few }) text.3 (omega arith) refl bad)
         (λ x rest h.
         let r = rest_sound alone (opens level) (agrees deeper level deep) src utf8 (length src) (machine.cut_off_fault (is_main level) s.stack) known name.1 b none_yet x rest in
         let all = taken_sound known r.0 none_yet x.0.held r.4 in
         let few_pairs : length (with_new known (listable_of (namespace_decls_of r.0))) ≤ most_pairs = subst (λ (ds : List NamespaceDecl). length (with_new known (listable_of ds)) ≤ most_pairs) all.own (all.pairs few) in
         let c = x.0.openings_left in
-        let to : UpTo r.1 c r.0 = record { name = name.0; name_end = name.1; is_name = is_name; no_xmlns = free; attributes = r.2; declarable = are_declarable (namespace_decls_of r.0) all.declarable; few_pairs = few_pairs } in
+        let to : UpTo r.1 c r.0 = record { name = name.0; name_end = name.1; is_name = is_name; no_xmlns = free; attributes = r.2; declarable = are_declarable (namespace_decls_of r.0) all.declarable; few_pairs = pairs_there s.stack s.done (namespace_decls_of r.0) few_pairs } in
         let as' = plain_attributes_of r.0 in
         let scope = listed (scope_of s.stack) (namespace_decls_of r.0) in
         let at_all : AllAt src as' = all_filtered src (λ a. not (is_namespace_decl a.name)) r.0 (attributes_named name.1 r.1 b c r.0 text.3 r.2) in
@@ -446,9 +448,9 @@ module _ (opens : ℕ → Inclusion) (es : List Entity) (agrees : (d l : ℕ) �
         (subst (λ (xs : List Attribute). tested_at (listed (scope_of s.stack) x.0.held.own) count (s.at + 1) name.0 xs ≡ Err f) all.attributes bad) in
         itself f same
         (chosen (ltb most_attributes (count + length as')) _ _ _ bad'
-        (λ many bad. let is : fault.AttributesLimitReached ≡ f = cc in subst Fails is (in_rest r.1 c r.0 _ to (too_many_attributes x.1 x.0.empty r.3 (ltb-true _ _ many))))
+        (λ many bad. let is : fault.AttributesLimitReached ≡ f = cc in subst Fails is (in_rest r.1 c r.0 _ to (too_many_attributes x.1 x.0.empty r.3 (omega (arith, attributes_are s.stack s.done, ltb-true _ _ many)))))
         (λ fits bad.
-        let fits' = ltb-false _ _ fits in
+        let fits' : attribute_count (tree_so_far s.stack s.done) + length as' ≤ most_attributes = omega (arith, attributes_are s.stack s.done, ltb-false _ _ fits) in
         bind_err (names_tested scope [] as') _ f bad
         (λ bad. in_rest r.1 c r.0 _ to (ill_named x.1 x.0.empty f r.3 fits' (names_fails src s.at scope name.0 as' [] as' f refl tt at_all bad)))
         (λ u names bad. chosen (may_name scope name.0) _ _ _ bad (λ may bad. no_fault _ f bad)

@@ -1,5 +1,5 @@
 -- Values that fail: in what they hold, or in a replacement text that is opened in them.
-use Rattle.std.proofs.Common.{◌≡◌, ◌≢◌, ℕ, zero, suc, ◌+◌, ◌-◌, ◌<◌, ◌≤◌, ◌⊎◌, Bool, true, false, eqb, ltb, List, length, take, refl, sym, ◌∙◌, subst, arith, inl, inr}
+use Rattle.std.proofs.Common.{◌≡◌, ◌≢◌, ℕ, zero, suc, ◌+◌, ◌-◌, ◌<◌, ◌≤◌, ◌⊎◌, Bool, true, false, eqb, ltb, List, [], ◌∷◌, ◌++◌, length, take, refl, sym, ◌∙◌, subst, arith, inl, inr}
 use Rattle.std.specs.Prelude.{Result, Err, Some}
 use Rattle.std.specs.Str.{IsUtf8, IsCharBoundary}
 use Rattle.std.proofs.lemmas.List.{get_or-take, get_or_past, length-take-le}
@@ -10,10 +10,10 @@ use Rattle.rox_grammar.specs.Chars.{is_char}
 use Rattle.rox_grammar.specs.Runs.{StandsAt}
 use Rattle.rox_grammar.specs.Names.{byte, slice}
 use Rattle.rox_grammar.specs.References.{IsCharacter}
-use Rattle.rox_grammar.specs.Content.{Inclusion, is_verbatim_value}
+use Rattle.rox_grammar.specs.Content.{Inclusion, is_verbatim_value, value_bytes, Value, value_ends, line_end, white, other, a_character, an_entity}
 use Rattle.rox_grammar.specs.Entities.{Replacement, Entity, text_of, most_deep}
 use Rattle.rox_grammar.specs.Due.{IsMissing, no_char, ends_before, chars_to}
-use Rattle.rox_grammar.specs.ContentPoints.{is_main, RefersTo, MayOpen, IsSpent, ValueTo, to_here, a_byte, a_character, an_entity, ValuePart, opened}
+use Rattle.rox_grammar.specs.ContentPoints.{is_main, RefersTo, MayOpen, IsSpent, ValuePart, opened}
 use Rattle.rox_grammar.specs.Faults.{InReferences, InValue, in_reference, too_many, less, less_by_reference}
 use Rattle.rox_grammar.specs.Faults as faults
 use Rattle.rox_reading.specs.Lexical.{chars_up_to}
@@ -28,12 +28,42 @@ use Rattle.rox_theory.proofs.ReferenceLemmas.{IsRead, is_character, is_entity, r
 use Rattle.rox_theory.proofs.ValueLemmas.{stops, stops_ascii, ValueBit, bit_line_end, bit_white, bit_stretch, bit_character, bit_entity, next_cut, bit_moves, bit_cut, value_bit_sound}
 use Rattle.rox_theory.proofs.FailedReadings.{bind_err, lifted_err, no_fault, chars_fails}
 use Rattle.rox_faults.proofs.FaultRows.{reference_fails, unknown_fails}
+use Rattle.rox_faults.proofs.PartFronts.{value_from}
 use Rattle.rox_faults.proofs.FaultPoints.{Refuses, refuses_here, elsewhere_err, spent_here, may_open, deepest}
 
--- bytes of no reference
-passes : (O : Inclusion) (src : List ℕ) (n i j p b c : ℕ) → i + n ≡ j → ((k : ℕ) → i ≤ k → k < j → byte src k ≢ 38) → ValueTo O src j p b c → ValueTo O src i p b c
-passes O src zero i j p b c to none rest = let e : j ≡ i = omega arith in subst (λ (m : ℕ). ValueTo O src m p b c) e rest
-passes O src (suc n) i j p b c to none rest = a_byte i p b c (none i (omega arith) (omega arith)) (passes O src n (i + 1) j p b c (omega arith) (λ k from below. none k (omega arith) below) rest)
+-- a value stands from i up to j
+abbrev pub Reads : (main : Bool) → Inclusion → List ℕ → (i j b c : ℕ) → Type 0
+Reads main O src i j b c = (v : List ℕ) × Value main O src j i b c v
+
+-- a longer one
+module _ (main : Bool) (O : Inclusion) (src : List ℕ) (stop : ℕ) where
+  reads_le : (p q b c : ℕ) → Reads main O src p q b c → p ≤ q
+  reads_le p q b c (v, value) = value_from main O src p q b c v value
+
+  over_line_end : (p q b c : ℕ) → byte src p ≡ 13 → byte src (p + 1) ≡ 10 → Reads main O src (p + 1) q b c → Reads main O src p q b c
+  over_line_end p q b c cr lf (v, value) =
+      let le = reads_le (p + 1) q b c (v, value) in
+      elim (cases_lt (p + 1) q) as (λ z. Reads main O src p q b c) [
+        | inl more ↦ (v, line_end p b c v more cr lf value)
+        | inr past ↦ (let end : q ≡ p + 1 = omega arith in (32 ∷ v, white p b c v (omega arith) (inr (inr (cr, inl end))) value))
+      ]
+
+  over_white : (p q b c : ℕ) → q ≤ stop → (byte src p ≡ 9) ⊎ ((byte src p ≡ 10) ⊎ ((byte src p ≡ 13) × ((stop ≡ p + 1) ⊎ (byte src (p + 1) ≢ 10)))) → Reads main O src (p + 1) q b c
+      → Reads main O src p q b c
+  over_white p q b c short (inl tab) (v, value) = let le = reads_le (p + 1) q b c (v, value) in (32 ∷ v, white p b c v (omega arith) (inl tab) value)
+  over_white p q b c short (inr (inl lf)) (v, value) = let le = reads_le (p + 1) q b c (v, value) in (32 ∷ v, white p b c v (omega arith) (inr (inl lf)) value)
+  over_white p q b c short (inr (inr (cr, inl last))) (v, value) =
+      let le = reads_le (p + 1) q b c (v, value) in let end : q ≡ p + 1 = omega arith in (32 ∷ v, white p b c v (omega arith) (inr (inr (cr, inl end))) value)
+  over_white p q b c short (inr (inr (cr, inr more))) (v, value) = let le = reads_le (p + 1) q b c (v, value) in (32 ∷ v, white p b c v (omega arith) (inr (inr (cr, inr more))) value)
+
+  over_stretch : (n p j q b c : ℕ) → p + n ≡ j
+      → ((k : ℕ) → p ≤ k → k < j → ((byte src k ≢ 38) × (byte src k ≢ 9) × (byte src k ≢ 10) × (byte src k ≢ 13)) × (byte src k ≢ 60)) → Reads main O src j q b c → Reads main O src p q b c
+  over_stretch zero p j q b c to plain rest = let e : j ≡ p = omega arith in subst (λ (m : ℕ). Reads main O src m q b c) e rest
+  over_stretch (suc n) p j q b c to plain rest =
+      let one = over_stretch n (p + 1) j q b c (omega arith) (λ k from below. plain k (omega arith) below) rest in
+      let le = reads_le (p + 1) q b c one in
+      let s = plain p (omega arith) (omega arith) in
+      (byte src p ∷ one.0, other p b c one.0 (omega arith) s.0.0 s.0.1 s.0.2 s.0.3 s.1 one.1)
 
 module _ (src : List ℕ) (utf8 : IsUtf8 src) (es : List Entity) (stop : ℕ) (long : stop ≤ length src) (closes : stop < length src → IsStop (byte src stop)) where
   -- what is wrong with one bit: rows 9, 10, 12 and 22
@@ -118,34 +148,29 @@ module _ (opens : ℕ → Inclusion) (es : List Entity) (k : ℕ) (whole : List 
 
     -- the value is read up to here
     abbrev To : ℕ → ℕ → Type 0
-    To p openings_left = (q c : ℕ) → ValueTo (opens l) src p q openings_left c → ValueTo (opens l) src i q c0 c
+    To p openings_left = (q c : ℕ) → q ≤ stop → Reads (is_main l) (opens l) src p q openings_left c → Reads (is_main l) (opens l) src i q c0 c
 
     -- behind a bit
     bit_goes : (p openings_left : ℕ) (bit : Bit) (j : ℕ) (e : Refusal) (next : ℕ → ℕ → Result (List ℕ × ℕ) Refusal) → To p openings_left → ValueBit (is_main l) es src stop p bit j
         → ((c : ℕ) → To j c → next j c ≡ Err e → Refuses es InPart src e) → after_value_bit (value_opener es d (is_main l)) next openings_left bit j ≡ Err e → Refuses es InPart src e
     bit_goes p openings_left bit j e next to (bit_line_end _ more cr lf) go h =
-        bind_err (next (p + 1) openings_left) _ e h (go openings_left (λ q c rest. to q c (a_byte p q openings_left c (λ amp. absurd (omega arith)) rest))) (λ x ok h. no_fault _ e h)
+        bind_err (next (p + 1) openings_left) _ e h (go openings_left (λ q c short rest. to q c short (over_line_end (is_main l) (opens l) src stop p q openings_left c cr lf rest))) (λ x ok h. no_fault _ e h)
     bit_goes p openings_left bit j e next to (bit_white _ here' is) go h =
-        bind_err (next (p + 1) openings_left) _ e h (go openings_left (λ q c rest. to q c (a_byte p q openings_left c (white_no_amp is) rest))) (λ x ok h. no_fault _ e h)
-      where
-        white_no_amp : (byte src p ≡ 9) ⊎ ((byte src p ≡ 10) ⊎ ((byte src p ≡ 13) × ((stop ≡ p + 1) ⊎ (byte src (p + 1) ≢ 10)))) → byte src p ≢ 38
-        white_no_amp (inl is) amp = absurd (omega arith)
-        white_no_amp (inr (inl is)) amp = absurd (omega arith)
-        white_no_amp (inr (inr (is, more))) amp = absurd (omega arith)
+        bind_err (next (p + 1) openings_left) _ e h (go openings_left (λ q c short rest. to q c short (over_white (is_main l) (opens l) src stop p q openings_left c short is rest))) (λ x ok h. no_fault _ e h)
     bit_goes p openings_left bit j e next to (bit_stretch _ _ some to' cut plain chars) go h =
-        bind_err (next j openings_left) _ e h (go openings_left (λ q c rest. to q c (passes (opens l) src (j - p) p j q openings_left c (omega arith) (λ m from below. (plain m from below).0.0) rest))) (λ x ok h. no_fault _ e h)
+        bind_err (next j openings_left) _ e h (go openings_left (λ q c short rest. to q c short (over_stretch (is_main l) (opens l) src stop (j - p) p j q openings_left c (omega arith) plain rest))) (λ x ok h. no_fault _ e h)
     bit_goes p openings_left bit j e next to (bit_character _ x _ r to' any) go h =
-        bind_err (next j openings_left) _ e h (go openings_left (λ q c rest. to q c (a_character p j x q openings_left c r rest))) (λ x ok h. no_fault _ e h)
+        bind_err (next j openings_left) _ e h (go openings_left (λ q c short rest. to q c short (let le = reads_le (is_main l) (opens l) src stop j q openings_left c rest in (value_bytes (is_main l) x ++ rest.0, a_character p j x openings_left c rest.0 r le any rest.1)))) (λ x ok h. no_fault _ e h)
     bit_goes p openings_left bit j e next to (bit_entity _ n _ t r none to' found) go h =
         let name = slice src (p + 1) n in
         let moves = reference_opens src p n j r in
         let refers : RefersTo es src p j t = record { n = n; is_reference = r; no_character = none; found = found } in
-        let so_far = to p openings_left (to_here p openings_left) in
+        let so_far = to p openings_left (omega (arith, moves.2)) ([], value_ends openings_left) in
         bind_err (value_opener es d (is_main l) t j openings_left) _ e h
-        (λ bad. opener_fails src j openings_left t name e found (λ spent. in_part l i stop c0 part (too_many p j openings_left t so_far (omega (arith, moves.2)) refers spent))
-        (λ r' may. opened l i stop c0 openings_left r' p j src t part so_far (omega (arith, moves.2)) refers may) bad)
+        (λ bad. opener_fails src j openings_left t name e found (λ spent. in_part l i stop c0 part (too_many p j openings_left so_far.0 t so_far.1 (omega (arith, moves.2)) refers spent))
+        (λ r' may. opened l i stop c0 openings_left r' p j src so_far.0 t part so_far.1 (omega (arith, moves.2)) refers may) bad)
         (λ x read h. bind_err (next j x.1) _ e h
-        (go x.1 (λ q c rest. to q c (an_entity p n j q openings_left x.1 c x.0 r none (agrees.sound name t j openings_left x.1 x.0 found read) rest))) (λ y ok h. no_fault _ e h))
+        (go x.1 (λ q c short rest. to q c short (let le = reads_le (is_main l) (opens l) src stop j q x.1 c rest in (x.0 ++ rest.0, an_entity p n j openings_left x.1 c x.0 rest.0 r none le (agrees.sound name t j openings_left x.1 x.0 found read) rest.1)))) (λ y ok h. no_fault _ e h))
 
     pub value_text_fails : (n p openings_left : ℕ) (e : Refusal) → i ≤ p → IsCharBoundary src p → To p openings_left → value_text (is_main l) es (value_opener es d (is_main l)) n src stop p openings_left ≡ Err e → Refuses es InPart src e
     unfolding value_text
@@ -176,7 +201,7 @@ module _ (opens : ℕ → Inclusion) (es : List Entity) (k : ℕ) (whole : List 
         (λ c bad back.
         back InPart src (name, t, found)
         (value_text_fails d (suc l) (agrees d (suc l) (omega arith)) (value_opener_fails d (suc l) (omega arith)) t.source text.0 t.start (length t.source) r (omega arith) (λ past. absurd (omega arith)) (λ main. absurd (false≢true main))
-        (part r (may_open l j openings_left r (omega arith) may)) (length t.source) t.start r c (omega arith) text.1 (λ q c rest. rest) bad))
+        (part r (may_open l j openings_left r (omega arith) may)) (length t.source) t.start r c (omega arith) text.1 (λ q c short rest. rest) bad))
         (λ x ok h. no_fault _ e h))
 
     -- a value
@@ -186,5 +211,5 @@ module _ (opens : ℕ → Inclusion) (es : List Entity) (k : ℕ) (whole : List 
     value_fails d e deep utf8 long closes no_tag cut h =
         chosen (is_verbatim_value (slice whole start end)) _ _ _ h (λ plain h. no_fault _ e h)
         (λ marked h. bind_err (value_text (is_main k) es (value_opener es d (is_main k)) (end - start) whole end start b) _ e h
-        (λ bad. value_text_fails d k (agrees d k deep) (value_opener_fails d k deep) whole utf8 start end b long closes (λ main. no_tag) ValuePart.itself (end - start) start b e (omega arith) cut (λ q c rest. rest) bad)
+        (λ bad. value_text_fails d k (agrees d k deep) (value_opener_fails d k deep) whole utf8 start end b long closes (λ main. no_tag) ValuePart.itself (end - start) start b e (omega arith) cut (λ q c short rest. rest) bad)
         (λ value read h. no_fault _ e h))

@@ -30,7 +30,8 @@ use Rattle.rox_reading.specs.State.{State}
 use Rattle.rox_grammar.specs.Due.{DueItem, a_byte, a_quote, a_qname, a_gap, a_word, chars_to, IsMissing, no_gap, DueInPair, its_name, equals, opening, its_value, closing, value_end, PairBegins, version, encoding, standalone, DueInXmlDecl, its_version, in_pair, behind_pair}
 use Rattle.rox_grammar.specs.Due as dues
 use Rattle.rox_grammar.specs.ContentPoints.{is_main, Behind, begins, of_root}
-use Rattle.rox_grammar.specs.Faults.{InMisc, FaultOf, without, in_declaration, doctype, no_root, unknown_ahead, unknown_behind, in_one, misc_ahead, misc_behind, one_too_many}
+use Rattle.rox_grammar.specs.Faults.{InMisc, no_root, unknown_ahead, unknown_behind, in_one, misc_ahead, misc_behind, one_too_many}
+use Rattle.rox_grammar.specs.FaultsWithDoctype.{FaultOf, without, in_declaration, not_allowed}
 use Rattle.rox_reading.specs.Lexical.{byte_at, quote_at, qname_at, chars_up_to}
 use Rattle.rox_reading.specs.Markup.{comment_at, instruction_at, pair_at, gap_at, pair_if, xml_decl_at}
 use Rattle.rox_reading.specs.Machine.{value_opener, opener, with_item, comment_step, instruction_step, tag_step, main_text, drive}
@@ -447,7 +448,7 @@ module _ (src : List ℕ) (utf8 : IsUtf8 src) where
       let fine = subst (IsValidState most) s_is m.3 in
       let before : Dtd = record { state = s; entities = []; replies = replies } in
       asks_err (whole.doctype limit false src before) _ e h
-      (λ bad. let is = doctype_fails limit before e bad in (fault.DtdDetected, is.1, doctype s.at m.0 there (fine_fits limit most (state s.at m.0 root 255) least fine) is.0))
+      (λ bad. let is = doctype_fails limit before e bad in (fault.DtdDetected, is.1, not_allowed s.at m.0 refl there (fine_fits limit most (state s.at m.0 root 255) least fine) is.0))
       (λ d passed h.
       let none = doctype_none limit before d passed in
       let h' : (asks_nothing (body limit [] src s) >>> λ x. asks_nothing (lifted (finished src x))).1 ≡ Err e =

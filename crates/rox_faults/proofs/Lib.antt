@@ -1,6 +1,7 @@
 pub mod NameSpans
 pub mod FaultLimits
 pub mod FaultRows
+pub mod StateCounts
 pub mod FaultPoints
 pub mod FaultRuns
 pub mod FaultValues

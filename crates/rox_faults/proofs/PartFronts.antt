@@ -4,9 +4,9 @@ use Rattle.std.specs.Prelude.{None}
 use Rattle.rox_grammar.specs.Forest.{Forest, join}
 use Rattle.rox_grammar.specs.Written.{Item}
 use Rattle.rox_grammar.specs.Names.{byte, slice}
-use Rattle.rox_grammar.specs.References.{IsReference, predefined}
+use Rattle.rox_grammar.specs.References.{IsReference, IsCharacter, predefined}
 use Rattle.rox_grammar.specs.Content.{Inclusion, DataByte, Parts, last_part, then_entity, piece, Value, value_ends, line_end, white, other, a_character, an_entity}
-use Rattle.rox_grammar.specs.ContentPoints.{PartsTo, one_part, ValueTo, to_here, a_byte}
+use Rattle.rox_grammar.specs.ContentPoints.{PartsTo, one_part}
 use Rattle.rox_grammar.specs.ContentPoints as places
 use Rattle.rox_reading.proofs.Forests.{join_assoc}
 use Rattle.rox_theory.proofs.ReferenceLemmas.{character_opens, reference_opens}
@@ -79,12 +79,20 @@ module _ (main : Bool) (O : Inclusion) (once : OpensOnce O) (src : List ℕ) (st
 abbrev pub SpendsOnce : Inclusion → Type 0
 SpendsOnce O = (name : List ℕ) (b c d : ℕ) (v w : List ℕ) → O.value name b v c → O.value name b w d → c ≡ d
 
-module _ (main : Bool) (O : Inclusion) (once : SpendsOnce O) (src : List ℕ) where
+-- A value is read from i up to p: the references to entities in it, and the openings that are left before them and behind.
+data ValueTo (O : Inclusion) (src : List ℕ) : ℕ → ℕ → ℕ → ℕ → Type 0 where
+  over_none : (i b : ℕ) → ValueTo O src i i b b
+  over_byte : (i p b c : ℕ) → byte src i ≢ 38 → ValueTo O src (i + 1) p b c → ValueTo O src i p b c
+  over_character : (i n x p b c : ℕ) → IsCharacter src i x n → ValueTo O src n p b c → ValueTo O src i p b c
+  over_entity : (i n j p b c d : ℕ) (w : List ℕ) → IsReference src i n j → predefined (slice src (i + 1) n) ≡ None → O.value (slice src (i + 1) n) b w c
+      → ValueTo O src j p c d → ValueTo O src i p b d
+
+module _ (main : Bool) (O : Inclusion) (src : List ℕ) where
   value_to_le : (i p b c : ℕ) → ValueTo O src i p b c → i ≤ p
-  value_to_le i p b c (to_here _ _) = omega arith
-  value_to_le i p b c (a_byte _ _ _ _ no_amp to) = let le = value_to_le (i + 1) p b c to in omega arith
-  value_to_le i p b c (places.ValueTo.a_character _ n x _ _ _ is to) = omega (arith, character_opens src i x n is, value_to_le n p b c to)
-  value_to_le i p b d (places.ValueTo.an_entity _ n j _ _ c _ w r none opens to) = omega (arith, reference_opens src i n j r, value_to_le j p c d to)
+  value_to_le i p b c (over_none _ _) = omega arith
+  value_to_le i p b c (over_byte _ _ _ _ no_amp to) = let le = value_to_le (i + 1) p b c to in omega arith
+  value_to_le i p b c (over_character _ n x _ _ _ is to) = omega (arith, character_opens src i x n is, value_to_le n p b c to)
+  value_to_le i p b d (over_entity _ n j _ _ c _ w r none opens to) = omega (arith, reference_opens src i n j r, value_to_le j p c d to)
 
   -- white space is no `&`
   white_no_amp : (stop i : ℕ) → (byte src i ≡ 9) ⊎ ((byte src i ≡ 10) ⊎ ((byte src i ≡ 13) × ((stop ≡ i + 1) ⊎ (byte src (i + 1) ≢ 10)))) → byte src i ≢ 38
@@ -92,39 +100,56 @@ module _ (main : Bool) (O : Inclusion) (once : SpendsOnce O) (src : List ℕ) wh
   white_no_amp stop i (inr (inl is)) amp = absurd (omega arith)
   white_no_amp stop i (inr (inr (is, end))) amp = absurd (omega arith)
 
+  -- what stands there in a value up to p
+  value_to : (p i b c : ℕ) (v : List ℕ) → Value main O src p i b c v → ValueTo O src i p b c
+  value_to p i b c v (value_ends _) = over_none i b
+  value_to p i b c v (line_end _ _ _ _ more cr lf rest) = over_byte i p b c (λ amp. absurd (omega arith)) (value_to p (i + 1) b c v rest)
+  value_to p i b c v (white _ _ _ w more is rest) = over_byte i p b c (white_no_amp p i is) (value_to p (i + 1) b c w rest)
+  value_to p i b c v (other _ _ _ w more no_amp x₁ x₂ x₃ x₄ rest) = over_byte i p b c no_amp (value_to p (i + 1) b c w rest)
+  value_to p i b c v (a_character _ n x _ _ w is less allowed rest) = over_character i n x p b c is (value_to p n b c w rest)
+  value_to p i b d v (an_entity _ n k _ c _ u w r none less opens rest) = over_entity i n k p b c d u r none opens (value_to p k c d w rest)
+
+  -- a value does not go back
+  pub value_from : (i p b c : ℕ) (v : List ℕ) → Value main O src p i b c v → i ≤ p
+  value_from i p b c v value = value_to_le i p b c (value_to p i b c v value)
+
+module _ (main : Bool) (O : Inclusion) (once : SpendsOnce O) (src : List ℕ) where
   -- what the reference at p opens there
   abbrev pub OpensThere : (p n c : ℕ) → Type 0
   OpensThere p n c = (w : List ℕ) × (e : ℕ) × O.value (slice src (p + 1) n) c w e
 
-  pub value_front : (stop i p n j b c d : ℕ) (v : List ℕ) → ValueTo O src i p b c → Value main O src stop i b d v → p < stop → IsReference src p n j → predefined (slice src (p + 1) n) ≡ None → OpensThere p n c
-  value_front stop i p n j b c d v (to_here _ _) (value_ends _) below r none = absurd (omega arith)
-  value_front stop i p n j b c d v (to_here _ _) (line_end _ _ _ _ more cr lf rest) below r none = let amp = r.opens in absurd (omega arith)
-  value_front stop i p n j b c d v (to_here _ _) (white _ _ _ w more is rest) below r none = absurd (white_no_amp stop i is r.opens)
-  value_front stop i p n j b c d v (to_here _ _) (other _ _ _ w more no_amp x₂ x₃ x₄ x₅ rest) below r none = absurd (no_amp r.opens)
-  value_front stop i p n j b c d v (to_here _ _) (a_character _ m x _ _ w is less allowed rest) below r none = absurd (no_entity_here src i x m n j is r none)
-  value_front stop i p n j b c d v (to_here _ _) (an_entity _ m k _ e _ u w r' none' less opens rest) below r none =
+  value_to_front : (stop i p n j b c d : ℕ) (v : List ℕ) → ValueTo O src i p b c → Value main O src stop i b d v → p < stop → IsReference src p n j → predefined (slice src (p + 1) n) ≡ None → OpensThere p n c
+  value_to_front stop i p n j b c d v (over_none _ _) (value_ends _) below r none = absurd (omega arith)
+  value_to_front stop i p n j b c d v (over_none _ _) (line_end _ _ _ _ more cr lf rest) below r none = let amp = r.opens in absurd (omega arith)
+  value_to_front stop i p n j b c d v (over_none _ _) (white _ _ _ w more is rest) below r none = absurd (white_no_amp main O src stop i is r.opens)
+  value_to_front stop i p n j b c d v (over_none _ _) (other _ _ _ w more no_amp x₂ x₃ x₄ x₅ rest) below r none = absurd (no_amp r.opens)
+  value_to_front stop i p n j b c d v (over_none _ _) (a_character _ m x _ _ w is less allowed rest) below r none = absurd (no_entity_here src i x m n j is r none)
+  value_to_front stop i p n j b c d v (over_none _ _) (an_entity _ m k _ e _ u w r' none' less opens rest) below r none =
       let ends = entity_ends src i m n k j r' r in (u, e, subst (λ (m : ℕ). O.value (slice src (i + 1) m) b u e) ends.0 opens)
-  value_front stop i p n j b c d v (a_byte _ _ _ _ no_amp to) (value_ends _) below r none = let le = value_to_le (i + 1) p b c to in absurd (omega arith)
-  value_front stop i p n j b c d v (a_byte _ _ _ _ no_amp to) (line_end _ _ _ _ more cr lf rest) below r none = value_front stop (i + 1) p n j b c d v to rest below r none
-  value_front stop i p n j b c d v (a_byte _ _ _ _ no_amp to) (white _ _ _ w more is rest) below r none = value_front stop (i + 1) p n j b c d w to rest below r none
-  value_front stop i p n j b c d v (a_byte _ _ _ _ no_amp to) (other _ _ _ w more x₁ x₂ x₃ x₄ x₅ rest) below r none = value_front stop (i + 1) p n j b c d w to rest below r none
-  value_front stop i p n j b c d v (a_byte _ _ _ _ no_amp to) (a_character _ m x _ _ w is less allowed rest) below r none = absurd (no_amp (character_opens src i x m is).0)
-  value_front stop i p n j b c d v (a_byte _ _ _ _ no_amp to) (an_entity _ m k _ e _ u w r' none' less opens rest) below r none = absurd (no_amp r'.opens)
-  value_front stop i p n j b c d v (places.ValueTo.a_character _ m x _ _ _ is to) (value_ends _) below r none = absurd (omega (arith, character_opens src i x m is, value_to_le m p b c to))
-  value_front stop i p n j b c d v (places.ValueTo.a_character _ m x _ _ _ is to) (line_end _ _ _ _ more cr lf rest) below r none = let amp = (character_opens src i x m is).0 in absurd (omega arith)
-  value_front stop i p n j b c d v (places.ValueTo.a_character _ m x _ _ _ is to) (white _ _ _ w more is' rest) below r none = absurd (white_no_amp stop i is' (character_opens src i x m is).0)
-  value_front stop i p n j b c d v (places.ValueTo.a_character _ m x _ _ _ is to) (other _ _ _ w more no_amp x₂ x₃ x₄ x₅ rest) below r none = absurd (no_amp (character_opens src i x m is).0)
-  value_front stop i p n j b c d v (places.ValueTo.a_character _ m x _ _ _ is to) (a_character _ m' x' _ _ w is' less allowed rest) below r none =
-      let same = (character_ends src i x' x m' m is' is).1 in value_front stop m p n j b c d w to (subst (λ (m : ℕ). Value main O src stop m b d w) same rest) below r none
-  value_front stop i p n j b c d v (places.ValueTo.a_character _ m x _ _ _ is to) (an_entity _ m' k _ e _ u w r' none' less opens rest) below r none = absurd (no_entity_here src i x m m' k is r' none')
-  value_front stop i p n j b c d v (places.ValueTo.an_entity _ m k _ _ e _ u r' none' opens to) (value_ends _) below r none = absurd (omega (arith, reference_opens src i m k r', value_to_le k p e c to))
-  value_front stop i p n j b c d v (places.ValueTo.an_entity _ m k _ _ e _ u r' none' opens to) (line_end _ _ _ _ more cr lf rest) below r none = let amp = r'.opens in absurd (omega arith)
-  value_front stop i p n j b c d v (places.ValueTo.an_entity _ m k _ _ e _ u r' none' opens to) (white _ _ _ w more is rest) below r none = absurd (white_no_amp stop i is r'.opens)
-  value_front stop i p n j b c d v (places.ValueTo.an_entity _ m k _ _ e _ u r' none' opens to) (other _ _ _ w more no_amp x₂ x₃ x₄ x₅ rest) below r none = absurd (no_amp r'.opens)
-  value_front stop i p n j b c d v (places.ValueTo.an_entity _ m k _ _ e _ u r' none' opens to) (a_character _ m' x _ _ w is less allowed rest) below r none = absurd (no_entity_here src i x m' m k is r' none')
-  value_front stop i p n j b c d v (places.ValueTo.an_entity _ m k _ _ e _ u r' none' opens to) (an_entity _ m' k' _ e' _ u' w r'' none'' less opens' rest) below r none =
+  value_to_front stop i p n j b c d v (over_byte _ _ _ _ no_amp to) (value_ends _) below r none = let le = value_to_le main O src (i + 1) p b c to in absurd (omega arith)
+  value_to_front stop i p n j b c d v (over_byte _ _ _ _ no_amp to) (line_end _ _ _ _ more cr lf rest) below r none = value_to_front stop (i + 1) p n j b c d v to rest below r none
+  value_to_front stop i p n j b c d v (over_byte _ _ _ _ no_amp to) (white _ _ _ w more is rest) below r none = value_to_front stop (i + 1) p n j b c d w to rest below r none
+  value_to_front stop i p n j b c d v (over_byte _ _ _ _ no_amp to) (other _ _ _ w more x₁ x₂ x₃ x₄ x₅ rest) below r none = value_to_front stop (i + 1) p n j b c d w to rest below r none
+  value_to_front stop i p n j b c d v (over_byte _ _ _ _ no_amp to) (a_character _ m x _ _ w is less allowed rest) below r none = absurd (no_amp (character_opens src i x m is).0)
+  value_to_front stop i p n j b c d v (over_byte _ _ _ _ no_amp to) (an_entity _ m k _ e _ u w r' none' less opens rest) below r none = absurd (no_amp r'.opens)
+  value_to_front stop i p n j b c d v (over_character _ m x _ _ _ is to) (value_ends _) below r none = absurd (omega (arith, character_opens src i x m is, value_to_le main O src m p b c to))
+  value_to_front stop i p n j b c d v (over_character _ m x _ _ _ is to) (line_end _ _ _ _ more cr lf rest) below r none = let amp = (character_opens src i x m is).0 in absurd (omega arith)
+  value_to_front stop i p n j b c d v (over_character _ m x _ _ _ is to) (white _ _ _ w more is' rest) below r none = absurd (white_no_amp main O src stop i is' (character_opens src i x m is).0)
+  value_to_front stop i p n j b c d v (over_character _ m x _ _ _ is to) (other _ _ _ w more no_amp x₂ x₃ x₄ x₅ rest) below r none = absurd (no_amp (character_opens src i x m is).0)
+  value_to_front stop i p n j b c d v (over_character _ m x _ _ _ is to) (a_character _ m' x' _ _ w is' less allowed rest) below r none =
+      let same = (character_ends src i x' x m' m is' is).1 in value_to_front stop m p n j b c d w to (subst (λ (m : ℕ). Value main O src stop m b d w) same rest) below r none
+  value_to_front stop i p n j b c d v (over_character _ m x _ _ _ is to) (an_entity _ m' k _ e _ u w r' none' less opens rest) below r none = absurd (no_entity_here src i x m m' k is r' none')
+  value_to_front stop i p n j b c d v (over_entity _ m k _ _ e _ u r' none' opens to) (value_ends _) below r none = absurd (omega (arith, reference_opens src i m k r', value_to_le main O src k p e c to))
+  value_to_front stop i p n j b c d v (over_entity _ m k _ _ e _ u r' none' opens to) (line_end _ _ _ _ more cr lf rest) below r none = let amp = r'.opens in absurd (omega arith)
+  value_to_front stop i p n j b c d v (over_entity _ m k _ _ e _ u r' none' opens to) (white _ _ _ w more is rest) below r none = absurd (white_no_amp main O src stop i is r'.opens)
+  value_to_front stop i p n j b c d v (over_entity _ m k _ _ e _ u r' none' opens to) (other _ _ _ w more no_amp x₂ x₃ x₄ x₅ rest) below r none = absurd (no_amp r'.opens)
+  value_to_front stop i p n j b c d v (over_entity _ m k _ _ e _ u r' none' opens to) (a_character _ m' x _ _ w is less allowed rest) below r none = absurd (no_entity_here src i x m' m k is r' none')
+  value_to_front stop i p n j b c d v (over_entity _ m k _ _ e _ u r' none' opens to) (an_entity _ m' k' _ e' _ u' w r'' none'' less opens' rest) below r none =
       let ends = entity_ends src i m' m k' k r'' r' in
       let opens'' : O.value (slice src (i + 1) m) b u' e' = subst (λ (m : ℕ). O.value (slice src (i + 1) m) b u' e') ends.0 opens' in
       let same = once (slice src (i + 1) m) b e' e u' u opens'' opens in
       let rest' : Value main O src stop k e d w = subst (λ (e : ℕ). Value main O src stop k e d w) same (subst (λ (k : ℕ). Value main O src stop k e' d w) ends.1 rest) in
-      value_front stop k p n j e c d w to rest' below r none
+      value_to_front stop k p n j e c d w to rest' below r none
+
+  pub value_front : (stop i p n j b c d : ℕ) (u v : List ℕ) → Value main O src p i b c u → Value main O src stop i b d v → p < stop → IsReference src p n j → predefined (slice src (p + 1) n) ≡ None → OpensThere p n c
+  value_front stop i p n j b c d u v front value below r none = value_to_front stop i p n j b c d v (value_to main O src p i b c u front) value below r none

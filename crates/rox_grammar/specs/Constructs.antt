@@ -62,14 +62,18 @@ pub record IsEq (src : List ℕ) (i j : ℕ) : Type 0 where
   pub equals : byte src (spaces_end src i) ≡ code "="
   pub next : j ≡ spaces_end src (spaces_end src i + 1)
 
--- XML 2.3 [10] a literal in quotes, with Chars and no `<`; it ends at e
-pub record IsLiteral (src : List ℕ) (i e j : ℕ) : Type 0 where
+-- XML 2.3 [9], [11], [12]: any characters but the quote, in quotes; it ends at e. They need not be Chars (2.2), nor those of [12].
+pub record IsQuoted (src : List ℕ) (i e j : ℕ) : Type 0 where
   pub quote : (byte src i ≡ code "'") ⊎ (byte src i ≡ code "\"")
   pub end : e ≡ byte_from (λ c. c == byte src i) src (i + 1)
   pub closes : e < length src
+  pub next : j ≡ e + 1
+
+-- XML 2.3 [10] one with Chars and no `<`
+pub record IsLiteral (src : List ℕ) (i e j : ℕ) : Type 0 where
+  pub quoted : IsQuoted src i e j
   pub chars : AreChars src (i + 1) e
   pub no_markup : e ≡ byte_from (λ c. c == code "<") (take e src) (i + 1)
-  pub next : j ≡ e + 1
 
 -- a name, Eq, and a literal
 pub record IsPair (src : List ℕ) (i j : ℕ) : Type 0 where

@@ -7,13 +7,13 @@ use Rattle.rox_grammar.specs.Written.{Name, Attribute, NamespaceDecl, Tag, Item,
 use Rattle.rox_grammar.specs.Tree.{listed, listable_of}
 use Rattle.rox_grammar.specs.Names.{byte, slice, spaces_end, IsQName}
 use Rattle.rox_grammar.specs.Constructs.{text_at, IsCData, IsEnd, IsEq, IsLiteral}
-use Rattle.rox_grammar.specs.Content.{Inclusion, DataByte, piece, section, Part, Parts, IsCharacterData, Attributes, IsTag, IsMisc, IsElement}
+use Rattle.rox_grammar.specs.Content.{Inclusion, DataByte, piece, section, Part, Parts, IsCharacterData, Value, Attributes, IsTag, IsMisc, IsElement}
 use Rattle.rox_grammar.specs.WellNamed.{AreDeclarable, IsWellNamed, AreWellNamed}
-use Rattle.rox_grammar.specs.References.{IsReference, IsCharacter, predefined}
+use Rattle.rox_grammar.specs.References.{IsReference, predefined}
 use Rattle.rox_grammar.specs.Entities.{Replacement, Entity, text_of, most_within, most_deep}
 use Rattle.rox_grammar.specs.Doctype.{Asked}
-use Rattle.rox_grammar.specs.Document.{Misc, PrologTo, MayHaveDoctype, with_new, distinct_pairs, most_pairs}
-use Rattle.rox_grammar.specs.State.{Open, root, inside, State, depth_of, scope_of, pairs_so_far}
+use Rattle.rox_grammar.specs.Document.{Misc, PrologTo, MayHaveDoctype, pairs, with_new, distinct_pairs, most_pairs}
+use Rattle.rox_grammar.specs.OpenElements.{Open, root, inside, State, depth_of, scope_of, tree_so_far}
 
 -- the same with a document type declaration, up to the root element: with what is asked for its entities, and the entities
 pub record PrologWithDoctype (text : List ℕ) (asked : List Asked) (es : List Entity) (p : ℕ) (items : Forest Item) : Type 0 where
@@ -99,20 +99,14 @@ pub data ContentPoint (opens : ℕ → Inclusion) (es : List Entity) (text : Lis
       → PartsTo (is_main k) (opens k) src s.at stop s.at p b c front → AreWellNamed (scope_of s.stack) front → p < stop → RefersTo es src p j t → MayOpen k c r
       → ContentPoint opens es text Root (suc k) (depth_of s.stack) t.source r (record { at = t.start; done = join s.done front; stack = s.stack })
 
--- A value is read from i up to p: the references to entities in it, and the openings that are left before them and behind.
-pub data ValueTo (Includes : Inclusion) (src : List ℕ) : ℕ → ℕ → ℕ → ℕ → Type 0 where
-  to_here : (i b : ℕ) → ValueTo Includes src i i b b
-  a_byte : (i p b c : ℕ) → byte src i ≢ code "&" → ValueTo Includes src (i + 1) p b c → ValueTo Includes src i p b c
-  a_character : (i n x p b c : ℕ) → IsCharacter src i x n → ValueTo Includes src n p b c → ValueTo Includes src i p b c
-  an_entity : (i n j p b c d : ℕ) (w : List ℕ) → IsReference src i n j → predefined (slice src (i + 1) n) ≡ None → Includes.value (slice src (i + 1) n) b w c → ValueTo Includes src j p c d
-      → ValueTo Includes src i p b d
-
 -- A part of a value: from i up to stop of a source, where l replacement texts are open and d openings are left. It is the value
--- itself, which stands from `start` up to `end` of src where k are open and b are left, or a replacement text that is opened in it.
+-- itself, which stands from `start` up to `end` of src where k are open and b are left, or a replacement text that is opened in it,
+-- at a reference before which it is as it should be.
 pub data ValuePart (opens : ℕ → Inclusion) (es : List Entity) (k : ℕ) (src : List ℕ) (start end b : ℕ) : (l : ℕ) → List ℕ → (i stop d : ℕ) → Type 0 where
   itself : ValuePart opens es k src start end b k src start end b
-  opened : (l i stop d c r p j : ℕ) (part : List ℕ) (t : Replacement) → ValuePart opens es k src start end b l part i stop d → ValueTo (opens l) part i p d c → p < stop
-      → RefersTo es part p j t → MayOpen l c r → ValuePart opens es k src start end b (suc l) t.source t.start (length t.source) r
+  opened : (l i stop d c r p j : ℕ) (part front : List ℕ) (t : Replacement) → ValuePart opens es k src start end b l part i stop d
+      → Value (is_main l) (opens l) part p i d c front → p < stop → RefersTo es part p j t → MayOpen l c r
+      → ValuePart opens es k src start end b (suc l) t.source t.start (length t.source) r
 
 -- what stands behind the root element, up to p: all of these, with what stands before it
 pub record Behind (opens : ℕ → Inclusion) (text : List ℕ) (Front : ℕ → Forest Item → Type 0) (p : ℕ) (items : Forest Item) : Type 0 where
@@ -141,7 +135,7 @@ pub record TagTo (main : Bool) (Includes : Inclusion) (src : List ℕ) (s : Stat
   pub no_xmlns : bytes_eq name.prefix (codes "xmlns") ≡ false
   pub attributes : Attributes main Includes src name_end p b c written
   pub declarable : AreDeclarable (namespace_decls_of written)
-  pub few_pairs : pairs_with (distinct_pairs (pairs_so_far s.stack s.done)) (namespace_decls_of written) ≤ most_pairs
+  pub few_pairs : pairs_with (distinct_pairs (pairs (tree_so_far s.stack s.done))) (namespace_decls_of written) ≤ most_pairs
 
 -- the value of the next attribute or declaration of the start tag at a place stands behind the quote at v, up to the quote at e, where
 -- c openings are left

@@ -7,6 +7,7 @@ use Rattle.rox_grammar.specs.Forest.{Forest, Nil, join}
 use Rattle.rox_grammar.specs.Written.{Item, leaf}
 use Rattle.rox_grammar.specs.Names.{byte, slice, spaces_end, IsName}
 use Rattle.rox_grammar.specs.Constructs.{text_at}
+pub use Rattle.rox_grammar.specs.Constructs.{IsQuoted}
 use Rattle.rox_grammar.specs.Content.{IsMisc}
 use Rattle.rox_grammar.specs.TextStart.{after_bom, MayHaveXmlDecl}
 use Rattle.rox_grammar.specs.Entities.{Replacement, Entity}
@@ -24,13 +25,6 @@ pub record Asked : Type 0 where
 -- what may be replied: a text, or none; or a refusal with its message
 abbrev pub Reply : Type 0
 Reply = Result (Option (List ℕ)) (List ℕ)
-
--- XML 2.3 [9], [11], [12]: any characters but the quote, in quotes; it ends at e. They need not be Chars (2.2), nor those of [12].
-pub record IsQuoted (src : List ℕ) (i e j : ℕ) : Type 0 where
-  pub quote : (byte src i ≡ code "'") ⊎ (byte src i ≡ code "\"")
-  pub end : e ≡ byte_from (λ c. c == byte src i) src (i + 1)
-  pub closes : e < length src
-  pub next : j ≡ e + 1
 
 -- the white space between two things, one at least: from i up to j
 pub record IsSpace (src : List ℕ) (i j : ℕ) : Type 0 where

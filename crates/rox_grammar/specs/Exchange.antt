@@ -3,7 +3,8 @@
 use Rattle.std.specs.Prelude.{◌≡◌, ℕ, zero, suc, ◌+◌, ◌-◌, ◌<◌, ◌≤◌, ◌&&◌, ◌⊎◌, Bool, true, false, List, [], ◌∷◌, ◌++◌, map, length, take, drop, nat_lt, if◌then◌else◌}
 use Rattle.rox_grammar.specs.Forest.{Forest, Nil, Cons, join, size}
 use Rattle.rox_grammar.specs.Written.{NamespaceDecl, Item}
-use Rattle.rox_grammar.specs.Tree.{Attribute, Node, Root, Element, Text, Comment, PI, is_element_node, start_of, end_of, document_tree}
+use Rattle.rox_grammar.specs.Tree.{Attribute, Node, Root, Element, Text, Comment, PI, document_tree}
+use Rattle.rox_grammar.specs.NodeRanges.{is_element_node, start_of, end_of}
 use Rattle.rox_grammar.specs.Names.{slice}
 use Rattle.rox_grammar.specs.Document.{ParseOf}
 
@@ -18,15 +19,11 @@ abbrev pub moved : Move → ℕ → ℕ
 moved m i = i + m.add - m.sub
 
 abbrev pub moved_attribute : Move → Attribute → Attribute
-moved_attribute m a = record {
+moved_attribute m a = record a {
   start = moved m a.start;
   name_end = moved m a.name_end;
   value_start = moved m a.value_start;
   end = moved m a.end;
-  namespace = a.namespace;
-  local = a.local;
-  value = a.value;
-  borrowed = a.borrowed;
 }
 
 -- all places of a node move

@@ -8,20 +8,19 @@ use Rattle.rox_grammar.specs.declared.fault.Fault.TheVariants as fault
 use Rattle.rox_grammar.specs.Chars.{is_space, is_char}
 use Rattle.rox_grammar.specs.Runs.{StandsAt}
 use Rattle.rox_grammar.specs.Search.{byte_from}
-use Rattle.rox_grammar.specs.Forest.{Forest, join}
+use Rattle.rox_grammar.specs.Forest.{Forest, join, size}
 use Rattle.rox_grammar.specs.Written.{Name, Attribute, NamespaceDecl, Tag, Item, is_namespace_decl, namespace_decl_of, namespace_decls_of, plain_attributes_of, leaf}
 use Rattle.rox_grammar.specs.Tree.{xml_uri, xmlns_uri, is_declared, listed, is_xml}
 use Rattle.rox_grammar.specs.Names.{byte, slice, spaces_end, IsQName}
 use Rattle.rox_grammar.specs.Constructs.{text_at, first_text, double_dash, has_mark, AreChars, IsEnd}
 use Rattle.rox_grammar.specs.References.{IsReference, IsCharacter, predefined}
-use Rattle.rox_grammar.specs.Content.{Inclusion, IsCharacterData, IsAttribute, TagEnds, IsMisc}
+use Rattle.rox_grammar.specs.Content.{Inclusion, IsCharacterData, Value, IsAttribute, TagEnds, IsMisc}
 use Rattle.rox_grammar.specs.WellNamed.{may_declare, is_known, same_expanded, AreDistinct, may_name, AreWellNamed}
-use Rattle.rox_grammar.specs.TextStart.{after_bom}
-use Rattle.rox_grammar.specs.Entities.{Replacement, Entity, text_of, no_entities}
-use Rattle.rox_grammar.specs.Document.{distinct_pairs, most_attributes, most_pairs, PrologTo}
-use Rattle.rox_grammar.specs.State.{Open, root, inside, State, depth_of, scope_of, nodes_so_far, attributes_so_far, pairs_so_far, FitsLimits}
-use Rattle.rox_grammar.specs.Due.{DueItem, a_byte, a_space, a_qname, chars_to, tag_rest, IsMissing, DueInComment, DueInPI, DueInCData, DueInEnd, DueInPair, DueInXmlDecl}
-use Rattle.rox_grammar.specs.ContentPoints.{RootBegins, Behind, is_content, is_main, TagBegins, StepsOver, PartsTo, RefersTo, IsSpent, ContentPoint, ValueTo, ValuePart, TagTo, pairs_with, BeginsValue}
+use Rattle.rox_grammar.specs.Entities.{Replacement, Entity, text_of}
+use Rattle.rox_grammar.specs.Document.{pairs, distinct_pairs, attribute_count, most_attributes, most_pairs}
+use Rattle.rox_grammar.specs.OpenElements.{Open, root, inside, State, depth_of, scope_of, tree_so_far, FitsLimits, HasTooManyNodes}
+use Rattle.rox_grammar.specs.Due.{DueItem, a_byte, a_space, a_qname, chars_to, tag_rest, IsMissing, DueInComment, DueInPI, DueInCData, DueInEnd, DueInPair}
+use Rattle.rox_grammar.specs.ContentPoints.{RootBegins, Behind, is_content, is_main, TagBegins, StepsOver, PartsTo, RefersTo, IsSpent, ContentPoint, ValuePart, TagTo, pairs_with, BeginsValue}
 
 -- the bytes of a name as it is written, without the colon if there is no prefix
 abbrev pub spelled : Name → List ℕ
@@ -43,7 +42,7 @@ pub data InMisc (src : List ℕ) (i : ℕ) : Fault → Type 0 where
 -- ---- in comments and processing instructions outside the root element, which are read up to p, with these nodes before it
 pub data InMiscs (limit : ℕ) (src : List ℕ) (p : ℕ) (items : Forest Item) : Fault → Type 0 where
   in_one : (f : Fault) → InMisc src p f → InMiscs limit src p items f
-  one_too_many : (j : ℕ) (item : Item) → IsMisc src p j item → limit < nodes_so_far root (join items (leaf item)) → InMiscs limit src p items fault.NodesLimitReached
+  one_too_many : (j : ℕ) (item : Item) → IsMisc src p j item → limit < 1 + size (tree_so_far root (join items (leaf item))) → InMiscs limit src p items fault.NodesLimitReached
 
 -- ---- references, in a run or a value (XML 4.1)
 pub data InReferences (es : List Entity) (src : List ℕ) (p : ℕ) : Fault → Type 0 where
@@ -66,7 +65,8 @@ pub data InRun (es : List Entity) (k : ℕ) (Includes : Inclusion) (src : List �
 pub data InValue (es : List Entity) (k : ℕ) (Includes : Inclusion) (src : List ℕ) (i stop b : ℕ) : Fault → Type 0 where
   -- any of its references
   in_reference : (p : ℕ) (f : Fault) → i ≤ p → p < stop → InReferences es src p f → InValue es k Includes src i stop b f
-  too_many : (p j c : ℕ) (t : Replacement) → ValueTo Includes src i p b c → p < stop → RefersTo es src p j t → IsSpent k c
+  -- the first one that may open none
+  too_many : (p j c : ℕ) (front : List ℕ) (t : Replacement) → Value (is_main k) Includes src p i b c front → p < stop → RefersTo es src p j t → IsSpent k c
       → InValue es k Includes src i stop b (fault.EntityReferenceLoop j)
   -- in a replacement text `<`, a reference that gives it, or what is no Char
   less : (p : ℕ) → is_main k ≡ false → i ≤ p → p < stop → byte src p ≡ code "<" → InValue es k Includes src i stop b (fault.InvalidAttributeValue p)
@@ -116,14 +116,14 @@ pub data InTagRest (main : Bool) (Includes : Inclusion) (src : List ℕ) (s : St
   too_many_pairs : (d j : ℕ) (a : Attribute) → p < spaces_end src p → IsAttribute main Includes src (spaces_end src p) j c d a
       → is_namespace_decl a.name ≡ true → may_declare (namespace_decl_of a) ≡ true
       → is_declared (namespace_decl_of a).prefix (namespace_decls_of as') ≡ false
-      → most_pairs < pairs_with (distinct_pairs (pairs_so_far s.stack s.done)) (namespace_decls_of as' ++ namespace_decl_of a ∷ [])
+      → most_pairs < pairs_with (distinct_pairs (pairs (tree_so_far s.stack s.done))) (namespace_decls_of as' ++ namespace_decl_of a ∷ [])
       → InTagRest main Includes src s name as' p c fault.NamespacesLimitReached
   -- with those of the whole tag
   too_many_attributes : (j : ℕ) (empty : Bool) → TagEnds src p empty j
-      → most_attributes < attributes_so_far s.stack s.done + length (plain_attributes_of as')
+      → most_attributes < attribute_count (tree_so_far s.stack s.done) + length (plain_attributes_of as')
       → InTagRest main Includes src s name as' p c fault.AttributesLimitReached
   ill_named : (j : ℕ) (empty : Bool) (f : Fault) → TagEnds src p empty j
-      → attributes_so_far s.stack s.done + length (plain_attributes_of as') ≤ most_attributes
+      → attribute_count (tree_so_far s.stack s.done) + length (plain_attributes_of as') ≤ most_attributes
       → IllNamed src s.at (listed (scope_of s.stack) (namespace_decls_of as')) name (plain_attributes_of as') f
       → InTagRest main Includes src s name as' p c f
 
@@ -156,13 +156,12 @@ pub data Stands (limit : ℕ) (es : List Entity) (k open_around : ℕ) (Includes
       → (length src ≡ s.at + 1) ⊎ ((byte src (s.at + 1) ≡ code "!") × (text_at "<!--" src s.at ≡ false) × (text_at "<![CDATA[" src s.at ≡ false)) → Stands limit es k open_around Includes src s b (fault.UnknownToken s.at)
   unclosed : (start : ℕ) (tag : Tag) (before : Forest Item) (up : Open) → s.stack ≡ inside start tag before up → length src ≤ s.at → is_main k ≡ true → Stands limit es k open_around Includes src s b fault.UnclosedRootNode
   unclosed_in_replacement : open_around < depth_of s.stack → length src ≤ s.at → is_main k ≡ false → Stands limit es k open_around Includes src s b fault.UnexpectedEndOfStream
-  -- behind the construct that begins here; of a tag its pairs and its attributes are counted first
-  too_many_nodes : (c : ℕ) (t : State) → StepsOver k Includes src s b t c → attributes_so_far t.stack t.done ≤ most_attributes → length (distinct_pairs (pairs_so_far t.stack t.done)) ≤ most_pairs
-      → limit < nodes_so_far t.stack t.done → Stands limit es k open_around Includes src s b fault.NodesLimitReached
+  -- behind the construct that begins here
+  too_many_nodes : (c : ℕ) (t : State) → StepsOver k Includes src s b t c → HasTooManyNodes limit t.stack t.done → Stands limit es k open_around Includes src s b fault.NodesLimitReached
   -- behind the parts of a run up to a reference to an entity: a text is counted before the reference behind it is opened
   too_many_pieces : (stop p j c : ℕ) (front : Forest Item) (t : Replacement) → is_content k s.stack ≡ true → IsCharacterData src s.at stop → PartsTo (is_main k) Includes src s.at stop s.at p b c front
-      → AreWellNamed (scope_of s.stack) front → p < stop → RefersTo es src p j t → attributes_so_far s.stack (join s.done front) ≤ most_attributes
-      → length (distinct_pairs (pairs_so_far s.stack (join s.done front))) ≤ most_pairs → limit < nodes_so_far s.stack (join s.done front) → Stands limit es k open_around Includes src s b fault.NodesLimitReached
+      → AreWellNamed (scope_of s.stack) front → p < stop → RefersTo es src p j t → HasTooManyNodes limit s.stack (join s.done front)
+      → Stands limit es k open_around Includes src s b fault.NodesLimitReached
 
 -- ---- at a point of content, where k replacement texts are open, around which `open_around` elements are open: in this source
 pub data AtPoint (opens : ℕ → Inclusion) (es : List Entity) (limit k open_around : ℕ) (src : List ℕ) (s : State) (b : ℕ) : List ℕ → Fault → Type 0 where
@@ -188,10 +187,3 @@ pub data FaultFrom (opens : ℕ → Inclusion) (es : List Entity) (limit : ℕ) 
   unknown_behind : (p : ℕ) (items : Forest Item) → Behind opens text Front p items → FitsLimits limit root items → p < length text
       → is_space (byte text p) ≡ false → text_at "<!--" text p ≡ false → text_at "<?" text p ≡ false
       → FaultFrom opens es limit text declared Front text (fault.UnknownToken p)
-
--- The fault stands in this text, with at most `limit` nodes, where no document type declaration may stand. No entity is declared,
--- so that it stands in the text itself.
-pub data FaultOf (limit : ℕ) (text : List ℕ) : Fault → Type 0 where
-  in_declaration : (p : ℕ) (t : DueItem) (f : Fault) → text_at "<?xml " text (after_bom text) ≡ true → DueInXmlDecl text (after_bom text) p t → IsMissing text p t f → FaultOf limit text f
-  doctype : (p : ℕ) (items : Forest Item) → PrologTo text p items → FitsLimits limit root items → text_at "<!DOCTYPE" text p ≡ true → FaultOf limit text fault.DtdDetected
-  without : (f : Fault) → FaultFrom (λ k. no_entities) [] limit text false (PrologTo text) text f → FaultOf limit text f

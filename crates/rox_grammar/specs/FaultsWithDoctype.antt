@@ -14,7 +14,7 @@ use Rattle.rox_grammar.specs.Content.{Inclusion}
 use Rattle.rox_grammar.specs.TextStart.{after_bom}
 use Rattle.rox_grammar.specs.Entities.{Replacement, Entity, most_deep, no_entities, Includes}
 use Rattle.rox_grammar.specs.Doctype.{Request, Asked, IsSpace, IsExternalID, MayHaveNotation, CutsNotation, GivesReplacement, IsDefinition, BeginsEntity, SubsetTo}
-use Rattle.rox_grammar.specs.State.{root, FitsLimits}
+use Rattle.rox_grammar.specs.OpenElements.{root, FitsLimits}
 use Rattle.rox_grammar.specs.Due.{DueItem, a_byte, doctype_end, IsMissing, DueInXmlDecl, DueInEntity, DueInDoctype}
 use Rattle.rox_grammar.specs.ContentPoints.{PrologWithDoctype, is_main}
 use Rattle.rox_grammar.specs.Document.{PrologTo}
@@ -30,9 +30,7 @@ pub record NoItem (src : List ℕ) (p : ℕ) : Type 0 where
   pub no_entity : text_at "<!ENTITY" src p ≡ false
   pub no_comment : text_at "<!--" src p ≡ false
   pub no_instruction : text_at "<?" src p ≡ false
-  pub no_element : text_at "<!ELEMENT" src p ≡ false
-  pub no_attlist : text_at "<!ATTLIST" src p ≡ false
-  pub no_notation : text_at "<!NOTATION" src p ≡ false
+  pub no_declaration : IsPassed src p → ⊥
   pub no_bracket : byte src p ≢ code "]"
 
 -- ---- in the subset of the document type declaration that begins at i, which is read up to p, with these nodes before it and these
@@ -86,3 +84,8 @@ pub data RefusalOf (limit : ℕ) (allow : Bool) (text : List ℕ) : List Asked �
       → InDoctype limit text i before asked source f → RefusalOf limit allow text asked source f
   behind : (asked : List Asked) (es : List Entity) (source : List ℕ) (f : Fault) → allow ≡ true → FaultFrom (opens_at es) es limit text true (PrologWithDoctype text asked es) source f
       → RefusalOf limit allow text asked source f
+
+-- The fault stands in this text where no document type declaration may stand. So no entity is declared, and it stands in the text
+-- itself.
+abbrev pub FaultOf : (limit : ℕ) → List ℕ → Fault → Type 0
+FaultOf limit text f = RefusalOf limit false text [] text f

@@ -7,6 +7,7 @@ pub mod FixedTexts
 pub mod Forest
 pub mod Written
 pub mod Tree
+pub mod NodeRanges
 pub mod Names
 pub mod Constructs
 pub mod References
@@ -17,6 +18,7 @@ pub mod Doctype
 pub mod WellNamed
 pub mod Document
 pub mod Expansion
+pub mod OpenElements
 pub mod State
 pub mod Due
 pub mod ContentPoints

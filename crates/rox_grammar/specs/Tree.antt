@@ -24,25 +24,6 @@ pub data Node : Type 0 where
   Comment : (start end : ℕ) → (text : List ℕ) → Node
   PI : (start end : ℕ) → (target : List ℕ) → (value : Option (List ℕ)) → Node
 
-abbrev pub is_element_node : Node → Bool
-is_element_node (Element start end namespace local listed attributes) = true
-is_element_node other = false
-
--- where the range of a node starts and ends, in bytes of its source
-abbrev pub start_of : Node → ℕ
-start_of (Root end) = 0
-start_of (Element start end namespace local listed attributes) = start
-start_of (Text start end value borrowed) = start
-start_of (Comment start end text) = start
-start_of (PI start end target value) = start
-
-abbrev pub end_of : Node → ℕ
-end_of (Root end) = end
-end_of (Element start end namespace local listed attributes) = end
-end_of (Text start end value borrowed) = end
-end_of (Comment start end text) = end
-end_of (PI start end target value) = end
-
 -- NS 3: the URI that `xml` stands for, and that of `xmlns`
 abbrev pub xml_uri : List ℕ
 xml_uri = codes "http://www.w3.org/XML/1998/namespace"

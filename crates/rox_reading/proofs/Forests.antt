@@ -5,7 +5,6 @@ use Rattle.rox_grammar.specs.Written.{Tag, Item, Element, Text, Comment, PI, Nam
 use Rattle.rox_grammar.specs.Tree.{scope_in, node_in, resolved}
 use Rattle.rox_grammar.specs.WellNamed.{AreWellNamed}
 use Rattle.rox_grammar.specs.Document.{own_pairs, pairs, attribute_count}
-use Rattle.rox_grammar.specs.State.{is_nil}
 
 pub join-nil : {I : Type 0} (f : Forest I) → join f Nil ≡ f
 join-nil Nil = refl
@@ -265,18 +264,3 @@ merge-more (Cons (Text x y w p) c (Cons j d r)) g =
 merge-more (Cons (Element x y t) c r) g = omega (arith, merge-more r g)
 merge-more (Cons (Comment x y t) c r) g = omega (arith, merge-more r g)
 merge-more (Cons (PI x y t o) c r) g = omega (arith, merge-more r g)
-
--- nothing is merged only from nothing
-pub merge-nil : (f : Forest Item) → is_nil (merge f) ≡ is_nil f
-merge-nil Nil = refl
-merge-nil (Cons (Text x y w p) c r) = glued x y w p c (merge r)
-  where
-    glued : (x y : ℕ) (w : List ℕ) (p : Bool) (b f : Forest Item) → is_nil (glue x y w p b f) ≡ false
-    glued x y w p b Nil = refl
-    glued x y w p b (Cons (Text x' y' w' p') d r) = refl
-    glued x y w p b (Cons (Element x' y' t) d r) = refl
-    glued x y w p b (Cons (Comment x' y' t) d r) = refl
-    glued x y w p b (Cons (PI x' y' t o) d r) = refl
-merge-nil (Cons (Element x y t) c r) = refl
-merge-nil (Cons (Comment x y t) c r) = refl
-merge-nil (Cons (PI x y t o) c r) = refl

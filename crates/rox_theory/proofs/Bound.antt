@@ -14,7 +14,8 @@ use Rattle.rox_grammar.specs.Chars.{is_name_char, is_space}
 use Rattle.rox_grammar.specs.Names.{IsName}
 use Rattle.rox_grammar.specs.Doctype.{Asked, IsQuoted, IsExternalID, system, public, MayHaveNotation, notation, no_notation, of_parameter, IsDefinition, internal, external, IsKind, of_parameter as parameter_kind, general, IsEntityDeclaration, IsPassedOver, Subset, no_more as no_item, space as subset_space, an_item as subset_item, skipped_declaration, an_entity as an_entity_declared, MayHaveExternalID, external_id, no_external_id, BeginsDoctype, IsDoctype, no_subset, with_subset}
 use Rattle.rox_grammar.specs.Document.{Misc, no_misc, space, an_item, MayHaveDoctype, doctype, no_doctype, ParseOf}
-use Rattle.rox_grammar.specs.Expansion.{most_bytes, longest, bytes_in, IsBounded}
+use Rattle.rox_grammar.specs.Expansion.{longest}
+use Rattle.rox_theory.specs.ItemSize.{most_bytes, bytes_in, IsBounded}
 use Rattle.rox_theory.proofs.Onward.{run_onward, reference_onward, value_char, part_bytes, qname_onward, eq_onward, tag_end_onward, end_onward, section_onward, byte_onward}
 use Rattle.rox_theory.proofs.Following.{few_opened, few_opened_in_value}
 use Rattle.rox_theory.proofs.Weights.{piece_most, section_most, misc_most, counts_weigh, more_times}
@@ -119,7 +120,7 @@ module _ (of : Forest Item → ℕ) (is_measure : Measure of) (O : Inclusion) (w
       let h = value_yields is.e (is.v + 1) b c a.value is.value in
       let n = qname_onward src (spaces_end src i) a.name_end a.name is.is_name in
       let e = eq_onward src a.name_end is.v is.eq in
-      let l = is.literal.next in
+      let l = is.literal.quoted.next in
       let y = attributes_yield j k c d rest more in
       let u = down i (is.v + 1) (omega (arith, n, e, spaces)) in
       let v = down is.e j (omega (arith, l)) in

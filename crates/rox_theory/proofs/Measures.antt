@@ -6,7 +6,7 @@ use Rattle.std.specs.Prelude.{◌≡◌, ℕ, ◌+◌, ◌≤◌, not, Bool, tru
 use Rattle.rox_grammar.specs.Forest.{Forest, Nil, Cons, join, size}
 use Rattle.rox_grammar.specs.Written.{Item, Element, Text, Comment, PI, Attribute, Tag, leaf, merge, glue, is_namespace_decl, plain_attributes_of}
 use Rattle.rox_grammar.specs.Document.{attribute_count}
-use Rattle.rox_grammar.specs.Expansion.{bytes_in, value_bytes_of}
+use Rattle.rox_theory.specs.ItemSize.{bytes_in, value_bytes_of}
 
 -- an attribute is no more than its value and one byte
 abbrev pub most_of : List Attribute → ℕ

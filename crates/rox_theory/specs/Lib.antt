@@ -4,5 +4,6 @@ pub mod WithoutDoctype
 pub mod CharItems
 pub mod Apart
 pub mod Answers
+pub mod ItemSize
 pub mod Limits
 pub mod Pieces

@@ -6,8 +6,9 @@ ghost use Rattle.rox_grammar.specs.Written.{Item};
 ghost use Rattle.rox_grammar.specs.Entities.{Entity, most_deep, included_in_main};
 ghost use Rattle.rox_grammar.specs.Doctype.{Asked};
 ghost use Rattle.rox_grammar.specs.Document.{ParseOf};
-ghost use Rattle.rox_grammar.specs.Expansion.{Counts, IsBounded, longest};
+ghost use Rattle.rox_grammar.specs.Expansion.{Counts, longest};
 ghost use Rattle.rox_theory.specs.Answers.{AreShort};
+ghost use Rattle.rox_theory.specs.ItemSize.{IsBounded};
 ghost use Rattle.rox_theory.specs.Openers.{AreTexts};
 ghost use Rattle.rox_theory.specs.WithoutDoctype.{ParseWithout};
 

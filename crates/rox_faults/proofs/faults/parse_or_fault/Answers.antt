@@ -5,7 +5,7 @@ use Rattle.rox_grammar.specs.declared.fault.Fault.{Fault}
 use Rattle.rox_grammar.specs.Forest.{Forest}
 use Rattle.rox_grammar.specs.Written.{Item}
 use Rattle.rox_grammar.specs.Document.{ParseOf, IsWithinLimits}
-use Rattle.rox_grammar.specs.Faults.{FaultOf}
+use Rattle.rox_grammar.specs.FaultsWithDoctype.{FaultOf}
 use Rattle.rox_reading.specs.Doctype.{Asks}
 use Rattle.rox_reading.specs.WholeText.{reading}
 use Rattle.rox_theory.proofs.Whole.{plain_parse}
