@@ -1,7 +1,7 @@
 //! The names of a start tag in their namespaces (Namespaces in XML 1.0, sections 5, 6.2 and 6.3). They are resolved at the
 //! end of the tag, since a declaration holds for the whole of it.
 
-ghost use Rattle.std.specs.Prelude.{◌≡◌, ◌<◌, ◌≤◌, ◌^◌, ◌++◌, ◌∷◌, [], drop, List, length, map, true, false, IfOk, OnOk, IfErr, IfSome, IfNone, Ok};
+ghost use Rattle.std.specs.Prelude.{◌≡◌, ◌<◌, ◌≤◌, ◌+◌, ◌^◌, ◌++◌, ◌∷◌, [], drop, List, length, map, true, false, IfOk, OnOk, IfErr, IfSome, IfNone, Ok};
 ghost use Rattle.std.specs.List.{AllByRecursion, list_any};
 ghost use Rattle.std.specs.Option.{option_map};
 ghost use Rattle.rox_grammar.specs.declared.fault.Fault.TheVariants as fault;
@@ -13,6 +13,7 @@ ghost use Rattle.rox_reading.specs.Tags.{names_tested};
 ghost use Rattle.rox_grammar.specs.Failures.{Fails, name_view};
 ghost use Rattle.rox_tables.specs.Rows.{AttributeRow, namespace_view, namespace_at, attribute, attribute_rows, attribute_uri, NamespaceWithin, OptionWithin};
 ghost use Rattle.rox_tables.specs.StoredAttributes.{data_of};
+ghost use Rattle.rox_tables.specs.Storage.{storage_bytes};
 ghost use Rattle.rox_tables.specs.Scopes.{prefix_view};
 ghost use Rattle.rox_tables.specs.Bindings.{FindsBinding, LooksWithin, places_view};
 ghost use Rattle.rox_tables.specs.TagDeclarations.{unresolved_view};
@@ -27,7 +28,7 @@ use crate::namespaces::scope::{XML_URI, find, find_default, same_prefix};
 use crate::namespaces::unresolved_attribute::UnresolvedAttribute;
 use crate::rows::attributes::AttributeTable;
 use crate::rows::storage::StringStorage;
-use crate::rows::stored_attribute::StoredAttribute;
+use crate::rows::stored_attribute::{StoredAttribute, UNUSUAL};
 use crate::rows::tables::{AttributeData, AttributeNamespace, AttributePlaces, Namespace};
 use rox_grammar::failure::Failure;
 use rox_grammar::fault::Fault;
@@ -108,8 +109,9 @@ fn has_expanded(
         )
 }
 
-/// Whether one of these attributes has this expanded name.
-fn is_repeated(
+/// Whether one of these attributes, which are some, has this expanded name.
+#[inline(never)]
+fn is_among(
     namespaces: &[Namespace<'_>],
     done: &[StoredAttribute<'_>],
     namespace: AttributeNamespace,
@@ -128,6 +130,27 @@ fn is_repeated(
         }
     }
     false
+}
+
+/// Whether one of these attributes has this expanded name. The first of a tag takes no call.
+#[inline(always)]
+fn is_repeated(
+    namespaces: &[Namespace<'_>],
+    done: &[StoredAttribute<'_>],
+    namespace: AttributeNamespace,
+    local: &str,
+) -> bool
+    requires done { AllByRecursion
+        (λ a. NamespaceWithin (length namespaces.now) (data_of a).namespace) done.now }
+    requires other { NamespaceWithin (length namespaces.now) namespace }
+    ensures { result ≡ list_any
+        (λ a. has_expanded (map namespace_view namespaces.now) namespace local.now
+        (data_of a)) done.now }
+{
+    if done.is_empty() {
+        return false;
+    }
+    is_among(namespaces, done, namespace, local)
 }
 
 /// The namespace of an attribute behind these of its tag: its prefix must be known, and its expanded name be none of theirs.
@@ -237,9 +260,13 @@ pub fn put_resolved<'input>(
     present: &PrefixBindings<'_>,
     attributes: &mut AttributeTable<'input>,
     from: usize,
-    mut one: UnresolvedAttribute<'input>,
+    one: UnresolvedAttribute<'input>,
 ) -> bool
     requires within { LooksWithin (length namespaces.now) (places_view few) present.now }
+    requires short { one.end < 2 ^ 32 }
+    requires local { one.start + length one.name.local.now ≤ one.name_end }
+    requires value { one.end ≡ one.value_start + length (storage_bytes one.value) + 1 }
+    requires onward { one.name_end + 2 ≤ one.value_start }
     requires from { from ≤ length (attribute_rows attributes.old) }
     requires done { AllByRecursion (λ a. NamespaceWithin (length namespaces.now) a.0.namespace)
         (drop from (attribute_rows attributes.old)) }
@@ -253,8 +280,32 @@ pub fn put_resolved<'input>(
     else {
         return false;
     };
-    let row = move_row(&mut one, namespace);
-    attributes.put(row)
+    let places = AttributePlaces {
+        start: one.start,
+        name_end: one.name_end,
+        value_start: one.value_start,
+        end: one.end,
+    };
+    // Each way has a value of its own, so that the usual one keeps it in registers.
+    let before = one.name_end - one.start - one.name.local.len();
+    if before >= UNUSUAL as usize || one.value_start != one.name_end + 2 {
+        let unusual = AttributeData {
+            local: one.name.local,
+            value: one.value,
+            namespace,
+        };
+        return attributes.put_unusual(unusual, places);
+    }
+    if attributes.is_full() {
+        return false;
+    }
+    let item = AttributeData {
+        local: one.name.local,
+        value: one.value,
+        namespace,
+    };
+    attributes.put_usual(item, places, before as u8);
+    true
 }
 
 /// As `resolve`, of a tag with many attributes: their names are kept in a set, in time n log n.

@@ -104,7 +104,12 @@ impl<'input> AttributeTable<'input> {
 
     /// Puts an attribute at the end whose places follow from its start, so many bytes of its name standing before its local part.
     #[inline(always)]
-    fn put_usual(&mut self, item: AttributeData<'input>, places: AttributePlaces, before: u8)
+    pub(crate) fn put_usual(
+        &mut self,
+        item: AttributeData<'input>,
+        places: AttributePlaces,
+        before: u8,
+    )
         requires room { vec_len self.old.items < vec_capacity self.old.items }
         requires before { before < 255 }
         requires start { places.start < 2 ^ 32 }
@@ -116,17 +121,20 @@ impl<'input> AttributeTable<'input> {
         self.items.push_reserved(row);
     }
 
-    /// Puts any other attribute at the end, if there is room for its places.
+    /// Puts any other attribute at the end, if there is room for it and its places. Else the table is as before.
     #[cold]
     #[inline(never)]
-    fn put_unusual(&mut self, item: AttributeData<'input>, places: AttributePlaces) -> bool
-        requires room { vec_len self.old.items < vec_capacity self.old.items }
+    pub(crate) fn put_unusual(
+        &mut self,
+        item: AttributeData<'input>,
+        places: AttributePlaces,
+    ) -> bool
         ensures put { result ≡ true
             → attribute_rows self.new ≡ attribute_rows self.old ++ (item.entry, places) ∷ [] }
         ensures none { result ≡ false → attribute_rows self.new ≡ attribute_rows self.old }
     {
         let number = self.unusual.len();
-        if number >= self.unusual.capacity() || number > u32::MAX as usize {
+        if self.is_full() || number >= self.unusual.capacity() || number > u32::MAX as usize {
             return false;
         }
         let row = StoredAttribute::new(item, UNUSUAL, number as u32);
@@ -167,7 +175,7 @@ impl<'input> AttributeTable<'input> {
         ensures err { IfErr result (λ e. e ≡ Failure.Memory) }
     {
         let (item, places) = row;
-        if self.items.len() >= self.items.capacity() {
+        if self.is_full() {
             self.make_room(places.end)?;
         }
         match usual_before(&item, &places) {
@@ -179,24 +187,12 @@ impl<'input> AttributeTable<'input> {
         }
     }
 
-    /// Puts an attribute at the end, if there is room for it. Else the table is as before.
+    /// Whether there is no room for one more.
     #[inline(always)]
-    pub fn put(&mut self, row: (AttributeData<'input>, AttributePlaces)) -> bool
-        ensures put { result ≡ true
-            → attribute_rows self.new ≡ attribute_rows self.old ++ row.entry ∷ [] }
-        ensures none { result ≡ false → attribute_rows self.new ≡ attribute_rows self.old }
+    pub(crate) fn is_full(&self) -> bool
+        ensures { result ≡ false → vec_len self.now.items < vec_capacity self.now.items }
     {
-        let (item, places) = row;
-        if self.items.len() >= self.items.capacity() {
-            return false;
-        }
-        match usual_before(&item, &places) {
-            Some(before) => {
-                self.put_usual(item, places, before);
-                true
-            }
-            None => self.put_unusual(item, places),
-        }
+        self.items.capacity() <= self.items.len()
     }
 
     /// Takes back the attributes behind the first so many.

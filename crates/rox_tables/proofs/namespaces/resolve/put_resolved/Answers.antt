@@ -36,12 +36,24 @@ tested_namespace-requires-clause-done c =
     all_column (λ d. NamespaceWithin (length c.args.namespaces.now) d.namespace) c.args.attributes.now c.deref.result.now c.args.from c.deref.ensures.value c.requires.done
 
 pub returns-clause-added : goal.returns-clause-added
-returns-clause-added c = λ done.
+returns-clause-added c = λ _.
     let old = attribute_rows c.args.attributes.now in
     let column = column_behind c.args.attributes.now c.deref.result.now c.args.from c.deref.ensures.value in
     record {
       namespace = c.in-Ok.namespace;
-      rows = c.put.ensures.put done ∙ ap (λ (r : AttributeRow). old ++ r ∷ []) c.move_row-row.ensures;
+      rows = c.put_usual.ensures;
+      within = subst (λ n. NamespaceWithin n c.in-Ok.namespace) (sym (length-map c.args.namespaces.now namespace_view)) c.in-Ok.ensures.within;
+      there = λ ds h. c.in-Ok.ensures.there ds h;
+      tested = λ ds before rest h shown. c.in-Ok.ensures.tested ds (drop c.args.from old) before rest h column shown;
+    }
+
+pub returns-then-before-clause-added : goal.returns-then-before-clause-added
+returns-then-before-clause-added c = λ done.
+    let old = attribute_rows c.args.attributes.now in
+    let column = column_behind c.args.attributes.now c.deref.result.now c.args.from c.deref.ensures.value in
+    record {
+      namespace = c.in-Ok.namespace;
+      rows = c.put_unusual.ensures.put done;
       within = subst (λ n. NamespaceWithin n c.in-Ok.namespace) (sym (length-map c.args.namespaces.now namespace_view)) c.in-Ok.ensures.within;
       there = λ ds h. c.in-Ok.ensures.there ds h;
       tested = λ ds before rest h shown. c.in-Ok.ensures.tested ds (drop c.args.from old) before rest h column shown;
