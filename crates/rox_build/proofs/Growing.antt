@@ -8,7 +8,7 @@ use Rattle.rox_grammar.specs.State.{Open}
 use Rattle.rox_tables.specs.Rows.{row_view, namespace_view, scope_at, NamespaceWithin, KindWithin, AttributeRow, attribute_rows}
 use Rattle.rox_tables.specs.Scopes.{PrefixesOnce}
 use Rattle.rox_tables.specs.TagScopes.{lists_in}
-use Rattle.rox_build.specs.BuilderState.{opened, opened_in, names_in, line_in, IsRowWithin, IsOpenWithin, AreSound, HasEmpty, Represents, Grown}
+use Rattle.rox_build.specs.BuilderState.{opened, opened_in, names_in, line_in, IsRowWithin, IsOpenWithin, HasName, AreSound, HasEmpty, Represents, Grown}
 use Rattle.rox_tables.specs.declared.rows.tables.NodeData.{NodeData}
 use Rattle.rox_tables.specs.declared.rows.tables.ElementTables.{ElementTables}
 use Rattle.rox_build.specs.declared.builder.OpenElement.{OpenElement}
@@ -39,14 +39,14 @@ grown_counts old new g =
 pub grown_elements : (old new : ElementTables) (os : List OpenElement) → Grown old new → AllByRecursion (IsOpenWithin old) os → AllByRecursion (IsOpenWithin new) os
 grown_elements old new os g h =
     let k = grown_counts old new g in
-    all_weaker (IsOpenWithin old) (IsOpenWithin new) os (λ o x. one o x.0 x.1 k.2) h
+    all_weaker (IsOpenWithin old) (IsOpenWithin new) os (λ o x. one o x.0 x.1 x.2 k.2) h
   where
-    one : (o : OpenElement) → o.scope < length old.scopes.items → PrefixesOnce (scope_at (lists_in old) o.scope) → length old.scopes.items ≤ length new.scopes.items → IsOpenWithin new o
-    one o a once b =
+    one : (o : OpenElement) → o.scope < length old.scopes.items → PrefixesOnce (scope_at (lists_in old) o.scope) → HasName o → length old.scopes.items ≤ length new.scopes.items → IsOpenWithin new o
+    one o a once named b =
         let n = lists_count old in
         let within : o.scope < length (lists_in old) = omega arith in
         let same : scope_at (lists_in new) o.scope ≡ scope_at (lists_in old) o.scope = ap (λ ls. scope_at ls o.scope) g.lists ∙ scope_at-append (lists_in old) g.more_lists o.scope within in
-        (omega arith, subst PrefixesOnce (sym same) once)
+        (omega arith, subst PrefixesOnce (sym same) once, named)
 
 -- the first scope lists nothing still
 pub grown_empty : (old new : ElementTables) → Grown old new → HasEmpty old → HasEmpty new

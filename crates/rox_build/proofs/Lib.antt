@@ -18,5 +18,7 @@ pub mod Wholes
 pub mod Asking
 pub mod Items
 pub mod PlainTags
+pub mod SameBytes
+pub mod SameNames
 pub mod Rooted
 pub mod Documents

@@ -22,7 +22,7 @@ use Rattle.rox_tables.specs.Rows.{node, namespace_view, attribute, scope_at, Nam
 use Rattle.rox_tables.specs.Scopes.{PrefixesOnce}
 use Rattle.rox_tables.specs.TagScopes.{lists_in}
 use Rattle.rox_build.specs.ElementRow.{Tagged}
-use Rattle.rox_build.specs.BuilderState.{names_in, IsRowWithin, AreSound, IsOpenWithin, IsConsistent, Grown, IsNode, IsOpening, Adds, ScansTo}
+use Rattle.rox_build.specs.BuilderState.{names_in, IsRowWithin, AreSound, IsOpenWithin, HasName, IsOpened, IsConsistent, Grown, IsNode, IsOpening, Adds, ScansTo}
 use Rattle.std.specs.Result.{OnOk}
 use Rattle.rox_tables.specs.declared.rows.tables.NodeKind.TheVariants as kind
 use Rattle.rox_tables.specs.declared.rows.tables.ElementTables.{ElementTables}
@@ -182,10 +182,10 @@ always (Err e) P h = tt
 pub fine_kept : (r : Result (Unit {0}) Failure) (t : ElementTables) (os : List OpenElement) (u : Builder) → IsConsistent t os → u.tables ≡ t → u.opened.items ≡ os → OnOk r (IsConsistent u.tables u.opened.items)
 fine_kept r t os u f tables opens = always r (IsConsistent u.tables u.opened.items) (subst (λ (qs : List OpenElement). IsConsistent u.tables qs) (sym opens) (subst (λ (t : ElementTables). IsConsistent t os) (sym tables) f))
 
-pub fine_more : (r : Result (Unit {0}) Failure) (t : ElementTables) (os : List OpenElement) (u : Builder) (tag : StartTag) → IsConsistent t os → u.tables ≡ t
-    → OnOk r ((x : OpenElement) × (u.opened.items ≡ os ++ x ∷ []) × (x.scope ≡ tag.element.scope))
-    → tag.element.scope < length t.scopes.items → PrefixesOnce (scope_at (lists_in t) tag.element.scope) → OnOk r (IsConsistent u.tables u.opened.items)
-fine_more (Ok x) t os u tag f tables (o, is, scope) within once =
-    let w : IsOpenWithin t o = subst (λ (s : ℕ). (s < length t.scopes.items) × PrefixesOnce (scope_at (lists_in t) s)) (sym scope) (within, once) in
-    subst (λ (t : ElementTables). IsConsistent t u.opened.items) (sym tables) (fine_opened t os u.opened.items o f is w)
-fine_more (Err e) t os u tag f tables h within once = tt
+pub fine_more : (r : Result (Unit {0}) Failure) (t : ElementTables) (os : List OpenElement) (u : Builder) (src : List ℕ) (tag : StartTag) → IsConsistent t os → u.tables ≡ t
+    → OnOk r ((x : OpenElement) × (u.opened.items ≡ os ++ x ∷ []) × IsOpened src tag x)
+    → tag.element.scope < length t.scopes.items → PrefixesOnce (scope_at (lists_in t) tag.element.scope) → ((x : OpenElement) → IsOpened src tag x → HasName x) → OnOk r (IsConsistent u.tables u.opened.items)
+fine_more (Ok x) t os u src tag f tables (o, is, by) within once named =
+    let w = subst (λ (s : ℕ). (s < length t.scopes.items) × PrefixesOnce (scope_at (lists_in t) s)) (sym by.scope) (within, once) in
+    subst (λ (t : ElementTables). IsConsistent t u.opened.items) (sym tables) (fine_opened t os u.opened.items o f is (w.0, w.1, named o by))
+fine_more (Err e) t os u src tag f tables h within once named = tt

@@ -43,7 +43,12 @@ use Rattle.rox_tables.specs.ResolvedNames.{AddsResolved, row_of_unresolved}
 use Rattle.rox_tables.specs.declared.namespaces.bindings.PrefixBindings.{PrefixBindings}
 use Rattle.rox_tables.specs.declared.namespaces.unresolved_attribute.UnresolvedAttribute.{UnresolvedAttribute}
 use Rattle.rox_tables.proofs.Stable.{all_append}
-use Rattle.rox_build.specs.PlainTag.{IsPlainAttribute, PlainSoFar, ArePlainAttributes, holding}
+use Rattle.rox_build.specs.PlainTag.{IsValueStart, IsPlainAttribute, PlainSoFar, ArePlainAttributes, holding}
+use Rattle.std.specs.Str.{IsUtf8, IsCharBoundary}
+use Rattle.std.proofs.lemmas.Bool.Decides.{nat_tests}
+use Rattle.std.proofs.lemmas.Str.{IsCharBoundary-after_ascii}
+use Rattle.rox_grammar.specs.Chars.{is_space}
+use Rattle.rox_scan.proofs.RunLemmas.{run_stops_ascii, space_on, space_stops, space_cut}
 use Rattle.rox_build.proofs.Items.{stands_within}
 
 -- a byte that stands there
@@ -68,6 +73,60 @@ pub attribute_is : (src : List ℕ) (i : ℕ) (name : Name) (n e b q j : ℕ) �
 unfolding attribute_at
 attribute_is src i name n e b q j named equals is before here within quote some value behind =
     rw (named, ← equals, byte_is src e 61 is (omega arith), ← before, quote_is src b q here within quote, value, byte_is src j q behind some) refl
+
+-- ---- where a value begins
+
+pub quote_ascii : (b : ℕ) → (b == 39 || b == 34) ≡ true → b < 128
+quote_ascii b h = grind (arith, nat_tests)
+
+pub quote_is_some : (b : ℕ) → (b == 39 || b == 34) ≡ true → 0 < b
+quote_is_some b h = grind (arith, nat_tests)
+
+past_space : (b : ℕ) → 32 < b → is_space b ≡ false
+past_space b h = grind (arith, nat_tests)
+
+-- no white space
+pub no_space : (src : List ℕ) (i : ℕ) → IsUtf8 src → IsCharBoundary src i → i < length src → 32 < slice_index src i → i ≡ spaces_end src i
+no_space src i utf8 cut within here = sym (space_stops src i utf8 cut within (past_space (slice_index src i) here))
+
+-- white space that is one space
+pub one_space : (src : List ℕ) (i : ℕ) → IsUtf8 src → i + 1 < length src → slice_index src i ≡ 32 → 32 < slice_index src (i + 1) → i + 1 ≡ spaces_end src i
+one_space src i utf8 within here behind =
+    let on = space_on src i utf8 (omega arith) (ap is_space here) in
+    let cut = space_cut src i utf8 (omega arith) (ap is_space here) in
+    sym (space_stops src (i + 1) utf8 cut within (past_space (slice_index src (i + 1)) behind)) ∙ on
+
+quote_is_no_space : (b : ℕ) → (b == 39 || b == 34) ≡ true → is_space b ≡ false
+quote_is_no_space b h = grind (arith, nat_tests)
+
+-- right behind the name
+pub value_starts : (src : List ℕ) (i : ℕ) → IsUtf8 src → i + 1 < length src → slice_index src i ≡ 61 → (slice_index src (i + 1) == 39 || slice_index src (i + 1) == 34) ≡ true
+    → IsValueStart src i (i + 2)
+value_starts src i utf8 within is quote =
+    let ascii = quote_ascii (slice_index src (i + 1)) quote in
+    let place : i + 1 + 1 ≡ i + 2 = omega arith in
+    record {
+      equals = i;
+      before = i + 1;
+      spaces = sym (run_stops_ascii is_space src i utf8 (omega arith) (omega (arith, is)) (ap is_space is));
+      is = is;
+      spaces_behind = sym (run_stops_ascii is_space src (i + 1) utf8 within ascii (quote_is_no_space (slice_index src (i + 1)) quote));
+      quote = quote;
+      start = omega arith;
+      within = within;
+      onward = omega arith;
+      cut = subst (IsCharBoundary src) place (IsCharBoundary-after_ascii src (i + 1) utf8 within ascii);
+    }
+
+-- an attribute whose value begins so
+pub attribute_reads : (src : List ℕ) (i : ℕ) (name : Name) (n s q j e : ℕ) → qname_at src i ≡ Ok (name, n) → (v : IsValueStart src n s) → slice_index src (s - 1) ≡ q → (q == 39 || q == 34) ≡ true → 0 < q
+    → raw_value_at q src s ≡ Ok (slice_range src s j, j) → slice_index src j ≡ q → e ≡ j + 1
+    → attribute_at src i ≡ Ok (record { start = i; name = name; name_end = n; value_start = s; value_end = j }, e)
+attribute_reads src i name n s q j e named v here quote some value behind done =
+    let place : s - 1 ≡ v.before = omega (arith, v.start) in
+    let quoted = subst (λ (k : ℕ). slice_index src k ≡ q) place here in
+    let read = subst (λ (k : ℕ). raw_value_at q src k ≡ Ok (slice_range src k j, j)) v.start value in
+    rw (v.start, done) (attribute_is src i name n v.equals v.before q j named v.spaces v.is v.spaces_behind quoted v.within quote some read behind)
 
 -- ---- what a tag holds next
 

@@ -1,6 +1,8 @@
 -- What one construct does to the builder, against what is read.
 use Rattle.std.proofs.lemmas.Bool.{lt-leb}
 use Rattle.rox_grammar.specs.Search.{stands}
+use Rattle.rox_grammar.specs.FixedTexts.{word_text}
+use Rattle.rox_grammar.specs.declared.fault.Word.TheVariants as word
 use Rattle.std.specs.List.{starts_with}
 use Rattle.rox_tables.specs.Rows.{AttributeRow, attribute_rows, row_view, scope_at}
 use Rattle.std.specs.List.{AllByRecursion}
@@ -272,6 +274,18 @@ step_is_markup context src xs s i b same e here more next other =
     let z : s.at + 1 < length src = subst (λ (n : ℕ). n + 1 < length src) e (subst (λ (ys : List ℕ). i + 1 < length ys) same more) in
     let k : leb (length src) (s.at + 1) ≡ false = lt-leb (length src) (s.at + 1) z in
     let l : eqb b 33 ≡ false = ne_eqb b 33 other in
+    rw (x, k, y, l) refl
+
+-- `<!--`
+pub step_is_comment : (context : Context) (src : List ℕ) (s : State) (i : ℕ) → i ≡ s.at → slice_index src i ≡ 60 → i + 1 < length src → slice_index src (i + 1) ≡ 33 → stands (word_text word.CommentStart) src i ≡ true
+    → step context src s ≡ lifted (comment_step context.limit src s)
+unfolding step
+step_is_comment context src s i e here more next comment =
+    let x : slice_index src s.at ≡ 60 = ap (slice_index src) (sym e) ∙ here in
+    let y : slice_index src (s.at + 1) ≡ 33 = ap (λ (n : ℕ). slice_index src (n + 1)) (sym e) ∙ next in
+    let z : s.at + 1 < length src = subst (λ (n : ℕ). n + 1 < length src) e more in
+    let k : leb (length src) (s.at + 1) ≡ false = lt-leb (length src) (s.at + 1) z in
+    let l : stands (word_text word.CommentStart) src s.at ≡ true = subst (λ (n : ℕ). stands (word_text word.CommentStart) src n ≡ true) e comment in
     rw (x, k, y, l) refl
 
 -- two bytes that stand

@@ -1,5 +1,5 @@
 -- The constructs of a replacement text, one after another, up to its end.
-use Rattle.std.proofs.Common.{◌≡◌, ℕ, zero, suc, ◌+◌, ◌<◌, ◌≤◌, List, Result, Ok, Err, length, refl, sym, ap, ◌∙◌, lt-ltb, le-ltb, eq-eqb, ne_eqb}
+use Rattle.std.proofs.Common.{◌≡◌, ℕ, zero, suc, ◌<◌, ◌≤◌, List, Result, Ok, Err, length, refl, sym, ◌∙◌, lt-ltb, le-ltb, eq-eqb, ne_eqb}
 use Rattle.rox_grammar.specs.declared.fault.Fault.TheVariants as fault
 use Rattle.rox_reading.specs.Lexical.{◌>>=◌}
 use Rattle.rox_reading.specs.Refusals as refusal

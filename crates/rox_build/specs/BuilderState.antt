@@ -1,5 +1,6 @@
 -- What the builder holds, against where reading stands.
-use Rattle.std.specs.Prelude.{◌≡◌, vec_len, vec_capacity, ℕ, ◌+◌, ◌^◌, ◌<◌, ◌≤◌, Bool, true, false, List, [], ◌∷◌, ◌++◌, Option, Result, Ok, Err, length, map}
+use Rattle.std.specs.Prelude.{◌≡◌, vec_len, vec_capacity, ℕ, ◌+◌, ◌-◌, take, drop, slice_index, ◌^◌, ◌<◌, ◌≤◌, Bool, false, List, [], ◌∷◌, ◌++◌, Option, Result, Ok, Err, length, map}
+use Rattle.std.specs.Str.{IsUtf8}
 use Rattle.std.specs.String.{string_bytes}
 use Rattle.std.specs.List.{AllByRecursion}
 use Rattle.rox_grammar.specs.declared.fault.Fault.{Fault}
@@ -7,6 +8,7 @@ use Rattle.rox_grammar.specs.Forest.{Forest, Nil, join, size}
 use Rattle.rox_grammar.specs.Written.{Name, NamespaceDecl, Tag, Item, Element, Text, merge, leaf}
 use Rattle.rox_grammar.specs.Tree.{listed, scope_in, node_in}
 use Rattle.rox_grammar.specs.Document.{distinct_pairs, most_pairs, most_attributes}
+use Rattle.rox_reading.specs.Lexical.{qname_at}
 use Rattle.rox_reading.specs.Refusals.{Refusal}
 use Rattle.rox_reading.specs.State.{State}
 use Rattle.rox_grammar.specs.State.{Open, root, inside, scope_of, pairs_so_far, attributes_so_far}
@@ -127,9 +129,27 @@ abbrev pub Adds : ℕ → Result (Unit {0}) Failure → Builder → Result State
 Adds end (Ok x) b read = (s : State) × (read ≡ Ok s) × Represents end s.stack s.done b
 Adds end (Err e) b read = Fails e read
 
--- the scope of an open element is in the table, and has each prefix once
+-- how many bytes its name has
+abbrev pub name_count : OpenElement → ℕ
+name_count o = o.name_end - o.name_start
+
+-- its name is read wherever the bytes of the name stand before `>`
+pub record HasName (o : OpenElement) : Type 0 where
+  pub ordered : o.name_start ≤ o.name_end
+  pub read : (src : List ℕ) (i : ℕ) → IsUtf8 src → take (name_count o) o.source.now ≡ take (name_count o) (drop i src) → slice_index src (i + name_count o) ≡ 62
+      → qname_at src i ≡ Ok (name_view o.name, i + name_count o)
+
+-- the scope of an open element is in the table, and has each prefix once, and its name is known
 abbrev pub IsOpenWithin : ElementTables → OpenElement → Type 0
-IsOpenWithin t o = (o.scope < length t.scopes.items) × PrefixesOnce (scope_at (lists_in t) o.scope)
+IsOpenWithin t o = (o.scope < length t.scopes.items) × PrefixesOnce (scope_at (lists_in t) o.scope) × HasName o
+
+-- an element that a tag of this text opens
+pub record IsOpened (text : List ℕ) (tag : StartTag) (o : OpenElement) : Type 0 where
+  pub name : o.name ≡ tag.name
+  pub name_start : o.name_start ≡ tag.name_start
+  pub name_end : o.name_end ≡ tag.name_end
+  pub scope : o.scope ≡ tag.element.scope
+  pub source : o.source.now ≡ drop tag.name_start text
 
 -- the first scope lists nothing
 pub record HasEmpty (t : ElementTables) : Type 0 where

@@ -1,8 +1,9 @@
 -- Start tags that are read at one look: without declarations, and with attributes whose values stand for themselves.
-use Rattle.std.specs.Prelude.{◌≡◌, ℕ, ◌+◌, ◌<◌, ◌≤◌, Bool, true, List, [], ◌++◌, Option, Ok, length, map, slice_range}
+use Rattle.std.specs.Prelude.{◌≡◌, ℕ, ◌+◌, ◌<◌, ◌≤◌, ◌==◌, ◌||◌, Bool, true, List, [], ◌++◌, Option, Ok, length, map, slice_index, slice_range}
 use Rattle.std.specs.List.{AllByRecursion}
 use Rattle.std.specs.Str.{IsCharBoundary}
 use Rattle.rox_grammar.specs.declared.fault.Fault.{Fault}
+use Rattle.rox_grammar.specs.Names.{spaces_end}
 use Rattle.rox_grammar.specs.Written.{Attribute, NamespaceDecl, Tag}
 use Rattle.rox_grammar.specs.Tree.{attribute_in}
 use Rattle.rox_grammar.specs.Content.{is_verbatim_value}
@@ -18,6 +19,19 @@ use Rattle.rox_build.specs.ElementRow.{Tagged}
 use Rattle.rox_build.specs.declared.tag.StartTag.{StartTag}
 use Rattle.rox_tables.specs.declared.namespaces.unresolved_attribute.UnresolvedAttribute.{UnresolvedAttribute}
 
+-- the value begins here, behind its quote, of an attribute whose name ends at this place
+pub record IsValueStart (src : List ℕ) (i j : ℕ) : Type 0 where
+  pub equals : ℕ
+  pub before : ℕ
+  pub spaces : equals ≡ spaces_end src i
+  pub is : slice_index src equals ≡ 61
+  pub spaces_behind : before ≡ spaces_end src (equals + 1)
+  pub quote : (slice_index src before == 39 || slice_index src before == 34) ≡ true
+  pub start : j ≡ before + 1
+  pub within : before < length src
+  pub onward : i + 1 ≤ before
+  pub cut : IsCharBoundary src j
+
 -- an attribute that is read at this place, whose value stands for itself
 pub record IsPlainAttribute (src : List ℕ) (i : ℕ) (a : UnresolvedAttribute) : Type 0 where
   pub value_end : ℕ
@@ -29,6 +43,10 @@ pub record IsPlainAttribute (src : List ℕ) (i : ℕ) (a : UnresolvedAttribute)
   pub borrowed : is_borrowed a.value ≡ true
   pub cut : IsCharBoundary src a.end
   pub onward : i < a.end
+  -- how much of it its parts take
+  pub local : a.start + length a.name.local.now ≤ a.name_end
+  pub gap : a.name_end + 2 ≤ a.value_start
+  pub whole : a.end ≡ a.value_start + length (storage_bytes a.value) + 1
 
 -- a tag that holds these attributes, and no declaration
 abbrev pub holding : List Attribute → TagSoFar

@@ -1,6 +1,6 @@
 //! The tables as they grow: the open elements, and the text that may go on.
 
-ghost use Rattle.std.specs.Prelude.{◌<◌, ◌≤◌, ◌+◌, ◌++◌, ◌^◌, ◌≡◌, ◌∷◌, [], ℕ, length, vec_len, set, get_or, max, IfOk, IfErr, OnOk};
+ghost use Rattle.std.specs.Prelude.{◌<◌, ◌≤◌, ◌+◌, ◌++◌, ◌^◌, ◌≡◌, ◌∷◌, [], ℕ, length, drop, vec_len, set, get_or, max, IfOk, IfErr, OnOk};
 ghost use Rattle.rox_tables.specs.declared.rows.tables.NodeData.{NodeData};
 ghost use Rattle.rox_tables.specs.Rows.{node_rows};
 ghost use Rattle.rox_tables.specs.StoredNodes.{kind_of};
@@ -32,14 +32,16 @@ use rox_values::text_value::TextValue;
 use std::alloc::Global;
 use std::collections::BTreeSet;
 
-/// An element that is open: its row, its name, which stands from `name_start` up to `name_end`, and its scope.
+/// An element that is open: its row, its scope, its name, which stands from `name_start` up to `name_end`, and the source from
+/// its name on.
 #[derive(Clone, Copy)]
 pub struct OpenElement<'input> {
     pub row: u32,
+    pub scope: u32,
     pub name: QName<'input>,
     pub name_start: usize,
     pub name_end: usize,
-    pub scope: u32,
+    pub source: &'input [u8],
 }
 
 /// The tables of what is read so far. The root node has row 0.
@@ -64,6 +66,10 @@ pub struct Builder<'input> {
     pub ghost shallow: { vec_len opened + written pending < vec_len nodes.rows },
 }
 
+/// So many elements may be open before their table grows, more than most texts open. While it is full, each construct is left to
+/// the general step.
+const ROOM_TO_OPEN: usize = 16;
+
 /// The scope of the root node, which lists nothing.
 fn empty_scope(alloc: Global) -> Result<Vec<Scope>, Failure>
     ensures ok { IfOk result (λ scopes. scopes.items ≡ Scope.Few (record { from = 0; until = 0 })
@@ -73,6 +79,15 @@ fn empty_scope(alloc: Global) -> Result<Vec<Scope>, Failure>
     let mut scopes = Vec::new(alloc);
     push(&mut scopes, Scope::Few(Stretch { from: 0, until: 0 }))?;
     Ok(scopes)
+}
+
+/// The bytes of a text from a place on.
+#[inline(always)]
+fn from_place<'input>(text: &'input str, start: usize) -> &'input [u8]
+    requires { start ≤ length text.now }
+    ensures { result.now ≡ drop start text.entry.now }
+{
+    &text.as_bytes()[start..]
 }
 
 /// Where a text stands, in bytes of its source.
@@ -134,8 +149,9 @@ impl<'input> Builder<'input> {
     ghost use Rattle.rox_reading.specs.Machine.{with_item, opened_by, counted};
     ghost use Rattle.rox_grammar.specs.Failures.{Fails};
     ghost use Rattle.rox_values.specs.Values.{piece_view};
-    ghost use Rattle.rox_build.specs.BuilderState.{Represents, RepresentsFlushed, IsNode, IsOpening, AreSound, Adds, IsConsistent, IsReady, names_in, opened_in, last_row};
+    ghost use Rattle.rox_build.specs.BuilderState.{Represents, RepresentsFlushed, IsNode, IsOpening, AreSound, Adds, IsConsistent, IsOpened, IsReady, names_in, opened_in, last_row};
     ghost use Rattle.rox_tables.specs.Rows.{HoldsTree, attribute_rows};
+    ghost use Rattle.rox_tables.specs.StoredNodes.{IsSmallKind};
     ghost use Rattle.rox_tables.specs.Scopes.{PrefixesOnce};
     ghost use Rattle.rox_build.specs.ElementRow.{scope_in_tables};
     ghost use Rattle.rox_grammar.specs.Tree.{document_tree};
@@ -154,6 +170,7 @@ impl<'input> Builder<'input> {
         // An allocator often gives places in turn, and a table behind which nothing stands grows where it is: the rows come last.
         let attributes = AttributeTable::of_text(alloc, bytes);
         let scopes = empty_scope(alloc)?;
+        let opened = Vec::with_capacity(alloc, ROOM_TO_OPEN)?;
         let nodes = NodeTable::of_text(alloc, bytes)?;
         Ok(Builder {
             nodes,
@@ -164,7 +181,7 @@ impl<'input> Builder<'input> {
                 scopes,
                 present: PrefixBindings::new(alloc),
             },
-            opened: Vec::new(alloc),
+            opened,
             pending: Pending::None,
             joined: String::new(alloc),
             buffers: Buffers {
@@ -465,9 +482,11 @@ impl<'input> Builder<'input> {
     pub fn open_element(
         &mut self,
         alloc: Global,
+        text: &'input str,
         start: usize,
         tag: &StartTag<'input>,
     ) -> Result<(), Failure>
+        requires within { tag.now.name_start ≤ length text.now }
         ensures value { (total at openings_left : ℕ) (s : State) (t : Tag)
             → Represents total s.stack s.done self.old → s.at ≡ start
             → IsOpening self.old.tables (scope_of s.stack) start tag.now t
@@ -476,7 +495,7 @@ impl<'input> Builder<'input> {
         ensures tables { self.new.tables ≡ self.old.tables }
         ensures opened { OnOk result ((x : OpenElement)
             × (self.new.opened.items ≡ self.old.opened.items ++ x ∷ [])
-            × (x.scope ≡ tag.now.element.scope)) }
+            × IsOpened text.now tag.now x) }
         ensures limit { self.new.nodes_limit ≡ self.old.nodes_limit }
         ensures openings_left { self.new.openings_left ≡ self.old.openings_left }
     {
@@ -486,12 +505,14 @@ impl<'input> Builder<'input> {
         let mut opening = self.row(start, 0, NodeKind::Element(tag.element));
         opening.subtree_end = 0;
         self.nodes.push(opening)?;
+        let source = from_place(text, tag.name_start);
         let element = OpenElement {
             row,
             name: tag.name,
             name_start: tag.name_start,
             name_end: tag.name_end,
             scope: tag.element.scope,
+            source,
         };
         push(&mut self.opened, element)?;
         Ok(())
@@ -581,15 +602,16 @@ impl<'input> Builder<'input> {
         self.pending = Pending::Written;
     }
 
-    /// An element without nodes below it, where there is room for its row.
+    /// A node that is no text and has no nodes below it, where there is room for its row.
     #[inline(always)]
-    pub fn put_leaf(&mut self, start: usize, end: usize, element: ElementData<'input>)
+    pub fn put_leaf(&mut self, start: usize, end: usize, kind: NodeKind<'input>)
         requires ready { IsReady self.old }
         requires start { start < 2 ^ 32 }
         requires end { end < 2 ^ 32 }
+        requires small { IsSmallKind kind }
         ensures value { (total at : ℕ) (s : State) (item : Item)
             → Represents total s.stack s.done self.old
-            → IsNode self.old.tables (scope_of s.stack) start end (kind.Element element.entry) item
+            → IsNode self.old.tables (scope_of s.stack) start end kind.entry item
             → Adds total (Ok tt) self.new (with_item self.old.nodes_limit s at item) }
         ensures tables { self.new.tables ≡ self.old.tables }
         ensures opened { self.new.opened ≡ self.old.opened }
@@ -597,15 +619,16 @@ impl<'input> Builder<'input> {
         ensures openings_left { self.new.openings_left ≡ self.old.openings_left }
     {
         self.settle();
-        let row = self.row(start, end, NodeKind::Element(element));
+        let row = self.row(start, end, kind);
         self.nodes.put(row);
     }
 
     /// An element opens at `start`, where there is room for it.
     #[inline(always)]
-    pub fn put_open(&mut self, start: usize, tag: &StartTag<'input>)
+    pub fn put_open(&mut self, text: &'input str, start: usize, tag: &StartTag<'input>)
         requires ready { IsReady self.old }
         requires start { start < 2 ^ 32 }
+        requires within { tag.now.name_start ≤ length text.now }
         ensures value { (total at openings_left : ℕ) (s : State) (t : Tag)
             → Represents total s.stack s.done self.old → s.at ≡ start
             → IsOpening self.old.tables (scope_of s.stack) start tag.now t
@@ -614,7 +637,7 @@ impl<'input> Builder<'input> {
         ensures tables { self.new.tables ≡ self.old.tables }
         ensures opened { (x : OpenElement)
             × (self.new.opened.items ≡ self.old.opened.items ++ x ∷ [])
-            × (x.scope ≡ tag.now.element.scope) }
+            × IsOpened text.now tag.now x }
         ensures limit { self.new.nodes_limit ≡ self.old.nodes_limit }
         ensures openings_left { self.new.openings_left ≡ self.old.openings_left }
     {
@@ -623,12 +646,14 @@ impl<'input> Builder<'input> {
         let mut opening = self.row(start, 0, NodeKind::Element(tag.element));
         opening.subtree_end = 0;
         self.nodes.put(opening);
+        let source = from_place(text, tag.name_start);
         self.opened.push_reserved(OpenElement {
             row,
             name: tag.name,
             name_start: tag.name_start,
             name_end: tag.name_end,
             scope: tag.element.scope,
+            source,
         });
     }
 

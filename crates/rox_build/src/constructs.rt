@@ -176,7 +176,7 @@ pub fn element<'input>(
         builder.leaf(alloc, start, cursor.pos, NodeKind::Element(tag.element))?;
         return Ok(());
     }
-    builder.open_element(alloc, start, &tag)?;
+    builder.open_element(alloc, cursor.text, start, &tag)?;
     Ok(())
 }
 

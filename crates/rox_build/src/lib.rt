@@ -10,4 +10,5 @@ pub mod plain_constructs;
 pub mod plain_tag;
 pub mod reader;
 pub mod resolver;
+mod same_front;
 pub mod tag;

@@ -1,8 +1,11 @@
-//! Constructs of content that are plain, read at one look: a run that is a slice of the source, an end tag, and a start tag.
-//! Nothing fails here: what is not plain, or finds no room, is left to the general step, which reads that one construct from the
-//! same place.
+//! Constructs of content that are plain, read at one look: a run that is a slice of the source, an end tag, a comment, and a
+//! start tag. Nothing fails here: what is not plain, or finds no room, is left to the general step, which reads that one
+//! construct from the same place.
 
 ghost use Rattle.std.specs.Prelude.{◌≡◌, ◌≢◌, ◌<◌, ◌≤◌, ◌+◌, ◌-◌, ◌^◌, ℕ, Ok, length, take, slice_index, true, false};
+ghost use Rattle.rox_grammar.specs.Search.{stands};
+ghost use Rattle.rox_grammar.specs.FixedTexts.{word_text};
+ghost use Rattle.rox_grammar.specs.declared.fault.Word.TheVariants as word;
 ghost use Rattle.rox_reading.specs.Machine as machine;
 ghost use Rattle.rox_reading.specs.Refusals.{lifted};
 ghost use Rattle.rox_reading.specs.State.{State};
@@ -12,12 +15,15 @@ ghost use Rattle.rox_build.specs.PlainSteps.{StepsOnce, StepsTwice};
 ghost use Rattle.rox_build.specs.PendingText.{waiting};
 
 use crate::builder::Builder;
-use crate::constructs::same_qname;
-use crate::plain_tag::{plain_name, plain_start_tag};
+use crate::plain_tag::plain_start_tag;
+use crate::same_front::same_front;
+use rox_grammar::fault::Word;
 use rox_scan::byte_set::skip_set;
 use rox_scan::character_data::{TextByte, ends_character_data};
 use rox_scan::cursor::Cursor;
-use rox_scan::runs::{after_byte, is_at, space_end};
+use rox_scan::runs::{after_byte, is_at};
+use rox_tables::rows::storage::StringStorage;
+use rox_tables::rows::tables::NodeKind;
 
 /// The most bytes of a text whose places all fit rows.
 const MOST_BYTES: usize = 4294967295;
@@ -50,8 +56,8 @@ fn plain_character_data<'input>(cursor: &mut Cursor<'input>, builder: &mut Build
     true
 }
 
-/// An end tag, from its `</`, if it closes the innermost open element, and more elements are open than the `open_around` ones around the
-/// text.
+/// An end tag, from its `</`, if it closes the innermost open element by the very bytes of its name, with `>` right behind them,
+/// and more elements are open than the `open_around` ones around the text.
 #[inline(always)]
 fn plain_end_tag(cursor: &mut Cursor<'_>, builder: &mut Builder<'_>, open_around: usize) -> bool
     requires here { slice_index cursor.old.text.now cursor.old.pos ≡ 60 }
@@ -75,11 +81,13 @@ fn plain_end_tag(cursor: &mut Cursor<'_>, builder: &mut Builder<'_>, open_around
     };
     let text = cursor.text;
     let slash = after_byte(text, cursor.pos, b'<');
-    let Some(name) = plain_name(text, after_byte(text, slash, b'/')) else {
+    let name = after_byte(text, slash, b'/');
+    let count = open.name_end - open.name_start;
+    if !same_front(open.source, &text.as_bytes()[name..], count) {
         return false;
-    };
-    let close = space_end(text, name.end);
-    if !is_at(text, close, b'>') || !same_qname(open.name, name.name) {
+    }
+    let close = name + count;
+    if !is_at(text, close, b'>') {
         return false;
     }
     let end = after_byte(text, close, b'>');
@@ -118,11 +126,61 @@ fn plain_element<'input>(cursor: &mut Cursor<'input>, builder: &mut Builder<'inp
     };
     cursor.pos = read.end;
     if read.tag.empty {
-        builder.put_leaf(start, read.end, read.tag.element);
+        builder.put_leaf(start, read.end, NodeKind::Element(read.tag.element));
         return true;
     }
-    builder.put_open(start, &read.tag);
+    builder.put_open(cursor.text, start, &read.tag);
     true
+}
+
+/// A comment, from `<!--`, if it is in order.
+#[inline(always)]
+fn plain_comment<'input>(cursor: &mut Cursor<'input>, builder: &mut Builder<'input>) -> bool
+    requires here { stands (word_text word.CommentStart) cursor.old.text.now cursor.old.pos ≡ true }
+    requires short { length cursor.old.text.now < 2 ^ 32 }
+    requires ready { IsReady builder.old }
+    requires fine { IsConsistent builder.old.tables builder.old.opened.items }
+    ensures value { result ≡ true → (limit end : ℕ) (s : State)
+        → IsInState limit end s cursor.old builder.old
+        → ScansTo limit end (Ok tt) cursor.new builder.new
+        (lifted (machine.comment_step limit cursor.old.text.now s)) }
+    ensures other { result ≡ false → (cursor.new ≡ cursor.old) × (builder.new ≡ builder.old) }
+    ensures fine { IsConsistent builder.new.tables builder.new.opened.items }
+    ensures source { cursor.new.text ≡ cursor.old.text }
+{
+    let start = cursor.pos;
+    let mut behind = *cursor;
+    let Ok(text) = behind.comment(&builder.finders) else {
+        return false;
+    };
+    *cursor = behind;
+    let kind = NodeKind::Comment(StringStorage::Borrowed(text));
+    builder.put_leaf(start, cursor.pos, kind);
+    true
+}
+
+/// What `<!` begins, if it is a comment in order.
+#[inline(never)]
+#[tactic(auto, unfolding(rox_reading::specs::Machine::step))]
+fn plain_section<'input>(cursor: &mut Cursor<'input>, builder: &mut Builder<'input>) -> bool
+    requires there { cursor.old.pos + 1 < length cursor.old.text.now }
+    requires here { slice_index cursor.old.text.now cursor.old.pos ≡ 60 }
+    requires next { slice_index cursor.old.text.now (cursor.old.pos + 1) ≡ 33 }
+    requires short { length cursor.old.text.now < 2 ^ 32 }
+    requires ready { IsReady builder.old }
+    requires fine { IsConsistent builder.old.tables builder.old.opened.items }
+    ensures value { result ≡ true → (context : machine.Context) (end : ℕ) (s : State)
+        → IsInState context.limit end s cursor.old builder.old
+        → ScansTo context.limit end (Ok tt) cursor.new builder.new
+        (machine.step context cursor.old.text.now s) }
+    ensures other { result ≡ false → (cursor.new ≡ cursor.old) × (builder.new ≡ builder.old) }
+    ensures fine { IsConsistent builder.new.tables builder.new.opened.items }
+    ensures source { cursor.new.text ≡ cursor.old.text }
+{
+    if !cursor.starts(Word::CommentStart) {
+        return false;
+    }
+    plain_comment(cursor, builder)
 }
 
 /// What `<` begins, if it is plain and finds room; else nothing is read.
@@ -156,7 +214,10 @@ fn plain_markup<'input>(
     if next == b'/' {
         return plain_end_tag(cursor, builder, open_around);
     }
-    if next == b'!' || next == b'?' {
+    if next == b'!' {
+        return plain_section(cursor, builder);
+    }
+    if next == b'?' {
         return false;
     }
     plain_element(cursor, builder)

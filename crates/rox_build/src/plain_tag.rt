@@ -2,9 +2,9 @@
 //! (XML 1.0 section 3.1). Nothing fails here: a tag that is not plain, or finds no room, is left to the general step, which reads
 //! it from its `<`.
 
-ghost use Rattle.std.specs.Prelude.{◌≡◌, ◌<◌, ◌≤◌, ◌+◌, ◌++◌, ◌==◌, ◌||◌, List, Ok, IfSome, IfNone, length, map, slice_index, slice_range, true};
+ghost use Rattle.std.specs.Prelude.{◌≡◌, ◌<◌, ◌≤◌, ◌+◌, ◌-◌, ◌^◌, ◌++◌, ◌==◌, ◌||◌, List, Ok, IfSome, IfNone, length, map, slice_index, slice_range, true};
 ghost use Rattle.std.specs.Str.{IsCharBoundary};
-ghost use Rattle.rox_grammar.specs.Chars.{is_name_start, is_part_char};
+ghost use Rattle.rox_grammar.specs.Chars.{is_name_start, is_part_char, is_space};
 ghost use Rattle.rox_grammar.specs.Runs.{run_end, begins};
 ghost use Rattle.rox_grammar.specs.Failures.{name_view};
 ghost use Rattle.rox_grammar.specs.Content.{is_verbatim_value};
@@ -17,7 +17,7 @@ ghost use Rattle.rox_tables.specs.Rows.{AreScopes};
 ghost use Rattle.rox_tables.specs.Scopes.{ArePlaces, PrefixesOnce};
 ghost use Rattle.rox_tables.specs.TagScopes.{HasBindings};
 ghost use Rattle.rox_build.specs.ElementRow.{scope_in_tables};
-ghost use Rattle.rox_build.specs.PlainTag.{IsPlainAttribute, ArePlainAttributes, IsPlainTag, HoldSame};
+ghost use Rattle.rox_build.specs.PlainTag.{IsValueStart, IsPlainAttribute, ArePlainAttributes, IsPlainTag, HoldSame};
 
 use crate::tag::{MOST_ATTRIBUTES, StartTag, byte_count};
 use rox_grammar::name::QName;
@@ -50,6 +50,7 @@ pub fn plain_name<'input>(text: &'input str, start: usize) -> Option<PlainName<'
         ≡ Ok (name_view n.name, n.end)) }
     ensures onward { IfSome result (λ n. start ≤ n.end) }
     ensures cut { IfSome result (λ n. IsCharBoundary text.entry.now n.end) }
+    ensures local { IfSome result (λ n. start + length n.name.local.now ≤ n.end) }
 {
     let colon = part_end(text, start);
     if !begins::<NameStart>(text, start) {
@@ -79,6 +80,7 @@ fn second_part<'input>(text: &'input str, start: usize, colon: usize) -> Option<
         ≡ Ok (name_view n.name, n.end)) }
     ensures onward { IfSome result (λ n. start ≤ n.end) }
     ensures cut { IfSome result (λ n. IsCharBoundary text.entry.now n.end) }
+    ensures local { IfSome result (λ n. start + length n.name.local.now ≤ n.end) }
 {
     let local = after_byte(text, colon, b':');
     let end = part_end(text, local);
@@ -157,6 +159,56 @@ fn quote_here(text: &str, at: usize) -> u8
     }
 }
 
+/// Where the value begins of an attribute whose name ends at `at`, behind white space, if a quote stands there; else 0.
+#[cold]
+#[inline(never)]
+fn spaced_value_start(text: &str, at: usize) -> usize
+    requires { IsCharBoundary text.now at }
+    ensures { 0 < result → IsValueStart text.now at result }
+{
+    let equals = space_end(text, at);
+    if !is_at(text, equals, b'=') {
+        return 0;
+    }
+    let before = space_end(text, after_byte(text, equals, b'='));
+    let quote = quote_here(text, before);
+    if quote == 0 {
+        return 0;
+    }
+    after_byte(text, before, quote)
+}
+
+/// The same, whatever stands round the `=`.
+#[inline(always)]
+fn value_start(text: &str, at: usize) -> usize
+    requires { IsCharBoundary text.now at }
+    ensures { 0 < result → IsValueStart text.now at result }
+{
+    if is_at(text, at, b'=') {
+        let behind = after_byte(text, at, b'=');
+        let quote = quote_here(text, behind);
+        if quote != 0 {
+            return after_byte(text, behind, quote);
+        }
+    }
+    spaced_value_start(text, at)
+}
+
+/// The quote behind which a value begins at `start`.
+#[inline(always)]
+fn quote_before(text: &str, start: usize) -> u8
+    requires some { 0 < start }
+    requires within { start ≤ length text.now }
+    requires quote { (slice_index text.now (start - 1) == 39
+        || slice_index text.now (start - 1) == 34) ≡ true }
+    ensures here { slice_index text.now (start - 1) ≡ result }
+    ensures quote { (result == 39 || result == 34) ≡ true }
+    ensures some { 0 < result }
+    ensures ascii { result < 128 }
+{
+    text.as_bytes()[start - 1]
+}
+
 /// The attribute that begins at `start`, if it is plain: its value stands for itself.
 #[inline(always)]
 #[tactic(auto, unfolding(rox_reading::specs::Markup::attribute_at))]
@@ -165,16 +217,11 @@ fn plain_attribute<'input>(text: &'input str, start: usize) -> Option<Unresolved
     ensures { IfSome result (λ a. IsPlainAttribute text.entry.now start a) }
 {
     let name = plain_name(text, start)?;
-    let equals = space_end(text, name.end);
-    if !is_at(text, equals, b'=') {
+    let value_start = value_start(text, name.end);
+    if value_start == 0 {
         return None;
     }
-    let before = space_end(text, after_byte(text, equals, b'='));
-    let quote = quote_here(text, before);
-    if quote == 0 {
-        return None;
-    }
-    let value_start = after_byte(text, before, quote);
+    let quote = quote_before(text, value_start);
     let value_end = plain_value_end(text, value_start, quote)?;
     Some(UnresolvedAttribute {
         start,
@@ -211,13 +258,45 @@ fn empty_end(text: &str, at: usize) -> Option<TagEnd>
     })
 }
 
+/// Where the white space that begins at `at` ends. Most often there is none, or it is one space.
+#[inline(always)]
+fn near_space_end(text: &str, at: usize) -> usize
+    requires { IsCharBoundary text.now at }
+    ensures end { result ≡ run_end is_space text.now at }
+    ensures onward { at ≤ result }
+    ensures cut { IsCharBoundary text.now result }
+{
+    let bytes = text.as_bytes();
+    if at + 1 >= bytes.len() {
+        return far_space_end(text, at);
+    }
+    if bytes[at] > b' ' {
+        return at;
+    }
+    if bytes[at] == b' ' && bytes[at + 1] > b' ' {
+        return after_byte(text, at, b' ');
+    }
+    far_space_end(text, at)
+}
+
+/// The same, whatever stands there.
+#[inline(never)]
+fn far_space_end(text: &str, at: usize) -> usize
+    requires { IsCharBoundary text.now at }
+    ensures end { result ≡ run_end is_space text.now at }
+    ensures onward { at ≤ result }
+    ensures cut { IsCharBoundary text.now result }
+{
+    space_end(text, at)
+}
+
 /// A plain tag has less than so many attributes: they are compared one with another.
 const FEW: usize = 17;
 
 /// The attributes of a tag, up to its end, if they are plain and find room: each goes into the table, with its namespace in this
 /// scope. Else some may stand there too.
 #[inline(always)]
-fn plain_attributes<'input>(
+fn some_attributes<'input>(
     text: &'input str,
     start: usize,
     namespaces: &[Namespace<'input>],
@@ -226,6 +305,7 @@ fn plain_attributes<'input>(
     attributes: &mut AttributeTable<'input>,
 ) -> Option<TagEnd>
     requires cut { IsCharBoundary text.now start }
+    requires short { length text.now < 2 ^ 32 }
     requires within { LooksWithin (length namespaces.now) (places_view few) present.now }
     ensures read { IfSome result
         (λ e. ArePlainAttributes (map namespace_view namespaces.now)
@@ -238,7 +318,7 @@ fn plain_attributes<'input>(
     let from = attributes.len();
     let mut at = start;
     for _turn in 0..FEW {
-        let here = space_end(text, at);
+        let here = near_space_end(text, at);
         if is_at(text, here, b'>') {
             return Some(TagEnd {
                 at: after_byte(text, here, b'>'),
@@ -263,6 +343,36 @@ fn plain_attributes<'input>(
     None
 }
 
+/// The same; most tags have none, which is seen first.
+#[inline(always)]
+fn plain_attributes<'input>(
+    text: &'input str,
+    start: usize,
+    namespaces: &[Namespace<'input>],
+    few: Option<&[u16]>,
+    present: &PrefixBindings<'_>,
+    attributes: &mut AttributeTable<'input>,
+) -> Option<TagEnd>
+    requires cut { IsCharBoundary text.now start }
+    requires short { length text.now < 2 ^ 32 }
+    requires within { LooksWithin (length namespaces.now) (places_view few) present.now }
+    ensures read { IfSome result
+        (λ e. ArePlainAttributes (map namespace_view namespaces.now)
+        (places_view few.entry) present.now text.entry.now start
+        (attribute_rows attributes.old) e.at e.empty (attribute_rows attributes.new)) }
+    ensures cut { IfSome result (λ e. IsCharBoundary text.entry.now e.at) }
+    ensures grown { (more : List AttributeRow)
+        × (attribute_rows attributes.new ≡ attribute_rows attributes.old ++ more) }
+{
+    if is_at(text, start, b'>') {
+        return Some(TagEnd {
+            at: after_byte(text, start, b'>'),
+            empty: false,
+        });
+    }
+    some_attributes(text, start, namespaces, few, present, attributes)
+}
+
 /// A plain start tag that was read, and where it ends.
 #[derive(Clone, Copy)]
 pub struct PlainTag<'input> {
@@ -282,6 +392,7 @@ fn read_tag<'input>(
     openings_left: u32,
 ) -> Option<PlainTag<'input>>
     requires here { slice_index text.now start ≡ 60 }
+    requires short { length text.now < 2 ^ 32 }
     requires places { ArePlaces
         (length elements.old.namespaces.items.items) elements.old.listed.items }
     requires few { length elements.old.namespaces.items.items ≤ most_pairs }
@@ -352,6 +463,7 @@ pub fn plain_start_tag<'input>(
     openings_left: u32,
 ) -> Option<PlainTag<'input>>
     requires here { slice_index text.now start ≡ 60 }
+    requires short { length text.now < 2 ^ 32 }
     requires places { ArePlaces
         (length elements.old.namespaces.items.items) elements.old.listed.items }
     requires few { length elements.old.namespaces.items.items ≤ most_pairs }

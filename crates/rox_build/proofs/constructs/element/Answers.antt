@@ -1,5 +1,5 @@
 use Rattle.std.specs.Prelude.{OnOk}
-use Rattle.std.proofs.Common.{ℕ, true, false, Bool, refl, sym, ap, subst, ◌∙◌, List}
+use Rattle.std.proofs.Common.{◌≡◌, ◌++◌, ◌∷◌, [], length, arith, ℕ, true, false, Bool, refl, sym, ap, subst, ◌∙◌, List}
 use Rattle.std.proofs.lemmas.Result.{err_from_is_err_and}
 use Rattle.rox_grammar.specs.Written.{Element, NamespaceDecl}
 use Rattle.rox_grammar.specs.State.{scope_of}
@@ -8,7 +8,10 @@ use Rattle.rox_reading.specs.Machine.{opened_by}
 use Rattle.rox_reading.specs.Refusals.{lifted}
 use Rattle.rox_values.specs.Contexts.{context_of}
 use Rattle.rox_build.specs.ElementRow.{Tagged}
-use Rattle.rox_build.specs.BuilderState.{IsNode, IsConsistent, ScansTo}
+use Rattle.rox_build.specs.BuilderState.{IsNode, IsConsistent, IsOpened, ScansTo}
+use Rattle.rox_build.specs.declared.builder.OpenElement.{OpenElement}
+use Rattle.rox_build.proofs.Items.{stands_within}
+use Rattle.rox_build.proofs.SameNames.{opened_named}
 use Rattle.rox_tables.specs.declared.rows.tables.NodeKind.TheVariants as kind
 use Rattle.rox_build.proofs.Declared.{some_declare}
 use Rattle.rox_build.proofs.Lifting.{refused_too}
@@ -128,6 +131,20 @@ returns-clause-fine c =
     let d = some_declare c.args.context.entities.now in
     let v = c.in_ok-tag.ensures.value d.0 d.1 in
     let b = c.args.builder.now in
+    let cursor = c.args.cursor.now in
+    let src = cursor.text.now in
+    let t = c.in_ok-tag.tag in
+    let opens = subst (λ (text : List ℕ). OnOk c.open_element.result ((x : OpenElement) × (c.open_element.new.self.opened.items ≡ b.opened.items ++ x ∷ []) × IsOpened text t x))
+    (ap (λ x. x.now) c.start_tag.ensures.source) c.open_element.ensures.opened in
     subst (λ r. OnOk r (IsConsistent c.open_element.new.self.tables c.open_element.new.self.opened.items)) c.in_ok-open_element.was
-    (fine_more c.open_element.result c.start_tag.new.elements b.opened.items c.open_element.new.self c.in_ok-tag.tag
-    (fine_by b.tables c.start_tag.new.elements c.in_ok-tag.tag _ v.0 b.opened.items v.2 c.requires.fine) c.open_element.ensures.tables c.open_element.ensures.opened v.2.element.scope_within v.2.once)
+    (fine_more c.open_element.result c.start_tag.new.elements b.opened.items c.open_element.new.self src t
+    (fine_by b.tables c.start_tag.new.elements t _ v.0 b.opened.items v.2 c.requires.fine) c.open_element.ensures.tables opens v.2.element.scope_within v.2.once
+    (λ o by. opened_named _ _ _ _ _ src cursor.pos _ _ _ t o cursor.utf8 c.requires.here v.1 v.2.name v.2.name_end c.in_ok-tag.ensures.starts by))
+
+pub open_element-requires : goal.open_element-requires
+open_element-requires c =
+    let src = c.args.cursor.now.text.now in
+    let within = stands_within src c.args.cursor.now.pos 60 c.requires.here (omega arith) in
+    let starts = c.in_ok-tag.ensures.starts in
+    let same = ap (λ x. length x.now) c.start_tag.ensures.source in
+    omega arith

@@ -1,4 +1,4 @@
-use Rattle.std.proofs.Common.{◌≡◌, ℕ, Bool, Ok, arith, refl, sym, ap, subst, ◌∙◌, List}
+use Rattle.std.proofs.Common.{◌≡◌, ℕ, Bool, true, [], Ok, arith, refl, sym, ap, subst, ◌∙◌, List}
 use Rattle.rox_grammar.specs.Written.{Element, NamespaceDecl}
 use Rattle.rox_grammar.specs.State.{scope_of}
 use Rattle.rox_reading.specs.Machine.{opened_by, cut_off_fault}
@@ -6,6 +6,10 @@ use Rattle.rox_reading.specs.Refusals.{lifted}
 use Rattle.rox_build.specs.ElementRow.{Tagged}
 use Rattle.rox_build.specs.BuilderState.{IsNode}
 use Rattle.rox_tables.specs.declared.rows.tables.NodeKind.TheVariants as kind
+use Rattle.rox_grammar.specs.declared.fault.Fault.TheVariants as fault
+use Rattle.rox_reading.specs.Tags.{Values}
+use Rattle.rox_build.proofs.Items.{stands_within}
+use Rattle.rox_build.proofs.SameNames.{opened_named}
 use Rattle.rox_build.proofs.Growing.{grown_shows}
 use Rattle.rox_build.proofs.Opening.{grown_by, is_node, is_opening, fine_by, fine_kept, fine_more, tag_is, empty_stepped, open_stepped}
 use Rattle.rox_build.proofs.plain_constructs.plain_element.Goals as goal
@@ -65,9 +69,22 @@ returns-then-read-clause-fine c =
 pub returns-clause-fine : goal.returns-clause-fine
 returns-clause-fine c =
     let b = c.args.builder.now in
+    let cursor = c.args.cursor.now in
+    let src = cursor.text.now in
     let x = c.in-Some.ensures.read in
-    fine_more (Ok tt) c.plain_start_tag.new.elements b.opened.items c.put_open.new.self c.in-Some.read.tag
-    (fine_by b.tables c.plain_start_tag.new.elements c.in-Some.read.tag _ x.tag b.opened.items x.tagged c.requires.fine) c.put_open.ensures.tables c.put_open.ensures.opened x.tagged.element.scope_within x.tagged.once
+    let t = c.in-Some.read.tag in
+    let context : Values = record { main = true; entities = []; opener = λ text i openings_left. Ok ([], openings_left) } in
+    fine_more (Ok tt) c.plain_start_tag.new.elements b.opened.items c.put_open.new.self src t
+    (fine_by b.tables c.plain_start_tag.new.elements t _ x.tag b.opened.items x.tagged c.requires.fine) c.put_open.ensures.tables c.put_open.ensures.opened x.tagged.element.scope_within x.tagged.once
+    (λ o by. opened_named context fault.NoRootNode _ _ _ src cursor.pos t.openings_left _ _ t o cursor.utf8 c.requires.here (x.read context fault.NoRootNode) x.tagged.name x.tagged.name_end x.starts by)
+
+pub put_open-requires-clause-within : goal.put_open-requires-clause-within
+put_open-requires-clause-within c =
+    let src = c.args.cursor.now.text.now in
+    let x = c.in-Some.ensures.read in
+    let within = stands_within src c.args.cursor.now.pos 60 c.requires.here (omega arith) in
+    let starts = x.starts in
+    omega arith
 
 pub put_leaf-requires-clause-start : goal.put_leaf-requires-clause-start
 put_leaf-requires-clause-start c = omega (arith, c.requires.short, c.args.cursor.now.cut.0)

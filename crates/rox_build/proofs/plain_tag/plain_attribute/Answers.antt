@@ -1,39 +1,51 @@
-use Rattle.std.proofs.Common.{◌≡◌, ◌+◌, ◌<◌, slice_index, refl, sym, ap, ◌∙◌, arith}
-use Rattle.std.proofs.lemmas.Bool.{eqb-true}
-use Rattle.rox_grammar.specs.Names.{spaces_end}
+use Rattle.std.proofs.Common.{◌≡◌, ◌-◌, ◌==◌, ◌||◌, ℕ, true, length, slice_index, refl, sym, ap, subst, arith}
 use Rattle.rox_grammar.specs.Failures.{name_view}
-use Rattle.rox_build.proofs.PlainTags.{attribute_is}
+use Rattle.rox_reading.proofs.Stretches.{range_length}
+use Rattle.rox_build.proofs.PlainTags.{attribute_reads}
 use Rattle.rox_build.proofs.plain_tag.plain_attribute.Goals as goal
+
+pub quote_before-quote-requires-clause-within : goal.quote_before-quote-requires-clause-within
+quote_before-quote-requires-clause-within c =
+    let v = c.value_start-value_start.ensures (omega arith) in
+    let start = v.start in
+    let within = v.within in
+    omega arith
+
+pub quote_before-quote-requires-clause-quote : goal.quote_before-quote-requires-clause-quote
+quote_before-quote-requires-clause-quote c =
+    let src = c.args.text.now in
+    let v = c.value_start-value_start.ensures (omega arith) in
+    let place : c.value_start-value_start.result - 1 ≡ v.before = omega (arith, v.start) in
+    subst (λ (k : ℕ). (slice_index src k == 39 || slice_index src k == 34) ≡ true) (sym place) v.quote
 
 pub returns : goal.returns
 returns c =
     let src = c.args.text.now in
-    let q = c.quote_here-quote.result in
-    let some : 0 < q = omega arith in
-    let quoted = c.quote_here-quote.ensures.some some in
+    let s = c.value_start-value_start.result in
+    let v = c.value_start-value_start.ensures (omega arith) in
+    let q = c.quote_before-quote.result in
+    let quoted = c.quote_before-quote.ensures in
     let n = c.in_ok-name.ensures in
-    let e = c.space_end-equals in
-    let b = c.space_end-before in
     let j = c.in_ok-value_end.value_end in
-    let v = c.in_ok-value_end.ensures in
-    let is : slice_index src e.result ≡ 61 = eqb-true _ _ (sym c.is_at.ensures ∙ c.if-not-is_at.false) in
-    let before : b.result ≡ spaces_end src (e.result + 1) = b.ensures.end ∙ ap (spaces_end src) c.after_byte.ensures.place in
-    let start = c.after_byte-value_start.ensures.place in
-    let done = c.after_byte-2.ensures.place in
-    let within = c.quote_here-quote.ensures.within some in
+    let w = c.in_ok-value_end.ensures in
+    let start = v.start in
+    let done = c.after_byte.ensures.place in
     let order1 = n.onward in
-    let order2 = e.ensures.onward in
-    let order3 = b.ensures.onward in
-    let order4 = v.onward in
-    let place = c.after_byte.ensures.place in
+    let order2 = v.onward in
+    let order3 = w.onward in
+    let fits = w.cut.0 in
+    let long = range_length src s j order3 fits in
     record {
       value_end = j;
-      read = rw (start, done) (attribute_is src c.args.start (name_view c.in_ok-name.name.name) c.in_ok-name.name.end e.result b.result q j n.value e.ensures.end is before quoted.0 within quoted.1 some (rw start at v.read) v.here);
+      read = attribute_reads src c.args.start (name_view c.in_ok-name.name.name) c.in_ok-name.name.end s q j c.after_byte.result n.value v quoted.here quoted.quote quoted.some w.read w.here done;
       start = refl;
       end = done;
-      verbatim = v.verbatim;
+      verbatim = w.verbatim;
       value = c.range.ensures.value;
       borrowed = refl;
-      cut = c.after_byte-2.ensures.cut;
+      cut = c.after_byte.ensures.cut;
       onward = omega arith;
+      local = n.local;
+      gap = omega arith;
+      whole = omega (arith, done, long, ap length c.range.ensures.value);
     }

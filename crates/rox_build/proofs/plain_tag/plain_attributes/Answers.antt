@@ -1,56 +1,20 @@
-use Rattle.std.proofs.Common.{◌≡◌, ◌==◌, false, length, map, slice_index, sym, ◌∙◌}
+use Rattle.std.proofs.Common.{◌≡◌, map, slice_index, sym, ◌∙◌, arith}
 use Rattle.std.proofs.lemmas.Bool.{eqb-true}
 use Rattle.rox_tables.specs.Bindings.{places_view}
 use Rattle.rox_tables.specs.Rows.{namespace_view, attribute_rows}
-use Rattle.rox_tables.specs.ResolvedNames.{AddsResolved}
-use Rattle.rox_build.proofs.PlainTags.{plain_starts, plain_more, opens_there, closes_or_not, done_within}
+use Rattle.rox_build.proofs.Items.{stands_within}
+use Rattle.rox_build.proofs.PlainTags.{plain_starts, opens_there, no_space}
 use Rattle.rox_build.proofs.plain_tag.plain_attributes.Goals as goal
-
-pub loop-turn-init : goal.loop-turn-init
-loop-turn-init c = record {
-  cut = c.requires.cut;
-  so_far = plain_starts (map namespace_view c.args.namespaces.now) (places_view c.args.few) c.args.present.now c.args.text.now c.args.start (attribute_rows c.args.attributes.now);
-}
 
 pub returns-then-is_at-clause-read : goal.returns-then-is_at-clause-read
 returns-then-is_at-clause-read c =
-    let l = c.loop-turn in
     let src = c.args.text.now in
-    let j = c.space_end-here.result in
-    let here : slice_index src j ≡ 62 = eqb-true _ _ (sym c.is_at.ensures ∙ c.if-is_at.true) in
-    rw c.after_byte.ensures.place
-    (opens_there (map namespace_view c.args.namespaces.now) (places_view c.args.few) c.args.present.now src c.args.start (attribute_rows c.args.attributes.now) l.at j (attribute_rows l.attributes) l.invariant.so_far c.space_end-here.ensures.onward
-    c.space_end-here.ensures.end here)
-
-pub returns-then-is_at-2-clause-read : goal.returns-then-is_at-2-clause-read
-returns-then-is_at-2-clause-read c =
-    let l = c.loop-turn in
-    let src = c.args.text.now in
-    let j = c.space_end-here.result in
-    let here : slice_index src j ≡ 47 = eqb-true _ _ (sym c.is_at-in-loop-turn.ensures ∙ c.if-is_at-2.true) in
-    closes_or_not (map namespace_view c.args.namespaces.now) (places_view c.args.few) c.args.present.now src c.args.start (attribute_rows c.args.attributes.now) l.at j (attribute_rows l.attributes) c.empty_end.result l.invariant.so_far
-    c.space_end-here.ensures.onward c.space_end-here.ensures.end here c.empty_end.ensures.here c.empty_end.ensures.place
-
-pub put_resolved-requires-clause-done : goal.put_resolved-requires-clause-done
-put_resolved-requires-clause-done c =
-    let l = c.loop-turn in
-    done_within c.args.namespaces.now (places_view c.args.few) c.args.present.now c.args.text.now c.args.start c.len-from.result (attribute_rows c.args.attributes.now) l.at (attribute_rows l.attributes) l.invariant.so_far c.len-from.ensures
-
-pub loop-turn-preserved : goal.loop-turn-preserved
-loop-turn-preserved c =
-    let l = c.loop-turn in
-    let src = c.args.text.now in
-    let j = c.space_end-here.result in
+    let start = c.args.start in
     let namespaces = map namespace_view c.args.namespaces.now in
     let few = places_view c.args.few in
-    let old = attribute_rows c.args.attributes.now in
-    let close : (slice_index src j == 62) ≡ false = sym c.is_at.ensures ∙ c.if-is_at.false in
-    let slash : (slice_index src j == 47) ≡ false = sym c.is_at-in-loop-turn.ensures ∙ c.if-is_at-2.false in
-    let added = c.put_resolved.ensures.added c.if-not-put_resolved.false in
-    let resolved : AddsResolved namespaces few c.args.present.now (length old) (attribute_rows l.attributes) (attribute_rows c.put_resolved.new.attributes) c.in_ok-one.one = rw c.len-from.ensures at added in
-    let plain = c.in_ok-one.ensures in
-    record {
-      cut = plain.cut;
-      so_far = plain_more namespaces few c.args.present.now src c.args.start old l.at j (attribute_rows l.attributes) (attribute_rows c.put_resolved.new.attributes) c.in_ok-one.one l.invariant.so_far
-          c.space_end-here.ensures.onward c.space_end-here.ensures.end c.if-here-at.false slash close plain (sym c.is_namespace_decl.ensures ∙ c.if-is_namespace_decl.false) resolved;
-    }
+    let rows = attribute_rows c.args.attributes.now in
+    let here : slice_index src start ≡ 62 = eqb-true _ _ (sym c.is_at.ensures ∙ c.if-is_at.true) in
+    let spaces = no_space src start c.utf8.text c.requires.cut (stands_within src start 62 here (omega arith)) (omega (arith, here)) in
+    let none = plain_starts namespaces few c.args.present.now src start rows in
+    rw c.after_byte.ensures.place
+    (opens_there namespaces few c.args.present.now src start rows start start rows none (omega arith) spaces here)

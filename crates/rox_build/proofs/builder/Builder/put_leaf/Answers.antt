@@ -5,7 +5,6 @@ use Rattle.rox_build.specs.BuilderState.{IsNode}
 use Rattle.rox_grammar.specs.State.{scope_of}
 use Rattle.rox_reading.specs.State.{State}
 use Rattle.rox_tables.specs.declared.rows.tables.NodeData.{NodeData}
-use Rattle.rox_tables.specs.declared.rows.tables.NodeKind.TheVariants as kind
 use Rattle.rox_build.proofs.Showing.{leaf_shows, leaf_count, settled_count, counted_ok}
 use Rattle.rox_tables.specs.Rows.{node_rows}
 use Rattle.rox_tables.proofs.StoredNodes.{count_nodes}
@@ -18,7 +17,7 @@ pub returns-clause-value : goal.returns-clause-value
 returns-clause-value c = λ total at s item sh is.
     let f = c.settle.new.self in
     let st = c.settle.ensures.ok total s.stack s.done sh in
-    let k : IsNode f.tables (scope_of s.stack) c.args.start c.args.end (kind.Element c.args.element) item = rw c.settle.ensures.tables is in
+    let k : IsNode f.tables (scope_of s.stack) c.args.start c.args.end c.args.kind item = rw c.settle.ensures.tables is in
     let t : State = record { at = at; done = join s.done (leaf item); stack = s.stack; openings_left = s.openings_left } in
     let n = settled_count total s.stack s.done f st in
     let m = leaf_count s.stack s.done item is.no_text in
@@ -28,6 +27,6 @@ returns-clause-value c = λ total at s item sh is.
     let old = count_nodes c.args.self.now.nodes in (
       t,
       counted_ok c.args.self.now.nodes_limit t (omega arith),
-      leaf_shows total s.stack s.done f _ c.args.start c.args.end (kind.Element c.args.element) item st k
+      leaf_shows total s.stack s.done f _ c.args.start c.args.end c.args.kind item st k
           (c.put.ensures.rows ∙ ap (λ (r : NodeData). (node_rows f.nodes) ++ r ∷ []) c.row-row.ensures) refl refl refl,
     )

@@ -1,0 +1,53 @@
+-- Two stretches of bytes that begin alike.
+use Rattle.std.proofs.Common.{◌≡◌, ℕ, ◌<◌, ◌≤◌, ◌^◌, ◌%◌, Bool, true, false, not, eqb, cond, List, map, length, take, get_or, slice_index, sym, ap, subst, ◌∙◌, arith, inl, inr, w8}
+use Rattle.std.specs.Prelude.{bytes_eq}
+use Rattle.std.specs.List.{prefix_len}
+use Rattle.std.specs.Simd.Lanes.{mask_l, top, zip2}
+use Rattle.std.proofs.lemmas.Bool.{cases_eq, eqb-true, not-false, not-true}
+use Rattle.std.proofs.lemmas.List.{ext_get_or, length-take, get_or-take, map-id}
+use Rattle.std.proofs.lemmas.List.Sums.{prefix_len_passes}
+use Rattle.std.proofs.lemmas.Simd.{length-zip2, get_or-zip2, tops_compared, mask_l-mod, leading_from_mask_l, trailing_mask_l}
+use Rattle.std.proofs.lemmas.Slice.Eq.{bytes_eq-Decides}
+use lib.Count.{count_trailing_zeros}
+
+-- lanes that differ
+abbrev pub differ : ℕ → ℕ → Bool
+differ a b = not (eqb a b)
+
+abbrev pub differs : ℕ → ℕ → ℕ
+differs a b = cond (not (eqb a b)) 255 0
+
+-- no bit is set before the lowest
+before_lowest : (ms : List Bool) (k : ℕ) → length ms ≡ 16 → k < 16 → k < count_trailing_zeros 64 (mask_l ms) → get_or ms k false ≡ false
+before_lowest ms k long few below =
+    let e = map-id ms in
+    let passes : k < prefix_len (λ (b : Bool). not b) ms = elim (cases_eq (mask_l ms) 0) [
+      | inl none ↦ (
+          let none' : mask_l (map (λ (b : Bool). b) ms) ≡ 0 = ap mask_l e ∙ none in
+          let all = leading_from_mask_l (λ (b : Bool). b) ms none' in
+          omega arith)
+      | inr some ↦ (
+          let some' : 0 < mask_l (map (λ (b : Bool). b) ms) = rw e (omega arith) in
+          let t = trailing_mask_l (λ (b : Bool). b) 64 ms (omega arith) some' in
+          let t' : count_trailing_zeros 64 (mask_l ms) ≡ prefix_len (λ (b : Bool). not b) ms = rw e at t in
+          omega arith)
+    ] in
+    not-true _ (prefix_len_passes (λ (b : Bool). not b) ms k false passes)
+
+-- bytes before the first of sixteen that differs
+pub agree_before : (us vs : List ℕ) (m k : ℕ) → length us ≡ 16 → length vs ≡ 16 → m ≡ mask_l (map (top 7) (zip2 differs us vs)) % 2 ^ 64 → k < 16 → k < count_trailing_zeros 64 m → get_or us k 0 ≡ get_or vs k 0
+agree_before us vs m k one other is few below =
+    let ms = zip2 differ us vs in
+    let long : length ms ≡ 16 = length-zip2 differ us vs (one ∙ sym other) ∙ one in
+    let at : m ≡ mask_l ms = is ∙ ap (λ ms. mask_l ms % 2 ^ 64) (tops_compared w8 differ us vs) ∙ mask_l-mod ms 64 (omega arith) in
+    let apart = before_lowest ms k long few (subst (λ (n : ℕ). k < count_trailing_zeros 64 n) at below) in
+    eqb-true _ _ (not-false _ (sym (get_or-zip2 differ us vs k 0 0 false (omega arith) (omega arith)) ∙ apart))
+
+pub front_agrees : (xs ys : List ℕ) (n k : ℕ) → n ≤ 16 → 16 ≤ length xs → 16 ≤ length ys → n ≤ k → ((j : ℕ) → j < 16 → j < k → slice_index xs j ≡ slice_index ys j) → take n xs ≡ take n ys
+front_agrees xs ys n k few one other le same =
+    let a = length-take n xs in
+    let b = length-take n ys in
+    ext_get_or 0 (take n xs) (take n ys) (omega arith) (λ j below. get_or-take n xs j 0 (omega arith) ∙ same j (omega arith) (omega arith) ∙ sym (get_or-take n ys j 0 (omega arith)))
+
+pub bytes_same : (xs ys : List ℕ) → bytes_eq xs ys ≡ true → xs ≡ ys
+bytes_same xs ys h = (bytes_eq-Decides xs ys).0 h
