@@ -1,25 +1,28 @@
 -- The nodes of a tree say as much as the items that they are of.
 use Rattle.std.proofs.Common.{◌≡◌, ◌+◌, ◌*◌, ◌≤◌, ◌==◌, ℕ, Bool, List, [], ◌∷◌, length, map, refl, arith}
-use Rattle.std.specs.Prelude.{max, count_by, Option, Some, None, Ok, IfSome}
+use Rattle.std.specs.Prelude.{max, count_by, sum_by, Option, Some, None, Ok, IfSome}
 use Rattle.std.proofs.lemmas.Nat.{mul-le}
 use Rattle.std.proofs.lemmas.List.{length-map}
+use Rattle.std.proofs.lemmas.List.Sums.{sum_by-cons}
 use Rattle.rox_grammar.specs.Forest.{Forest, Nil, Cons}
 use Rattle.rox_grammar.specs.Written as written
 use Rattle.rox_grammar.specs.Written.{NamespaceDecl, Item, Element, Text, Comment, PI}
-use Rattle.rox_grammar.specs.Tree.{Node, attribute_in, scope_in, node_in, resolved, document_tree}
+use Rattle.rox_grammar.specs.Tree.{Attribute, Node, attribute_in, scope_in, node_in, resolved, document_tree}
 use Rattle.rox_grammar.specs.Doctype.{Request, Asked}
 use Rattle.rox_grammar.specs.Document.{own_attributes, attribute_count, ParseOf}
-use Rattle.rox_grammar.specs.Expansion.{value_bytes_of, own_bytes, bytes_in, longest}
+use Rattle.rox_grammar.specs.Expansion.{longest}
+use Rattle.rox_theory.specs.ItemSize.{value_bytes_of, own_bytes, bytes_in}
+use Rattle.roxmltree.specs.NodeParts.{attributes_of}
 use Rattle.rox_reading.proofs.Forests.{size-resolved}
 use Rattle.rox_theory.specs.Answers.{AreShort}
 use Rattle.rox_theory.proofs.Bound.{is_bounded}
 use Rattle.rox_theory.proofs.Longest.{parse_short}
 use Rattle.rox_build.specs.Requests.{Reply, AreAllowed}
-use Rattle.rox_laws.specs.TreeSize.{attribute_bytes, bytes_of, attribute_count_of, all_bytes, all_attributes, IsTreeBounded}
+use Rattle.rox_laws.specs.TreeSize.{bytes_of, all_bytes, all_attributes, IsTreeBounded}
 
-values_same : (scope : List NamespaceDecl) (as' : List written.Attribute) → attribute_bytes (map (attribute_in scope) as') ≡ value_bytes_of as'
+values_same : (scope : List NamespaceDecl) (as' : List written.Attribute) → sum_by (λ (a : Attribute). length a.value) (map (attribute_in scope) as') ≡ value_bytes_of as'
 values_same scope [] = refl
-values_same scope (a ∷ as') = omega (arith, values_same scope as')
+values_same scope (a ∷ as') = omega (arith, sum_by-cons (λ (b : Attribute). length b.value) (attribute_in scope a) (map (attribute_in scope) as'), values_same scope as')
 
 bytes_same : (scope : List NamespaceDecl) (item : Item) → bytes_of (node_in scope item) ≡ own_bytes item
 bytes_same scope (Element start end tag) = values_same scope tag.attributes
@@ -27,7 +30,7 @@ bytes_same scope (Text start end value borrowed) = refl
 bytes_same scope (Comment start end text) = refl
 bytes_same scope (PI start end target value) = refl
 
-count_same : (scope : List NamespaceDecl) (item : Item) → attribute_count_of (node_in scope item) ≡ own_attributes item
+count_same : (scope : List NamespaceDecl) (item : Item) → length (attributes_of (node_in scope item)) ≡ own_attributes item
 count_same scope (Element start end tag) = length-map tag.attributes (attribute_in scope)
 count_same scope (Text start end value borrowed) = refl
 count_same scope (Comment start end text) = refl

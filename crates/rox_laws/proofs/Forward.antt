@@ -45,7 +45,7 @@ attribute_forward src i j b c a is =
       run_end_le is_space src a.name_end,
       run_end_le is_space src (spaces_end src a.name_end + 1),
       literal_le src is.v is.e j is.literal,
-      is.literal.next,
+      is.literal.quoted.next,
     )
 
 pub attributes_forward : (src : List ℕ) (i j b c : ℕ) (as' : List Attribute) → Attributes true no_entities src i j b c as' → i ≤ j

@@ -92,7 +92,7 @@ module _ (opens : ℕ → Inclusion) (es : List Entity) (text : List ℕ) where
 
   part_of : (k : ℕ) (src : List ℕ) (start end b l : ℕ) (part : List ℕ) (i stop d : ℕ) → IsOf text es src → ValuePart opens es k src start end b l part i stop d → IsOf text es part
   part_of k src start end b l part i stop d of places.ValuePart.itself = of
-  part_of k src start end b l part i stop d of (places.ValuePart.opened n x y z c r p j from t before to below refers may) = inr (_, t, refers.found, refl)
+  part_of k src start end b l part i stop d of (places.ValuePart.opened n x y z c r p j from front t before to below refers may) = inr (_, t, refers.found, refl)
 
   from_of : (limit : ℕ) (declared : Bool) (Front : ℕ → Forest Item → Type 0) (source : List ℕ) (f : Fault) → FaultFrom opens es limit text declared Front source f
       → (source ≡ text) ⊎ (((p : ℕ) × (items : Forest Item) × Front p items) × IsOf text es source)

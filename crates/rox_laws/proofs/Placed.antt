@@ -140,8 +140,8 @@ module _ (src : List ℕ) (utf8 : IsUtf8 src) where
 
   pair_cut : (i j : ℕ) → IsPair src i j → IsCharBoundary src j
   pair_cut i j is =
-      let low = quote_ascii (byte src is.v) is.literal.quote in
-      subst (IsCharBoundary src) (sym is.literal.next) (cut_behind src is.e (byte src is.v) utf8 (literal_closes src is.v is.e j is.literal) (omega arith) (omega arith))
+      let low = quote_ascii (byte src is.v) is.literal.quoted.quote in
+      subst (IsCharBoundary src) (sym is.literal.quoted.next) (cut_behind src is.e (byte src is.v) utf8 (literal_closes src is.v is.e j is.literal) (omega arith) (omega arith))
 
   gap_cut : (j k : ℕ) → IsCharBoundary src j → IsGap src j k → IsCharBoundary src k
   gap_cut j k cut (constructs.IsGap.some_space _ some) = run_cut is_space src j utf8 cut
@@ -201,7 +201,7 @@ module _ (src : List ℕ) (utf8 : IsUtf8 src) where
 
   pub value_placed : (es : List Entity) (k : ℕ) (O : Inclusion) (i stop b : ℕ) (f : Fault) → InValue es k O src i stop b f → IsPlaced src f
   value_placed es k O i stop b f (rows.InValue.in_reference p _ from before ill) = references_placed es p f ill
-  value_placed es k O i stop b f (rows.InValue.too_many p j c t to before refers spent) = reference_inside src p refers.n j refers.is_reference
+  value_placed es k O i stop b f (rows.InValue.too_many p j c front t to before refers spent) = reference_inside src p refers.n j refers.is_reference
   value_placed es k O i stop b f (rows.InValue.less p inner from before is) = let there = within src p (λ z. omega arith) in omega arith
   value_placed es k O i stop b f (rows.InValue.less_by_reference p j inner from before is) = let there = character_within src p 60 j is in omega arith
   value_placed es k O i stop b f (rows.InValue.no_char q c inner from before is bad) = let there = char_within c src q is in omega arith
@@ -279,5 +279,5 @@ module _ (src : List ℕ) (utf8 : IsUtf8 src) where
   stands_placed limit es k open_around O s b f (rows.Stands.unknown inner is other) = let before = within src s.at (λ z. omega arith) in omega arith
   stands_placed limit es k open_around O s b f (rows.Stands.unclosed start tag before up stack past in_main) = tt
   stands_placed limit es k open_around O s b f (rows.Stands.unclosed_in_replacement deep past inner) = tt
-  stands_placed limit es k open_around O s b f (rows.Stands.too_many_nodes c t takes few few_pairs over) = tt
-  stands_placed limit es k open_around O s b f (rows.Stands.too_many_pieces stop p j c front t inner run parts well_named before refers few few_pairs over) = tt
+  stands_placed limit es k open_around O s b f (rows.Stands.too_many_nodes c t takes over) = tt
+  stands_placed limit es k open_around O s b f (rows.Stands.too_many_pieces stop p j c front t inner run parts well_named before refers over) = tt

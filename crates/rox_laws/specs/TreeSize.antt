@@ -1,23 +1,16 @@
 -- How much the nodes of a tree say, and how many they are, against their text.
 use Prim.Native.Char.{code}
-use Rattle.std.specs.Prelude.{ℕ, ◌+◌, ◌*◌, ◌≤◌, ◌==◌, List, [], ◌∷◌, length, count_by}
+use Rattle.std.specs.Prelude.{ℕ, ◌+◌, ◌*◌, ◌≤◌, ◌==◌, List, length, sum_by, count_by}
 use Rattle.rox_grammar.specs.Forest.{Forest, Nil, Cons, size}
-use Rattle.rox_grammar.specs.Tree.{Attribute, Node, Element, Text}
+use Rattle.rox_grammar.specs.Tree.{Node, Element, Text}
 use Rattle.rox_grammar.specs.Entities.{most_within}
-
-abbrev pub attribute_bytes : List Attribute → ℕ
-attribute_bytes [] = 0
-attribute_bytes (a ∷ as') = length a.value + attribute_bytes as'
+use Rattle.roxmltree.specs.NodeParts.{attributes_of}
 
 -- the bytes of the value of a text, or of those of an element's attributes
 abbrev pub bytes_of : Node → ℕ
-bytes_of (Element start end namespace local listed attributes) = attribute_bytes attributes
+bytes_of (Element start end namespace local listed attributes) = sum_by (λ a. length a.value) attributes
 bytes_of (Text start end value borrowed) = length value
 bytes_of other = 0
-
-abbrev pub attribute_count_of : Node → ℕ
-attribute_count_of (Element start end namespace local listed attributes) = length attributes
-attribute_count_of other = 0
 
 -- the values of all texts and attributes together
 abbrev pub all_bytes : Forest Node → ℕ
@@ -27,7 +20,7 @@ all_bytes (Cons node children rest) = bytes_of node + (all_bytes children + all_
 -- how many attributes there are
 abbrev pub all_attributes : Forest Node → ℕ
 all_attributes Nil = 0
-all_attributes (Cons node children rest) = attribute_count_of node + all_attributes children + all_attributes rest
+all_attributes (Cons node children rest) = length (attributes_of node) + all_attributes children + all_attributes rest
 
 -- the bytes of the text, and for each `&` in it so many as often as one reference may open some
 abbrev pub most_tree_bytes : (text : List ℕ) (longest : ℕ) → ℕ

@@ -1,6 +1,7 @@
 //! Callers of the library, proved by its public contracts alone.
 #![tactic(auto)]
 
+pub mod answers;
 pub mod exchanges;
 pub mod ids;
 pub mod paths;
@@ -9,6 +10,9 @@ pub mod records;
 #[cfg(test)]
 mod tests;
 
+pub use crate::answers::{
+    AttributeAnswers, NamespaceAnswers, attribute_answers, namespace_answers,
+};
 pub use crate::exchanges::with_copy;
 pub use crate::ids::element_by_id;
 pub use crate::paths::{QueryError, records_at};

@@ -14,7 +14,7 @@ use Rattle.roxmltree.specs.Places.{place}
 use Rattle.roxmltree.specs.Stripped.{stripped, stripped_row}
 use Rattle.roxmltree.specs.NodeParts.{is_root_node, is_element_node, is_text_node, is_comment_node, is_pi_node, start_of, end_of, local_of, pi_of, text_content, content_of}
 use Rattle.roxmltree.specs.Kinds.{type_of}
-use Rattle.roxmltree.specs.StoredText.{content_in}
+use Rattle.roxmltree.specs.Stripped.{content_in}
 use Rattle.rox_tables.specs.Rows.{node_rows}
 use Rattle.roxmltree.proofs.Rows.{row_line, in_rows}
 

@@ -8,8 +8,7 @@ use Rattle.rox_grammar.specs.FixedTexts.{at}
 use Rattle.rox_grammar.specs.Forest.{Forest}
 use Rattle.rox_grammar.specs.Tree.{Node}
 use Rattle.rox_grammar.specs.Spans.{NamesText}
-use Rattle.rox_grammar.specs.Faults.{FaultOf}
-use Rattle.rox_grammar.specs.FaultsWithDoctype.{RefusalOf}
+use Rattle.rox_grammar.specs.FaultsWithDoctype.{RefusalOf, FaultOf}
 use Rattle.rox_grammar.specs.Doctype.{Request, Asked}
 use Rattle.rox_grammar.specs.Document.{IsTreeOf, Permits, HasAsked, nothing, one_more, AsksNext}
 use Rattle.rox_reading.specs.Refusals.{Refusal, here, there, refused}

@@ -1,14 +1,13 @@
--- What an element has, as callers and as the tables say it.
+-- What the iterators of an element's attributes and namespaces have left.
 use Rattle.std.specs.Prelude.{◌≡◌, ℕ, ◌<◌, ◌≤◌, List, map, length, slice_range}
 use Rattle.std.specs.Coded.{Coded, coded_list}
 use Rattle.std.specs.List.{AllByRecursion}
 use Rattle.rox_grammar.specs.Written.{NamespaceDecl}
 use Rattle.rox_grammar.specs.Tree as tree
 use Rattle.rox_tables.specs.Rows.{attribute, attribute_rows, namespace_view, namespace_at, AreScopes, NamespaceWithin}
-use Rattle.rox_tables.specs.StoredAttributes.{row_in}
 use Rattle.rox_tables.specs.Scopes.{places_in, ArePlaces}
 use Rattle.roxmltree.specs.TreeCodes.{attribute_code, namespace_decl_code}
-use Rattle.roxmltree.specs.declared.attributes.Attribute.{Attribute}
+pub use Rattle.roxmltree.specs.AttributeView.{attribute_of}
 use Rattle.roxmltree.specs.declared.attributes.Attributes.TheInside as attributes
 use Rattle.roxmltree.specs.declared.namespaces.NamespaceIter.TheInside as namespaces
 
@@ -17,10 +16,6 @@ attributes_code = coded_list attribute_code
 
 abbrev pub namespace_decls_code : Coded (List NamespaceDecl)
 namespace_decls_code = coded_list namespace_decl_code
-
--- an attribute as callers see it
-abbrev pub attribute_of : Attribute → tree.Attribute
-attribute_of a = attribute (map namespace_view a.namespaces.now) (row_in a.table.now.unusual.items a.row.now)
 
 -- those that are left
 abbrev pub attributes_left : attributes.Inside → List tree.Attribute

@@ -9,6 +9,7 @@ pub mod DocumentTables
 pub mod EachNode
 pub mod ExpandedNames
 pub mod NamespaceBound
+pub mod AttributeView
 pub mod ElementLists
 pub mod GivesNode
 pub mod NodeRef

@@ -4,7 +4,7 @@ use Rattle.std.specs.Option.{option_map}
 use Rattle.rox_grammar.specs.Forest.{Forest}
 use Rattle.rox_grammar.specs.Written.{NamespaceDecl}
 use Rattle.rox_grammar.specs.Tree.{Node, Attribute, Root, Element, Text, Comment, PI}
-pub use Rattle.rox_grammar.specs.Tree.{is_element_node, start_of, end_of}
+pub use Rattle.rox_grammar.specs.NodeRanges.{is_element_node, start_of, end_of}
 use Rattle.roxmltree.specs.Places.{place, first_child, next_sibling}
 
 -- the node of this id

@@ -1,11 +1,9 @@
 -- Texts and instructions as the tables hold them.
-use Rattle.std.specs.Prelude.{ℕ, Bool, List, Option, Some, None}
+use Rattle.std.specs.Prelude.{ℕ, Bool, List, Option}
 use Rattle.std.specs.Option.{option_map}
 use Rattle.rox_tables.specs.Storage.{storage_bytes, is_borrowed}
 use Rattle.rox_tables.specs.declared.rows.storage.StringStorage.{StringStorage}
 use Rattle.rox_tables.specs.declared.rows.tables.PI.{PI}
-use Rattle.rox_tables.specs.declared.rows.tables.NodeKind.{NodeKind}
-use Rattle.rox_tables.specs.declared.rows.tables.NodeKind.TheVariants as kind
 
 -- the bytes, and whether they are a slice of the input
 abbrev pub stored : StringStorage → List ℕ × Bool
@@ -14,9 +12,3 @@ stored s = (storage_bytes s, is_borrowed s)
 -- a target and a value
 abbrev pub instruction : PI → List ℕ × Option (List ℕ)
 instruction pi = (pi.target.now, option_map (λ v. v.now) pi.value)
-
--- the text of a text node's or a comment's row
-abbrev pub content_in : NodeKind → Option (List ℕ × Bool)
-content_in (kind.Text value) = Some (stored value)
-content_in (kind.Comment text) = Some (stored text)
-content_in other = None

@@ -1,8 +1,9 @@
 -- A node without what other tables say of it.
-use Rattle.std.specs.Prelude.{ℕ, [], None}
+use Rattle.std.specs.Prelude.{ℕ, Bool, List, [], Option, Some, None}
 use Rattle.std.specs.Option.{option_map}
 use Rattle.rox_grammar.specs.Tree.{Node, Root, Element, Text, Comment, PI}
 use Rattle.rox_tables.specs.Storage.{storage_bytes, is_borrowed}
+use Rattle.roxmltree.specs.StoredText.{stored}
 use Rattle.rox_tables.specs.declared.rows.tables.NodeKind.{NodeKind}
 use Rattle.rox_tables.specs.declared.rows.tables.NodeKind.TheVariants as kind
 
@@ -21,3 +22,9 @@ stripped_row start end (kind.Element e) = Element start end None e.local.now [] 
 stripped_row start end (kind.Text value) = Text start end (storage_bytes value) (is_borrowed value)
 stripped_row start end (kind.Comment text) = Comment start end (storage_bytes text)
 stripped_row start end (kind.PI pi) = PI start end pi.target.now (option_map (λ v. v.now) pi.value)
+
+-- the text of a text node's or a comment's row
+abbrev pub content_in : NodeKind → Option (List ℕ × Bool)
+content_in (kind.Text value) = Some (stored value)
+content_in (kind.Comment text) = Some (stored text)
+content_in other = None

@@ -44,7 +44,7 @@ impl<'a, 'input> Node<'a, 'input> {
             (expanded name.entry)) }
     {
         self.is_element()
-            && self.local_name() == name.name()
+            && equal_names(self.local_name(), name.name())
             && self.document.namespace_of(self.id) == name.namespace()
     }
 
@@ -54,7 +54,7 @@ impl<'a, 'input> Node<'a, 'input> {
             ≡ (is_element_node (item_of self.now)
             && bytes_eq (local_of (item_of self.now)) local.now) }
     {
-        self.is_element() && self.local_name() == local
+        self.is_element() && equal_names(self.local_name(), local)
     }
 
     /// The attributes of an element, as written. An empty iterator for other nodes.
@@ -149,25 +149,14 @@ impl<'a, 'input> Node<'a, 'input> {
 
     /// The prefix of the first listed namespace of this URI: None where that is the default, and where none is listed, as on
     /// nodes that are no element. `xml` for the URI of `xml`, on every node (Namespaces in XML 1.0 section 3).
+    #[inline(always)]
     pub fn lookup_prefix(&self, uri: &str) -> Option<&'input str>
         ensures { option_map (λ s. s.now) result
             ≡ prefix_of uri.now (listed_of (item_of self.now)) }
     {
-        if uri == NS_XML_URI {
+        if equal_names(uri, NS_XML_URI) {
             return Some("xml");
         }
-        Node::first_prefix(uri, self.namespaces())
-    }
-
-    /// The prefix of the first of these namespaces that has this URI.
-    fn first_prefix(uri: &str, namespaces: NamespaceIter<'a, 'input>) -> Option<&'input str>
-        ensures { option_map (λ s. s.now) result ≡ first_prefix uri.now namespaces.entry }
-    {
-        for namespace in namespaces {
-            if namespace.uri() == uri {
-                return namespace.name();
-            }
-        }
-        None
+        self.document.prefix_listed_for(self.id, uri)
     }
 }

@@ -1,6 +1,7 @@
 //! Names with their namespaces (Namespaces in XML 1.0 section 2.1).
 
-ghost use Rattle.std.specs.Prelude.{◌≡◌, Some, None, bytes_eq};
+ghost use Rattle.std.specs.Prelude.{◌≡◌, ◌≤◌, ◌+◌, length, Some, None, bytes_eq, slice_range};
+ghost use Rattle.std.specs.Int.{w32, from_le_bytes, to_le_bytes};
 ghost use Rattle.std.specs.Option.{option_map};
 ghost use Rattle.roxmltree.specs.ExpandedNames.{expanded, same_expanded_name};
 
@@ -14,7 +15,10 @@ pub const NS_XML_URI: &str = "http://www.w3.org/XML/1998/namespace";
 pub const NS_XMLNS_URI: &str = "http://www.w3.org/2000/xmlns/";
 
 /// The length from which on two names are compared out of line.
-const LONG: usize = 8;
+const LONG: usize = 9;
+
+/// How many bytes a word has.
+const WORD: usize = 4;
 
 /// Whether two long names are the same. It is kept out of line, so that what goes over many names stays short.
 #[inline(never)]
@@ -22,6 +26,39 @@ fn equal_long(one: &str, other: &str) -> bool
     ensures { result ≡ bytes_eq one.now other.now }
 {
     one == other
+}
+
+/// Four bytes as one word.
+#[inline(always)]
+fn word_at(bytes: &[u8], at: usize) -> u32
+    requires { at + 4 ≤ length bytes.now }
+    ensures value { result ≡ from_le_bytes w32 (slice_range bytes.now at (at + 4)) }
+    ensures back { to_le_bytes w32 result ≡ slice_range bytes.now at (at + 4) }
+{
+    u32::from_le_bytes([bytes[at], bytes[at + 1], bytes[at + 2], bytes[at + 3]])
+}
+
+/// Whether four bytes are the same in both.
+#[inline(always)]
+fn same_word(one: &[u8], other: &[u8], at: usize) -> bool
+    requires one { at + 4 ≤ length one.now }
+    requires other { at + 4 ≤ length other.now }
+    ensures { result
+        ≡ bytes_eq (slice_range one.now at (at + 4)) (slice_range other.now at (at + 4)) }
+{
+    word_at(one, at) == word_at(other, at)
+}
+
+/// Whether two stretches of four to eight bytes, of one length, are the same: their first four are, and their last four.
+#[inline(always)]
+fn same_words(one: &[u8], other: &[u8]) -> bool
+    requires same { length one.now ≡ length other.now }
+    requires least { 4 ≤ length one.now }
+    requires most { length one.now ≤ 8 }
+    ensures { result ≡ bytes_eq one.now other.now }
+{
+    let last = one.len() - WORD;
+    same_word(one, other, 0) && same_word(one, other, last)
 }
 
 /// Whether two names are the same. Most differ in length, which is compared first.
@@ -34,6 +71,9 @@ pub(crate) fn equal_names(one: &str, other: &str) -> bool
     }
     if one.len() >= LONG {
         return equal_long(one, other);
+    }
+    if one.len() >= WORD {
+        return same_words(one.as_bytes(), other.as_bytes());
     }
     same_bytes(one.as_bytes(), other.as_bytes())
 }

@@ -1,13 +1,15 @@
-//! What a scope lists for a prefix. The stretches of a rope are gone over from leaf to leaf: by its index each place would be
-//! sought from the top.
+//! What a scope lists for a prefix, and for a URI. The stretches of a rope are gone over from leaf to leaf for a prefix: by its
+//! index each place would be sought from the top.
 
-ghost use Rattle.std.specs.Prelude.{◌≡◌, ◌<◌, ◌++◌, length, map, reverse};
+ghost use Rattle.std.specs.Prelude.{◌≡◌, ◌<◌, ◌++◌, None, length, map, reverse, IfSome, IfNone};
 ghost use Rattle.std.specs.Option.{option_map};
 ghost use Rattle.rox_grammar.specs.Tree.{same_prefix, uri_of};
 ghost use Rattle.rox_tables.specs.Rows.{namespace_view, AreScopes};
 ghost use Rattle.rox_tables.specs.Scopes.{prefix_view, entries, places_in, ArePlaces};
+ghost use Rattle.roxmltree.specs.ExpandedNames.{first_prefix};
 
 use crate::names::equal_names;
+use crate::namespaces::NamespaceIter;
 use rox_tables::rows::tables::{Concat, Namespace, Scope};
 
 /// Whether a namespace is of this prefix, or is the default.
@@ -118,5 +120,70 @@ fn first_in_parts<'a, 'input>(
     match first_in_scope(scopes, listed, namespaces, parts.first, prefix) {
         Some(namespace) => Some(namespace),
         None => first_in_scope(scopes, listed, namespaces, parts.rest, prefix),
+    }
+}
+
+/// The prefix of the first at these places that is of this URI.
+#[inline(always)]
+fn prefix_among<'input>(
+    namespaces: &[Namespace<'input>],
+    places: &[u16],
+    uri: &str,
+) -> Option<&'input str>
+    requires { ArePlaces (length namespaces.now) places.now }
+    ensures { option_map (λ s. s.now) result
+        ≡ first_prefix uri.now (entries (map namespace_view namespaces.now) places.now) }
+{
+    for place in places {
+        let namespace = &namespaces[*place as usize];
+        if equal_names(namespace.uri(), uri) {
+            return namespace.name();
+        }
+    }
+    None
+}
+
+/// The first of these namespaces that is of this URI. It is kept out of line, since few scopes list many.
+#[inline(never)]
+fn first_of_uri<'a, 'input>(
+    namespaces: NamespaceIter<'a, 'input>,
+    uri: &str,
+) -> Option<&'a Namespace<'input>>
+    ensures some { IfSome result
+        (λ n. (namespace_view n.now).prefix ≡ first_prefix uri.now namespaces.entry) }
+    ensures none { IfNone result (first_prefix uri.now namespaces.entry ≡ None) }
+{
+    for namespace in namespaces {
+        if namespace.uri() == uri {
+            return Some(namespace);
+        }
+    }
+    None
+}
+
+/// The prefix of the first that a scope lists of this URI: in line where the scope is one stretch from its front.
+#[inline(always)]
+pub(crate) fn prefix_in_scope<'input>(
+    scopes: &[Scope],
+    listed: &[u16],
+    namespaces: &[Namespace<'input>],
+    scope: u32,
+    uri: &str,
+) -> Option<&'input str>
+    requires is_row { scope < length scopes.now }
+    requires scopes { AreScopes (length listed.now) scopes.now }
+    requires named { ArePlaces (length namespaces.now) listed.now }
+    ensures { option_map (λ s. s.now) result
+        ≡ first_prefix uri.now (entries (map namespace_view namespaces.now)
+        (places_in listed.now scopes.now scope)) }
+{
+    if let Scope::Few(stretch) = scopes[scope as usize] {
+        let places = &listed[stretch.from as usize..stretch.until as usize];
+        return prefix_among(namespaces, places, uri);
+    }
+    let all = NamespaceIter::of_scope(scopes, listed, namespaces, scope);
+    match first_of_uri(all, uri) {
+        Some(namespace) => namespace.name(),
+        None => None,
     }
 }

@@ -7,12 +7,13 @@ ghost use Rattle.rox_grammar.specs.Tree.{uri_of};
 ghost use Rattle.rox_tables.specs.Rows.{namespace_view};
 ghost use Rattle.roxmltree.specs.Places.{place, parent, children};
 ghost use Rattle.roxmltree.specs.NodeParts.{node_at, start_of, end_of, content_of, namespace_of, listed_of, attributes_of};
+ghost use Rattle.roxmltree.specs.ExpandedNames.{first_prefix};
 
 use crate::attributes::Attributes;
 use crate::iterators::Descendants;
 use crate::namespaces::NamespaceIter;
 use crate::nodes::{Node, NodeId};
-use crate::scopes::first_in_scope;
+use crate::scopes::{first_in_scope, prefix_in_scope};
 use rox_tables::rows::stored_node::{KindRef, RowRef, StoredNode};
 use rox_tables::rows::tables::{Namespace, Tables};
 use std::marker::Model;
@@ -48,8 +49,7 @@ impl<'input> Document<'input> {
     ghost use Rattle.rox_tables.specs.Rows.{HoldsTree};
     ghost use Rattle.rox_tables.specs.StoredNodes.{kind_of};
     ghost use Rattle.roxmltree.specs.DocumentTables.{HoldsDocument};
-    ghost use Rattle.roxmltree.specs.Stripped.{stripped, stripped_row};
-    ghost use Rattle.roxmltree.specs.StoredText.{content_in};
+    ghost use Rattle.roxmltree.specs.Stripped.{stripped, stripped_row, content_in};
     ghost use Rattle.roxmltree.specs.NodeRef.{number, node_ref, node_refs, id_of, document_of};
     ghost use Rattle.roxmltree.specs.Elements.{nearest_element, root_id};
 
@@ -275,5 +275,25 @@ impl<'input> Document<'input> {
         let scopes = self.tables.scopes.as_slice();
         let listed = self.tables.listed.as_slice();
         first_in_scope(scopes, listed, namespaces, element.scope, prefix)
+    }
+
+    /// The prefix of the first namespace of this URI that an element lists.
+    #[inline(always)]
+    pub(crate) fn prefix_listed_for(&self, id: NodeId, uri: &str) -> Option<&'input str>
+        requires { number id < size self.now.tree }
+        ensures { option_map (λ s. s.now) result
+            ≡ first_prefix uri.now (listed_of (node_at self.now.tree (number id))) }
+    {
+        let node_kind = self.tables.nodes.kind(id.0 as usize);
+        let namespaces = self.tables.namespaces.as_slice();
+        if namespaces.is_empty() {
+            return None;
+        }
+        let KindRef::Element(element) = node_kind else {
+            return None;
+        };
+        let scopes = self.tables.scopes.as_slice();
+        let listed = self.tables.listed.as_slice();
+        prefix_in_scope(scopes, listed, namespaces, element.scope, uri)
     }
 }

@@ -2,7 +2,8 @@
 
 use super::{document_of, node_of, number, same};
 use crate::{
-    QueryError, Record, RecordsError, element_by_id, read_records, records_at, resolve, with_copy,
+    QueryError, Record, RecordsError, attribute_answers, element_by_id, namespace_answers,
+    read_records, records_at, resolve, with_copy,
 };
 use rox_path::PathError;
 use roxmltree::{ExpandedName, Node};
@@ -90,4 +91,25 @@ fn qualified_names(rt: HostRuntime) {
     stands_for(&rt, s, "T", ("v", "T").into());
     stands_for(&rt, document.root(), "T", "T".into());
     same(&rt, "q:T", resolve(s, "q:T"), None);
+}
+
+#[test]
+fn answers_of_attributes_and_namespaces(rt: HostRuntime) {
+    let document = document_of(&rt, "<r xmlns:n='u' n:a='x&lt;'/>");
+    for attribute in document.root_element().attributes() {
+        let answers = attribute_answers(attribute);
+        same(&rt, "start", answers.start, 15);
+        same(&rt, "name_end", answers.name_end, 18);
+        same(&rt, "value_start", answers.value_start, 20);
+        same(&rt, "end", answers.end, 26);
+        same(&rt, "namespace", answers.namespace, Some("u"));
+        same(&rt, "name", answers.name, "a");
+        same(&rt, "value", answers.value, "x<");
+        same(&rt, "borrowed", answers.borrowed, false);
+    }
+    for namespace in document.root_element().namespaces() {
+        let answers = namespace_answers(namespace);
+        same(&rt, "prefix", answers.name, Some("n"));
+        same(&rt, "uri", answers.uri, "u");
+    }
 }

@@ -5,7 +5,7 @@ use Rattle.rox_grammar.specs.declared.fault.Fault.{Fault}
 use Rattle.rox_grammar.specs.Forest.{Forest}
 use Rattle.rox_grammar.specs.Tree as grammar
 use Rattle.rox_grammar.specs.Spans.{NamesText}
-use Rattle.rox_grammar.specs.Faults.{FaultOf}
+use Rattle.rox_grammar.specs.FaultsWithDoctype.{FaultOf}
 use Rattle.rox_grammar.specs.Document.{IsTreeOf}
 use Rattle.rox_reading.specs.Refusals.{here}
 use Rattle.rox_reading.specs.WholeText.{reading}

@@ -1,0 +1,70 @@
+//! All that an attribute and a namespace answer. They are seen as that and no more, so the rows that they are read from need not
+//! be trusted.
+
+ghost use Rattle.std.specs.Prelude.{◌≡◌};
+ghost use Rattle.roxmltree.specs.AttributeView.{attribute_of};
+ghost use Rattle.roxmltree.specs.Rows.{namespace_view};
+ghost use Rattle.roxmltree.specs.Storage.{is_borrowed};
+ghost use Rattle.rox_uses.specs.Answers.{attribute_answered, namespace_answered};
+
+use roxmltree::{Attribute, Namespace, StringStorage};
+
+/// What the calls of an attribute answer.
+#[derive(Clone, Copy)]
+pub struct AttributeAnswers<'a, 'input> {
+    pub start: usize,
+    pub name_end: usize,
+    pub value_start: usize,
+    pub end: usize,
+    pub namespace: Option<&'a str>,
+    pub name: &'input str,
+    pub value: &'a str,
+    /// The value is a slice of the input.
+    pub borrowed: bool,
+}
+
+/// An attribute is seen as what its calls answer.
+pub fn attribute_answers<'a, 'input>(
+    attribute: Attribute<'a, 'input>,
+) -> AttributeAnswers<'a, 'input>
+    ensures { attribute_of attribute.entry ≡ attribute_answered result }
+{
+    AttributeAnswers {
+        start: attribute.position(),
+        name_end: attribute.range_qname().end,
+        value_start: attribute.range_value().start,
+        end: attribute.range().end,
+        namespace: attribute.namespace(),
+        name: attribute.name(),
+        value: attribute.value(),
+        borrowed: is_slice(attribute.value_storage()),
+    }
+}
+
+fn is_slice(text: &StringStorage<'_>) -> bool
+    ensures { result ≡ is_borrowed text.now }
+{
+    match text {
+        StringStorage::Borrowed(_) => true,
+        StringStorage::Owned(_) => false,
+    }
+}
+
+/// What the calls of a namespace answer.
+#[derive(Clone, Copy)]
+pub struct NamespaceAnswers<'a, 'input> {
+    pub name: Option<&'input str>,
+    pub uri: &'a str,
+}
+
+/// A namespace is seen as what its calls answer.
+pub fn namespace_answers<'a, 'input>(
+    namespace: &'a Namespace<'input>,
+) -> NamespaceAnswers<'a, 'input>
+    ensures { namespace_view namespace.now ≡ namespace_answered result }
+{
+    NamespaceAnswers {
+        name: namespace.name(),
+        uri: namespace.uri(),
+    }
+}

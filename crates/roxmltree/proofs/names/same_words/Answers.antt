@@ -1,0 +1,12 @@
+use Rattle.std.proofs.Common.{◌≡◌, ◌+◌, ◌-◌, length, sym, ◌∙◌, arith}
+use Rattle.roxmltree.proofs.Words.{last_tell}
+use Rattle.roxmltree.proofs.names.same_words.Goals as goal
+
+pub returns-then-same_word : goal.returns-then-same_word
+returns-then-same_word c =
+    let one = c.args.one.now in
+    let other = c.args.other.now in
+    let last = length one - 4 in
+    let m : length one ≡ last + 4 = omega (arith, c.requires.least) in
+    let n : length other ≡ last + 4 = omega (arith, c.requires.least, c.requires.same) in
+    c.same_word-then-same_word.ensures ∙ last_tell one other last (omega (arith, c.requires.most)) m n (sym c.same_word.ensures ∙ c.if-same_word.true)

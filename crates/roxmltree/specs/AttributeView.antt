@@ -1,0 +1,9 @@
+-- An attribute as callers see it.
+use Rattle.std.specs.Prelude.{map}
+use Rattle.rox_grammar.specs.Tree as tree
+use Rattle.rox_tables.specs.Rows.{attribute, namespace_view}
+use Rattle.rox_tables.specs.StoredAttributes.{row_in}
+use Rattle.roxmltree.specs.declared.attributes.Attribute.{Attribute}
+
+abbrev pub attribute_of : Attribute → tree.Attribute
+attribute_of a = attribute (map namespace_view a.namespaces.now) (row_in a.table.now.unusual.items a.row.now)
