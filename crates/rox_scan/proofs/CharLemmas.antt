@@ -1,18 +1,18 @@
 -- Stretches of Chars, one behind another.
-use Rattle.std.proofs.Common.{◌≡◌, ℕ, zero, suc, ◌+◌, ◌-◌, ◌/◌, ◌%◌, ◌<◌, ◌≤◌, Bool, true, leb, lt-ltb, le-ltb, List, [], ◌∷◌, ◌++◌, length, take, drop, get_or, slice_range, refl, sym, ap, ◌∙◌, arith, inl, inr, length-append, length-drop}
+use Rattle.std.proofs.Common.{◌≡◌, ℕ, zero, suc, ◌+◌, ◌-◌, ◌/◌, ◌%◌, ◌<◌, ◌≤◌, Bool, true, false, leb, lt-ltb, le-ltb, List, [], ◌∷◌, ◌++◌, length, take, drop, get_or, slice_range, refl, sym, ap, ◌∙◌, arith, inl, inr, length-append}
 use Rattle.std.specs.Char.{encode_utf8, len_utf8}
 use Rattle.std.specs.List.{list_all}
 use Rattle.std.specs.Str.{chars, IsUtf8, IsCharBoundary}
 use Rattle.std.proofs.Math.Utf8.{encodes}
-use Rattle.std.proofs.Math.Seq.{take-append-add, take-append_seam}
+use Rattle.std.proofs.Math.Seq.{take-append_seam}
 use Rattle.std.proofs.lemmas.Bool.{and_parts, and_from, cases_Bool, cases_lt, cond-true, cond-false, le-leb, leb-true}
-use Rattle.std.proofs.lemmas.List.{append-nil, drop-take, length-take, get_or-drop}
-use Rattle.std.proofs.lemmas.List.Folds.{list_all-append, drop_split}
+use Rattle.std.proofs.lemmas.List.{append-nil, drop-take, drop-drop, take-append-drop, get_or-drop}
+use Rattle.std.proofs.lemmas.List.Folds.{list_all-append}
 use Rattle.std.proofs.lemmas.Str.{chars-nil, chars-append, chars_past_char, encodes-chars, length-encode, len_utf8_bounds, len_utf8_ascii, IsUtf8-between, IsCharBoundary-before_ascii, IsCharBoundary-after_ascii}
 use Rattle.rox_reading.proofs.Stretches.{range_length, range_parts}
 use Rattle.rox_scan.proofs.RunLemmas.{stands_ascii}
 use Rattle.rox_grammar.specs.Chars.{is_char}
-use Rattle.rox_grammar.specs.Runs.{run_end, passing, StandsAt}
+use Rattle.rox_grammar.specs.Runs.{run_end, passing, first_passes, begins, StandsAt}
 use Rattle.rox_grammar.specs.Constructs.{AreChars}
 
 -- if each passes, as many bytes pass as there are
@@ -94,6 +94,36 @@ ascii_char src i utf8 within ascii passes =
     let next = IsCharBoundary-after_ascii src i utf8 within ascii in
     let one = one_char src i (get_or src i 0) utf8 (IsCharBoundary-before_ascii src i within ascii) (stands_ascii src i within ascii) (rw long next) passes in
     rw long at one
+
+-- a run goes on behind characters that pass
+passing_on : (p : ℕ → Bool) (cs ds : List ℕ) → list_all p cs ≡ true → passing p (cs ++ ds) ≡ length (encodes cs) + passing p ds
+passing_on p [] ds h = omega arith
+passing_on p (c ∷ cs) ds h =
+    let both = and_parts (p c) (list_all p cs) h in
+    rw both.0 (omega (arith, length-append (encode_utf8 c) (encodes cs), length-encode c, passing_on p cs ds both.1))
+
+-- so it ends where the run from behind them does
+pub chars_go_on : (src : List ℕ) (i j : ℕ) → IsUtf8 src → IsCharBoundary src i → IsCharBoundary src j → i ≤ j → AreChars src i j → run_end is_char src j ≡ run_end is_char src i
+unfolding run_end
+chars_go_on src i j utf8 from to le h =
+    let text = IsUtf8-between src i j utf8 le from to in
+    let at : i + (j - i) ≡ j = omega arith in
+    let parts : drop i src ≡ slice_range src i j ++ drop j src = sym (take-append-drop (j - i) (drop i src)) ∙ ap (λ l. slice_range src i j ++ l) (drop-drop (j - i) i src ∙ ap (λ (n : ℕ). drop n src) at) in
+    let both = ap chars parts ∙ chars-append (slice_range src i j) (drop j src) text in
+    let count = passing_on is_char (chars (slice_range src i j)) (chars (drop j src)) (chars_all src i j utf8 from to h) in
+    let spelled = ap length (encodes-chars (slice_range src i j) text) in
+    let long = range_length src i j le to.0 in
+    let whole : passing is_char (chars (drop i src)) ≡ (j - i) + passing is_char (chars (drop j src)) = ap (passing is_char) both ∙ count ∙ ap (λ (n : ℕ). n + passing is_char (chars (drop j src))) (spelled ∙ long) in
+    omega (arith, whole)
+
+none_passing : (p : ℕ → Bool) (cs : List ℕ) → first_passes p cs ≡ false → passing p cs ≡ 0
+none_passing p [] h = refl
+none_passing p (c ∷ cs) h = rw h refl
+
+-- and it ends where none begins that passes
+pub run_ends_here : (p : ℕ → Bool) (src : List ℕ) (i : ℕ) → begins p src i ≡ false → run_end p src i ≡ i
+unfolding run_end begins
+run_ends_here p src i h = omega (arith, none_passing p (chars (drop i src)) h)
 
 -- ---- no byte of a character past ASCII is ASCII
 

@@ -47,6 +47,9 @@ comment_leads : (b : ℕ) → is_comment_byte b ≡ false → 128 ≤ b → 192 
 unfolding is_comment_byte
 comment_leads b h wide = grind (arith, nat_tests)
 
+char_leads : (b : ℕ) → is_char_byte b ≡ false → 128 ≤ b → 192 ≤ b
+char_leads b h wide = grind (arith, nat_tests)
+
 -- so the first such byte is where one ends
 pub value_cut : (src : List ℕ) (e : ℕ) → e ≤ length src → (e < length src → is_value_byte (get_or src e 0) ≡ false) → IsCharBoundary src e
 value_cut src e within stops = (within, λ more wide. value_leads _ (stops more) wide)
@@ -56,6 +59,9 @@ text_cut src e within stops = (within, λ more wide. text_leads _ (stops more) w
 
 pub comment_cut : (src : List ℕ) (e : ℕ) → e ≤ length src → (e < length src → is_comment_byte (get_or src e 0) ≡ false) → IsCharBoundary src e
 comment_cut src e within stops = (within, λ more wide. comment_leads _ (stops more) wide)
+
+pub char_cut : (src : List ℕ) (e : ℕ) → e ≤ length src → (e < length src → is_char_byte (get_or src e 0) ≡ false) → IsCharBoundary src e
+char_cut src e within stops = (within, λ more wide. char_leads _ (stops more) wide)
 
 part_is_part : (b : ℕ) → is_part_byte b ≡ true → is_part_char b ≡ true
 unfolding is_part_byte

@@ -74,6 +74,30 @@ impl ByteSet for CommentByte {
     }
 }
 
+/// The bytes that begin no character but a Char, or go on with one.
+pub struct CharByte;
+
+// Classes that a byte of the set has none of, and any other has one.
+const CHAR_LOW: [u8; 16] = [3, 3, 3, 3, 3, 3, 3, 3, 3, 2, 2, 3, 3, 2, 3, 11];
+
+const CHAR_HIGH: [u8; 16] = [1, 2, 0, 0, 0, 0, 0, 0, 0, 0, 0, 0, 0, 0, 8, 0];
+
+impl ByteSet for CharByte {
+    ghost test = { near.is_char_byte };
+
+    #[inline(always)]
+    fn has(byte: u8) -> bool {
+        chars::is_plain_byte(byte)
+    }
+
+    #[inline(always)]
+    fn others(block: u8x16) -> u64 {
+        classes(CHAR_LOW, CHAR_HIGH, block)
+            .simd_ne(u8x16::splat(0))
+            .to_bitmask()
+    }
+}
+
 /// The ASCII bytes of a part of a name.
 pub struct PartByte;
 

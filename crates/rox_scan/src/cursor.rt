@@ -6,9 +6,8 @@ ghost use Rattle.std.proofs.Props.{props};
 
 use crate::byte_set::part_end;
 use crate::chars::is_space;
-use crate::runs::{
-    NameChar, NameStart, after_byte, begins, char_at, chars_end, is_at, run_end, space_end,
-};
+use crate::lookahead::chars_end;
+use crate::runs::{NameChar, NameStart, after_byte, begins, char_at, is_at, run_end, space_end};
 use rox_grammar::fault::{Due, Fault, Word};
 use rox_grammar::name::QName;
 

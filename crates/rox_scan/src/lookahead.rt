@@ -4,7 +4,7 @@
 ghost use Rattle.std.specs.Prelude.{◌≡◌, ◌==◌, ◌||◌, ◌<◌, ◌≤◌, ℕ, true, false, length, slice_index};
 ghost use Rattle.std.specs.Str.{IsCharBoundary};
 ghost use Rattle.rox_grammar.specs.Chars.{is_char};
-ghost use Rattle.rox_grammar.specs.Runs.{begins};
+ghost use Rattle.rox_grammar.specs.Runs.{begins, run_end};
 ghost use Rattle.rox_grammar.specs.Constructs.{AreChars};
 ghost use Rattle.rox_grammar.specs.Search.{stands};
 ghost use Rattle.rox_grammar.specs.Content as content;
@@ -13,7 +13,7 @@ ghost use Rattle.rox_scan.specs.ByteSets as near;
 ghost use Rattle.rox_scan.specs.Lookahead as longer;
 ghost use Rattle.rox_scan.specs.Lookahead.{IsLookahead};
 
-use crate::byte_set::{ByteSet, CommentByte, ValueByte, skip_set};
+use crate::byte_set::{ByteSet, CharByte, CommentByte, ValueByte, skip_set};
 use crate::nibbles::classes;
 use crate::runs::{Class, XmlChar, char_at};
 use std::simd::prelude::*;
@@ -46,6 +46,26 @@ pub(crate) fn after_char(text: &str, at: usize) -> usize
     } else {
         at
     }
+}
+
+/// Where the Chars from `at` on end.
+#[inline]
+pub fn chars_end(text: &str, at: usize) -> usize
+    requires { IsCharBoundary text.now at }
+    ensures end { result ≡ run_end is_char text.now at }
+    ensures onward { at ≤ result }
+    ensures cut { IsCharBoundary text.now result }
+{
+    let bytes = text.as_bytes();
+    let mut end = skip_set::<CharByte>(text, at);
+    while end < bytes.len() {
+        let next = after_char(text, end);
+        if next == end {
+            break;
+        }
+        end = skip_set::<CharByte>(text, next);
+    }
+    end
 }
 
 /// Whether the mark stands at `at`. Where its first byte does not, no other is looked at.

@@ -1,11 +1,9 @@
 //! Runs of characters.
 ghost use Rattle.std.specs.Prelude.{◌≡◌, ◌==◌, ◌+◌, ◌<◌, ◌≤◌, ℕ, Bool, true, length, drop, slice_index};
 ghost use Rattle.std.specs.Char.{len_utf8};
-ghost use Rattle.std.specs.List.{list_all};
 ghost use Rattle.std.specs.Str.{IsCharBoundary, chars};
 ghost use Rattle.rox_grammar.specs.Chars as spec;
 ghost use Rattle.rox_grammar.specs.Runs.{run_end, begins, StandsAt};
-ghost use Rattle.rox_scan.specs.ByteSets as near;
 
 use crate::chars;
 
@@ -187,30 +185,4 @@ pub fn after_byte(text: &str, at: usize, byte: u8) -> usize
     ensures cut { IsCharBoundary text.now result }
 {
     at + 1
-}
-
-/// Whether each byte is one of a Char, whichever character it is of. It may be false where all are Chars.
-#[inline(always)]
-pub fn is_char_byte(bytes: &[u8]) -> bool
-    ensures { result ≡ list_all near.is_char_byte bytes.now }
-{
-    let mut plain = true;
-    for byte in bytes {
-        plain &= chars::is_plain_byte(*byte);
-    }
-    plain
-}
-
-/// Where the Chars from `at` on end.
-#[inline]
-pub fn chars_end(text: &str, at: usize) -> usize
-    requires { IsCharBoundary text.now at }
-    ensures end { result ≡ run_end spec.is_char text.now at }
-    ensures onward { at ≤ result }
-    ensures cut { IsCharBoundary text.now result }
-{
-    if is_char_byte(text[at..].as_bytes()) {
-        return text.len();
-    }
-    run_end::<XmlChar>(text, at)
 }

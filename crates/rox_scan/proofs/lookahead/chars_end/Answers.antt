@@ -1,0 +1,36 @@
+use Rattle.std.proofs.Common.{sym, ◌∙◌, arith}
+use Rattle.rox_grammar.specs.Chars.{is_char}
+use Rattle.rox_scan.specs.ByteSets.{is_char_byte}
+use Rattle.rox_scan.proofs.NearLemmas.{near_chars, char_cut}
+use Rattle.rox_scan.proofs.CharLemmas.{chars_joined, chars_go_on, run_ends_here}
+use Rattle.rox_scan.proofs.lookahead.chars_end.Goals as goal
+
+pub loop-end-init : goal.loop-end-init
+loop-end-init c =
+    let src = c.args.text.now in
+    let n = c.skip_set-end.ensures in
+    let cut = char_cut src _ n.within n.stops in
+    record { onward = n.onward; cut = cut; chars = near_chars is_char_byte src c.args.at _ c.utf8.text c.requires n.onward cut n.passes (λ b h. h) }
+
+pub loop-end-preserved : goal.loop-end-preserved
+loop-end-preserved c =
+    let src = c.args.text.now in
+    let i = c.args.at in
+    let f = c.loop-end.invariant in
+    let a = c.after_char-next.ensures in
+    let n = c.skip_set-end-in-loop-end.ensures in
+    let cut = char_cut src _ n.within n.stops in
+    let behind = near_chars is_char_byte src _ _ c.utf8.text a.cut n.onward cut n.passes (λ b h. h) in
+    let joined = chars_joined src i _ _ c.utf8.text c.requires f.cut a.cut f.onward a.onward f.chars a.chars in
+    record {
+      onward = omega (arith, f.onward, a.onward, n.onward);
+      cut = cut;
+      chars = chars_joined src i _ _ c.utf8.text c.requires a.cut cut (omega (arith, f.onward, a.onward)) n.onward joined behind;
+    }
+
+pub returns-then-next-end-clause-end : goal.returns-then-next-end-clause-end
+returns-then-next-end-clause-end c =
+    let src = c.args.text.now in
+    let f = c.loop-end.invariant in
+    let on = chars_go_on src c.args.at _ c.utf8.text c.requires f.cut f.onward f.chars in
+    sym (run_ends_here is_char src _ (c.after_char-next.ensures.stops c.if-next-end.true)) ∙ on

@@ -1,0 +1,14 @@
+use Rattle.std.proofs.Common.{◌≤◌, ◌-◌, length}
+use Rattle.std.specs.Str.{IsCharBoundary}
+use Rattle.rox_grammar.specs.Constructs.{AreChars}
+use Rattle.rox_scan.proofs.lookahead.chars_end.Given as goal
+
+abbrev pub invariant-loop-end : goal.invariant-loop-end
+invariant-loop-end l = record {
+  onward : l.at ≤ l.end;
+  cut : IsCharBoundary l.text l.end;
+  chars : AreChars l.text l.at l.end;
+}
+
+abbrev pub decreases-loop-end : goal.decreases-loop-end
+decreases-loop-end l = length l.bytes - l.end
