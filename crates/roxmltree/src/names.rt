@@ -1,7 +1,7 @@
 //! Names with their namespaces (Namespaces in XML 1.0 section 2.1).
 
 ghost use Rattle.std.specs.Prelude.{◌≡◌, ◌≤◌, ◌+◌, length, Some, None, bytes_eq, slice_range};
-ghost use Rattle.std.specs.Int.{w32, from_le_bytes, to_le_bytes};
+ghost use Rattle.std.specs.Int.{w32, w64, from_le_bytes, to_le_bytes};
 ghost use Rattle.std.specs.Option.{option_map};
 ghost use Rattle.roxmltree.specs.ExpandedNames.{expanded, same_expanded_name};
 
@@ -15,10 +15,13 @@ pub const NS_XML_URI: &str = "http://www.w3.org/XML/1998/namespace";
 pub const NS_XMLNS_URI: &str = "http://www.w3.org/2000/xmlns/";
 
 /// The length from which on two names are compared out of line.
-const LONG: usize = 9;
+const LONG: usize = 17;
 
 /// How many bytes a word has.
 const WORD: usize = 4;
+
+/// How many bytes a long word has.
+const LONG_WORD: usize = 8;
 
 /// Whether two long names are the same. It is kept out of line, so that what goes over many names stays short.
 #[inline(never)]
@@ -61,6 +64,59 @@ fn same_words(one: &[u8], other: &[u8]) -> bool
     same_word(one, other, 0) && same_word(one, other, last)
 }
 
+/// Eight bytes as one long word.
+#[inline(always)]
+fn long_word_at(bytes: &[u8], at: usize) -> u64
+    requires { at + 8 ≤ length bytes.now }
+    ensures value { result ≡ from_le_bytes w64 (slice_range bytes.now at (at + 8)) }
+    ensures back { to_le_bytes w64 result ≡ slice_range bytes.now at (at + 8) }
+{
+    u64::from_le_bytes([
+        bytes[at],
+        bytes[at + 1],
+        bytes[at + 2],
+        bytes[at + 3],
+        bytes[at + 4],
+        bytes[at + 5],
+        bytes[at + 6],
+        bytes[at + 7],
+    ])
+}
+
+/// Whether eight bytes are the same in both.
+#[inline(always)]
+fn same_long_word(one: &[u8], other: &[u8], at: usize) -> bool
+    requires one { at + 8 ≤ length one.now }
+    requires other { at + 8 ≤ length other.now }
+    ensures { result
+        ≡ bytes_eq (slice_range one.now at (at + 8)) (slice_range other.now at (at + 8)) }
+{
+    long_word_at(one, at) == long_word_at(other, at)
+}
+
+/// Whether two stretches of eight to sixteen bytes, of one length, are the same: their first eight are, and their last eight.
+#[inline(always)]
+fn same_long_words(one: &[u8], other: &[u8]) -> bool
+    requires same { length one.now ≡ length other.now }
+    requires least { 8 ≤ length one.now }
+    requires most { length one.now ≤ 16 }
+    ensures { result ≡ bytes_eq one.now other.now }
+{
+    let last = one.len() - LONG_WORD;
+    same_long_word(one, other, 0) && same_long_word(one, other, last)
+}
+
+/// Whether two long names of one length are the same. Where their ends differ, no call is made.
+#[inline(always)]
+fn equal_ends(one: &str, other: &str) -> bool
+    requires same { length one.now ≡ length other.now }
+    requires least { 8 ≤ length one.now }
+    ensures { result ≡ bytes_eq one.now other.now }
+{
+    let last = one.len() - LONG_WORD;
+    same_long_word(one.as_bytes(), other.as_bytes(), last) && equal_long(one, other)
+}
+
 /// Whether two names are the same. Most differ in length, which is compared first.
 #[inline(always)]
 pub(crate) fn equal_names(one: &str, other: &str) -> bool
@@ -70,7 +126,10 @@ pub(crate) fn equal_names(one: &str, other: &str) -> bool
         return false;
     }
     if one.len() >= LONG {
-        return equal_long(one, other);
+        return equal_ends(one, other);
+    }
+    if one.len() >= LONG_WORD {
+        return same_long_words(one.as_bytes(), other.as_bytes());
     }
     if one.len() >= WORD {
         return same_words(one.as_bytes(), other.as_bytes());

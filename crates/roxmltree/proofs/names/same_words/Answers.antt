@@ -9,4 +9,4 @@ returns-then-same_word c =
     let last = length one - 4 in
     let m : length one ≡ last + 4 = omega (arith, c.requires.least) in
     let n : length other ≡ last + 4 = omega (arith, c.requires.least, c.requires.same) in
-    c.same_word-then-same_word.ensures ∙ last_tell one other last (omega (arith, c.requires.most)) m n (sym c.same_word.ensures ∙ c.if-same_word.true)
+    c.same_word-then-same_word.ensures ∙ last_tell 4 one other last (omega (arith, c.requires.most)) m n (sym c.same_word.ensures ∙ c.if-same_word.true)
