@@ -29,6 +29,7 @@ use rox_tables::namespaces::bindings::PrefixBindings;
 use rox_tables::namespaces::namespace_decl::is_namespace_decl;
 use rox_tables::namespaces::resolve::{element_namespace, put_resolved};
 use rox_tables::namespaces::scope::few_places;
+use rox_tables::namespaces::seen_names::SeenNames;
 use rox_tables::namespaces::unresolved_attribute::UnresolvedAttribute;
 use rox_tables::rows::attributes::AttributeTable;
 use rox_tables::rows::storage::StringStorage;
@@ -290,8 +291,8 @@ fn far_space_end(text: &str, at: usize) -> usize
     space_end(text, at)
 }
 
-/// A plain tag has less than so many attributes: they are compared one with another.
-const FEW: usize = 17;
+/// A plain tag has less than so many attributes: the general step puts the names of more into a set.
+const FEW: usize = 129;
 
 /// The attributes of a tag, up to its end, if they are plain and find room: each goes into the table, with its namespace in this
 /// scope. Else some may stand there too.
@@ -315,7 +316,7 @@ fn some_attributes<'input>(
     ensures grown { (more : List AttributeRow)
         × (attribute_rows attributes.new ≡ attribute_rows attributes.old ++ more) }
 {
-    let from = attributes.len();
+    let mut seen = SeenNames::new(attributes.len());
     let mut at = start;
     for _turn in 0..FEW {
         let here = near_space_end(text, at);
@@ -336,7 +337,7 @@ fn some_attributes<'input>(
             return None;
         }
         at = one.end;
-        if !put_resolved(namespaces, few, present, attributes, from, one) {
+        if !put_resolved(namespaces, few, present, attributes, &mut seen, one) {
             return None;
         }
     }

@@ -17,3 +17,4 @@ pub mod Seeing
 pub mod Remembering
 pub mod Presenting
 pub mod Finding
+pub mod SeenCodes

@@ -5,6 +5,7 @@ pub mod UsualPlaces
 pub mod StoredAttributes
 pub mod Growth
 pub mod Scopes
+pub mod SeenNames
 pub mod ResolvedNames
 pub mod PairIndex
 pub mod ExpandedNames

@@ -21,6 +21,14 @@ pub fn same_bytes(one: &[u8], other: &[u8]) -> bool
     true
 }
 
+/// Whether two long texts are the same. It is kept out of line, so that a loop over short ones stays in registers.
+#[inline(never)]
+fn same_long(one: &str, other: &str) -> bool
+    ensures { result ≡ bytes_eq one.now other.now }
+{
+    one == other
+}
+
 /// Whether two texts are the same: `one == other`, but in line for short texts, which names are.
 #[inline(always)]
 pub fn same_text(one: &str, other: &str) -> bool
@@ -30,7 +38,7 @@ pub fn same_text(one: &str, other: &str) -> bool
         return false;
     }
     if one.len() >= LONG {
-        return one == other;
+        return same_long(one, other);
     }
     same_bytes(one.as_bytes(), other.as_bytes())
 }

@@ -9,5 +9,6 @@ pub mod prefix_set;
 pub mod resolve;
 pub mod rope;
 pub mod scope;
+pub mod seen_names;
 pub mod tag_scope;
 pub mod unresolved_attribute;

@@ -1,7 +1,7 @@
 //! The names of a start tag in their namespaces (Namespaces in XML 1.0, sections 5, 6.2 and 6.3). They are resolved at the
 //! end of the tag, since a declaration holds for the whole of it.
 
-ghost use Rattle.std.specs.Prelude.{◌≡◌, ◌<◌, ◌≤◌, ◌+◌, ◌^◌, ◌++◌, ◌∷◌, [], drop, List, length, map, true, false, IfOk, OnOk, IfErr, IfSome, IfNone, Ok};
+ghost use Rattle.std.specs.Prelude.{◌≡◌, ℕ, ◌<◌, ◌≤◌, ◌+◌, ◌^◌, ◌++◌, ◌∷◌, [], drop, List, length, map, true, false, IfOk, OnOk, IfErr, IfSome, IfNone, Ok};
 ghost use Rattle.std.specs.List.{AllByRecursion, list_any};
 ghost use Rattle.std.specs.Option.{option_map};
 ghost use Rattle.rox_grammar.specs.declared.fault.Fault.TheVariants as fault;
@@ -19,12 +19,14 @@ ghost use Rattle.rox_tables.specs.Bindings.{FindsBinding, LooksWithin, places_vi
 ghost use Rattle.rox_tables.specs.TagDeclarations.{unresolved_view};
 ghost use Rattle.rox_tables.specs.ResolvedNames.{row_of_unresolved, has_expanded, Tested, AddsResolved};
 ghost use Rattle.rox_tables.specs.ExpandedNames.{HasExpandedNames, TestedOr};
+ghost use Rattle.rox_tables.specs.SeenNames.{name_code, HasCode, HasNameOf, AreSeen};
 
 use crate::compare::same_text;
 use crate::namespaces::bindings::PrefixBindings;
 use crate::namespaces::expanded_names::is_repeated_name;
 use crate::namespaces::namespace_decl::{local_span, prefix_span};
 use crate::namespaces::scope::{XML_URI, find, find_default, same_prefix};
+use crate::namespaces::seen_names::SeenNames;
 use crate::namespaces::unresolved_attribute::UnresolvedAttribute;
 use crate::rows::attributes::AttributeTable;
 use crate::rows::storage::StringStorage;
@@ -36,8 +38,11 @@ use rox_grammar::name::QName;
 use std::alloc::Global;
 use std::collections::BTreeSet;
 
-/// Up to so many attributes of a tag are compared one with another.
+/// Up to so many attributes of a tag are compared with those before them whose names have the same code.
 const FEW: usize = 16;
+
+/// Up to so many they are, unless many of the codes come again.
+const MOST: usize = 128;
 
 /// The namespace of an attribute's name in this scope: none without a prefix, and its own for `xml`. Answers `None` where
 /// the prefix is not known.
@@ -132,39 +137,49 @@ fn is_among(
     false
 }
 
-/// Whether one of these attributes has this expanded name. The first of a tag takes no call.
+/// Whether one of these attributes, which were seen, has this expanded name, which is seen behind it. Where no name had its
+/// code, this takes no call.
 #[inline(always)]
 fn is_repeated(
     namespaces: &[Namespace<'_>],
     done: &[StoredAttribute<'_>],
+    seen: &mut SeenNames,
     namespace: AttributeNamespace,
     local: &str,
 ) -> bool
     requires done { AllByRecursion
         (λ a. NamespaceWithin (length namespaces.now) (data_of a).namespace) done.now }
     requires other { NamespaceWithin (length namespaces.now) namespace }
-    ensures { result ≡ list_any
+    requires seen { AllByRecursion (λ a. HasNameOf seen.old.codes (data_of a)) done.now }
+    ensures is { result ≡ list_any
         (λ a. has_expanded (map namespace_view namespaces.now) namespace local.now
         (data_of a)) done.now }
+    ensures put { HasCode seen.new.codes (name_code local.now) }
+    ensures from { seen.new.from ≡ seen.old.from }
+    ensures kept { (code : ℕ) → HasCode seen.old.codes code → HasCode seen.new.codes code }
 {
-    if done.is_empty() {
+    if !seen.put(local) {
         return false;
     }
+    seen.count_again();
     is_among(namespaces, done, namespace, local)
 }
 
-/// The namespace of an attribute behind these of its tag: its prefix must be known, and its expanded name be none of theirs.
+/// The namespace of an attribute behind these of its tag, which were seen: its prefix must be known, and its expanded name be none
+/// of theirs.
 #[inline(always)]
 fn tested_namespace(
     namespaces: &[Namespace<'_>],
     few: Option<&[u16]>,
     present: &PrefixBindings<'_>,
     done: &[StoredAttribute<'_>],
+    seen: &mut SeenNames,
     taken: &UnresolvedAttribute<'_>,
 ) -> Result<AttributeNamespace, Fault>
     requires within { LooksWithin (length namespaces.now) (places_view few) present.now }
     requires done { AllByRecursion
         (λ a. NamespaceWithin (length namespaces.now) (data_of a).namespace) done.now }
+    requires seen { AllByRecursion (λ a. HasNameOf seen.old.codes (data_of a)) done.now }
     ensures within { IfOk result (λ s. NamespaceWithin (length namespaces.now) s) }
     ensures there { (ds : List NamespaceDecl)
         → FindsBinding (map namespace_view namespaces.now) (places_view few.entry) present.now ds
@@ -176,12 +191,15 @@ fn tested_namespace(
         → map (λ r. r.0) rows ≡ map data_of done.now
         → map (attribute (map namespace_view namespaces.now)) rows ≡ map (attribute_in ds) before
         → Tested ds before (unresolved_view taken.now) rest result }
+    ensures put { IfOk result (λ _. HasCode seen.new.codes (name_code taken.now.name.local.now)) }
+    ensures from { seen.new.from ≡ seen.old.from }
+    ensures kept { (code : ℕ) → HasCode seen.old.codes code → HasCode seen.new.codes code }
 {
     let name = taken.name;
     let Some(namespace) = attribute_namespace(namespaces, few, present, name) else {
         return Err(Fault::UnknownNamespace(prefix_span(name.prefix, taken.start), taken.start));
     };
-    if is_repeated(namespaces, done, namespace, name.local) {
+    if is_repeated(namespaces, done, seen, namespace, name.local) {
         return Err(Fault::DuplicatedAttribute(local_span(name.local, taken.name_end), taken.start));
     }
     Ok(namespace)
@@ -251,15 +269,16 @@ fn move_row<'input>(
     (data, places)
 }
 
-/// Moves one attribute of a tag into the table, behind those of its tag, which begin at `from`, with its namespace in this scope:
-/// whether there is room for it, its prefix is known, and its expanded name is none of theirs. Else the table is as before.
+/// Moves one attribute of a tag into the table, behind those of its tag, which were `seen`, with its namespace in this scope:
+/// whether there is room for it, its prefix is known, its expanded name is none of theirs, and few codes of names came again.
+/// Else the table is as before.
 #[inline(always)]
 pub fn put_resolved<'input>(
     namespaces: &[Namespace<'input>],
     few: Option<&[u16]>,
     present: &PrefixBindings<'_>,
     attributes: &mut AttributeTable<'input>,
-    from: usize,
+    seen: &mut SeenNames,
     one: UnresolvedAttribute<'input>,
 ) -> bool
     requires within { LooksWithin (length namespaces.now) (places_view few) present.now }
@@ -267,17 +286,23 @@ pub fn put_resolved<'input>(
     requires local { one.start + length one.name.local.now ≤ one.name_end }
     requires value { one.end ≡ one.value_start + length (storage_bytes one.value) + 1 }
     requires onward { one.name_end + 2 ≤ one.value_start }
-    requires from { from ≤ length (attribute_rows attributes.old) }
+    requires from { seen.old.from ≤ length (attribute_rows attributes.old) }
     requires done { AllByRecursion (λ a. NamespaceWithin (length namespaces.now) a.0.namespace)
-        (drop from (attribute_rows attributes.old)) }
+        (drop seen.old.from (attribute_rows attributes.old)) }
+    requires seen { AreSeen seen.old (attribute_rows attributes.old) }
     ensures refused { result ≡ false
         → attribute_rows attributes.new ≡ attribute_rows attributes.old }
     ensures added { result ≡ true
-        → AddsResolved (map namespace_view namespaces.now) (places_view few.entry) present.now from
-        (attribute_rows attributes.old) (attribute_rows attributes.new) one.entry }
+        → AddsResolved (map namespace_view namespaces.now) (places_view few.entry) present.now
+        seen.old.from (attribute_rows attributes.old) (attribute_rows attributes.new) one.entry }
+    ensures from { seen.new.from ≡ seen.old.from }
+    ensures seen { result ≡ true → AreSeen seen.new (attribute_rows attributes.new) }
 {
-    let Ok(namespace) = tested_namespace(namespaces, few, present, &attributes.items[from..], &one)
-    else {
+    if seen.are_many_again() {
+        return false;
+    }
+    let done = &attributes.items[seen.from..];
+    let Ok(namespace) = tested_namespace(namespaces, few, present, done, seen, &one) else {
         return false;
     };
     let places = AttributePlaces {
@@ -341,6 +366,19 @@ fn resolve_many<'input>(
     Ok(())
 }
 
+/// Whether so many codes of these names come again that a set is faster.
+#[cold]
+#[inline(never)]
+fn are_alike(taken: &[UnresolvedAttribute<'_>]) -> bool {
+    let mut seen = SeenNames::new(0);
+    for one in taken {
+        if seen.put(one.name.local) {
+            seen.count_again();
+        }
+    }
+    seen.are_many_again()
+}
+
 /// Moves the attributes of a tag into the table, each with its namespace in this scope. A prefix that is not known, or an
 /// expanded name that comes twice, is refused.
 #[inline(always)]
@@ -365,16 +403,17 @@ pub fn resolve<'input>(
         → FindsBinding (map namespace_view namespaces.now) (places_view few.entry) present.now ds
         → IfErr result (λ e. Fails e (names_tested ds [] (map unresolved_view taken.old.items))) }
 {
-    if taken.len() > FEW {
+    if taken.len() > MOST || taken.len() > FEW && are_alike(taken.as_slice()) {
         return resolve_many(alloc, namespaces, few, present, taken, attributes);
     }
-    let from = attributes.len();
+    let mut seen = SeenNames::new(attributes.len());
     for turn in 0..taken.len() {
         let namespace = tested_namespace(
             namespaces,
             few,
             present,
-            &attributes.items[from..],
+            &attributes.items[seen.from..],
+            &mut seen,
             &taken[turn],
         )?;
         let row = move_row(&mut taken[turn], namespace);

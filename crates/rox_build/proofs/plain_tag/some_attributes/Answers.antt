@@ -3,11 +3,14 @@ use Rattle.std.proofs.lemmas.Bool.{eqb-true}
 use Rattle.rox_tables.specs.Bindings.{places_view}
 use Rattle.rox_tables.specs.Rows.{namespace_view, attribute_rows}
 use Rattle.rox_tables.specs.ResolvedNames.{AddsResolved}
+use Rattle.rox_tables.proofs.SeenCodes.{seen_first}
 use Rattle.rox_build.proofs.PlainTags.{plain_starts, plain_more, opens_there, closes_or_not, done_within}
 use Rattle.rox_build.proofs.plain_tag.some_attributes.Goals as goal
 
 pub loop-turn-init : goal.loop-turn-init
 loop-turn-init c = record {
+  from = omega arith;
+  seen = seen_first c.new-seen.result (attribute_rows c.args.attributes.now) (omega arith);
   cut = c.requires.cut;
   so_far = plain_starts (map namespace_view c.args.namespaces.now) (places_view c.args.few) c.args.present.now c.args.text.now c.args.start (attribute_rows c.args.attributes.now);
 }
@@ -48,7 +51,7 @@ put_resolved-requires-clause-onward c = c.in_ok-one.ensures.gap
 pub put_resolved-requires-clause-done : goal.put_resolved-requires-clause-done
 put_resolved-requires-clause-done c =
     let l = c.loop-turn in
-    done_within c.args.namespaces.now (places_view c.args.few) c.args.present.now c.args.text.now c.args.start c.len-from.result (attribute_rows c.args.attributes.now) l.at (attribute_rows l.attributes) l.invariant.so_far c.len-from.ensures
+    done_within c.args.namespaces.now (places_view c.args.few) c.args.present.now c.args.text.now c.args.start l.seen.from (attribute_rows c.args.attributes.now) l.at (attribute_rows l.attributes) l.invariant.so_far l.invariant.from
 
 pub loop-turn-preserved : goal.loop-turn-preserved
 loop-turn-preserved c =
@@ -61,9 +64,11 @@ loop-turn-preserved c =
     let close : (slice_index src j == 62) ≡ false = sym c.is_at.ensures ∙ c.if-is_at.false in
     let slash : (slice_index src j == 47) ≡ false = sym c.is_at-in-loop-turn.ensures ∙ c.if-is_at-2.false in
     let added = c.put_resolved.ensures.added c.if-not-put_resolved.false in
-    let resolved : AddsResolved namespaces few c.args.present.now (length old) (attribute_rows l.attributes) (attribute_rows c.put_resolved.new.attributes) c.in_ok-one.one = rw c.len-from.ensures at added in
+    let resolved : AddsResolved namespaces few c.args.present.now (length old) (attribute_rows l.attributes) (attribute_rows c.put_resolved.new.attributes) c.in_ok-one.one = rw l.invariant.from at added in
     let plain = c.in_ok-one.ensures in
     record {
+      from = c.put_resolved.ensures.from ∙ l.invariant.from;
+      seen = c.put_resolved.ensures.seen c.if-not-put_resolved.false;
       cut = plain.cut;
       so_far = plain_more namespaces few c.args.present.now src c.args.start old l.at j (attribute_rows l.attributes) (attribute_rows c.put_resolved.new.attributes) c.in_ok-one.one l.invariant.so_far
           c.near_space_end-here.ensures.onward c.near_space_end-here.ensures.end c.if-here-at.false slash close plain (sym c.is_namespace_decl.ensures ∙ c.if-is_namespace_decl.false) resolved;

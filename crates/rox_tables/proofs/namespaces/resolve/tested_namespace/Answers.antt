@@ -20,7 +20,7 @@ returns-then-is_repeated-clause-tested c = λ ds rows before rest h column shown
     let namespaces = map namespace_view c.args.namespaces.now in
     let a = unresolved_view c.args.taken.now in
     let again = sym (repeated_is namespaces ds c.in-Some.namespace a.name rows before (c.in-Some.ensures.there ds h) shown)
-    ∙ ap (list_any (has_expanded namespaces c.in-Some.namespace a.name.local)) column ∙ any_data (has_expanded namespaces c.in-Some.namespace a.name.local) c.args.done.now ∙ sym c.is_repeated.ensures ∙ c.if-is_repeated.true in
+    ∙ ap (list_any (has_expanded namespaces c.in-Some.namespace a.name.local)) column ∙ any_data (has_expanded namespaces c.in-Some.namespace a.name.local) c.args.done.now ∙ sym c.is_repeated.ensures.is ∙ c.if-is_repeated.true in
     tested_again ds before a rest (c.in-Some.ensures.known ds h) again
     ∙ ap (λ (s : Span). Err (fault.DuplicatedAttribute s a.start)) (sym (c.local_span.ensures a.name refl))
 
@@ -29,5 +29,5 @@ returns-clause-tested c = λ ds rows before rest h column shown.
     let namespaces = map namespace_view c.args.namespaces.now in
     let a = unresolved_view c.args.taken.now in
     let first = sym (repeated_is namespaces ds c.in-Some.namespace a.name rows before (c.in-Some.ensures.there ds h) shown)
-    ∙ ap (list_any (has_expanded namespaces c.in-Some.namespace a.name.local)) column ∙ any_data (has_expanded namespaces c.in-Some.namespace a.name.local) c.args.done.now ∙ sym c.is_repeated.ensures ∙ c.if-is_repeated.false in
+    ∙ ap (list_any (has_expanded namespaces c.in-Some.namespace a.name.local)) column ∙ any_data (has_expanded namespaces c.in-Some.namespace a.name.local) c.args.done.now ∙ sym c.is_repeated.ensures.is ∙ c.if-is_repeated.false in
     tested_on ds before a rest (c.in-Some.ensures.known ds h) first
