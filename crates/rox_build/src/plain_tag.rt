@@ -21,7 +21,7 @@ ghost use Rattle.rox_build.specs.PlainTag.{IsValueStart, IsPlainAttribute, ArePl
 
 use crate::tag::{MOST_ATTRIBUTES, StartTag, byte_count};
 use rox_grammar::name::QName;
-use rox_scan::byte_set::{ValueByte, part_end, skip_set};
+use rox_scan::byte_set::{ValueByte, far_space_end, part_end, skip_set};
 use rox_scan::lookahead::scan_value;
 use rox_scan::runs::{NameStart, after_byte, begins, is_at, space_end};
 use rox_tables::compare::same_text;
@@ -278,17 +278,6 @@ fn near_space_end(text: &str, at: usize) -> usize
         return after_byte(text, at, b' ');
     }
     far_space_end(text, at)
-}
-
-/// The same, whatever stands there.
-#[inline(never)]
-fn far_space_end(text: &str, at: usize) -> usize
-    requires { IsCharBoundary text.now at }
-    ensures end { result ≡ run_end is_space text.now at }
-    ensures onward { at ≤ result }
-    ensures cut { IsCharBoundary text.now result }
-{
-    space_end(text, at)
 }
 
 /// A plain tag has less than so many attributes: the general step puts the names of more into a set.

@@ -7,7 +7,7 @@ use Rattle.std.proofs.lemmas.Bool.Decides.{nat_tests}
 use Rattle.std.proofs.lemmas.List.{length-take, get_or-take, drop_more, drop_all, get_or_past}
 use Rattle.std.proofs.lemmas.List.Sums.{position_or_len_is}
 use Rattle.std.proofs.lemmas.Str.{IsUtf8-take, IsCharBoundary-after_ascii}
-use Rattle.rox_grammar.specs.Chars.{is_char, is_part_char}
+use Rattle.rox_grammar.specs.Chars.{is_char, is_part_char, is_space}
 use Rattle.rox_grammar.specs.Content.{is_verbatim_value}
 use Rattle.rox_grammar.specs.Runs.{run_end}
 use Rattle.rox_grammar.specs.Search.{byte_from}
@@ -15,7 +15,7 @@ use Rattle.rox_reading.specs.Lexical.{chars_up_to}
 use Rattle.rox_reading.specs.Markup.{raw_value_at}
 use Rattle.rox_reading.specs.Values.{is_special}
 use Rattle.rox_scan.specs.ByteSets.{is_char_byte, AllPass, is_value_byte, is_text_byte, is_comment_byte, is_part_byte, is_run_byte, is_stretch_byte}
-use Rattle.rox_scan.proofs.RunLemmas.{run_on_ascii, run_stops_ascii, run_at_end}
+use Rattle.rox_scan.proofs.RunLemmas.{run_on_ascii, run_stops_ascii, run_at_end, space_on, space_stops}
 use Rattle.rox_scan.proofs.PlainLemmas.{plain_run}
 
 pub value_is_plain : (b : ℕ) → is_value_byte b ≡ true → is_char_byte b ≡ true
@@ -98,6 +98,32 @@ part_stops src i e utf8 le within all stops ascii =
       | inr past ↦ run_at_end is_part_char src e past
     ] in
     sym here ∙ part_goes_on src i e utf8 le within all
+
+-- white space is ASCII, so a place behind it is one between characters
+space_below : (b : ℕ) → is_space b ≡ true → b < 128
+space_below b h = grind (arith, nat_tests)
+
+pub spaces_cut : (src : List ℕ) (i e : ℕ) → IsUtf8 src → IsCharBoundary src i → i ≤ e → e ≤ length src → AllPass is_space src i e → IsCharBoundary src e
+spaces_cut src i e utf8 cut le within all =
+    elim (cases_eq e i) [
+      | inl same ↦ rw same cut
+      | inr more ↦ subst (λ k. IsCharBoundary src k) (omega arith) (IsCharBoundary-after_ascii src (e - 1) utf8 (omega arith) (space_below _ (all (e - 1) (omega arith) (omega arith))))
+    ]
+
+spaces_from : (src : List ℕ) (i e n : ℕ) → i + n ≡ e → e ≤ length src → IsUtf8 src → AllPass is_space src i e → run_end is_space src e ≡ run_end is_space src i
+spaces_from src i e zero same within utf8 all = let at : e ≡ i = omega arith in rw at refl
+spaces_from src i e (suc n) same within utf8 all =
+    spaces_from src (i + 1) e n (omega arith) within utf8 (λ k low high. all k (omega arith) high)
+    ∙ space_on src i utf8 (omega arith) (all i (omega arith) (omega arith))
+
+-- white space ends where another byte stands, or the text
+pub spaces_end_there : (src : List ℕ) (i e : ℕ) → IsUtf8 src → IsCharBoundary src i → i ≤ e → e ≤ length src → AllPass is_space src i e → (e < length src → is_space (get_or src e 0) ≡ false) → e ≡ run_end is_space src i
+spaces_end_there src i e utf8 cut le within all stops =
+    let here : run_end is_space src e ≡ e = elim (cases_lt e (length src)) [
+      | inl more ↦ space_stops src e utf8 (spaces_cut src i e utf8 cut le within all) more (stops more)
+      | inr past ↦ run_at_end is_space src e past
+    ] in
+    sym here ∙ spaces_from src i e (e - i) (omega arith) within utf8 all
 
 -- all of a stretch of such bytes
 all_plain : (p : ℕ → Bool) (src : List ℕ) (i e n : ℕ) → i + n ≡ e → e ≤ length src → AllPass p src i e → ((b : ℕ) → p b ≡ true → is_char_byte b ≡ true) → list_all is_char_byte (drop i (take e src)) ≡ true

@@ -122,6 +122,30 @@ impl ByteSet for PartByte {
     }
 }
 
+/// White space (XML 1.0 [3] S).
+pub struct SpaceByte;
+
+// Classes that each byte of the set has one of, and no other.
+const SPACE_LOW: [u8; 16] = [1, 0, 0, 0, 0, 0, 0, 0, 0, 2, 2, 0, 0, 2, 0, 0];
+
+const SPACE_HIGH: [u8; 16] = [2, 0, 1, 0, 0, 0, 0, 0, 0, 0, 0, 0, 0, 0, 0, 0];
+
+impl ByteSet for SpaceByte {
+    ghost test = { spec.is_space };
+
+    #[inline(always)]
+    fn has(byte: u8) -> bool {
+        chars::is_space(byte)
+    }
+
+    #[inline(always)]
+    fn others(block: u8x16) -> u64 {
+        classes(SPACE_LOW, SPACE_HIGH, block)
+            .simd_eq(u8x16::splat(0))
+            .to_bitmask()
+    }
+}
+
 /// A bit for each of the sixteen bytes from `at` on that is not in the set, the lowest for the first.
 #[inline(always)]
 fn others_at<C: ByteSet>(bytes: &[u8], at: usize) -> u64
@@ -204,4 +228,15 @@ pub fn part_end(text: &str, at: usize) -> usize
         return near;
     }
     run_end::<PartChar>(text, near)
+}
+
+/// Where the white space that begins at `at` ends.
+#[inline(always)]
+pub fn far_space_end(text: &str, at: usize) -> usize
+    requires { IsCharBoundary text.now at }
+    ensures end { result ≡ run_end spec.is_space text.now at }
+    ensures onward { at ≤ result }
+    ensures cut { IsCharBoundary text.now result }
+{
+    skip_set::<SpaceByte>(text, at)
 }
