@@ -1,19 +1,22 @@
 -- What the builder shows stays as its tables grow.
-use Rattle.std.proofs.Common.{◌≡◌, ℕ, ◌<◌, ◌≤◌, List, ◌++◌, length, map, sym, ap, subst, ◌∙◌, arith, length-append}
+use Rattle.std.proofs.Common.{◌≡◌, ℕ, refl, Option, Some, None, ◌<◌, ◌≤◌, List, ◌++◌, length, map, sym, ap, subst, ◌∙◌, arith, length-append}
 use Rattle.std.specs.List.{AllByRecursion}
+use Rattle.std.specs.Option.{option_map}
 use Rattle.std.proofs.lemmas.List.{length-map}
 use Rattle.rox_grammar.specs.Forest.{Forest}
 use Rattle.rox_grammar.specs.Written.{Item, NamespaceDecl}
 use Rattle.rox_grammar.specs.State.{Open}
-use Rattle.rox_tables.specs.Rows.{row_view, namespace_view, scope_at, NamespaceWithin, KindWithin, AttributeRow, attribute_rows}
+use Rattle.rox_grammar.specs.Tree.{element_namespace}
+use Rattle.rox_grammar.specs.Failures.{name_view}
+use Rattle.rox_tables.specs.Rows.{row_view, namespace_view, namespace_at, scope_at, NamespaceWithin, OptionWithin, KindWithin, AttributeRow, attribute_rows}
 use Rattle.rox_tables.specs.Scopes.{PrefixesOnce}
 use Rattle.rox_tables.specs.TagScopes.{lists_in}
-use Rattle.rox_build.specs.BuilderState.{opened, opened_in, names_in, line_in, IsRowWithin, IsOpenWithin, HasName, AreSound, HasEmpty, Represents, Grown}
+use Rattle.rox_build.specs.BuilderState.{opened, opened_in, names_in, line_in, IsRowWithin, IsOpenWithin, HasName, IsNamespaceOf, AreSound, HasEmpty, Represents, Grown}
 use Rattle.rox_tables.specs.declared.rows.tables.NodeData.{NodeData}
 use Rattle.rox_tables.specs.declared.rows.tables.ElementTables.{ElementTables}
 use Rattle.rox_build.specs.declared.builder.OpenElement.{OpenElement}
 use Rattle.rox_build.specs.declared.builder.Builder.{Builder}
-use Rattle.rox_tables.proofs.Stable.{all_weaker, map_same, scope_at-append, lines-append, kind_more}
+use Rattle.rox_tables.proofs.Stable.{all_weaker, map_same, scope_at-append, namespace_at-append, lines-append, kind_more}
 use Rattle.rox_tables.specs.Rows.{node_rows}
 use Rattle.rox_tables.proofs.Ropes.{length-lists}
 
@@ -36,17 +39,35 @@ grown_counts old new g =
     let v = lists_count old in let w = lists_count new in
     (omega arith, omega arith, omega arith)
 
+option_more : (n m : ℕ) (o : Option ℕ) → n ≤ m → OptionWithin n o → OptionWithin m o
+option_more n m None le within = tt
+option_more n m (Some i) le within = omega arith
+
+-- a namespace in the table is that at its place still
+uri_kept : (old new : ElementTables) (o : Option ℕ) → Grown old new → OptionWithin (length old.namespaces.items.items) o
+    → option_map (λ i. (namespace_at (names_in new) i).uri) o ≡ option_map (λ i. (namespace_at (names_in old) i).uri) o
+uri_kept old new None g within = refl
+uri_kept old new (Some i) g within =
+    let n = names_count old in
+    let same = ap (λ ds. namespace_at ds i) g.namespaces ∙ namespace_at-append (names_in old) g.more_names i (omega arith) in
+    ap (λ (d : NamespaceDecl). Some d.uri) same
+
 pub grown_elements : (old new : ElementTables) (os : List OpenElement) → Grown old new → AllByRecursion (IsOpenWithin old) os → AllByRecursion (IsOpenWithin new) os
 grown_elements old new os g h =
     let k = grown_counts old new g in
-    all_weaker (IsOpenWithin old) (IsOpenWithin new) os (λ o x. one o x.0 x.1 x.2 k.2) h
+    all_weaker (IsOpenWithin old) (IsOpenWithin new) os (λ o x. one o x.0 x.1 x.2 x.3 k.1 k.2) h
   where
-    one : (o : OpenElement) → o.scope < length old.scopes.items → PrefixesOnce (scope_at (lists_in old) o.scope) → HasName o → length old.scopes.items ≤ length new.scopes.items → IsOpenWithin new o
-    one o a once named b =
+    one : (o : OpenElement) → o.scope < length old.scopes.items → PrefixesOnce (scope_at (lists_in old) o.scope) → HasName o → IsNamespaceOf old o.scope (name_view o.name) o.namespace → length old.namespaces.items.items ≤ length new.namespaces.items.items
+        → length old.scopes.items ≤ length new.scopes.items → IsOpenWithin new o
+    one o a once named in_namespace more b =
         let n = lists_count old in
         let within : o.scope < length (lists_in old) = omega arith in
         let same : scope_at (lists_in new) o.scope ≡ scope_at (lists_in old) o.scope = ap (λ ls. scope_at ls o.scope) g.lists ∙ scope_at-append (lists_in old) g.more_lists o.scope within in
-        (omega arith, subst PrefixesOnce (sym same) once, named)
+        let spaces : IsNamespaceOf new o.scope (name_view o.name) o.namespace = record {
+          within = option_more (length old.namespaces.items.items) (length new.namespaces.items.items) o.namespace more in_namespace.within;
+          is = uri_kept old new o.namespace g in_namespace.within ∙ in_namespace.is ∙ ap (λ (l : List NamespaceDecl). element_namespace l (name_view o.name)) (sym same);
+        } in
+        (omega arith, subst PrefixesOnce (sym same) once, named, spaces)
 
 -- the first scope lists nothing still
 pub grown_empty : (old new : ElementTables) → Grown old new → HasEmpty old → HasEmpty new

@@ -1,8 +1,9 @@
 -- The row of an element whose start tag was read.
 use Rattle.std.proofs.Common.{◌≡◌, ℕ, ◌+◌, ◌<◌, List, [], ◌∷◌, ◌++◌, length, map, drop, refl, sym, ap, subst, ◌∙◌, arith, length-append, Option, Bool, true, false, Result, Ok, Err}
 use Rattle.std.specs.List.{AllByRecursion, slice_range}
-use Rattle.std.proofs.lemmas.List.{length-map}
+use Rattle.std.proofs.lemmas.List.{append-nil, length-map}
 use Rattle.rox_grammar.specs.declared.fault.Fault.{Fault}
+use Rattle.rox_grammar.specs.Failures.{name_view}
 use Rattle.rox_grammar.specs.Forest.{Nil, join}
 use Rattle.rox_grammar.specs.Written.{NamespaceDecl, Tag, Item, Element, leaf}
 use Rattle.rox_grammar.specs.Tree as tree
@@ -22,7 +23,8 @@ use Rattle.rox_tables.specs.Rows.{node, namespace_view, attribute, scope_at, Nam
 use Rattle.rox_tables.specs.Scopes.{PrefixesOnce}
 use Rattle.rox_tables.specs.TagScopes.{lists_in}
 use Rattle.rox_build.specs.ElementRow.{Tagged}
-use Rattle.rox_build.specs.BuilderState.{names_in, IsRowWithin, AreSound, IsOpenWithin, HasName, IsOpened, IsConsistent, Grown, IsNode, IsOpening, Adds, ScansTo}
+use Rattle.rox_build.specs.PlainTag.{HoldSame}
+use Rattle.rox_build.specs.BuilderState.{names_in, IsRowWithin, AreSound, IsOpenWithin, HasName, IsNamespaceOf, IsOpened, IsConsistent, Grown, IsNode, IsOpening, Adds, ScansTo}
 use Rattle.std.specs.Result.{OnOk}
 use Rattle.rox_tables.specs.declared.rows.tables.NodeKind.TheVariants as kind
 use Rattle.rox_tables.specs.declared.rows.tables.ElementTables.{ElementTables}
@@ -105,9 +107,31 @@ fine_by old new t above tag os h f =
       few_attributes = h.element.few;
     }
 
+-- so it is where only the room for attributes is another
+pub fine_same : (old new : ElementTables) (os : List OpenElement) → HoldSame old new → IsConsistent old os → IsConsistent new os
+fine_same old new os k f =
+    let m : ElementTables = record old { attributes = new.attributes } in
+    let g : Grown old m = record { more_attributes = []; attributes = k.attributes ∙ sym (append-nil _); more_names = []; namespaces = sym (append-nil _); more_lists = []; lists = sym (append-nil _) } in
+    let x : IsConsistent m os = record {
+      sound = record { attributes = rw k.attributes f.sound.attributes; listed = f.sound.listed; scopes = f.sound.scopes };
+      elements = grown_elements old m os g f.elements;
+      empty = grown_empty old m g f.empty;
+      kept = record { stacked = f.kept.stacked };
+      few_names = f.few_names;
+      few_attributes = rw k.attributes f.few_attributes;
+    } in
+    subst (λ (t : ElementTables). IsConsistent t os) (sym k.others) x
+
 pub fine_opened : (t : ElementTables) (os qs : List OpenElement) (x : OpenElement) → IsConsistent t os → qs ≡ os ++ x ∷ [] → IsOpenWithin t x → IsConsistent t qs
 fine_opened t os qs x f is within =
     record { sound = f.sound; elements = rw is (all_append (IsOpenWithin t) os (x ∷ []) f.elements (within, tt)); empty = f.empty; kept = f.kept; few_names = f.few_names; few_attributes = f.few_attributes }
+
+-- the namespace of the element that a tag opens
+pub namespace_by : (old new : ElementTables) (t : StartTag) (above : List NamespaceDecl) (tag : Tag) → Tagged old new t above tag → IsNamespaceOf new t.element.scope (name_view t.name) t.element.namespace
+namespace_by old new t above tag h = record {
+  within = h.element.namespace_within;
+  is = h.element.namespace ∙ ap (element_namespace (listed above tag.declarations)) (sym h.name) ∙ ap (λ (l : List NamespaceDecl). element_namespace l (name_view t.name)) (sym h.element.lists);
+}
 
 -- the counts after a tag
 pub names_by : (old new : ElementTables) (t : StartTag) (above : List NamespaceDecl) (tag : Tag) (ps : List NamespaceDecl) → Tagged old new t above tag → names_in old ≡ distinct_pairs ps → names_in new ≡ distinct_pairs (ps ++ listable tag)
@@ -184,8 +208,10 @@ fine_kept r t os u f tables opens = always r (IsConsistent u.tables u.opened.ite
 
 pub fine_more : (r : Result (Unit {0}) Failure) (t : ElementTables) (os : List OpenElement) (u : Builder) (src : List ℕ) (tag : StartTag) → IsConsistent t os → u.tables ≡ t
     → OnOk r ((x : OpenElement) × (u.opened.items ≡ os ++ x ∷ []) × IsOpened src tag x)
-    → tag.element.scope < length t.scopes.items → PrefixesOnce (scope_at (lists_in t) tag.element.scope) → ((x : OpenElement) → IsOpened src tag x → HasName x) → OnOk r (IsConsistent u.tables u.opened.items)
-fine_more (Ok x) t os u src tag f tables (o, is, by) within once named =
+    → tag.element.scope < length t.scopes.items → PrefixesOnce (scope_at (lists_in t) tag.element.scope) → IsNamespaceOf t tag.element.scope (name_view tag.name) tag.element.namespace
+    → ((x : OpenElement) → IsOpened src tag x → HasName x) → OnOk r (IsConsistent u.tables u.opened.items)
+fine_more (Ok x) t os u src tag f tables (o, is, by) within once space named =
     let w = subst (λ (s : ℕ). (s < length t.scopes.items) × PrefixesOnce (scope_at (lists_in t) s)) (sym by.scope) (within, once) in
-    subst (λ (t : ElementTables). IsConsistent t u.opened.items) (sym tables) (fine_opened t os u.opened.items o f is (w.0, w.1, named o by))
-fine_more (Err e) t os u src tag f tables h within once named = tt
+    let n : IsNamespaceOf t o.scope (name_view o.name) o.namespace = rw (by.scope, by.name, by.namespace) space in
+    subst (λ (t : ElementTables). IsConsistent t u.opened.items) (sym tables) (fine_opened t os u.opened.items o f is (w.0, w.1, named o by, n))
+fine_more (Err e) t os u src tag f tables h within once space named = tt

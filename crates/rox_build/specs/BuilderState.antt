@@ -3,10 +3,11 @@ use Rattle.std.specs.Prelude.{◌≡◌, vec_len, vec_capacity, ℕ, ◌+◌, �
 use Rattle.std.specs.Str.{IsUtf8}
 use Rattle.std.specs.String.{string_bytes}
 use Rattle.std.specs.List.{AllByRecursion}
+use Rattle.std.specs.Option.{option_map}
 use Rattle.rox_grammar.specs.declared.fault.Fault.{Fault}
 use Rattle.rox_grammar.specs.Forest.{Forest, Nil, join, size}
 use Rattle.rox_grammar.specs.Written.{Name, NamespaceDecl, Tag, Item, Element, Text, merge, leaf}
-use Rattle.rox_grammar.specs.Tree.{listed, scope_in, node_in}
+use Rattle.rox_grammar.specs.Tree.{listed, scope_in, node_in, element_namespace}
 use Rattle.rox_grammar.specs.Document.{distinct_pairs, most_pairs, most_attributes}
 use Rattle.rox_reading.specs.Lexical.{qname_at}
 use Rattle.rox_reading.specs.Refusals.{Refusal}
@@ -16,7 +17,7 @@ use Rattle.rox_reading.proofs.Forests.{Clean, is_text}
 use Rattle.rox_grammar.specs.Failures.{Fails, name_view}
 use Rattle.rox_scan.specs.declared.cursor.Cursor.{Cursor}
 use Rattle.rox_grammar.specs.declared.failure.Failure.{Failure}
-use Rattle.rox_tables.specs.Rows.{node_rows, RowView, row_view, node, namespace_view, scope_at, NamespaceWithin, KindWithin, AreScopes, AttributeRow, attribute_rows}
+use Rattle.rox_tables.specs.Rows.{node_rows, RowView, row_view, node, namespace_view, namespace_at, scope_at, NamespaceWithin, OptionWithin, KindWithin, AreScopes, AttributeRow, attribute_rows}
 use Rattle.rox_reading.specs.Values.{Next, part_text}
 use Rattle.rox_values.specs.Refusals.{IsFailure, IsRefusal}
 use Rattle.rox_values.specs.Values.{next_view}
@@ -139,9 +140,14 @@ pub record HasName (o : OpenElement) : Type 0 where
   pub read : (src : List ℕ) (i : ℕ) → IsUtf8 src → take (name_count o) o.source.now ≡ take (name_count o) (drop i src) → slice_index src (i + name_count o) ≡ 62
       → qname_at src i ≡ Ok (name_view o.name, i + name_count o)
 
--- the scope of an open element is in the table, and has each prefix once, and its name is known
+-- this is the namespace of an element of this name in this scope
+pub record IsNamespaceOf (t : ElementTables) (scope : ℕ) (name : Name) (namespace : Option ℕ) : Type 0 where
+  pub within : OptionWithin (length t.namespaces.items.items) namespace
+  pub is : option_map (λ i. (namespace_at (map namespace_view t.namespaces.items.items) i).uri) namespace ≡ element_namespace (scope_at (lists_in t) scope) name
+
+-- the scope of an open element is in the table, and has each prefix once, and its name and its namespace are known
 abbrev pub IsOpenWithin : ElementTables → OpenElement → Type 0
-IsOpenWithin t o = (o.scope < length t.scopes.items) × PrefixesOnce (scope_at (lists_in t) o.scope) × HasName o
+IsOpenWithin t o = (o.scope < length t.scopes.items) × PrefixesOnce (scope_at (lists_in t) o.scope) × HasName o × IsNamespaceOf t o.scope (name_view o.name) o.namespace
 
 -- an element that a tag of this text opens
 pub record IsOpened (text : List ℕ) (tag : StartTag) (o : OpenElement) : Type 0 where
@@ -149,6 +155,7 @@ pub record IsOpened (text : List ℕ) (tag : StartTag) (o : OpenElement) : Type 
   pub name_start : o.name_start ≡ tag.name_start
   pub name_end : o.name_end ≡ tag.name_end
   pub scope : o.scope ≡ tag.element.scope
+  pub namespace : o.namespace ≡ tag.element.namespace
   pub source : o.source.now ≡ drop tag.name_start text
 
 -- the first scope lists nothing

@@ -1,6 +1,6 @@
 //! The tables as they grow: the open elements, and the text that may go on.
 
-ghost use Rattle.std.specs.Prelude.{◌<◌, ◌≤◌, ◌+◌, ◌++◌, ◌^◌, ◌≡◌, ◌∷◌, [], ℕ, length, drop, vec_len, set, get_or, max, IfOk, IfErr, OnOk};
+ghost use Rattle.std.specs.Prelude.{◌<◌, ◌≤◌, ◌+◌, ◌++◌, ◌^◌, ◌≡◌, ◌∷◌, [], ℕ, length, drop, vec_len, set, get_or, max, IfOk, IfErr, IfSome, OnOk};
 ghost use Rattle.rox_tables.specs.declared.rows.tables.NodeData.{NodeData};
 ghost use Rattle.rox_tables.specs.Rows.{node_rows};
 ghost use Rattle.rox_tables.specs.StoredNodes.{kind_of};
@@ -32,12 +32,13 @@ use rox_values::text_value::TextValue;
 use std::alloc::Global;
 use std::collections::BTreeSet;
 
-/// An element that is open: its row, its scope, its name, which stands from `name_start` up to `name_end`, and the source from
-/// its name on.
+/// An element that is open: its row, its scope, its name, which stands from `name_start` up to `name_end`, the namespace of that,
+/// and the source from its name on.
 #[derive(Clone, Copy)]
 pub struct OpenElement<'input> {
     pub row: u32,
     pub scope: u32,
+    pub namespace: Option<u16>,
     pub name: QName<'input>,
     pub name_start: usize,
     pub name_end: usize,
@@ -231,6 +232,18 @@ impl<'input> Builder<'input> {
         match self.opened.last() {
             Some(element) => element.scope,
             None => 0,
+        }
+    }
+
+    /// The innermost open element, if one is open.
+    #[inline(always)]
+    pub fn innermost(&self) -> Option<OpenElement<'input>>
+        ensures { IfSome result (λ o. (outer : List OpenElement)
+            × (self.entry.now.opened.items ≡ outer ++ o ∷ [])) }
+    {
+        match self.opened.last() {
+            Some(element) => Some(*element),
+            None => None,
         }
     }
 
@@ -512,6 +525,7 @@ impl<'input> Builder<'input> {
             name_start: tag.name_start,
             name_end: tag.name_end,
             scope: tag.element.scope,
+            namespace: tag.element.namespace,
             source,
         };
         push(&mut self.opened, element)?;
@@ -653,6 +667,7 @@ impl<'input> Builder<'input> {
             name_start: tag.name_start,
             name_end: tag.name_end,
             scope: tag.element.scope,
+            namespace: tag.element.namespace,
             source,
         });
     }

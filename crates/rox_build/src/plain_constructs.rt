@@ -3,6 +3,9 @@
 //! construct from the same place.
 
 ghost use Rattle.std.specs.Prelude.{◌≡◌, ◌≢◌, ◌<◌, ◌≤◌, ◌+◌, ◌-◌, ◌^◌, ℕ, Ok, length, take, slice_index, true, false};
+ghost use Rattle.std.specs.Str.{IsCharBoundary};
+ghost use Rattle.rox_grammar.specs.Chars.{is_part_char};
+ghost use Rattle.rox_grammar.specs.Runs.{run_end};
 ghost use Rattle.rox_grammar.specs.Search.{stands};
 ghost use Rattle.rox_grammar.specs.FixedTexts.{word_text};
 ghost use Rattle.rox_grammar.specs.declared.fault.Word.TheVariants as word;
@@ -15,10 +18,10 @@ ghost use Rattle.rox_build.specs.PlainSteps.{StepsOnce, StepsTwice};
 ghost use Rattle.rox_build.specs.PendingText.{waiting};
 
 use crate::builder::Builder;
-use crate::plain_tag::plain_start_tag;
+use crate::plain_tag::{bare_start_tag, plain_start_tag};
 use crate::same_front::same_front;
 use rox_grammar::fault::Word;
-use rox_scan::byte_set::skip_set;
+use rox_scan::byte_set::{part_end, skip_set};
 use rox_scan::character_data::{TextByte, ends_character_data};
 use rox_scan::cursor::Cursor;
 use rox_scan::runs::{after_byte, is_at};
@@ -96,10 +99,64 @@ fn plain_end_tag(cursor: &mut Cursor<'_>, builder: &mut Builder<'_>, open_around
     true
 }
 
-/// A start tag, from its `<`, if it is plain.
-#[inline(never)]
-fn plain_element<'input>(cursor: &mut Cursor<'input>, builder: &mut Builder<'input>) -> bool
+/// A start tag of a name alone, from its `<`, if it is one below an element of a name without prefix. The first part of its name
+/// ends at `part`.
+#[inline(always)]
+fn bare_element<'input>(
+    cursor: &mut Cursor<'input>,
+    builder: &mut Builder<'input>,
+    part: usize,
+) -> bool
     requires here { slice_index cursor.old.text.now cursor.old.pos ≡ 60 }
+    requires part { part ≡ run_end is_part_char cursor.old.text.now (cursor.old.pos + 1) }
+    requires cut { IsCharBoundary cursor.old.text.now part }
+    requires onward { cursor.old.pos + 1 ≤ part }
+    requires short { length cursor.old.text.now < 2 ^ 32 }
+    requires ready { IsReady builder.old }
+    requires fine { IsConsistent builder.old.tables builder.old.opened.items }
+    ensures value { result ≡ true → (context : machine.Context) (end : ℕ) (s : State)
+        → IsInState context.limit end s cursor.old builder.old
+        → ScansTo context.limit end (Ok tt) cursor.new builder.new
+        (machine.tag_step context cursor.old.text.now s) }
+    ensures other { result ≡ false → (cursor.new ≡ cursor.old) × (builder.new ≡ builder.old) }
+    ensures fine { IsConsistent builder.new.tables builder.new.opened.items }
+    ensures source { cursor.new.text ≡ cursor.old.text }
+{
+    // Most tags have more than a name, which is seen first.
+    if !is_at(cursor.text, part, b'>') {
+        return false;
+    }
+    let Some(parent) = builder.innermost() else {
+        return false;
+    };
+    let start = cursor.pos;
+    let openings_left = builder.openings_left;
+    let Some(bare) = bare_start_tag(
+        cursor.text,
+        start,
+        &builder.tables,
+        &parent,
+        openings_left,
+        part,
+    ) else {
+        return false;
+    };
+    cursor.pos = bare.end;
+    builder.put_open(cursor.text, start, &bare.tag);
+    true
+}
+
+/// A start tag, from its `<`, if it is plain. The first part of its name ends at `part`.
+#[inline(never)]
+fn plain_element<'input>(
+    cursor: &mut Cursor<'input>,
+    builder: &mut Builder<'input>,
+    part: usize,
+) -> bool
+    requires here { slice_index cursor.old.text.now cursor.old.pos ≡ 60 }
+    requires part { part ≡ run_end is_part_char cursor.old.text.now (cursor.old.pos + 1) }
+    requires cut { IsCharBoundary cursor.old.text.now part }
+    requires onward { cursor.old.pos + 1 ≤ part }
     requires short { length cursor.old.text.now < 2 ^ 32 }
     requires ready { IsReady builder.old }
     requires fine { IsConsistent builder.old.tables builder.old.opened.items }
@@ -121,6 +178,7 @@ fn plain_element<'input>(cursor: &mut Cursor<'input>, builder: &mut Builder<'inp
         &mut builder.tables,
         above,
         openings_left,
+        part,
     ) else {
         return false;
     };
@@ -220,7 +278,12 @@ fn plain_markup<'input>(
     if next == b'?' {
         return false;
     }
-    plain_element(cursor, builder)
+    let name_start = after_byte(cursor.text, cursor.pos, b'<');
+    let part = part_end(cursor.text, name_start);
+    if bare_element(cursor, builder, part) {
+        return true;
+    }
+    plain_element(cursor, builder, part)
 }
 
 /// The construct that stands here, if it is plain and finds room, and behind a run also what ends it, where `two` may be read.

@@ -2,7 +2,7 @@
 //! (XML 1.0 section 3.1). Nothing fails here: a tag that is not plain, or finds no room, is left to the general step, which reads
 //! it from its `<`.
 
-ghost use Rattle.std.specs.Prelude.{◌≡◌, ◌<◌, ◌≤◌, ◌+◌, ◌-◌, ◌^◌, ◌++◌, ◌==◌, ◌||◌, List, Ok, IfSome, IfNone, length, map, slice_index, slice_range, true};
+ghost use Rattle.std.specs.Prelude.{◌≡◌, ◌<◌, ◌≤◌, ◌+◌, ◌-◌, ◌^◌, ◌++◌, ◌==◌, ◌||◌, List, Ok, IfSome, IfNone, length, map, slice_index, slice_range, true, false, []};
 ghost use Rattle.std.specs.Str.{IsCharBoundary};
 ghost use Rattle.rox_grammar.specs.Chars.{is_name_start, is_part_char, is_space};
 ghost use Rattle.rox_grammar.specs.Runs.{run_end, begins};
@@ -17,8 +17,10 @@ ghost use Rattle.rox_tables.specs.Rows.{AreScopes};
 ghost use Rattle.rox_tables.specs.Scopes.{ArePlaces, PrefixesOnce};
 ghost use Rattle.rox_tables.specs.TagScopes.{HasBindings};
 ghost use Rattle.rox_build.specs.ElementRow.{scope_in_tables};
+ghost use Rattle.rox_build.specs.BuilderState.{IsOpenWithin};
 ghost use Rattle.rox_build.specs.PlainTag.{IsValueStart, IsPlainAttribute, ArePlainAttributes, IsPlainTag, HoldSame};
 
+use crate::builder::OpenElement;
 use crate::tag::{MOST_ATTRIBUTES, StartTag, byte_count};
 use rox_grammar::name::QName;
 use rox_scan::byte_set::{ValueByte, far_space_end, part_end, skip_set};
@@ -42,18 +44,20 @@ pub struct PlainName<'input> {
     pub end: usize,
 }
 
-/// The name that begins at `start`, if one stands there (Namespaces in XML section 4).
+/// The name that begins at `start`, if one stands there (Namespaces in XML section 4). Its first part ends at `colon`.
 #[inline(always)]
 #[tactic(auto, unfolding(rox_reading::specs::Lexical::qname_at))]
-pub fn plain_name<'input>(text: &'input str, start: usize) -> Option<PlainName<'input>>
-    requires { IsCharBoundary text.now start }
+fn plain_name<'input>(text: &'input str, start: usize, colon: usize) -> Option<PlainName<'input>>
+    requires start { IsCharBoundary text.now start }
+    requires colon { IsCharBoundary text.now colon }
+    requires onward { start ≤ colon }
+    requires first { colon ≡ run_end is_part_char text.now start }
     ensures value { IfSome result (λ n. qname_at text.entry.now start
         ≡ Ok (name_view n.name, n.end)) }
     ensures onward { IfSome result (λ n. start ≤ n.end) }
     ensures cut { IfSome result (λ n. IsCharBoundary text.entry.now n.end) }
     ensures local { IfSome result (λ n. start + length n.name.local.now ≤ n.end) }
 {
-    let colon = part_end(text, start);
     if !begins::<NameStart>(text, start) {
         return None;
     }
@@ -217,7 +221,8 @@ fn plain_attribute<'input>(text: &'input str, start: usize) -> Option<Unresolved
     requires { IsCharBoundary text.now start }
     ensures { IfSome result (λ a. IsPlainAttribute text.entry.now start a) }
 {
-    let name = plain_name(text, start)?;
+    let colon = part_end(text, start);
+    let name = plain_name(text, start, colon)?;
     let value_start = value_start(text, name.end);
     if value_start == 0 {
         return None;
@@ -370,9 +375,84 @@ pub struct PlainTag<'input> {
     pub end: usize,
 }
 
+/// The name from `start` up to `part`, where its first part ends, if it has no other and `>` stands right behind it.
+#[inline(always)]
+#[tactic(auto, unfolding(rox_reading::specs::Lexical::qname_at))]
+fn bare_name<'input>(text: &'input str, start: usize, part: usize) -> Option<&'input str>
+    requires start { IsCharBoundary text.now start }
+    requires part { IsCharBoundary text.now part }
+    requires onward { start ≤ part }
+    requires first { part ≡ run_end is_part_char text.now start }
+    ensures value { IfSome result (λ n. qname_at text.entry.now start
+        ≡ Ok (record { prefix = []; local = n.now }, part)) }
+    ensures closed { IfSome result (λ n. slice_index text.entry.now part ≡ 62) }
+{
+    if !is_at(text, part, b'>') || !begins::<NameStart>(text, start) {
+        return None;
+    }
+    Some(&text[start..part])
+}
+
+/// A start tag of a name alone behind its `<` at `start`, if it is one below this element, whose name has no prefix: then it has
+/// the namespace and the scope of that. So many replacement texts may be opened behind it. The first part of its name ends at
+/// `part`.
+#[inline(always)]
+pub fn bare_start_tag<'input>(
+    text: &'input str,
+    start: usize,
+    elements: &ElementTables<'input>,
+    parent: &OpenElement<'input>,
+    openings: u32,
+    part: usize,
+) -> Option<PlainTag<'input>>
+    requires here { slice_index text.now start ≡ 60 }
+    requires part { part ≡ run_end is_part_char text.now (start + 1) }
+    requires cut { IsCharBoundary text.now part }
+    requires onward { start + 1 ≤ part }
+    requires places { ArePlaces
+        (length elements.now.namespaces.items.items) elements.now.listed.items }
+    requires few { length elements.now.namespaces.items.items ≤ most_pairs }
+    requires scopes { AreScopes (length elements.now.listed.items) elements.now.scopes.items }
+    requires kept { HasBindings elements.now }
+    requires parent { IsOpenWithin elements.now parent.now }
+    ensures read { IfSome result
+        (λ t. IsPlainTag elements.entry.now elements.entry.now
+        (scope_in_tables elements.entry.now parent.entry.now.scope)
+        text.entry.now start t.end t.tag) }
+    ensures openings_left { IfSome result (λ t. t.tag.openings_left ≡ openings) }
+    ensures opens { IfSome result (λ t. t.tag.empty ≡ false) }
+{
+    if !parent.name.prefix.is_empty() {
+        return None;
+    }
+    let name_at = after_byte(text, start, b'<');
+    let local = bare_name(text, name_at, part)?;
+    let count = elements.attributes.len();
+    if count > MOST_ATTRIBUTES {
+        return None;
+    }
+    let element = ElementData {
+        local,
+        attributes_from: count as u32,
+        attributes_until: count as u32,
+        scope: parent.scope,
+        namespace: parent.namespace,
+    };
+    let tag = StartTag {
+        name: QName { prefix: "", local },
+        name_start: name_at,
+        name_end: part,
+        element,
+        empty: false,
+        openings_left: openings,
+    };
+    let end = after_byte(text, part, b'>');
+    Some(PlainTag { tag, end })
+}
+
 /// A start tag behind its `<` at `start`, if it is plain and finds room, of an element whose parent has the scope `above`, one that
 /// lists few: its attributes are in the table then. Else some may stand there too. So many replacement texts may be opened behind
-/// it.
+/// it. The first part of its name ends at `part`.
 #[inline]
 fn read_tag<'input>(
     text: &'input str,
@@ -380,8 +460,12 @@ fn read_tag<'input>(
     elements: &mut ElementTables<'input>,
     above: u32,
     openings_left: u32,
+    part: usize,
 ) -> Option<PlainTag<'input>>
     requires here { slice_index text.now start ≡ 60 }
+    requires part { part ≡ run_end is_part_char text.now (start + 1) }
+    requires cut { IsCharBoundary text.now part }
+    requires onward { start + 1 ≤ part }
     requires short { length text.now < 2 ^ 32 }
     requires places { ArePlaces
         (length elements.old.namespaces.items.items) elements.old.listed.items }
@@ -401,7 +485,7 @@ fn read_tag<'input>(
 {
     let small = byte_count(text);
     let name_start = after_byte(text, start, b'<');
-    let name = plain_name(text, name_start)?;
+    let name = plain_name(text, name_start, part)?;
     if same_text(name.name.prefix, "xmlns") {
         return None;
     }
@@ -451,8 +535,12 @@ pub fn plain_start_tag<'input>(
     elements: &mut ElementTables<'input>,
     above: u32,
     openings_left: u32,
+    part: usize,
 ) -> Option<PlainTag<'input>>
     requires here { slice_index text.now start ≡ 60 }
+    requires part { part ≡ run_end is_part_char text.now (start + 1) }
+    requires cut { IsCharBoundary text.now part }
+    requires onward { start + 1 ≤ part }
     requires short { length text.now < 2 ^ 32 }
     requires places { ArePlaces
         (length elements.old.namespaces.items.items) elements.old.listed.items }
@@ -468,7 +556,7 @@ pub fn plain_start_tag<'input>(
     ensures none { IfNone result (HoldSame elements.old elements.new) }
 {
     let from = elements.attributes.len();
-    let tag = read_tag(text, start, elements, above, openings_left);
+    let tag = read_tag(text, start, elements, above, openings_left, part);
     if tag.is_none() {
         elements.attributes.truncate(from);
     }

@@ -16,7 +16,7 @@ use Rattle.rox_tables.specs.declared.rows.tables.NodeKind.TheVariants as kind
 use Rattle.rox_build.proofs.Declared.{some_declare}
 use Rattle.rox_build.proofs.Lifting.{refused_too}
 use Rattle.rox_build.proofs.Growing.{grown_shows}
-use Rattle.rox_build.proofs.Opening.{grown_by, is_node, is_opening, fine_by, fine_kept, fine_more, tag_fails, tag_is, empty_stepped, open_stepped}
+use Rattle.rox_build.proofs.Opening.{grown_by, is_node, is_opening, fine_by, fine_kept, fine_more, namespace_by, tag_fails, tag_is, empty_stepped, open_stepped}
 use Rattle.rox_build.proofs.constructs.element.Goals as goal
 
 abbrev with_left : ℕ → State → State
@@ -138,7 +138,7 @@ returns-clause-fine c =
     (ap (λ x. x.now) c.start_tag.ensures.source) c.open_element.ensures.opened in
     subst (λ r. OnOk r (IsConsistent c.open_element.new.self.tables c.open_element.new.self.opened.items)) c.in_ok-open_element.was
     (fine_more c.open_element.result c.start_tag.new.elements b.opened.items c.open_element.new.self src t
-    (fine_by b.tables c.start_tag.new.elements t _ v.0 b.opened.items v.2 c.requires.fine) c.open_element.ensures.tables opens v.2.element.scope_within v.2.once
+    (fine_by b.tables c.start_tag.new.elements t _ v.0 b.opened.items v.2 c.requires.fine) c.open_element.ensures.tables opens v.2.element.scope_within v.2.once (namespace_by b.tables c.start_tag.new.elements t _ v.0 v.2)
     (λ o by. opened_named _ _ _ _ _ src cursor.pos _ _ _ t o cursor.utf8 c.requires.here v.1 v.2.name v.2.name_end c.in_ok-tag.ensures.starts by))
 
 pub open_element-requires : goal.open_element-requires

@@ -11,7 +11,7 @@ use Rattle.rox_reading.specs.Tags.{Values}
 use Rattle.rox_build.proofs.Items.{stands_within}
 use Rattle.rox_build.proofs.SameNames.{opened_named}
 use Rattle.rox_build.proofs.Growing.{grown_shows}
-use Rattle.rox_build.proofs.Opening.{grown_by, is_node, is_opening, fine_by, fine_kept, fine_more, tag_is, empty_stepped, open_stepped}
+use Rattle.rox_build.proofs.Opening.{grown_by, is_node, is_opening, fine_by, fine_kept, fine_more, fine_same, namespace_by, tag_is, empty_stepped, open_stepped}
 use Rattle.rox_build.proofs.plain_constructs.plain_element.Goals as goal
 
 pub plain_start_tag-requires-clause-once : goal.plain_start_tag-requires-clause-once
@@ -59,6 +59,9 @@ returns-clause-value c = λ _ context end s h.
     ∙ ap (λ (y : Bool). lifted (opened_by context.limit s x.tag y s.openings_left e)) c.if-read.false)
     (open_stepped context.limit end s.openings_left s _ old new b.nodes_limit c.put_open.new.self (Ok tt) t (scope_of s.stack) x.tag tg h.namespaces h.attributes h.limit_is (c.put_open.ensures.openings_left ∙ h.openings_left_is) c.put_open.ensures.tables c.put_open.ensures.limit adds)
 
+pub returns-in_default-clause-fine : goal.returns-in_default-clause-fine
+returns-in_default-clause-fine c = fine_same c.args.builder.now.tables c.plain_start_tag.new.elements c.args.builder.now.opened.items c.in_default.ensures.none c.requires.fine
+
 pub returns-then-read-clause-fine : goal.returns-then-read-clause-fine
 returns-then-read-clause-fine c =
     let b = c.args.builder.now in
@@ -75,7 +78,7 @@ returns-clause-fine c =
     let t = c.in-Some.read.tag in
     let context : Values = record { main = true; entities = []; opener = λ text i openings_left. Ok ([], openings_left) } in
     fine_more (Ok tt) c.plain_start_tag.new.elements b.opened.items c.put_open.new.self src t
-    (fine_by b.tables c.plain_start_tag.new.elements t _ x.tag b.opened.items x.tagged c.requires.fine) c.put_open.ensures.tables c.put_open.ensures.opened x.tagged.element.scope_within x.tagged.once
+    (fine_by b.tables c.plain_start_tag.new.elements t _ x.tag b.opened.items x.tagged c.requires.fine) c.put_open.ensures.tables c.put_open.ensures.opened x.tagged.element.scope_within x.tagged.once (namespace_by b.tables c.plain_start_tag.new.elements t _ x.tag x.tagged)
     (λ o by. opened_named context fault.NoRootNode _ _ _ src cursor.pos t.openings_left _ _ t o cursor.utf8 c.requires.here (x.read context fault.NoRootNode) x.tagged.name x.tagged.name_end x.starts by)
 
 pub put_open-requires-clause-within : goal.put_open-requires-clause-within

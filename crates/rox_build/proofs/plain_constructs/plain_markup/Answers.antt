@@ -1,4 +1,5 @@
 use Rattle.std.proofs.Common.{ℕ, List, ◌+◌, slice_index, ne_eqb, refl, ap, ◌∙◌}
+use Rattle.rox_build.specs.BuilderState.{IsInState}
 use Rattle.rox_build.proofs.Stepping.{step_is_markup, state_kept}
 use Rattle.rox_build.proofs.plain_constructs.plain_markup.Goals as goal
 
@@ -7,14 +8,26 @@ returns-then-next-eq47-clause-value c = λ yes context end s around h.
     rw (step_is_markup context c.args.cursor.now.text.now _ s c.args.cursor.now.pos 47 c.as_bytes-bytes.ensures.value h.here (ap (λ (xs : List ℕ). slice_index xs c.args.cursor.now.pos) c.as_bytes-bytes.ensures.value ∙ c.requires.here) c.if-cursor-bytes.false c.if-next-eq47.true (λ e. cc e))
     (c.plain_end_tag.ensures.value yes context end s around h)
 
+pub returns-then-bare_element-clause-value : goal.returns-then-bare_element-clause-value
+returns-then-bare_element-clause-value c = λ _ context end s around h.
+    let i = c.args.cursor.now.pos in
+    let b = slice_index c.as_bytes-bytes.result.now (i + 1) in
+    let is = step_is_markup context c.args.cursor.now.text.now _ s i b c.as_bytes-bytes.ensures.value h.here (ap (λ (xs : List ℕ). slice_index xs c.args.cursor.now.pos) c.as_bytes-bytes.ensures.value ∙ c.requires.here) c.if-cursor-bytes.false refl c.if-next-eq33.false in
+    rw (is, ne_eqb b 63 c.if-next-eq63.false, ne_eqb b 47 c.if-next-eq47.false) (c.bare_element.ensures.value c.if-bare_element.true context end s h)
+
 pub returns-clause-value : goal.returns-clause-value
 returns-clause-value c = λ yes context end s around h.
     let i = c.args.cursor.now.pos in
     let b = slice_index c.as_bytes-bytes.result.now (i + 1) in
     let is = step_is_markup context c.args.cursor.now.text.now _ s i b c.as_bytes-bytes.ensures.value h.here (ap (λ (xs : List ℕ). slice_index xs c.args.cursor.now.pos) c.as_bytes-bytes.ensures.value ∙ c.requires.here) c.if-cursor-bytes.false refl c.if-next-eq33.false in
-    rw (is, ne_eqb b 63 c.if-next-eq63.false, ne_eqb b 47 c.if-next-eq47.false) (c.plain_element.ensures.value yes context end s h)
+    let o = c.bare_element.ensures.other c.if-bare_element.false in
+    let sees : IsInState context.limit end s c.bare_element.new.cursor c.bare_element.new.builder = rw (o.0, o.1) h in
+    let same = ap (λ x. x.text.now) o.0 in
+    rw (is, ne_eqb b 63 c.if-next-eq63.false, ne_eqb b 47 c.if-next-eq47.false) (rw same at (c.plain_element.ensures.value yes context end s sees))
 
 pub returns-clause-other : goal.returns-clause-other
 returns-clause-other c = λ no context end s h.
+    let u = c.bare_element.ensures.other c.if-bare_element.false in
+    let sees : IsInState context.limit end s c.bare_element.new.cursor c.bare_element.new.builder = rw (u.0, u.1) h in
     let o = c.plain_element.ensures.other no in
-    state_kept context.limit end s c.args.cursor.now c.plain_element.new.cursor c.args.builder.now c.plain_element.new.builder h o.0 o.1
+    state_kept context.limit end s c.bare_element.new.cursor c.plain_element.new.cursor c.bare_element.new.builder c.plain_element.new.builder sees o.0 o.1

@@ -29,7 +29,7 @@ returns-clause-value c = λ total at openings_left s t sh here is.
     let limit = c.flush.ensures.limit in
     let empty = c.in_ok-flush.ensures.empty in
     let k : NodeKind = kind.Element tag.element in
-    let x : OpenElement = record { row = c.len-row.result; name = tag.name; name_start = tag.name_start; name_end = tag.name_end; scope = tag.element.scope; source = c.from_place-source.result } in
+    let x : OpenElement = record { row = c.len-row.result; name = tag.name; name_start = tag.name_start; name_end = tag.name_end; scope = tag.element.scope; namespace = tag.element.namespace; source = c.from_place-source.result } in
     let place : c.len-row.result ≡ length (node_rows f.nodes) = omega (arith, c.len-row.ensures.nodes) in
     let view : opened (lists_in f.tables) x ≡ record { row = x.row; name = t.name; name_start = s.at + 1; name_end = t.name_end; scope = listed (scope_of s.stack) t.declarations } =
     rw (op.name, op.name_start, op.name_end, op.scope) refl in

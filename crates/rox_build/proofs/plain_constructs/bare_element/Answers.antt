@@ -1,0 +1,65 @@
+use Rattle.std.proofs.Common.{◌≡◌, ℕ, Bool, true, [], Ok, arith, refl, sym, ap, subst, ◌∙◌, List}
+use Rattle.rox_grammar.specs.Written.{Element, NamespaceDecl}
+use Rattle.rox_grammar.specs.State.{scope_of}
+use Rattle.rox_reading.specs.Machine.{opened_by, cut_off_fault}
+use Rattle.rox_reading.specs.Refusals.{lifted}
+use Rattle.rox_build.specs.ElementRow.{Tagged}
+use Rattle.std.specs.List.{AllByRecursion}
+use Rattle.rox_build.specs.BuilderState.{IsOpenWithin, opened_in}
+use Rattle.rox_build.proofs.SameNames.{all_last}
+use Rattle.rox_build.proofs.Stepping.{top_scope}
+use Rattle.rox_grammar.specs.declared.fault.Fault.TheVariants as fault
+use Rattle.rox_reading.specs.Tags.{Values}
+use Rattle.rox_build.proofs.Items.{stands_within}
+use Rattle.rox_build.proofs.SameNames.{opened_named}
+use Rattle.rox_build.proofs.Opening.{grown_by, is_opening, fine_by, fine_more, namespace_by, tag_is, open_stepped}
+use Rattle.rox_build.proofs.plain_constructs.bare_element.Goals as goal
+
+pub bare_start_tag-requires-clause-parent : goal.bare_start_tag-requires-clause-parent
+bare_start_tag-requires-clause-parent c =
+    let b = c.args.builder.now in
+    let split = c.in-Some.ensures in
+    all_last (IsOpenWithin b.tables) split.0 c.in-Some.parent (subst (AllByRecursion (IsOpenWithin b.tables)) split.1 c.requires.fine.elements)
+
+pub returns-clause-value : goal.returns-clause-value
+returns-clause-value c = λ _ context end s h.
+    let b = c.args.builder.now in
+    let old = b.tables in
+    let split = c.in-Some.ensures in
+    let o = c.in-Some.parent in
+    let x = c.in-Some-bare_start_tag.ensures.read in
+    let t = c.in-Some-bare_start_tag.bare.tag in
+    let pos = c.args.cursor.now.pos in
+    let e = c.in-Some-bare_start_tag.bare.end in
+    let src = c.args.cursor.now.text.now in
+    let sc = top_scope old s.stack split.0 o (sym (ap (opened_in old) split.1) ∙ h.shows.open_rows) in
+    let tg : Tagged old old t (scope_of s.stack) x.tag = subst (λ (a : List NamespaceDecl). Tagged old old t a x.tag) sc x.tagged in
+    let cut = cut_off_fault context.values.main s.stack in
+    let kept : t.openings_left ≡ s.openings_left = c.in-Some-bare_start_tag.ensures.openings_left ∙ h.openings_left_is in
+    let adds = c.put_open.ensures.value end e s.openings_left s x.tag h.shows (sym h.here) (is_opening old old t (scope_of s.stack) x.tag pos tg x.starts) in
+    rw (tag_is context src s pos cut _ _ _ x.tag t.empty s.openings_left e h.here refl sc h.attributes h.namespaces (rw kept at (x.read context.values cut))
+    ∙ ap (λ (y : Bool). lifted (opened_by context.limit s x.tag y s.openings_left e)) c.in-Some-bare_start_tag.ensures.opens)
+    (open_stepped context.limit end s.openings_left s _ old old b.nodes_limit c.put_open.new.self (Ok tt) t (scope_of s.stack) x.tag tg h.namespaces h.attributes h.limit_is (c.put_open.ensures.openings_left ∙ h.openings_left_is) c.put_open.ensures.tables c.put_open.ensures.limit adds)
+
+pub returns-clause-fine : goal.returns-clause-fine
+returns-clause-fine c =
+    let b = c.args.builder.now in
+    let cursor = c.args.cursor.now in
+    let src = cursor.text.now in
+    let x = c.in-Some-bare_start_tag.ensures.read in
+    let t = c.in-Some-bare_start_tag.bare.tag in
+    let context : Values = record { main = true; entities = []; opener = λ text i openings_left. Ok ([], openings_left) } in
+    fine_more (Ok tt) b.tables b.opened.items c.put_open.new.self src t
+    (fine_by b.tables b.tables t _ x.tag b.opened.items x.tagged c.requires.fine) c.put_open.ensures.tables c.put_open.ensures.opened x.tagged.element.scope_within x.tagged.once (namespace_by b.tables b.tables t _ x.tag x.tagged)
+    (λ o by. opened_named context fault.NoRootNode _ _ _ src cursor.pos t.openings_left _ _ t o cursor.utf8 c.requires.here (x.read context fault.NoRootNode) x.tagged.name x.tagged.name_end x.starts by)
+
+pub put_open-requires-clause-within : goal.put_open-requires-clause-within
+put_open-requires-clause-within c =
+    let src = c.args.cursor.now.text.now in
+    let x = c.in-Some-bare_start_tag.ensures.read in
+    let within = stands_within src c.args.cursor.now.pos 60 c.requires.here (omega arith) in
+    let starts = x.starts in
+    omega arith
+
+pub put_open-requires-clause-start : goal.put_open-requires-clause-start
+put_open-requires-clause-start c = omega (arith, c.requires.short, c.args.cursor.now.cut.0)
