@@ -15,7 +15,6 @@ use crate::tag::{Buffers, StartTag};
 use rox_grammar::failure::Failure;
 use rox_grammar::fault::Fault;
 use rox_grammar::name::QName;
-use rox_scan::search::Finders;
 use rox_tables::namespaces::bindings::PrefixBindings;
 use rox_tables::namespaces::namespace_table::NamespaceTable;
 use rox_tables::rows::attributes::AttributeTable;
@@ -56,7 +55,6 @@ pub struct Builder<'input> {
     /// The text of `Pending::Joined`.
     pub joined: String,
     pub buffers: Buffers<'input>,
-    pub finders: Finders<'input>,
     /// The owned texts that come again.
     pub recent: Recent,
     pub nodes_limit: u32,
@@ -69,7 +67,7 @@ pub struct Builder<'input> {
 
 /// So many elements may be open before their table grows, more than most texts open. While it is full, each construct is left to
 /// the general step.
-const ROOM_TO_OPEN: usize = 16;
+const ROOM_TO_OPEN: usize = 14;
 
 /// The scope of the root node, which lists nothing.
 fn empty_scope(alloc: Global) -> Result<Vec<Scope>, Failure>
@@ -191,7 +189,6 @@ impl<'input> Builder<'input> {
                 taken: Vec::new(alloc),
                 prefix_set: BTreeSet::new(alloc),
             },
-            finders: Finders::new(),
             recent: Recent::new(alloc),
             nodes_limit,
             openings_left: MOST_WITHIN,
@@ -711,7 +708,6 @@ impl<'input> Builder<'input> {
             pending: _,
             joined: _,
             buffers: _,
-            finders: _,
             recent: _,
             nodes_limit: _,
             openings_left: _,

@@ -46,7 +46,7 @@ pub fn comment<'input>(
     ensures source { cursor.new.text ≡ cursor.old.text }
 {
     let start = cursor.pos;
-    let text = cursor.comment(&builder.finders)?;
+    let text = cursor.comment()?;
     builder.leaf(
         alloc,
         start,
@@ -70,7 +70,7 @@ pub fn instruction<'input>(
     ensures source { cursor.new.text ≡ cursor.old.text }
 {
     let start = cursor.pos;
-    let pi = cursor.instruction(&builder.finders)?;
+    let pi = cursor.instruction()?;
     builder.leaf(
         alloc,
         start,
@@ -97,7 +97,7 @@ fn cdata<'input>(
     ensures source { cursor.new.text ≡ cursor.old.text }
 {
     let start = cursor.pos;
-    let raw = cursor.cdata(&builder.finders)?;
+    let raw = cursor.cdata()?;
     let piece = cdata_text(raw, &mut builder.buffers.scratch)?;
     builder.piece(alloc, start, cursor.pos, piece)
 }

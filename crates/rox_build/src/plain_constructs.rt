@@ -208,7 +208,7 @@ fn plain_comment<'input>(cursor: &mut Cursor<'input>, builder: &mut Builder<'inp
 {
     let start = cursor.pos;
     let mut behind = *cursor;
-    let Ok(text) = behind.comment(&builder.finders) else {
+    let Ok(text) = behind.comment() else {
         return false;
     };
     *cursor = behind;

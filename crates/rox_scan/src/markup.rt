@@ -12,8 +12,7 @@ ghost use Rattle.rox_scan.specs.Views.{instruction_view, text_view};
 
 use crate::cursor::Cursor;
 use crate::lookahead::comment_end;
-use crate::search::{Finders, has_mark, mark_from};
-use memchr::memmem::Finder;
+use crate::search::{has_mark, mark_from};
 use rox_grammar::fault::{Fault, Word};
 
 /// A processing instruction as it is written. It has no value where nothing but white space follows its target.
@@ -35,13 +34,12 @@ impl<'input> Cursor<'input> {
     /// The text up to the first mark, and the mark.
     #[inline]
     #[tactic(auto, unfolding(rox_reading::specs::Lexical::text_to))]
-    fn text_to(&mut self, mark: Word, finder: &Finder<'_>) -> Result<&'input str, Fault>
-        requires finds { finder.now ≡ word_text mark }
+    fn text_to(&mut self, mark: Word) -> Result<&'input str, Fault>
         requires some { 0 < length (word_text mark) }
         requires ascii { slice_index (word_text mark) 0 < 128 }
         ensures { Steps (λ x. x.now) self.old self.new result (lexical.text_to mark) }
     {
-        let end = mark_from(self.text, self.pos, finder);
+        let end = mark_from(self.text, self.pos, mark.text());
         let text = self.chars_up_to(end)?;
         self.string(mark)?;
         Ok(text)
@@ -50,7 +48,7 @@ impl<'input> Cursor<'input> {
     /// A comment, from `<!--` to its end `-->` (XML 1.0 section 2.5). It answers the text between these. Two dashes within
     /// the text, or one at its end, are a fault at the comment's start.
     #[inline]
-    pub fn comment(&mut self, finders: &Finders<'_>) -> Result<&'input str, Fault>
+    pub fn comment(&mut self) -> Result<&'input str, Fault>
         requires { stands (word_text word.CommentStart) self.old.text.now self.old.pos ≡ true }
         ensures { Steps (λ x. x.now) self.old self.new result spec.comment_at }
     {
@@ -61,7 +59,7 @@ impl<'input> Cursor<'input> {
         let end = comment_end(text, from);
         let mut behind = Cursor::at(text, end);
         if !behind.starts(Word::CommentEnd) {
-            return self.slow_comment(start, finders);
+            return self.slow_comment(start);
         }
         behind.skip(Word::CommentEnd);
         self.pos = behind.pos;
@@ -72,11 +70,11 @@ impl<'input> Cursor<'input> {
     #[cold]
     #[inline(never)]
     #[tactic(auto, unfolding(rox_reading::specs::Markup::comment_at))]
-    fn slow_comment(&mut self, start: usize, finders: &Finders<'_>) -> Result<&'input str, Fault>
+    fn slow_comment(&mut self, start: usize) -> Result<&'input str, Fault>
         requires { self.old.pos ≡ start + 4 }
         ensures { Steps (λ x. x.now) self.old self.new result (λ src _. spec.comment_at src start) }
     {
-        let text = self.text_to(Word::CommentEnd, &finders.comment_end)?;
+        let text = self.text_to(Word::CommentEnd)?;
         let bytes = text.as_bytes();
         if has_mark(bytes, b"--") || bytes.last() == Some(&b'-') {
             return Err(Fault::InvalidComment(start));
@@ -87,7 +85,7 @@ impl<'input> Cursor<'input> {
     /// A processing instruction, from `<?` to its end `?>` (XML 1.0 section 2.6). An XML declaration is a fault here.
     #[inline]
     #[tactic(auto, unfolding(rox_reading::specs::Markup::instruction_at))]
-    pub fn instruction(&mut self, finders: &Finders<'_>) -> Result<Instruction<'input>, Fault>
+    pub fn instruction(&mut self) -> Result<Instruction<'input>, Fault>
         requires { stands (word_text word.PIStart) self.old.text.now self.old.pos ≡ true }
         ensures { Steps instruction_view self.old self.new result spec.instruction_at }
     {
@@ -97,7 +95,7 @@ impl<'input> Cursor<'input> {
         self.skip(Word::PIStart);
         let target = self.name()?;
         self.spaces();
-        let value = self.text_to(Word::PIEnd, &finders.pi_end)?;
+        let value = self.text_to(Word::PIEnd)?;
         Ok(Instruction {
             target,
             value: none_if_empty(value),
@@ -107,11 +105,11 @@ impl<'input> Cursor<'input> {
     /// A CDATA section, from `<![CDATA[` to its end `]]>` (XML 1.0 section 2.7). It answers the text between these.
     #[inline]
     #[tactic(auto, unfolding(rox_reading::specs::Markup::cdata_at))]
-    pub fn cdata(&mut self, finders: &Finders<'_>) -> Result<&'input str, Fault>
+    pub fn cdata(&mut self) -> Result<&'input str, Fault>
         requires { stands (word_text word.CDataStart) self.old.text.now self.old.pos ≡ true }
         ensures { Steps (λ x. x.now) self.old self.new result spec.cdata_at }
     {
         self.skip(Word::CDataStart);
-        self.text_to(Word::CDataEnd, &finders.cdata_end)
+        self.text_to(Word::CDataEnd)
     }
 }

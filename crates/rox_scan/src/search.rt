@@ -2,40 +2,10 @@
 ghost use Rattle.std.specs.Prelude.{◌≡◌, ◌≢◌, ℕ, ◌+◌, ◌<◌, ◌≤◌, ◌||◌, ◌==◌, length, slice_index, true};
 ghost use Rattle.std.specs.List.{position_or_len};
 ghost use Rattle.std.specs.Str.{IsCharBoundary};
-ghost use Rattle.std.proofs.Props.{props};
 ghost use Rattle.rox_grammar.specs.Search as spec;
 ghost use Rattle.rox_grammar.specs.Constructs.{has_mark};
-ghost use Rattle.rox_grammar.specs.FixedTexts.{word_text};
-ghost use Rattle.rox_grammar.specs.declared.fault.Word.TheVariants as word;
 
-use memchr::memmem::Finder;
 use memchr::{memchr, memchr2};
-use rox_grammar::fault::Word;
-
-/// A search for each text that ends a construct, made once for a source.
-#[derive(Drop)]
-pub struct Finders<'n> {
-    /// Of `-->`.
-    pub comment_end: Finder<'n>,
-    /// Of `?>`.
-    pub pi_end: Finder<'n>,
-    /// Of `]]>`.
-    pub cdata_end: Finder<'n>,
-    pub ghost comments: { comment_end ≡ word_text word.CommentEnd } by { Prim.hlevel props },
-    pub ghost instructions: { pi_end ≡ word_text word.PIEnd } by { Prim.hlevel props },
-    pub ghost sections: { cdata_end ≡ word_text word.CDataEnd } by { Prim.hlevel props },
-}
-
-impl<'n> Finders<'n> {
-    /// The searches, for any source.
-    pub fn new() -> Finders<'n> {
-        Finders {
-            comment_end: Finder::new(Word::CommentEnd.text()),
-            pi_end: Finder::new(Word::PIEnd.text()),
-            cdata_end: Finder::new(Word::CDataEnd.text()),
-        }
-    }
-}
 
 /// The first place from `at` on of the byte, or the end.
 #[inline]
@@ -106,30 +76,18 @@ pub fn has_mark(bytes: &[u8], mark: &[u8]) -> bool
     before_mark(bytes, mark) < bytes.len()
 }
 
-/// The first place from `at` on of the finder's text, or the end.
+/// The first place from `at` on of the mark, or the end.
 #[inline]
 #[tactic(auto, unfolding(rox_grammar::specs::Search::mark_from))]
-pub fn mark_from(text: &str, at: usize, finder: &Finder<'_>) -> usize
+pub fn mark_from(text: &str, at: usize, mark: &[u8]) -> usize
     requires cut { IsCharBoundary text.now at }
-    requires some { 0 < length finder.now }
-    requires ascii { slice_index finder.now 0 < 128 }
-    ensures place { result ≡ spec.mark_from finder.now text.now at }
+    requires some { 0 < length mark.now }
+    requires ascii { slice_index mark.now 0 < 128 }
+    ensures place { result ≡ spec.mark_from mark.now text.now at }
     ensures onward { at ≤ result }
     ensures cut { IsCharBoundary text.now result }
 {
-    at + before_found(text[at..].as_bytes(), finder)
-}
-
-/// How many bytes come before the first of the finder's text, or all.
-#[inline]
-fn before_found(bytes: &[u8], finder: &Finder<'_>) -> usize
-    requires { 0 < length finder.now }
-    ensures value { result ≡ spec.before_mark finder.now bytes.now }
-    ensures within { result ≤ length bytes.now }
-    ensures found { result < length bytes.now
-        → slice_index bytes.now result ≡ slice_index finder.now 0 }
-{
-    finder.find(bytes).unwrap_or(bytes.len())
+    at + before_mark(text[at..].as_bytes(), mark)
 }
 
 /// The first place from `at` on of the byte, or the end.

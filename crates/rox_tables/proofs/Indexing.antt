@@ -1,7 +1,6 @@
 -- A table of pairs and a map of their places: what is found in it, and what stays of it as the table grows.
 use Rattle.std.proofs.Common.{◌≡◌, ℕ, suc, ◌<◌, ◌||◌, Bool, true, false, cond, List, [], ◌∷◌, ◌++◌, length, length-append, map, take, drop, zero, ◌+◌, ◌≤◌, refl, sym, ap, ◌∙◌, subst, arith, Option, Some, None, Result, Ok, Err, IfOk, OnOk, ◌⊎◌, inl, inr}
-use Rattle.std.specs.Prelude.{bytes_eq, ◌&&◌}
-use Rattle.std.specs.Option.{option_map, option_eq, IfSome, IfNone, option_cmp}
+use Rattle.std.specs.Option.{option_map, IfSome, IfNone, option_cmp}
 use Rattle.std.specs.Map.{lookup}
 use Rattle.std.specs.Result.{is_ok}
 use Rattle.std.specs.BTreeMap.{insert_entry, is_at}
@@ -131,16 +130,6 @@ place_back (suc k) (n ∷ namespaces) d h = by (same_pair n d) refl (place_of (t
     by true e o is more = cc (rw e at h)
     by false e None is more = rw (e, more is) (next (place_of (drop k namespaces) d))
     by false e (Some j) is more = cc (rw (e, is) at h)
-
--- pairs that are equal as the code compares them
-prefix_eq : (p q : Option (List ℕ)) → option_eq bytes_eq p q ≡ same_prefix p q
-prefix_eq None None = refl
-prefix_eq None (Some q) = refl
-prefix_eq (Some p) None = refl
-prefix_eq (Some p) (Some q) = refl
-
-pub pair_eq : (d e : NamespaceDecl) → (option_eq bytes_eq d.prefix e.prefix && bytes_eq d.uri e.uri) ≡ same_pair d e
-pair_eq d e = ap (λ b. b && bytes_eq d.uri e.uri) (prefix_eq d.prefix e.prefix)
 
 -- where nothing stands behind the first few
 pub none_behind : (namespaces : List NamespaceDecl) (d : NamespaceDecl) → length namespaces ≤ few_pairs → place_behind namespaces d ≡ None

@@ -63,11 +63,11 @@ fn test_prefix_uri(local: &str, uri: &str, at: usize) -> Result<(), Fault>
     ensures { (a : Attribute) → a.name.local ≡ local.now → a.value ≡ uri.now → a.start ≡ at
         → result ≡ spec.prefix_tested a }
 {
-    if uri == XMLNS_URI {
+    if same_text(uri, XMLNS_URI) {
         return Err(Fault::UnexpectedXmlnsUri(at));
     }
-    let is_xml = uri == XML_URI;
-    if local == "xml" {
+    let is_xml = same_text(uri, XML_URI);
+    if same_text(local, "xml") {
         return if is_xml {
             Ok(())
         } else {
@@ -85,10 +85,10 @@ fn test_prefix_uri(local: &str, uri: &str, at: usize) -> Result<(), Fault>
 fn test_default_uri(uri: &str, at: usize) -> Result<(), Fault>
     ensures { (a : Attribute) → a.value ≡ uri.now → a.start ≡ at → result ≡ spec.default_tested a }
 {
-    if uri == XML_URI {
+    if same_text(uri, XML_URI) {
         return Err(Fault::UnexpectedXmlUri(at));
     }
-    if uri == XMLNS_URI {
+    if same_text(uri, XMLNS_URI) {
         return Err(Fault::UnexpectedXmlnsUri(at));
     }
     Ok(())

@@ -3,13 +3,15 @@
 
 ghost use Rattle.std.specs.Prelude.{◌≡◌, ◌<◌, ◌≤◌, ◌∷◌, ◌++◌, [], length, map, true, false, IfSome, IfNone, IfOk, OnOk, Err};
 ghost use Rattle.rox_grammar.specs.Written.{NamespaceDecl};
-ghost use Rattle.rox_grammar.specs.Document.{has_pair, with_new, most_pairs};
+ghost use Rattle.rox_grammar.specs.Document.{has_pair, same_pair, with_new, most_pairs};
 ghost use Rattle.rox_grammar.specs.declared.fault.Fault.{Fault};
 ghost use Rattle.rox_tables.specs.Storage.{storage_bytes};
 ghost use Rattle.rox_tables.specs.Rows.{namespace_view, namespace_at};
 ghost use Rattle.rox_tables.specs.Scopes.{prefix_view, pair};
 ghost use Rattle.rox_tables.specs.PairIndex.{pair_cmp, key_cmp, key_total, few_pairs, place_among, place_behind, place_of};
 
+use crate::compare::same_text;
+use crate::namespaces::scope::same_prefix;
 use crate::rows::storage::StringStorage;
 use crate::rows::tables::Namespace;
 use rox_grammar::failure::Failure;
@@ -90,13 +92,21 @@ impl PartialOrd for Key<'_> {
     }
 }
 
+/// Whether two pairs are the same. Most differ in the length of their prefixes.
+#[inline(always)]
+fn is_same(one: &Namespace<'_>, other: &Namespace<'_>) -> bool
+    ensures { result ≡ same_pair (namespace_view one.now) (namespace_view other.now) }
+{
+    same_prefix(one.name, other.name) && same_text(one.uri.as_str(), other.uri.as_str())
+}
+
 /// The place of a pair among these, which are few.
 fn place_in(items: &[Namespace<'_>], pair: &Namespace<'_>) -> Option<u16>
     requires few { length items.now ≤ few_pairs }
     ensures value { result ≡ place_of (map namespace_view items.now) (namespace_view pair.now) }
 {
     for (place, item) in items.iter().enumerate() {
-        if item == pair {
+        if is_same(item, pair) {
             return Some(place as u16);
         }
     }
