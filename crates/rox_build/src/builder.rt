@@ -69,6 +69,9 @@ pub struct Builder<'input> {
 /// the general step.
 const ROOM_TO_OPEN: usize = 14;
 
+/// So many attributes of a tag find room before their buffer grows.
+const ROOM_OF_A_TAG: usize = 11;
+
 /// The scope of the root node, which lists nothing.
 fn empty_scope(alloc: Global) -> Result<Vec<Scope>, Failure>
     ensures ok { IfOk result (λ scopes. scopes.items ≡ Scope.Few (record { from = 0; until = 0 })
@@ -157,6 +160,7 @@ impl<'input> Builder<'input> {
     ghost use Rattle.rox_build.specs.declared.builder.OpenElement.{OpenElement};
 
     /// The tables with the root node of a text of so many bytes.
+    #[inline(always)]
     pub fn new(alloc: Global, bytes: usize, nodes_limit: u32) -> Result<Builder<'input>, Failure>
         ensures empty { IfOk result (λ b. (names_in b.tables ≡ [])
             × (length (attribute_rows b.tables.attributes) ≡ 0)) }
@@ -170,6 +174,7 @@ impl<'input> Builder<'input> {
         let attributes = AttributeTable::of_text(alloc, bytes);
         let scopes = empty_scope(alloc)?;
         let opened = Vec::with_capacity(alloc, ROOM_TO_OPEN)?;
+        let taken = Vec::with_capacity(alloc, ROOM_OF_A_TAG)?;
         let nodes = NodeTable::of_text(alloc, bytes)?;
         Ok(Builder {
             nodes,
@@ -186,7 +191,7 @@ impl<'input> Builder<'input> {
             buffers: Buffers {
                 scratch: String::new(alloc),
                 raw: String::new(alloc),
-                taken: Vec::new(alloc),
+                taken,
                 prefix_set: BTreeSet::new(alloc),
             },
             recent: Recent::new(alloc),

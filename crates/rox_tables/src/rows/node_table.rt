@@ -35,7 +35,10 @@ pub struct NodeTable<'input> {
 const FIRST_ROWS: usize = 65536;
 
 /// And at least.
-const FEWEST_ROWS: usize = 32;
+const FEWEST_ROWS: usize = 16;
+
+/// How many more there is room for at first, at most: the table of a short text seldom grows.
+const MORE_ROWS: usize = 32;
 
 /// The upper halves of a row's places, where these are those of the first rows.
 #[inline(always)]
@@ -130,7 +133,7 @@ impl<'input> NodeTable<'input> {
         ensures len { IfOk result (λ t. vec_len t.rows ≡ 1) }
         ensures err { IfErr result (λ e. e ≡ Failure.Memory) }
     {
-        let room = (bytes / 48 + FEWEST_ROWS).min(FIRST_ROWS);
+        let room = (bytes / 48 + (bytes / 64).min(MORE_ROWS) + FEWEST_ROWS).min(FIRST_ROWS);
         let mut table = NodeTable::empty(alloc);
         reserve(&mut table.rows, room, FEWEST_ROWS)?;
         table.push(NodeData {
