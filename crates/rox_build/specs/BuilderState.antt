@@ -231,6 +231,14 @@ pub record IsReady (b : Builder) : Type 0 where
   pub depth : vec_len b.opened < vec_capacity b.opened
   pub settled : waiting b.pending ≡ 0
 
+-- the same with room for two rows
+pub record IsReadyTwice (b : Builder) : Type 0 where
+  pub room : vec_len b.nodes.rows + 1 < vec_capacity b.nodes.rows
+  pub few : vec_len b.nodes.rows + 1 < b.nodes_limit
+  pub small : vec_len b.nodes.rows + 2 < 2 ^ 32
+  pub depth : vec_len b.opened < vec_capacity b.opened
+  pub settled : waiting b.pending ≡ 0
+
 -- the builder holds the same, whatever room it has for attributes
 pub record KeepsState (old new : Builder) : Type 0 where
   pub nodes : new.nodes ≡ old.nodes

@@ -151,7 +151,7 @@ impl<'input> Builder<'input> {
     ghost use Rattle.rox_reading.specs.Machine.{with_item, opened_by, counted};
     ghost use Rattle.rox_grammar.specs.Failures.{Fails};
     ghost use Rattle.rox_values.specs.Values.{piece_view};
-    ghost use Rattle.rox_build.specs.BuilderState.{Represents, RepresentsFlushed, IsNode, IsOpening, AreSound, Adds, IsConsistent, IsOpened, IsReady, names_in, opened_in, last_row};
+    ghost use Rattle.rox_build.specs.BuilderState.{Represents, RepresentsFlushed, IsNode, IsOpening, AreSound, Adds, IsConsistent, IsOpened, IsReady, IsReadyTwice, names_in, opened_in, last_row};
     ghost use Rattle.rox_tables.specs.Rows.{HoldsTree, attribute_rows};
     ghost use Rattle.rox_tables.specs.StoredNodes.{IsSmallKind};
     ghost use Rattle.rox_tables.specs.Scopes.{PrefixesOnce};
@@ -555,17 +555,16 @@ impl<'input> Builder<'input> {
         Ok(())
     }
 
-    /// Whether there is room for a row and for an open element, and no text waits for its row.
+    /// Whether there is room for two rows and for an open element, and no text waits for its row.
     #[inline(always)]
-    pub fn is_ready(&self) -> bool
-        ensures { result ≡ true → IsReady self.now }
+    pub fn is_ready_twice(&self) -> bool
+        ensures { result ≡ true → IsReadyTwice self.now }
     {
-        let count = self.nodes.len();
         match self.pending {
             Pending::Joined(_, _) => false,
             _ => {
-                self.nodes.has_room()
-                    && count < self.nodes_limit as usize
+                self.nodes.has_room_for_two()
+                    && self.nodes.len() + 1 < self.nodes_limit as usize
                     && self.opened.len() < self.opened.capacity()
             }
         }
@@ -598,16 +597,17 @@ impl<'input> Builder<'input> {
         self.pending = Pending::None;
     }
 
-    /// A text that is a slice of the source, where no text may go on and there is room for its row.
+    /// A text that is a slice of the source, where no text may go on and there is room for its row and for one more.
     #[inline(always)]
     pub fn put_text(&mut self, start: usize, end: usize, text: &'input str)
-        requires ready { IsReady self.old }
+        requires ready { IsReadyTwice self.old }
         requires apart { self.old.pending ≡ pending.None }
         requires start { start < 2 ^ 32 }
         requires end { end < 2 ^ 32 }
         ensures value { (total at : ℕ) (s : State) → Represents total s.stack s.done self.old
             → Adds total (Ok tt) self.new
             (with_item self.old.nodes_limit s at (Text start end text.now true)) }
+        ensures ready { IsReady self.new }
         ensures tables { self.new.tables ≡ self.old.tables }
         ensures opened { self.new.opened ≡ self.old.opened }
         ensures limit { self.new.nodes_limit ≡ self.old.nodes_limit }

@@ -13,7 +13,7 @@ ghost use Rattle.rox_reading.specs.Machine as machine;
 ghost use Rattle.rox_reading.specs.Refusals.{lifted};
 ghost use Rattle.rox_reading.specs.State.{State};
 ghost use Rattle.rox_grammar.specs.State.{is_root};
-ghost use Rattle.rox_build.specs.BuilderState.{IsConsistent, IsInState, IsReady, KeepsState, ScansTo};
+ghost use Rattle.rox_build.specs.BuilderState.{IsConsistent, IsInState, IsReady, IsReadyTwice, KeepsState, ScansTo};
 ghost use Rattle.rox_build.specs.PlainSteps.{StepsOnce, StepsTwice};
 ghost use Rattle.rox_build.specs.PendingText.{waiting};
 
@@ -22,7 +22,7 @@ use crate::plain_tag::{bare_start_tag, plain_start_tag};
 use crate::same_front::same_front;
 use rox_grammar::fault::Word;
 use rox_scan::byte_set::{part_end, skip_set};
-use rox_scan::character_data::{TextByte, ends_character_data};
+use rox_scan::character_data::TextByte;
 use rox_scan::cursor::Cursor;
 use rox_scan::runs::{after_byte, is_at};
 use rox_tables::rows::storage::StringStorage;
@@ -31,11 +31,11 @@ use rox_tables::rows::tables::NodeKind;
 /// The most bytes of a text whose places all fit rows.
 const MOST_BYTES: usize = 4294967295;
 
-/// Character data, up to the next `<` or the end, if it is a slice of the source, and no text is open that it goes on with.
+/// Character data, up to the next `<`, if it is a slice of the source, and no text is open that it goes on with.
 #[inline(always)]
 fn plain_character_data<'input>(cursor: &mut Cursor<'input>, builder: &mut Builder<'input>) -> bool
     requires short { length cursor.old.text.now < 2 ^ 32 }
-    requires ready { IsReady builder.old }
+    requires ready { IsReadyTwice builder.old }
     ensures value { result ≡ true → (context : machine.Context) (end : ℕ) (s : State)
         → IsInState context.limit end s cursor.old builder.old
         → ScansTo context.limit end (Ok tt) cursor.new builder.new
@@ -44,6 +44,8 @@ fn plain_character_data<'input>(cursor: &mut Cursor<'input>, builder: &mut Build
     ensures tables { builder.new.tables ≡ builder.old.tables }
     ensures opened { builder.new.opened ≡ builder.old.opened }
     ensures source { cursor.new.text ≡ cursor.old.text }
+    ensures behind { result ≡ true → slice_index cursor.old.text.now cursor.new.pos ≡ 60 }
+    ensures ready { result ≡ true → IsReady builder.new }
 {
     if builder.is_text_open() {
         return false;
@@ -51,7 +53,7 @@ fn plain_character_data<'input>(cursor: &mut Cursor<'input>, builder: &mut Build
     let start = cursor.pos;
     let text = cursor.text;
     let near = skip_set::<TextByte>(text, start);
-    if !ends_character_data(text, near) {
+    if !is_at(text, near, b'<') {
         return false;
     }
     cursor.pos = near;
@@ -318,7 +320,7 @@ pub fn plain_steps<'input>(
     ensures fine { IsConsistent builder.new.tables builder.new.opened.items }
     ensures source { cursor.new.text ≡ cursor.old.text }
 {
-    if !builder.is_ready() {
+    if !builder.is_ready_twice() {
         return 0;
     }
     let bytes = cursor.text.as_bytes();
@@ -334,7 +336,7 @@ pub fn plain_steps<'input>(
     if !plain_character_data(cursor, builder) {
         return 0;
     }
-    if !two || !is_at(cursor.text, cursor.pos, b'<') || !builder.is_ready() {
+    if !two {
         return 1;
     }
     if plain_markup(cursor, builder, open_around) {

@@ -157,10 +157,18 @@ impl<'input> NodeTable<'input> {
 
     /// Whether there is room for one more row.
     #[inline(always)]
-    pub fn has_room(&self) -> bool
+    fn has_room(&self) -> bool
         ensures { result ≡ true → vec_len self.now.rows < vec_capacity self.now.rows }
     {
         self.rows.len() < self.rows.capacity()
+    }
+
+    /// Whether there is room for two more rows.
+    #[inline(always)]
+    pub fn has_room_for_two(&self) -> bool
+        ensures { result ≡ true → vec_len self.now.rows + 1 < vec_capacity self.now.rows }
+    {
+        self.rows.len() + 1 < self.rows.capacity()
     }
 
     /// A node.
@@ -248,6 +256,7 @@ impl<'input> NodeTable<'input> {
         requires small { stored.IsSmallKind row.kind }
         ensures rows { node_rows self.new ≡ node_rows self.old ++ row.entry ∷ [] }
         ensures len { vec_len self.new.rows ≡ vec_len self.old.rows + 1 }
+        ensures capacity { vec_capacity self.new.rows ≡ vec_capacity self.old.rows }
     {
         self.rows.push_reserved(StoredNode {
             start: row.start as u32,

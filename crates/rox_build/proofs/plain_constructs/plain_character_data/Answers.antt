@@ -1,14 +1,10 @@
-use Rattle.std.proofs.Common.{◌≡◌, ◌<◌, ◌||◌, ◌==◌, Bool, true, false, ℕ, Ok, get_or, length, slice_range, sym, ◌∙◌, arith}
-use Rattle.std.proofs.lemmas.Bool.{eqb-true, ne_eqb}
+use Rattle.std.proofs.Common.{◌≡◌, ◌<◌, true, Ok, get_or, length, slice_range, sym, ◌∙◌, arith}
+use Rattle.std.proofs.lemmas.Bool.{eqb-true}
 use Rattle.rox_reading.specs.Values.{ReadText}
 use Rattle.rox_scan.proofs.NearLemmas.{text_cut}
 use Rattle.rox_scan.proofs.ShortLemmas.{short_run}
 use Rattle.rox_build.proofs.Stepping.{plain_run, text_stepped}
 use Rattle.rox_build.proofs.plain_constructs.plain_character_data.Goals as goal
-
-stands_here : (ends : Bool) (b : ℕ) → (ends || b == 60) ≡ true → ends ≡ false → b ≡ 60
-stands_here true b h other = cc other
-stands_here false b h other = eqb-true b 60 h
 
 pub returns-clause-value : goal.returns-clause-value
 returns-clause-value c = λ _ context end s h.
@@ -19,7 +15,7 @@ returns-clause-value c = λ _ context end s h.
     let e = c.skip_set-near.result in
     let n = c.skip_set-near.ensures in
     let cut = text_cut src e n.within n.stops in
-    let here : e < length src → get_or src e 0 ≡ 60 = λ more. stands_here _ _ (sym c.ends_character_data.ensures ∙ c.if-not-ends_character_data.false) (ne_eqb e (length src) (λ same. absurd (omega arith))) in
+    let here : e < length src → get_or src e 0 ≡ 60 = λ more. eqb-true _ _ (sym c.is_at.ensures ∙ c.if-not-is_at.false) in
     let r = short_run src i e cursor.utf8 cursor.cut n.onward cut n.passes here in
     let text : ReadText = record { value = slice_range src i e; borrowed = true } in
     rw (plain_run context src s i e (slice_range src i e) h.here r.0 r.1)

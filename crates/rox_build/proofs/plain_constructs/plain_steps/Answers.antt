@@ -1,5 +1,4 @@
 use Rattle.std.proofs.Common.{◌≡◌, ◌<◌, ℕ, Ok, length, slice_index, ap, subst, sym, ◌∙◌, arith}
-use Rattle.std.proofs.lemmas.Bool.{eqb-true}
 use Rattle.rox_reading.specs.Machine.{step}
 use Rattle.rox_build.specs.BuilderState.{ScansTo}
 use Rattle.rox_build.proofs.Stepping.{step_is_run}
@@ -22,7 +21,7 @@ returns-then-plain_markup-2-clause-two c = λ _. (
       let src = c.args.cursor.now.text.now in
       let d = c.plain_character_data.new.cursor in
       let s0 = ap (λ t. t.now) c.plain_character_data.ensures.source in
-      let here : slice_index src d.pos ≡ 60 = rw s0 at (eqb-true _ _ (sym c.is_at.ensures ∙ c.if-not-is_at.false)) in
+      let here : slice_index src d.pos ≡ 60 = c.plain_character_data.ensures.behind c.if-not-plain_character_data.false in
       let run : ScansTo context.limit end (Ok tt) d c.plain_character_data.new.builder (step context src s) =
       rw (step_is_run context src _ s c.args.cursor.now.pos c.as_bytes-bytes.ensures.value h.here c.if-bytes-cursor-eq60.false)
       (c.plain_character_data.ensures.value c.if-not-plain_character_data.false context end s h) in
@@ -37,7 +36,7 @@ returns-clause-apart c = λ _. (
       let src = c.args.cursor.now.text.now in
       let d = c.plain_character_data.new.cursor in
       let s0 = ap (λ t. t.now) c.plain_character_data.ensures.source in
-      let here : slice_index src d.pos ≡ 60 = rw s0 at (eqb-true _ _ (sym c.is_at.ensures ∙ c.if-not-is_at.false)) in
+      let here : slice_index src d.pos ≡ 60 = c.plain_character_data.ensures.behind c.if-not-plain_character_data.false in
       let run : ScansTo context.limit end (Ok tt) d c.plain_character_data.new.builder (step context src s) =
       rw (step_is_run context src _ s c.args.cursor.now.pos c.as_bytes-bytes.ensures.value h.here c.if-bytes-cursor-eq60.false)
       (c.plain_character_data.ensures.value c.if-not-plain_character_data.false context end s h) in
@@ -50,6 +49,6 @@ returns-clause-inside c = λ _.
     let src = c.args.cursor.now.text.now in
     let d = c.plain_character_data.new.cursor in
     let s0 = ap (λ t. t.now) c.plain_character_data.ensures.source in
-    let here : slice_index src d.pos ≡ 60 = rw s0 at (eqb-true _ _ (sym c.is_at.ensures ∙ c.if-not-is_at.false)) in
+    let here : slice_index src d.pos ≡ 60 = c.plain_character_data.ensures.behind c.if-not-plain_character_data.false in
     let same = ap (λ x. x.pos) (c.plain_markup-2.ensures.place c.if-plain_markup-2.false) in
     subst (λ (n : ℕ). n < length src) (sym same) (stands_within src d.pos 60 here (omega arith))
