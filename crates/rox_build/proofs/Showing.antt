@@ -24,6 +24,7 @@ use Rattle.rox_tables.specs.declared.rows.tables.NodeKind.TheVariants as kind
 use Rattle.rox_tables.specs.declared.rows.tables.NodeData.{NodeData}
 use Rattle.rox_tables.specs.declared.rows.tables.ElementTables.{ElementTables}
 use Rattle.rox_build.specs.declared.pending.Pending.{Pending}
+use Rattle.rox_build.specs.declared.pending.JoinedText.{JoinedText}
 use Rattle.rox_build.specs.declared.pending.Pending.TheVariants as pending
 use Rattle.rox_build.specs.declared.builder.OpenElement.{OpenElement}
 use Rattle.rox_build.specs.declared.builder.Builder.{Builder}
@@ -51,24 +52,24 @@ pub rows_count : (t : ElementTables) (end : ℕ) (o : Open) (front : Forest Item
 rows_count t end o front rows h = sym (length-map rows (line_in t)) ∙ ap length h ∙ length-so_far end o front
 
 -- where nothing goes on
-pub nothing_last : (b : Builder) (joined : List ℕ) (last : Forest Item) → b.pending ≡ pending.None → IsPending b.pending joined last → last ≡ Nil
+pub nothing_last : (b : Builder) (joined : JoinedText) (last : Forest Item) → b.pending ≡ pending.None → IsPending b.pending joined last → last ≡ Nil
 nothing_last b joined last was h = subst (λ (p : Pending). IsPending p joined last) was h
 
 pub rows_none : (end : ℕ) (o : Open) (done : Forest Item) (b : Builder) (h : Represents end o done b) → b.pending ≡ pending.None → map (line_in b.tables) (node_rows b.nodes) ≡ so_far end o h.front
 rows_none end o done b h was = h.rows ∙ ap (λ (p : Pending). so_far end o (with_rows p h.front h.last)) was
 
 pub merged_none : (end : ℕ) (o : Open) (done : Forest Item) (b : Builder) (h : Represents end o done b) → b.pending ≡ pending.None → merge done ≡ h.front
-merged_none end o done b h was = h.merged ∙ ap (join h.front) (nothing_last b (string_bytes b.joined) h.last was h.is_last) ∙ join-nil h.front
+merged_none end o done b h was = h.merged ∙ ap (join h.front) (nothing_last b b.joined h.last was h.is_last) ∙ join-nil h.front
 
 -- where the buffer has the text that may go on
-pub rows_joined : (end : ℕ) (o : Open) (done : Forest Item) (b : Builder) (x y : ℕ) (h : Represents end o done b) → b.pending ≡ pending.Joined x y
+pub rows_joined : (end : ℕ) (o : Open) (done : Forest Item) (b : Builder) (h : Represents end o done b) → b.pending ≡ pending.Joined
     → map (line_in b.tables) (node_rows b.nodes) ≡ so_far end o h.front
-rows_joined end o done b x y h was = h.rows ∙ ap (λ (p : Pending). so_far end o (with_rows p h.front h.last)) was
+rows_joined end o done b h was = h.rows ∙ ap (λ (p : Pending). so_far end o (with_rows p h.front h.last)) was
 
-pub merged_joined : (end : ℕ) (o : Open) (done : Forest Item) (b : Builder) (x y : ℕ) (h : Represents end o done b) → b.pending ≡ pending.Joined x y
-    → merge done ≡ join h.front (leaf (Text x y (string_bytes b.joined) false))
-merged_joined end o done b x y h was =
-    let is : h.last ≡ leaf (Text x y (string_bytes b.joined) false) = subst (λ (p : Pending). IsPending p (string_bytes b.joined) h.last) was h.is_last in
+pub merged_joined : (end : ℕ) (o : Open) (done : Forest Item) (b : Builder) (h : Represents end o done b) → b.pending ≡ pending.Joined
+    → merge done ≡ join h.front (leaf (Text b.joined.start b.joined.end (string_bytes b.joined.text) false))
+merged_joined end o done b h was =
+    let is : h.last ≡ leaf (Text b.joined.start b.joined.end (string_bytes b.joined.text) false) = subst (λ (p : Pending). IsPending p b.joined h.last) was h.is_last in
     h.merged ∙ ap (join h.front) is
 
 -- where its row is written
@@ -80,7 +81,7 @@ abbrev pub IsPiece : Forest Item → Type 0
 IsPiece last = (start : ℕ) × (end : ℕ) × (text : List ℕ) × (borrowed : Bool) × (last ≡ leaf (Text start end text borrowed))
 
 pub written_is : (end : ℕ) (o : Open) (done : Forest Item) (b : Builder) (h : Represents end o done b) → b.pending ≡ pending.Written → IsPiece h.last
-written_is end o done b h was = subst (λ (p : Pending). IsPending p (string_bytes b.joined) h.last) was h.is_last
+written_is end o done b h was = subst (λ (p : Pending). IsPending p b.joined h.last) was h.is_last
 
 pub counted_ok : (limit : ℕ) (s : State) → nodes_so_far s.stack s.done ≤ limit → counted limit s ≡ Ok s
 counted_ok limit s h = let k = le-leb (nodes_so_far s.stack s.done) limit h in rw k refl
@@ -136,15 +137,18 @@ settled_written end o done b u h was nodes tables opens empty =
       empty = empty;
     }
 
-pub settled_joined : (end : ℕ) (o : Open) (done : Forest Item) (b u : Builder) (s e : ℕ) (k : NodeKind) → Represents end o done b
-    → b.pending ≡ pending.Joined s e
-    → node (attribute_rows b.tables.attributes) (names_in b.tables) (lists_in b.tables) s e k ≡ node_in (scope_of o) (Text s e (string_bytes b.joined) false)
-    → IsRowWithin b.tables k → (node_rows u.nodes) ≡ (node_rows b.nodes) ++ row_of b.tables (node_rows b.nodes) b.opened.items s e k ∷ [] → u.tables ≡ b.tables → u.opened ≡ b.opened
+pub settled_joined : (end : ℕ) (o : Open) (done : Forest Item) (b u : Builder) (k : NodeKind) → Represents end o done b
+    → b.pending ≡ pending.Joined
+    → node (attribute_rows b.tables.attributes) (names_in b.tables) (lists_in b.tables) b.joined.start b.joined.end k
+    ≡ node_in (scope_of o) (Text b.joined.start b.joined.end (string_bytes b.joined.text) false)
+    → IsRowWithin b.tables k → (node_rows u.nodes) ≡ (node_rows b.nodes) ++ row_of b.tables (node_rows b.nodes) b.opened.items b.joined.start b.joined.end k ∷ [] → u.tables ≡ b.tables → u.opened ≡ b.opened
     → u.pending ≡ pending.None → RepresentsFlushed end o done u
-settled_joined end o done b u s e k h was is within nodes tables opens empty =
-    let i : Item = Text s e (string_bytes b.joined) false in
-    let m : join h.front (leaf i) ≡ merge done = sym (merged_joined end o done b s e h was) in
-    let r = row_shows b.tables end o h.front i (node_rows b.nodes) b.opened.items s e k (rows_joined end o done b s e h was) h.open_rows is in
+settled_joined end o done b u k h was is within nodes tables opens empty =
+    let s = b.joined.start in
+    let e = b.joined.end in
+    let i : Item = Text s e (string_bytes b.joined.text) false in
+    let m : join h.front (leaf i) ≡ merge done = sym (merged_joined end o done b h was) in
+    let r = row_shows b.tables end o h.front i (node_rows b.nodes) b.opened.items s e k (rows_joined end o done b h was) h.open_rows is in
     let w = all_append (λ (r : NodeData). IsRowWithin b.tables r.kind) (node_rows b.nodes) (row_of b.tables (node_rows b.nodes) b.opened.items s e k ∷ []) h.within (within, tt) in
     record {
       rows = rw (nodes, tables) (r ∙ ap (so_far end o) m);
@@ -161,7 +165,7 @@ settled end o done b u h none nodes tables opens empty = by_cases b.pending refl
     by_cases : (p : Pending) → p ≡ b.pending → RepresentsFlushed end o done u
     by_cases pending.None e = settled_none end o done b u h (sym e) nodes tables opens empty
     by_cases pending.Written e = settled_written end o done b u h (sym e) nodes tables opens empty
-    by_cases (pending.Joined x y) e = absurd (let w : 1 ≡ 0 = ap waiting e ∙ none in omega arith)
+    by_cases pending.Joined e = absurd (let w : 1 ≡ 0 = ap waiting e ∙ none in omega arith)
 
 -- ---- items
 
@@ -216,19 +220,22 @@ piece_first end o done b u s e v p k h was is within nodes tables opens waits =
     }
 
 -- one more piece of what is in the buffer
-pub piece_more : (end : ℕ) (o : Open) (done : Forest Item) (b u : Builder) (x y s e : ℕ) (v : List ℕ) (p : Bool) → Represents end o done b
-    → b.pending ≡ pending.Joined x y → u.nodes ≡ b.nodes → u.tables ≡ b.tables → u.opened ≡ b.opened
-    → u.pending ≡ pending.Joined x y → string_bytes u.joined ≡ string_bytes b.joined ++ v → Represents end o (join done (leaf (Text s e v p))) u
-piece_more end o done b u x y s e v p h was nodes tables opens waits joined =
-    let w = string_bytes b.joined in
-    let m = merged_joined end o done b x y h was in
+pub piece_more : (end : ℕ) (o : Open) (done : Forest Item) (b u : Builder) (s e : ℕ) (v : List ℕ) (p : Bool) → Represents end o done b
+    → b.pending ≡ pending.Joined → u.nodes ≡ b.nodes → u.tables ≡ b.tables → u.opened ≡ b.opened
+    → u.pending ≡ pending.Joined → u.joined.start ≡ b.joined.start → u.joined.end ≡ b.joined.end → string_bytes u.joined.text ≡ string_bytes b.joined.text ++ v
+    → Represents end o (join done (leaf (Text s e v p))) u
+piece_more end o done b u s e v p h was nodes tables opens waits from until joined =
+    let x = b.joined.start in
+    let y = b.joined.end in
+    let w = string_bytes b.joined.text in
+    let m = merged_joined end o done b h was in
     record {
       front = h.front;
       last = leaf (Text x y (w ++ v) false);
       merged = merge-piece done s e v p ∙ ap (add s e v p) m ∙ add-text h.front x y w false s e v p;
-      is_last = rw (waits, joined) refl;
+      is_last = rw (waits, from, until, joined) refl;
       clean = h.clean;
-      rows = rw (waits, nodes, tables) (rows_joined end o done b x y h was);
+      rows = rw (waits, nodes, tables) (rows_joined end o done b h was);
       open_rows = rw (tables, opens) h.open_rows;
       within = rw (nodes, tables) h.within;
     }
@@ -263,8 +270,9 @@ all_front P (y ∷ ys) x (p, h) = (p, all_front P ys x h)
 -- a piece that joins a text whose row is written: it is taken back
 pub slice_more : (end : ℕ) (o : Open) (done : Forest Item) (b u : Builder) (last : NodeData) (s e : ℕ) (v : List ℕ) (p : Bool) → Represents end o done b
     → b.pending ≡ pending.Written → (node_rows b.nodes) ≡ (node_rows u.nodes) ++ last ∷ [] → u.tables ≡ b.tables → u.opened ≡ b.opened
-    → u.pending ≡ pending.Joined last.start last.end → string_bytes u.joined ≡ text_of last.kind ++ v → Represents end o (join done (leaf (Text s e v p))) u
-slice_more end o done b u last s e v p h was nodes tables opens waits joined =
+    → u.pending ≡ pending.Joined → u.joined.start ≡ last.start → u.joined.end ≡ last.end → string_bytes u.joined.text ≡ text_of last.kind ++ v
+    → Represents end o (join done (leaf (Text s e v p))) u
+slice_more end o done b u last s e v p h was nodes tables opens waits from until joined =
     let piece = written_is end o done b h was in
     let x = piece.0 in let y = piece.1 in let w = piece.2 in let q = piece.3 in
     let m : merge done ≡ join h.front (leaf (Text x y w q)) = h.merged ∙ ap (join h.front) piece.4 in
@@ -273,12 +281,12 @@ slice_more end o done b u last s e v p h was nodes tables opens waits joined =
     let text = last_text b.tables end o h.front (node_rows u.nodes) last x y w q all in
     let kept : AllByRecursion (λ (r : NodeData). IsRowWithin b.tables r.kind) ((node_rows u.nodes) ++ last ∷ []) = subst (AllByRecursion (λ (r : NodeData). IsRowWithin b.tables r.kind)) nodes h.within in
     let all_within = all_front (λ (r : NodeData). IsRowWithin b.tables r.kind) (node_rows u.nodes) last kept in
-    let bytes : string_bytes u.joined ≡ w ++ v = joined ∙ ap (λ (l : List ℕ). l ++ v) text.3 in
+    let bytes : string_bytes u.joined.text ≡ w ++ v = joined ∙ ap (λ (l : List ℕ). l ++ v) text.3 in
     record {
       front = h.front;
       last = leaf (Text x y (w ++ v) false);
       merged = merge-piece done s e v p ∙ ap (add s e v p) m ∙ add-text h.front x y w q s e v p;
-      is_last = rw (waits, text.1, text.2, bytes) refl;
+      is_last = rw (waits, from, until, text.1, text.2, bytes) refl;
       clean = h.clean;
       rows = rw (waits, tables) text.0;
       open_rows = rw (tables, opens) h.open_rows;
@@ -292,13 +300,15 @@ first_count end o done b s e v p h was =
     let k = ap size (merge-piece done s e v p ∙ ap (add s e v p) m ∙ add_clean h.front s e v p h.clean) ∙ size-join h.front (leaf (Text s e v p)) in
     omega (arith, k, nodes_are o (join done (leaf (Text s e v p))), rows_count b.tables end o h.front (node_rows b.nodes) (rows_none end o done b h was))
 
-pub more_count : (end : ℕ) (o : Open) (done : Forest Item) (b : Builder) (x y s e : ℕ) (v : List ℕ) (p : Bool) → Represents end o done b
-    → b.pending ≡ pending.Joined x y → nodes_so_far o (join done (leaf (Text s e v p))) ≡ length (node_rows b.nodes) + 1
-more_count end o done b x y s e v p h was =
-    let w = string_bytes b.joined in
-    let m = merged_joined end o done b x y h was in
+pub more_count : (end : ℕ) (o : Open) (done : Forest Item) (b : Builder) (s e : ℕ) (v : List ℕ) (p : Bool) → Represents end o done b
+    → b.pending ≡ pending.Joined → nodes_so_far o (join done (leaf (Text s e v p))) ≡ length (node_rows b.nodes) + 1
+more_count end o done b s e v p h was =
+    let x = b.joined.start in
+    let y = b.joined.end in
+    let w = string_bytes b.joined.text in
+    let m = merged_joined end o done b h was in
     let k = ap size (merge-piece done s e v p ∙ ap (add s e v p) m ∙ add-text h.front x y w false s e v p) ∙ size-join h.front (leaf (Text x y (w ++ v) false)) in
-    omega (arith, k, nodes_are o (join done (leaf (Text s e v p))), rows_count b.tables end o h.front (node_rows b.nodes) (rows_joined end o done b x y h was))
+    omega (arith, k, nodes_are o (join done (leaf (Text s e v p))), rows_count b.tables end o h.front (node_rows b.nodes) (rows_joined end o done b h was))
 
 pub written_count : (end : ℕ) (o : Open) (done : Forest Item) (b : Builder) (s e : ℕ) (v : List ℕ) (p : Bool) → Represents end o done b
     → b.pending ≡ pending.Written → nodes_so_far o (join done (leaf (Text s e v p))) ≡ length (node_rows b.nodes)

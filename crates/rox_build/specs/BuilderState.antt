@@ -32,6 +32,7 @@ use Rattle.rox_tables.specs.declared.rows.tables.ElementTables.{ElementTables}
 use Rattle.rox_tables.specs.declared.rows.tables.NodeKind.TheVariants as kind
 use Rattle.rox_build.specs.declared.tag.StartTag.{StartTag}
 use Rattle.rox_build.specs.declared.pending.Pending.{Pending}
+use Rattle.rox_build.specs.declared.pending.JoinedText.{JoinedText}
 use Rattle.rox_build.specs.declared.pending.Pending.TheVariants as pending
 use Rattle.rox_build.specs.declared.builder.OpenElement.{OpenElement}
 use Rattle.rox_build.specs.declared.builder.Builder.{Builder}
@@ -62,16 +63,16 @@ last_row (o ∷ []) = o.row
 last_row (o ∷ p ∷ ps) = last_row (p ∷ ps)
 
 -- the text that may go on, where the buffer holds this: none, a piece, or what the buffer holds
-abbrev pub IsPending : Pending → List ℕ → Forest Item → Type 0
+abbrev pub IsPending : Pending → JoinedText → Forest Item → Type 0
 IsPending pending.None joined last = last ≡ Nil
 IsPending pending.Written joined last = (start : ℕ) × (end : ℕ) × (text : List ℕ) × (borrowed : Bool) × (last ≡ leaf (Text start end text borrowed))
-IsPending (pending.Joined start end) joined last = last ≡ leaf (Text start end joined false)
+IsPending pending.Joined joined last = last ≡ leaf (Text joined.start joined.end (string_bytes joined.text) false)
 
 -- the items that have rows, where these do, and behind them is the text that may go on
 abbrev pub with_rows : Pending → (front last : Forest Item) → Forest Item
 with_rows pending.None front last = front
 with_rows pending.Written front last = join front last
-with_rows (pending.Joined start end) front last = front
+with_rows pending.Joined front last = front
 
 abbrev pub names_in : ElementTables → List NamespaceDecl
 names_in t = map namespace_view t.namespaces.items.items
@@ -92,7 +93,7 @@ pub record Represents (end : ℕ) (stack : Open) (done : Forest Item) (b : Build
   pub front : Forest Item
   pub last : Forest Item
   pub merged : merge done ≡ join front last
-  pub is_last : IsPending b.pending (string_bytes b.joined) last
+  pub is_last : IsPending b.pending b.joined last
   pub clean : Clean front
   pub rows : map (line_in b.tables) (node_rows b.nodes) ≡ so_far end stack (with_rows b.pending front last)
   pub open_rows : opened_in b.tables b.opened.items ≡ open_lines stack

@@ -10,13 +10,13 @@ use Rattle.rox_build.specs.declared.pending.Pending.TheVariants as pending
 abbrev pub waiting : Pending → ℕ
 waiting pending.None = 0
 waiting pending.Written = 0
-waiting (pending.Joined start end) = 1
+waiting pending.Joined = 1
 
 -- how many rows it has
 abbrev pub written : Pending → ℕ
 written pending.None = 0
 written pending.Written = 1
-written (pending.Joined start end) = 0
+written pending.Joined = 0
 
 -- the text of a row
 abbrev pub text_of : NodeKind → List ℕ

@@ -10,7 +10,7 @@ ghost use Rattle.rox_build.specs.PendingText.{waiting, written, text_of};
 ghost use Rattle.rox_build.specs.declared.pending.Pending.TheVariants as pending;
 ghost use Rattle.std.specs.String.{string_bytes};
 
-use crate::pending::Pending;
+use crate::pending::{JoinedText, Pending};
 use crate::tag::{Buffers, StartTag};
 use rox_grammar::failure::Failure;
 use rox_grammar::fault::Fault;
@@ -52,8 +52,7 @@ pub struct Builder<'input> {
     /// Outermost first.
     pub opened: Vec<OpenElement<'input>>,
     pub pending: Pending,
-    /// The text of `Pending::Joined`.
-    pub joined: String,
+    pub joined: JoinedText,
     pub buffers: Buffers<'input>,
     /// The owned texts that come again.
     pub recent: Recent,
@@ -187,7 +186,11 @@ impl<'input> Builder<'input> {
             },
             opened,
             pending: Pending::None,
-            joined: String::new(alloc),
+            joined: JoinedText {
+                text: String::new(alloc),
+                start: 0,
+                end: 0,
+            },
             buffers: Buffers {
                 scratch: String::new(alloc),
                 raw: String::new(alloc),
@@ -255,7 +258,7 @@ impl<'input> Builder<'input> {
         ensures { result ≡ vec_len self.now.nodes.rows + waiting self.now.pending }
     {
         match self.pending {
-            Pending::Joined(_, _) => self.nodes.len() + 1,
+            Pending::Joined => self.nodes.len() + 1,
             _ => self.nodes.len(),
         }
     }
@@ -317,17 +320,17 @@ impl<'input> Builder<'input> {
                 self.pending = Pending::None;
                 Ok(())
             }
-            Pending::Joined(start, end) => {
-                self.flush_joined(alloc, start, end)?;
+            Pending::Joined => {
+                self.flush_joined(alloc)?;
                 Ok(())
             }
         }
     }
 
-    /// Writes the text in the buffer, whose first piece has this range. The only error is want of memory.
+    /// Writes the text in the buffer. The only error is want of memory.
     #[inline(never)]
-    fn flush_joined(&mut self, alloc: Global, start: usize, end: usize) -> Result<(), Failure>
-        requires { self.old.pending ≡ pending.Joined start end }
+    fn flush_joined(&mut self, alloc: Global) -> Result<(), Failure>
+        requires { self.old.pending ≡ pending.Joined }
         ensures ok { OnOk result ((end : ℕ) (stack : Open) (done : Forest Item)
             → Represents end stack done self.old → RepresentsFlushed end stack done self.new) }
         ensures empty { OnOk result (waiting self.new.pending ≡ 0) }
@@ -339,8 +342,8 @@ impl<'input> Builder<'input> {
         ensures openings_left { self.new.openings_left ≡ self.old.openings_left }
         ensures err { IfErr result (λ e. e ≡ failure.Memory) }
     {
-        let text = self.recent.owned(alloc, self.joined.as_str())?;
-        let row = self.row(start, end, NodeKind::Text(text));
+        let text = self.recent.owned(alloc, self.joined.text.as_str())?;
+        let row = self.row(self.joined.start, self.joined.end, NodeKind::Text(text));
         self.pending = Pending::None;
         self.nodes.push(row)?;
         Ok(())
@@ -395,10 +398,12 @@ impl<'input> Builder<'input> {
                 self.pending = Pending::Written;
             }
             Pending::Written => {
-                let range = join_last(&mut self.nodes, &mut self.joined, text)?;
-                self.pending = Pending::Joined(range.start, range.end);
+                let range = join_last(&mut self.nodes, &mut self.joined.text, text)?;
+                self.joined.start = range.start;
+                self.joined.end = range.end;
+                self.pending = Pending::Joined;
             }
-            Pending::Joined(_, _) => self.joined.push_str(text)?,
+            Pending::Joined => self.joined.text.push_str(text)?,
         }
         Ok(())
     }
@@ -430,10 +435,12 @@ impl<'input> Builder<'input> {
                 self.pending = Pending::Written;
             }
             Pending::Written => {
-                let range = join_last(&mut self.nodes, &mut self.joined, changed)?;
-                self.pending = Pending::Joined(range.start, range.end);
+                let range = join_last(&mut self.nodes, &mut self.joined.text, changed)?;
+                self.joined.start = range.start;
+                self.joined.end = range.end;
+                self.pending = Pending::Joined;
             }
-            Pending::Joined(_, _) => self.joined.push_str(changed)?,
+            Pending::Joined => self.joined.text.push_str(changed)?,
         }
         Ok(())
     }
@@ -459,10 +466,12 @@ impl<'input> Builder<'input> {
             }
             Pending::Written => {
                 let text = self.buffers.scratch.as_str();
-                let range = join_last(&mut self.nodes, &mut self.joined, text)?;
-                self.pending = Pending::Joined(range.start, range.end);
+                let range = join_last(&mut self.nodes, &mut self.joined.text, text)?;
+                self.joined.start = range.start;
+                self.joined.end = range.end;
+                self.pending = Pending::Joined;
             }
-            Pending::Joined(_, _) => self.joined.push_str(self.buffers.scratch.as_str())?,
+            Pending::Joined => self.joined.text.push_str(self.buffers.scratch.as_str())?,
         }
         Ok(())
     }
@@ -561,7 +570,7 @@ impl<'input> Builder<'input> {
         ensures { result ≡ true → IsReadyTwice self.now }
     {
         match self.pending {
-            Pending::Joined(_, _) => false,
+            Pending::Joined => false,
             _ => {
                 self.nodes.has_room_for_two()
                     && self.nodes.len() + 1 < self.nodes_limit as usize

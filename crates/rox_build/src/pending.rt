@@ -6,6 +6,14 @@ pub enum Pending {
     None,
     /// One piece, whose row is the last.
     Written,
-    /// Pieces in a buffer, with the range of the first.
-    Joined(usize, usize),
+    /// Pieces in a buffer.
+    Joined,
+}
+
+/// The text of `Pending::Joined`, and where its first piece stands. It is beside `Pending`, so that this is a byte.
+#[derive(Drop)]
+pub struct JoinedText {
+    pub text: String,
+    pub start: usize,
+    pub end: usize,
 }

@@ -19,6 +19,6 @@ returns-clause-ok c = λ end stack done sh.
     let v = c.in_ok-text.ensures.bytes ∙ c.as_str.ensures.value in
     let o = c.in_ok-text.ensures.owned in
     let k : NodeKind = kind.Text c.in_ok-text.text in
-    let is : node (attribute_rows b.tables.attributes) (names_in b.tables) (lists_in b.tables) c.args.start c.args.end k ≡ node_in (scope_of stack) (Text c.args.start c.args.end (string_bytes b.joined) false) = rw (v, o) refl in
-    settled_joined end stack done b _ c.args.start c.args.end k sh c.requires is tt
+    let is : node (attribute_rows b.tables.attributes) (names_in b.tables) (lists_in b.tables) b.joined.start b.joined.end k ≡ node_in (scope_of stack) (Text b.joined.start b.joined.end (string_bytes b.joined.text) false) = rw (v, o) refl in
+    settled_joined end stack done b _ k sh c.requires is tt
     (c.in_ok-push.ensures.rows ∙ ap (λ (r : NodeData). (node_rows b.nodes) ++ r ∷ []) c.row-row.ensures) refl refl refl

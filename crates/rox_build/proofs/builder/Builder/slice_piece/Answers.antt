@@ -50,19 +50,19 @@ returns-in_ok-range-in-Written-clause-value c = λ total at s sh.
     let some = b.shallow in
     let w = ap waiting c.in-Written.is in
     let x = c.in_ok-range-in-Written.ensures.taken in
-    (t, counted_ok b.nodes_limit t (omega arith), slice_more total s.stack s.done b _ x.0 c.args.start c.args.end v true sh c.in-Written.is x.1 refl refl (rw x.2 refl) x.3)
+    (t, counted_ok b.nodes_limit t (omega arith), slice_more total s.stack s.done b _ x.0 c.args.start c.args.end v true sh c.in-Written.is x.1 refl refl refl (rw x.2 refl) (rw x.2 refl) x.3)
 
 pub returns-in_ok-push_str-in-Joined-clause-value : goal.returns-in_ok-push_str-in-Joined-clause-value
 returns-in_ok-push_str-in-Joined-clause-value c = λ total at s sh.
     let b = c.args.self.now in
     let v : List ℕ = c.args.text.now in
     let t : State = record { at = at; done = join s.done (leaf (Text c.args.start c.args.end v true)); stack = s.stack; openings_left = s.openings_left } in
-    let n = more_count total s.stack s.done b c.in-Joined.field-0 c.in-Joined.field-1 c.args.start c.args.end v true sh c.in-Joined.is in
+    let n = more_count total s.stack s.done b c.args.start c.args.end v true sh c.in-Joined.is in
     let w = ap waiting c.in-Joined.is in
     let len = count_nodes b.nodes in
     let most = b.counted in
     let some = b.shallow in (
       t,
       counted_ok b.nodes_limit t (omega arith),
-      piece_more total s.stack s.done b _ c.in-Joined.field-0 c.in-Joined.field-1 c.args.start c.args.end v true sh c.in-Joined.is refl refl refl c.in-Joined.is c.in_ok-push_str-in-Joined.ensures.bytes,
+      piece_more total s.stack s.done b _ c.args.start c.args.end v true sh c.in-Joined.is refl refl refl c.in-Joined.is refl refl c.in_ok-push_str-in-Joined.ensures.bytes,
     )
