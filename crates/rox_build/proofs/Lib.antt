@@ -17,6 +17,7 @@ pub mod Twice
 pub mod Wholes
 pub mod Asking
 pub mod Items
+pub mod SpacedValues
 pub mod PlainTags
 pub mod SameBytes
 pub mod SameNames

@@ -172,8 +172,8 @@ plain_starts namespaces few present src start old = record {
   read = λ context cut known openings_left. refl;
 }
 
--- its value is read as it stands
-value_is : (main : Bool) (es : List Entity) (opener : ValueInclusion) (src : List ℕ) (i j openings_left : ℕ) → is_verbatim_value (slice_range src i j) ≡ true
+-- a value is read as it stands
+pub value_is : (main : Bool) (es : List Entity) (opener : ValueInclusion) (src : List ℕ) (i j openings_left : ℕ) → is_verbatim_value (slice_range src i j) ≡ true
     → value_at main es opener src i j openings_left ≡ Ok (record { value = slice_range src i j; borrowed = true }, openings_left)
 unfolding value_at
 value_is main es opener src i j openings_left plain = rw plain refl
@@ -186,9 +186,9 @@ turn_is : (src : List ℕ) (i j n : ℕ) (a : UnresolvedAttribute) (written : Li
 unfolding attributes_at
 turn_is src i j n a written context cut known openings_left h within item other =
     let k = lt-leb (length src) i within in
-    let v = value_is context.main context.entities context.opener src a.value_start h.value_end openings_left h.verbatim in
-    let view : attribute_with (record { start = j; name = name_view a.name; name_end = a.name_end; value_start = a.value_start; value_end = h.value_end }) (record { value = slice_range src a.value_start h.value_end; borrowed = true }) ≡ unresolved_view a =
-    rw (h.start, h.end, h.value, h.borrowed) refl in
+    let v = h.value context.main context.entities context.opener openings_left in
+    let view : attribute_with (record { start = j; name = name_view a.name; name_end = a.name_end; value_start = a.value_start; value_end = h.value_end }) (record { value = storage_bytes a.value; borrowed = is_borrowed a.value }) ≡ unresolved_view a =
+    rw (h.start, h.end) refl in
     rw (k, item, v, other) (ap (λ (x : Attribute). attributes_at n context cut known src a.end openings_left (holding (written ++ x ∷ []))) view)
 
 -- the row of an attribute shows it

@@ -1,18 +1,20 @@
 -- Start tags that are read at one look: without declarations, and with attributes whose values stand for themselves.
-use Rattle.std.specs.Prelude.{◌≡◌, ℕ, ◌+◌, ◌<◌, ◌≤◌, ◌==◌, ◌||◌, Bool, true, List, [], ◌++◌, Option, Ok, length, map, slice_index, slice_range}
+use Rattle.std.specs.Prelude.{◌≡◌, ℕ, ◌+◌, ◌<◌, ◌≤◌, ◌==◌, ◌||◌, Bool, true, false, List, [], ◌++◌, Option, Ok, length, map, slice_index}
 use Rattle.std.specs.List.{AllByRecursion}
 use Rattle.std.specs.Str.{IsCharBoundary}
 use Rattle.rox_grammar.specs.declared.fault.Fault.{Fault}
 use Rattle.rox_grammar.specs.Names.{spaces_end}
-use Rattle.rox_grammar.specs.Written.{Attribute, NamespaceDecl, Tag}
+use Rattle.rox_grammar.specs.Written.{Attribute, NamespaceDecl, Tag, is_namespace_decl}
 use Rattle.rox_grammar.specs.Tree.{attribute_in}
-use Rattle.rox_grammar.specs.Content.{is_verbatim_value}
+use Rattle.rox_grammar.specs.Entities.{Entity}
 use Rattle.rox_grammar.specs.Failures.{name_view}
 use Rattle.rox_reading.specs.Markup.{attribute_at}
+use Rattle.rox_reading.specs.Values.{ValueInclusion, value_at}
 use Rattle.rox_reading.specs.Tags.{TagSoFar, Values, attributes_at, names_tested, tag_at}
 use Rattle.rox_tables.specs.Bindings.{FindsBinding}
 use Rattle.rox_tables.specs.Rows.{AttributeRow, NamespaceWithin, namespace_view, attribute, attribute_rows}
 use Rattle.rox_tables.specs.declared.namespaces.bindings.PrefixBindings.{PrefixBindings}
+use Rattle.rox_tables.specs.ResolvedNames.{AddsResolved}
 use Rattle.rox_tables.specs.Storage.{storage_bytes, is_borrowed}
 use Rattle.rox_tables.specs.declared.rows.tables.ElementTables.{ElementTables}
 use Rattle.rox_build.specs.ElementRow.{Tagged}
@@ -32,21 +34,28 @@ pub record IsValueStart (src : List ℕ) (i j : ℕ) : Type 0 where
   pub onward : i + 1 ≤ before
   pub cut : IsCharBoundary src j
 
--- an attribute that is read at this place, whose value stands for itself
+-- an attribute that is read at this place, whose value is the same whatever reads it
 pub record IsPlainAttribute (src : List ℕ) (i : ℕ) (a : UnresolvedAttribute) : Type 0 where
   pub value_end : ℕ
   pub read : attribute_at src i ≡ Ok (record { start = i; name = name_view a.name; name_end = a.name_end; value_start = a.value_start; value_end = value_end }, a.end)
   pub start : a.start ≡ i
   pub end : a.end ≡ value_end + 1
-  pub verbatim : is_verbatim_value (slice_range src a.value_start value_end) ≡ true
-  pub value : storage_bytes a.value ≡ slice_range src a.value_start value_end
-  pub borrowed : is_borrowed a.value ≡ true
+  pub value : (main : Bool) (es : List Entity) (opener : ValueInclusion) (openings_left : ℕ)
+      → value_at main es opener src a.value_start value_end openings_left ≡ Ok (record { value = storage_bytes a.value; borrowed = is_borrowed a.value }, openings_left)
   pub cut : IsCharBoundary src a.end
   pub onward : i < a.end
   -- how much of it its parts take
   pub local : a.start + length a.name.local.now ≤ a.name_end
   pub gap : a.name_end + 2 ≤ a.value_start
   pub whole : a.end ≡ a.value_start + length (storage_bytes a.value) + 1
+
+-- such an attribute, which is no declaration, was put behind those of its tag, which begin at this row
+pub record AddsPlain (namespaces : List NamespaceDecl) (few : Option (List ℕ)) (present : PrefixBindings) (from : ℕ) (src : List ℕ) (i j : ℕ) (old new : List AttributeRow) : Type 0 where
+  pub one : UnresolvedAttribute
+  pub plain : IsPlainAttribute src i one
+  pub other : is_namespace_decl (name_view one.name) ≡ false
+  pub added : AddsResolved namespaces few present from old new one
+  pub end : one.end ≡ j
 
 -- a tag that holds these attributes, and no declaration
 abbrev pub holding : List Attribute → TagSoFar

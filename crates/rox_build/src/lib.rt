@@ -11,4 +11,5 @@ pub mod plain_tag;
 pub mod reader;
 pub mod resolver;
 mod same_front;
+mod spaced_value;
 pub mod tag;

@@ -2,7 +2,7 @@
 //! (XML 1.0 section 3.1). Nothing fails here: a tag that is not plain, or finds no room, is left to the general step, which reads
 //! it from its `<`.
 
-ghost use Rattle.std.specs.Prelude.{◌≡◌, ◌<◌, ◌≤◌, ◌+◌, ◌-◌, ◌^◌, ◌++◌, ◌==◌, ◌||◌, List, Ok, IfSome, IfNone, length, map, slice_index, slice_range, true, false, []};
+ghost use Rattle.std.specs.Prelude.{◌≡◌, ◌<◌, ◌≤◌, ◌+◌, ◌-◌, ◌^◌, ◌++◌, ◌==◌, ◌||◌, List, Ok, IfSome, IfNone, drop, length, map, slice_index, slice_range, true, false, []};
 ghost use Rattle.std.specs.Str.{IsCharBoundary};
 ghost use Rattle.rox_grammar.specs.Chars.{is_name_start, is_part_char, is_space};
 ghost use Rattle.rox_grammar.specs.Runs.{run_end, begins};
@@ -11,16 +11,19 @@ ghost use Rattle.rox_grammar.specs.Content.{is_verbatim_value};
 ghost use Rattle.rox_reading.specs.Lexical.{qname_at};
 ghost use Rattle.rox_reading.specs.Markup.{raw_value_at};
 ghost use Rattle.rox_tables.specs.Bindings.{LooksWithin, places_view};
-ghost use Rattle.rox_tables.specs.Rows.{AttributeRow, namespace_view, attribute_rows};
+ghost use Rattle.rox_tables.specs.Rows.{AttributeRow, NamespaceWithin, namespace_view, attribute_rows};
+ghost use Rattle.std.specs.List.{AllByRecursion};
 ghost use Rattle.rox_grammar.specs.Document.{most_pairs};
 ghost use Rattle.rox_tables.specs.Rows.{AreScopes};
 ghost use Rattle.rox_tables.specs.Scopes.{ArePlaces, PrefixesOnce};
+ghost use Rattle.rox_tables.specs.SeenNames.{AreSeen};
 ghost use Rattle.rox_tables.specs.TagScopes.{HasBindings};
 ghost use Rattle.rox_build.specs.ElementRow.{scope_in_tables};
 ghost use Rattle.rox_build.specs.BuilderState.{IsOpenWithin};
-ghost use Rattle.rox_build.specs.PlainTag.{IsValueStart, IsPlainAttribute, ArePlainAttributes, IsPlainTag, HoldSame};
+ghost use Rattle.rox_build.specs.PlainTag.{IsValueStart, IsPlainAttribute, AddsPlain, ArePlainAttributes, IsPlainTag, HoldSame};
 
 use crate::builder::OpenElement;
+use crate::spaced_value::spaced_value;
 use crate::tag::{MOST_ATTRIBUTES, StartTag, byte_count};
 use rox_grammar::name::QName;
 use rox_scan::byte_set::{ValueByte, far_space_end, part_end, skip_set};
@@ -36,6 +39,7 @@ use rox_tables::namespaces::unresolved_attribute::UnresolvedAttribute;
 use rox_tables::rows::attributes::AttributeTable;
 use rox_tables::rows::storage::StringStorage;
 use rox_tables::rows::tables::{ElementData, ElementTables, Namespace};
+use std::alloc::Global;
 
 /// A name, and where it ends.
 #[derive(Clone, Copy)]
@@ -239,6 +243,94 @@ fn plain_attribute<'input>(text: &'input str, start: usize) -> Option<Unresolved
     })
 }
 
+/// The attribute that begins at `start`, if its value has line ends or tabs but no reference: it is a text of its own.
+#[inline(always)]
+fn spaced_attribute<'input>(
+    alloc: Global,
+    text: &'input str,
+    start: usize,
+) -> Option<UnresolvedAttribute<'input>>
+    requires { IsCharBoundary text.now start }
+    ensures { IfSome result (λ a. IsPlainAttribute text.entry.now start a) }
+{
+    let colon = part_end(text, start);
+    let name = plain_name(text, start, colon)?;
+    let value_start = value_start(text, name.end);
+    if value_start == 0 {
+        return None;
+    }
+    let quote = quote_before(text, value_start);
+    let look = scan_value(text, value_start, quote);
+    if look.is_verbatim || !is_at(text, look.end, quote) {
+        return None;
+    }
+    let value = spaced_value(alloc, text, value_start, look.end)?;
+    Some(UnresolvedAttribute {
+        start,
+        name_end: name.end,
+        value_start,
+        end: after_byte(text, look.end, quote),
+        name: name.name,
+        value,
+    })
+}
+
+/// What a name's namespace is sought in.
+#[derive(Clone, Copy)]
+struct Around<'a, 'input> {
+    namespaces: &'a [Namespace<'input>],
+    few: Option<&'a [u16]>,
+    present: &'a PrefixBindings<'input>,
+}
+
+/// Puts the attribute that begins at `start`, if it is such a one and no declaration, behind those of its tag, which were `seen`.
+/// Answers the place behind it, or 0 where the table is as before.
+#[cold]
+#[inline(never)]
+fn put_spaced_attribute<'input>(
+    text: &'input str,
+    start: usize,
+    around: Around<'_, 'input>,
+    attributes: &mut AttributeTable<'input>,
+    seen: &mut SeenNames,
+) -> usize
+    requires cut { IsCharBoundary text.now start }
+    requires short { length text.now < 2 ^ 32 }
+    requires within { LooksWithin (length around.namespaces.now) (places_view around.few)
+        around.present.now }
+    requires from { seen.old.from ≤ length (attribute_rows attributes.old) }
+    requires done { AllByRecursion
+        (λ a. NamespaceWithin (length around.namespaces.now) a.0.namespace)
+        (drop seen.old.from (attribute_rows attributes.old)) }
+    requires seen { AreSeen seen.old (attribute_rows attributes.old) }
+    ensures added { 0 < result → AddsPlain (map namespace_view around.entry.namespaces.now)
+        (places_view around.entry.few) around.entry.present.now seen.old.from text.entry.now start
+        result (attribute_rows attributes.old) (attribute_rows attributes.new) }
+    ensures from { seen.new.from ≡ seen.old.from }
+    ensures seen { 0 < result → AreSeen seen.new (attribute_rows attributes.new) }
+    ensures refused { result ≡ 0
+        → attribute_rows attributes.new ≡ attribute_rows attributes.old }
+{
+    let alloc = *attributes.items.allocator();
+    let Some(one) = spaced_attribute(alloc, text, start) else {
+        return 0;
+    };
+    if is_namespace_decl(one.name) {
+        return 0;
+    }
+    let end = one.end;
+    let Around {
+        namespaces,
+        few,
+        present,
+    } = around;
+    if put_resolved(namespaces, few, present, attributes, seen, one) {
+        end
+    } else {
+        0
+    }
+}
+
 /// How a start tag ends: behind which place, and whether it is empty.
 #[derive(Clone, Copy)]
 struct TagEnd {
@@ -296,7 +388,7 @@ fn some_attributes<'input>(
     start: usize,
     namespaces: &[Namespace<'input>],
     few: Option<&[u16]>,
-    present: &PrefixBindings<'_>,
+    present: &PrefixBindings<'input>,
     attributes: &mut AttributeTable<'input>,
 ) -> Option<TagEnd>
     requires cut { IsCharBoundary text.now start }
@@ -326,7 +418,18 @@ fn some_attributes<'input>(
         if here == at {
             return None;
         }
-        let one = plain_attribute(text, here)?;
+        let Some(one) = plain_attribute(text, here) else {
+            let around = Around {
+                namespaces,
+                few,
+                present,
+            };
+            at = put_spaced_attribute(text, here, around, attributes, &mut seen);
+            if at == 0 {
+                return None;
+            }
+            continue;
+        };
         if is_namespace_decl(one.name) {
             return None;
         }
@@ -345,7 +448,7 @@ fn plain_attributes<'input>(
     start: usize,
     namespaces: &[Namespace<'input>],
     few: Option<&[u16]>,
-    present: &PrefixBindings<'_>,
+    present: &PrefixBindings<'input>,
     attributes: &mut AttributeTable<'input>,
 ) -> Option<TagEnd>
     requires cut { IsCharBoundary text.now start }

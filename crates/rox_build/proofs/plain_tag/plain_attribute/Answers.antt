@@ -1,7 +1,7 @@
 use Rattle.std.proofs.Common.{◌≡◌, ◌-◌, ◌==◌, ◌||◌, ℕ, true, length, slice_index, refl, sym, ap, subst, arith}
 use Rattle.rox_grammar.specs.Failures.{name_view}
 use Rattle.rox_reading.proofs.Stretches.{range_length}
-use Rattle.rox_build.proofs.PlainTags.{attribute_reads}
+use Rattle.rox_build.proofs.PlainTags.{attribute_reads, value_is}
 use Rattle.rox_build.proofs.plain_tag.plain_attribute.Goals as goal
 
 pub quote_before-quote-requires-clause-within : goal.quote_before-quote-requires-clause-within
@@ -40,9 +40,7 @@ returns c =
       read = attribute_reads src c.args.start (name_view c.in_ok-name.name.name) c.in_ok-name.name.end s q j c.after_byte.result n.value v quoted.here quoted.quote quoted.some w.read w.here done;
       start = refl;
       end = done;
-      verbatim = w.verbatim;
-      value = c.range.ensures.value;
-      borrowed = refl;
+      value = λ main es opener openings_left. rw c.range.ensures.value (value_is main es opener src s j openings_left w.verbatim);
       cut = c.after_byte.ensures.cut;
       onward = omega arith;
       local = n.local;

@@ -1,0 +1,138 @@
+//! Values of attributes with line ends and tabs but no references: what they stand for, whatever reads them (XML 1.0 section
+//! 3.3.3).
+
+ghost use Rattle.std.specs.Prelude.{◌≡◌, ◌==◌, ◌<◌, ◌≤◌, ◌-◌, ℕ, Bool, List, Ok, IfSome, true, false, ◌||◌, length, slice_index};
+ghost use Rattle.std.specs.Str.{IsCharBoundary};
+ghost use Rattle.std.specs.String.{string_bytes};
+ghost use Rattle.rox_grammar.specs.Constructs.{AreChars};
+ghost use Rattle.rox_grammar.specs.Entities.{Entity};
+ghost use Rattle.rox_reading.specs.Values as reading;
+ghost use Rattle.rox_tables.specs.Storage.{storage_bytes, is_borrowed};
+ghost use Rattle.rox_values.specs.Values.{behind, text_behind};
+
+use rox_scan::byte_set::skip_set;
+use rox_scan::lookahead::StretchByte;
+use rox_tables::rows::storage::StringStorage;
+use std::alloc::Global;
+use std::rc::RcStr;
+
+/// Appends a space for the LF or TAB that stands at `at`. Answers the place behind it, or 0 where there is no memory.
+#[inline(always)]
+fn put_space(text: &str, at: usize, stop: usize, out: &mut String) -> usize
+    requires here { (slice_index text.now at == 10 || slice_index text.now at == 9) ≡ true }
+    requires before { at < stop }
+    requires within { stop ≤ length text.now }
+    ensures value { 0 < result → (main : Bool) (es : List Entity)
+        → behind (string_bytes out.old) (reading.value_bit_at main es text.now stop at)
+        ≡ Ok (reading.bytes_of (string_bytes out.new), result) }
+    ensures place { 0 < result → (at < result) × (result ≤ stop) }
+    ensures cut { 0 < result → IsCharBoundary text.now result }
+{
+    if out.push(' ').is_err() {
+        return 0;
+    }
+    at + 1
+}
+
+/// Appends all of a value from `at` on up to the next special byte or `stop`. Answers the place behind it, or 0 where that is
+/// nothing, or there is no memory.
+#[inline(always)]
+fn put_stretch(text: &str, at: usize, stop: usize, out: &mut String) -> usize
+    requires start { IsCharBoundary text.now at }
+    requires stop { IsCharBoundary text.now stop }
+    requires before { at < stop }
+    requires chars { AreChars text.now at stop }
+    requires apart { (k : ℕ) → at ≤ k → k < stop → (slice_index text.now k == 60) ≡ false }
+    ensures value { 0 < result → (main : Bool) (es : List Entity)
+        → behind (string_bytes out.old) (reading.value_bit_at main es text.now stop at)
+        ≡ Ok (reading.bytes_of (string_bytes out.new), result) }
+    ensures place { 0 < result → (at < result) × (result ≤ stop) }
+    ensures cut { 0 < result → IsCharBoundary text.now result }
+{
+    let end = skip_set::<StretchByte>(&text[..stop], at);
+    if end == at || out.push_str(&text[at..end]).is_err() {
+        return 0;
+    }
+    end
+}
+
+/// Appends what stands at `at` in a value: a space for a LF or a TAB, or all up to the next special byte. Answers the place
+/// behind that, or 0 where another byte stands, or there is no memory.
+#[inline(always)]
+fn put_bit(text: &str, at: usize, stop: usize, out: &mut String) -> usize
+    requires start { IsCharBoundary text.now at }
+    requires stop { IsCharBoundary text.now stop }
+    requires before { at < stop }
+    requires chars { AreChars text.now at stop }
+    requires apart { (k : ℕ) → at ≤ k → k < stop → (slice_index text.now k == 60) ≡ false }
+    ensures value { 0 < result → (main : Bool) (es : List Entity)
+        → behind (string_bytes out.old) (reading.value_bit_at main es text.now stop at)
+        ≡ Ok (reading.bytes_of (string_bytes out.new), result) }
+    ensures place { 0 < result → (at < result) × (result ≤ stop) }
+    ensures cut { 0 < result → IsCharBoundary text.now result }
+{
+    let here = text.as_bytes()[at];
+    if here == b'\n' || here == b'\t' {
+        return put_space(text, at, stop, out);
+    }
+    put_stretch(text, at, stop, out)
+}
+
+/// Appends what the value's text from `start` up to `stop` stands for, if there are only LF, TAB and bytes that stand for
+/// themselves, and memory for it.
+fn put_spaced(text: &str, start: usize, stop: usize, out: &mut String) -> bool
+    requires start { IsCharBoundary text.now start }
+    requires stop { IsCharBoundary text.now stop }
+    requires onward { start ≤ stop }
+    requires chars { AreChars text.now start stop }
+    requires apart { (k : ℕ) → start ≤ k → k < stop → (slice_index text.now k == 60) ≡ false }
+    ensures { result ≡ true
+        → (main : Bool) (es : List Entity) (opener : reading.ValueInclusion) (openings_left : ℕ)
+        → text_behind (string_bytes out.old)
+        (reading.value_text main es opener (stop - start) text.now stop start openings_left)
+        ≡ Ok (string_bytes out.new, openings_left) }
+{
+    let mut at = start;
+    'bits: for _turn in 0..stop - start {
+        if at >= stop {
+            return true;
+        }
+        let behind = put_bit(text, at, stop, out);
+        if behind == 0 {
+            return false;
+        }
+        at = behind;
+    }
+    true
+}
+
+/// What the value from `start` up to `stop` stands for, if that is as long, as a text of its own.
+pub fn spaced_value<'input>(
+    alloc: Global,
+    text: &str,
+    start: usize,
+    stop: usize,
+) -> Option<StringStorage<'input>>
+    requires start { IsCharBoundary text.now start }
+    requires stop { IsCharBoundary text.now stop }
+    requires onward { start ≤ stop }
+    requires chars { AreChars text.now start stop }
+    requires apart { (k : ℕ) → start ≤ k → k < stop → (slice_index text.now k == 60) ≡ false }
+    ensures value { IfSome result (λ s. (main : Bool) (es : List Entity)
+        (opener : reading.ValueInclusion) (openings_left : ℕ)
+        → reading.value_text main es opener (stop - start) text.now stop start openings_left
+        ≡ Ok (storage_bytes s, openings_left)) }
+    ensures owned { IfSome result (λ s. is_borrowed s ≡ false) }
+    ensures long { IfSome result (λ s. length (storage_bytes s) ≡ stop - start) }
+{
+    let Ok(mut out) = String::with_capacity(alloc, stop - start) else {
+        return None;
+    };
+    if !put_spaced(text, start, stop, &mut out) || out.len() != stop - start {
+        return None;
+    }
+    let Ok(value) = RcStr::from_string(out) else {
+        return None;
+    };
+    Some(StringStorage::Owned(value))
+}
