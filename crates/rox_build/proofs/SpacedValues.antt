@@ -48,7 +48,6 @@ pub space_is : (main : Bool) (es : List Entity) (src : List ℕ) (stop i : ℕ) 
 unfolding value_bit_at
 space_is main es src stop i here = rw (space_no_reference _ here, space_special _ here, space_no_return _ here) refl
 
-
 passes : ℕ → Bool
 passes b = is_stretch_byte b && not (b == 60)
 

@@ -1,6 +1,6 @@
-//! Start tags that are plain, read at one look: without declarations, and with few attributes, whose values stand for themselves
-//! (XML 1.0 section 3.1). Nothing fails here: a tag that is not plain, or finds no room, is left to the general step, which reads
-//! it from its `<`.
+//! Start tags that are plain, read at one look: without declarations, and with few attributes, whose values have no reference and
+//! no CR (XML 1.0 section 3.1). Nothing fails here: a tag that is not plain, or finds no room, is left to the general step, which
+//! reads it from its `<`.
 
 ghost use Rattle.std.specs.Prelude.{◌≡◌, ◌<◌, ◌≤◌, ◌+◌, ◌-◌, ◌^◌, ◌++◌, ◌==◌, ◌||◌, List, Ok, IfSome, IfNone, drop, length, map, slice_index, slice_range, true, false, []};
 ghost use Rattle.std.specs.Str.{IsCharBoundary};
@@ -124,6 +124,14 @@ fn verbatim_value_end(text: &str, start: usize, quote: u8) -> usize
     }
 }
 
+/// Whether a `&` or a CR stands at `at`: no plain value has one.
+#[inline(always)]
+fn is_left(text: &str, at: usize) -> bool
+    ensures { result ≡ (slice_index text.now at == 38 || slice_index text.now at == 13) }
+{
+    is_at(text, at, b'&') || is_at(text, at, b'\r')
+}
+
 /// Where the value ends that begins at `start`, behind this quote, if it stands for itself.
 #[inline(always)]
 #[tactic(auto, using(rox_scan::proofs::NearLemmas::near_plain, rox_scan::proofs::NearLemmas::value_cut))]
@@ -141,6 +149,9 @@ fn plain_value_end(text: &str, start: usize, quote: u8) -> Option<usize>
     let end = skip_set::<ValueByte>(text, start);
     if is_at(text, end, quote) {
         return Some(end);
+    }
+    if is_left(text, end) {
+        return None;
     }
     let end = verbatim_value_end(text, start, quote);
     if end == 0 {
@@ -255,20 +266,23 @@ fn spaced_attribute<'input>(
 {
     let colon = part_end(text, start);
     let name = plain_name(text, start, colon)?;
-    let value_start = value_start(text, name.end);
-    if value_start == 0 {
+    let from = value_start(text, name.end);
+    if from == 0 {
         return None;
     }
-    let quote = quote_before(text, value_start);
-    let look = scan_value(text, value_start, quote);
+    if is_left(text, skip_set::<ValueByte>(text, from)) {
+        return None;
+    }
+    let quote = quote_before(text, from);
+    let look = scan_value(text, from, quote);
     if look.is_verbatim || !is_at(text, look.end, quote) {
         return None;
     }
-    let value = spaced_value(alloc, text, value_start, look.end)?;
+    let value = spaced_value(alloc, text, from, look.end)?;
     Some(UnresolvedAttribute {
         start,
         name_end: name.end,
-        value_start,
+        value_start: from,
         end: after_byte(text, look.end, quote),
         name: name.name,
         value,

@@ -10,7 +10,7 @@ use Rattle.rox_build.proofs.plain_tag.spaced_attribute.Goals as goal
 
 pub quote_before-quote-requires-clause-within : goal.quote_before-quote-requires-clause-within
 quote_before-quote-requires-clause-within c =
-    let v = c.value_start-value_start.ensures (omega arith) in
+    let v = c.value_start-from.ensures (omega arith) in
     let start = v.start in
     let within = v.within in
     omega arith
@@ -18,15 +18,15 @@ quote_before-quote-requires-clause-within c =
 pub quote_before-quote-requires-clause-quote : goal.quote_before-quote-requires-clause-quote
 quote_before-quote-requires-clause-quote c =
     let src = c.args.text.now in
-    let v = c.value_start-value_start.ensures (omega arith) in
-    let place : c.value_start-value_start.result - 1 ≡ v.before = omega (arith, v.start) in
+    let v = c.value_start-from.ensures (omega arith) in
+    let place : c.value_start-from.result - 1 ≡ v.before = omega (arith, v.start) in
     subst (λ (k : ℕ). (slice_index src k == 39 || slice_index src k == 34) ≡ true) (sym place) v.quote
 
 pub returns : goal.returns
 returns c =
     let src = c.args.text.now in
-    let s = c.value_start-value_start.result in
-    let v = c.value_start-value_start.ensures (omega arith) in
+    let s = c.value_start-from.result in
+    let v = c.value_start-from.ensures (omega arith) in
     let q = c.quote_before-quote.result in
     let quoted = c.quote_before-quote.ensures in
     let n = c.in_ok-name.ensures in
