@@ -219,6 +219,14 @@ not_zero : (quote : ℕ) → (quote == 39 || quote == 34) ≡ true → 0 < quote
 not_zero quote q = grind (arith, nat_tests)
 
 -- what it is read as
+pub short_chars : (src : List ℕ) (i e quote : ℕ) → IsUtf8 src → IsCharBoundary src i → (quote == 39 || quote == 34) ≡ true → i ≤ e → IsCharBoundary src e → AllPass is_value_byte src i e → (get_or src e 0 == quote) ≡ true → chars_up_to (byte_from (λ c. c == quote || c == 60) src i) src i ≡ Ok (slice_range src i e, e)
+unfolding chars_up_to
+short_chars src i e quote utf8 start q le cut all here =
+    let at : get_or src e 0 ≡ quote = eqb-true _ _ here in
+    let within : e < length src = elim (cases_lt e (length src)) [ inl more ↦ more | inr past ↦ absurd (omega (arith, get_or_past src e 0 past, not_zero quote q)) ] in
+    rw (near_value src i e quote q le within at all, near_chars is_value_byte src i e utf8 start le cut all value_is_plain, le-ltb e e (omega arith)) refl
+
+-- the same of an attribute
 pub short_value : (src : List ℕ) (i e quote : ℕ) → IsUtf8 src → IsCharBoundary src i → (quote == 39 || quote == 34) ≡ true → i ≤ e → IsCharBoundary src e → AllPass is_value_byte src i e → (get_or src e 0 == quote) ≡ true → raw_value_at quote src i ≡ Ok (slice_range src i e, e)
 unfolding raw_value_at chars_up_to
 short_value src i e quote utf8 start q le cut all here =

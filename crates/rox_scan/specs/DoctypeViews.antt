@@ -1,4 +1,5 @@
 -- The parts of a document type declaration, without where they lie in memory, and how a resolver's answer begins.
+use Prim.Native.Char.{code}
 use Rattle.std.specs.Prelude.{◌≡◌, ℕ, ◌+◌, ◌≤◌, ◌==◌, ◌||◌, Bool, List, Option, Some, Result, Ok, Err, length, take, IsCharBoundary, slice_index, nat_lt, nat_le, if◌then◌else◌}
 use Rattle.rox_grammar.specs.declared.fault.Fault.{Fault}
 use Rattle.rox_grammar.specs.declared.fault.Fault.TheVariants as fault
@@ -9,7 +10,7 @@ use Rattle.rox_grammar.specs.Names.{spaces_end}
 use Rattle.rox_grammar.specs.FixedTexts.{at}
 use Rattle.rox_grammar.specs.Entities.{Replacement}
 use Rattle.rox_grammar.specs.Doctype.{Request}
-use Rattle.rox_reading.specs.Lexical.{Read, ◌>>=◌}
+use Rattle.rox_reading.specs.Lexical.{Read, ◌>>=◌, chars_up_to}
 use Rattle.rox_reading.specs.Markup.{xml_decl_at}
 use Rattle.rox_reading.specs.Refusals.{Refusal, there}
 use Rattle.rox_reading.specs.Doctype as reading
@@ -65,6 +66,10 @@ subset_end_at src i =
     if nat_le (length src) e then Err fault.UnexpectedEndOfStream
     else if slice_index src e == 62 then Ok (tt, e + 1)
     else Err (fault.InvalidChar2 due.End (slice_index src e) e)
+
+-- a value of such a declaration: what stands before this quote or a `<`
+abbrev pub up_to_quote : ℕ → List ℕ → ℕ → Read (List ℕ)
+up_to_quote quote src i = chars_up_to (byte_from (λ c. c == quote || c == code "<") src i) src i
 
 -- a declaration at the start of a text, if it stands there
 abbrev pub xml_decl_if : List ℕ → ℕ → Read (Unit {0})

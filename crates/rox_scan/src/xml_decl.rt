@@ -1,19 +1,38 @@
 //! The declaration that a text may begin with (XML 1.0 [23] XMLDecl, [77] TextDecl).
 
-ghost use Rattle.std.specs.Prelude.{◌≡◌, ◌+◌, true};
+ghost use Rattle.std.specs.Prelude.{◌≡◌, ◌==◌, ◌||◌, ◌+◌, ◌<◌, true};
 ghost use Rattle.rox_grammar.specs.Search.{stands};
 ghost use Rattle.rox_grammar.specs.FixedTexts.{word_text};
 ghost use Rattle.rox_grammar.specs.declared.fault.Word.TheVariants as word;
 ghost use Rattle.rox_reading.specs.Markup as spec;
 ghost use Rattle.rox_scan.specs.ScanResults.{Steps};
-ghost use Rattle.rox_scan.specs.DoctypeViews.{xml_decl_if};
+ghost use Rattle.rox_scan.specs.DoctypeViews.{up_to_quote, xml_decl_if};
 
+use crate::byte_set::{ValueByte, skip_set};
 use crate::chars::is_space;
 use crate::cursor::Cursor;
+use crate::runs::is_at;
 use crate::search::either_from;
 use rox_grammar::fault::{Due, Fault, Word};
 
 impl<'input> Cursor<'input> {
+    /// A value of the XML declaration, up to the quote or a `<`: at one look where the quote stands behind plain bytes.
+    #[inline(always)]
+    fn value(&mut self, quote: u8) -> Result<&'input str, Fault>
+        requires ascii { quote < 128 }
+        requires quote { (quote == 39 || quote == 34) ≡ true }
+        ensures { Steps (λ x. x.now) self.old self.new result (up_to_quote quote) }
+    {
+        let start = self.pos;
+        let near = skip_set::<ValueByte>(self.text, start);
+        if is_at(self.text, near, quote) {
+            self.pos = near;
+            return Ok(&self.text[start..near]);
+        }
+        let end = either_from(self.text, start, quote, b'<');
+        self.chars_up_to(end)
+    }
+
     /// A name, `=`, and a value in quotes, of the XML declaration.
     #[tactic(auto, unfolding(rox_reading::specs::Markup::pair_at))]
     fn pair(&mut self) -> Result<(), Fault>
@@ -24,8 +43,7 @@ impl<'input> Cursor<'input> {
         self.byte(b'=')?;
         self.spaces();
         let quote = self.quote()?;
-        let end = either_from(self.text, self.pos, quote, b'<');
-        let _value = self.chars_up_to(end)?;
+        let _value = self.value(quote)?;
         self.byte(quote)
     }
 

@@ -21,9 +21,9 @@ pub fn same_bytes(one: &[u8], other: &[u8]) -> bool
     true
 }
 
-/// Whether two long texts are the same. It is kept out of line, so that a loop over short ones stays in registers.
+/// Whether two long texts are the same. It is kept out of line, so that the short ones stay in registers.
 #[inline(never)]
-fn same_long(one: &str, other: &str) -> bool
+fn same_long_text(one: &str, other: &str) -> bool
     ensures { result ≡ bytes_eq one.now other.now }
 {
     one == other
@@ -38,7 +38,7 @@ pub fn same_text(one: &str, other: &str) -> bool
         return false;
     }
     if one.len() >= LONG {
-        return same_long(one, other);
+        return same_long_text(one, other);
     }
     same_bytes(one.as_bytes(), other.as_bytes())
 }
