@@ -321,7 +321,7 @@ pub fn put_resolved<'input>(
         };
         return attributes.put_unusual(unusual, places);
     }
-    if attributes.is_full() {
+    if !attributes.has_room(one.end) {
         return false;
     }
     let item = AttributeData {

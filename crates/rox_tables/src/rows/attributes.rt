@@ -17,6 +17,8 @@ pub struct AttributeTable<'input> {
     pub unusual: Vec<AttributePlaces>,
     /// Where the text ends.
     pub text_end: usize,
+    /// Whether there was no memory for more: then no more is asked for, so that no refusal is passed over.
+    pub refused: bool,
     pub ghost numbered: { AreNumbered 0 items.items } by { AreNumbered-prop 0 items.items },
     pub ghost counted: { length unusual.items ≡ unusual_count items.items },
 }
@@ -64,6 +66,7 @@ impl<'input> AttributeTable<'input> {
             items: with_room(alloc, first_attributes(bytes)),
             unusual: Vec::new(alloc),
             text_end: bytes,
+            refused: false,
         }
     }
 
@@ -89,7 +92,7 @@ impl<'input> AttributeTable<'input> {
     }
 
     /// Makes room for more attributes, as those that there are foretell it, the next of which ends at `place`. The only error is
-    /// want of memory.
+    /// want of memory, and it is one from there on.
     #[cold]
     #[inline(never)]
     fn make_room(&mut self, place: usize) -> Result<(), Failure>
@@ -98,11 +101,28 @@ impl<'input> AttributeTable<'input> {
         ensures room { OnOk result (vec_len self.new.items < vec_capacity self.new.items) }
         ensures err { IfErr result (λ e. e ≡ Failure.Memory) }
     {
-        if self.items.is_empty() {
-            let room = first_attributes(self.text_end);
-            return reserve(&mut self.items, room, FEWEST);
+        if self.refused {
+            return Err(Failure::Memory);
         }
-        make_room(&mut self.items, place, self.text_end)
+        let made = if self.items.is_empty() {
+            reserve(&mut self.items, first_attributes(self.text_end), FEWEST)
+        } else {
+            make_room(&mut self.items, place, self.text_end)
+        };
+        self.refused = made.is_err();
+        made
+    }
+
+    /// Whether there is room for one more, which ends at `place`. Where there was none it is made, if there is memory.
+    #[inline(always)]
+    pub(crate) fn has_room(&mut self, place: usize) -> bool
+        ensures rows { attribute_rows self.new ≡ attribute_rows self.old }
+        ensures room { result ≡ true → vec_len self.new.items < vec_capacity self.new.items }
+    {
+        if !self.is_full() {
+            return true;
+        }
+        self.make_room(place).is_ok()
     }
 
     /// Puts an attribute at the end whose places follow from its start, so many bytes of its name standing before its local part.

@@ -44,7 +44,7 @@ returns-clause-added c = λ _.
     let column = column_behind c.args.attributes.now c.deref.result.now c.args.seen.now.from c.deref.ensures.value in
     record {
       namespace = c.in-Ok.namespace;
-      rows = c.put_usual.ensures;
+      rows = c.put_usual.ensures ∙ ap (λ (xs : List AttributeRow). xs ++ row_of_unresolved c.args.one c.in-Ok.namespace ∷ []) c.has_room.ensures.rows;
       within = subst (λ n. NamespaceWithin n c.in-Ok.namespace) (sym (length-map c.args.namespaces.now namespace_view)) c.in-Ok.ensures.within;
       there = λ ds h. c.in-Ok.ensures.there ds h;
       tested = λ ds before rest h shown. c.in-Ok.ensures.tested ds (drop c.args.seen.now.from old) before rest h column shown;
@@ -69,7 +69,7 @@ tested_namespace-requires-clause-seen c =
 pub returns-clause-seen : goal.returns-clause-seen
 returns-clause-seen c = λ _.
     seen_more c.args.seen.now c.tested_namespace.new.seen (attribute_rows c.args.attributes.now) _ _
-    c.put_usual.ensures
+    (c.put_usual.ensures ∙ ap (λ (xs : List AttributeRow). xs ++ row_of_unresolved c.args.one c.in-Ok.namespace ∷ []) c.has_room.ensures.rows)
     c.in-Ok.ensures.from c.requires.from c.in-Ok.ensures.kept c.in-Ok.ensures.put c.requires.seen
 
 pub returns-then-before-clause-seen : goal.returns-then-before-clause-seen
