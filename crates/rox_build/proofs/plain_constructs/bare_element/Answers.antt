@@ -1,5 +1,5 @@
-use Rattle.std.proofs.Common.{◌≡◌, ℕ, Bool, true, [], Ok, arith, refl, sym, ap, subst, ◌∙◌, List}
-use Rattle.rox_grammar.specs.Written.{Element, NamespaceDecl}
+use Rattle.std.proofs.Common.{◌≡◌, Bool, true, [], Ok, arith, refl, sym, ap, subst, ◌∙◌, List}
+use Rattle.rox_grammar.specs.Written.{NamespaceDecl}
 use Rattle.rox_grammar.specs.State.{scope_of}
 use Rattle.rox_reading.specs.Machine.{opened_by, cut_off_fault}
 use Rattle.rox_reading.specs.Refusals.{lifted}
@@ -12,7 +12,7 @@ use Rattle.rox_grammar.specs.declared.fault.Fault.TheVariants as fault
 use Rattle.rox_reading.specs.Tags.{Values}
 use Rattle.rox_build.proofs.Items.{stands_within}
 use Rattle.rox_build.proofs.SameNames.{opened_named}
-use Rattle.rox_build.proofs.Opening.{grown_by, is_opening, fine_by, fine_more, namespace_by, tag_is, open_stepped}
+use Rattle.rox_build.proofs.Opening.{is_opening, fine_by, fine_more, namespace_by, tag_is, open_stepped}
 use Rattle.rox_build.proofs.plain_constructs.bare_element.Goals as goal
 
 pub bare_start_tag-requires-clause-parent : goal.bare_start_tag-requires-clause-parent

@@ -1,11 +1,9 @@
-use Rattle.std.proofs.Common.{◌≡◌, ◌≤◌, ◌+◌, ◌==◌, ◌∷◌, ℕ, List, Option, [], true, false, Some, length, map, bytes_eq, refl, sym, ap, ◌∙◌, arith, Ok, slice_index}
+use Rattle.std.proofs.Common.{◌≡◌, ◌≤◌, ◌+◌, ◌==◌, ◌∷◌, ℕ, List, [], true, false, Some, length, map, refl, sym, ◌∙◌, arith, Ok, slice_index}
 use Rattle.std.specs.Option.{option_map}
 use Rattle.std.proofs.lemmas.Bool.{eqb-true}
 use Rattle.std.proofs.lemmas.List.{append-nil}
 use Rattle.rox_grammar.specs.Document.{most_attributes}
-use Rattle.rox_grammar.specs.Failures.{name_view}
 use Rattle.rox_grammar.specs.Tree.{listed, element_namespace}
-use Rattle.rox_grammar.specs.WellNamed.{may_name}
 use Rattle.rox_grammar.specs.Written.{Name}
 use Rattle.rox_reading.specs.Tags.{tag_tested}
 use Rattle.rox_tables.specs.Bindings.{FindsBinding}

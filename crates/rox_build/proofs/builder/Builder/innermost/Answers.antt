@@ -1,4 +1,4 @@
-use Rattle.std.proofs.Common.{◌≡◌, ◌-◌, ◌++◌, ◌∷◌, [], length, take, sym, ◌∙◌}
+use Rattle.std.proofs.Common.{◌-◌, length, take, sym, ◌∙◌}
 use Rattle.rox_build.proofs.Showing.{last_split}
 use Rattle.rox_build.proofs.builder.Builder.innermost.Goals as goal
 
