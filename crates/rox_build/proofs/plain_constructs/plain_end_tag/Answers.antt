@@ -1,11 +1,14 @@
-use Rattle.std.proofs.Common.{◌≡◌, ◌++◌, ◌∷◌, [], ◌-◌, ◌+◌, false, sym, subst, ap, ◌∙◌, arith, length, take, drop, slice_index, Ok, leb}
+use Rattle.std.proofs.Common.{◌≡◌, ◌++◌, ◌∷◌, [], ◌-◌, ◌+◌, List, false, sym, subst, ap, ◌∙◌, arith, length, take, drop, slice_index, Ok, leb}
 use Rattle.std.specs.List.{AllByRecursion}
 use Rattle.std.proofs.lemmas.Bool.{lt-leb, eqb-true}
 use Rattle.std.proofs.lemmas.List.{take_rest}
 use Rattle.rox_reading.specs.Markup.{end_tag_at}
 use Rattle.rox_reading.specs.State.{depth_of}
 use Rattle.rox_grammar.specs.Failures.{name_view}
-use Rattle.rox_build.specs.BuilderState.{IsOpenWithin, HasName, name_count}
+use Rattle.rox_tables.proofs.Stable.{all_take}
+use Rattle.rox_tables.specs.declared.rows.tables.ElementTables.{ElementTables}
+use Rattle.rox_build.specs.declared.builder.OpenElement.{OpenElement}
+use Rattle.rox_build.specs.BuilderState.{IsConsistent, IsOpenWithin, HasName, name_count}
 use Rattle.rox_build.proofs.Showing.{last_split}
 use Rattle.rox_build.proofs.Stepping.{end_is, opened_deep, closed_stepped}
 use Rattle.rox_build.proofs.SameNames.{all_last, same_itself, end_tag_close}
@@ -36,3 +39,13 @@ returns-clause-value c = λ _ context end s around h.
 
 pub put_close-requires-clause-short : goal.put_close-requires-clause-short
 put_close-requires-clause-short c = omega (arith, c.requires.short, c.after_byte-end.ensures.cut.0)
+
+pub returns-clause-fine : goal.returns-clause-fine
+returns-clause-fine c =
+    let b = c.args.builder.now in
+    let f = c.requires.fine in
+    let n = length b.opened.items - 1 in
+    let taken : IsConsistent b.tables (take n b.opened.items) =
+    record { sound = f.sound; elements = all_take (IsOpenWithin b.tables) n b.opened.items f.elements; empty = f.empty; kept = f.kept; few_names = f.few_names; few_attributes = f.few_attributes } in
+    subst (λ (qs : List OpenElement). IsConsistent c.put_close.new.self.tables qs) (sym c.put_close.ensures.opened)
+    (subst (λ (t : ElementTables). IsConsistent t (take n b.opened.items)) (sym c.put_close.ensures.tables) taken)
