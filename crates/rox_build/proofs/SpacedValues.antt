@@ -1,8 +1,8 @@
 -- Values with white space that is no space, and no reference.
-use Rattle.std.proofs.Common.{◌≡◌, ℕ, ◌+◌, ◌-◌, ◌<◌, ◌≤◌, ◌==◌, ◌||◌, ◌&&◌, Bool, true, false, not, List, [], ◌∷◌, ◌++◌, length, take, get_or, slice_index, slice_range, inl, inr, refl, sym, ap, subst, ◌∙◌, arith, Ok}
+use Rattle.std.proofs.Common.{◌≡◌, ℕ, ◌+◌, ◌-◌, ◌<◌, ◌≤◌, ◌==◌, ◌||◌, ◌&&◌, Bool, true, false, not, List, [], ◌∷◌, ◌++◌, length, take, slice_index, slice_range, inl, inr, refl, sym, ap, subst, ◌∙◌, arith, Ok}
 use Rattle.std.specs.List.{list_all}
 use Rattle.std.specs.Str.{chars, IsUtf8, IsCharBoundary}
-use Rattle.std.proofs.lemmas.Bool.{and_parts, and_from, cases_Bool, cases_lt}
+use Rattle.std.proofs.lemmas.Bool.{and_parts, cases_lt}
 use Rattle.std.proofs.lemmas.Bool.Decides.{nat_tests}
 use Rattle.std.proofs.lemmas.List.{get_or_past, get_or-take, length-take-le}
 use Rattle.std.proofs.lemmas.List.Folds.{list_all-append}
@@ -11,7 +11,6 @@ use Rattle.rox_grammar.specs.Chars.{is_char}
 use Rattle.rox_grammar.specs.Constructs.{AreChars}
 use Rattle.rox_grammar.specs.Content.{is_verbatim_value}
 use Rattle.rox_grammar.specs.Entities.{Entity}
-use Rattle.rox_grammar.specs.Search.{byte_from}
 use Rattle.rox_reading.proofs.Stretches.{range_parts}
 use Rattle.rox_reading.specs.Values.{ValueInclusion, is_special, bytes_of, value_bit_at, value_text, value_at}
 use Rattle.rox_scan.proofs.CharLemmas.{chars_all, all_chars}
@@ -136,9 +135,14 @@ pub bit_put : (main : Bool) (es : List Entity) (src old new bs : List ℕ) (stop
     → behind old (value_bit_at main es src stop i) ≡ Ok (bytes_of new, j)
 bit_put main es src old new bs stop i j is put = rw (is, put) refl
 
--- no tag begins in a value that was looked at
-pub no_tag_begins : (quote : ℕ) (src : List ℕ) (k : ℕ) → (slice_index src k == quote || slice_index src k == 60) ≡ false → (slice_index src k == 60) ≡ false
-no_tag_begins quote src k h = elim (cases_Bool (slice_index src k == quote)) [
-  | inl is ↦ absurd (let h' : true ≡ false = rw is at h in cc h')
-  | inr other ↦ rw other at h
-]
+-- a CR right before a LF gives nothing
+pub return_feed : (main : Bool) (es : List Entity) (src : List ℕ) (stop i : ℕ) → slice_index src i ≡ 13 → (slice_index (take stop src) (i + 1) == 10) ≡ true
+    → value_bit_at main es src stop i ≡ Ok (bytes_of [], i + 1)
+unfolding value_bit_at
+return_feed main es src stop i here feed = rw (here, feed) refl
+
+-- and else a space
+pub return_alone : (main : Bool) (es : List Entity) (src : List ℕ) (stop i : ℕ) → slice_index src i ≡ 13 → (slice_index (take stop src) (i + 1) == 10) ≡ false
+    → value_bit_at main es src stop i ≡ Ok (bytes_of (32 ∷ []), i + 1)
+unfolding value_bit_at
+return_alone main es src stop i here other = rw (here, other) refl

@@ -47,7 +47,6 @@ pub record IsPlainAttribute (src : List ℕ) (i : ℕ) (a : UnresolvedAttribute)
   -- how much of it its parts take
   pub local : a.start + length a.name.local.now ≤ a.name_end
   pub gap : a.name_end + 2 ≤ a.value_start
-  pub whole : a.end ≡ a.value_start + length (storage_bytes a.value) + 1
 
 -- such an attribute, which is no declaration, was put behind those of its tag, which begin at this row
 pub record AddsPlain (namespaces : List NamespaceDecl) (few : Option (List ℕ)) (present : PrefixBindings) (from : ℕ) (src : List ℕ) (i j : ℕ) (old new : List AttributeRow) : Type 0 where

@@ -1,5 +1,5 @@
-//! Start tags that are plain, read at one look: without declarations, and with few attributes, whose values have no reference and
-//! no CR (XML 1.0 section 3.1). Nothing fails here: a tag that is not plain, or finds no room, is left to the general step, which
+//! Start tags that are plain, read at one look: without declarations, and with few attributes, whose values have no
+//! reference (XML 1.0 section 3.1). Nothing fails here: a tag that is not plain, or finds no room, is left to the general step, which
 //! reads it from its `<`.
 
 ghost use Rattle.std.specs.Prelude.{◌≡◌, ◌<◌, ◌≤◌, ◌+◌, ◌-◌, ◌^◌, ◌++◌, ◌==◌, ◌||◌, List, Ok, IfSome, IfNone, drop, length, map, slice_index, slice_range, true, false, []};
@@ -10,6 +10,8 @@ ghost use Rattle.rox_grammar.specs.Failures.{name_view};
 ghost use Rattle.rox_grammar.specs.Content.{is_verbatim_value};
 ghost use Rattle.rox_reading.specs.Lexical.{qname_at};
 ghost use Rattle.rox_reading.specs.Markup.{raw_value_at};
+ghost use Rattle.rox_reading.specs.Values.{is_special};
+ghost use Rattle.rox_tables.specs.Storage.{storage_bytes};
 ghost use Rattle.rox_tables.specs.Bindings.{LooksWithin, places_view};
 ghost use Rattle.rox_tables.specs.Rows.{AttributeRow, NamespaceWithin, namespace_view, attribute_rows};
 ghost use Rattle.std.specs.List.{AllByRecursion};
@@ -27,12 +29,12 @@ use crate::spaced_value::spaced_value;
 use crate::tag::{MOST_ATTRIBUTES, StartTag, byte_count};
 use rox_grammar::name::QName;
 use rox_scan::byte_set::{ValueByte, far_space_end, part_end, skip_set};
-use rox_scan::lookahead::scan_value;
+use rox_scan::lookahead::{is_special, scan_value};
 use rox_scan::runs::{NameStart, after_byte, begins, is_at, space_end};
 use rox_tables::compare::same_text;
 use rox_tables::namespaces::bindings::PrefixBindings;
 use rox_tables::namespaces::namespace_decl::is_namespace_decl;
-use rox_tables::namespaces::resolve::{element_namespace, put_resolved};
+use rox_tables::namespaces::resolve::{element_namespace, put_changed, put_resolved};
 use rox_tables::namespaces::scope::few_places;
 use rox_tables::namespaces::seen_names::SeenNames;
 use rox_tables::namespaces::unresolved_attribute::UnresolvedAttribute;
@@ -124,12 +126,21 @@ fn verbatim_value_end(text: &str, start: usize, quote: u8) -> usize
     }
 }
 
-/// Whether a `&` or a CR stands at `at`: no plain value has one.
+/// Whether a byte stands at `at` that changes a value.
 #[inline(always)]
-fn is_left(text: &str, at: usize) -> bool
-    ensures { result ≡ (slice_index text.now at == 38 || slice_index text.now at == 13) }
+fn changes(text: &str, at: usize) -> bool
+    ensures { result ≡ true → is_special (slice_index text.now at) ≡ true }
 {
-    is_at(text, at, b'&') || is_at(text, at, b'\r')
+    let bytes = text.as_bytes();
+    at < bytes.len() && is_special(bytes[at])
+}
+
+/// Whether a reference begins at `at`: no plain value has one.
+#[inline(always)]
+fn refers(text: &str, at: usize) -> bool
+    ensures { result ≡ (slice_index text.now at == 38) }
+{
+    is_at(text, at, b'&')
 }
 
 /// Where the value ends that begins at `start`, behind this quote, if it stands for itself.
@@ -150,7 +161,7 @@ fn plain_value_end(text: &str, start: usize, quote: u8) -> Option<usize>
     if is_at(text, end, quote) {
         return Some(end);
     }
-    if is_left(text, end) {
+    if changes(text, end) {
         return None;
     }
     let end = verbatim_value_end(text, start, quote);
@@ -234,7 +245,9 @@ fn quote_before(text: &str, start: usize) -> u8
 #[tactic(auto, unfolding(rox_reading::specs::Markup::attribute_at))]
 fn plain_attribute<'input>(text: &'input str, start: usize) -> Option<UnresolvedAttribute<'input>>
     requires { IsCharBoundary text.now start }
-    ensures { IfSome result (λ a. IsPlainAttribute text.entry.now start a) }
+    ensures read { IfSome result (λ a. IsPlainAttribute text.entry.now start a) }
+    ensures whole { IfSome result (λ a. a.end
+        ≡ a.value_start + length (storage_bytes a.value) + 1) }
 {
     let colon = part_end(text, start);
     let name = plain_name(text, start, colon)?;
@@ -254,7 +267,7 @@ fn plain_attribute<'input>(text: &'input str, start: usize) -> Option<Unresolved
     })
 }
 
-/// The attribute that begins at `start`, if its value has line ends or tabs but no reference: it is a text of its own.
+/// The attribute that begins at `start`, if its value has white space that is no space, but no reference: it is a text of its own.
 #[inline(always)]
 fn spaced_attribute<'input>(
     alloc: Global,
@@ -270,7 +283,7 @@ fn spaced_attribute<'input>(
     if from == 0 {
         return None;
     }
-    if is_left(text, skip_set::<ValueByte>(text, from)) {
+    if refers(text, skip_set::<ValueByte>(text, from)) {
         return None;
     }
     let quote = quote_before(text, from);
@@ -309,7 +322,6 @@ fn put_spaced_attribute<'input>(
     seen: &mut SeenNames,
 ) -> usize
     requires cut { IsCharBoundary text.now start }
-    requires short { length text.now < 2 ^ 32 }
     requires within { LooksWithin (length around.namespaces.now) (places_view around.few)
         around.present.now }
     requires from { seen.old.from ≤ length (attribute_rows attributes.old) }
@@ -338,7 +350,7 @@ fn put_spaced_attribute<'input>(
         few,
         present,
     } = around;
-    if put_resolved(namespaces, few, present, attributes, seen, one) {
+    if put_changed(namespaces, few, present, attributes, seen, one) {
         end
     } else {
         0

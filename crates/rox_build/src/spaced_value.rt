@@ -1,5 +1,5 @@
-//! Values of attributes with line ends and tabs but no references: what they stand for, whatever reads them (XML 1.0 section
-//! 3.3.3).
+//! Values of attributes with white space that is no space but no references: what they stand for, whatever reads them (XML 1.0
+//! section 3.3.3).
 
 ghost use Rattle.std.specs.Prelude.{◌≡◌, ◌==◌, ◌<◌, ◌≤◌, ◌-◌, ℕ, Bool, List, Ok, IfSome, true, false, ◌||◌, length, slice_index};
 ghost use Rattle.std.specs.Str.{IsCharBoundary};
@@ -12,6 +12,7 @@ ghost use Rattle.rox_values.specs.Values.{behind, text_behind};
 
 use rox_scan::byte_set::skip_set;
 use rox_scan::lookahead::StretchByte;
+use rox_scan::runs::is_at;
 use rox_tables::rows::storage::StringStorage;
 use std::alloc::Global;
 use std::rc::RcStr;
@@ -32,6 +33,29 @@ fn put_space(text: &str, at: usize, stop: usize, out: &mut String) -> usize
         return 0;
     }
     at + 1
+}
+
+/// Appends a space for the CR that stands at `at`, or nothing where a LF stands behind it. Answers the place behind it, or 0 where
+/// there is no memory.
+#[inline(always)]
+fn put_return(text: &str, at: usize, stop: usize, out: &mut String) -> usize
+    requires here { slice_index text.now at ≡ 13 }
+    requires before { at < stop }
+    requires stop { IsCharBoundary text.now stop }
+    ensures value { 0 < result → (main : Bool) (es : List Entity)
+        → behind (string_bytes out.old) (reading.value_bit_at main es text.now stop at)
+        ≡ Ok (reading.bytes_of (string_bytes out.new), result) }
+    ensures place { 0 < result → (at < result) × (result ≤ stop) }
+    ensures cut { 0 < result → IsCharBoundary text.now result }
+{
+    let behind = at + 1;
+    if is_at(&text[..stop], behind, b'\n') {
+        return behind;
+    }
+    let Ok(()) = out.push(' ') else {
+        return 0;
+    };
+    behind
 }
 
 /// Appends all of a value from `at` on up to the next special byte or `stop`. Answers the place behind it, or 0 where that is
@@ -56,8 +80,8 @@ fn put_stretch(text: &str, at: usize, stop: usize, out: &mut String) -> usize
     end
 }
 
-/// Appends what stands at `at` in a value: a space for a LF or a TAB, or all up to the next special byte. Answers the place
-/// behind that, or 0 where another byte stands, or there is no memory.
+/// Appends what stands at `at` in a value: what white space gives that is no space, or all up to the next special byte. Answers
+/// the place behind that, or 0 where a reference stands, or there is no memory.
 #[inline(always)]
 fn put_bit(text: &str, at: usize, stop: usize, out: &mut String) -> usize
     requires start { IsCharBoundary text.now at }
@@ -75,11 +99,13 @@ fn put_bit(text: &str, at: usize, stop: usize, out: &mut String) -> usize
     if here == b'\n' || here == b'\t' {
         return put_space(text, at, stop, out);
     }
+    if here == b'\r' {
+        return put_return(text, at, stop, out);
+    }
     put_stretch(text, at, stop, out)
 }
 
-/// Appends what the value's text from `start` up to `stop` stands for, if there are only LF, TAB and bytes that stand for
-/// themselves, and memory for it.
+/// Appends what the value's text from `start` up to `stop` stands for, if there are no references, and memory for it.
 fn put_spaced(text: &str, start: usize, stop: usize, out: &mut String) -> bool
     requires start { IsCharBoundary text.now start }
     requires stop { IsCharBoundary text.now stop }
@@ -106,7 +132,7 @@ fn put_spaced(text: &str, start: usize, stop: usize, out: &mut String) -> bool
     true
 }
 
-/// What the value from `start` up to `stop` stands for, if that is as long, as a text of its own.
+/// What the value from `start` up to `stop` stands for, if it has no references, as a text of its own.
 pub fn spaced_value<'input>(
     alloc: Global,
     text: &str,
@@ -123,12 +149,11 @@ pub fn spaced_value<'input>(
         → reading.value_text main es opener (stop - start) text.now stop start openings_left
         ≡ Ok (storage_bytes s, openings_left)) }
     ensures owned { IfSome result (λ s. is_borrowed s ≡ false) }
-    ensures long { IfSome result (λ s. length (storage_bytes s) ≡ stop - start) }
 {
     let Ok(mut out) = String::with_capacity(alloc, stop - start) else {
         return None;
     };
-    if !put_spaced(text, start, stop, &mut out) || out.len() != stop - start {
+    if !put_spaced(text, start, stop, &mut out) {
         return None;
     }
     let Ok(value) = RcStr::from_string(out) else {

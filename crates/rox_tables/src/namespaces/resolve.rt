@@ -333,6 +333,50 @@ pub fn put_resolved<'input>(
     true
 }
 
+/// The same of an attribute whose value may be of any length: room is made for it.
+#[inline(always)]
+pub fn put_changed<'input>(
+    namespaces: &[Namespace<'input>],
+    few: Option<&[u16]>,
+    present: &PrefixBindings<'_>,
+    attributes: &mut AttributeTable<'input>,
+    seen: &mut SeenNames,
+    one: UnresolvedAttribute<'input>,
+) -> bool
+    requires within { LooksWithin (length namespaces.now) (places_view few) present.now }
+    requires from { seen.old.from ≤ length (attribute_rows attributes.old) }
+    requires done { AllByRecursion (λ a. NamespaceWithin (length namespaces.now) a.0.namespace)
+        (drop seen.old.from (attribute_rows attributes.old)) }
+    requires seen { AreSeen seen.old (attribute_rows attributes.old) }
+    ensures refused { result ≡ false
+        → attribute_rows attributes.new ≡ attribute_rows attributes.old }
+    ensures added { result ≡ true
+        → AddsResolved (map namespace_view namespaces.now) (places_view few.entry) present.now
+        seen.old.from (attribute_rows attributes.old) (attribute_rows attributes.new) one.entry }
+    ensures from { seen.new.from ≡ seen.old.from }
+    ensures seen { result ≡ true → AreSeen seen.new (attribute_rows attributes.new) }
+{
+    if seen.are_many_again() {
+        return false;
+    }
+    let done = &attributes.items[seen.from..];
+    let Ok(namespace) = tested_namespace(namespaces, few, present, done, seen, &one) else {
+        return false;
+    };
+    let places = AttributePlaces {
+        start: one.start,
+        name_end: one.name_end,
+        value_start: one.value_start,
+        end: one.end,
+    };
+    let item = AttributeData {
+        local: one.name.local,
+        value: one.value,
+        namespace,
+    };
+    attributes.push((item, places)).is_ok()
+}
+
 /// As `resolve`, of a tag with many attributes: their names are kept in a set, in time n log n.
 #[cold]
 #[inline(never)]

@@ -18,8 +18,8 @@ quote_before-quote-requires-clause-quote c =
     let place : c.value_start-value_start.result - 1 ≡ v.before = omega (arith, v.start) in
     subst (λ (k : ℕ). (slice_index src k == 39 || slice_index src k == 34) ≡ true) (sym place) v.quote
 
-pub returns : goal.returns
-returns c =
+pub returns-clause-read : goal.returns-clause-read
+returns-clause-read c =
     let src = c.args.text.now in
     let s = c.value_start-value_start.result in
     let v = c.value_start-value_start.ensures (omega arith) in
@@ -45,5 +45,14 @@ returns c =
       onward = omega arith;
       local = n.local;
       gap = omega arith;
-      whole = omega (arith, done, long, ap length c.range.ensures.value);
     }
+
+pub returns-clause-whole : goal.returns-clause-whole
+returns-clause-whole c =
+    let s = c.value_start-value_start.result in
+    let j = c.in_ok-value_end.value_end in
+    let w = c.in_ok-value_end.ensures in
+    let done = c.after_byte.ensures.place in
+    let order = w.onward in
+    let long = range_length c.args.text.now s j order w.cut.0 in
+    omega (arith, done, long, ap length c.range.ensures.value)

@@ -38,17 +38,17 @@ returns-then-is_at-2-clause-read c =
 
 pub put_resolved-requires-clause-short : goal.put_resolved-requires-clause-short
 put_resolved-requires-clause-short c =
-    let plain = c.in-Some.ensures in
+    let plain = c.in-Some.ensures.read in
     omega (arith, plain.cut.0, c.requires.short)
 
 pub put_resolved-requires-clause-local : goal.put_resolved-requires-clause-local
-put_resolved-requires-clause-local c = c.in-Some.ensures.local
+put_resolved-requires-clause-local c = c.in-Some.ensures.read.local
 
 pub put_resolved-requires-clause-value : goal.put_resolved-requires-clause-value
 put_resolved-requires-clause-value c = c.in-Some.ensures.whole
 
 pub put_resolved-requires-clause-onward : goal.put_resolved-requires-clause-onward
-put_resolved-requires-clause-onward c = c.in-Some.ensures.gap
+put_resolved-requires-clause-onward c = c.in-Some.ensures.read.gap
 
 pub put_resolved-requires-clause-done : goal.put_resolved-requires-clause-done
 put_resolved-requires-clause-done c =
@@ -67,7 +67,7 @@ loop-turn-preserved c =
     let slash : (slice_index src j == 47) ≡ false = sym c.is_at-in-loop-turn.ensures ∙ c.if-is_at-2.false in
     let added = c.put_resolved.ensures.added c.if-not-put_resolved.false in
     let resolved : AddsResolved namespaces few c.args.present.now (length old) (attribute_rows l.attributes) (attribute_rows c.put_resolved.new.attributes) c.in-Some.one = rw l.invariant.from at added in
-    let plain = c.in-Some.ensures in
+    let plain = c.in-Some.ensures.read in
     record {
       from = c.put_resolved.ensures.from ∙ l.invariant.from;
       seen = c.put_resolved.ensures.seen c.if-not-put_resolved.false;

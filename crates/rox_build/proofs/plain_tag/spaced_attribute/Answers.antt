@@ -38,7 +38,6 @@ returns c =
     let order1 = n.onward in
     let order2 = v.onward in
     let order3 = l.onward in
-    let long = w.long in
     let at : (slice_index src j == q) ≡ true = sym c.is_at.ensures ∙ c.if-not-is_at.false in
     let changed : is_verbatim_value (slice_range src s j) ≡ false = sym l.verbatim_is ∙ c.if-look.false in
     record {
@@ -51,5 +50,4 @@ returns c =
       onward = omega arith;
       local = n.local;
       gap = omega arith;
-      whole = omega arith;
     }

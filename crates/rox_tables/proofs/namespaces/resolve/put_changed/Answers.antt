@@ -1,0 +1,60 @@
+use Rattle.std.proofs.Common.{◌≤◌, List, ◌++◌, ◌∷◌, [], ◌∙◌, length, drop, sym, ap, arith, subst}
+use Rattle.std.proofs.lemmas.List.{length-map}
+use Rattle.rox_tables.specs.Rows.{AttributeRow, namespace_view, attribute_rows, NamespaceWithin}
+use Rattle.rox_tables.specs.ResolvedNames.{row_of_unresolved}
+use Rattle.rox_tables.specs.SeenNames.{HasNameOf}
+use Rattle.rox_tables.proofs.SeenCodes.{seen_more}
+use Rattle.rox_tables.proofs.AttributeRows.{length_rows, column_behind, all_column}
+use Rattle.rox_tables.proofs.namespaces.resolve.put_changed.Goals as goal
+
+pub slice_bounds-done-count : goal.slice_bounds-done-count
+slice_bounds-done-count c =
+    let t = c.args.attributes.now in
+    let n = length_rows t in
+    let s = ap length c.deref.ensures.value in
+    let from = c.requires.from in
+    omega arith
+
+pub slice_bounds-done-start : goal.slice_bounds-done-start
+slice_bounds-done-start c =
+    let t = c.args.attributes.now in
+    let n = length_rows t in
+    let s = ap length c.deref.ensures.value in
+    let from = c.requires.from in
+    let within : c.args.seen.now.from ≤ length c.deref.result.now = omega arith in
+    within
+
+pub offset_bounds-deref-seen : goal.offset_bounds-deref-seen
+offset_bounds-deref-seen c =
+    let t = c.args.attributes.now in
+    let n = length_rows t in
+    let s = ap length c.deref.ensures.value in
+    let from = c.requires.from in
+    let within : c.args.seen.now.from ≤ length c.deref.result.now = omega arith in
+    let small = c.deref.type_inv.1 in
+    omega (arith, within, small)
+
+pub tested_namespace-requires-clause-done : goal.tested_namespace-requires-clause-done
+tested_namespace-requires-clause-done c =
+    all_column (λ d. NamespaceWithin (length c.args.namespaces.now) d.namespace) c.args.attributes.now c.deref.result.now c.args.seen.now.from c.deref.ensures.value c.requires.done
+
+pub returns-clause-added : goal.returns-clause-added
+returns-clause-added c = λ done.
+    let old = attribute_rows c.args.attributes.now in
+    let column = column_behind c.args.attributes.now c.deref.result.now c.args.seen.now.from c.deref.ensures.value in
+    record {
+      namespace = c.in-Ok.namespace;
+      rows = rw (sym c.is_ok.ensures.value ∙ done) at c.push.ensures.rows;
+      within = subst (λ n. NamespaceWithin n c.in-Ok.namespace) (sym (length-map c.args.namespaces.now namespace_view)) c.in-Ok.ensures.within;
+      there = λ ds h. c.in-Ok.ensures.there ds h;
+      tested = λ ds before rest h shown. c.in-Ok.ensures.tested ds (drop c.args.seen.now.from old) before rest h column shown;
+    }
+
+pub tested_namespace-requires-clause-seen : goal.tested_namespace-requires-clause-seen
+tested_namespace-requires-clause-seen c =
+    all_column (λ d. HasNameOf c.args.seen.now.codes d) c.args.attributes.now c.deref.result.now c.args.seen.now.from c.deref.ensures.value c.requires.seen
+
+pub returns-clause-seen : goal.returns-clause-seen
+returns-clause-seen c = λ done.
+    seen_more c.args.seen.now c.tested_namespace.new.seen (attribute_rows c.args.attributes.now) _ _ (rw (sym c.is_ok.ensures.value ∙ done) at c.push.ensures.rows)
+    c.in-Ok.ensures.from c.requires.from c.in-Ok.ensures.kept c.in-Ok.ensures.put c.requires.seen
