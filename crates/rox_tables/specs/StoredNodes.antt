@@ -1,5 +1,5 @@
 -- The rows of nodes as their table stores them.
-use Rattle.std.specs.Prelude.{ℕ, ◌+◌, ◌*◌, ◌^◌, Bool, true, List, [], ◌∷◌, Option, Some, None, nat_lt}
+use Rattle.std.specs.Prelude.{ℕ, ◌+◌, ◌*◌, ◌^◌, Bool, true, List, [], ◌∷◌, Some, None, nat_lt}
 use Rattle.std.specs.List.{list_all}
 use Rattle.rox_tables.specs.declared.rows.tables.PI.{PI}
 use Rattle.rox_tables.specs.declared.rows.tables.NodeKind.{NodeKind}

@@ -1,7 +1,6 @@
-use Rattle.std.proofs.Common.{◌≤◌, List, ◌++◌, ◌∷◌, [], ◌∙◌, length, drop, sym, ap, arith, subst}
+use Rattle.std.proofs.Common.{◌≤◌, ◌∙◌, length, drop, sym, ap, arith, subst}
 use Rattle.std.proofs.lemmas.List.{length-map}
-use Rattle.rox_tables.specs.Rows.{AttributeRow, namespace_view, attribute_rows, NamespaceWithin}
-use Rattle.rox_tables.specs.ResolvedNames.{row_of_unresolved}
+use Rattle.rox_tables.specs.Rows.{namespace_view, attribute_rows, NamespaceWithin}
 use Rattle.rox_tables.specs.SeenNames.{HasNameOf}
 use Rattle.rox_tables.proofs.SeenCodes.{seen_more}
 use Rattle.rox_tables.proofs.AttributeRows.{length_rows, column_behind, all_column}
