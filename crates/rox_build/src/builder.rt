@@ -150,7 +150,7 @@ impl<'input> Builder<'input> {
     ghost use Rattle.rox_reading.specs.Machine.{with_item, opened_by, counted};
     ghost use Rattle.rox_grammar.specs.Failures.{Fails};
     ghost use Rattle.rox_values.specs.Values.{piece_view};
-    ghost use Rattle.rox_build.specs.BuilderState.{Represents, RepresentsFlushed, IsNode, IsOpening, AreSound, Adds, IsConsistent, IsOpened, IsReady, IsReadyTwice, names_in, opened_in, last_row};
+    ghost use Rattle.rox_build.specs.BuilderState.{Represents, RepresentsFlushed, IsNode, IsOpening, AreSound, Adds, IsConsistent, IsOpened, IsReady, IsReadyTwice, KeepsState, names_in, opened_in, last_row};
     ghost use Rattle.rox_tables.specs.Rows.{HoldsTree, attribute_rows};
     ghost use Rattle.rox_tables.specs.StoredNodes.{IsSmallKind};
     ghost use Rattle.rox_tables.specs.Scopes.{PrefixesOnce};
@@ -625,6 +625,31 @@ impl<'input> Builder<'input> {
         let row = self.row(start, end, NodeKind::Text(StringStorage::Borrowed(text)));
         self.nodes.put(row);
         self.pending = Pending::Written;
+    }
+
+    /// The same of a text of these bytes that counts as owned. Answers false where memory is refused, and then all is as before.
+    #[inline(always)]
+    pub fn put_owned(&mut self, alloc: Global, start: usize, end: usize, changed: &str) -> bool
+        requires ready { IsReadyTwice self.old }
+        requires apart { self.old.pending ≡ pending.None }
+        requires start { start < 2 ^ 32 }
+        requires end { end < 2 ^ 32 }
+        ensures value { result ≡ true → (total at : ℕ) (s : State)
+            → Represents total s.stack s.done self.old → Adds total (Ok tt) self.new
+            (with_item self.old.nodes_limit s at (Text start end changed.now false)) }
+        ensures other { result ≡ false → KeepsState self.old self.new }
+        ensures tables { self.new.tables ≡ self.old.tables }
+        ensures opened { self.new.opened ≡ self.old.opened }
+        ensures limit { self.new.nodes_limit ≡ self.old.nodes_limit }
+        ensures openings_left { self.new.openings_left ≡ self.old.openings_left }
+    {
+        let Ok(owned) = self.recent.owned(alloc, changed) else {
+            return false;
+        };
+        let row = self.row(start, end, NodeKind::Text(owned));
+        self.nodes.put(row);
+        self.pending = Pending::Written;
+        true
     }
 
     /// A node that is no text and has no nodes below it, where there is room for its row.

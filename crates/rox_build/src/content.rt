@@ -17,7 +17,7 @@ ghost use Rattle.rox_build.specs.DataParts.{GivesDataPart, next_part};
 
 use crate::builder::Builder;
 use crate::constructs::{end_tag, markup};
-use crate::plain_constructs::{plain_step, plain_steps};
+use crate::plain_constructs::{plain_main_line, plain_step, plain_steps};
 use crate::tag::Buffers;
 use rox_grammar::failure::Failure;
 use rox_grammar::fault::Fault;
@@ -349,6 +349,10 @@ pub fn content<'input>(
         if read == 3 {
             general_step(alloc, cursor, builder, context)?;
             left -= 2;
+            continue;
+        }
+        if plain_main_line(alloc, cursor, builder, context.main) {
+            left -= 1;
             continue;
         }
         general_step(alloc, cursor, builder, context)?;

@@ -22,11 +22,12 @@ use crate::plain_tag::{bare_start_tag, plain_start_tag};
 use crate::same_front::same_front;
 use rox_grammar::fault::Word;
 use rox_scan::byte_set::{part_end, skip_set};
-use rox_scan::character_data::TextByte;
+use rox_scan::character_data::{TextByte, line_run_end};
 use rox_scan::cursor::Cursor;
 use rox_scan::runs::{after_byte, is_at};
 use rox_tables::rows::storage::StringStorage;
 use rox_tables::rows::tables::NodeKind;
+use std::alloc::Global;
 
 /// The most bytes of a text whose places all fit rows.
 const MOST_BYTES: usize = 4294967295;
@@ -59,6 +60,68 @@ fn plain_character_data<'input>(cursor: &mut Cursor<'input>, builder: &mut Build
     cursor.pos = near;
     builder.put_text(start, near, &text[start..near]);
     true
+}
+
+/// A run that is a line end, a CR and a LF, and behind it bytes that stand for themselves, if no text is open that it goes on
+/// with and there is room for it.
+#[inline(never)]
+fn plain_line<'input>(
+    alloc: Global,
+    cursor: &mut Cursor<'input>,
+    builder: &mut Builder<'input>,
+) -> bool
+    ensures value { result ≡ true → (context : machine.Context) (end : ℕ) (s : State)
+        → context.values.main ≡ true → IsInState context.limit end s cursor.old builder.old
+        → ScansTo context.limit end (Ok tt) cursor.new builder.new
+        (machine.step context cursor.old.text.now s) }
+    ensures other { result ≡ false → (cursor.new ≡ cursor.old)
+        × KeepsState builder.old builder.new }
+    ensures tables { builder.new.tables ≡ builder.old.tables }
+    ensures opened { builder.new.opened ≡ builder.old.opened }
+    ensures source { cursor.new.text ≡ cursor.old.text }
+{
+    let start = cursor.pos;
+    let text = cursor.text;
+    if text.len() > MOST_BYTES || builder.is_text_open() || !builder.is_ready_twice() {
+        return false;
+    }
+    let Some(stop) = line_run_end(text, start) else {
+        return false;
+    };
+    if !builder.put_owned(alloc, start, stop, &text[start + 1..stop]) {
+        return false;
+    }
+    cursor.pos = stop;
+    true
+}
+
+/// The same in the main text, where line ends are read as line feeds, and what stands here is seen first.
+#[inline(always)]
+pub fn plain_main_line<'input>(
+    alloc: Global,
+    cursor: &mut Cursor<'input>,
+    builder: &mut Builder<'input>,
+    main: bool,
+) -> bool
+    requires fine { IsConsistent builder.old.tables builder.old.opened.items }
+    ensures value { result ≡ true → (context : machine.Context) (end : ℕ) (s : State)
+        → context.values.main ≡ main → IsInState context.limit end s cursor.old builder.old
+        → ScansTo context.limit end (Ok tt) cursor.new builder.new
+        (machine.step context cursor.old.text.now s) }
+    ensures other { result ≡ false → (context : machine.Context) (end : ℕ) (s : State)
+        → IsInState context.limit end s cursor.old builder.old
+        → IsInState context.limit end s cursor.new builder.new }
+    ensures place { result ≡ false → cursor.new ≡ cursor.old }
+    ensures fine { IsConsistent builder.new.tables builder.new.opened.items }
+    ensures source { cursor.new.text ≡ cursor.old.text }
+{
+    if !main {
+        return false;
+    }
+    if !is_at(cursor.text, cursor.pos, b'\r') {
+        return false;
+    }
+    plain_line(alloc, cursor, builder)
 }
 
 /// An end tag, from its `</`, if it closes the innermost open element by the very bytes of its name, with `>` right behind them,

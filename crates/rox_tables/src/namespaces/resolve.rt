@@ -341,7 +341,7 @@ pub fn put_changed<'input>(
     present: &PrefixBindings<'_>,
     attributes: &mut AttributeTable<'input>,
     seen: &mut SeenNames,
-    one: UnresolvedAttribute<'input>,
+    own: UnresolvedAttribute<'input>,
 ) -> bool
     requires within { LooksWithin (length namespaces.now) (places_view few) present.now }
     requires from { seen.old.from ≤ length (attribute_rows attributes.old) }
@@ -352,7 +352,7 @@ pub fn put_changed<'input>(
         → attribute_rows attributes.new ≡ attribute_rows attributes.old }
     ensures added { result ≡ true
         → AddsResolved (map namespace_view namespaces.now) (places_view few.entry) present.now
-        seen.old.from (attribute_rows attributes.old) (attribute_rows attributes.new) one.entry }
+        seen.old.from (attribute_rows attributes.old) (attribute_rows attributes.new) own.entry }
     ensures from { seen.new.from ≡ seen.old.from }
     ensures seen { result ≡ true → AreSeen seen.new (attribute_rows attributes.new) }
 {
@@ -360,18 +360,18 @@ pub fn put_changed<'input>(
         return false;
     }
     let done = &attributes.items[seen.from..];
-    let Ok(namespace) = tested_namespace(namespaces, few, present, done, seen, &one) else {
+    let Ok(namespace) = tested_namespace(namespaces, few, present, done, seen, &own) else {
         return false;
     };
     let places = AttributePlaces {
-        start: one.start,
-        name_end: one.name_end,
-        value_start: one.value_start,
-        end: one.end,
+        start: own.start,
+        name_end: own.name_end,
+        value_start: own.value_start,
+        end: own.end,
     };
     let item = AttributeData {
-        local: one.name.local,
-        value: one.value,
+        local: own.name.local,
+        value: own.value,
         namespace,
     };
     attributes.push((item, places)).is_ok()

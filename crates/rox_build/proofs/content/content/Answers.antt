@@ -36,9 +36,10 @@ returns-in_err-general_step-2-clause-value c = λ limit end es s declared sees.
     let inner : is_root g.s.stack ≡ false = sym (c.is_at_root.ensures end g.s.stack g.s.done g.sees.shows) ∙ c.if-is_at_root.false in
     let inside : g.s.at < length src = rw (s0, g.sees.here) at (leb-false _ _ (sym c.is_at_end.ensures ∙ c.if-is_at_end.false)) in
     let kept = c.plain_steps-read.ensures.none (none_left _ c.plain_steps-read.ensures.count c.if-read-eq1.false c.if-read-eq2.false c.if-read-eq3.false) context end g.s g.sees in
-    let source = ap (λ t. t.now) c.plain_steps-read.ensures.source ∙ s0 in
+    let still = c.plain_main_line.ensures.other c.if-plain_main_line.false context end g.s kept in
+    let source = ap (λ t. t.now) c.plain_main_line.ensures.source ∙ ap (λ t. t.now) c.plain_steps-read.ensures.source ∙ s0 in
     let q = err_from_is_err_and c.from_residual-in_err-general_step-2.result c.from_residual-in_err-general_step-2.ensures.1 in
-    let fails : IsRefusal c.in_err-general_step-2.field-0.0 (step context src g.s) = rw source at (c.in_err-general_step-2.ensures.value limit end es g.s declared kept) in
+    let fails : IsRefusal c.in_err-general_step-2.field-0.0 (step context src g.s) = rw source at (c.in_err-general_step-2.ensures.value limit end es g.s declared still) in
     rw (q.1, q.2) (drive_fails context end src _ n (n - 1) c.loop-left.cursor c.loop-left.builder c.in_err-general_step-2.field-0.0 g one inner inside fails)
 
 pub loop-left-preserved-then-read-eq1 : goal.loop-left-preserved-then-read-eq1
@@ -116,10 +117,10 @@ loop-left-preserved-then-read-eq3 c = record {
       apart_on context end src _ n (n - 2) c.loop-left.cursor c.plain_steps-read.new.cursor _ c.loop-left.builder c.plain_steps-read.new.builder _ _ g two inner inside read stepped;
 }
 
-pub loop-left-preserved : goal.loop-left-preserved
-loop-left-preserved c = record {
-  source = c.in_ok-general_step-2.ensures.source ∙ c.plain_steps-read.ensures.source ∙ c.loop-left.invariant.source;
-  fine = c.in_ok-general_step-2.ensures.fine;
+pub loop-left-preserved-then-plain_main_line : goal.loop-left-preserved-then-plain_main_line
+loop-left-preserved-then-plain_main_line c = record {
+  source = c.plain_main_line.ensures.source ∙ c.plain_steps-read.ensures.source ∙ c.loop-left.invariant.source;
+  fine = c.plain_main_line.ensures.fine;
   reads = λ limit end es s declared sees.
       let src = c.args.cursor.now.text.now in
       let context = context_of limit es c.args.context in
@@ -131,7 +132,27 @@ loop-left-preserved c = record {
       let inside : g.s.at < length src = rw (s0, g.sees.here) at (leb-false _ _ (sym c.is_at_end.ensures ∙ c.if-is_at_end.false)) in
       let kept = c.plain_steps-read.ensures.none (none_left _ c.plain_steps-read.ensures.count c.if-read-eq1.false c.if-read-eq2.false c.if-read-eq3.false) context end g.s g.sees in
       let source = ap (λ t. t.now) c.plain_steps-read.ensures.source ∙ s0 in
-      let stepped = rw source at (c.in_ok-general_step-2.ensures.value limit end es g.s declared kept) in
+      let stepped : ScansTo limit end (Ok tt) c.plain_main_line.new.cursor c.plain_main_line.new.builder (step context src g.s) = rw source at (c.plain_main_line.ensures.value c.if-plain_main_line.true context end g.s refl kept) in
+      drives_on context end src _ n (n - 1) c.loop-left.cursor _ c.loop-left.builder _ tt g one inner inside stepped;
+}
+
+pub loop-left-preserved : goal.loop-left-preserved
+loop-left-preserved c = record {
+  source = c.in_ok-general_step-2.ensures.source ∙ c.plain_main_line.ensures.source ∙ c.plain_steps-read.ensures.source ∙ c.loop-left.invariant.source;
+  fine = c.in_ok-general_step-2.ensures.fine;
+  reads = λ limit end es s declared sees.
+      let src = c.args.cursor.now.text.now in
+      let context = context_of limit es c.args.context in
+      let n = c.loop-left.left in
+      let one : n ≡ suc (n - 1) = omega (arith, c.loop-left-test.true) in
+      let s0 = ap (λ t. t.now) c.loop-left.invariant.source in
+      let g = c.loop-left.invariant.reads limit end es s declared sees in
+      let inner : is_root g.s.stack ≡ false = sym (c.is_at_root.ensures end g.s.stack g.s.done g.sees.shows) ∙ c.if-is_at_root.false in
+      let inside : g.s.at < length src = rw (s0, g.sees.here) at (leb-false _ _ (sym c.is_at_end.ensures ∙ c.if-is_at_end.false)) in
+      let kept = c.plain_steps-read.ensures.none (none_left _ c.plain_steps-read.ensures.count c.if-read-eq1.false c.if-read-eq2.false c.if-read-eq3.false) context end g.s g.sees in
+      let still = c.plain_main_line.ensures.other c.if-plain_main_line.false context end g.s kept in
+      let source = ap (λ t. t.now) c.plain_main_line.ensures.source ∙ ap (λ t. t.now) c.plain_steps-read.ensures.source ∙ s0 in
+      let stepped = rw source at (c.in_ok-general_step-2.ensures.value limit end es g.s declared still) in
       drives_on context end src _ n (n - 1) c.loop-left.cursor _ c.loop-left.builder _ _ g one inner inside stepped;
 }
 
