@@ -359,8 +359,8 @@ pub fn put_changed<'input>(
     if seen.are_many_again() {
         return false;
     }
-    let done = &attributes.items[seen.from..];
-    let Ok(namespace) = tested_namespace(namespaces, few, present, done, seen, &own) else {
+    let earlier = &attributes.items[seen.from..];
+    let Ok(namespace) = tested_namespace(namespaces, few, present, earlier, seen, &own) else {
         return false;
     };
     let places = AttributePlaces {

@@ -6,16 +6,16 @@ use Rattle.rox_tables.proofs.SeenCodes.{seen_more}
 use Rattle.rox_tables.proofs.AttributeRows.{length_rows, column_behind, all_column}
 use Rattle.rox_tables.proofs.namespaces.resolve.put_changed.Goals as goal
 
-pub slice_bounds-done-count : goal.slice_bounds-done-count
-slice_bounds-done-count c =
+pub slice_bounds-earlier-count : goal.slice_bounds-earlier-count
+slice_bounds-earlier-count c =
     let t = c.args.attributes.now in
     let n = length_rows t in
     let s = ap length c.deref.ensures.value in
     let from = c.requires.from in
     omega arith
 
-pub slice_bounds-done-start : goal.slice_bounds-done-start
-slice_bounds-done-start c =
+pub slice_bounds-earlier-start : goal.slice_bounds-earlier-start
+slice_bounds-earlier-start c =
     let t = c.args.attributes.now in
     let n = length_rows t in
     let s = ap length c.deref.ensures.value in
