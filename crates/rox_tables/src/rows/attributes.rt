@@ -29,14 +29,11 @@ const FIRST_ATTRIBUTES: usize = 32768;
 /// And where there is no memory for so many.
 const FEWEST: usize = 4;
 
-/// How many more there is room for at first, at most: that of a short text seldom grows, which costs more than reading it does.
-const MORE: usize = 64;
-
 /// How many attributes a table begins with room for, of a text of so many bytes.
 fn first_attributes(bytes: usize) -> usize
-    ensures { result ≡ min (bytes / 112 + min (bytes / 64) 64 + 4) 32768 }
+    ensures { result ≡ min (bytes / 112 + 4) 32768 }
 {
-    (bytes / 112 + (bytes / 64).min(MORE) + FEWEST).min(FIRST_ATTRIBUTES)
+    (bytes / 112 + FEWEST).min(FIRST_ATTRIBUTES)
 }
 
 /// How many of these are unusual.
