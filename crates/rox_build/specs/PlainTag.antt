@@ -1,4 +1,4 @@
--- Start tags that are read at one look: without declarations, and with attributes whose values stand for themselves.
+-- Start tags that are read at one look: without declarations, and with attributes whose values have no reference.
 use Rattle.std.specs.Prelude.{◌≡◌, ℕ, ◌+◌, ◌<◌, ◌≤◌, ◌==◌, ◌||◌, Bool, true, false, List, [], ◌++◌, Option, Ok, length, map, slice_index}
 use Rattle.std.specs.List.{AllByRecursion}
 use Rattle.std.specs.Str.{IsCharBoundary}

@@ -5,7 +5,7 @@ ghost use Rattle.std.specs.Str.{IsCharBoundary};
 ghost use Rattle.rox_grammar.specs.Search as spec;
 ghost use Rattle.rox_grammar.specs.Constructs.{has_mark};
 
-use memchr::{memchr, memchr2};
+use memchr::{memchr, memchr2, memmem};
 
 /// The first place from `at` on of the byte, or the end.
 #[inline]
@@ -43,6 +43,18 @@ pub fn before_mark(bytes: &[u8], mark: &[u8]) -> usize
         at = next + 1;
     }
     bytes.len()
+}
+
+/// The same in time that grows as the bytes do, whatever they are.
+#[inline]
+fn before_found(bytes: &[u8], mark: &[u8]) -> usize
+    requires { 0 < length mark.now }
+    ensures value { result ≡ spec.before_mark mark.now bytes.now }
+    ensures within { result ≤ length bytes.now }
+    ensures found { result < length bytes.now
+        → slice_index bytes.now result ≡ slice_index mark.now 0 }
+{
+    memmem::find(bytes, mark).unwrap_or(bytes.len())
 }
 
 /// How many bytes come before the first of this byte, or all.
@@ -87,7 +99,7 @@ pub fn mark_from(text: &str, at: usize, mark: &[u8]) -> usize
     ensures onward { at ≤ result }
     ensures cut { IsCharBoundary text.now result }
 {
-    at + before_mark(text[at..].as_bytes(), mark)
+    at + before_found(text[at..].as_bytes(), mark)
 }
 
 /// The first place from `at` on of the byte, or the end.
