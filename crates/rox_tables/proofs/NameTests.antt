@@ -1,5 +1,5 @@
 -- The names of a tag in a scope, one by one.
-use Rattle.std.proofs.Common.{◌≡◌, ℕ, ◌<◌, ◌==◌, ◌||◌, Bool, true, false, List, [], ◌∷◌, ◌++◌, length, map, refl, sym, ap, ◌∙◌, arith, Some, None, Err, bytes_eq}
+use Rattle.std.proofs.Common.{◌≡◌, ℕ, ◌<◌, ◌==◌, ◌||◌, Bool, true, false, List, [], ◌∷◌, ◌++◌, length, map, refl, sym, ap, ◌∙◌, arith, Some, None, Err, bytes_eq, Option, drop}
 use Rattle.std.proofs.lemmas.Bool.Decides.{nat_tests}
 use Rattle.std.specs.List.{list_any}
 use Rattle.rox_grammar.specs.declared.fault.Fault.TheVariants as fault
@@ -11,8 +11,15 @@ use Rattle.rox_grammar.specs.Tree.{same_prefix, is_declared, uri_of, none_if_emp
 use Rattle.rox_grammar.specs.WellNamed.{is_known, same_expanded, may_name}
 use Rattle.rox_reading.specs.Tags.{names_tested}
 use Rattle.rox_tables.specs.declared.rows.tables.AttributeNamespace.{AttributeNamespace}
-use Rattle.rox_tables.specs.Rows.{attribute, namespace_at, attribute_uri, AttributeRow}
-use Rattle.rox_tables.specs.ResolvedNames.{has_expanded}
+use Rattle.rox_tables.specs.Rows.{attribute, namespace_at, attribute_uri, AttributeRow, NamespaceWithin}
+use Rattle.rox_grammar.specs.Failures.{name_view}
+use Rattle.rox_tables.specs.Bindings.{FindsBinding}
+use Rattle.rox_tables.specs.TagDeclarations.{unresolved_view}
+use Rattle.rox_tables.specs.ResolvedNames.{AddsResolved, has_expanded, row_of_unresolved, row_of_usual}
+use Rattle.rox_tables.specs.declared.rows.tables.AttributeData.{AttributeData}
+use Rattle.rox_tables.specs.declared.namespaces.bindings.PrefixBindings.{PrefixBindings}
+use Rattle.rox_tables.specs.declared.namespaces.unresolved_attribute.UnresolvedAttribute.{UnresolvedAttribute}
+use Rattle.rox_tables.specs.declared.namespaces.unresolved_attribute.UsualAttribute.{UsualAttribute}
 use Rattle.rox_tables.proofs.Pairs.{declared_some, declared_none}
 
 -- a text of no bytes is the empty one
@@ -90,3 +97,28 @@ pub tested_on : (scope : List NamespaceDecl) (before : List Attribute) (a : Attr
     → names_tested scope before (a ∷ rest) ≡ names_tested scope (before ++ a ∷ []) rest
 unfolding names_tested
 tested_on scope before a rest h k = rw (h, k) refl
+
+-- ---- one more attribute, as most are written
+
+-- some row has an expanded name where what some row is has it
+pub any_column : (P : AttributeData → Bool) (rows : List AttributeRow) → list_any (λ (r : AttributeRow). P r.0) rows ≡ list_any P (map (λ (r : AttributeRow). r.0) rows)
+any_column P [] = refl
+any_column P (r ∷ rs) = rw (any_column P rs) refl
+
+-- its row is behind those of its tag, none of which has its expanded name
+pub adds_usual : (namespaces : List NamespaceDecl) (few : Option (List ℕ)) (present : PrefixBindings) (from : ℕ) (old new : List AttributeRow) (one : UnresolvedAttribute) (usual : UsualAttribute) (s : AttributeNamespace)
+    → row_of_unresolved one s ≡ row_of_usual usual s → new ≡ old ++ row_of_usual usual s ∷ [] → NamespaceWithin (length namespaces) s
+    → ((scope : List NamespaceDecl) → FindsBinding namespaces few present scope → attribute_uri namespaces s ≡ attribute_namespace scope (name_view one.name))
+    → ((scope : List NamespaceDecl) → FindsBinding namespaces few present scope → is_known scope (name_view one.name) ≡ true)
+    → list_any (λ (r : AttributeRow). has_expanded namespaces s one.name.local.now r.0) (drop from old) ≡ false
+    → AddsResolved namespaces few present from old new one
+adds_usual namespaces few present from old new one usual s row grown within there known first = record {
+  namespace = s;
+  rows = grown ∙ ap (λ (r : AttributeRow). old ++ r ∷ []) (sym row);
+  within = within;
+  there = there;
+  tested = λ scope before rest h shown.
+      let P = has_expanded namespaces s one.name.local.now in
+      let none = sym (repeated_is namespaces scope s (name_view one.name) (drop from old) before (there scope h) shown) ∙ sym (any_column P (drop from old)) ∙ first in
+      tested_on scope before (unresolved_view one) rest (known scope h) none;
+}

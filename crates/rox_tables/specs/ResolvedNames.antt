@@ -10,6 +10,9 @@ use Rattle.rox_tables.specs.declared.namespaces.bindings.PrefixBindings.{PrefixB
 use Rattle.rox_reading.specs.Tags.{names_tested}
 use Rattle.rox_tables.specs.Rows.{AttributeRow, NamespaceWithin, attribute, attribute_uri}
 use Rattle.rox_tables.specs.declared.namespaces.unresolved_attribute.UnresolvedAttribute.{UnresolvedAttribute}
+use Rattle.rox_tables.specs.declared.namespaces.unresolved_attribute.UsualAttribute.{UsualAttribute}
+use Rattle.rox_tables.specs.declared.rows.storage.StringStorage.TheVariants.{Borrowed}
+use Rattle.rox_tables.specs.UsualPlaces.{usual_places}
 use Rattle.rox_tables.specs.declared.rows.tables.AttributeNamespace.{AttributeNamespace}
 use Rattle.rox_tables.specs.declared.rows.tables.AttributeData.{AttributeData}
 
@@ -18,6 +21,13 @@ abbrev pub row_of_unresolved : UnresolvedAttribute → AttributeNamespace → At
 row_of_unresolved t s = (
   record { local = t.name.local; value = t.value; namespace = s },
   record { start = t.start; name_end = t.name_end; value_start = t.value_start; end = t.end },
+)
+
+-- the row of an attribute that is written as most are, in this namespace
+abbrev pub row_of_usual : UsualAttribute → AttributeNamespace → AttributeRow
+row_of_usual t s = (
+  record { local = t.local; value = Borrowed t.value; namespace = s },
+  usual_places t.start t.before (length t.local.now) (length t.value.now),
 )
 
 -- an attribute's row has this expanded name: the URI of this namespace, and this local name

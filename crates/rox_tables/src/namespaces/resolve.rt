@@ -17,7 +17,7 @@ ghost use Rattle.rox_tables.specs.Storage.{storage_bytes};
 ghost use Rattle.rox_tables.specs.Scopes.{prefix_view};
 ghost use Rattle.rox_tables.specs.Bindings.{FindsBinding, LooksWithin, places_view};
 ghost use Rattle.rox_tables.specs.TagDeclarations.{unresolved_view};
-ghost use Rattle.rox_tables.specs.ResolvedNames.{row_of_unresolved, has_expanded, Tested, AddsResolved};
+ghost use Rattle.rox_tables.specs.ResolvedNames.{row_of_unresolved, row_of_usual, has_expanded, Tested, AddsResolved};
 ghost use Rattle.rox_tables.specs.ExpandedNames.{HasExpandedNames, TestedOr};
 ghost use Rattle.rox_tables.specs.SeenNames.{name_code, HasCode, HasNameOf, AreSeen};
 
@@ -25,9 +25,9 @@ use crate::compare::same_text;
 use crate::namespaces::bindings::PrefixBindings;
 use crate::namespaces::expanded_names::is_repeated_name;
 use crate::namespaces::namespace_decl::{local_span, prefix_span};
-use crate::namespaces::scope::{XML_URI, find, find_default, same_prefix};
+use crate::namespaces::scope::{XML_URI, find_default, find_prefix, same_prefix};
 use crate::namespaces::seen_names::SeenNames;
-use crate::namespaces::unresolved_attribute::UnresolvedAttribute;
+use crate::namespaces::unresolved_attribute::{UnresolvedAttribute, UsualAttribute};
 use crate::rows::attributes::AttributeTable;
 use crate::rows::storage::StringStorage;
 use crate::rows::stored_attribute::{StoredAttribute, UNUSUAL};
@@ -46,8 +46,8 @@ const MOST: usize = 128;
 
 /// The namespace of an attribute's name in this scope: none without a prefix, and its own for `xml`. Answers `None` where
 /// the prefix is not known.
-#[inline]
-fn attribute_namespace(
+#[inline(always)]
+pub fn attribute_namespace(
     namespaces: &[Namespace<'_>],
     few: Option<&[u16]>,
     present: &PrefixBindings<'_>,
@@ -72,7 +72,7 @@ fn attribute_namespace(
     if same_text(name.prefix, "xml") {
         return Some(AttributeNamespace::Xml);
     }
-    match find(namespaces, few, present, Some(name.prefix)) {
+    match find_prefix(namespaces, few, present, name.prefix) {
         Some(place) => Some(AttributeNamespace::Listed(place)),
         None => None,
     }
@@ -333,6 +333,81 @@ pub fn put_resolved<'input>(
     true
 }
 
+/// Whether an attribute behind these of its tag, which were seen, is refused: one of them has its expanded name, or many codes of
+/// names came again. Its name is seen behind them. Where no name had its code, this takes no call.
+#[inline(always)]
+fn is_refused(
+    namespaces: &[Namespace<'_>],
+    done: &[StoredAttribute<'_>],
+    seen: &mut SeenNames,
+    namespace: AttributeNamespace,
+    local: &str,
+) -> bool
+    requires done { AllByRecursion
+        (λ a. NamespaceWithin (length namespaces.now) (data_of a).namespace) done.now }
+    requires other { NamespaceWithin (length namespaces.now) namespace }
+    requires seen { AllByRecursion (λ a. HasNameOf seen.old.codes (data_of a)) done.now }
+    ensures first { result ≡ false → list_any
+        (λ a. has_expanded (map namespace_view namespaces.now) namespace local.now
+        (data_of a)) done.now ≡ false }
+    ensures put { HasCode seen.new.codes (name_code local.now) }
+    ensures from { seen.new.from ≡ seen.old.from }
+    ensures kept { (code : ℕ) → HasCode seen.old.codes code → HasCode seen.new.codes code }
+{
+    let came = seen.put(local);
+    if !came {
+        return false;
+    }
+    if seen.are_many_again() {
+        return true;
+    }
+    seen.count_again();
+    is_among(namespaces, done, namespace, local)
+}
+
+/// Puts an attribute that is usual behind those of its tag, which were `seen`, with this namespace: whether its expanded name is
+/// none of theirs, few codes of names came again, and there is room for it. Else the table is as before.
+#[inline(always)]
+pub fn put_usual_attribute<'input>(
+    namespaces: &[Namespace<'input>],
+    attributes: &mut AttributeTable<'input>,
+    seen: &mut SeenNames,
+    namespace: AttributeNamespace,
+    one: UsualAttribute<'input>,
+) -> bool
+    requires namespace { NamespaceWithin (length namespaces.now) namespace }
+    requires from { seen.old.from ≤ length (attribute_rows attributes.old) }
+    requires done { AllByRecursion (λ a. NamespaceWithin (length namespaces.now) a.0.namespace)
+        (drop seen.old.from (attribute_rows attributes.old)) }
+    requires seen { AreSeen seen.old (attribute_rows attributes.old) }
+    ensures refused { result ≡ false
+        → attribute_rows attributes.new ≡ attribute_rows attributes.old }
+    ensures added { result ≡ true
+        → attribute_rows attributes.new
+        ≡ attribute_rows attributes.old ++ row_of_usual one.entry namespace ∷ [] }
+    ensures first { result ≡ true → list_any
+        (λ r. has_expanded (map namespace_view namespaces.now) namespace one.entry.local.now r.0)
+        (drop seen.old.from (attribute_rows attributes.old)) ≡ false }
+    ensures from { seen.new.from ≡ seen.old.from }
+    ensures seen { result ≡ true → AreSeen seen.new (attribute_rows attributes.new) }
+{
+    let others = &attributes.items[seen.from..];
+    if is_refused(namespaces, others, seen, namespace, one.local) {
+        return false;
+    }
+    let places = one.places();
+    if !attributes.has_room(places.end) {
+        return false;
+    }
+    let item = AttributeData {
+        local: one.local,
+        value: StringStorage::Borrowed(one.value),
+        namespace,
+    };
+    attributes.put_usual(item, places, one.before);
+    true
+}
+
 /// The same of an attribute whose value may be of any length: room is made for it.
 #[inline(always)]
 pub fn put_changed<'input>(
@@ -493,7 +568,7 @@ pub fn element_namespace(
     if name.prefix.is_empty() {
         return Ok(find_default(namespaces, few, present));
     }
-    match find(namespaces, few, present, Some(name.prefix)) {
+    match find_prefix(namespaces, few, present, name.prefix) {
         Some(place) => Ok(Some(place)),
         None => Err(Fault::UnknownNamespace(prefix_span(name.prefix, at), at)),
     }

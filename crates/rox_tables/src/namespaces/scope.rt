@@ -70,6 +70,25 @@ pub fn default_place(namespaces: &[Namespace<'_>], places: &[u16]) -> Option<u16
     None
 }
 
+/// The first of these places whose namespace has this prefix.
+#[inline(always)]
+pub fn prefix_place(namespaces: &[Namespace<'_>], places: &[u16], prefix: &str) -> Option<u16>
+    requires { ArePlaces (length namespaces.now) places.now }
+    ensures there { IfSome result (λ i. (i < length namespaces.now)
+        × (uri_of (entries (map namespace_view namespaces.now) places.now) (Some prefix.now)
+        ≡ Some (namespace_at (map namespace_view namespaces.now) i).uri)) }
+    ensures absent { IfNone result
+        (uri_of (entries (map namespace_view namespaces.now) places.now) (Some prefix.now)
+        ≡ None) }
+{
+    for place in places {
+        if same_prefix(namespaces[*place as usize].name, Some(prefix)) {
+            return Some(*place);
+        }
+    }
+    None
+}
+
 /// The listed places of a scope, where they are few.
 #[inline(always)]
 pub fn few_places<'a>(scopes: &[Scope], listed: &'a [u16], scope: u32) -> Option<&'a [u16]>
@@ -84,24 +103,24 @@ pub fn few_places<'a>(scopes: &[Scope], listed: &'a [u16], scope: u32) -> Option
     }
 }
 
-/// The place of this prefix, or of the default: the first among these places, where they are few, and else as it is present.
-#[inline]
-pub fn find(
+/// The place of this prefix: the first among these places, where they are few, and else as it is present.
+#[inline(always)]
+pub fn find_prefix(
     namespaces: &[Namespace<'_>],
     few: Option<&[u16]>,
     present: &PrefixBindings<'_>,
-    prefix: Option<&str>,
+    prefix: &str,
 ) -> Option<u16>
     requires { LooksWithin (length namespaces.now) (places_view few) present.now }
     ensures within { OptionWithin (length namespaces.now) result }
     ensures value { option_map
         (λ i. (namespace_at (map namespace_view namespaces.now) i).uri) result
         ≡ looked_up (map namespace_view namespaces.now) (places_view few.entry) present.now
-        (prefix_view prefix.entry) }
+        (Some prefix.now) }
 {
     match few {
-        Some(places) => place_of(namespaces, places, prefix),
-        None => match present.get(prefix) {
+        Some(places) => prefix_place(namespaces, places, prefix),
+        None => match present.get(Some(prefix)) {
             Some(place) => Some(place.namespace),
             None => None,
         },

@@ -1,8 +1,10 @@
 //! An attribute of a start tag as it is taken from the text.
 
-ghost use Rattle.std.specs.Prelude.{◌<◌, ◌^◌};
+ghost use Rattle.std.specs.Prelude.{◌≡◌, ◌<◌, ◌+◌, ◌^◌, length};
+ghost use Rattle.rox_tables.specs.UsualPlaces.{usual_places};
 
 use crate::rows::storage::StringStorage;
+use crate::rows::tables::AttributePlaces;
 use rox_grammar::name::QName;
 
 /// An attribute of the tag that is being read, whose namespace is not known yet.
@@ -15,4 +17,36 @@ pub struct UnresolvedAttribute<'input> {
     pub name: QName<'input>,
     pub value: StringStorage<'input>,
     pub ghost placed: { start < 2 ^ 63 },
+}
+
+/// An attribute as most are written, whose places follow from its start: `=` and its quote stand right behind its name, and its
+/// value stands for itself.
+#[derive(Clone, Copy)]
+pub struct UsualAttribute<'input> {
+    pub start: u32,
+    /// How many bytes of the name stand before its local part: its prefix and the colon.
+    pub before: u8,
+    pub local: &'input str,
+    pub value: &'input str,
+    pub ghost usual: { before < 255 },
+    pub ghost ends: { start + before + length local.now + length value.now + 3 < 2 ^ 64 },
+}
+
+impl<'input> UsualAttribute<'input> {
+    /// Where it stands.
+    #[inline(always)]
+    pub(crate) fn places(self) -> AttributePlaces
+        ensures { result ≡ usual_places self.entry.start self.entry.before (length self.entry.local.now) (length self.entry.value.now) }
+    {
+        let start = self.start as usize;
+        let name_end = start + self.before as usize + self.local.len();
+        let value_start = name_end + 2;
+        let end = value_start + self.value.len() + 1;
+        AttributePlaces {
+            start,
+            name_end,
+            value_start,
+            end,
+        }
+    }
 }
