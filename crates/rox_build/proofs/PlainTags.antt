@@ -14,6 +14,7 @@ use Rattle.rox_grammar.specs.Document.{most_attributes}
 use Rattle.rox_tables.specs.Rows.{scope_at, namespace_at, OptionWithin, attribute_rows}
 use Rattle.rox_tables.specs.Scopes.{ArePlaces, entries, places_in}
 use Rattle.rox_tables.specs.TagScopes.{lists_in}
+use Rattle.rox_tables.specs.UsualPlaces.{usual_places}
 use Rattle.rox_tables.specs.declared.rows.tables.ElementData.{ElementData}
 use Rattle.rox_tables.specs.declared.rows.tables.ElementTables.{ElementTables}
 use Rattle.rox_tables.specs.declared.rows.tables.Scope.{Scope}
@@ -47,8 +48,9 @@ use Rattle.rox_build.specs.PlainTag.{IsValueStart, IsPlainAttribute, PlainSoFar,
 use Rattle.std.specs.Str.{IsUtf8, IsCharBoundary}
 use Rattle.std.proofs.lemmas.Bool.Decides.{nat_tests}
 use Rattle.std.proofs.lemmas.Str.{IsCharBoundary-after_ascii}
-use Rattle.rox_grammar.specs.Chars.{is_space}
-use Rattle.rox_scan.proofs.RunLemmas.{run_stops_ascii, space_on, space_stops, space_cut}
+use Rattle.rox_grammar.specs.Chars.{is_space, is_name_start}
+use Rattle.rox_grammar.specs.Runs.{begins}
+use Rattle.rox_scan.proofs.RunLemmas.{begins_ascii, run_stops_ascii, space_on, space_stops, space_cut}
 use Rattle.rox_build.proofs.Items.{stands_within}
 
 -- a byte that stands there
@@ -127,6 +129,11 @@ attribute_reads src i name n s q j e named v here quote some value behind done =
     let quoted = subst (λ (k : ℕ). slice_index src k ≡ q) place here in
     let read = subst (λ (k : ℕ). raw_value_at q src k ≡ Ok (slice_range src k j, j)) v.start value in
     rw (v.start, done) (attribute_is src i name n v.equals v.before q j named v.spaces v.is v.spaces_behind quoted v.within quote some read behind)
+
+-- where one stands that is written as most are
+pub usual_are : (start before local value n s e : ℕ) → n ≡ start + before + local → s ≡ n + 2 → e ≡ s + value + 1
+    → usual_places start before local value ≡ record { start = start; name_end = n; value_start = s; end = e }
+usual_are start before local value n s e name from end = rw (end, from, name) refl
 
 -- ---- what a tag holds next
 
@@ -278,6 +285,31 @@ pub closes_or_not : (namespaces : List NamespaceDecl) (few : Option (List ℕ)) 
 closes_or_not namespaces few present src start old i j now None g onward spaces here behind place = tt
 closes_or_not namespaces few present src start old i j now (Some e) g onward spaces here behind place =
     rw (place.0, place.1) (closes_there namespaces few present src start old i j now g onward spaces here behind)
+
+pub ends_or_not : (namespaces : List NamespaceDecl) (few : Option (List ℕ)) (present : PrefixBindings) (src : List ℕ) (start : ℕ) (old : List AttributeRow) (i j : ℕ) (now : List AttributeRow) (r : Option TagEnd)
+    → PlainSoFar namespaces few present src start old i now → i ≤ j → j ≡ spaces_end src i
+    → IfSome r (λ e. e.empty ≡ false → (slice_index src j ≡ 62) × (e.at ≡ j + 1))
+    → IfSome r (λ e. e.empty ≡ true → (slice_index src j ≡ 47) × ((slice_index src (j + 1) ≡ 62) × (e.at ≡ j + 2)))
+    → IfSome r (λ e. ArePlainAttributes namespaces few present src start old e.at e.empty now)
+ends_or_not namespaces few present src start old i j now None g onward spaces opens closes = tt
+ends_or_not namespaces few present src start old i j now (Some e) g onward spaces opens closes = which e.empty refl
+  where
+    which : (b : Bool) → e.empty ≡ b → ArePlainAttributes namespaces few present src start old e.at e.empty now
+    which false is = let o = opens is in rw (o.1, is) (opens_there namespaces few present src start old i j now g onward spaces o.0)
+    which true is = let c = closes is in rw (c.1.1, is) (closes_there namespaces few present src start old i j now g onward spaces c.0 c.1.0)
+
+-- a name begins with no other byte
+begins_apart : (src : List ℕ) (j b : ℕ) → IsUtf8 src → begins is_name_start src j ≡ true → 0 < b → b < 128 → is_name_start b ≡ false → (slice_index src j == b) ≡ false
+begins_apart src j b utf8 begins some ascii other =
+    ne_eqb (slice_index src j) b (λ is.
+    let within = stands_within src j b is some in
+    let here = begins_ascii is_name_start src j utf8 within (omega (arith, is)) in
+    cc (here, begins, is, other))
+
+-- so there the tag does not end
+pub begins_no_end : (src : List ℕ) (j : ℕ) → IsUtf8 src → begins is_name_start src j ≡ true → ((slice_index src j == 47) ≡ false) × ((slice_index src j == 62) ≡ false)
+unfolding is_name_start
+begins_no_end src j utf8 begins = (begins_apart src j 47 utf8 begins (omega arith) (omega arith) refl, begins_apart src j 62 utf8 begins (omega arith) (omega arith) refl)
 
 -- the attributes of the tag so far are in their namespaces
 pub done_within : (ns : List Namespace) (few : Option (List ℕ)) (present : PrefixBindings) (src : List ℕ) (start from : ℕ) (old : List AttributeRow) (i : ℕ) (now : List AttributeRow)

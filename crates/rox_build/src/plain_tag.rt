@@ -9,6 +9,7 @@ ghost use Rattle.rox_grammar.specs.Runs.{run_end, begins};
 ghost use Rattle.rox_grammar.specs.Failures.{name_view};
 ghost use Rattle.rox_grammar.specs.Content.{is_verbatim_value};
 ghost use Rattle.rox_reading.specs.Lexical.{qname_at};
+ghost use Rattle.rox_scan.specs.ByteSets.{AllPass, is_part_byte};
 ghost use Rattle.rox_reading.specs.Markup.{raw_value_at};
 ghost use Rattle.rox_reading.specs.Values.{is_special};
 ghost use Rattle.rox_tables.specs.Storage.{storage_bytes};
@@ -28,18 +29,21 @@ use crate::builder::OpenElement;
 use crate::spaced_value::spaced_value;
 use crate::tag::{MOST_ATTRIBUTES, StartTag, byte_count};
 use rox_grammar::name::QName;
-use rox_scan::byte_set::{ValueByte, far_space_end, part_end, skip_set};
+use rox_scan::byte_set::{PartByte, ValueByte, far_space_end, part_end, skip_set};
 use rox_scan::lookahead::{is_special, scan_value};
 use rox_scan::runs::{NameStart, after_byte, begins, is_at, space_end};
 use rox_tables::compare::same_text;
 use rox_tables::namespaces::bindings::PrefixBindings;
 use rox_tables::namespaces::namespace_decl::is_namespace_decl;
-use rox_tables::namespaces::resolve::{element_namespace, put_changed, put_resolved};
+use rox_tables::namespaces::resolve::{
+    attribute_namespace, element_namespace, put_changed, put_resolved, put_usual_attribute,
+};
 use rox_tables::namespaces::scope::few_places;
 use rox_tables::namespaces::seen_names::SeenNames;
-use rox_tables::namespaces::unresolved_attribute::UnresolvedAttribute;
+use rox_tables::namespaces::unresolved_attribute::{UnresolvedAttribute, UsualAttribute};
 use rox_tables::rows::attributes::AttributeTable;
 use rox_tables::rows::storage::StringStorage;
+use rox_tables::rows::stored_attribute::UNUSUAL;
 use rox_tables::rows::tables::{ElementData, ElementTables, Namespace};
 use std::alloc::Global;
 
@@ -190,10 +194,10 @@ fn quote_here(text: &str, at: usize) -> u8
     }
 }
 
-/// Where the value begins of an attribute whose name ends at `at`, behind white space, if a quote stands there; else 0.
+/// Where the value begins of an attribute whose name ends at `at`, if a quote stands there; else 0. White space may stand round the `=`.
 #[cold]
 #[inline(never)]
-fn spaced_value_start(text: &str, at: usize) -> usize
+fn value_start(text: &str, at: usize) -> usize
     requires { IsCharBoundary text.now at }
     ensures { 0 < result → IsValueStart text.now at result }
 {
@@ -207,22 +211,6 @@ fn spaced_value_start(text: &str, at: usize) -> usize
         return 0;
     }
     after_byte(text, before, quote)
-}
-
-/// The same, whatever stands round the `=`.
-#[inline(always)]
-fn value_start(text: &str, at: usize) -> usize
-    requires { IsCharBoundary text.now at }
-    ensures { 0 < result → IsValueStart text.now at result }
-{
-    if is_at(text, at, b'=') {
-        let behind = after_byte(text, at, b'=');
-        let quote = quote_here(text, behind);
-        if quote != 0 {
-            return after_byte(text, behind, quote);
-        }
-    }
-    spaced_value_start(text, at)
 }
 
 /// The quote behind which a value begins at `start`.
@@ -357,6 +345,238 @@ fn put_spaced_attribute<'input>(
     }
 }
 
+/// The same of one whose value stands for itself, however it is written.
+#[cold]
+#[inline(never)]
+fn put_other_attribute<'input>(
+    text: &'input str,
+    start: usize,
+    around: Around<'_, 'input>,
+    attributes: &mut AttributeTable<'input>,
+    seen: &mut SeenNames,
+) -> usize
+    requires cut { IsCharBoundary text.now start }
+    requires short { length text.now < 2 ^ 32 }
+    requires within { LooksWithin (length around.namespaces.now) (places_view around.few)
+        around.present.now }
+    requires from { seen.old.from ≤ length (attribute_rows attributes.old) }
+    requires done { AllByRecursion
+        (λ a. NamespaceWithin (length around.namespaces.now) a.0.namespace)
+        (drop seen.old.from (attribute_rows attributes.old)) }
+    requires seen { AreSeen seen.old (attribute_rows attributes.old) }
+    ensures added { 0 < result → AddsPlain (map namespace_view around.entry.namespaces.now)
+        (places_view around.entry.few) around.entry.present.now seen.old.from text.entry.now start
+        result (attribute_rows attributes.old) (attribute_rows attributes.new) }
+    ensures from { seen.new.from ≡ seen.old.from }
+    ensures seen { 0 < result → AreSeen seen.new (attribute_rows attributes.new) }
+    ensures refused { result ≡ 0
+        → attribute_rows attributes.new ≡ attribute_rows attributes.old }
+{
+    let Some(one) = plain_attribute(text, start) else {
+        return put_spaced_attribute(text, start, around, attributes, seen);
+    };
+    let name = one.name;
+    if is_namespace_decl(name) {
+        return 0;
+    }
+    let behind = one.end;
+    if !put_resolved(
+        around.namespaces,
+        around.few,
+        around.present,
+        attributes,
+        seen,
+        one,
+    ) {
+        return 0;
+    }
+    behind
+}
+
+/// The quote that stands behind a `=` at `at`, or 0.
+#[inline(always)]
+fn quote_behind_equals(text: &str, at: usize) -> u8
+    requires { at ≤ length text.now }
+    ensures equals { 0 < result → slice_index text.now at ≡ 61 }
+    ensures some { 0 < result → (slice_index text.now (at + 1) ≡ result)
+        × ((result == 39 || result == 34) ≡ true) }
+    ensures within { 0 < result → at + 1 < length text.now }
+{
+    let bytes = text.as_bytes();
+    if at + 1 >= bytes.len() || bytes[at] != b'=' {
+        return 0;
+    }
+    quote_here(text, at + 1)
+}
+
+/// The same of the attribute with this name, behind which `=` and this quote stand. Most are usual, and take no call.
+#[inline(always)]
+fn put_named_attribute<'input>(
+    text: &'input str,
+    start: usize,
+    read: PlainName<'input>,
+    quote: u8,
+    around: Around<'_, 'input>,
+    attributes: &mut AttributeTable<'input>,
+    seen: &mut SeenNames,
+) -> usize
+    requires cut { IsCharBoundary text.now start }
+    requires short { length text.now < 2 ^ 32 }
+    requires name { qname_at text.now start ≡ Ok (name_view read.name, read.end) }
+    requires local { start + length read.name.local.now ≤ read.end }
+    requires equals { slice_index text.now read.end ≡ 61 }
+    requires quote { slice_index text.now (read.end + 1) ≡ quote }
+    requires is_quote { (quote == 39 || quote == 34) ≡ true }
+    requires inside { read.end + 1 < length text.now }
+    requires within { LooksWithin (length around.namespaces.now) (places_view around.few)
+        around.present.now }
+    requires from { seen.old.from ≤ length (attribute_rows attributes.old) }
+    requires done { AllByRecursion
+        (λ a. NamespaceWithin (length around.namespaces.now) a.0.namespace)
+        (drop seen.old.from (attribute_rows attributes.old)) }
+    requires seen { AreSeen seen.old (attribute_rows attributes.old) }
+    ensures added { 0 < result → AddsPlain (map namespace_view around.entry.namespaces.now)
+        (places_view around.entry.few) around.entry.present.now seen.old.from text.entry.now start
+        result (attribute_rows attributes.old) (attribute_rows attributes.new) }
+    ensures from { seen.new.from ≡ seen.old.from }
+    ensures seen { 0 < result → AreSeen seen.new (attribute_rows attributes.new) }
+    ensures refused { result ≡ 0
+        → attribute_rows attributes.new ≡ attribute_rows attributes.old }
+{
+    let behind = after_byte(text, read.end, b'=');
+    let value_start = after_byte(text, behind, quote);
+    let Some(value_end) = plain_value_end(text, value_start, quote) else {
+        return put_spaced_attribute(text, start, around, attributes, seen);
+    };
+    if is_namespace_decl(read.name) {
+        return 0;
+    }
+    let before = read.end - start - read.name.local.len();
+    if before >= UNUSUAL as usize {
+        return put_other_attribute(text, start, around, attributes, seen);
+    }
+    let Some(namespace) = attribute_namespace(
+        around.namespaces,
+        around.few,
+        around.present,
+        read.name,
+    ) else {
+        return 0;
+    };
+    let one = UsualAttribute {
+        start: start as u32,
+        before: before as u8,
+        local: read.name.local,
+        value: &text[value_start..value_end],
+    };
+    if !put_usual_attribute(around.namespaces, attributes, seen, namespace, one) {
+        return 0;
+    }
+    after_byte(text, value_end, quote)
+}
+
+/// The same of an attribute behind whose first bytes, up to `part`, no `=` and quote stand: most often they are its prefix.
+#[inline(never)]
+fn put_prefixed_attribute<'input>(
+    text: &'input str,
+    start: usize,
+    part: usize,
+    around: Around<'_, 'input>,
+    attributes: &mut AttributeTable<'input>,
+    seen: &mut SeenNames,
+) -> usize
+    requires cut { IsCharBoundary text.now start }
+    requires short { length text.now < 2 ^ 32 }
+    requires begins { begins is_name_start text.now start ≡ true }
+    requires onward { start ≤ part }
+    requires inside { part ≤ length text.now }
+    requires passes { AllPass is_part_byte text.now start part }
+    requires stops { part < length text.now → is_part_byte (slice_index text.now part) ≡ false }
+    requires within { LooksWithin (length around.namespaces.now) (places_view around.few)
+        around.present.now }
+    requires from { seen.old.from ≤ length (attribute_rows attributes.old) }
+    requires done { AllByRecursion
+        (λ a. NamespaceWithin (length around.namespaces.now) a.0.namespace)
+        (drop seen.old.from (attribute_rows attributes.old)) }
+    requires seen { AreSeen seen.old (attribute_rows attributes.old) }
+    ensures added { 0 < result → AddsPlain (map namespace_view around.entry.namespaces.now)
+        (places_view around.entry.few) around.entry.present.now seen.old.from text.entry.now start
+        result (attribute_rows attributes.old) (attribute_rows attributes.new) }
+    ensures from { seen.new.from ≡ seen.old.from }
+    ensures seen { 0 < result → AreSeen seen.new (attribute_rows attributes.new) }
+    ensures refused { result ≡ 0
+        → attribute_rows attributes.new ≡ attribute_rows attributes.old }
+{
+    if !is_at(text, part, b':') {
+        return put_other_attribute(text, start, around, attributes, seen);
+    }
+    let Some(name) = second_part(text, start, part) else {
+        return 0;
+    };
+    let quote = quote_behind_equals(text, name.end);
+    if quote == 0 {
+        return put_other_attribute(text, start, around, attributes, seen);
+    }
+    put_named_attribute(text, start, name, quote, around, attributes, seen)
+}
+
+/// The name from `start` up to `part`, where its first part ends and `=` stands.
+#[inline(always)]
+#[tactic(auto, unfolding(rox_reading::specs::Lexical::qname_at))]
+fn whole_name<'input>(text: &'input str, start: usize, part: usize) -> PlainName<'input>
+    requires start { IsCharBoundary text.now start }
+    requires part { IsCharBoundary text.now part }
+    requires onward { start ≤ part }
+    requires first { part ≡ run_end is_part_char text.now start }
+    requires begins { begins is_name_start text.now start ≡ true }
+    requires here { slice_index text.now part ≡ 61 }
+    ensures value { qname_at text.entry.now start ≡ Ok (name_view result.name, result.end) }
+    ensures local { start + length result.name.local.now ≤ result.end }
+    ensures end { result.end ≡ part }
+{
+    let name = QName {
+        prefix: "",
+        local: &text[start..part],
+    };
+    PlainName { name, end: part }
+}
+
+/// The same of the attribute that begins at `start`. Most have no prefix.
+#[inline(always)]
+fn put_attribute<'input>(
+    text: &'input str,
+    start: usize,
+    around: Around<'_, 'input>,
+    attributes: &mut AttributeTable<'input>,
+    seen: &mut SeenNames,
+) -> usize
+    requires cut { IsCharBoundary text.now start }
+    requires short { length text.now < 2 ^ 32 }
+    requires begins { begins is_name_start text.now start ≡ true }
+    requires within { LooksWithin (length around.namespaces.now) (places_view around.few)
+        around.present.now }
+    requires from { seen.old.from ≤ length (attribute_rows attributes.old) }
+    requires done { AllByRecursion
+        (λ a. NamespaceWithin (length around.namespaces.now) a.0.namespace)
+        (drop seen.old.from (attribute_rows attributes.old)) }
+    requires seen { AreSeen seen.old (attribute_rows attributes.old) }
+    ensures added { 0 < result → AddsPlain (map namespace_view around.entry.namespaces.now)
+        (places_view around.entry.few) around.entry.present.now seen.old.from text.entry.now start
+        result (attribute_rows attributes.old) (attribute_rows attributes.new) }
+    ensures from { seen.new.from ≡ seen.old.from }
+    ensures seen { 0 < result → AreSeen seen.new (attribute_rows attributes.new) }
+    ensures refused { result ≡ 0
+        → attribute_rows attributes.new ≡ attribute_rows attributes.old }
+{
+    let part = skip_set::<PartByte>(text, start);
+    let quote = quote_behind_equals(text, part);
+    if quote == 0 {
+        return put_prefixed_attribute(text, start, part, around, attributes, seen);
+    }
+    let name = whole_name(text, start, part);
+    put_named_attribute(text, start, name, quote, around, attributes, seen)
+}
+
 /// How a start tag ends: behind which place, and whether it is empty.
 #[derive(Clone, Copy)]
 struct TagEnd {
@@ -382,29 +602,45 @@ fn empty_end(text: &str, at: usize) -> Option<TagEnd>
     })
 }
 
-/// Where the white space that begins at `at` ends. Most often there is none, or it is one space.
+/// Where the white space that begins at `at` ends, before the last byte. Most often it is one space, or there is none.
 #[inline(always)]
 fn near_space_end(text: &str, at: usize) -> usize
-    requires { IsCharBoundary text.now at }
+    requires cut { IsCharBoundary text.now at }
+    requires within { at + 1 < length text.now }
     ensures end { result ≡ run_end is_space text.now at }
     ensures onward { at ≤ result }
     ensures cut { IsCharBoundary text.now result }
 {
     let bytes = text.as_bytes();
-    if at + 1 >= bytes.len() {
-        return far_space_end(text, at);
+    if bytes[at] == b' ' && bytes[at + 1] > b' ' {
+        return after_byte(text, at, b' ');
     }
     if bytes[at] > b' ' {
         return at;
     }
-    if bytes[at] == b' ' && bytes[at + 1] > b' ' {
-        return after_byte(text, at, b' ');
-    }
     far_space_end(text, at)
 }
 
-/// A plain tag has less than so many attributes: the general step puts the names of more into a set.
-const FEW: usize = 129;
+/// The end of a start tag, if it stands at `at`.
+#[inline(always)]
+fn tag_end(text: &str, at: usize) -> Option<TagEnd>
+    ensures opens { IfSome result (λ e. e.empty ≡ false
+        → (slice_index text.now at ≡ 62) × (e.at ≡ at + 1)) }
+    ensures closes { IfSome result (λ e. e.empty ≡ true → (slice_index text.now at ≡ 47)
+        × ((slice_index text.now (at + 1) ≡ 62) × (e.at ≡ at + 2))) }
+    ensures cut { IfSome result (λ e. IsCharBoundary text.now e.at) }
+{
+    if is_at(text, at, b'>') {
+        return Some(TagEnd {
+            at: after_byte(text, at, b'>'),
+            empty: false,
+        });
+    }
+    if is_at(text, at, b'/') {
+        return empty_end(text, at);
+    }
+    None
+}
 
 /// The attributes of a tag, up to its end, if they are plain and find room: each goes into the table, with its namespace in this
 /// scope. Else some may stand there too.
@@ -430,37 +666,18 @@ fn some_attributes<'input>(
 {
     let mut seen = SeenNames::new(attributes.len());
     let mut at = start;
-    for _turn in 0..FEW {
+    while at + 1 < text.len() {
         let here = near_space_end(text, at);
-        if is_at(text, here, b'>') {
-            return Some(TagEnd {
-                at: after_byte(text, here, b'>'),
-                empty: false,
-            });
+        if here == at || !begins::<NameStart>(text, here) {
+            return tag_end(text, here);
         }
-        if is_at(text, here, b'/') {
-            return empty_end(text, here);
-        }
-        if here == at {
-            return None;
-        }
-        let Some(one) = plain_attribute(text, here) else {
-            let around = Around {
-                namespaces,
-                few,
-                present,
-            };
-            at = put_spaced_attribute(text, here, around, attributes, &mut seen);
-            if at == 0 {
-                return None;
-            }
-            continue;
+        let around = Around {
+            namespaces,
+            few,
+            present,
         };
-        if is_namespace_decl(one.name) {
-            return None;
-        }
-        at = one.end;
-        if !put_resolved(namespaces, few, present, attributes, &mut seen, one) {
+        at = put_attribute(text, here, around, attributes, &mut seen);
+        if at == 0 {
             return None;
         }
     }

@@ -7,16 +7,16 @@ returns-then-bytes-at-gt32-clause-end c =
     let src = c.args.text.now in
     let i = c.args.at in
     let bytes = c.as_bytes-bytes.ensures in
-    let within = c.if-at-bytes.false in
-    let here = c.if-bytes-at-gt32.true in
-    no_space src i c.utf8.text c.requires (omega (arith, within, bytes.len)) (rw bytes.value at here)
+    let within = c.requires.within in
+    let here = rw bytes.value at c.if-bytes-at-eq32.true in
+    let behind = rw bytes.value at c.if-bytes-at-gt32.true in
+    c.after_byte.ensures.place ∙ one_space src i c.utf8.text within here behind
 
 pub returns-then-bytes-at-gt32-2-clause-end : goal.returns-then-bytes-at-gt32-2-clause-end
 returns-then-bytes-at-gt32-2-clause-end c =
     let src = c.args.text.now in
     let i = c.args.at in
     let bytes = c.as_bytes-bytes.ensures in
-    let within = c.if-at-bytes.false in
-    let here = c.if-bytes-at-eq32.true in
-    let behind = c.if-bytes-at-gt32-2.true in
-    c.after_byte.ensures.place ∙ one_space src i c.utf8.text (omega (arith, within, bytes.len)) (rw bytes.value at here) (rw bytes.value at behind)
+    let within = c.requires.within in
+    let here = c.if-bytes-at-gt32-2.true in
+    no_space src i c.utf8.text c.requires.cut (omega arith) (rw bytes.value at here)

@@ -1,4 +1,4 @@
-use Rattle.std.proofs.Common.{◌≡◌, length, map}
+use Rattle.std.proofs.Common.{◌≡◌, ◌-◌, length, map}
 use Rattle.std.specs.Str.{IsCharBoundary}
 use Rattle.rox_tables.specs.Bindings.{places_view}
 use Rattle.rox_tables.specs.Rows.{namespace_view, attribute_rows}
@@ -6,10 +6,13 @@ use Rattle.rox_tables.specs.SeenNames.{AreSeen}
 use Rattle.rox_build.specs.PlainTag.{PlainSoFar}
 use Rattle.rox_build.proofs.plain_tag.some_attributes.Given as goal
 
-abbrev pub invariant-loop-turn : goal.invariant-loop-turn
-invariant-loop-turn l = record {
+abbrev pub invariant-loop-at : goal.invariant-loop-at
+invariant-loop-at l = record {
   from : l.seen.from ≡ length (attribute_rows l.fn.attributes);
   seen : AreSeen l.seen (attribute_rows l.attributes);
   cut : IsCharBoundary l.text l.at;
   so_far : PlainSoFar (map namespace_view l.namespaces) (places_view l.few) l.present l.text l.start (attribute_rows l.fn.attributes) l.at (attribute_rows l.attributes);
 }
+
+abbrev pub decreases-loop-at : goal.decreases-loop-at
+decreases-loop-at l = length l.text - l.at

@@ -1,19 +1,27 @@
-use Rattle.std.proofs.Common.{◌≡◌, ◌<◌, slice_index, sym, ap, subst, ◌∙◌, ◌==◌, ◌||◌, true, arith}
+use Rattle.std.proofs.Common.{◌<◌, sym, ap, ◌∙◌, ◌==◌, ◌||◌, arith}
 use Rattle.std.proofs.lemmas.Bool.{eqb-true}
-use Rattle.rox_build.specs.PlainTag.{IsValueStart}
-use Rattle.rox_build.proofs.PlainTags.{value_starts}
+use Rattle.rox_grammar.specs.Names.{spaces_end}
 use Rattle.rox_build.proofs.plain_tag.value_start.Goals as goal
 
-pub returns-then-quote-ne0 : goal.returns-then-quote-ne0
-returns-then-quote-ne0 c = λ _.
+pub returns : goal.returns
+returns c = λ _.
     let src = c.args.text.now in
-    let i = c.args.at in
+    let e = c.space_end-equals in
+    let b = c.space_end-before in
     let some : 0 < c.quote_here-quote.result = omega arith in
     let quoted = c.quote_here-quote.ensures.some some in
-    let inside = c.quote_here-quote.ensures.within some in
-    let place = c.after_byte-behind.ensures.place in
-    let done = c.after_byte.ensures.place in
-    let is : slice_index src i ≡ 61 = eqb-true _ _ (sym c.is_at.ensures ∙ c.if-is_at.true) in
-    let here : (slice_index src c.after_byte-behind.result == 39 || slice_index src c.after_byte-behind.result == 34) ≡ true = ap (λ n. n == 39 || n == 34) quoted.0 ∙ quoted.1 in
-    let quote = subst (λ n. (slice_index src n == 39 || slice_index src n == 34) ≡ true) place here in
-    subst (IsValueStart src i) (omega (arith, place, done)) (value_starts src i c.utf8.text (omega (arith, place, inside)) is quote)
+    let order1 = e.ensures.onward in
+    let order2 = b.ensures.onward in
+    let place = c.after_byte.ensures.place in
+    record {
+      equals = e.result;
+      before = b.result;
+      spaces = e.ensures.end;
+      is = eqb-true _ _ (sym c.is_at.ensures ∙ c.if-not-is_at.false);
+      spaces_behind = b.ensures.end ∙ ap (spaces_end src) place;
+      quote = ap (λ n. n == 39 || n == 34) quoted.0 ∙ quoted.1;
+      start = c.after_byte-2.ensures.place;
+      within = c.quote_here-quote.ensures.within some;
+      onward = omega arith;
+      cut = c.after_byte-2.ensures.cut;
+    }

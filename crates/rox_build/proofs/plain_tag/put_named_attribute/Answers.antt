@@ -1,0 +1,83 @@
+use Rattle.std.proofs.Common.{◌≡◌, ◌-◌, ◌+◌, ◌==◌, ◌||◌, true, length, map, slice_index, refl, sym, ap, subst, ◌∙◌, arith}
+use Rattle.std.proofs.lemmas.List.{length-map}
+use Rattle.rox_grammar.specs.Failures.{name_view}
+use Rattle.rox_reading.proofs.Stretches.{range_length}
+use Rattle.rox_tables.specs.Bindings.{places_view}
+use Rattle.rox_tables.specs.Rows.{namespace_view, attribute_rows, NamespaceWithin}
+use Rattle.rox_tables.specs.declared.rows.storage.StringStorage.TheVariants.{Borrowed}
+use Rattle.rox_tables.specs.declared.rows.tables.AttributePlaces.{AttributePlaces}
+use Rattle.rox_tables.specs.declared.namespaces.unresolved_attribute.UnresolvedAttribute.{UnresolvedAttribute}
+use Rattle.rox_tables.specs.declared.namespaces.unresolved_attribute.UsualAttribute.{UsualAttribute}
+use Rattle.rox_tables.proofs.NameTests.{adds_usual}
+use Rattle.rox_build.specs.PlainTag.{IsValueStart, IsPlainAttribute}
+use Rattle.rox_build.proofs.PlainTags.{attribute_reads, value_is, value_starts, usual_are, quote_is_some}
+use Rattle.rox_build.proofs.plain_tag.put_named_attribute.Goals as goal
+
+pub returns-clause-added : goal.returns-clause-added
+returns-clause-added c = λ _.
+    let src = c.args.text.now in
+    let i = c.args.start in
+    let name = c.args.read.name in
+    let n = c.args.read.end in
+    let s = c.after_byte-value_start.result in
+    let q = c.args.quote in
+    let j = c.in-Some.value_end in
+    let e = c.after_byte.result in
+    let w = c.in-Some.ensures in
+    let place : s ≡ n + 2 = omega (arith, c.after_byte-behind.ensures.place, c.after_byte-value_start.ensures.place) in
+    let quoted : (slice_index src (n + 1) == 39 || slice_index src (n + 1) == 34) ≡ true = ap (λ b. b == 39 || b == 34) c.requires.quote ∙ c.requires.is_quote in
+    let v : IsValueStart src n s = subst (IsValueStart src n) (sym place) (value_starts src n c.utf8.text c.requires.inside c.requires.equals quoted) in
+    let here : slice_index src (s - 1) ≡ q = ap (slice_index src) (omega (arith, place)) ∙ c.requires.quote in
+    let done = c.after_byte.ensures.place in
+    let onward = w.onward in
+    let fits = w.cut.0 in
+    let long = range_length src s j onward fits in
+    let size = ap length c.range.ensures.value in
+    let inside = c.requires.inside in
+    let short = c.requires.short in
+    let local = c.requires.local in
+    let one : UnresolvedAttribute = record {
+      start = i;
+      name_end = n;
+      value_start = s;
+      end = e;
+      name = name;
+      value = Borrowed c.range.result;
+      placed = omega arith;
+    } in
+    let few = c.if-before.false in
+    let usual : UsualAttribute = record {
+      start = i;
+      before = n - i - length name.local.now;
+      local = name.local;
+      value = c.range.result;
+      usual = omega arith;
+      ends = omega (arith, long, size);
+    } in
+    let plain : IsPlainAttribute src i one = record {
+      value_end = j;
+      read = attribute_reads src i (name_view name) n s q j e c.requires.name v here c.requires.is_quote (quote_is_some q c.requires.is_quote) w.read w.here done;
+      start = refl;
+      end = done;
+      value = λ main es opener openings_left. rw c.range.ensures.value (value_is main es opener src s j openings_left w.verbatim);
+      cut = c.after_byte.ensures.cut;
+      onward = omega arith;
+      local = local;
+      gap = omega arith;
+    } in
+    let namespaces = map namespace_view c.args.around.namespaces.now in
+    let found = c.in-Some-attribute_namespace.ensures in
+    let space = c.in-Some-attribute_namespace.namespace in
+    let put = c.put_usual_attribute.ensures in
+    let true = c.if-not-put_usual_attribute.false in
+    let places = usual_are i (n - i - length name.local.now) (length name.local.now) (length c.range.result.now) n s e (omega arith) place (omega (arith, done, long, size)) in
+    record {
+      one = one;
+      plain = plain;
+      other = sym c.is_namespace_decl.ensures ∙ c.if-is_namespace_decl.false;
+      added = adds_usual namespaces (places_view c.args.around.few) c.args.around.present.now c.args.seen.now.from (attribute_rows c.args.attributes.now) _ one usual space
+          (ap (λ (p : AttributePlaces). (record { local = name.local; value = Borrowed c.range.result; namespace = space }, p)) (sym places))
+          (put.added true) (subst (λ m. NamespaceWithin m space) (sym (length-map c.args.around.namespaces.now namespace_view)) found.within)
+          (λ scope h. found.there scope h) (λ scope h. found.known scope h) (put.first true);
+      end = refl;
+    }
