@@ -1,4 +1,7 @@
 pub mod DigitLemmas
+pub mod Naming
+pub mod InnerBytes
+pub mod NameRuns
 pub mod Binding
 pub mod PartLemmas
 pub mod ValueOpening

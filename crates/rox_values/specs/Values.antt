@@ -72,6 +72,10 @@ AppendsCharacter old new (Err e) read = Fails e read
 abbrev pub ends_stretch : ℕ → Bool
 ends_stretch b = reading.is_special b || b == 60
 
+-- the other bytes
+unfoldable pub is_inner_byte : ℕ → Bool
+is_inner_byte b = not (ends_stretch b)
+
 -- a replacement text is found, or this fault
 abbrev pub FindsEntity : Result Cursor Fault → Result reading.Bit Fault → Type 0
 FindsEntity (Ok text) read = read ≡ Ok (reading.opens (replacement_view text))

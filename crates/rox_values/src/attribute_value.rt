@@ -13,7 +13,7 @@ ghost use Rattle.rox_grammar.specs.declared.fault.Fault.{Fault};
 ghost use Rattle.rox_reading.specs.Machine.{value_opener};
 ghost use Rattle.rox_scan.specs.DoctypeViews.{replacement_view};
 ghost use Rattle.rox_values.specs.DeclaredEntities.{AreDeclared};
-ghost use Rattle.rox_values.specs.Values.{Appends, AppendsBit, AppendsCharacter, AppendsValue, GivesValue, ends_stretch, piece_view};
+ghost use Rattle.rox_values.specs.Values.{Appends, AppendsBit, AppendsCharacter, AppendsValue, GivesValue, ends_stretch, is_inner_byte, piece_view};
 
 use crate::context::Context;
 use crate::parse_error::ParseError;
@@ -21,12 +21,13 @@ use crate::reference::{Reference, found, read_reference};
 use crate::text_value::TextValue;
 use rox_grammar::failure::Failure;
 use rox_grammar::fault::Fault;
-use rox_scan::byte_set::skip_set;
+use rox_scan::byte_set::{ByteSet, skip_set};
 use rox_scan::cursor::Cursor;
 use rox_scan::lookahead::{StretchByte, is_special};
+use rox_scan::nibbles::classes;
 use rox_scan::runs::is_at;
-use rox_scan::search::byte_from;
 use rox_scan::tag::RawAttribute;
+use std::simd::prelude::*;
 
 /// The first place from `at` on of a special byte of a value, or the end.
 #[inline(always)]
@@ -116,37 +117,41 @@ fn expand_in_value<'input>(
     }
 }
 
-/// `<`, `&`, or white space that is no space.
-#[inline(always)]
-fn is_stretch_end(byte: u8) -> bool
-    ensures { result ≡ ends_stretch byte }
-{
-    is_special(byte) | (byte == b'<')
-}
+/// The bytes of a stretch of a value within a replacement text: all but `<`, `&` and white space that is no space.
+struct InnerByte;
 
-/// How many bytes come before the first of these, or all.
-fn before_stop(bytes: &[u8]) -> usize
-    ensures value { result ≡ position_or_len ends_stretch bytes.now }
-    ensures within { result ≤ length bytes.now }
-    ensures found { result < length bytes.now → ends_stretch (slice_index bytes.now result) ≡ true }
-{
-    for (index, byte) in bytes.iter().enumerate() {
-        if is_stretch_end(*byte) {
-            return index;
-        }
+// Classes that a byte of the set has none of, and any other has one.
+const INNER_LOW: [u8; 16] = [0, 0, 0, 0, 0, 0, 2, 0, 0, 1, 1, 0, 4, 1, 0, 0];
+
+const INNER_HIGH: [u8; 16] = [1, 0, 2, 4, 0, 0, 0, 0, 0, 0, 0, 0, 0, 0, 0, 0];
+
+impl ByteSet for InnerByte {
+    ghost test = { is_inner_byte };
+
+    #[inline(always)]
+    #[tactic(auto, unfolding(crate::specs::Values::is_inner_byte))]
+    fn has(byte: u8) -> bool {
+        !(is_special(byte) | (byte == b'<'))
     }
-    bytes.len()
+
+    #[inline(always)]
+    fn others(block: u8x16) -> u64 {
+        classes(INNER_LOW, INNER_HIGH, block)
+            .simd_ne(u8x16::splat(0))
+            .to_bitmask()
+    }
 }
 
 /// The first place from `at` on of a special byte of a value or a `<`, or the end.
-#[tactic(auto, unfolding(rox_grammar::specs::Search::byte_from))]
+#[inline(always)]
+#[tactic(auto, using(crate::proofs::InnerBytes::inner_cut))]
 fn stretch_end(text: &str, at: usize) -> usize
     requires { IsCharBoundary text.now at }
     ensures place { result ≡ byte_from ends_stretch text.now at }
     ensures onward { at ≤ result }
     ensures cut { IsCharBoundary text.now result }
 {
-    at + before_stop(text[at..].as_bytes())
+    skip_set::<InnerByte>(text, at)
 }
 
 /// Appends all of a value in a replacement text up to the next special byte. A character that is no Char, and a `<`, is a fault.

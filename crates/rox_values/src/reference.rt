@@ -1,9 +1,11 @@
 //! References to characters and to entities, and the replacement text that one names (XML 1.0 sections 4.1 and 4.6).
 
 ghost use Rattle.std.specs.Prelude.{◌≡◌, ◌^◌, ◌≤◌, ◌<◌, List, IfOk, min, length, slice_index, slice_range};
-ghost use Rattle.rox_grammar.specs.Chars.{is_char};
+ghost use Rattle.std.specs.Str.{IsCharBoundary};
+ghost use Rattle.rox_grammar.specs.Chars.{is_char, is_name_char};
 ghost use Rattle.rox_grammar.specs.Entities.{Entity, text_of};
 ghost use Rattle.rox_grammar.specs.References as spec;
+ghost use Rattle.rox_grammar.specs.Runs as grammar;
 ghost use Rattle.rox_reading.specs.Values as reading;
 ghost use Rattle.rox_scan.specs.ScanResults.{Steps};
 ghost use Rattle.rox_values.specs.DeclaredEntities.{AreDeclared};
@@ -11,6 +13,7 @@ ghost use Rattle.rox_values.specs.Values.{FindsEntity, HasItsName, base_of, is_d
 
 use crate::context::Context;
 use rox_grammar::fault::{Fault, Span};
+use rox_scan::byte_set::{PartByte, skip_set};
 use rox_scan::chars::is_char;
 use rox_scan::cursor::Cursor;
 use rox_scan::runs::{NameChar, NameStart, after_byte, begins, is_at, run_end};
@@ -143,6 +146,17 @@ fn predefined(name: &str) -> Option<char>
     }
 }
 
+/// Where the name that begins at `at` ends. Its first ASCII bytes but colons, most often all, are passed over by vectors.
+#[inline(always)]
+fn name_end(text: &str, at: usize) -> usize
+    requires { IsCharBoundary text.now at }
+    ensures end { result ≡ grammar.run_end is_name_char text.now at }
+    ensures onward { at ≤ result }
+    ensures cut { IsCharBoundary text.now result }
+{
+    run_end::<NameChar>(text, skip_set::<PartByte>(text, at))
+}
+
 /// The name and the `;` of a reference that stands here, with its `&`.
 #[inline(always)]
 #[tactic(auto, unfolding(rox_reading::specs::Values::name_reference_at))]
@@ -157,7 +171,7 @@ fn name_reference<'input>(cursor: &mut Cursor<'input>) -> Result<Reference<'inpu
     if !begins::<NameStart>(text, start) {
         return Err(Fault::MalformedEntityReference(reference));
     }
-    let end = run_end::<NameChar>(text, start);
+    let end = name_end(text, start);
     if !is_at(text, end, b';') {
         return Err(Fault::MalformedEntityReference(reference));
     }
@@ -196,12 +210,12 @@ pub fn read_reference<'input>(cursor: &mut Cursor<'input>) -> Result<Reference<'
 #[inline(never)]
 pub(crate) fn found<'input>(
     context: Context<'_, 'input>,
-    name: &str,
+    name: &'input str,
     span: Span,
     start: usize,
 ) -> Result<Cursor<'input>, Fault>
     ensures { (es : List Entity) → AreDeclared es context.entry.entities.now
-        → FindsEntity result (reading.entity_bit (text_of es name.now) start span) }
+        → FindsEntity result (reading.entity_bit (text_of es name.entry.now) start span) }
 {
     match context.entities.get(name) {
         Some(text) => Ok(text),

@@ -1,0 +1,16 @@
+-- The mask is held against the definition at each of the 256 bytes, by computing.
+use Rattle.std.proofs.Common.{not, refl, arith}
+use Rattle.rox_scan.specs.Nibbles.{class_of}
+use Rattle.rox_values.specs.Values.{is_inner_byte}
+use Rattle.rox_values.specs.declared.attribute_value.TheConstants.{INNER_LOW, INNER_HIGH}
+use Rattle.rox_scan.proofs.TableLemmas.{agree_below}
+use Rattle.rox_scan.proofs.LaneLemmas.{masked, against, differs}
+use Rattle.rox_values.proofs.attribute_value.InnerByteByteSet.others.Goals as goal
+
+pub returns : goal.returns
+unfolding agree_below is_inner_byte
+returns c =
+    let v = c.args.block in
+    let long = c.fits-block.0 in
+    masked _ (λ b. not (is_inner_byte b)) v _ (omega (arith, long)) c.fits-block.1
+    (against differs (class_of INNER_LOW INNER_HIGH) 0 16 v long c.classes.ensures) refl

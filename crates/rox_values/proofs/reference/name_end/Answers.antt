@@ -1,0 +1,14 @@
+use Rattle.std.proofs.Common.{◌∙◌}
+use Rattle.rox_scan.proofs.NearLemmas.{part_cut}
+use Rattle.rox_values.proofs.NameRuns.{name_goes_on}
+use Rattle.rox_values.proofs.reference.name_end.Goals as goal
+
+pub run_end-requires : goal.run_end-requires
+run_end-requires c =
+    let near = c.skip_set.ensures in
+    part_cut c.args.text.now c.args.at _ c.utf8.text c.requires near.onward near.within near.passes
+
+pub returns-clause-end : goal.returns-clause-end
+returns-clause-end c =
+    let near = c.skip_set.ensures in
+    c.run_end.ensures.end ∙ name_goes_on c.args.text.now c.args.at _ c.utf8.text near.onward near.within near.passes
