@@ -232,7 +232,7 @@ fn content_text<'input>(
         if cursor.is_at_end() {
             return text_end(builder, context);
         }
-        step(alloc, &mut cursor, builder, context)?;
+        inner_step(alloc, &mut cursor, builder, context)?;
     }
     text_end(builder, context)
 }
@@ -311,6 +311,32 @@ fn step<'input>(
     }
     general_step(alloc, cursor, builder, context)?;
     Ok(())
+}
+
+/// One construct of a replacement text, which most often is character data that goes on with a text.
+#[tactic(auto, unfolding(rox_reading::specs::Machine::step))]
+#[cycle(content)]
+#[inline(always)]
+fn inner_step<'input>(
+    alloc: Global,
+    cursor: &mut Cursor<'input>,
+    builder: &mut Builder<'input>,
+    context: Context<'_, 'input>,
+) -> Result<(), ParseError<'input>>
+    requires there { cursor.old.pos < length cursor.old.text.now }
+    requires fine { IsConsistent builder.old.tables builder.old.opened.items }
+    ensures value { (limit end : ℕ) (es : List Entity) (s : State)
+        → AreDeclared es context.entry.entities.now → IsInState limit end s cursor.old builder.old
+        → ParsesTo limit end result cursor.new builder.new
+        (machine.step (context_of limit es context.entry) cursor.old.text.now s) }
+    ensures fine { OnOk result (IsConsistent builder.new.tables builder.new.opened.items) }
+    ensures source { cursor.new.text ≡ cursor.old.text }
+{
+    let bytes = cursor.text.as_bytes();
+    if bytes[cursor.pos] != b'<' {
+        return character_data(alloc, cursor, builder, context);
+    }
+    step(alloc, cursor, builder, context)
 }
 
 /// Content up to the end tag of the root element.

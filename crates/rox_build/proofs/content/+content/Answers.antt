@@ -228,8 +228,8 @@ content_text-returns-then-is_at_end-clause-value t c = λ limit end es s declare
     let past : length src ≤ g.s.at = rw (s0, g.sees.here) at (leb-true _ _ (sym c.is_at_end.ensures ∙ c.if-is_at_end.true)) in
     text_at_end (context_of limit es c.args.context) end src _ _ c.loop-turn.cursor c.loop-turn.builder c.text_end.result g past (c.text_end.ensures limit end es g.s (rests_of limit end g.s c.loop-turn.cursor c.loop-turn.builder g.sees))
 
-pub content_text-returns-in_err-step-clause-value : goal.content_text-returns-in_err-step-clause-value
-content_text-returns-in_err-step-clause-value t c = λ limit end es s declared h at.
+pub content_text-returns-in_err-inner_step-clause-value : goal.content_text-returns-in_err-inner_step-clause-value
+content_text-returns-in_err-inner_step-clause-value t c = λ limit end es s declared h at.
     let src = c.args.text.text.now in
     let n = length src - c.loop-turn._turn in
     let one : n ≡ suc (n - 1) = omega arith in
@@ -237,12 +237,12 @@ content_text-returns-in_err-step-clause-value t c = λ limit end es s declared h
     let g = c.loop-turn.invariant.reads limit end es s declared h at in
     let more : g.s.at < length src = rw (s0, g.sees.here) at (leb-false _ _ (sym c.is_at_end.ensures ∙ c.if-is_at_end.false)) in
     let p = err_from_is_err_and c.from_residual.result c.from_residual.ensures.1 in
-    rw (p.1, p.2) (text_fails (context_of limit es c.args.context) end src _ n (n - 1) c.loop-turn.cursor c.loop-turn.builder c.in_err-step.field-0.0 g one more (rw s0 at (c.in_err-step.ensures.value limit end es g.s declared g.sees)))
+    rw (p.1, p.2) (text_fails (context_of limit es c.args.context) end src _ n (n - 1) c.loop-turn.cursor c.loop-turn.builder c.in_err-inner_step.field-0.0 g one more (rw s0 at (c.in_err-inner_step.ensures.value limit end es g.s declared g.sees)))
 
 pub content_text-loop-turn-preserved : goal.content_text-loop-turn-preserved
 content_text-loop-turn-preserved t c = record {
-  source = c.in_ok-step.ensures.source ∙ c.loop-turn.invariant.source;
-  fine = c.in_ok-step.ensures.fine;
+  source = c.in_ok-inner_step.ensures.source ∙ c.loop-turn.invariant.source;
+  fine = c.in_ok-inner_step.ensures.fine;
   reads = λ limit end es s declared h at.
       let src = c.args.text.text.now in
       let n = length src - c.loop-turn._turn in
@@ -250,7 +250,7 @@ content_text-loop-turn-preserved t c = record {
       let s0 = ap (λ t. t.now) c.loop-turn.invariant.source in
       let g = c.loop-turn.invariant.reads limit end es s declared h at in
       let more : g.s.at < length src = rw (s0, g.sees.here) at (leb-false _ _ (sym c.is_at_end.ensures ∙ c.if-is_at_end.false)) in
-      let went = rw s0 at (c.in_ok-step.ensures.value limit end es g.s declared g.sees) in
+      let went = rw s0 at (c.in_ok-inner_step.ensures.value limit end es g.s declared g.sees) in
       text_on (context_of limit es c.args.context) end src _ n (length src - (c.loop-turn._turn + 1)) c.loop-turn.cursor _ c.loop-turn.builder _ _ g one more went;
 }
 
@@ -279,6 +279,10 @@ step-returns-in_err-general_step-clause-value t c = λ limit end es s declared h
     let same = ap (λ t. t.text.now) (c.plain_step.ensures.place no) in
     let p = err_from_is_err_and c.from_residual.result c.from_residual.ensures.1 in
     rw (p.1, p.2) (rw same at (c.in_err-general_step.ensures.value limit end es s declared (c.plain_step.ensures.other no (context_of limit es c.args.context) end s h)))
+
+pub inner_step-returns-then-bytes-cursor-ne60-clause-value : goal.inner_step-returns-then-bytes-cursor-ne60-clause-value
+inner_step-returns-then-bytes-cursor-ne60-clause-value t c = λ limit end es s declared h.
+    rw (step_is_run (context_of limit es c.args.context) c.args.cursor.now.text.now _ s c.args.cursor.now.pos c.as_bytes-bytes.ensures.value h.here c.if-bytes-cursor-ne60.true) (c.character_data.ensures.value limit end es s declared h)
 
 pub general_step-end_tag-requires-clause-here : goal.general_step-end_tag-requires-clause-here
 general_step-end_tag-requires-clause-here t c =

@@ -27,8 +27,11 @@ decreases-general_step l = 8 * l.context.depth_left + 4
 abbrev pub decreases-step : goal.decreases-step
 decreases-step l = 8 * l.context.depth_left + 5
 
+abbrev pub decreases-inner_step : goal.decreases-inner_step
+decreases-inner_step l = 8 * l.context.depth_left + 6
+
 abbrev pub decreases-content_text : goal.decreases-content_text
-decreases-content_text l = 8 * l.context.depth_left + 6
+decreases-content_text l = 8 * l.context.depth_left + 7
 
 abbrev pub invariant-data_parts-loop-turn : goal.invariant-data_parts-loop-turn
 invariant-data_parts-loop-turn l = record {
