@@ -18,6 +18,7 @@ pub mod Wholes
 pub mod Asking
 pub mod Items
 pub mod SpacedValues
+pub mod SpacedEnds
 pub mod PlainTags
 pub mod SameBytes
 pub mod SameNames

@@ -10,3 +10,4 @@ pub mod PlainTag
 pub mod Asking
 pub mod Built
 pub mod WholeTexts
+pub mod SpacedBytes

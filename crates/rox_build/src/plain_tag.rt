@@ -26,7 +26,7 @@ ghost use Rattle.rox_build.specs.BuilderState.{IsOpenWithin};
 ghost use Rattle.rox_build.specs.PlainTag.{IsValueStart, IsPlainAttribute, AddsPlain, ArePlainAttributes, IsPlainTag, HoldSame};
 
 use crate::builder::OpenElement;
-use crate::spaced_value::spaced_value;
+use crate::spaced_value::{spaced_value, spaced_value_end};
 use crate::tag::{MOST_ATTRIBUTES, StartTag, byte_count};
 use rox_grammar::name::QName;
 use rox_scan::byte_set::{PartByte, ValueByte, far_space_end, part_end, skip_set};
@@ -137,14 +137,6 @@ fn changes(text: &str, at: usize) -> bool
 {
     let bytes = text.as_bytes();
     at < bytes.len() && is_special(bytes[at])
-}
-
-/// Whether a reference begins at `at`: no plain value has one.
-#[inline(always)]
-fn refers(text: &str, at: usize) -> bool
-    ensures { result ≡ (slice_index text.now at == 38) }
-{
-    is_at(text, at, b'&')
 }
 
 /// Where the value ends that begins at `start`, behind this quote, if it stands for itself.
@@ -271,20 +263,17 @@ fn spaced_attribute<'input>(
     if from == 0 {
         return None;
     }
-    if refers(text, skip_set::<ValueByte>(text, from)) {
-        return None;
-    }
     let quote = quote_before(text, from);
-    let look = scan_value(text, from, quote);
-    if look.is_verbatim || !is_at(text, look.end, quote) {
+    let stop = spaced_value_end(text, from, quote);
+    if stop == 0 {
         return None;
     }
-    let value = spaced_value(alloc, text, from, look.end)?;
+    let value = spaced_value(alloc, text, from, stop)?;
     Some(UnresolvedAttribute {
         start,
         name_end: name.end,
         value_start: from,
-        end: after_byte(text, look.end, quote),
+        end: after_byte(text, stop, quote),
         name: name.name,
         value,
     })

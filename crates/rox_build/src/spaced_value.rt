@@ -7,15 +7,95 @@ ghost use Rattle.std.specs.String.{string_bytes};
 ghost use Rattle.rox_grammar.specs.Constructs.{AreChars};
 ghost use Rattle.rox_grammar.specs.Entities.{Entity};
 ghost use Rattle.rox_reading.specs.Values as reading;
+ghost use Rattle.rox_scan.specs.Lookahead as longer;
+ghost use Rattle.rox_scan.specs.Lookahead.{IsLookahead};
 ghost use Rattle.rox_tables.specs.Storage.{storage_bytes, is_borrowed};
 ghost use Rattle.rox_values.specs.Values.{behind, text_behind};
+ghost use Rattle.rox_build.specs.SpacedBytes.{is_spaced_byte};
 
-use rox_scan::byte_set::skip_set;
-use rox_scan::lookahead::StretchByte;
+use rox_scan::byte_set::{ByteSet, ValueByte, skip_set};
+use rox_scan::lookahead::{StretchByte, scan_value};
+use rox_scan::nibbles::classes;
 use rox_scan::runs::is_at;
 use rox_tables::rows::storage::StringStorage;
 use std::alloc::Global;
 use std::rc::RcStr;
+use std::simd::prelude::*;
+
+/// The bytes of a value that stand for themselves, and white space.
+struct SpacedByte;
+
+// Classes that a byte of the set has none of, and any other has one.
+const SPACED_LOW: [u8; 16] = [1, 1, 3, 1, 1, 1, 3, 3, 1, 16, 16, 1, 5, 16, 1, 9];
+
+const SPACED_HIGH: [u8; 16] = [1, 17, 2, 4, 0, 0, 0, 0, 0, 0, 0, 0, 0, 0, 8, 0];
+
+impl ByteSet for SpacedByte {
+    ghost test = { is_spaced_byte };
+
+    #[inline(always)]
+    #[tactic(auto, unfolding(crate::specs::SpacedBytes::is_spaced_byte))]
+    fn has(byte: u8) -> bool {
+        ValueByte::has(byte) | (byte == b'\t') | (byte == b'\n') | (byte == b'\r')
+    }
+
+    #[inline(always)]
+    fn others(block: u8x16) -> u64 {
+        classes(SPACED_LOW, SPACED_HIGH, block)
+            .simd_ne(u8x16::splat(0))
+            .to_bitmask()
+    }
+}
+
+/// Whether white space stands at `at` that is no space.
+#[inline(always)]
+fn is_white_at(text: &str, at: usize) -> bool
+    ensures there { result ≡ true → at < length text.now }
+    ensures special { result ≡ true → reading.is_special (slice_index text.now at) ≡ true }
+{
+    let bytes = text.as_bytes();
+    at < bytes.len() && ((bytes[at] == b'\t') | (bytes[at] == b'\n') | (bytes[at] == b'\r'))
+}
+
+/// Where the value ends that begins at `start`, behind this quote, if it is in order, has no reference, and does not stand for
+/// itself, or 0: by a longer look, as it has other bytes too.
+#[cold]
+#[inline(never)]
+fn far_spaced_end(text: &str, start: usize, quote: u8) -> usize
+    requires cut { IsCharBoundary text.now start }
+    requires quote { (quote == 39 || quote == 34) ≡ true }
+    ensures looked { 0 < result → IsLookahead (longer.ends_value quote text.now) reading.is_special
+        text.now start result false }
+    ensures here { 0 < result → (slice_index text.now result == quote) ≡ true }
+{
+    let look = scan_value(text, start, quote);
+    if look.is_verbatim || !is_at(text, look.end, quote) {
+        return 0;
+    }
+    look.end
+}
+
+/// The same; most values have no byte but those of `SpacedByte`, which is seen first.
+#[inline(always)]
+pub fn spaced_value_end(text: &str, start: usize, quote: u8) -> usize
+    requires cut { IsCharBoundary text.now start }
+    requires quote { (quote == 39 || quote == 34) ≡ true }
+    ensures looked { 0 < result → IsLookahead (longer.ends_value quote text.now) reading.is_special
+        text.now start result false }
+    ensures here { 0 < result → (slice_index text.now result == quote) ≡ true }
+{
+    let first = skip_set::<ValueByte>(text, start);
+    if is_at(text, first, b'&') {
+        return 0;
+    }
+    if is_white_at(text, first) {
+        let end = skip_set::<SpacedByte>(text, first);
+        if is_at(text, end, quote) {
+            return end;
+        }
+    }
+    far_spaced_end(text, start, quote)
+}
 
 /// Appends a space for the LF or TAB that stands at `at`. Answers the place behind it, or 0 where there is no memory.
 #[inline(always)]

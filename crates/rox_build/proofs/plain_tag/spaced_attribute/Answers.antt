@@ -1,4 +1,4 @@
-use Rattle.std.proofs.Common.{◌≡◌, ◌-◌, ◌==◌, ◌||◌, ℕ, true, false, slice_index, slice_range, refl, sym, subst, ◌∙◌, arith}
+use Rattle.std.proofs.Common.{◌≡◌, ◌-◌, ◌==◌, ◌||◌, ℕ, true, false, slice_index, slice_range, refl, sym, subst, arith}
 use Rattle.std.proofs.lemmas.Bool.{eqb-true}
 use Rattle.rox_grammar.specs.Content.{is_verbatim_value}
 use Rattle.rox_scan.proofs.LongerLemmas.{looked_value}
@@ -30,16 +30,17 @@ returns c =
     let q = c.quote_before-quote.result in
     let quoted = c.quote_before-quote.ensures in
     let n = c.in_ok-name.ensures in
-    let j = c.scan_value-look.result.end in
-    let l = c.scan_value-look.ensures.looked in
+    let j = c.spaced_value_end-stop.result in
+    let zero = c.if-stop-eq0.false in
+    let l = c.spaced_value_end-stop.ensures.looked (omega arith) in
     let w = c.in_ok-value.ensures in
     let start = v.start in
     let done = c.after_byte.ensures.place in
     let order1 = n.onward in
     let order2 = v.onward in
     let order3 = l.onward in
-    let at : (slice_index src j == q) ≡ true = sym c.is_at.ensures ∙ c.if-not-is_at.false in
-    let changed : is_verbatim_value (slice_range src s j) ≡ false = sym l.verbatim_is ∙ c.if-look.false in
+    let at : (slice_index src j == q) ≡ true = c.spaced_value_end-stop.ensures.here (omega arith) in
+    let changed : is_verbatim_value (slice_range src s j) ≡ false = sym l.verbatim_is in
     record {
       value_end = j;
       read = attribute_reads src c.args.start (name_view c.in_ok-name.name.name) c.in_ok-name.name.end s q j c.after_byte.result n.value v quoted.here quoted.quote quoted.some (looked_value src q s j _ quoted.quote l at) (eqb-true _ _ at) done;
