@@ -11,6 +11,7 @@ pub mod Listing
 pub mod NameTests
 pub mod AttributeRows
 pub mod StoredNodes
+pub mod Words
 pub mod Resolving
 pub mod Declaring
 pub mod Seeing

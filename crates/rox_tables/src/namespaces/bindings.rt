@@ -81,6 +81,17 @@ impl<'input> PrefixBindings<'input> {
         }
     }
 
+    /// The namespace of a prefix, or of the default.
+    #[inline(never)]
+    pub fn find(&self, prefix: Option<&str>) -> Option<u16>
+        ensures { result ≡ bound_place self.now (prefix_view prefix.entry) }
+    {
+        match self.get(prefix) {
+            Some(place) => Some(place.namespace),
+            None => None,
+        }
+    }
+
     /// Gives a prefix, or the default, this place. The only error is want of memory.
     fn set(&mut self, prefix: Option<&'input str>, place: Option<Binding>) -> Result<(), AllocError>
         ensures present { OnOk result ((p : Option (List ℕ))

@@ -9,7 +9,7 @@ ghost use Rattle.rox_tables.specs.Scopes.{prefix_view, entries, places_in, is_fe
 ghost use Rattle.rox_tables.specs.PrefixSet.{IsPrefixSet};
 ghost use Rattle.rox_tables.specs.Bindings.{LooksWithin, looked_up, places_view};
 
-use crate::compare::same_text;
+use crate::compare::{LONG, same_short, same_text};
 use crate::namespaces::bindings::PrefixBindings;
 use crate::namespaces::prefix_set::{FEW, has_prefix};
 use crate::rows::tables::{Namespace, Scope};
@@ -31,6 +31,17 @@ pub fn same_prefix(one: Option<&str>, other: Option<&str>) -> bool
         (None, None) => true,
         (Some(one), Some(other)) => same_text(one, other),
         _ => false,
+    }
+}
+
+/// Whether this is the prefix of a namespace, and no default. The prefix is short.
+#[inline(always)]
+fn is_short_prefix(name: Option<&str>, prefix: &str) -> bool
+    ensures { result ≡ same_prefix (prefix_view name.entry) (Some prefix.now) }
+{
+    match name {
+        Some(name) => name.len() == prefix.len() && same_short(name.as_bytes(), prefix.as_bytes()),
+        None => false,
     }
 }
 
@@ -70,25 +81,6 @@ pub fn default_place(namespaces: &[Namespace<'_>], places: &[u16]) -> Option<u16
     None
 }
 
-/// The first of these places whose namespace has this prefix.
-#[inline(always)]
-pub fn prefix_place(namespaces: &[Namespace<'_>], places: &[u16], prefix: &str) -> Option<u16>
-    requires { ArePlaces (length namespaces.now) places.now }
-    ensures there { IfSome result (λ i. (i < length namespaces.now)
-        × (uri_of (entries (map namespace_view namespaces.now) places.now) (Some prefix.now)
-        ≡ Some (namespace_at (map namespace_view namespaces.now) i).uri)) }
-    ensures absent { IfNone result
-        (uri_of (entries (map namespace_view namespaces.now) places.now) (Some prefix.now)
-        ≡ None) }
-{
-    for place in places {
-        if same_prefix(namespaces[*place as usize].name, Some(prefix)) {
-            return Some(*place);
-        }
-    }
-    None
-}
-
 /// The listed places of a scope, where they are few.
 #[inline(always)]
 pub fn few_places<'a>(scopes: &[Scope], listed: &'a [u16], scope: u32) -> Option<&'a [u16]>
@@ -101,6 +93,42 @@ pub fn few_places<'a>(scopes: &[Scope], listed: &'a [u16], scope: u32) -> Option
         Scope::Few(stretch) => Some(&listed[stretch.from as usize..stretch.until as usize]),
         _ => None,
     }
+}
+
+/// The first of these places whose namespace has this prefix, which is long.
+#[cold]
+#[inline(never)]
+fn place_of_long(namespaces: &[Namespace<'_>], places: &[u16], prefix: &str) -> Option<u16>
+    requires { ArePlaces (length namespaces.now) places.now }
+    ensures there { IfSome result (λ i. (i < length namespaces.now)
+        × (uri_of (entries (map namespace_view namespaces.now) places.now) (Some prefix.now)
+        ≡ Some (namespace_at (map namespace_view namespaces.now) i).uri)) }
+    ensures absent { IfNone result (uri_of (entries (map namespace_view namespaces.now) places.now)
+        (Some prefix.now) ≡ None) }
+{
+    place_of(namespaces, places, Some(prefix))
+}
+
+/// The first of these places whose namespace has this prefix. Short ones are compared in line, so that nothing has to be kept
+/// while another function runs.
+#[inline(never)]
+fn place_of_prefix(namespaces: &[Namespace<'_>], places: &[u16], prefix: &str) -> Option<u16>
+    requires { ArePlaces (length namespaces.now) places.now }
+    ensures there { IfSome result (λ i. (i < length namespaces.now)
+        × (uri_of (entries (map namespace_view namespaces.now) places.now) (Some prefix.now)
+        ≡ Some (namespace_at (map namespace_view namespaces.now) i).uri)) }
+    ensures absent { IfNone result (uri_of (entries (map namespace_view namespaces.now) places.now)
+        (Some prefix.now) ≡ None) }
+{
+    if prefix.len() >= LONG {
+        return place_of_long(namespaces, places, prefix);
+    }
+    for place in places {
+        if is_short_prefix(namespaces[*place as usize].name, prefix) {
+            return Some(*place);
+        }
+    }
+    None
 }
 
 /// The place of this prefix: the first among these places, where they are few, and else as it is present.
@@ -119,11 +147,8 @@ pub fn find_prefix(
         (Some prefix.now) }
 {
     match few {
-        Some(places) => prefix_place(namespaces, places, prefix),
-        None => match present.get(Some(prefix)) {
-            Some(place) => Some(place.namespace),
-            None => None,
-        },
+        Some(places) => place_of_prefix(namespaces, places, prefix),
+        None => present.find(Some(prefix)),
     }
 }
 

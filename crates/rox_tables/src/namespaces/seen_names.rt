@@ -1,8 +1,9 @@
 //! Which local names the attributes of a tag have had: a filter that spares most of them from being compared with those before.
 
 ghost use Rattle.std.specs.Prelude.{◌≡◌, ◌≤◌, ◌+◌, ◌<◌, ◌^◌, ℕ, length, false, slice_range};
-ghost use Rattle.std.specs.Int.{w32, from_le_bytes};
 ghost use Rattle.rox_tables.specs.SeenNames.{name_sum, name_code, HasCode};
+
+use crate::compare::{WORD, word_at};
 
 /// The attributes of a tag that are in the table: where they begin, and, as bits, the codes of their names.
 #[derive(Drop)]
@@ -16,21 +17,8 @@ pub struct SeenNames {
 /// A tag is left to the general step if more codes than these come again: its names were chosen for that.
 const MOST_AGAIN: usize = 24;
 
-/// How many bytes a word has.
-const WORD: usize = 4;
-
 /// By what the sum of a name's bytes is multiplied: 2^64 by the golden ratio, which scatters sums that are near to one another.
 const SCATTER: u64 = 0x9E3779B97F4A7C15;
-
-/// Four bytes as one word.
-#[inline(always)]
-fn word_at(bytes: &[u8], at: usize) -> u64
-    requires { at + 4 ≤ length bytes.now }
-    ensures value { result ≡ from_le_bytes w32 (slice_range bytes.now at (at + 4)) }
-    ensures small { result < 2 ^ 32 }
-{
-    u32::from_le_bytes([bytes[at], bytes[at + 1], bytes[at + 2], bytes[at + 3]]) as u64
-}
 
 /// What a name's code is made of: its length, its first bytes and its last.
 #[inline(always)]
