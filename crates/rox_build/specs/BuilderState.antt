@@ -29,6 +29,7 @@ use Rattle.rox_tables.specs.TagScopes.{HasBindings, lists_in}
 use Rattle.rox_tables.specs.declared.rows.tables.NodeKind.{NodeKind}
 use Rattle.rox_tables.specs.declared.rows.tables.NodeData.{NodeData}
 use Rattle.rox_tables.specs.declared.rows.tables.ElementTables.{ElementTables}
+use Rattle.rox_tables.specs.declared.rows.tables.Tables.{Tables}
 use Rattle.rox_tables.specs.declared.rows.tables.NodeKind.TheVariants as kind
 use Rattle.rox_build.specs.declared.tag.StartTag.{StartTag}
 use Rattle.rox_build.specs.declared.pending.Pending.{Pending}
@@ -36,6 +37,10 @@ use Rattle.rox_build.specs.declared.pending.JoinedText.{JoinedText}
 use Rattle.rox_build.specs.declared.pending.Pending.TheVariants as pending
 use Rattle.rox_build.specs.declared.builder.OpenElement.{OpenElement}
 use Rattle.rox_build.specs.declared.builder.Builder.{Builder}
+
+-- what is kept of it at the end of a text
+abbrev pub tables_of : Builder → Tables
+tables_of b = record { nodes = b.nodes; attributes = b.tables.attributes; namespaces = b.tables.namespaces.items; listed = b.tables.listed; scopes = b.tables.scopes }
 
 -- what is kept of an open element
 pub record OpenRow : Type 0 where

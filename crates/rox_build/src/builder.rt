@@ -17,6 +17,7 @@ use rox_grammar::fault::Fault;
 use rox_grammar::name::QName;
 use rox_tables::namespaces::bindings::PrefixBindings;
 use rox_tables::namespaces::namespace_table::NamespaceTable;
+use rox_tables::namespaces::unresolved_attribute::UnresolvedAttribute;
 use rox_tables::rows::attributes::AttributeTable;
 use rox_tables::rows::growth::push;
 use rox_tables::rows::node_table::NodeTable;
@@ -66,13 +67,13 @@ pub struct Builder<'input> {
 
 /// So many elements may be open before their table grows, more than most texts open. While it is full, each construct is left to
 /// the general step.
-const ROOM_TO_OPEN: usize = 14;
+pub const ROOM_TO_OPEN: usize = 14;
 
 /// So many attributes of a tag find room before their buffer grows.
-const ROOM_OF_A_TAG: usize = 11;
+pub const ROOM_OF_A_TAG: usize = 11;
 
 /// The scope of the root node, which lists nothing.
-fn empty_scope(alloc: Global) -> Result<Vec<Scope>, Failure>
+pub fn empty_scope(alloc: Global) -> Result<Vec<Scope>, Failure>
     ensures ok { IfOk result (λ scopes. scopes.items ≡ Scope.Few (record { from = 0; until = 0 })
         ∷ []) }
     ensures err { IfErr result (λ e. e ≡ failure.Memory) }
@@ -150,7 +151,7 @@ impl<'input> Builder<'input> {
     ghost use Rattle.rox_reading.specs.Machine.{with_item, opened_by, counted};
     ghost use Rattle.rox_grammar.specs.Failures.{Fails};
     ghost use Rattle.rox_values.specs.Values.{piece_view};
-    ghost use Rattle.rox_build.specs.BuilderState.{Represents, RepresentsFlushed, IsNode, IsOpening, AreSound, Adds, IsConsistent, IsOpened, IsReady, IsReadyTwice, KeepsState, names_in, opened_in, last_row};
+    ghost use Rattle.rox_build.specs.BuilderState.{Represents, RepresentsFlushed, IsNode, IsOpening, AreSound, Adds, IsConsistent, IsOpened, IsReady, IsReadyTwice, KeepsState, names_in, opened_in, last_row, tables_of};
     ghost use Rattle.rox_tables.specs.Rows.{HoldsTree, attribute_rows};
     ghost use Rattle.rox_tables.specs.StoredNodes.{IsSmallKind};
     ghost use Rattle.rox_tables.specs.Scopes.{PrefixesOnce};
@@ -158,24 +159,35 @@ impl<'input> Builder<'input> {
     ghost use Rattle.rox_grammar.specs.Tree.{document_tree};
     ghost use Rattle.rox_build.specs.declared.builder.OpenElement.{OpenElement};
 
-    /// The tables with the root node of a text of so many bytes.
+    /// The tables with the root node alone. No error comes with them, so that they are made where they stay.
     #[inline(always)]
-    pub fn new(alloc: Global, bytes: usize, nodes_limit: u32) -> Result<Builder<'input>, Failure>
-        ensures empty { IfOk result (λ b. (names_in b.tables ≡ [])
-            × (length (attribute_rows b.tables.attributes) ≡ 0)) }
-        ensures fine { IfOk result (λ b. IsConsistent b.tables b.opened.items) }
-        ensures shows { IfOk result (λ b. Represents bytes root Nil b) }
-        ensures limit { IfOk result (λ b. b.nodes_limit ≡ nodes_limit) }
-        ensures openings_left { IfOk result (λ b. b.openings_left ≡ 255) }
-        ensures err { IfErr result (λ e. e ≡ failure.Memory) }
+    pub fn of_root(
+        alloc: Global,
+        nodes: NodeTable<'input>,
+        attributes: AttributeTable<'input>,
+        scopes: Vec<Scope>,
+        opened: Vec<OpenElement<'input>>,
+        taken: Vec<UnresolvedAttribute<'input>>,
+        nodes_limit: u32,
+    ) -> Builder<'input>
+        requires one { vec_len nodes.rows ≡ 1 }
+        requires none { attribute_rows attributes ≡ [] }
+        requires scopes { scopes.items ≡ Scope.Few (record { from = 0; until = 0 }) ∷ [] }
+        requires opened { opened.items ≡ [] }
+        ensures empty { (names_in result.tables ≡ [])
+            × (length (attribute_rows result.tables.attributes) ≡ 0) }
+        ensures fine { IsConsistent result.tables result.opened.items }
+        ensures shows { (bytes : ℕ) → node_rows nodes.entry ≡ record {
+          start = 0;
+          end = bytes;
+          parent = 0;
+          subtree_end = 0;
+          kind = kind.Root;
+        } ∷ [] → Represents bytes root Nil result }
+        ensures limit { result.nodes_limit ≡ nodes_limit }
+        ensures openings_left { result.openings_left ≡ 255 }
     {
-        // An allocator often gives places in turn, and a table behind which nothing stands grows where it is: the rows come last.
-        let attributes = AttributeTable::of_text(alloc, bytes);
-        let scopes = empty_scope(alloc)?;
-        let opened = Vec::with_capacity(alloc, ROOM_TO_OPEN)?;
-        let taken = Vec::with_capacity(alloc, ROOM_OF_A_TAG)?;
-        let nodes = NodeTable::of_text(alloc, bytes)?;
-        Ok(Builder {
+        Builder {
             nodes,
             tables: ElementTables {
                 attributes,
@@ -200,7 +212,7 @@ impl<'input> Builder<'input> {
             recent: Recent::new(alloc),
             nodes_limit,
             openings_left: MOST_WITHIN,
-        })
+        }
     }
 
     /// No element is open.
@@ -729,17 +741,27 @@ impl<'input> Builder<'input> {
         }
     }
 
-    /// The tables of a whole text. The only error is want of memory.
-    pub fn finish(mut self, alloc: Global) -> Result<Tables<'input>, Failure>
-        ensures ok { IfOk result (λ t. (end : ℕ) (done : Forest Item)
-            → Represents end root done self.entry → AreSound self.entry.tables
-            → HoldsTree t (document_tree end (merge done))) }
+    /// The text ends. The only error is want of memory.
+    #[inline(always)]
+    pub fn end(&mut self, alloc: Global) -> Result<(), Failure>
+        ensures ok { OnOk result ((end : ℕ) (done : Forest Item)
+            → Represents end root done self.old → AreSound self.old.tables
+            → HoldsTree (tables_of self.new) (document_tree end (merge done))) }
         ensures err { IfErr result (λ e. e ≡ failure.Memory) }
     {
         self.flush(alloc)?;
         let count = self.nodes.len() as u32;
         self.nodes.end_root(count);
         self.nodes.trim();
+        self.tables.attributes.trim();
+        Ok(())
+    }
+
+    /// The tables that are kept.
+    #[inline(always)]
+    pub fn finish(self) -> Tables<'input>
+        ensures { result ≡ tables_of self.entry }
+    {
         let Builder {
             nodes,
             tables,
@@ -752,7 +774,7 @@ impl<'input> Builder<'input> {
             openings_left: _,
         } = self;
         let ElementTables {
-            mut attributes,
+            attributes,
             namespaces,
             listed,
             scopes,
@@ -762,13 +784,12 @@ impl<'input> Builder<'input> {
             items: namespaces,
             places: _,
         } = namespaces;
-        attributes.trim();
-        Ok(Tables {
+        Tables {
             nodes,
             attributes,
             namespaces,
             listed,
             scopes,
-        })
+        }
     }
 }

@@ -16,7 +16,7 @@ ghost use Rattle.rox_build.specs.Asking.{AskOutcome};
 ghost use Rattle.rox_build.specs.Built.{Built, BuiltRefusal};
 ghost use Rattle.rox_build.specs.WholeTexts.{Finishes, IsDoctypeReadTo, IsWholeRead, beginning, root_read, start_state};
 
-use crate::builder::Builder;
+use crate::builder::{Builder, ROOM_OF_A_TAG, ROOM_TO_OPEN, empty_scope};
 use crate::constructs::{comment, element, instruction};
 use crate::content::content;
 use crate::dtd::document_type;
@@ -25,6 +25,8 @@ use rox_grammar::failure::Failure;
 use rox_grammar::fault::{Fault, Word};
 use rox_scan::cursor::Cursor;
 use rox_scan::source::start_of;
+use rox_tables::rows::attributes::AttributeTable;
+use rox_tables::rows::node_table::NodeTable;
 use rox_tables::rows::tables::Tables;
 use rox_values::context::Context;
 use rox_values::entities::Entities;
@@ -206,14 +208,20 @@ pub fn build<'input, R: EntityResolver<'input>>(
         (Allows R.allows resolver.now) text.now e) }
 {
     let mut cursor: Cursor<'input> = start_of(text);
-    let mut builder: Builder<'input> = Builder::new(alloc, text.len(), options.nodes_limit)?;
-    let dtd = document(
-        alloc,
-        &mut cursor,
-        &mut builder,
-        options.allow_dtd,
-        resolver,
-    )?;
-    let tables = builder.finish(alloc)?;
+    let bytes = text.len();
+    // An allocator often gives places in turn, and a table behind which nothing stands grows where it is: the rows come last.
+    let attributes = AttributeTable::of_text(alloc, bytes);
+    let scopes = empty_scope(alloc)?;
+    let opened = Vec::with_capacity(alloc, ROOM_TO_OPEN)?;
+    let taken = Vec::with_capacity(alloc, ROOM_OF_A_TAG)?;
+    let nodes = NodeTable::of_text(alloc, bytes)?;
+    let limit = options.nodes_limit;
+    let mut builder: Builder<'input> = Builder::of_root(
+        alloc, nodes, attributes, scopes, opened, taken, limit,
+    );
+    let allow = options.allow_dtd;
+    let dtd = document(alloc, &mut cursor, &mut builder, allow, resolver)?;
+    builder.end(alloc)?;
+    let tables = builder.finish();
     Ok((tables, dtd))
 }

@@ -4,7 +4,7 @@ use Rattle.rox_tables.specs.declared.rows.tables.Tables.{Tables}
 use Rattle.rox_build.proofs.Finishing.{finish_holds, same_held}
 use Rattle.rox_tables.specs.Rows.{node_rows}
 use Rattle.rox_tables.proofs.StoredNodes.{count_nodes}
-use Rattle.rox_build.proofs.builder.Builder.finish.Goals as goal
+use Rattle.rox_build.proofs.builder.Builder.end.Goals as goal
 
 pub returns-clause-ok : goal.returns-clause-ok
 returns-clause-ok c = λ end done sh sound.
