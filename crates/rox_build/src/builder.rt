@@ -65,9 +65,9 @@ pub struct Builder<'input> {
     pub ghost shallow: { vec_len opened + written pending < vec_len nodes.rows },
 }
 
-/// So many elements may be open before their table grows, more than most texts open. While it is full, each construct is left to
-/// the general step.
-pub const ROOM_TO_OPEN: usize = 14;
+/// So many elements may be open before their table grows, as many as most texts open, of less than 1 KB: pieces of that size the C
+/// library keeps at hand. While it is full, each construct is left to the general step.
+pub const ROOM_TO_OPEN: usize = 12;
 
 /// So many attributes of a tag find room before their buffer grows.
 pub const ROOM_OF_A_TAG: usize = 11;
