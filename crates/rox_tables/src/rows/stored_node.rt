@@ -20,10 +20,10 @@ pub enum StoredKind<'input> {
     Element(u32, &'input str, u32, u32),
     /// The same behind the namespace of its name.
     NamespacedElement(u16, u32, &'input str, u32, u32),
-    Text(StringStorage<'input>),
-    Comment(StringStorage<'input>),
     /// A place in the table of processing instructions.
     Instruction(usize),
+    Text(StringStorage<'input>),
+    Comment(StringStorage<'input>),
 }
 
 /// A node: 48 bytes. Of the places where it stands these are the lower halves.
