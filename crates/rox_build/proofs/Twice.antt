@@ -1,18 +1,15 @@
--- Two constructs in one turn of a loop.
-use Rattle.std.proofs.Common.{◌≡◌, ℕ, zero, suc, ◌<◌, ◌≤◌, ◌==◌, false, List, length, slice_index, refl, sym, ap, subst, ◌∙◌, arith, Result, Ok}
-use Rattle.rox_reading.specs.Lexical.{◌>>=◌}
+-- Constructs that are read one behind another, in a loop.
+use Rattle.std.proofs.Common.{◌≡◌, ℕ, suc, ◌+◌, ◌-◌, ◌<◌, ◌≤◌, false, List, length, slice_index, refl, sym, ap, subst, ◌∙◌, arith, Result, Ok}
 use Rattle.rox_grammar.specs.State.{Open, root, inside, is_root}
 use Rattle.rox_reading.specs.Refusals.{Refusal}
 use Rattle.rox_reading.specs.State.{State, depth_of}
 use Rattle.rox_reading.specs.Machine.{Context, step, drive}
 use Rattle.rox_scan.specs.declared.cursor.Cursor.{Cursor}
-use Rattle.rox_values.specs.Refusals.{IsRefusal}
-use Rattle.rox_values.specs.declared.parse_error.ParseError.{ParseError}
-use Rattle.rox_build.specs.BuilderState.{IsInState, ScansTo, ParsesTo}
-use Rattle.rox_build.specs.PlainSteps.{StepsOnce, StepsTwice}
+use Rattle.rox_build.specs.BuilderState.{IsInState, IsReady, ScansTo}
+use Rattle.rox_build.specs.PlainSteps.{Steps, no_step, one_more, Reads}
 use Rattle.rox_build.proofs.Items.{stands_within}
 use Rattle.rox_build.proofs.Stepping.{opened_deep}
-use Rattle.rox_build.proofs.Looping.{Driving, driven, drives_on, drive_fails}
+use Rattle.rox_build.proofs.Looping.{Driving, driven}
 use Rattle.rox_build.specs.declared.builder.Builder.{Builder}
 
 still_inside : (o p : Open) → depth_of o ≡ depth_of p → is_root o ≡ false → is_root p ≡ false
@@ -20,67 +17,57 @@ still_inside root p same inner = cc inner
 still_inside (inside start tag before up) root same inner = absurd (omega (arith, same))
 still_inside (inside start tag before up) (inside start' tag' before' up') same inner = refl
 
--- two steps, the first of which opens and closes nothing
-pub twice_read : (context : Context) (end : ℕ) (src : List ℕ) (s : State) (c d e : Cursor) (b u v : Builder) → IsInState context.limit end s c b → is_root s.stack ≡ false → u.opened ≡ b.opened
+-- where there is room for some rows, there is room for fewer
+pub ready_fewer : (n m : ℕ) (b : Builder) → m ≤ n → IsReady n b → IsReady m b
+ready_fewer n m b fewer h = record { room = omega (arith, fewer, h.room); few = omega (arith, fewer, h.few); small = omega (arith, fewer, h.small); settled = h.settled }
+
+-- nothing was read
+pub reads_none : (context : Context) (end : ℕ) (src : List ℕ) (s : State) (c : Cursor) (b : Builder) → IsInState context.limit end s c b → Reads context end 0 c b src s
+reads_none context end src s c b h = record { behind = s; steps = no_step s; sees = h }
+
+-- one step was read
+pub reads_one : (context : Context) (end : ℕ) (src : List ℕ) (s : State) (c : Cursor) (b : Builder) → is_root s.stack ≡ false → s.at < length src → ScansTo context.limit end (Ok tt) c b (step context src s)
+    → Reads context end 1 c b src s
+reads_one context end src s c b inner within (t, read, sees) = record { behind = t; steps = one_more 0 s t t inner within read (no_step t); sees = sees }
+
+-- a run opens and closes nothing, and `<` stands behind it
+run_behind : (context : Context) (end : ℕ) (src : List ℕ) (s t : State) (c d : Cursor) (b u : Builder) → IsInState context.limit end s c b → is_root s.stack ≡ false → u.opened ≡ b.opened
+    → IsInState context.limit end t d u → slice_index src d.pos ≡ 60 → (is_root t.stack ≡ false) × (t.at < length src)
+run_behind context end src s t c d b u h inner opens sees here =
+    let deep : depth_of s.stack ≡ depth_of t.stack = sym (opened_deep end s.stack s.done b h.shows) ∙ ap (λ os. length os.items) (sym opens) ∙ opened_deep end t.stack t.done u sees.shows in
+    (still_inside s.stack t.stack deep inner, subst (λ (n : ℕ). n < length src) sees.here (stands_within src d.pos 60 here (omega arith)))
+
+-- a run, and the markup behind it
+pub twice_read : (context : Context) (end : ℕ) (src : List ℕ) (s : State) (c d e : Cursor) (b u v : Builder) → IsInState context.limit end s c b → is_root s.stack ≡ false → s.at < length src → u.opened ≡ b.opened
     → ScansTo context.limit end (Ok tt) d u (step context src s) → slice_index src d.pos ≡ 60 → ((t : State) → IsInState context.limit end t d u → ScansTo context.limit end (Ok tt) e v (step context src t))
-    → StepsTwice context end e v src s
-twice_read context end src s c d e b u v h inner opens (t, read, sees) here second =
-    let deep : depth_of s.stack ≡ depth_of t.stack = sym (opened_deep end s.stack s.done b h.shows) ∙ ap (λ os. length os.items) (sym opens) ∙ opened_deep end t.stack t.done u sees.shows in
-    record {
-      between = t;
-      first = read;
-      inner = still_inside s.stack t.stack deep inner;
-      inside = subst (λ (n : ℕ). n < length src) sees.here (stands_within src d.pos 60 here (omega arith));
-      second = second t sees;
-    }
+    → Reads context end 2 e v src s
+twice_read context end src s c d e b u v h inner within opens (t, read, sees) here second =
+    let behind = run_behind context end src s t c d b u h inner opens sees here in
+    let next = second t sees in
+    record { behind = next.0; steps = one_more 1 s t next.0 inner within read (one_more 0 t next.0 next.0 behind.0 behind.1 next.1 (no_step next.0)); sees = next.2 }
 
--- one that opens and closes nothing, and what ends it leaves all as it was
-pub run_read : (context : Context) (end : ℕ) (src : List ℕ) (s : State) (c d e : Cursor) (b u v : Builder) → IsInState context.limit end s c b → is_root s.stack ≡ false → u.opened ≡ b.opened
-    → ScansTo context.limit end (Ok tt) d u (step context src s) → slice_index src d.pos ≡ 60 → ((t : State) → IsInState context.limit end t d u → IsInState context.limit end t e v) → StepsOnce context end e v src s
-run_read context end src s c d e b u v h inner opens (t, read, sees) here other =
-    let deep : depth_of s.stack ≡ depth_of t.stack = sym (opened_deep end s.stack s.done b h.shows) ∙ ap (λ os. length os.items) (sym opens) ∙ opened_deep end t.stack t.done u sees.shows in
-    record {
-      between = t;
-      first = read;
-      inner = still_inside s.stack t.stack deep inner;
-      inside = subst (λ (n : ℕ). n < length src) sees.here (stands_within src d.pos 60 here (omega arith));
-      sees = other t sees;
-    }
+-- a run, behind which nothing is read
+pub run_read : (context : Context) (end : ℕ) (src : List ℕ) (s : State) (d e : Cursor) (u v : Builder) → is_root s.stack ≡ false → s.at < length src
+    → ScansTo context.limit end (Ok tt) d u (step context src s) → ((t : State) → IsInState context.limit end t d u → IsInState context.limit end t e v) → Reads context end 1 e v src s
+run_read context end src s d e u v inner within (t, read, sees) other = record { behind = t; steps = one_more 0 s t t inner within read (no_step t); sees = other t sees }
 
-drives_once : (context : Context) (end : ℕ) (src : List ℕ) (whole : Result State Refusal) (n m : ℕ) (c d : Cursor) (b u : Builder) (g : Driving context end src whole n c b) → n ≡ suc m → is_root g.s.stack ≡ false
-    → g.s.at < length src → (x : StepsOnce context end d u src g.s) → drive context m src x.between ≡ whole
-drives_once context end src whole n m c d b u g one inner more x =
-    let read : (step context src g.s >>= λ t. drive context m src t) ≡ drive context m src x.between = rw x.first refl in
-    sym (driven context n m src g.s one inner more ∙ read) ∙ g.same
+steps_then : (context : Context) (src : List ℕ) (n m : ℕ) (s t u : State) → Steps context src n s t → Steps context src m t u → Steps context src (n + m) s u
+steps_then context src n m s t u (no_step _) more = let e : m ≡ 0 + m = omega arith in subst (λ (j : ℕ). Steps context src j s u) e more
+steps_then context src n m s t u (one_more k _ r _ inner within read rest) more =
+    let e : suc (k + m) ≡ suc k + m = omega arith in
+    subst (λ (j : ℕ). Steps context src j s u) e (one_more (k + m) s r u inner within read (steps_then context src k m r t u rest more))
 
--- one step, and one more
-pub apart_on : (context : Context) (end : ℕ) (src : List ℕ) (whole : Result State Refusal) (n m : ℕ) (c d e : Cursor) (b u v : Builder) (y : Unit {0}) (g : Driving context end src whole n c b) → n ≡ suc (suc m) → is_root g.s.stack ≡ false
-    → g.s.at < length src → (x : StepsOnce context end d u src g.s) → ParsesTo context.limit end (Ok y) e v (step context src x.between) → Driving context end src whole m e v
-apart_on context end src whole n m c d e b u v y g two inner more x h =
-    drives_on context end src whole (suc m) m d e u v y (record { s = x.between; sees = x.sees; same = drives_once context end src whole n (suc m) c d b u g two inner more x }) refl x.inner x.inside h
+-- what was read, and what was read behind it
+pub reads_then : (context : Context) (end n m : ℕ) (src : List ℕ) (s : State) (c d : Cursor) (b u : Builder) (x : Reads context end n c b src s) → Reads context end m d u src x.behind → Reads context end (n + m) d u src s
+reads_then context end n m src s c d b u x y = record { behind = y.behind; steps = steps_then context src n m s x.behind y.behind x.steps y.steps; sees = y.sees }
 
-pub apart_fails : (context : Context) (end : ℕ) (src : List ℕ) (whole : Result State Refusal) (n m : ℕ) (c d : Cursor) (b u : Builder) (e : ParseError) (g : Driving context end src whole n c b) → n ≡ suc (suc m) → is_root g.s.stack ≡ false
-    → g.s.at < length src → (x : StepsOnce context end d u src g.s) → IsRefusal e (step context src x.between) → IsRefusal e whole
-apart_fails context end src whole n m c d b u e g two inner more x h =
-    drive_fails context end src whole (suc m) m d u e (record { s = x.between; sees = x.sees; same = drives_once context end src whole n (suc m) c d b u g two inner more x }) refl x.inner x.inside h
+drive_past : (context : Context) (src : List ℕ) (n m k : ℕ) (s t : State) → Steps context src k s t → n ≡ k + m → drive context n src s ≡ drive context m src t
+drive_past context src n m k s t (no_step _) all = let e : n ≡ m = omega (arith, all) in ap (λ (j : ℕ). drive context j src s) e
+drive_past context src n m k s t (one_more j _ r _ inner within read rest) all =
+    driven context n (j + m) src s (omega (arith, all)) inner within ∙ rw read (drive_past context src (j + m) m j r t rest refl)
 
-pub drives_twice : (context : Context) (end : ℕ) (src : List ℕ) (whole : Result State Refusal) (n m : ℕ) (c d : Cursor) (b u : Builder) (g : Driving context end src whole n c b) → n ≡ suc (suc m) → is_root g.s.stack ≡ false
-    → g.s.at < length src → StepsTwice context end d u src g.s → Driving context end src whole m d u
-drives_twice context end src whole n m c d b u g two inner more x = by_second x.second
-  where
-    by_second : ScansTo context.limit end (Ok tt) d u (step context src x.between) → Driving context end src whole m d u
-    by_second (t, read, sees) =
-        let one : (step context src g.s >>= λ t. drive context (suc m) src t) ≡ drive context (suc m) src x.between = rw x.first refl in
-        let other : (step context src x.between >>= λ t. drive context m src t) ≡ drive context m src t = rw read refl in
-        record { s = t; sees = sees; same = sym (driven context n (suc m) src g.s two inner more ∙ one ∙ driven context (suc m) m src x.between refl x.inner x.inside ∙ other) ∙ g.same }
-
--- how many were read
-pub none_left : (n : ℕ) → n ≤ 3 → (n ≡ 1 → ⊥) → (n ≡ 2 → ⊥) → (n ≡ 3 → ⊥) → n ≡ 0
-none_left zero most one two three = refl
-none_left (suc zero) most one two three = absurd (one refl)
-none_left (suc (suc zero)) most one two three = absurd (two refl)
-none_left (suc (suc (suc zero))) most one two three = absurd (three refl)
-none_left (suc (suc (suc (suc n)))) most one two three = absurd (omega (arith, most))
-
-pub none_read : (n : ℕ) → n ≤ 3 → (n == 1) ≡ false → (n ≡ 2 → ⊥) → (n ≡ 3 → ⊥) → n ≡ 0
-none_read n most one two three = none_left n most (λ e. cc (subst (λ (m : ℕ). (m == 1) ≡ false) e one)) two three
+-- the loop goes on behind what was read
+pub drives_past : (context : Context) (end : ℕ) (src : List ℕ) (whole : Result State Refusal) (n k : ℕ) (c d : Cursor) (b u : Builder) (g : Driving context end src whole n c b) → k ≤ n → Reads context end k d u src g.s
+    → Driving context end src whole (n - k) d u
+drives_past context end src whole n k c d b u g most x =
+    record { s = x.behind; sees = x.sees; same = sym (drive_past context src n (n - k) k g.s x.behind x.steps (omega (arith, most))) ∙ g.same }

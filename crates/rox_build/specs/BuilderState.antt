@@ -229,20 +229,11 @@ pub record Grown (old new : ElementTables) : Type 0 where
   pub more_lists : List (List NamespaceDecl)
   pub lists : lists_in new ≡ lists_in old ++ more_lists
 
--- there is room for a row and for an open element, and no text waits for its row
-pub record IsReady (b : Builder) : Type 0 where
-  pub room : vec_len b.nodes.rows < vec_capacity b.nodes.rows
-  pub few : vec_len b.nodes.rows < b.nodes_limit
-  pub small : vec_len b.nodes.rows + 1 < 2 ^ 32
-  pub depth : vec_len b.opened < vec_capacity b.opened
-  pub settled : waiting b.pending ≡ 0
-
--- the same with room for two rows
-pub record IsReadyTwice (b : Builder) : Type 0 where
-  pub room : vec_len b.nodes.rows + 1 < vec_capacity b.nodes.rows
-  pub few : vec_len b.nodes.rows + 1 < b.nodes_limit
-  pub small : vec_len b.nodes.rows + 2 < 2 ^ 32
-  pub depth : vec_len b.opened < vec_capacity b.opened
+-- there is room for so many rows more, and no text waits for its row
+pub record IsReady (n : ℕ) (b : Builder) : Type 0 where
+  pub room : vec_len b.nodes.rows + n ≤ vec_capacity b.nodes.rows
+  pub few : vec_len b.nodes.rows + n ≤ b.nodes_limit
+  pub small : vec_len b.nodes.rows + n < 2 ^ 32
   pub settled : waiting b.pending ≡ 0
 
 -- the builder holds the same, whatever room it has for attributes

@@ -1,24 +1,20 @@
--- Plain constructs that are read one behind another.
-use Rattle.std.specs.Prelude.{◌≡◌, ◌<◌, ℕ, false, List, Ok, length}
+-- Constructs that are read one behind another.
+use Rattle.std.specs.Prelude.{◌≡◌, ◌<◌, ℕ, zero, suc, false, List, Ok, length}
 use Rattle.rox_grammar.specs.State.{is_root}
 use Rattle.rox_reading.specs.State.{State}
 use Rattle.rox_reading.specs.Machine.{Context, step}
 use Rattle.rox_scan.specs.declared.cursor.Cursor.{Cursor}
-use Rattle.rox_build.specs.BuilderState.{IsInState, ScansTo}
+use Rattle.rox_build.specs.BuilderState.{IsInState}
 use Rattle.rox_build.specs.declared.builder.Builder.{Builder}
 
--- two steps were read, the first of which goes neither out of the root element nor to the end
-pub record StepsTwice (context : Context) (end : ℕ) (c : Cursor) (b : Builder) (src : List ℕ) (s : State) : Type 0 where
-  pub between : State
-  pub first : step context src s ≡ Ok between
-  pub inner : is_root between.stack ≡ false
-  pub inside : between.at < length src
-  pub second : ScansTo context.limit end (Ok tt) c b (step context src between)
+-- so many steps lead from one state to another, each from a place inside the root element and before the end
+pub data Steps (context : Context) (src : List ℕ) : ℕ → State → State → Type 0 where
+  no_step : (s : State) → Steps context src zero s s
+  one_more : (n : ℕ) (s t u : State) → is_root s.stack ≡ false → s.at < length src → step context src s ≡ Ok t → Steps context src n t u
+      → Steps context src (suc n) s u
 
--- one step was read, which goes neither out of the root element nor to the end
-pub record StepsOnce (context : Context) (end : ℕ) (c : Cursor) (b : Builder) (src : List ℕ) (s : State) : Type 0 where
-  pub between : State
-  pub first : step context src s ≡ Ok between
-  pub inner : is_root between.stack ≡ false
-  pub inside : between.at < length src
-  pub sees : IsInState context.limit end between c b
+-- so many steps were read
+pub record Reads (context : Context) (end n : ℕ) (c : Cursor) (b : Builder) (src : List ℕ) (s : State) : Type 0 where
+  pub behind : State
+  pub steps : Steps context src n s behind
+  pub sees : IsInState context.limit end behind c b

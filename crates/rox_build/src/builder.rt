@@ -142,7 +142,7 @@ fn join_last(
 }
 
 impl<'input> Builder<'input> {
-    ghost use Rattle.std.specs.Prelude.{List, ◌-◌, false, true, take, Ok, Err, map};
+    ghost use Rattle.std.specs.Prelude.{List, ◌-◌, false, true, take, Ok, Err, map, vec_capacity};
     ghost use Rattle.rox_grammar.specs.Forest.{Forest, Nil, Cons, join};
     ghost use Rattle.rox_grammar.specs.Written.{Item, Text, Element, Tag, merge, leaf};
     ghost use Rattle.rox_grammar.specs.declared.fault.Fault.TheVariants as fault;
@@ -151,7 +151,7 @@ impl<'input> Builder<'input> {
     ghost use Rattle.rox_reading.specs.Machine.{with_item, opened_by, counted};
     ghost use Rattle.rox_grammar.specs.Failures.{Fails};
     ghost use Rattle.rox_values.specs.Values.{piece_view};
-    ghost use Rattle.rox_build.specs.BuilderState.{Represents, RepresentsFlushed, IsNode, IsOpening, AreSound, Adds, IsConsistent, IsOpened, IsReady, IsReadyTwice, KeepsState, names_in, opened_in, last_row, tables_of};
+    ghost use Rattle.rox_build.specs.BuilderState.{Represents, RepresentsFlushed, IsNode, IsOpening, AreSound, Adds, IsConsistent, IsOpened, IsReady, KeepsState, names_in, opened_in, last_row, tables_of};
     ghost use Rattle.rox_tables.specs.Rows.{HoldsTree, attribute_rows};
     ghost use Rattle.rox_tables.specs.StoredNodes.{IsSmallKind};
     ghost use Rattle.rox_tables.specs.Scopes.{PrefixesOnce};
@@ -576,19 +576,24 @@ impl<'input> Builder<'input> {
         Ok(())
     }
 
-    /// Whether there is room for two rows and for an open element, and no text waits for its row.
-    #[inline(always)]
-    pub fn is_ready_twice(&self) -> bool
-        ensures { result ≡ true → IsReadyTwice self.now }
+    /// How many rows more there is room for, where no text waits for its row; else none.
+    #[inline]
+    pub fn rows_left(&self) -> usize
+        ensures { (n : ℕ) → 0 < n → n ≤ result → IsReady n self.now }
     {
-        match self.pending {
-            Pending::Joined => false,
-            _ => {
-                self.nodes.has_room_for_two()
-                    && self.nodes.len() + 1 < self.nodes_limit as usize
-                    && self.opened.len() < self.opened.capacity()
-            }
+        if let Pending::Joined = self.pending {
+            return 0;
         }
+        let permitted = (self.nodes_limit as usize).saturating_sub(self.nodes.len());
+        self.nodes.room().min(permitted)
+    }
+
+    /// Whether there is room for one more open element.
+    #[inline(always)]
+    pub fn has_room_to_open(&self) -> bool
+        ensures { result ≡ true → vec_len self.now.opened < vec_capacity self.now.opened }
+    {
+        self.opened.len() < self.opened.capacity()
     }
 
     /// Whether text may go on.
@@ -618,17 +623,17 @@ impl<'input> Builder<'input> {
         self.pending = Pending::None;
     }
 
-    /// A text that is a slice of the source, where no text may go on and there is room for its row and for one more.
+    /// A text that is a slice of the source, where no text may go on and there is room for its row.
     #[inline(always)]
     pub fn put_text(&mut self, start: usize, end: usize, text: &'input str)
-        requires ready { IsReadyTwice self.old }
+        requires ready { IsReady 1 self.old }
         requires apart { self.old.pending ≡ pending.None }
         requires start { start < 2 ^ 32 }
         requires end { end < 2 ^ 32 }
         ensures value { (total at : ℕ) (s : State) → Represents total s.stack s.done self.old
             → Adds total (Ok tt) self.new
             (with_item self.old.nodes_limit s at (Text start end text.now true)) }
-        ensures ready { IsReady self.new }
+        ensures ready { (n : ℕ) → IsReady (n + 1) self.old → IsReady n self.new }
         ensures tables { self.new.tables ≡ self.old.tables }
         ensures opened { self.new.opened ≡ self.old.opened }
         ensures limit { self.new.nodes_limit ≡ self.old.nodes_limit }
@@ -642,7 +647,7 @@ impl<'input> Builder<'input> {
     /// The same of a text of these bytes that counts as owned. Answers false where memory is refused, and then all is as before.
     #[inline(always)]
     pub fn put_owned(&mut self, alloc: Global, start: usize, end: usize, changed: &str) -> bool
-        requires ready { IsReadyTwice self.old }
+        requires ready { IsReady 1 self.old }
         requires apart { self.old.pending ≡ pending.None }
         requires start { start < 2 ^ 32 }
         requires end { end < 2 ^ 32 }
@@ -667,7 +672,7 @@ impl<'input> Builder<'input> {
     /// A node that is no text and has no nodes below it, where there is room for its row.
     #[inline(always)]
     pub fn put_leaf(&mut self, start: usize, end: usize, kind: NodeKind<'input>)
-        requires ready { IsReady self.old }
+        requires ready { IsReady 1 self.old }
         requires start { start < 2 ^ 32 }
         requires end { end < 2 ^ 32 }
         requires small { IsSmallKind kind }
@@ -675,6 +680,7 @@ impl<'input> Builder<'input> {
             → Represents total s.stack s.done self.old
             → IsNode self.old.tables (scope_of s.stack) start end kind.entry item
             → Adds total (Ok tt) self.new (with_item self.old.nodes_limit s at item) }
+        ensures ready { (n : ℕ) → IsReady (n + 1) self.old → IsReady n self.new }
         ensures tables { self.new.tables ≡ self.old.tables }
         ensures opened { self.new.opened ≡ self.old.opened }
         ensures limit { self.new.nodes_limit ≡ self.old.nodes_limit }
@@ -688,7 +694,8 @@ impl<'input> Builder<'input> {
     /// An element opens at `start`, where there is room for it.
     #[inline(always)]
     pub fn put_open(&mut self, text: &'input str, start: usize, tag: &StartTag<'input>)
-        requires ready { IsReady self.old }
+        requires ready { IsReady 1 self.old }
+        requires depth { vec_len self.old.opened < vec_capacity self.old.opened }
         requires start { start < 2 ^ 32 }
         requires within { tag.now.name_start ≤ length text.now }
         ensures value { (total at openings_left : ℕ) (s : State) (t : Tag)
@@ -696,6 +703,7 @@ impl<'input> Builder<'input> {
             → IsOpening self.old.tables (scope_of s.stack) start tag.now t
             → Adds total (Ok tt) self.new
             (opened_by self.old.nodes_limit s t false openings_left at) }
+        ensures ready { (n : ℕ) → IsReady (n + 1) self.old → IsReady n self.new }
         ensures tables { self.new.tables ≡ self.old.tables }
         ensures opened { (x : OpenElement)
             × (self.new.opened.items ≡ self.old.opened.items ++ x ∷ [])
@@ -729,6 +737,7 @@ impl<'input> Builder<'input> {
             (done : Forest Item) → Represents total (inside start t before up) done self.old
             → Represents total up (join before (Cons (Element start end t) (merge done) Nil))
             self.new }
+        ensures ready { (n : ℕ) → IsReady n self.old → IsReady n self.new }
         ensures tables { self.new.tables ≡ self.old.tables }
         ensures opened { self.new.opened.items
             ≡ take (length self.old.opened.items - 1) self.old.opened.items }

@@ -17,7 +17,7 @@ ghost use Rattle.rox_build.specs.DataParts.{GivesDataPart, next_part};
 
 use crate::builder::Builder;
 use crate::constructs::{end_tag, markup};
-use crate::plain_constructs::{plain_main_line, plain_step, plain_steps};
+use crate::plain_constructs::{plain_main_line, plain_step, plain_stretch};
 use crate::tag::Buffers;
 use rox_grammar::failure::Failure;
 use rox_grammar::fault::Fault;
@@ -357,32 +357,22 @@ pub fn content<'input>(
 {
     let mut left = cursor.text.len();
     while left > 0 {
+        let pairs = builder.rows_left().min(left) / 2;
+        left -= plain_stretch(cursor, builder, context.open_around, pairs);
         if builder.is_at_root() {
             return Ok(());
+        }
+        if left == 0 {
+            return Err(ParseError::Fault(Fault::UnclosedRootNode));
         }
         if cursor.is_at_end() {
             return Err(ParseError::Fault(Fault::UnclosedRootNode));
         }
-        let read = plain_steps(cursor, builder, context.open_around, left > 1);
-        if read == 1 {
-            left -= 1;
-            continue;
-        }
-        if read == 2 {
-            left -= 2;
-            continue;
-        }
-        if read == 3 {
-            general_step(alloc, cursor, builder, context)?;
-            left -= 2;
-            continue;
-        }
+        left -= 1;
         if plain_main_line(alloc, cursor, builder, context.main) {
-            left -= 1;
             continue;
         }
         general_step(alloc, cursor, builder, context)?;
-        left -= 1;
     }
     if builder.is_at_root() {
         Ok(())

@@ -2,7 +2,7 @@
 //! start tag. Nothing fails here: what is not plain, or finds no room, is left to the general step, which reads that one
 //! construct from the same place.
 
-ghost use Rattle.std.specs.Prelude.{◌≡◌, ◌≢◌, ◌<◌, ◌≤◌, ◌+◌, ◌-◌, ◌^◌, ℕ, Ok, length, take, slice_index, true, false};
+ghost use Rattle.std.specs.Prelude.{◌≡◌, ◌≢◌, ◌<◌, ◌≤◌, ◌+◌, ◌-◌, ◌*◌, ◌^◌, ℕ, Ok, length, take, slice_index, true, false};
 ghost use Rattle.std.specs.Str.{IsCharBoundary};
 ghost use Rattle.rox_grammar.specs.Chars.{is_part_char};
 ghost use Rattle.rox_grammar.specs.Runs.{run_end};
@@ -13,8 +13,8 @@ ghost use Rattle.rox_reading.specs.Machine as machine;
 ghost use Rattle.rox_reading.specs.Refusals.{lifted};
 ghost use Rattle.rox_reading.specs.State.{State};
 ghost use Rattle.rox_grammar.specs.State.{is_root};
-ghost use Rattle.rox_build.specs.BuilderState.{IsConsistent, IsInState, IsReady, IsReadyTwice, KeepsState, ScansTo};
-ghost use Rattle.rox_build.specs.PlainSteps.{StepsOnce, StepsTwice};
+ghost use Rattle.rox_build.specs.BuilderState.{IsConsistent, IsInState, IsReady, KeepsState, ScansTo};
+ghost use Rattle.rox_build.specs.PlainSteps.{Reads};
 ghost use Rattle.rox_build.specs.PendingText.{waiting};
 
 use crate::builder::Builder;
@@ -36,7 +36,7 @@ const MOST_BYTES: usize = 4294967295;
 #[inline(always)]
 fn plain_character_data<'input>(cursor: &mut Cursor<'input>, builder: &mut Builder<'input>) -> bool
     requires short { length cursor.old.text.now < 2 ^ 32 }
-    requires ready { IsReadyTwice builder.old }
+    requires ready { IsReady 1 builder.old }
     ensures value { result ≡ true → (context : machine.Context) (end : ℕ) (s : State)
         → IsInState context.limit end s cursor.old builder.old
         → ScansTo context.limit end (Ok tt) cursor.new builder.new
@@ -46,7 +46,8 @@ fn plain_character_data<'input>(cursor: &mut Cursor<'input>, builder: &mut Build
     ensures opened { builder.new.opened ≡ builder.old.opened }
     ensures source { cursor.new.text ≡ cursor.old.text }
     ensures behind { result ≡ true → slice_index cursor.old.text.now cursor.new.pos ≡ 60 }
-    ensures ready { result ≡ true → IsReady builder.new }
+    ensures ready { result ≡ true → (n : ℕ) → IsReady (n + 1) builder.old
+        → IsReady n builder.new }
 {
     if builder.is_text_open() {
         return false;
@@ -82,7 +83,7 @@ fn plain_line<'input>(
 {
     let start = cursor.pos;
     let text = cursor.text;
-    if text.len() > MOST_BYTES || builder.is_text_open() || !builder.is_ready_twice() {
+    if text.len() > MOST_BYTES || builder.is_text_open() || builder.rows_left() == 0 {
         return false;
     }
     let Some(stop) = line_run_end(text, start) else {
@@ -138,6 +139,8 @@ fn plain_end_tag(cursor: &mut Cursor<'_>, builder: &mut Builder<'_>, open_around
         → ScansTo context.limit end (Ok tt) cursor.new builder.new
         (lifted (machine.end_step context cursor.old.text.now s)) }
     ensures other { result ≡ false → (cursor.new ≡ cursor.old) × (builder.new ≡ builder.old) }
+    ensures ready { result ≡ true → (n : ℕ) → IsReady (n + 1) builder.old
+        → IsReady n builder.new }
     ensures fine { IsConsistent builder.new.tables builder.new.opened.items }
     ensures source { cursor.new.text ≡ cursor.old.text }
 {
@@ -177,18 +180,20 @@ fn bare_element<'input>(
     requires cut { IsCharBoundary cursor.old.text.now part }
     requires onward { cursor.old.pos + 1 ≤ part }
     requires short { length cursor.old.text.now < 2 ^ 32 }
-    requires ready { IsReady builder.old }
+    requires ready { IsReady 1 builder.old }
     requires fine { IsConsistent builder.old.tables builder.old.opened.items }
     ensures value { result ≡ true → (context : machine.Context) (end : ℕ) (s : State)
         → IsInState context.limit end s cursor.old builder.old
         → ScansTo context.limit end (Ok tt) cursor.new builder.new
         (machine.tag_step context cursor.old.text.now s) }
     ensures other { result ≡ false → (cursor.new ≡ cursor.old) × (builder.new ≡ builder.old) }
+    ensures ready { result ≡ true → (n : ℕ) → IsReady (n + 1) builder.old
+        → IsReady n builder.new }
     ensures fine { IsConsistent builder.new.tables builder.new.opened.items }
     ensures source { cursor.new.text ≡ cursor.old.text }
 {
     // Most tags have more than a name, which is seen first.
-    if !is_at(cursor.text, part, b'>') {
+    if !is_at(cursor.text, part, b'>') || !builder.has_room_to_open() {
         return false;
     }
     let Some(parent) = builder.innermost() else {
@@ -223,7 +228,7 @@ fn plain_element<'input>(
     requires cut { IsCharBoundary cursor.old.text.now part }
     requires onward { cursor.old.pos + 1 ≤ part }
     requires short { length cursor.old.text.now < 2 ^ 32 }
-    requires ready { IsReady builder.old }
+    requires ready { IsReady 1 builder.old }
     requires fine { IsConsistent builder.old.tables builder.old.opened.items }
     ensures value { result ≡ true → (context : machine.Context) (end : ℕ) (s : State)
         → IsInState context.limit end s cursor.old builder.old
@@ -231,9 +236,14 @@ fn plain_element<'input>(
         (machine.tag_step context cursor.old.text.now s) }
     ensures other { result ≡ false → (cursor.new ≡ cursor.old)
         × KeepsState builder.old builder.new }
+    ensures ready { result ≡ true → (n : ℕ) → IsReady (n + 1) builder.old
+        → IsReady n builder.new }
     ensures fine { IsConsistent builder.new.tables builder.new.opened.items }
     ensures source { cursor.new.text ≡ cursor.old.text }
 {
+    if !builder.has_room_to_open() {
+        return false;
+    }
     let start = cursor.pos;
     let above = builder.scope();
     let openings_left = builder.openings_left;
@@ -261,13 +271,15 @@ fn plain_element<'input>(
 fn plain_comment<'input>(cursor: &mut Cursor<'input>, builder: &mut Builder<'input>) -> bool
     requires here { stands (word_text word.CommentStart) cursor.old.text.now cursor.old.pos ≡ true }
     requires short { length cursor.old.text.now < 2 ^ 32 }
-    requires ready { IsReady builder.old }
+    requires ready { IsReady 1 builder.old }
     requires fine { IsConsistent builder.old.tables builder.old.opened.items }
     ensures value { result ≡ true → (limit end : ℕ) (s : State)
         → IsInState limit end s cursor.old builder.old
         → ScansTo limit end (Ok tt) cursor.new builder.new
         (lifted (machine.comment_step limit cursor.old.text.now s)) }
     ensures other { result ≡ false → (cursor.new ≡ cursor.old) × (builder.new ≡ builder.old) }
+    ensures ready { result ≡ true → (n : ℕ) → IsReady (n + 1) builder.old
+        → IsReady n builder.new }
     ensures fine { IsConsistent builder.new.tables builder.new.opened.items }
     ensures source { cursor.new.text ≡ cursor.old.text }
 {
@@ -290,13 +302,15 @@ fn plain_section<'input>(cursor: &mut Cursor<'input>, builder: &mut Builder<'inp
     requires here { slice_index cursor.old.text.now cursor.old.pos ≡ 60 }
     requires next { slice_index cursor.old.text.now (cursor.old.pos + 1) ≡ 33 }
     requires short { length cursor.old.text.now < 2 ^ 32 }
-    requires ready { IsReady builder.old }
+    requires ready { IsReady 1 builder.old }
     requires fine { IsConsistent builder.old.tables builder.old.opened.items }
     ensures value { result ≡ true → (context : machine.Context) (end : ℕ) (s : State)
         → IsInState context.limit end s cursor.old builder.old
         → ScansTo context.limit end (Ok tt) cursor.new builder.new
         (machine.step context cursor.old.text.now s) }
     ensures other { result ≡ false → (cursor.new ≡ cursor.old) × (builder.new ≡ builder.old) }
+    ensures ready { result ≡ true → (n : ℕ) → IsReady (n + 1) builder.old
+        → IsReady n builder.new }
     ensures fine { IsConsistent builder.new.tables builder.new.opened.items }
     ensures source { cursor.new.text ≡ cursor.old.text }
 {
@@ -316,7 +330,7 @@ fn plain_markup<'input>(
 ) -> bool
     requires here { slice_index cursor.old.text.now cursor.old.pos ≡ 60 }
     requires short { length cursor.old.text.now < 2 ^ 32 }
-    requires ready { IsReady builder.old }
+    requires ready { IsReady 1 builder.old }
     requires fine { IsConsistent builder.old.tables builder.old.opened.items }
     ensures value { result ≡ true → (context : machine.Context) (end : ℕ) (s : State)
         → context.open_around ≡ open_around → IsInState context.limit end s cursor.old builder.old
@@ -326,6 +340,8 @@ fn plain_markup<'input>(
         → IsInState context.limit end s cursor.old builder.old
         → IsInState context.limit end s cursor.new builder.new }
     ensures place { result ≡ false → cursor.new ≡ cursor.old }
+    ensures ready { result ≡ true → (n : ℕ) → IsReady (n + 1) builder.old
+        → IsReady n builder.new }
     ensures fine { IsConsistent builder.new.tables builder.new.opened.items }
     ensures source { cursor.new.text ≡ cursor.old.text }
 {
@@ -351,65 +367,110 @@ fn plain_markup<'input>(
     plain_element(cursor, builder, part)
 }
 
-/// The construct that stands here, if it is plain and finds room, and behind a run also what ends it, where `two` may be read.
-/// Answers how many were read, or 3 where a run was read and what ends it is not plain.
+/// How many constructs were read, and whether they are all that were looked for.
+#[derive(Clone, Copy)]
+struct Pair {
+    read: usize,
+    whole: bool,
+}
+
+/// A run, if one stands here, and the markup behind it, as far as they are plain, inside the root element.
 #[inline(always)]
-pub fn plain_steps<'input>(
+fn plain_pair<'input>(
     cursor: &mut Cursor<'input>,
     builder: &mut Builder<'input>,
     open_around: usize,
-    two: bool,
-) -> usize
-    requires there { cursor.old.pos < length cursor.old.text.now }
+) -> Pair
+    requires short { length cursor.old.text.now < 2 ^ 32 }
+    requires ready { IsReady 2 builder.old }
     requires fine { IsConsistent builder.old.tables builder.old.opened.items }
-    ensures one { result ≡ 1 → (context : machine.Context) (end : ℕ) (s : State)
-        → context.open_around ≡ open_around → IsInState context.limit end s cursor.old builder.old
-        → ScansTo context.limit end (Ok tt) cursor.new builder.new
-        (machine.step context cursor.old.text.now s) }
-    ensures two { result ≡ 2 → (two ≡ true) × ((context : machine.Context) (end : ℕ) (s : State)
+    ensures value { (context : machine.Context) (end : ℕ) (s : State)
         → context.open_around ≡ open_around → IsInState context.limit end s cursor.old builder.old
         → is_root s.stack ≡ false
-        → StepsTwice context end cursor.new builder.new cursor.old.text.now s) }
-    ensures apart { result ≡ 3 → (two ≡ true) × ((context : machine.Context) (end : ℕ) (s : State)
-        → context.open_around ≡ open_around → IsInState context.limit end s cursor.old builder.old
-        → is_root s.stack ≡ false
-        → StepsOnce context end cursor.new builder.new cursor.old.text.now s) }
-    ensures inside { result ≡ 3 → cursor.new.pos < length cursor.old.text.now }
-    ensures none { result ≡ 0 → (context : machine.Context) (end : ℕ) (s : State)
-        → IsInState context.limit end s cursor.old builder.old
-        → IsInState context.limit end s cursor.new builder.new }
-    ensures place { result ≡ 0 → cursor.new ≡ cursor.old }
-    ensures count { result ≤ 3 }
+        → Reads context end result.read cursor.new builder.new cursor.old.text.now s }
+    ensures count { result.read ≤ 2 }
+    ensures ready { result.whole ≡ true → (n : ℕ) → IsReady (n + 2) builder.old
+        → IsReady n builder.new }
     ensures fine { IsConsistent builder.new.tables builder.new.opened.items }
     ensures source { cursor.new.text ≡ cursor.old.text }
 {
-    if !builder.is_ready_twice() {
-        return 0;
-    }
     let bytes = cursor.text.as_bytes();
-    if bytes.len() > MOST_BYTES {
-        return 0;
+    if cursor.pos + 1 >= bytes.len() {
+        return Pair {
+            read: 0,
+            whole: false,
+        };
     }
     if bytes[cursor.pos] == b'<' {
         if plain_markup(cursor, builder, open_around) {
-            return 1;
+            return Pair {
+                read: 1,
+                whole: true,
+            };
         }
-        return 0;
+        return Pair {
+            read: 0,
+            whole: false,
+        };
     }
     if !plain_character_data(cursor, builder) {
-        return 0;
-    }
-    if !two {
-        return 1;
+        return Pair {
+            read: 0,
+            whole: false,
+        };
     }
     if plain_markup(cursor, builder, open_around) {
-        return 2;
+        return Pair {
+            read: 2,
+            whole: true,
+        };
     }
-    3
+    Pair {
+        read: 1,
+        whole: false,
+    }
+}
+
+/// The constructs from here on inside the root element, as long as they are plain, at most two for each of `pairs`, for which
+/// there is room. Answers how many were read.
+#[inline(always)]
+pub fn plain_stretch<'input>(
+    cursor: &mut Cursor<'input>,
+    builder: &mut Builder<'input>,
+    open_around: usize,
+    pairs: usize,
+) -> usize
+    requires ready { 0 < pairs → IsReady (2 * pairs) builder.old }
+    requires fine { IsConsistent builder.old.tables builder.old.opened.items }
+    ensures value { (context : machine.Context) (end : ℕ) (s : State)
+        → context.open_around ≡ open_around → IsInState context.limit end s cursor.old builder.old
+        → Reads context end result cursor.new builder.new cursor.old.text.now s }
+    ensures count { result ≤ 2 * pairs }
+    ensures fine { IsConsistent builder.new.tables builder.new.opened.items }
+    ensures source { cursor.new.text ≡ cursor.old.text }
+{
+    let mut read = 0;
+    if cursor.text.len() > MOST_BYTES {
+        return read;
+    }
+    let mut left = pairs;
+    while left > 0 {
+        if builder.is_at_root() {
+            return read;
+        }
+        let pair = plain_pair(cursor, builder, open_around);
+        read += pair.read;
+        if !pair.whole {
+            return read;
+        }
+        left -= 1;
+    }
+    read
 }
 
 /// The construct that stands here, if it is plain and finds room; else nothing is read.
 #[inline(always)]
+#[tactic(auto, unfolding(rox_reading::specs::Machine::step))]
 pub fn plain_step<'input>(
     cursor: &mut Cursor<'input>,
     builder: &mut Builder<'input>,
@@ -428,5 +489,12 @@ pub fn plain_step<'input>(
     ensures fine { IsConsistent builder.new.tables builder.new.opened.items }
     ensures source { cursor.new.text ≡ cursor.old.text }
 {
-    plain_steps(cursor, builder, open_around, false) == 1
+    let bytes = cursor.text.as_bytes();
+    if bytes.len() > MOST_BYTES || builder.rows_left() == 0 {
+        return false;
+    }
+    if bytes[cursor.pos] == b'<' {
+        return plain_markup(cursor, builder, open_around);
+    }
+    plain_character_data(cursor, builder)
 }

@@ -163,12 +163,12 @@ impl<'input> NodeTable<'input> {
         self.rows.len() < self.rows.capacity()
     }
 
-    /// Whether there is room for two more rows.
+    /// How many more rows there is room for.
     #[inline(always)]
-    pub fn has_room_for_two(&self) -> bool
-        ensures { result ≡ true → vec_len self.now.rows + 1 < vec_capacity self.now.rows }
+    pub fn room(&self) -> usize
+        ensures { vec_len self.now.rows + result ≤ vec_capacity self.now.rows }
     {
-        self.rows.len() + 1 < self.rows.capacity()
+        self.rows.capacity() - self.rows.len()
     }
 
     /// A node.
@@ -348,6 +348,7 @@ impl<'input> NodeTable<'input> {
                   (node_rows self.old);
             }) }
         ensures len { vec_len self.new.rows ≡ vec_len self.old.rows }
+        ensures capacity { vec_capacity self.new.rows ≡ vec_capacity self.old.rows }
     {
         let subtree_end = self.rows.len() as u32;
         end_stored(&mut self.rows, row, low_half(end), subtree_end);

@@ -1,4 +1,4 @@
-use Rattle.std.proofs.Common.{refl, ap, ℕ, Ok, arith}
+use Rattle.std.proofs.Common.{refl, ap, ℕ, Ok}
 use Rattle.rox_grammar.specs.Tree as tree
 use Rattle.rox_grammar.specs.Written.{Item, Comment}
 use Rattle.rox_build.proofs.Stepping.{comment_is, item_stepped}

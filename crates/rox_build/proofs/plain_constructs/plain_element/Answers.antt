@@ -97,3 +97,9 @@ put_leaf-requires-clause-end c = omega (arith, c.requires.short, c.in-Some.ensur
 
 pub put_open-requires-clause-start : goal.put_open-requires-clause-start
 put_open-requires-clause-start c = omega (arith, c.requires.short, c.args.cursor.now.cut.0)
+
+pub returns-then-read-clause-ready : goal.returns-then-read-clause-ready
+returns-then-read-clause-ready c = λ _ n h. c.put_leaf.ensures.ready n (record { room = h.room; few = h.few; small = h.small; settled = h.settled })
+
+pub returns-clause-ready : goal.returns-clause-ready
+returns-clause-ready c = λ _ n h. c.put_open.ensures.ready n (record { room = h.room; few = h.few; small = h.small; settled = h.settled })

@@ -12,6 +12,7 @@ use Rattle.rox_build.specs.BuilderState.{IsConsistent, IsOpenWithin, HasName, na
 use Rattle.rox_build.proofs.Showing.{last_split}
 use Rattle.rox_build.proofs.Stepping.{end_is, opened_deep, closed_stepped}
 use Rattle.rox_build.proofs.SameNames.{all_last, same_itself, end_tag_close}
+use Rattle.rox_build.proofs.Twice.{ready_fewer}
 use Rattle.rox_build.proofs.plain_constructs.plain_end_tag.Goals as goal
 
 pub returns-clause-value : goal.returns-clause-value
@@ -49,3 +50,6 @@ returns-clause-fine c =
     record { sound = f.sound; elements = all_take (IsOpenWithin b.tables) n b.opened.items f.elements; empty = f.empty; kept = f.kept; few_names = f.few_names; few_attributes = f.few_attributes } in
     subst (λ (qs : List OpenElement). IsConsistent c.put_close.new.self.tables qs) (sym c.put_close.ensures.opened)
     (subst (λ (t : ElementTables). IsConsistent t (take n b.opened.items)) (sym c.put_close.ensures.tables) taken)
+
+pub returns-clause-ready : goal.returns-clause-ready
+returns-clause-ready c = λ _ n h. c.put_close.ensures.ready n (ready_fewer (n + 1) n c.args.builder.now (omega arith) h)

@@ -31,3 +31,6 @@ returns-clause-other c = λ no context end s h.
     let sees : IsInState context.limit end s c.bare_element.new.cursor c.bare_element.new.builder = rw (u.0, u.1) h in
     let o = c.plain_element.ensures.other no in
     state_kept context.limit end s c.bare_element.new.cursor c.plain_element.new.cursor c.bare_element.new.builder c.plain_element.new.builder sees o.0 o.1
+
+pub returns-clause-ready : goal.returns-clause-ready
+returns-clause-ready c = λ yes n h. let same = (c.bare_element.ensures.other c.if-bare_element.false).1 in c.plain_element.ensures.ready yes n (rw same h)

@@ -1,13 +1,7 @@
-use Rattle.std.proofs.lemmas.Bool.{eqb-true}
-use Rattle.rox_build.proofs.Twice.{none_read}
+use Rattle.rox_build.proofs.Stepping.{step_is_run}
 use Rattle.rox_build.proofs.plain_constructs.plain_step.Goals as goal
 
 pub returns-clause-value : goal.returns-clause-value
-returns-clause-value c = λ yes context end s around h. c.plain_steps.ensures.one (eqb-true _ _ yes) context end s around h
-
-pub returns-clause-other : goal.returns-clause-other
-returns-clause-other c = λ no context end s h.
-    c.plain_steps.ensures.none (none_read _ c.plain_steps.ensures.count no (λ two. cc (c.plain_steps.ensures.two two).0) (λ three. cc (c.plain_steps.ensures.apart three).0)) context end s h
-
-pub returns-clause-place : goal.returns-clause-place
-returns-clause-place c = λ no. c.plain_steps.ensures.place (none_read _ c.plain_steps.ensures.count no (λ two. cc (c.plain_steps.ensures.two two).0) (λ three. cc (c.plain_steps.ensures.apart three).0))
+returns-clause-value c = λ yes context end s around h.
+    rw (step_is_run context c.args.cursor.now.text.now _ s c.args.cursor.now.pos c.as_bytes-bytes.ensures.value h.here c.if-bytes-cursor-eq60.false)
+    (c.plain_character_data.ensures.value yes context end s h)

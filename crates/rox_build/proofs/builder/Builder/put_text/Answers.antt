@@ -25,10 +25,3 @@ returns-clause-value c = λ total at s sh.
     let k : NodeKind = kind.Text (storage.Borrowed c.args.text) in
     let rows = c.put.ensures.rows ∙ ap (λ (r : NodeData). (node_rows b.nodes) ++ r ∷ []) c.row-row.ensures in
     (t, counted_ok b.nodes_limit t (omega arith), piece_first total s.stack s.done b _ c.args.start c.args.end v true k sh c.requires.apart refl tt rows refl refl refl)
-
-pub returns-clause-ready : goal.returns-clause-ready
-returns-clause-ready c =
-    let r = c.requires.ready in
-    let len = c.put.ensures.len in
-    let same = c.put.ensures.capacity in
-    record { room = omega (arith, r.room, len, same); few = omega (arith, r.few, len); small = omega (arith, r.small, len); depth = r.depth; settled = refl }
