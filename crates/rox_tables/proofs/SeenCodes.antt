@@ -1,11 +1,8 @@
--- Which codes of names the words have.
-use Rattle.std.proofs.Common.{◌≡◌, ℕ, ◌*◌, ◌/◌, ◌%◌, ◌^◌, ◌<◌, ◌≤◌, ◌∷◌, ◌++◌, [], List, Bool, true, false, length, set, get_or, drop, eqb, bytes_eq, ◌&&◌, refl, sym, ap, ◌∙◌, subst, inl, inr, arith, w64}
-use Rattle.std.specs.Prelude.{bit_and, bit_or}
+-- Which codes of names were seen.
+use Rattle.std.proofs.Common.{◌≡◌, ℕ, ◌<◌, ◌≤◌, ◌∷◌, ◌++◌, [], List, Bool, true, false, length, set, get_or, drop, bytes_eq, ◌&&◌, refl, sym, ap, ◌∙◌, subst, inl, inr, arith}
 use Rattle.std.specs.List.{AllByRecursion, list_any}
-use Rattle.std.specs.Int.{bit_at}
-use Rattle.std.proofs.lemmas.Bool.{cases_eq, eq-eqb}
+use Rattle.std.proofs.lemmas.Bool.{cases_eq}
 use Rattle.std.proofs.lemmas.List.{get_or-set_same, get_or-set_other}
-use Rattle.std.proofs.lemmas.Nat.Bits.{bit_at_or, shr_and_one, bit_at_set_same}
 use Rattle.std.proofs.lemmas.List.{drop-append-le}
 use Rattle.std.proofs.Math.ListN.{drop_of_length-le}
 use Rattle.std.proofs.lemmas.Slice.Eq.{bytes_eq-Decides}
@@ -20,56 +17,47 @@ use Rattle.rox_tables.specs.declared.namespaces.seen_names.SeenNames.{SeenNames}
 use Rattle.rox_tables.specs.SeenNames.{name_code, HasCode, HasNameOf, AreSeen}
 use Rattle.rox_tables.proofs.Stable.{all_append, all_weaker}
 
--- a code whose bit is not set is not there
-pub not_there : (words : List ℕ) (code : ℕ) → eqb (bit_and (get_or words (code / 64) 0 / 2 ^ (code % 64)) 1) 1 ≡ false → HasCode words code → ⊥
+-- a code that was not put is not there
+pub not_there : (codes : List Bool) (code : ℕ) → get_or codes code false ≡ false → HasCode codes code → ⊥
 unfolding HasCode
-not_there words code clear has =
-    let set = eq-eqb _ 1 (shr_and_one (get_or words (code / 64) 0) (code % 64) ∙ has) in
-    cc (clear, set)
+not_there codes code clear has = cc (clear, has)
 
-module _ (words : List ℕ) (code : ℕ) where
-  abbrev pub more : List ℕ
-  more = set words (code / 64) (bit_or (get_or words (code / 64) 0) (1 * 2 ^ (code % 64) % 2 ^ 64))
+module _ (codes : List Bool) (code : ℕ) where
+  abbrev pub more : List Bool
+  more = set codes code true
 
-  -- a code whose bit is set is there
-  pub put_there : code / 64 < length words → HasCode more code
+  -- a code that is put is there
+  pub put_there : code < length codes → HasCode more code
   unfolding HasCode
-  put_there within =
-      ap (λ x. bit_at x (code % 64)) (get_or-set_same words (code / 64) _ 0 within) ∙ bit_at_set_same w64 (get_or words (code / 64) 0) (code % 64) (omega arith)
+  put_there within = get_or-set_same codes code true false within
 
   -- and those that were there stay
-  pub stays_there : code / 64 < length words → (other : ℕ) → HasCode words other → HasCode more other
+  pub stays_there : code < length codes → (other : ℕ) → HasCode codes other → HasCode more other
   unfolding HasCode
-  stays_there within other has = elim (cases_eq (other / 64) (code / 64)) [
-    | inl same ↦
-        let word = get_or words (code / 64) 0 in
-        let bit : ℕ = 1 * 2 ^ (code % 64) % 2 ^ 64 in
-        let at : bit_at (get_or more (other / 64) 0) (other % 64) ≡ bit_at (bit_or word bit) (other % 64) =
-        ap (λ n. bit_at (get_or more n 0) (other % 64)) same ∙ ap (λ x. bit_at x (other % 64)) (get_or-set_same words (code / 64) _ 0 within) in
-        let was : bit_at word (other % 64) ≡ 1 = ap (λ n. bit_at (get_or words n 0) (other % 64)) (sym same) ∙ has in
-        omega (arith, at, was, bit_at_or word bit (other % 64))
-    | inr apart ↦ ap (λ x. bit_at x (other % 64)) (get_or-set_other words (code / 64) (other / 64) _ 0 apart) ∙ has
+  stays_there within other has = elim (cases_eq other code) [
+    | inl same ↦ ap (λ n. get_or more n false) same ∙ get_or-set_same codes code true false within
+    | inr apart ↦ get_or-set_other codes code other true false apart ∙ has
   ]
 
 -- ---- attributes whose names were seen
 
 -- a name with another code is not that of one of them
-other_code : (words xs ys : List ℕ) → HasCode words (name_code xs) → (HasCode words (name_code ys) → ⊥) → (b : Bool) → bytes_eq xs ys ≡ b → b ≡ false
-other_code words xs ys has fresh false is = refl
-other_code words xs ys has fresh true is = absurd (fresh (subst (λ zs. HasCode words (name_code zs)) ((bytes_eq-Decides xs ys).0 is) has))
+other_code : (codes : List Bool) (xs ys : List ℕ) → HasCode codes (name_code xs) → (HasCode codes (name_code ys) → ⊥) → (b : Bool) → bytes_eq xs ys ≡ b → b ≡ false
+other_code codes xs ys has fresh false is = refl
+other_code codes xs ys has fresh true is = absurd (fresh (subst (λ zs. HasCode codes (name_code zs)) ((bytes_eq-Decides xs ys).0 is) has))
 
 neither : (a b : Bool) → b ≡ false → (a && b) ≡ false
 neither true b h = h
 neither false b h = refl
 
 -- so none has it
-pub none_has : (namespaces : List NamespaceDecl) (s : AttributeNamespace) (local words : List ℕ) (done : List StoredAttribute)
-    → AllByRecursion (λ a. HasNameOf words (data_of a)) done → (HasCode words (name_code local) → ⊥)
+pub none_has : (namespaces : List NamespaceDecl) (s : AttributeNamespace) (local : List ℕ) (codes : List Bool) (done : List StoredAttribute)
+    → AllByRecursion (λ a. HasNameOf codes (data_of a)) done → (HasCode codes (name_code local) → ⊥)
     → list_any (λ a. has_expanded namespaces s local (data_of a)) done ≡ false
-none_has namespaces s local words [] h fresh = refl
-none_has namespaces s local words (a ∷ rest) h fresh =
-    let other = neither (same_prefix (attribute_uri namespaces (data_of a).namespace) (attribute_uri namespaces s)) _ (other_code words a.local.now local h.0 fresh _ refl) in
-    rw other (none_has namespaces s local words rest h.1 fresh)
+none_has namespaces s local codes [] h fresh = refl
+none_has namespaces s local codes (a ∷ rest) h fresh =
+    let other = neither (same_prefix (attribute_uri namespaces (data_of a).namespace) (attribute_uri namespaces s)) _ (other_code codes a.local.now local h.0 fresh _ refl) in
+    rw other (none_has namespaces s local codes rest h.1 fresh)
 
 -- one more of them is in the table
 pub seen_more : (old new : SeenNames) (rows more : List AttributeRow) (row : AttributeRow) → more ≡ rows ++ row ∷ [] → new.from ≡ old.from → old.from ≤ length rows

@@ -5,11 +5,11 @@ ghost use Rattle.rox_tables.specs.SeenNames.{name_sum, name_code, HasCode};
 
 use crate::compare::{WORD, word_at};
 
-/// The attributes of a tag that are in the table: where they begin, and, as bits, the codes of their names.
+/// The attributes of a tag that are in the table: where they begin, and which codes their names have.
 #[derive(Drop)]
 pub struct SeenNames {
     pub from: usize,
-    pub codes: [u64; 8],
+    pub codes: [bool; 256],
     /// How many of them came again.
     pub again: usize,
 }
@@ -44,9 +44,9 @@ fn name_sum(bytes: &[u8]) -> u64
 #[tactic(auto, unfolding(crate::specs::SeenNames::name_code))]
 fn name_code(local: &str) -> usize
     ensures is { result ≡ name_code local.now }
-    ensures within { result < 512 }
+    ensures within { result < 256 }
 {
-    (name_sum(local.as_bytes()).wrapping_mul(SCATTER) >> 55) as usize
+    (name_sum(local.as_bytes()).wrapping_mul(SCATTER) >> 56) as usize
 }
 
 impl SeenNames {
@@ -57,7 +57,7 @@ impl SeenNames {
     {
         SeenNames {
             from,
-            codes: [0; 8],
+            codes: [false; 256],
             again: 0,
         }
     }
@@ -71,9 +71,9 @@ impl SeenNames {
         ensures from { self.new.from ≡ self.old.from }
     {
         let code = name_code(local);
-        let codes = self.codes[code / 64];
-        self.codes[code / 64] = codes | 1u64 << (code % 64);
-        codes >> (code % 64) & 1 == 1
+        let came = self.codes[code];
+        self.codes[code] = true;
+        came
     }
 
     /// Counts a name whose code was there.
