@@ -15,7 +15,7 @@ pub struct SeenNames {
 }
 
 /// A tag is left to the general step if more codes than these come again: its names were chosen for that.
-const MOST_AGAIN: usize = 24;
+const MOST_AGAIN: usize = 32;
 
 /// By what the sum of a name's bytes is multiplied: 2^64 by the golden ratio, which scatters sums that are near to one another.
 const SCATTER: u64 = 0x9E3779B97F4A7C15;
