@@ -126,6 +126,21 @@ stretch_cut src stop j to within stops =
       | inr past ↦ let e : stop ≡ j = omega (arith, long) in subst (IsCharBoundary src) e to
     ]
 
+-- a stretch of a text ends within its front where that ends, or before
+pub cut_short : (p : ℕ → Bool) (src : List ℕ) (stop i e j : ℕ) → stop ≤ length src → AllPass p src i e → (e < length src → p (slice_index src e) ≡ false) → j ≤ e → j ≤ stop → (j < stop → j ≡ e)
+    → (j ≤ length (take stop src)) × (AllPass p (take stop src) i j × (j < length (take stop src) → p (slice_index (take stop src) j) ≡ false))
+cut_short p src stop i e j within all stops le le' short =
+    let long = length-take-le stop src within in (
+      omega (arith, long),
+      (
+        λ k low high. ap p (get_or-take stop src k 0 (omega arith)) ∙ all k low (omega arith),
+        λ more.
+            let less : j < stop = omega (arith, long) in
+            let same = short less in
+            ap p (get_or-take stop src j 0 less) ∙ ap (λ (n : ℕ). p (slice_index src n)) same ∙ stops (omega arith),
+      ),
+    )
+
 -- the front of a text
 pub from_start : (src : List ℕ) (stop : ℕ) → slice_range src 0 stop ≡ take stop src
 from_start src stop = let e : stop - 0 ≡ stop = omega arith in ap (λ (n : ℕ). take n src) e

@@ -153,7 +153,7 @@ fn put_stretch(text: &str, at: usize, stop: usize, out: &mut String) -> usize
     ensures place { 0 < result → (at < result) × (result ≤ stop) }
     ensures cut { 0 < result → IsCharBoundary text.now result }
 {
-    let end = skip_set::<StretchByte>(&text[..stop], at);
+    let end = skip_set::<StretchByte>(text, at).min(stop);
     if end == at || out.push_str(&text[at..end]).is_err() {
         return 0;
     }

@@ -206,8 +206,7 @@ pub fn read_reference<'input>(cursor: &mut Cursor<'input>) -> Result<Reference<'
 
 /// The replacement text of a name, which stands at `span` in a reference that begins at `start`. A name that is not declared is
 /// a fault there.
-#[cold]
-#[inline(never)]
+#[inline(always)]
 pub(crate) fn found<'input>(
     context: Context<'_, 'input>,
     name: &'input str,

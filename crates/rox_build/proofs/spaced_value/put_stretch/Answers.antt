@@ -1,30 +1,36 @@
 use Rattle.std.proofs.Common.{◌∙◌, ap, ◌++◌, arith, slice_range}
 use Rattle.std.specs.String.{string_bytes}
-use Rattle.rox_build.proofs.SpacedValues.{stretch_is, stretch_cut, from_start, bit_put}
+use Rattle.rox_scan.specs.ByteSets.{is_stretch_byte}
+use Rattle.rox_build.proofs.SpacedValues.{stretch_is, stretch_cut, cut_short, bit_put}
 use Rattle.rox_build.proofs.spaced_value.put_stretch.Goals as goal
 
-pub range-requires-else-end-at-clause-end_boundary : goal.range-requires-else-end-at-clause-end_boundary
-range-requires-else-end-at-clause-end_boundary c =
-    let n = rw (c.range.ensures.value ∙ from_start c.args.text.now c.args.stop) at c.skip_set-end.ensures in
-    stretch_cut c.args.text.now c.args.stop c.skip_set-end.result c.requires.stop n.within n.stops
+pub range-requires-clause-end_boundary : goal.range-requires-clause-end_boundary
+range-requires-clause-end_boundary c =
+    let near = c.skip_set.ensures in
+    let least = c.min-end.ensures in
+    let n = cut_short is_stretch_byte c.args.text.now c.args.stop c.args.at c.skip_set.result c.min-end.result c.requires.stop.0 near.passes near.stops (omega (arith, least)) (omega (arith, least)) (λ less. omega (arith, least, less)) in
+    stretch_cut c.args.text.now c.args.stop c.min-end.result c.requires.stop n.0 n.1.1
 
 pub returns-clause-cut : goal.returns-clause-cut
 returns-clause-cut c = λ some.
-    let n = rw (c.range.ensures.value ∙ from_start c.args.text.now c.args.stop) at c.skip_set-end.ensures in
-    stretch_cut c.args.text.now c.args.stop c.skip_set-end.result c.requires.stop n.within n.stops
+    let near = c.skip_set.ensures in
+    let least = c.min-end.ensures in
+    let n = cut_short is_stretch_byte c.args.text.now c.args.stop c.args.at c.skip_set.result c.min-end.result c.requires.stop.0 near.passes near.stops (omega (arith, least)) (omega (arith, least)) (λ less. omega (arith, least, less)) in
+    stretch_cut c.args.text.now c.args.stop c.min-end.result c.requires.stop n.0 n.1.1
 
 pub returns-clause-value : goal.returns-clause-value
 returns-clause-value c = λ some main es.
     let src = c.args.text.now in
     let i = c.args.at in
-    let j = c.skip_set-end.result in
+    let j = c.min-end.result in
     let stop = c.args.stop in
-    let n = rw (c.range.ensures.value ∙ from_start src stop) at c.skip_set-end.ensures in
+    let near = c.skip_set.ensures in
+    let least = c.min-end.ensures in
+    let n = cut_short is_stretch_byte src stop i c.skip_set.result j c.requires.stop.0 near.passes near.stops (omega (arith, least)) (omega (arith, least)) (λ less. omega (arith, least, less)) in
     let other = c.if-end-at.false in
-    let onward = n.onward in
-    let within = c.range.ensures.len in
-    let inside = c.skip_set-end.ensures.within in
-    let cut = stretch_cut src stop j c.requires.stop n.within n.stops in
-    let is = stretch_is main es src stop i j c.utf8.text c.requires.start cut c.requires.stop (omega arith) (omega arith) n.passes n.stops c.requires.chars c.requires.apart in
+    let onward = near.onward in
+    let before = c.requires.before in
+    let cut = stretch_cut src stop j c.requires.stop n.0 n.1.1 in
+    let is = stretch_is main es src stop i j c.utf8.text c.requires.start cut c.requires.stop (omega (arith, least)) (omega (arith, least)) n.1.0 n.1.1 c.requires.chars c.requires.apart in
     let put = rw (c.is_err.ensures.negation, c.if-is_err.false) at c.push_str.ensures.bytes in
-    bit_put main es src (string_bytes c.args.out.now) (string_bytes c.push_str.new.self) (slice_range src i j) stop i j is (put ∙ ap (λ xs. string_bytes c.args.out.now ++ xs) c.range-else-end-at.ensures.value)
+    bit_put main es src (string_bytes c.args.out.now) (string_bytes c.push_str.new.self) (slice_range src i j) stop i j is (put ∙ ap (λ xs. string_bytes c.args.out.now ++ xs) c.range.ensures.value)
