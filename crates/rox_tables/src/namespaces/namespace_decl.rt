@@ -125,7 +125,7 @@ impl<'input> UnresolvedAttribute<'input> {
 
 /// Whether the tag, whose own declarations are these listed places and `xml` if the flag says so, declares this prefix, or
 /// the default, already. Where they are many the set has their prefixes.
-#[inline]
+#[inline(always)]
 fn is_again<'a>(
     namespaces: &[Namespace<'a>],
     own: &[u16],
@@ -148,6 +148,7 @@ fn is_again<'a>(
 
 /// A declaration, which is listed unless it is that of `xml`; `own` is where the listed places of the tag begin, whose prefixes
 /// the set has where they are many. Answers whether the tag declares `xml` now.
+#[inline(always)]
 pub fn declare_namespace<'input>(
     namespaces: &mut NamespaceTable<'input>,
     listed: &mut Vec<u16>,

@@ -14,6 +14,7 @@ use std::collections::BTreeSet;
 pub const FEW: usize = 16;
 
 /// Whether the prefix, or the default, is among these.
+#[inline(never)]
 pub fn has_prefix<'a>(prefixes: &BTreeSet<Option<&'a str>>, prefix: Option<&'a str>) -> bool
     ensures { result ≡ has_prefix (prefix_view prefix.entry) prefixes.now.keys }
 {

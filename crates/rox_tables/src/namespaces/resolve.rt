@@ -536,7 +536,9 @@ pub fn resolve<'input>(
             &taken[turn],
         )?;
         let row = move_row(&mut taken[turn], namespace);
-        attributes.push(row)?;
+        if !attributes.put(row) {
+            return Err(Failure::Memory);
+        }
     }
     Ok(())
 }

@@ -175,13 +175,18 @@ pub fn find_default(
 }
 
 /// Whether one of these has this prefix, or is the default.
+#[inline(always)]
 #[tactic(auto, using(crate::proofs::Pairs::declared_some, crate::proofs::Pairs::declared_none))]
 pub fn is_declared(namespaces: &[Namespace<'_>], places: &[u16], prefix: Option<&str>) -> bool
     requires { ArePlaces (length namespaces.now) places.now }
     ensures { result ≡ is_declared (prefix_view prefix.entry)
         (entries (map namespace_view namespaces.now) places.now) }
 {
-    match place_of(namespaces, places, prefix) {
+    let place = match prefix {
+        Some(prefix) => place_of_prefix(namespaces, places, prefix),
+        None => default_place(namespaces, places),
+    };
+    match place {
         Some(_) => true,
         None => false,
     }
@@ -199,7 +204,7 @@ pub fn is_xml(prefix: Option<&str>) -> bool
 }
 
 /// Whether one of these has this prefix, or is the default. Where they are many the set has their prefixes.
-#[inline]
+#[inline(always)]
 fn is_among<'a>(
     namespaces: &[Namespace<'a>],
     own: &[u16],
@@ -220,7 +225,7 @@ fn is_among<'a>(
 
 /// Whether an element that declares those at these places, and `xml` if the flag says so, declares this prefix. Where they are
 /// many the set has their prefixes.
-#[inline]
+#[inline(always)]
 pub fn is_own<'a>(
     namespaces: &[Namespace<'a>],
     own: &[u16],

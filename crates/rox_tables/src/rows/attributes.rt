@@ -187,23 +187,41 @@ impl<'input> AttributeTable<'input> {
         }
     }
 
-    /// Puts an attribute at the end. The only error is want of memory, and then the table is as before.
+    /// Puts an attribute at the end. Answers false where memory is refused, and then the table is as before.
+    #[inline(always)]
+    pub(crate) fn put(&mut self, row: (AttributeData<'input>, AttributePlaces)) -> bool
+        ensures put { result ≡ true
+            → attribute_rows self.new ≡ attribute_rows self.old ++ row.entry ∷ [] }
+        ensures none { result ≡ false → attribute_rows self.new ≡ attribute_rows self.old }
+    {
+        let (item, places) = row;
+        if !self.has_room(places.end) {
+            return false;
+        }
+        let Some(before) = usual_before(&item, &places) else {
+            // This way has a value of its own, so that the usual one keeps it in registers.
+            let unusual = AttributeData {
+                local: item.local,
+                value: item.value,
+                namespace: item.namespace,
+            };
+            return self.push_unusual(unusual, places).is_ok();
+        };
+        self.put_usual(item, places, before);
+        true
+    }
+
+    /// The same, where want of memory is an error.
     #[inline(always)]
     pub fn push(&mut self, row: (AttributeData<'input>, AttributePlaces)) -> Result<(), Failure>
         ensures rows { attribute_rows self.new ≡ (if is_ok result
             then attribute_rows self.old ++ row.entry ∷ [] else attribute_rows self.old) }
         ensures err { IfErr result (λ e. e ≡ Failure.Memory) }
     {
-        let (item, places) = row;
-        if self.is_full() {
-            self.make_room(places.end)?;
-        }
-        match usual_before(&item, &places) {
-            Some(before) => {
-                self.put_usual(item, places, before);
-                Ok(())
-            }
-            None => self.push_unusual(item, places),
+        if self.put(row) {
+            Ok(())
+        } else {
+            Err(Failure::Memory)
         }
     }
 

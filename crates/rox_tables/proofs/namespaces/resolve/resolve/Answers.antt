@@ -74,14 +74,14 @@ loop-turn-preserved c =
     let named = subst (λ (r : AttributeRow). HasNameOf c.tested_namespace.new.seen.codes r.0) (sym made) c.in_ok-namespace.ensures.put in
     record {
       from = c.in_ok-namespace.ensures.from ∙ from;
-      seen = seen_more l.seen c.tested_namespace.new.seen (attribute_rows l.attributes) _ c.move_row-row.result c.in_ok-push.ensures.rows c.in_ok-namespace.ensures.from (omega (arith, from, long)) c.in_ok-namespace.ensures.kept named l.invariant.seen;
-      moving = moves n initial old l.turn l.taken.items (attribute_rows l.attributes) c.index.result.now c.index_mut.result.now c.move_row-row.new.taken c.in_ok-namespace.namespace c.move_row-row.result (attribute_rows c.push.new.self)
-          l.invariant.moving here c.index.ensures c.in_ok-namespace.ensures.within c.move_row-row.ensures c.in_ok-push.ensures.rows;
+      seen = seen_more l.seen c.tested_namespace.new.seen (attribute_rows l.attributes) _ c.move_row-row.result (c.put.ensures.put c.if-not-put.false) c.in_ok-namespace.ensures.from (omega (arith, from, long)) c.in_ok-namespace.ensures.kept named l.invariant.seen;
+      moving = moves n initial old l.turn l.taken.items (attribute_rows l.attributes) c.index.result.now c.index_mut.result.now c.move_row-row.new.taken c.in_ok-namespace.namespace c.move_row-row.result (attribute_rows c.put.new.self)
+          l.invariant.moving here c.index.ensures c.in_ok-namespace.ensures.within c.move_row-row.ensures (c.put.ensures.put c.if-not-put.false);
       resolving = λ ds h. resolves n (map namespace_view c.args.namespaces.now) ds initial old l.turn l.taken.items (attribute_rows l.attributes)
-          c.index.result.now c.index_mut.result.now c.in_ok-namespace.namespace c.move_row-row.result (attribute_rows c.push.new.self)
+          c.index.result.now c.index_mut.result.now c.in_ok-namespace.namespace c.move_row-row.result (attribute_rows c.put.new.self)
           l.invariant.moving (l.invariant.resolving ds h) here c.index.ensures
           (λ before rest shown. c.in_ok-namespace.ensures.tested ds (drop (length old) (attribute_rows l.attributes)) before rest h behind shown)
-          (c.in_ok-namespace.ensures.there ds h) c.index_mut.ensures.value c.move_row-row.ensures c.in_ok-push.ensures.rows;
+          (c.in_ok-namespace.ensures.there ds h) c.index_mut.ensures.value c.move_row-row.ensures (c.put.ensures.put c.if-not-put.false);
     }
 
 pub returns-clause-ok : goal.returns-clause-ok
