@@ -125,6 +125,7 @@ impl<'input> NodeTable<'input> {
     }
 
     /// The root node of a text of so many bytes, with some room for more. The only error is want of memory.
+    #[inline(always)]
     pub fn of_text(alloc: Global, bytes: usize) -> Result<NodeTable<'input>, Failure>
         ensures rows { IfOk result
             (λ t. node_rows t
