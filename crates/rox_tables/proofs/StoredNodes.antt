@@ -1,4 +1,6 @@
 -- The rows of nodes as their table stores them.
+use Rattle.std.specs.Borrow.{Bor}
+use Rattle.rox_tables.specs.declared.rows.storage.StringStorage.{StringStorage}
 use Rattle.std.proofs.Common.{◌≡◌, ℕ, zero, suc, ◌+◌, ◌*◌, ◌/◌, ◌^◌, ◌<◌, ◌≤◌, ◌&&◌, Bool, true, false, List, [], ◌∷◌, ◌++◌, length, take, set, get_or, vec_len, refl, sym, ap, ◌∙◌, arith}
 use Rattle.std.proofs.lemmas.List.Folds.{list_all-append}
 use Rattle.std.proofs.lemmas.Bool.{ltb-true, lt-ltb}
@@ -15,7 +17,7 @@ use Rattle.rox_tables.specs.declared.rows.node_table.NodeTable.{NodeTable}
 use Rattle.rox_tables.specs.declared.rows.stored_node.KindRef.{KindRef}
 use Rattle.rox_tables.specs.declared.rows.stored_node.KindRef.TheVariants as lent
 use Rattle.rox_tables.specs.declared.rows.tables.ElementData.{ElementData}
-use Rattle.rox_tables.specs.StoredNodes.{whole_place, instruction_at, whole_kind, whole_row, no_high, high_at, whole_rows, is_kind_within, are_within, kind_of}
+use Rattle.rox_tables.specs.StoredNodes.{whole_place, instruction_at, whole_kind, whole_row, no_high, high_at, whole_rows, is_kind_within, are_within, kind_of, is_element, is_text}
 use Rattle.rox_tables.specs.Rows.{node_rows}
 
 -- there are as many
@@ -269,3 +271,32 @@ end_is t i low up n end len d high rows l z eh er place count =
 pub root_is : (t : NodeTable) (n : ℕ) (d : NodeData) (rows : List StoredNode) → rows ≡ set t.rows.items 0 (record (get_or t.rows.items 0 a_row) { subtree_end = n })
     → whole_rows t.instructions.items t.high.items rows ≡ set (node_rows t) 0 (record (get_or (node_rows t) 0 d) { subtree_end = n })
 root_is t n d rows e = ap (whole_rows t.instructions.items t.high.items) e ∙ whole-root t.instructions.items t.high.items t.rows.items n a_row d
+
+no_element : (pis : List PI) (i : ℕ) → false ≡ is_element (instruction_at pis i)
+no_element [] i = refl
+no_element (p ∷ ps) zero = refl
+no_element (p ∷ ps) (suc i) = no_element ps i
+
+no_text : (pis : List PI) (i : ℕ) → false ≡ is_text (instruction_at pis i)
+no_text [] i = refl
+no_text (p ∷ ps) zero = refl
+no_text (p ∷ ps) (suc i) = no_text ps i
+
+-- a kind that is neither of the two of elements is none, and one that is not that of texts
+pub other_element : (pis : List PI) (k : StoredKind)
+    → ((a : ℕ) (b : Bor (List ℕ)) (c d : ℕ) → k ≡ stored.Element a b c d → ⊥) → ((a b : ℕ) (c : Bor (List ℕ)) (d e : ℕ) → k ≡ stored.NamespacedElement a b c d e → ⊥)
+    → false ≡ is_element (whole_kind pis k)
+other_element pis stored.Root n m = refl
+other_element pis (stored.Element a b c d) n m = absurd (n a b c d refl)
+other_element pis (stored.NamespacedElement a b c d e) n m = absurd (m a b c d e refl)
+other_element pis (stored.Text a) n m = refl
+other_element pis (stored.Comment a) n m = refl
+other_element pis (stored.Instruction i) n m = no_element pis i
+
+pub other_text : (pis : List PI) (k : StoredKind) → ((a : StringStorage) → k ≡ stored.Text a → ⊥) → false ≡ is_text (whole_kind pis k)
+other_text pis stored.Root n = refl
+other_text pis (stored.Element a b c d) n = refl
+other_text pis (stored.NamespacedElement a b c d e) n = refl
+other_text pis (stored.Text a) n = absurd (n a refl)
+other_text pis (stored.Comment a) n = refl
+other_text pis (stored.Instruction i) n = no_text pis i

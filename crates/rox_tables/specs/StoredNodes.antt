@@ -1,5 +1,5 @@
 -- The rows of nodes as their table stores them.
-use Rattle.std.specs.Prelude.{ℕ, ◌+◌, ◌*◌, ◌^◌, Bool, true, List, [], ◌∷◌, Some, None, nat_lt}
+use Rattle.std.specs.Prelude.{ℕ, ◌+◌, ◌*◌, ◌^◌, Bool, true, false, List, [], ◌∷◌, Some, None, nat_lt}
 use Rattle.std.specs.List.{list_all}
 use Rattle.rox_tables.specs.declared.rows.tables.PI.{PI}
 use Rattle.rox_tables.specs.declared.rows.tables.NodeKind.{NodeKind}
@@ -95,3 +95,12 @@ data_of row = record {
   subtree_end = row.subtree_end;
   kind = kind_of row.kind;
 }
+
+-- whether it is an element, or a text node
+abbrev pub is_element : NodeKind → Bool
+is_element (kind.Element e) = true
+is_element other = false
+
+abbrev pub is_text : NodeKind → Bool
+is_text (kind.Text text) = true
+is_text other = false

@@ -2,6 +2,7 @@
 use Rattle.std.proofs.Common.{◌≡◌, ℕ, ◌<◌, List, get_or, refl, ap, ◌∙◌, Some, length, sym, subst}
 use Rattle.std.proofs.lemmas.List.Elements.{All-from_recursion}
 use Rattle.rox_tables.specs.Storage.{storage_bytes}
+use Rattle.rox_tables.specs.StoredNodes.{is_element, is_text}
 use Rattle.rox_grammar.specs.Forest.{Forest, size}
 use Rattle.rox_grammar.specs.Tree.{Node, Root, Element, Text, Comment, PI}
 use Rattle.rox_tables.specs.Rows.{HoldsTree, KindWithin, node, names_of, scopes_of, attribute_rows, AttributeRow}
@@ -65,6 +66,27 @@ says_pi_bare (Element start end namespace local listed attributes) = refl
 says_pi_bare (Text start end value borrowed) = refl
 says_pi_bare (Comment start end text) = refl
 says_pi_bare (PI start end target value) = refl
+
+-- whether a row is an element's, or a text's, is whether its node is one
+element_row : (s e : ℕ) (k : NodeKind) → is_element k ≡ is_element_node (stripped_row s e k)
+element_row s e kind.Root = refl
+element_row s e (kind.Element x) = refl
+element_row s e (kind.Text x) = refl
+element_row s e (kind.Comment x) = refl
+element_row s e (kind.PI x) = refl
+
+text_row : (s e : ℕ) (k : NodeKind) → is_text k ≡ is_text_node (stripped_row s e k)
+text_row s e kind.Root = refl
+text_row s e (kind.Element x) = refl
+text_row s e (kind.Text x) = refl
+text_row s e (kind.Comment x) = refl
+text_row s e (kind.PI x) = refl
+
+pub row_element : (t : Tables) (f : Forest Node) (i : ℕ) (x : NodeData) → HoldsTree t f → i < size f → x ≡ get_or (node_rows t.nodes) i x → is_element x.kind ≡ is_element_node (place f i).item
+row_element t f i x h l e = element_row x.start x.end x.kind ∙ ap is_element_node (row_item t f i x h l e) ∙ sym (says_element_bare (place f i).item)
+
+pub row_text : (t : Tables) (f : Forest Node) (i : ℕ) (x : NodeData) → HoldsTree t f → i < size f → x ≡ get_or (node_rows t.nodes) i x → is_text x.kind ≡ is_text_node (place f i).item
+row_text t f i x h l e = text_row x.start x.end x.kind ∙ ap is_text_node (row_item t f i x h l e) ∙ sym (says_text_bare (place f i).item)
 
 pub start_of_bare : (i : Node) → start_of i ≡ start_of (stripped i)
 start_of_bare (Root end) = refl

@@ -54,14 +54,10 @@ impl<'a, 'input> Node<'a, 'input> {
 
     /// Whether it is an element.
     #[inline]
-    #[tactic(auto, using(crate::proofs::Bare::says_element_bare))]
     pub fn is_element(&self) -> bool
         ensures { result ≡ is_element_node (item_of self.now) }
     {
-        match self.document.kind(self.id) {
-            KindRef::Element(_) => true,
-            _ => false,
-        }
+        self.document.is_element(self.id)
     }
 
     /// Whether it is a processing instruction.
@@ -90,14 +86,10 @@ impl<'a, 'input> Node<'a, 'input> {
 
     /// Whether it is a text node.
     #[inline]
-    #[tactic(auto, using(crate::proofs::Bare::says_text_bare))]
     pub fn is_text(&self) -> bool
         ensures { result ≡ is_text_node (item_of self.now) }
     {
-        match self.document.kind(self.id) {
-            KindRef::Text(_) => true,
-            _ => false,
-        }
+        self.document.is_text(self.id)
     }
 
     /// Where it stands in its source, in bytes: an element from its `<` to the end of its end tag, and the root node the whole

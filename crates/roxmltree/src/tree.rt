@@ -6,7 +6,7 @@ ghost use Rattle.rox_grammar.specs.Forest.{Forest, size};
 ghost use Rattle.rox_grammar.specs.Tree.{uri_of};
 ghost use Rattle.rox_tables.specs.Rows.{namespace_view};
 ghost use Rattle.roxmltree.specs.Places.{place, parent, children};
-ghost use Rattle.roxmltree.specs.NodeParts.{node_at, start_of, end_of, content_of, namespace_of, listed_of, attributes_of};
+ghost use Rattle.roxmltree.specs.NodeParts.{node_at, is_element_node, is_text_node, start_of, end_of, content_of, namespace_of, listed_of, attributes_of};
 ghost use Rattle.roxmltree.specs.ExpandedNames.{first_prefix};
 
 use crate::attributes::Attributes;
@@ -118,6 +118,24 @@ impl<'input> Document<'input> {
             ≡ content_of (node_at self.now.tree (number id)) }
     {
         self.tables.nodes.kind(id.0 as usize)
+    }
+
+    /// Whether a node is an element.
+    #[inline(always)]
+    pub(crate) fn is_element(&self, id: NodeId) -> bool
+        requires { number id < size self.now.tree }
+        ensures { result ≡ is_element_node (node_at self.now.tree (number id)) }
+    {
+        self.tables.nodes.is_element(id.0 as usize)
+    }
+
+    /// Whether a node is a text node.
+    #[inline(always)]
+    pub(crate) fn is_text(&self, id: NodeId) -> bool
+        requires { number id < size self.now.tree }
+        ensures { result ≡ is_text_node (node_at self.now.tree (number id)) }
+    {
+        self.tables.nodes.is_text(id.0 as usize)
     }
 
     /// A node: where it stands, and what it is.

@@ -212,6 +212,26 @@ impl<'input> NodeTable<'input> {
         kind_ref(&row.kind, &self.instructions)
     }
 
+    /// Whether a node is an element.
+    #[inline(always)]
+    pub fn is_element(&self, index: usize) -> bool
+        requires { index < vec_len self.now.rows }
+        ensures { (row : NodeData) × (row ≡ get_or (node_rows self.now) index row)
+            × (result ≡ stored.is_element row.kind) }
+    {
+        self.rows[index].is_element()
+    }
+
+    /// Whether a node is a text node.
+    #[inline(always)]
+    pub fn is_text(&self, index: usize) -> bool
+        requires { index < vec_len self.now.rows }
+        ensures { (row : NodeData) × (row ≡ get_or (node_rows self.now) index row)
+            × (result ≡ stored.is_text row.kind) }
+    {
+        self.rows[index].is_text()
+    }
+
     /// Where the text ends: there the root node does, whose row is the first.
     fn text_end(&self) -> usize {
         if self.rows.is_empty() {

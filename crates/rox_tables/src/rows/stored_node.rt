@@ -12,16 +12,16 @@ use crate::rows::storage::StringStorage;
 use crate::rows::tables::{ElementData, NodeKind, PI};
 use rox_grammar::failure::Failure;
 
-/// What a node is: 32 bytes.
+/// What a node is: 32 bytes. Elements are the first two, and what may own a text the last two, so that one comparison tells either.
 #[derive(Drop)]
 pub enum StoredKind<'input> {
-    Root,
     /// An element whose name has no namespace: its scope, its local name, and where its attributes stand.
     Element(u32, &'input str, u32, u32),
     /// The same behind the namespace of its name.
     NamespacedElement(u16, u32, &'input str, u32, u32),
     /// A place in the table of processing instructions.
     Instruction(usize),
+    Root,
     Text(StringStorage<'input>),
     Comment(StringStorage<'input>),
 }
@@ -34,6 +34,32 @@ pub struct StoredNode<'input> {
     pub parent: u32,
     pub subtree_end: u32,
     pub kind: StoredKind<'input>,
+}
+
+impl<'input> StoredNode<'input> {
+    /// Whether it is an element. It looks at the kind alone, so that what goes over many nodes takes one test for each.
+    #[inline(always)]
+    pub(crate) fn is_element(&self) -> bool
+        ensures { (pis : List PI)
+            → result ≡ stored.is_element (stored.whole_kind pis self.now.kind) }
+    {
+        match &self.kind {
+            StoredKind::Element(_, _, _, _) | StoredKind::NamespacedElement(_, _, _, _, _) => true,
+            _ => false,
+        }
+    }
+
+    /// Whether it is a text node.
+    #[inline(always)]
+    pub(crate) fn is_text(&self) -> bool
+        ensures { (pis : List PI)
+            → result ≡ stored.is_text (stored.whole_kind pis self.now.kind) }
+    {
+        match &self.kind {
+            StoredKind::Text(_) => true,
+            _ => false,
+        }
+    }
 }
 
 /// The upper halves of the places where a node stands.

@@ -1,4 +1,4 @@
-use Rattle.std.proofs.Common.{◌≡◌, ◌<◌, length, ap, arith, sym, ◌∙◌}
+use Rattle.std.proofs.Common.{◌≡◌, ◌<◌, ap, arith, sym, ◌∙◌}
 use Rattle.rox_grammar.specs.Forest.{size}
 use Rattle.roxmltree.specs.DocumentTables.{tree_in}
 use Rattle.roxmltree.proofs.Rows.{in_rows}
