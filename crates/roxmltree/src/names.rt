@@ -23,13 +23,8 @@ const WORD: usize = 4;
 /// How many bytes a long word has.
 const LONG_WORD: usize = 8;
 
-/// Whether two long names are the same. It is kept out of line, so that what goes over many names stays short.
-#[inline(never)]
-fn equal_long(one: &str, other: &str) -> bool
-    ensures { result ≡ bytes_eq one.now other.now }
-{
-    one == other
-}
+/// How many bytes two long words have.
+const STRETCH: usize = 16;
 
 /// Four bytes as one word.
 #[inline(always)]
@@ -106,15 +101,41 @@ fn same_long_words(one: &[u8], other: &[u8]) -> bool
     same_long_word(one, other, 0) && same_long_word(one, other, last)
 }
 
+/// Whether sixteen bytes are the same in both.
+#[inline(always)]
+fn same_stretch(one: &[u8], other: &[u8], at: usize) -> bool
+    requires one { at + 16 ≤ length one.now }
+    requires other { at + 16 ≤ length other.now }
+    ensures { result
+        ≡ bytes_eq (slice_range one.now at (at + 16)) (slice_range other.now at (at + 16)) }
+{
+    same_long_words(&one[at..at + STRETCH], &other[at..at + STRETCH])
+}
+
+/// Whether two long names of one length are the same. Most URIs have 32 bytes at most: their first sixteen are compared, and
+/// their last sixteen. It is kept out of line, so that what goes over many names stays short.
+#[inline(never)]
+fn equal_long(one: &[u8], other: &[u8]) -> bool
+    requires same { length one.now ≡ length other.now }
+    requires least { 16 ≤ length one.now }
+    ensures { result ≡ bytes_eq one.now other.now }
+{
+    if one.len() > 2 * STRETCH {
+        return one == other;
+    }
+    let last = one.len() - STRETCH;
+    same_stretch(one, other, 0) && same_stretch(one, other, last)
+}
+
 /// Whether two long names of one length are the same. Where their ends differ, no call is made.
 #[inline(always)]
-fn equal_ends(one: &str, other: &str) -> bool
+fn equal_ends(one: &[u8], other: &[u8]) -> bool
     requires same { length one.now ≡ length other.now }
-    requires least { 8 ≤ length one.now }
+    requires least { 16 ≤ length one.now }
     ensures { result ≡ bytes_eq one.now other.now }
 {
     let last = one.len() - LONG_WORD;
-    same_long_word(one.as_bytes(), other.as_bytes(), last) && equal_long(one, other)
+    same_long_word(one, other, last) && equal_long(one, other)
 }
 
 /// Whether two names are the same. Most differ in length, which is compared first.
@@ -126,7 +147,7 @@ pub(crate) fn equal_names(one: &str, other: &str) -> bool
         return false;
     }
     if one.len() >= LONG {
-        return equal_ends(one, other);
+        return equal_ends(one.as_bytes(), other.as_bytes());
     }
     if one.len() >= LONG_WORD {
         return same_long_words(one.as_bytes(), other.as_bytes());

@@ -1,4 +1,4 @@
-use Rattle.std.proofs.Common.{◌<◌, ◌+◌, length, map, ap, arith}
+use Rattle.std.proofs.Common.{◌+◌, length, map, ap, arith}
 use Rattle.rox_tables.specs.Rows.{namespace_view}
 use Rattle.roxmltree.proofs.AttributeRows.{length_left, stored_at, reach_at, place_at}
 use Rattle.roxmltree.proofs.attributes.AttributesIterator.next.Goals as goal
