@@ -36,7 +36,7 @@ impl fmt::Debug for Document<'_> {
 /// Prints its kind, with its names or its text; the nodes below it are not printed.
 impl fmt::Debug for Node<'_, '_> {
     fn fmt<W: fmt::Write>(&self, f: &mut fmt::Formatter<W>) -> fmt::Result {
-        match self.document.kind(self.id) {
+        match self.kind() {
             KindRef::Root => write!(f, "Root"),
             KindRef::Element(_) => {
                 let name = self.tag_name();
@@ -62,7 +62,7 @@ impl fmt::Debug for Node<'_, '_> {
 
 // How many elements are around a node, where so many are around what is in the innermost of those that are open.
 fn count_around(innermost: Node<'_, '_>, open: u32, node: Node<'_, '_>) -> u32 {
-    let parent = node.document.row(node.id).parent;
+    let parent = node.row().parent;
     let mut around = open;
     for above in innermost.ancestors() {
         if above.id.0 == parent {

@@ -356,7 +356,7 @@ impl<'a, 'input> Iterator for Children<'a, 'input> {
             document,
             id: self.from,
         };
-        self.from = NodeId(document.row(front.id).subtree_end);
+        self.from = NodeId(front.row().subtree_end);
         Some(front)
     }
 }

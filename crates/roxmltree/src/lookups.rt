@@ -21,7 +21,7 @@ impl<'a, 'input> Node<'a, 'input> {
     pub fn tag_name(&self) -> ExpandedName<'a, 'input>
         ensures { expanded result ≡ (namespace_of (item_of self.now), local_of (item_of self.now)) }
     {
-        ExpandedName::from_parts(self.document.namespace_of(self.id), self.local_name())
+        ExpandedName::from_parts(self.name_namespace(), self.local_name())
     }
 
     /// The local name of an element. The empty text for other nodes.
@@ -30,7 +30,7 @@ impl<'a, 'input> Node<'a, 'input> {
     fn local_name(&self) -> &'input str
         ensures { result.now ≡ local_of (item_of self.now) }
     {
-        match self.document.kind(self.id) {
+        match self.kind() {
             KindRef::Element(element) => element.local,
             _ => "",
         }
@@ -45,7 +45,7 @@ impl<'a, 'input> Node<'a, 'input> {
     {
         self.is_element()
             && equal_names(self.local_name(), name.name())
-            && self.document.namespace_of(self.id) == name.namespace()
+            && self.name_namespace() == name.namespace()
     }
 
     /// Whether it is an element of this local name, whatever its namespace.
@@ -64,7 +64,7 @@ impl<'a, 'input> Node<'a, 'input> {
         ensures few { length result < 2 ^ 32 }
     {
         self.document.whole();
-        self.document.attributes_of(self.id)
+        self.own_attributes()
     }
 
     /// The namespaces that an element lists: its own as written, and then those of its parent whose prefix it does not
@@ -74,7 +74,14 @@ impl<'a, 'input> Node<'a, 'input> {
         ensures value { result ≡ listed_of (item_of self.now) }
         ensures few { length result < 2 ^ 64 }
     {
-        self.document.namespaces_of(self.id)
+        let document = self.document;
+        let KindRef::Element(element) = document.tables.nodes.kind(self.id.0 as usize) else {
+            return NamespaceIter::empty();
+        };
+        let scopes = document.tables.scopes.as_slice();
+        let listed = document.tables.listed.as_slice();
+        let namespaces = document.tables.namespaces.as_slice();
+        NamespaceIter::of_scope(scopes, listed, namespaces, element.scope)
     }
 
     /// The attribute of this name.
@@ -141,7 +148,7 @@ impl<'a, 'input> Node<'a, 'input> {
         ensures { option_map (λ s. s.now) result
             ≡ uri_of (listed_of (item_of self.now)) (option_map (λ s. s.now) prefix.entry) }
     {
-        match self.document.listed_for(self.id, prefix) {
+        match self.listed_for(prefix) {
             Some(namespace) => Some(namespace.uri()),
             None => None,
         }
@@ -157,6 +164,6 @@ impl<'a, 'input> Node<'a, 'input> {
         if equal_names(uri, NS_XML_URI) {
             return Some("xml");
         }
-        self.document.prefix_listed_for(self.id, uri)
+        self.prefix_listed_for(uri)
     }
 }

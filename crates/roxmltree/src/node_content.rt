@@ -31,7 +31,7 @@ impl<'a, 'input> Node<'a, 'input> {
     pub fn node_type(&self) -> NodeType
         ensures { result ≡ type_of (item_of self.now) }
     {
-        match self.document.kind(self.id) {
+        match self.kind() {
             KindRef::Root => NodeType::Root,
             KindRef::Element(_) => NodeType::Element,
             KindRef::Text(_) => NodeType::Text,
@@ -46,7 +46,7 @@ impl<'a, 'input> Node<'a, 'input> {
     pub fn is_root(&self) -> bool
         ensures { result ≡ is_root_node (item_of self.now) }
     {
-        match self.document.kind(self.id) {
+        match self.kind() {
             KindRef::Root => true,
             _ => false,
         }
@@ -57,7 +57,8 @@ impl<'a, 'input> Node<'a, 'input> {
     pub fn is_element(&self) -> bool
         ensures { result ≡ is_element_node (item_of self.now) }
     {
-        self.document.is_element(self.id)
+        let document = self.document;
+        document.tables.nodes.is_element(self.id.0 as usize)
     }
 
     /// Whether it is a processing instruction.
@@ -66,7 +67,7 @@ impl<'a, 'input> Node<'a, 'input> {
     pub fn is_pi(&self) -> bool
         ensures { result ≡ is_pi_node (item_of self.now) }
     {
-        match self.document.kind(self.id) {
+        match self.kind() {
             KindRef::PI(_) => true,
             _ => false,
         }
@@ -78,7 +79,7 @@ impl<'a, 'input> Node<'a, 'input> {
     pub fn is_comment(&self) -> bool
         ensures { result ≡ is_comment_node (item_of self.now) }
     {
-        match self.document.kind(self.id) {
+        match self.kind() {
             KindRef::Comment(_) => true,
             _ => false,
         }
@@ -89,7 +90,8 @@ impl<'a, 'input> Node<'a, 'input> {
     pub fn is_text(&self) -> bool
         ensures { result ≡ is_text_node (item_of self.now) }
     {
-        self.document.is_text(self.id)
+        let document = self.document;
+        document.tables.nodes.is_text(self.id.0 as usize)
     }
 
     /// Where it stands in its source, in bytes: an element from its `<` to the end of its end tag, and the root node the whole
@@ -100,7 +102,7 @@ impl<'a, 'input> Node<'a, 'input> {
         ensures start { result.start ≡ start_of (item_of self.now) }
         ensures end { result.end ≡ end_of (item_of self.now) }
     {
-        let row = self.document.node(self.id);
+        let row = self.whole_row();
         match row.kind {
             KindRef::Root => 0..row.end,
             _ => row.start..row.end,
@@ -113,7 +115,7 @@ impl<'a, 'input> Node<'a, 'input> {
     pub fn pi(&self) -> Option<PI<'input>>
         ensures { option_map instruction result ≡ pi_of (item_of self.now) }
     {
-        match self.document.kind(self.id) {
+        match self.kind() {
             KindRef::PI(pi) => Some(pi),
             _ => None,
         }
@@ -137,7 +139,7 @@ impl<'a, 'input> Node<'a, 'input> {
         ensures { option_map (λ s. stored s.now) result
             ≡ stored_text (tree_of self.now) (id_of self.now) }
     {
-        match self.document.kind(self.id) {
+        match self.kind() {
             KindRef::Element(_) => match self.first_child() {
                 Some(child) => child.own_text_storage(),
                 None => None,
@@ -178,7 +180,7 @@ impl<'a, 'input> Node<'a, 'input> {
     fn own_text_storage(&self) -> Option<&'a StringStorage<'input>>
         ensures { option_map (λ s. stored s.now) result ≡ text_content (item_of self.now) }
     {
-        match self.document.kind(self.id) {
+        match self.kind() {
             KindRef::Text(text) => Some(text),
             _ => None,
         }

@@ -120,7 +120,7 @@ impl<'a, 'input> Node<'a, 'input> {
         ensures { GivesNode self.now (parent (tree_of self.now) (id_of self.now)) result }
     {
         let document = self.document;
-        let row = document.row(self.id);
+        let row = self.row();
         if self.id.0 == 0 {
             None
         } else {
@@ -138,7 +138,7 @@ impl<'a, 'input> Node<'a, 'input> {
         ensures { GivesNode self.now (first_child (tree_of self.now) (id_of self.now)) result }
     {
         let document = self.document;
-        let subtree_end = document.row(self.id).subtree_end;
+        let subtree_end = self.row().subtree_end;
         if subtree_end - self.id.0 > 1 {
             Some(Node {
                 document,
@@ -155,10 +155,14 @@ impl<'a, 'input> Node<'a, 'input> {
         ensures { GivesNode self.now (next_sibling (tree_of self.now) (id_of self.now)) result }
     {
         let document = self.document;
-        let row = document.row(self.id);
+        let row = self.row();
         let id = NodeId(row.subtree_end);
-        if (id.0 as usize) < document.count() && document.row(id).parent == row.parent {
-            Some(Node { document, id })
+        if (id.0 as usize) >= document.count() {
+            return None;
+        }
+        let next = Node { document, id };
+        if next.row().parent == row.parent {
+            Some(next)
         } else {
             None
         }
@@ -171,7 +175,7 @@ impl<'a, 'input> Node<'a, 'input> {
         ensures document { result.document ≡ self.entry.document }
     {
         let mut node = self;
-        while node.document.row(node.id).parent != parent.0 {
+        while node.row().parent != parent.0 {
             match node.parent() {
                 Some(above) => node = above,
                 None => return node,
@@ -186,7 +190,7 @@ impl<'a, 'input> Node<'a, 'input> {
         ensures { GivesNode self.now (last_child (tree_of self.now) (id_of self.now)) result }
     {
         let document = self.document;
-        let row = document.row(self.id);
+        let row = self.row();
         if row.subtree_end - self.id.0 > 1 {
             let last = Node {
                 document,
@@ -207,7 +211,7 @@ impl<'a, 'input> Node<'a, 'input> {
         if self.id.0 == 0 {
             return None;
         }
-        let parent = document.row(self.id).parent;
+        let parent = self.row().parent;
         let id = NodeId(self.id.0 - 1);
         if parent == id.0 {
             None
@@ -226,7 +230,7 @@ impl<'a, 'input> Node<'a, 'input> {
         ensures few { length result < 2 ^ 32 }
     {
         let document = self.document;
-        let row = document.row(self.id);
+        let row = self.row();
         Children {
             document,
             from: NodeId(self.id.0 + 1),
@@ -245,7 +249,7 @@ impl<'a, 'input> Node<'a, 'input> {
         ensures few { length result < 2 ^ 32 }
     {
         let document = self.document;
-        let until = document.row(self.id).subtree_end;
+        let until = self.row().subtree_end;
         Descendants {
             document,
             from: self.id,

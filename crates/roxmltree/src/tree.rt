@@ -22,7 +22,7 @@ use std::marker::Model;
 #[derive(Drop)]
 pub struct Document<'input> {
     text: &'input str,
-    tables: Tables<'input>,
+    pub(crate) tables: Tables<'input>,
     key: u64,
     dtd: bool,
 }
@@ -61,11 +61,9 @@ impl<'input> Document<'input> {
         tables: Tables<'input>,
     ) -> Document<'input>
         requires { HoldsDocument text.now dtd tables }
-        ensures tree { (tree : Forest grammar.Node) → HoldsTree tables.entry tree
-            → result.tree ≡ tree }
-        ensures text { result.text ≡ text.now }
-        ensures key { result.key ≡ key }
-        ensures dtd { result.dtd ≡ dtd }
+        ensures { (tree : Forest grammar.Node) → HoldsTree tables.entry tree
+            → result
+            ≡ record { tree = tree; text = text.now; key = key; dtd = dtd } }
     {
         Document {
             text,
@@ -92,60 +90,6 @@ impl<'input> Document<'input> {
         ensures few { result < 2 ^ 32 }
     {
         self.tables.nodes.len()
-    }
-
-    /// The row of a node, for its links.
-    #[inline(always)]
-    pub(crate) fn row(&self, id: NodeId) -> &StoredNode<'input>
-        requires { number id < size self.now.tree }
-        ensures no_parent { number id ≡ 0 → parent self.now.tree (number id) ≡ None }
-        ensures parent { 0 < number id → parent self.now.tree (number id) ≡ Some result.now.parent }
-        ensures subtree_end { result.now.subtree_end
-            ≡ number id + (place self.now.tree (number id)).count }
-        ensures whole { number id ≡ 0 → result.now.subtree_end ≡ size self.now.tree }
-        ensures few { size self.now.tree < 2 ^ 32 }
-    {
-        self.tables.nodes.links(id.0 as usize)
-    }
-
-    /// What a node is.
-    #[inline(always)]
-    pub(crate) fn kind(&self, id: NodeId) -> KindRef<'_, 'input>
-        requires { number id < size self.now.tree }
-        ensures item { let node = node_at self.now.tree (number id) in stripped_row (start_of node)
-            (end_of node) (kind_of result) ≡ stripped node }
-        ensures content { content_in (kind_of result)
-            ≡ content_of (node_at self.now.tree (number id)) }
-    {
-        self.tables.nodes.kind(id.0 as usize)
-    }
-
-    /// Whether a node is an element.
-    #[inline(always)]
-    pub(crate) fn is_element(&self, id: NodeId) -> bool
-        requires { number id < size self.now.tree }
-        ensures { result ≡ is_element_node (node_at self.now.tree (number id)) }
-    {
-        self.tables.nodes.is_element(id.0 as usize)
-    }
-
-    /// Whether a node is a text node.
-    #[inline(always)]
-    pub(crate) fn is_text(&self, id: NodeId) -> bool
-        requires { number id < size self.now.tree }
-        ensures { result ≡ is_text_node (node_at self.now.tree (number id)) }
-    {
-        self.tables.nodes.is_text(id.0 as usize)
-    }
-
-    /// A node: where it stands, and what it is.
-    #[inline(always)]
-    pub(crate) fn node(&self, id: NodeId) -> RowRef<'_, 'input>
-        requires { number id < size self.now.tree }
-        ensures { stripped_row result.start result.end (kind_of result.kind)
-            ≡ stripped (node_at self.now.tree (number id)) }
-    {
-        self.tables.nodes.row(id.0 as usize)
     }
 
     /// What the caller gave to tell this document's nodes from those of others.
@@ -223,17 +167,59 @@ impl<'input> Document<'input> {
     {
         self.root().descendants()
     }
+}
+
+/// What the tables say of a node, whose id is that of a row.
+impl<'a, 'input> Node<'a, 'input> {
+    ghost use Rattle.rox_tables.specs.StoredNodes.{kind_of};
+    ghost use Rattle.roxmltree.specs.NodeRef.{id_of, tree_of, item_of};
+    ghost use Rattle.roxmltree.specs.Stripped.{stripped, stripped_row, content_in};
+
+    /// The row of a node, for its links.
+    #[inline(always)]
+    pub(crate) fn row(&self) -> &'a StoredNode<'input>
+        ensures no_parent { id_of self.now ≡ 0 → parent (tree_of self.now) (id_of self.now) ≡ None }
+        ensures parent { 0 < id_of self.now
+            → parent (tree_of self.now) (id_of self.now) ≡ Some result.now.parent }
+        ensures subtree_end { result.now.subtree_end
+            ≡ id_of self.now + (place (tree_of self.now) (id_of self.now)).count }
+        ensures whole { id_of self.now ≡ 0 → result.now.subtree_end ≡ size (tree_of self.now) }
+        ensures few { size (tree_of self.now) < 2 ^ 32 }
+    {
+        let document = self.document;
+        document.tables.nodes.links(self.id.0 as usize)
+    }
+
+    /// What a node is.
+    #[inline(always)]
+    pub(crate) fn kind(&self) -> KindRef<'a, 'input>
+        ensures item { let node = item_of self.now in stripped_row (start_of node)
+            (end_of node) (kind_of result) ≡ stripped node }
+        ensures content { content_in (kind_of result) ≡ content_of (item_of self.now) }
+    {
+        let document = self.document;
+        document.tables.nodes.kind(self.id.0 as usize)
+    }
+
+    /// A node: where it stands, and what it is.
+    #[inline(always)]
+    pub(crate) fn whole_row(&self) -> RowRef<'a, 'input>
+        ensures { stripped_row result.start result.end (kind_of result.kind)
+            ≡ stripped (item_of self.now) }
+    {
+        let document = self.document;
+        document.tables.nodes.row(self.id.0 as usize)
+    }
 
     /// The namespace of an element's name.
     #[inline]
-    pub(crate) fn namespace_of(&self, id: NodeId) -> Option<&str>
-        requires { number id < size self.now.tree }
-        ensures { option_map (λ u. u.now) result
-            ≡ namespace_of (node_at self.now.tree (number id)) }
+    pub(crate) fn name_namespace(&self) -> Option<&'a str>
+        ensures { option_map (λ u. u.now) result ≡ namespace_of (item_of self.now) }
     {
-        match self.tables.nodes.kind(id.0 as usize) {
+        let document = self.document;
+        match document.tables.nodes.kind(self.id.0 as usize) {
             KindRef::Element(element) => match element.namespace {
-                Some(place) => Some(self.tables.namespaces[place as usize].uri()),
+                Some(place) => Some(document.tables.namespaces[place as usize].uri()),
                 None => None,
             },
             _ => None,
@@ -242,13 +228,13 @@ impl<'input> Document<'input> {
 
     /// The attributes of an element.
     #[inline]
-    pub(crate) fn attributes_of(&self, id: NodeId) -> Attributes<'_, 'input>
-        requires { number id < size self.now.tree }
-        ensures { result ≡ attributes_of (node_at self.now.tree (number id)) }
+    pub(crate) fn own_attributes(&self) -> Attributes<'a, 'input>
+        ensures { result ≡ attributes_of (item_of self.now) }
     {
-        let table = &self.tables.attributes;
-        let namespaces = self.tables.namespaces.as_slice();
-        match self.tables.nodes.kind(id.0 as usize) {
+        let document = self.document;
+        let table = &document.tables.attributes;
+        let namespaces = document.tables.namespaces.as_slice();
+        match document.tables.nodes.kind(self.id.0 as usize) {
             KindRef::Element(element) => {
                 let from = element.attributes_from as usize;
                 let until = element.attributes_until as usize;
@@ -258,60 +244,44 @@ impl<'input> Document<'input> {
         }
     }
 
-    /// The namespaces that an element lists.
-    #[inline]
-    pub(crate) fn namespaces_of(&self, id: NodeId) -> NamespaceIter<'_, 'input>
-        requires { number id < size self.now.tree }
-        ensures value { result ≡ listed_of (node_at self.now.tree (number id)) }
-        ensures few { length result < 2 ^ 64 }
-    {
-        let KindRef::Element(element) = self.tables.nodes.kind(id.0 as usize) else {
-            return NamespaceIter::empty();
-        };
-        let scopes = self.tables.scopes.as_slice();
-        let listed = self.tables.listed.as_slice();
-        let namespaces = self.tables.namespaces.as_slice();
-        NamespaceIter::of_scope(scopes, listed, namespaces, element.scope)
-    }
-
     /// The namespace that an element lists for this prefix, or for the default.
     #[inline(always)]
-    pub(crate) fn listed_for(&self, id: NodeId, prefix: Option<&str>) -> Option<&Namespace<'input>>
-        requires { number id < size self.now.tree }
+    pub(crate) fn listed_for(&self, prefix: Option<&str>) -> Option<&'a Namespace<'input>>
         ensures { option_map (λ n. (namespace_view n.now).uri) result
-            ≡ uri_of (listed_of (node_at self.now.tree (number id))) (option_map
+            ≡ uri_of (listed_of (item_of self.now)) (option_map
             (λ s. s.now) prefix.entry) }
     {
-        let node_kind = self.tables.nodes.kind(id.0 as usize);
-        let namespaces = self.tables.namespaces.as_slice();
+        let document = self.document;
+        let node_kind = document.tables.nodes.kind(self.id.0 as usize);
+        let namespaces = document.tables.namespaces.as_slice();
         if namespaces.is_empty() {
             return None;
         }
         let KindRef::Element(element) = node_kind else {
             return None;
         };
-        let scopes = self.tables.scopes.as_slice();
-        let listed = self.tables.listed.as_slice();
+        let scopes = document.tables.scopes.as_slice();
+        let listed = document.tables.listed.as_slice();
         first_in_scope(scopes, listed, namespaces, element.scope, prefix)
     }
 
     /// The prefix of the first namespace of this URI that an element lists.
     #[inline(always)]
-    pub(crate) fn prefix_listed_for(&self, id: NodeId, uri: &str) -> Option<&'input str>
-        requires { number id < size self.now.tree }
+    pub(crate) fn prefix_listed_for(&self, uri: &str) -> Option<&'input str>
         ensures { option_map (λ s. s.now) result
-            ≡ first_prefix uri.now (listed_of (node_at self.now.tree (number id))) }
+            ≡ first_prefix uri.now (listed_of (item_of self.now)) }
     {
-        let node_kind = self.tables.nodes.kind(id.0 as usize);
-        let namespaces = self.tables.namespaces.as_slice();
+        let document = self.document;
+        let node_kind = document.tables.nodes.kind(self.id.0 as usize);
+        let namespaces = document.tables.namespaces.as_slice();
         if namespaces.is_empty() {
             return None;
         }
         let KindRef::Element(element) = node_kind else {
             return None;
         };
-        let scopes = self.tables.scopes.as_slice();
-        let listed = self.tables.listed.as_slice();
+        let scopes = document.tables.scopes.as_slice();
+        let listed = document.tables.listed.as_slice();
         prefix_in_scope(scopes, listed, namespaces, element.scope, uri)
     }
 }
