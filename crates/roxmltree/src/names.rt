@@ -26,6 +26,14 @@ const LONG_WORD: usize = 8;
 /// How many bytes two long words have.
 const STRETCH: usize = 16;
 
+/// Two names of one length, to be compared.
+#[derive(Clone, Copy)]
+struct Pair<'a, 'b> {
+    one: &'a [u8],
+    other: &'b [u8],
+    ghost same: { length one.now ≡ length other.now },
+}
+
 /// Four bytes as one word.
 #[inline(always)]
 fn word_at(bytes: &[u8], at: usize) -> u32
@@ -38,25 +46,24 @@ fn word_at(bytes: &[u8], at: usize) -> u32
 
 /// Whether four bytes are the same in both.
 #[inline(always)]
-fn same_word(one: &[u8], other: &[u8], at: usize) -> bool
-    requires one { at + 4 ≤ length one.now }
-    requires other { at + 4 ≤ length other.now }
+fn same_word(pair: Pair<'_, '_>, at: usize) -> bool
+    requires { at + 4 ≤ length pair.one.now }
     ensures { result
-        ≡ bytes_eq (slice_range one.now at (at + 4)) (slice_range other.now at (at + 4)) }
+        ≡ bytes_eq (slice_range pair.entry.one.now at (at + 4))
+        (slice_range pair.entry.other.now at (at + 4)) }
 {
-    word_at(one, at) == word_at(other, at)
+    word_at(pair.one, at) == word_at(pair.other, at)
 }
 
 /// Whether two stretches of four to eight bytes, of one length, are the same: their first four are, and their last four.
 #[inline(always)]
-fn same_words(one: &[u8], other: &[u8]) -> bool
-    requires same { length one.now ≡ length other.now }
-    requires least { 4 ≤ length one.now }
-    requires most { length one.now ≤ 8 }
-    ensures { result ≡ bytes_eq one.now other.now }
+fn same_words(pair: Pair<'_, '_>) -> bool
+    requires least { 4 ≤ length pair.one.now }
+    requires most { length pair.one.now ≤ 8 }
+    ensures { result ≡ bytes_eq pair.entry.one.now pair.entry.other.now }
 {
-    let last = one.len() - WORD;
-    same_word(one, other, 0) && same_word(one, other, last)
+    let last = pair.one.len() - WORD;
+    same_word(pair, 0) && same_word(pair, last)
 }
 
 /// Eight bytes as one long word.
@@ -80,62 +87,61 @@ fn long_word_at(bytes: &[u8], at: usize) -> u64
 
 /// Whether eight bytes are the same in both.
 #[inline(always)]
-fn same_long_word(one: &[u8], other: &[u8], at: usize) -> bool
-    requires one { at + 8 ≤ length one.now }
-    requires other { at + 8 ≤ length other.now }
+fn same_long_word(pair: Pair<'_, '_>, at: usize) -> bool
+    requires { at + 8 ≤ length pair.one.now }
     ensures { result
-        ≡ bytes_eq (slice_range one.now at (at + 8)) (slice_range other.now at (at + 8)) }
+        ≡ bytes_eq (slice_range pair.entry.one.now at (at + 8))
+        (slice_range pair.entry.other.now at (at + 8)) }
 {
-    long_word_at(one, at) == long_word_at(other, at)
+    long_word_at(pair.one, at) == long_word_at(pair.other, at)
 }
 
 /// Whether two stretches of eight to sixteen bytes, of one length, are the same: their first eight are, and their last eight.
 #[inline(always)]
-fn same_long_words(one: &[u8], other: &[u8]) -> bool
-    requires same { length one.now ≡ length other.now }
-    requires least { 8 ≤ length one.now }
-    requires most { length one.now ≤ 16 }
-    ensures { result ≡ bytes_eq one.now other.now }
+fn same_long_words(pair: Pair<'_, '_>) -> bool
+    requires least { 8 ≤ length pair.one.now }
+    requires most { length pair.one.now ≤ 16 }
+    ensures { result ≡ bytes_eq pair.entry.one.now pair.entry.other.now }
 {
-    let last = one.len() - LONG_WORD;
-    same_long_word(one, other, 0) && same_long_word(one, other, last)
+    let last = pair.one.len() - LONG_WORD;
+    same_long_word(pair, 0) && same_long_word(pair, last)
 }
 
 /// Whether sixteen bytes are the same in both.
 #[inline(always)]
-fn same_stretch(one: &[u8], other: &[u8], at: usize) -> bool
-    requires one { at + 16 ≤ length one.now }
-    requires other { at + 16 ≤ length other.now }
+fn same_stretch(pair: Pair<'_, '_>, at: usize) -> bool
+    requires { at + 16 ≤ length pair.one.now }
     ensures { result
-        ≡ bytes_eq (slice_range one.now at (at + 16)) (slice_range other.now at (at + 16)) }
+        ≡ bytes_eq (slice_range pair.entry.one.now at (at + 16))
+        (slice_range pair.entry.other.now at (at + 16)) }
 {
-    same_long_words(&one[at..at + STRETCH], &other[at..at + STRETCH])
+    let one = &pair.one[at..at + STRETCH];
+    let other = &pair.other[at..at + STRETCH];
+    same_long_words(Pair { one, other })
 }
 
 /// Whether two long names of one length are the same. Most URIs have 32 bytes at most: their first sixteen are compared, and
 /// their last sixteen. It is kept out of line, so that what goes over many names stays short.
 #[inline(never)]
-fn equal_long(one: &[u8], other: &[u8]) -> bool
-    requires same { length one.now ≡ length other.now }
-    requires least { 16 ≤ length one.now }
-    ensures { result ≡ bytes_eq one.now other.now }
+fn equal_long(pair: Pair<'_, '_>) -> bool
+    requires { 16 ≤ length pair.one.now }
+    ensures { result ≡ bytes_eq pair.entry.one.now pair.entry.other.now }
 {
-    if one.len() > 2 * STRETCH {
-        return one == other;
+    if pair.one.len() > 2 * STRETCH {
+        return pair.one == pair.other;
     }
-    let last = one.len() - STRETCH;
-    same_stretch(one, other, 0) && same_stretch(one, other, last)
+    let last = pair.one.len() - STRETCH;
+    same_stretch(pair, 0) && same_stretch(pair, last)
 }
 
 /// Whether two long names of one length are the same. Where their ends differ, no call is made.
 #[inline(always)]
-fn equal_ends(one: &[u8], other: &[u8]) -> bool
-    requires same { length one.now ≡ length other.now }
-    requires least { 16 ≤ length one.now }
-    ensures { result ≡ bytes_eq one.now other.now }
+fn equal_ends(pair: Pair<'_, '_>) -> bool
+    requires { 16 ≤ length pair.one.now }
+    ensures { result ≡ bytes_eq pair.entry.one.now pair.entry.other.now }
 {
-    let last = one.len() - LONG_WORD;
-    same_long_word(one, other, last) && equal_long(one, other)
+    let last = pair.one.len() - LONG_WORD;
+    same_long_word(pair, last) && equal_long(pair)
 }
 
 /// Whether two names are the same. Most differ in length, which is compared first.
@@ -146,16 +152,20 @@ pub(crate) fn equal_names(one: &str, other: &str) -> bool
     if one.len() != other.len() {
         return false;
     }
+    let pair = Pair {
+        one: one.as_bytes(),
+        other: other.as_bytes(),
+    };
     if one.len() >= LONG {
-        return equal_ends(one.as_bytes(), other.as_bytes());
+        return equal_ends(pair);
     }
     if one.len() >= LONG_WORD {
-        return same_long_words(one.as_bytes(), other.as_bytes());
+        return same_long_words(pair);
     }
     if one.len() >= WORD {
-        return same_words(one.as_bytes(), other.as_bytes());
+        return same_words(pair);
     }
-    same_bytes(one.as_bytes(), other.as_bytes())
+    same_bytes(pair.one, pair.other)
 }
 
 /// A local name and, if it has one, its namespace. Two are equal where their local names are equal, and both have no
