@@ -6,6 +6,7 @@ use Rattle.rox_grammar.specs.Written.{NamespaceDecl}
 use Rattle.rox_grammar.specs.Tree as tree
 use Rattle.rox_tables.specs.Rows.{attribute, attribute_rows, namespace_view, namespace_at, AreScopes, NamespaceWithin}
 use Rattle.rox_tables.specs.Scopes.{places_in, ArePlaces}
+use Rattle.rox_tables.specs.declared.rows.tables.Scope.{Scope}
 use Rattle.roxmltree.specs.TreeCodes.{attribute_code, namespace_decl_code}
 pub use Rattle.roxmltree.specs.AttributeView.{attribute_of}
 use Rattle.roxmltree.specs.declared.attributes.Attributes.TheInside as attributes
@@ -41,3 +42,9 @@ pub record NamespacesWithin (n : namespaces.Inside) : Type 0 where
   pub is_row : n.from < n.until → n.scope < length n.scopes.now
   pub scopes : AreScopes (length n.listed.now) n.scopes.now
   pub each : ArePlaces (length n.namespaces.now) n.listed.now
+
+-- a scope of these, which lists some of these places, each that of one of so many namespaces
+pub record IsScopeOf (namespaces : ℕ) (listed : List ℕ) (table : List Scope) (scope : ℕ) : Type 0 where
+  pub is_row : scope < length table
+  pub scopes : AreScopes (length listed) table
+  pub named : ArePlaces namespaces listed

@@ -199,9 +199,8 @@ impl<'a, 'input> Model for Attributes<'a, 'input> {
 
 impl<'a, 'input> Attributes<'a, 'input> {
     ghost use Rattle.std.specs.Prelude.{map, slice_range};
-    ghost use Rattle.std.specs.List.{AllByRecursion};
-    ghost use Rattle.rox_tables.specs.Rows.{attribute, attribute_rows, NamespaceWithin};
-    ghost use Rattle.roxmltree.specs.ElementLists.{attribute_of};
+    ghost use Rattle.rox_tables.specs.Rows.{attribute, attribute_rows};
+    ghost use Rattle.roxmltree.specs.ElementLists.{attribute_of, AttributesWithin};
     ghost use Rattle.roxmltree.specs.ExpandedNames.{expanded, named};
 
     /// A stretch of the attributes of all elements, whose namespaces are in this table.
@@ -212,10 +211,8 @@ impl<'a, 'input> Attributes<'a, 'input> {
         until: usize,
         namespaces: &'a [Namespace<'input>],
     ) -> Attributes<'a, 'input>
-        requires ordered { from ≤ until }
-        requires within { until ≤ length (attribute_rows table.now) }
-        requires named { AllByRecursion (λ a. NamespaceWithin (length namespaces.now) a.0.namespace)
-            (attribute_rows table.now) }
+        requires { AttributesWithin (record
+            { table = table; namespaces = namespaces; from = from; until = until }) }
         ensures { result
             ≡ map (attribute (map namespace_view namespaces.now))
             (slice_range (attribute_rows table.now) from until) }

@@ -35,8 +35,9 @@ impl<'a, 'input> Model for NamespaceIter<'a, 'input> {
 
 impl<'a, 'input> NamespaceIter<'a, 'input> {
     ghost use Rattle.std.specs.Prelude.{[], map, ◌<◌, ◌^◌};
-    ghost use Rattle.rox_tables.specs.Rows.{namespace_at, AreScopes};
-    ghost use Rattle.rox_tables.specs.Scopes.{places_in, ArePlaces};
+    ghost use Rattle.rox_tables.specs.Rows.{namespace_at};
+    ghost use Rattle.rox_tables.specs.Scopes.{places_in};
+    ghost use Rattle.roxmltree.specs.ElementLists.{IsScopeOf};
 
     /// All that a scope lists of these places, in this table of namespaces.
     #[inline]
@@ -47,9 +48,7 @@ impl<'a, 'input> NamespaceIter<'a, 'input> {
         namespaces: &'a [Namespace<'input>],
         scope: u32,
     ) -> NamespaceIter<'a, 'input>
-        requires is_row { scope < length scopes.now }
-        requires scopes { AreScopes (length listed.now) scopes.now }
-        requires named { ArePlaces (length namespaces.now) listed.now }
+        requires { IsScopeOf (length namespaces.now) listed.now scopes.now scope }
         ensures value { result ≡ map (namespace_at (map namespace_view namespaces.now))
             (places_in listed.now scopes.now scope) }
         ensures few { length result < 2 ^ 64 }

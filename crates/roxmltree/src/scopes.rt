@@ -1,11 +1,12 @@
 //! What a scope lists for a prefix, and for a URI. The stretches of a rope are gone over from leaf to leaf for a prefix: by its
 //! index each place would be sought from the top.
 
-ghost use Rattle.std.specs.Prelude.{◌≡◌, ◌<◌, ◌++◌, None, length, map, reverse, IfSome, IfNone};
+ghost use Rattle.std.specs.Prelude.{◌≡◌, ◌++◌, None, length, map, reverse, IfSome, IfNone};
 ghost use Rattle.std.specs.Option.{option_map};
 ghost use Rattle.rox_grammar.specs.Tree.{same_prefix, uri_of};
-ghost use Rattle.rox_tables.specs.Rows.{namespace_view, AreScopes};
+ghost use Rattle.rox_tables.specs.Rows.{namespace_view};
 ghost use Rattle.rox_tables.specs.Scopes.{prefix_view, entries, places_in, ArePlaces};
+ghost use Rattle.roxmltree.specs.ElementLists.{IsScopeOf};
 ghost use Rattle.roxmltree.specs.ExpandedNames.{first_prefix};
 
 use crate::names::equal_names;
@@ -78,9 +79,7 @@ pub(crate) fn first_in_scope<'a, 'input>(
     scope: u32,
     prefix: Option<&str>,
 ) -> Option<&'a Namespace<'input>>
-    requires is_row { scope < length scopes.now }
-    requires scopes { AreScopes (length listed.now) scopes.now }
-    requires named { ArePlaces (length namespaces.now) listed.now }
+    requires { IsScopeOf (length namespaces.now) listed.now scopes.now scope }
     ensures { option_map (λ n. (namespace_view n.now).uri) result
         ≡ uri_of (entries (map namespace_view namespaces.now)
         (places_in listed.now scopes.now scope)) (prefix_view prefix.entry) }
@@ -108,10 +107,8 @@ fn first_in_parts<'a, 'input>(
     parts: Concat,
     prefix: Option<&str>,
 ) -> Option<&'a Namespace<'input>>
-    requires first { parts.first < length scopes.now }
-    requires rest { parts.rest < length scopes.now }
-    requires scopes { AreScopes (length listed.now) scopes.now }
-    requires named { ArePlaces (length namespaces.now) listed.now }
+    requires first { IsScopeOf (length namespaces.now) listed.now scopes.now parts.first }
+    requires rest { IsScopeOf (length namespaces.now) listed.now scopes.now parts.rest }
     ensures { option_map (λ n. (namespace_view n.now).uri) result
         ≡ uri_of (entries (map namespace_view namespaces.now)
         (places_in listed.now scopes.now parts.first ++ places_in listed.now scopes.now parts.rest))
@@ -170,9 +167,7 @@ pub(crate) fn prefix_in_scope<'input>(
     scope: u32,
     uri: &str,
 ) -> Option<&'input str>
-    requires is_row { scope < length scopes.now }
-    requires scopes { AreScopes (length listed.now) scopes.now }
-    requires named { ArePlaces (length namespaces.now) listed.now }
+    requires { IsScopeOf (length namespaces.now) listed.now scopes.now scope }
     ensures { option_map (λ s. s.now) result
         ≡ first_prefix uri.now (entries (map namespace_view namespaces.now)
         (places_in listed.now scopes.now scope)) }

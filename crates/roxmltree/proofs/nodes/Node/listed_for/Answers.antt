@@ -19,17 +19,15 @@ kind-node_kind-requires c =
     let l : c.args.self.now.id.0 < size (tree_in c.document.inside.tables) = rw v c.args.self.now.in_tree in
     omega (arith, in_rows c.document.inside.tables (tree_in c.document.inside.tables) c.args.self.now.id.0 c.document.invariant.holds l, count_nodes c.document.inside.tables.nodes)
 
-pub first_in_scope-requires-clause-is_row : goal.first_in_scope-requires-clause-is_row
-first_in_scope-requires-clause-is_row c =
+pub first_in_scope-requires : goal.first_in_scope-requires
+first_in_scope-requires c =
     let v : tree_in c.document.inside.tables ≡ c.args.self.now.document.now.tree = ap (λ d. d.tree) c.document.view_is in
     let l : c.args.self.now.id.0 < size (tree_in c.document.inside.tables) = rw v c.args.self.now.in_tree in
-    rw c.as_slice-scopes.ensures.value ((element_within c.document.inside.tables (tree_in c.document.inside.tables) _ _ _ c.document.invariant.holds l c.kind-node_kind.ensures.1 (sym c.kind-node_kind.ensures.2 ∙ ap kind_of c.in-Element.is)).2)
-
-pub first_in_scope-requires-clause-scopes : goal.first_in_scope-requires-clause-scopes
-first_in_scope-requires-clause-scopes c = rw (c.as_slice-scopes.ensures.value, c.as_slice-listed.ensures.value) c.document.invariant.holds.sound.scopes
-
-pub first_in_scope-requires-clause-named : goal.first_in_scope-requires-clause-named
-first_in_scope-requires-clause-named c = rw (c.as_slice-listed.ensures.value, c.as_slice-namespaces.ensures.value) c.document.invariant.holds.sound.listed
+    record {
+      is_row = rw c.as_slice-scopes.ensures.value ((element_within c.document.inside.tables (tree_in c.document.inside.tables) _ _ _ c.document.invariant.holds l c.kind-node_kind.ensures.1 (sym c.kind-node_kind.ensures.2 ∙ ap kind_of c.in-Element.is)).2);
+      scopes = rw (c.as_slice-scopes.ensures.value, c.as_slice-listed.ensures.value) c.document.invariant.holds.sound.scopes;
+      named = rw (c.as_slice-listed.ensures.value, c.as_slice-namespaces.ensures.value) c.document.invariant.holds.sound.listed;
+    }
 
 pub returns : goal.returns
 returns c =

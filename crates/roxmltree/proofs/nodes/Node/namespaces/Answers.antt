@@ -14,17 +14,15 @@ kind-requires c =
     let l : c.args.self.now.id.0 < size (tree_in c.document.inside.tables) = rw v c.args.self.now.in_tree in
     omega (arith, in_rows c.document.inside.tables (tree_in c.document.inside.tables) c.args.self.now.id.0 c.document.invariant.holds l, count_nodes c.document.inside.tables.nodes)
 
-pub of_scope-requires-clause-is_row : goal.of_scope-requires-clause-is_row
-of_scope-requires-clause-is_row c =
+pub of_scope-requires : goal.of_scope-requires
+of_scope-requires c =
     let v : tree_in c.document.inside.tables ≡ c.args.self.now.document.now.tree = ap (λ d. d.tree) c.document.view_is in
     let l : c.args.self.now.id.0 < size (tree_in c.document.inside.tables) = rw v c.args.self.now.in_tree in
-    rw c.as_slice-scopes.ensures.value ((element_within c.document.inside.tables (tree_in c.document.inside.tables) _ _ _ c.document.invariant.holds l c.kind.ensures.1 (sym c.kind.ensures.2 ∙ ap kind_of c.in-Element.is)).2)
-
-pub of_scope-requires-clause-scopes : goal.of_scope-requires-clause-scopes
-of_scope-requires-clause-scopes c = rw (c.as_slice-scopes.ensures.value, c.as_slice-listed.ensures.value) c.document.invariant.holds.sound.scopes
-
-pub of_scope-requires-clause-named : goal.of_scope-requires-clause-named
-of_scope-requires-clause-named c = rw (c.as_slice-listed.ensures.value, c.as_slice-namespaces.ensures.value) c.document.invariant.holds.sound.listed
+    record {
+      is_row = rw c.as_slice-scopes.ensures.value ((element_within c.document.inside.tables (tree_in c.document.inside.tables) _ _ _ c.document.invariant.holds l c.kind.ensures.1 (sym c.kind.ensures.2 ∙ ap kind_of c.in-Element.is)).2);
+      scopes = rw (c.as_slice-scopes.ensures.value, c.as_slice-listed.ensures.value) c.document.invariant.holds.sound.scopes;
+      named = rw (c.as_slice-listed.ensures.value, c.as_slice-namespaces.ensures.value) c.document.invariant.holds.sound.listed;
+    }
 
 pub returns-clause-value : goal.returns-clause-value
 returns-clause-value c =

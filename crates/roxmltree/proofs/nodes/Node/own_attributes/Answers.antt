@@ -14,27 +14,22 @@ kind-requires c =
     let l : c.args.self.now.id.0 < size (tree_in c.document.inside.tables) = rw v c.args.self.now.in_tree in
     omega (arith, in_rows c.document.inside.tables (tree_in c.document.inside.tables) c.args.self.now.id.0 c.document.invariant.holds l, count_nodes c.document.inside.tables.nodes)
 
-pub part-requires-clause-ordered : goal.part-requires-clause-ordered
-part-requires-clause-ordered c =
+pub part-requires : goal.part-requires
+part-requires c =
     let v : tree_in c.document.inside.tables ≡ c.args.self.now.document.now.tree = ap (λ d. d.tree) c.document.view_is in
     let l : c.args.self.now.id.0 < size (tree_in c.document.inside.tables) = rw v c.args.self.now.in_tree in
-    (element_within c.document.inside.tables (tree_in c.document.inside.tables) _ _ _ c.document.invariant.holds l c.kind.ensures.1 (sym c.kind.ensures.2 ∙ ap kind_of c.in-Element.is)).0
-
-pub part-requires-clause-within : goal.part-requires-clause-within
-part-requires-clause-within c =
-    let v : tree_in c.document.inside.tables ≡ c.args.self.now.document.now.tree = ap (λ d. d.tree) c.document.view_is in
-    let l : c.args.self.now.id.0 < size (tree_in c.document.inside.tables) = rw v c.args.self.now.in_tree in
-    (element_within c.document.inside.tables (tree_in c.document.inside.tables) _ _ _ c.document.invariant.holds l c.kind.ensures.1 (sym c.kind.ensures.2 ∙ ap kind_of c.in-Element.is)).1
-
-pub part-requires-clause-named : goal.part-requires-clause-named
-part-requires-clause-named c = rw (c.as_slice-namespaces.ensures.value) c.document.invariant.holds.sound.attributes
+    record {
+      ordered = (element_within c.document.inside.tables (tree_in c.document.inside.tables) _ _ _ c.document.invariant.holds l c.kind.ensures.1 (sym c.kind.ensures.2 ∙ ap kind_of c.in-Element.is)).0;
+      within = (element_within c.document.inside.tables (tree_in c.document.inside.tables) _ _ _ c.document.invariant.holds l c.kind.ensures.1 (sym c.kind.ensures.2 ∙ ap kind_of c.in-Element.is)).1;
+      each = rw (c.as_slice-namespaces.ensures.value) c.document.invariant.holds.sound.attributes;
+    }
 
 pub part-requires-in_default : goal.part-requires-in_default
 part-requires-in_default c =
     record {
       ordered = omega arith;
       within = omega arith;
-      named = rw (c.as_slice-namespaces.ensures.value) c.document.invariant.holds.sound.attributes;
+      each = rw (c.as_slice-namespaces.ensures.value) c.document.invariant.holds.sound.attributes;
     }
 
 pub returns-in-Element : goal.returns-in-Element
