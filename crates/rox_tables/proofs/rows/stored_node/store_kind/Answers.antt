@@ -1,4 +1,4 @@
-use Rattle.std.proofs.Common.{◌≡◌, length, sym, ap, ◌∙◌, arith}
+use Rattle.std.proofs.Common.{◌≡◌, length, arith}
 use Rattle.rox_tables.proofs.StoredNodes.{instruction-last, whole-more}
 use Rattle.rox_tables.proofs.rows.stored_node.store_kind.Goals as goal
 

@@ -1,4 +1,4 @@
-use Rattle.std.proofs.Common.{◌<◌, List, length, arith}
+use Rattle.std.proofs.Common.{◌<◌, length, arith}
 use Rattle.rox_tables.specs.StoredNodes.{whole_row, high_at}
 use Rattle.rox_tables.specs.declared.rows.tables.NodeData.{NodeData}
 use Rattle.rox_tables.proofs.StoredNodes.{links_are}

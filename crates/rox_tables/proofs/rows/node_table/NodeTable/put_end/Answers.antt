@@ -1,4 +1,4 @@
-use Rattle.std.proofs.Common.{◌≡◌, ◌/◌, ◌^◌, ◌<◌, ℕ, length, sym, ap, ◌∙◌, arith}
+use Rattle.std.proofs.Common.{◌≡◌, ◌^◌, ◌<◌, length, sym, ap, ◌∙◌, arith}
 use Rattle.rox_tables.specs.StoredNodes.{no_high, whole_place}
 use Rattle.rox_tables.proofs.StoredNodes.{a_row, count_nodes, end_is, within-end}
 use Rattle.rox_tables.proofs.rows.node_table.NodeTable.put_end.Goals as goal

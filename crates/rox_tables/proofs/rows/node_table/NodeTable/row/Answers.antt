@@ -1,4 +1,4 @@
-use Rattle.std.proofs.Common.{◌≡◌, ◌<◌, List, length, ap, ◌∙◌, arith}
+use Rattle.std.proofs.Common.{◌<◌, List, length, ap, ◌∙◌, arith}
 use Rattle.rox_tables.specs.StoredNodes.{high_at, whole_kind}
 use Rattle.rox_tables.specs.declared.rows.tables.PI.{PI}
 use Rattle.rox_tables.specs.declared.rows.stored_node.HighPlaces.{HighPlaces}
