@@ -673,7 +673,7 @@ fn some_attributes<'input>(
     None
 }
 
-/// The same; most tags have none, which is seen first.
+/// The same; many tags have none, which is seen first: no white space stands behind their names.
 #[inline(always)]
 fn plain_attributes<'input>(
     text: &'input str,
@@ -694,11 +694,9 @@ fn plain_attributes<'input>(
     ensures grown { (more : List AttributeRow)
         × (attribute_rows attributes.new ≡ attribute_rows attributes.old ++ more) }
 {
-    if is_at(text, start, b'>') {
-        return Some(TagEnd {
-            at: after_byte(text, start, b'>'),
-            empty: false,
-        });
+    let bytes = text.as_bytes();
+    if start < bytes.len() && bytes[start] > b' ' {
+        return tag_end(text, start);
     }
     some_attributes(text, start, namespaces, few, present, attributes)
 }
