@@ -1,5 +1,5 @@
 -- Start tags that are read at one look.
-use Rattle.std.proofs.Common.{◌≡◌, ℕ, suc, ◌+◌, ◌-◌, ◌<◌, ◌≤◌, ◌||◌, ◌==◌, Bool, true, false, List, [], ◌∷◌, ◌++◌, Option, length, map, drop, slice_index, slice_range, refl, sym, ap, subst, ◌∙◌, arith, Ok, append_assoc}
+use Rattle.std.proofs.Common.{◌≡◌, ℕ, suc, ◌+◌, ◌-◌, ◌<◌, ◌≤◌, ◌||◌, ◌==◌, Bool, true, false, List, [], ◌∷◌, ◌++◌, Option, length, map, drop, slice_index, slice_range, refl, sym, ap, subst, ◌∙◌, arith, Ok, append_assoc, bytes_eq}
 use Rattle.std.specs.List.{AllByRecursion}
 use Rattle.std.proofs.lemmas.Bool.{lt-leb, eq-eqb, ne_eqb}
 use Rattle.std.proofs.lemmas.List.{append-nil, map-append, length-map}
@@ -8,7 +8,9 @@ use Rattle.std.specs.Option.{IfSome}
 use Rattle.rox_tables.specs.declared.rows.tables.Namespace.{Namespace}
 use Rattle.rox_build.specs.declared.plain_tag.TagEnd.{TagEnd}
 use Rattle.std.proofs.Common.{length-append}
-use Rattle.std.specs.Option.{option_map}
+use Rattle.std.specs.Option.{option_map, is_some}
+use Rattle.rox_grammar.specs.WellNamed.{may_name}
+use Rattle.rox_tables.proofs.Pairs.{declared_some}
 use Rattle.rox_grammar.specs.Tree.{listed, element_namespace}
 use Rattle.rox_grammar.specs.Document.{most_attributes}
 use Rattle.rox_tables.specs.Rows.{scope_at, namespace_at, OptionWithin, attribute_rows}
@@ -44,7 +46,7 @@ use Rattle.rox_tables.specs.ResolvedNames.{AddsResolved, row_of_unresolved}
 use Rattle.rox_tables.specs.declared.namespaces.bindings.PrefixBindings.{PrefixBindings}
 use Rattle.rox_tables.specs.declared.namespaces.unresolved_attribute.UnresolvedAttribute.{UnresolvedAttribute}
 use Rattle.rox_tables.proofs.Stable.{all_append}
-use Rattle.rox_build.specs.PlainTag.{IsValueStart, IsPlainAttribute, PlainSoFar, ArePlainAttributes, holding}
+use Rattle.rox_build.specs.PlainTag.{HasScope, few_in, IsValueStart, IsPlainAttribute, AddsPlain, PlainSoFar, ArePlainAttributes, holding}
 use Rattle.std.specs.Str.{IsUtf8, IsCharBoundary}
 use Rattle.std.proofs.lemmas.Bool.Decides.{nat_tests}
 use Rattle.std.proofs.lemmas.Str.{IsCharBoundary-after_ascii}
@@ -329,6 +331,43 @@ pub few_found : (t : ElementTables) (ns : List Namespace) (scopes : List Scope) 
 few_found t ns scopes listed ps scope n s l few =
     let namespaces = map namespace_view t.namespaces.items.items in
     rw n (finds_few namespaces ps t.present (scope_at (lists_in t) scope) (scope_places namespaces t.listed.items t.scopes.items scope ∙ ap (entries namespaces) (sym (rw (s, l) at few))))
+
+-- the places that were found are those of the scope
+pub few_is : (t : ElementTables) (scopes : List Scope) (listed ps : List ℕ) (scope : ℕ) → scopes ≡ t.scopes.items → listed ≡ t.listed.items → ps ≡ places_in listed scopes scope
+    → ps ≡ places_in t.listed.items t.scopes.items scope
+few_is t scopes listed ps scope s l few = rw (s, l) at few
+
+pub scope_found : (t : ElementTables) (scope : ℕ) → FindsBinding (map namespace_view t.namespaces.items.items) (few_in t scope) t.present (scope_at (lists_in t) scope)
+scope_found t scope = few_found t t.namespaces.items.items t.scopes.items t.listed.items (places_in t.listed.items t.scopes.items scope) scope refl refl refl refl
+
+-- where the attributes alone have changed, the scope is there, and attributes are added in it
+pub scope_stays : (old now : ElementTables) (scope : ℕ) → now ≡ record old { attributes = now.attributes } → HasScope old scope → HasScope now scope
+scope_stays old now scope is h = subst (λ (t : ElementTables). HasScope t scope) (sym is) (record { places = h.places; scopes = h.scopes; within = h.within })
+
+pub adds_there : (old now : ElementTables) (scope from : ℕ) (src : List ℕ) (i j : ℕ) (before after : List AttributeRow) → now ≡ record old { attributes = now.attributes }
+    → AddsPlain (map namespace_view now.namespaces.items.items) (few_in now scope) now.present from src i j before after
+    → AddsPlain (map namespace_view old.namespaces.items.items) (few_in old scope) old.present from src i j before after
+adds_there old now scope from src i j before after is x =
+    subst (λ (t : ElementTables). AddsPlain (map namespace_view t.namespaces.items.items) (few_in t scope) t.present from src i j before after) is x
+
+pub others_stay : (old now new : ElementTables) → now ≡ record old { attributes = now.attributes } → new ≡ record now { attributes = new.attributes } → new ≡ record old { attributes = new.attributes }
+others_stay old now new one other = other ∙ ap (λ (t : ElementTables). record t { attributes = new.attributes }) one
+
+-- a name with a namespace, or without a prefix, is one that an element may have
+pub named_known : (scope : List NamespaceDecl) (n : Name) (u : List ℕ) → element_namespace scope n ≡ Some u → may_name scope n ≡ true
+named_known scope n u h = which n.prefix refl
+  where
+    or_true : (a : Bool) → (a || true) ≡ true
+    or_true true = refl
+    or_true false = refl
+
+    which : (p : List ℕ) → n.prefix ≡ p → may_name scope n ≡ true
+    which [] is = rw is refl
+    which (b ∷ bs) is = rw is (rw (declared_some scope (Some (b ∷ bs)) u (rw is at h)) (or_true (bytes_eq (b ∷ bs) [])))
+
+pub named_by : (namespaces scope : List NamespaceDecl) (n : Name) (o : Option ℕ) → is_some o ≡ true → option_map (λ i. (namespace_at namespaces i).uri) o ≡ element_namespace scope n → may_name scope n ≡ true
+named_by namespaces scope n None some is = cc some
+named_by namespaces scope n (Some i) some is = named_known scope n _ (sym is)
 
 -- what the tables hold of a plain tag
 pub plain_element : (old new : ElementTables) (e : ElementData) (above : List NamespaceDecl) (few : Option (List ℕ)) (src : List ℕ) (start j : ℕ) (empty : Bool) (name : Name)

@@ -1,5 +1,5 @@
 -- Start tags that are read at one look: without declarations, and with attributes whose values have no reference.
-use Rattle.std.specs.Prelude.{◌≡◌, ℕ, ◌+◌, ◌<◌, ◌≤◌, ◌==◌, ◌||◌, Bool, true, false, List, [], ◌++◌, Option, Ok, length, map, slice_index}
+use Rattle.std.specs.Prelude.{◌≡◌, ℕ, ◌+◌, ◌<◌, ◌≤◌, ◌==◌, ◌||◌, Bool, true, false, List, [], ◌++◌, Option, Some, Ok, length, map, slice_index}
 use Rattle.std.specs.List.{AllByRecursion}
 use Rattle.std.specs.Str.{IsCharBoundary}
 use Rattle.rox_grammar.specs.declared.fault.Fault.{Fault}
@@ -12,7 +12,8 @@ use Rattle.rox_reading.specs.Markup.{attribute_at}
 use Rattle.rox_reading.specs.Values.{ValueInclusion, value_at}
 use Rattle.rox_reading.specs.Tags.{TagSoFar, Values, attributes_at, names_tested, tag_at}
 use Rattle.rox_tables.specs.Bindings.{FindsBinding}
-use Rattle.rox_tables.specs.Rows.{AttributeRow, NamespaceWithin, namespace_view, attribute, attribute_rows}
+use Rattle.rox_tables.specs.Rows.{AttributeRow, AreScopes, NamespaceWithin, namespace_view, attribute, attribute_rows}
+use Rattle.rox_tables.specs.Scopes.{ArePlaces, places_in}
 use Rattle.rox_tables.specs.declared.namespaces.bindings.PrefixBindings.{PrefixBindings}
 use Rattle.rox_tables.specs.ResolvedNames.{AddsResolved}
 use Rattle.rox_tables.specs.Storage.{storage_bytes, is_borrowed}
@@ -20,6 +21,16 @@ use Rattle.rox_tables.specs.declared.rows.tables.ElementTables.{ElementTables}
 use Rattle.rox_build.specs.ElementRow.{Tagged}
 use Rattle.rox_build.specs.declared.tag.StartTag.{StartTag}
 use Rattle.rox_tables.specs.declared.namespaces.unresolved_attribute.UnresolvedAttribute.{UnresolvedAttribute}
+
+-- the tables have this scope, and the places that it lists
+pub record HasScope (t : ElementTables) (scope : ℕ) : Type 0 where
+  pub places : ArePlaces (length t.namespaces.items.items) t.listed.items
+  pub scopes : AreScopes (length t.listed.items) t.scopes.items
+  pub within : scope < length t.scopes.items
+
+-- these places, as a look-up among few takes them
+abbrev pub few_in : ElementTables → ℕ → Option (List ℕ)
+few_in t scope = Some (places_in t.listed.items t.scopes.items scope)
 
 -- the value begins here, behind its quote, of an attribute whose name ends at this place
 pub record IsValueStart (src : List ℕ) (i j : ℕ) : Type 0 where

@@ -244,14 +244,16 @@ fn plain_element<'input>(
     if !builder.has_room_to_open() {
         return false;
     }
+    let Some(parent) = builder.opened.last() else {
+        return false;
+    };
     let start = cursor.pos;
-    let above = builder.scope();
     let openings_left = builder.openings_left;
     let Some(read) = plain_start_tag(
         cursor.text,
         start,
         &mut builder.tables,
-        above,
+        parent,
         openings_left,
         part,
     ) else {

@@ -13,8 +13,11 @@ ghost use Rattle.rox_scan.specs.ByteSets.{AllPass, is_part_byte};
 ghost use Rattle.rox_reading.specs.Markup.{raw_value_at};
 ghost use Rattle.rox_reading.specs.Values.{is_special};
 ghost use Rattle.rox_tables.specs.Storage.{storage_bytes};
-ghost use Rattle.rox_tables.specs.Bindings.{LooksWithin, places_view};
-ghost use Rattle.rox_tables.specs.Rows.{AttributeRow, NamespaceWithin, namespace_view, attribute_rows};
+ghost use Rattle.rox_grammar.specs.Tree as tree;
+ghost use Rattle.rox_grammar.specs.WellNamed.{is_known, may_name};
+ghost use Rattle.rox_grammar.specs.Written.{NamespaceDecl};
+ghost use Rattle.rox_tables.specs.Bindings.{FindsBinding};
+ghost use Rattle.rox_tables.specs.Rows.{AttributeRow, NamespaceWithin, namespace_view, attribute_rows, attribute_uri};
 ghost use Rattle.std.specs.List.{AllByRecursion};
 ghost use Rattle.rox_grammar.specs.Document.{most_pairs};
 ghost use Rattle.rox_tables.specs.Rows.{AreScopes};
@@ -22,8 +25,8 @@ ghost use Rattle.rox_tables.specs.Scopes.{ArePlaces, PrefixesOnce};
 ghost use Rattle.rox_tables.specs.SeenNames.{AreSeen};
 ghost use Rattle.rox_tables.specs.TagScopes.{HasBindings};
 ghost use Rattle.rox_build.specs.ElementRow.{scope_in_tables};
-ghost use Rattle.rox_build.specs.BuilderState.{IsOpenWithin};
-ghost use Rattle.rox_build.specs.PlainTag.{IsValueStart, IsPlainAttribute, AddsPlain, ArePlainAttributes, IsPlainTag, HoldSame};
+ghost use Rattle.rox_build.specs.BuilderState.{IsNamespaceOf, IsOpenWithin};
+ghost use Rattle.rox_build.specs.PlainTag.{HasScope, few_in, IsValueStart, IsPlainAttribute, AddsPlain, ArePlainAttributes, IsPlainTag, HoldSame};
 
 use crate::builder::OpenElement;
 use crate::spaced_value::{spaced_value, spaced_value_end};
@@ -44,7 +47,7 @@ use rox_tables::namespaces::unresolved_attribute::{UnresolvedAttribute, UsualAtt
 use rox_tables::rows::attributes::AttributeTable;
 use rox_tables::rows::storage::StringStorage;
 use rox_tables::rows::stored_attribute::UNUSUAL;
-use rox_tables::rows::tables::{ElementData, ElementTables, Namespace};
+use rox_tables::rows::tables::{AttributeNamespace, ElementData, ElementTables};
 use std::alloc::Global;
 
 /// A name, and where it ends.
@@ -279,12 +282,37 @@ fn spaced_attribute<'input>(
     })
 }
 
-/// What a name's namespace is sought in.
-#[derive(Clone, Copy)]
-struct Around<'a, 'input> {
-    namespaces: &'a [Namespace<'input>],
-    few: Option<&'a [u16]>,
-    present: &'a PrefixBindings<'input>,
+/// The namespace of an attribute's name in this scope. Most have no prefix, and then nothing is looked up.
+#[inline(always)]
+fn namespace_in(
+    elements: &ElementTables<'_>,
+    scope: u32,
+    name: QName<'_>,
+) -> Option<AttributeNamespace>
+    requires scope { HasScope elements.now scope }
+    ensures within { IfSome result
+        (λ s. NamespaceWithin (length elements.entry.now.namespaces.items.items) s) }
+    ensures there { (ds : List NamespaceDecl)
+        → FindsBinding (map namespace_view elements.entry.now.namespaces.items.items)
+        (few_in elements.entry.now scope) elements.entry.now.present ds
+        → IfSome result
+        (λ s. attribute_uri (map namespace_view elements.entry.now.namespaces.items.items) s
+        ≡ tree.attribute_namespace ds (name_view name.entry)) }
+    ensures known { (ds : List NamespaceDecl)
+        → FindsBinding (map namespace_view elements.entry.now.namespaces.items.items)
+        (few_in elements.entry.now scope) elements.entry.now.present ds
+        → IfSome result (λ _. is_known ds (name_view name.entry) ≡ true) }
+{
+    if name.prefix.is_empty() {
+        return Some(AttributeNamespace::None);
+    }
+    let places = few_places(&elements.scopes, &elements.listed, scope)?;
+    attribute_namespace(
+        elements.namespaces.as_slice(),
+        Some(places),
+        &elements.present,
+        name,
+    )
 }
 
 /// Puts the attribute that begins at `start`, if it is such a one and no declaration, behind those of its tag, which were `seen`.
@@ -294,40 +322,46 @@ struct Around<'a, 'input> {
 fn put_spaced_attribute<'input>(
     text: &'input str,
     start: usize,
-    around: Around<'_, 'input>,
-    attributes: &mut AttributeTable<'input>,
+    elements: &mut ElementTables<'input>,
+    scope: u32,
     seen: &mut SeenNames,
 ) -> usize
     requires cut { IsCharBoundary text.now start }
-    requires within { LooksWithin (length around.namespaces.now) (places_view around.few)
-        around.present.now }
-    requires from { seen.old.from ≤ length (attribute_rows attributes.old) }
+    requires scope { HasScope elements.old scope }
+    requires from { seen.old.from ≤ length (attribute_rows elements.old.attributes) }
     requires done { AllByRecursion
-        (λ a. NamespaceWithin (length around.namespaces.now) a.0.namespace)
-        (drop seen.old.from (attribute_rows attributes.old)) }
-    requires seen { AreSeen seen.old (attribute_rows attributes.old) }
-    ensures added { 0 < result → AddsPlain (map namespace_view around.entry.namespaces.now)
-        (places_view around.entry.few) around.entry.present.now seen.old.from text.entry.now start
-        result (attribute_rows attributes.old) (attribute_rows attributes.new) }
+        (λ a. NamespaceWithin (length elements.old.namespaces.items.items) a.0.namespace)
+        (drop seen.old.from (attribute_rows elements.old.attributes)) }
+    requires seen { AreSeen seen.old (attribute_rows elements.old.attributes) }
+    ensures added { 0 < result → AddsPlain (map namespace_view elements.old.namespaces.items.items)
+        (few_in elements.old scope) elements.old.present seen.old.from text.entry.now start
+        result (attribute_rows elements.old.attributes) (attribute_rows elements.new.attributes) }
+    ensures others { elements.new ≡ record elements.old { attributes = elements.new.attributes } }
     ensures from { seen.new.from ≡ seen.old.from }
-    ensures seen { 0 < result → AreSeen seen.new (attribute_rows attributes.new) }
+    ensures seen { 0 < result → AreSeen seen.new (attribute_rows elements.new.attributes) }
     ensures refused { result ≡ 0
-        → attribute_rows attributes.new ≡ attribute_rows attributes.old }
+        → attribute_rows elements.new.attributes ≡ attribute_rows elements.old.attributes }
 {
-    let alloc = *attributes.items.allocator();
+    let alloc = *elements.attributes.items.allocator();
     let Some(one) = spaced_attribute(alloc, text, start) else {
         return 0;
     };
     if is_namespace_decl(one.name) {
         return 0;
     }
+    let Some(places) = few_places(&elements.scopes, &elements.listed, scope) else {
+        return 0;
+    };
+    let namespaces = elements.namespaces.as_slice();
     let end = one.end;
-    let Around {
+    if put_changed(
         namespaces,
-        few,
-        present,
-    } = around;
-    if put_changed(namespaces, few, present, attributes, seen, one) {
+        Some(places),
+        &elements.present,
+        &mut elements.attributes,
+        seen,
+        one,
+    ) {
         end
     } else {
         0
@@ -340,40 +374,44 @@ fn put_spaced_attribute<'input>(
 fn put_other_attribute<'input>(
     text: &'input str,
     start: usize,
-    around: Around<'_, 'input>,
-    attributes: &mut AttributeTable<'input>,
+    elements: &mut ElementTables<'input>,
+    scope: u32,
     seen: &mut SeenNames,
 ) -> usize
     requires cut { IsCharBoundary text.now start }
     requires short { length text.now < 2 ^ 32 }
-    requires within { LooksWithin (length around.namespaces.now) (places_view around.few)
-        around.present.now }
-    requires from { seen.old.from ≤ length (attribute_rows attributes.old) }
+    requires scope { HasScope elements.old scope }
+    requires from { seen.old.from ≤ length (attribute_rows elements.old.attributes) }
     requires done { AllByRecursion
-        (λ a. NamespaceWithin (length around.namespaces.now) a.0.namespace)
-        (drop seen.old.from (attribute_rows attributes.old)) }
-    requires seen { AreSeen seen.old (attribute_rows attributes.old) }
-    ensures added { 0 < result → AddsPlain (map namespace_view around.entry.namespaces.now)
-        (places_view around.entry.few) around.entry.present.now seen.old.from text.entry.now start
-        result (attribute_rows attributes.old) (attribute_rows attributes.new) }
+        (λ a. NamespaceWithin (length elements.old.namespaces.items.items) a.0.namespace)
+        (drop seen.old.from (attribute_rows elements.old.attributes)) }
+    requires seen { AreSeen seen.old (attribute_rows elements.old.attributes) }
+    ensures added { 0 < result → AddsPlain (map namespace_view elements.old.namespaces.items.items)
+        (few_in elements.old scope) elements.old.present seen.old.from text.entry.now start
+        result (attribute_rows elements.old.attributes) (attribute_rows elements.new.attributes) }
+    ensures others { elements.new ≡ record elements.old { attributes = elements.new.attributes } }
     ensures from { seen.new.from ≡ seen.old.from }
-    ensures seen { 0 < result → AreSeen seen.new (attribute_rows attributes.new) }
+    ensures seen { 0 < result → AreSeen seen.new (attribute_rows elements.new.attributes) }
     ensures refused { result ≡ 0
-        → attribute_rows attributes.new ≡ attribute_rows attributes.old }
+        → attribute_rows elements.new.attributes ≡ attribute_rows elements.old.attributes }
 {
     let Some(one) = plain_attribute(text, start) else {
-        return put_spaced_attribute(text, start, around, attributes, seen);
+        return put_spaced_attribute(text, start, elements, scope, seen);
     };
     let name = one.name;
     if is_namespace_decl(name) {
         return 0;
     }
+    let Some(places) = few_places(&elements.scopes, &elements.listed, scope) else {
+        return 0;
+    };
+    let namespaces = elements.namespaces.as_slice();
     let behind = one.end;
     if !put_resolved(
-        around.namespaces,
-        around.few,
-        around.present,
-        attributes,
+        namespaces,
+        Some(places),
+        &elements.present,
+        &mut elements.attributes,
         seen,
         one,
     ) {
@@ -405,8 +443,8 @@ fn put_named_attribute<'input>(
     start: usize,
     read: PlainName<'input>,
     quote: u8,
-    around: Around<'_, 'input>,
-    attributes: &mut AttributeTable<'input>,
+    elements: &mut ElementTables<'input>,
+    scope: u32,
     seen: &mut SeenNames,
 ) -> usize
     requires cut { IsCharBoundary text.now start }
@@ -417,39 +455,34 @@ fn put_named_attribute<'input>(
     requires quote { slice_index text.now (read.end + 1) ≡ quote }
     requires is_quote { (quote == 39 || quote == 34) ≡ true }
     requires inside { read.end + 1 < length text.now }
-    requires within { LooksWithin (length around.namespaces.now) (places_view around.few)
-        around.present.now }
-    requires from { seen.old.from ≤ length (attribute_rows attributes.old) }
+    requires scope { HasScope elements.old scope }
+    requires from { seen.old.from ≤ length (attribute_rows elements.old.attributes) }
     requires done { AllByRecursion
-        (λ a. NamespaceWithin (length around.namespaces.now) a.0.namespace)
-        (drop seen.old.from (attribute_rows attributes.old)) }
-    requires seen { AreSeen seen.old (attribute_rows attributes.old) }
-    ensures added { 0 < result → AddsPlain (map namespace_view around.entry.namespaces.now)
-        (places_view around.entry.few) around.entry.present.now seen.old.from text.entry.now start
-        result (attribute_rows attributes.old) (attribute_rows attributes.new) }
+        (λ a. NamespaceWithin (length elements.old.namespaces.items.items) a.0.namespace)
+        (drop seen.old.from (attribute_rows elements.old.attributes)) }
+    requires seen { AreSeen seen.old (attribute_rows elements.old.attributes) }
+    ensures added { 0 < result → AddsPlain (map namespace_view elements.old.namespaces.items.items)
+        (few_in elements.old scope) elements.old.present seen.old.from text.entry.now start
+        result (attribute_rows elements.old.attributes) (attribute_rows elements.new.attributes) }
+    ensures others { elements.new ≡ record elements.old { attributes = elements.new.attributes } }
     ensures from { seen.new.from ≡ seen.old.from }
-    ensures seen { 0 < result → AreSeen seen.new (attribute_rows attributes.new) }
+    ensures seen { 0 < result → AreSeen seen.new (attribute_rows elements.new.attributes) }
     ensures refused { result ≡ 0
-        → attribute_rows attributes.new ≡ attribute_rows attributes.old }
+        → attribute_rows elements.new.attributes ≡ attribute_rows elements.old.attributes }
 {
     let behind = after_byte(text, read.end, b'=');
     let value_start = after_byte(text, behind, quote);
     let Some(value_end) = plain_value_end(text, value_start, quote) else {
-        return put_spaced_attribute(text, start, around, attributes, seen);
+        return put_spaced_attribute(text, start, elements, scope, seen);
     };
     if is_namespace_decl(read.name) {
         return 0;
     }
     let before = read.end - start - read.name.local.len();
     if before >= UNUSUAL as usize {
-        return put_other_attribute(text, start, around, attributes, seen);
+        return put_other_attribute(text, start, elements, scope, seen);
     }
-    let Some(namespace) = attribute_namespace(
-        around.namespaces,
-        around.few,
-        around.present,
-        read.name,
-    ) else {
+    let Some(namespace) = namespace_in(elements, scope, read.name) else {
         return 0;
     };
     let one = UsualAttribute {
@@ -458,7 +491,13 @@ fn put_named_attribute<'input>(
         local: read.name.local,
         value: &text[value_start..value_end],
     };
-    if !put_usual_attribute(around.namespaces, attributes, seen, namespace, one) {
+    if !put_usual_attribute(
+        elements.namespaces.as_slice(),
+        &mut elements.attributes,
+        seen,
+        namespace,
+        one,
+    ) {
         return 0;
     }
     after_byte(text, value_end, quote)
@@ -470,8 +509,8 @@ fn put_prefixed_attribute<'input>(
     text: &'input str,
     start: usize,
     part: usize,
-    around: Around<'_, 'input>,
-    attributes: &mut AttributeTable<'input>,
+    elements: &mut ElementTables<'input>,
+    scope: u32,
     seen: &mut SeenNames,
 ) -> usize
     requires cut { IsCharBoundary text.now start }
@@ -481,32 +520,32 @@ fn put_prefixed_attribute<'input>(
     requires inside { part ≤ length text.now }
     requires passes { AllPass is_part_byte text.now start part }
     requires stops { part < length text.now → is_part_byte (slice_index text.now part) ≡ false }
-    requires within { LooksWithin (length around.namespaces.now) (places_view around.few)
-        around.present.now }
-    requires from { seen.old.from ≤ length (attribute_rows attributes.old) }
+    requires scope { HasScope elements.old scope }
+    requires from { seen.old.from ≤ length (attribute_rows elements.old.attributes) }
     requires done { AllByRecursion
-        (λ a. NamespaceWithin (length around.namespaces.now) a.0.namespace)
-        (drop seen.old.from (attribute_rows attributes.old)) }
-    requires seen { AreSeen seen.old (attribute_rows attributes.old) }
-    ensures added { 0 < result → AddsPlain (map namespace_view around.entry.namespaces.now)
-        (places_view around.entry.few) around.entry.present.now seen.old.from text.entry.now start
-        result (attribute_rows attributes.old) (attribute_rows attributes.new) }
+        (λ a. NamespaceWithin (length elements.old.namespaces.items.items) a.0.namespace)
+        (drop seen.old.from (attribute_rows elements.old.attributes)) }
+    requires seen { AreSeen seen.old (attribute_rows elements.old.attributes) }
+    ensures added { 0 < result → AddsPlain (map namespace_view elements.old.namespaces.items.items)
+        (few_in elements.old scope) elements.old.present seen.old.from text.entry.now start
+        result (attribute_rows elements.old.attributes) (attribute_rows elements.new.attributes) }
+    ensures others { elements.new ≡ record elements.old { attributes = elements.new.attributes } }
     ensures from { seen.new.from ≡ seen.old.from }
-    ensures seen { 0 < result → AreSeen seen.new (attribute_rows attributes.new) }
+    ensures seen { 0 < result → AreSeen seen.new (attribute_rows elements.new.attributes) }
     ensures refused { result ≡ 0
-        → attribute_rows attributes.new ≡ attribute_rows attributes.old }
+        → attribute_rows elements.new.attributes ≡ attribute_rows elements.old.attributes }
 {
     if !is_at(text, part, b':') {
-        return put_other_attribute(text, start, around, attributes, seen);
+        return put_other_attribute(text, start, elements, scope, seen);
     }
     let Some(name) = second_part(text, start, part) else {
         return 0;
     };
     let quote = quote_behind_equals(text, name.end);
     if quote == 0 {
-        return put_other_attribute(text, start, around, attributes, seen);
+        return put_other_attribute(text, start, elements, scope, seen);
     }
-    put_named_attribute(text, start, name, quote, around, attributes, seen)
+    put_named_attribute(text, start, name, quote, elements, scope, seen)
 }
 
 /// The name from `start` up to `part`, where its first part ends and `=` stands.
@@ -535,35 +574,35 @@ fn whole_name<'input>(text: &'input str, start: usize, part: usize) -> PlainName
 fn put_attribute<'input>(
     text: &'input str,
     start: usize,
-    around: Around<'_, 'input>,
-    attributes: &mut AttributeTable<'input>,
+    elements: &mut ElementTables<'input>,
+    scope: u32,
     seen: &mut SeenNames,
 ) -> usize
     requires cut { IsCharBoundary text.now start }
     requires short { length text.now < 2 ^ 32 }
     requires begins { begins is_name_start text.now start ≡ true }
-    requires within { LooksWithin (length around.namespaces.now) (places_view around.few)
-        around.present.now }
-    requires from { seen.old.from ≤ length (attribute_rows attributes.old) }
+    requires scope { HasScope elements.old scope }
+    requires from { seen.old.from ≤ length (attribute_rows elements.old.attributes) }
     requires done { AllByRecursion
-        (λ a. NamespaceWithin (length around.namespaces.now) a.0.namespace)
-        (drop seen.old.from (attribute_rows attributes.old)) }
-    requires seen { AreSeen seen.old (attribute_rows attributes.old) }
-    ensures added { 0 < result → AddsPlain (map namespace_view around.entry.namespaces.now)
-        (places_view around.entry.few) around.entry.present.now seen.old.from text.entry.now start
-        result (attribute_rows attributes.old) (attribute_rows attributes.new) }
+        (λ a. NamespaceWithin (length elements.old.namespaces.items.items) a.0.namespace)
+        (drop seen.old.from (attribute_rows elements.old.attributes)) }
+    requires seen { AreSeen seen.old (attribute_rows elements.old.attributes) }
+    ensures added { 0 < result → AddsPlain (map namespace_view elements.old.namespaces.items.items)
+        (few_in elements.old scope) elements.old.present seen.old.from text.entry.now start
+        result (attribute_rows elements.old.attributes) (attribute_rows elements.new.attributes) }
+    ensures others { elements.new ≡ record elements.old { attributes = elements.new.attributes } }
     ensures from { seen.new.from ≡ seen.old.from }
-    ensures seen { 0 < result → AreSeen seen.new (attribute_rows attributes.new) }
+    ensures seen { 0 < result → AreSeen seen.new (attribute_rows elements.new.attributes) }
     ensures refused { result ≡ 0
-        → attribute_rows attributes.new ≡ attribute_rows attributes.old }
+        → attribute_rows elements.new.attributes ≡ attribute_rows elements.old.attributes }
 {
     let part = skip_set::<PartByte>(text, start);
     let quote = quote_behind_equals(text, part);
     if quote == 0 {
-        return put_prefixed_attribute(text, start, part, around, attributes, seen);
+        return put_prefixed_attribute(text, start, part, elements, scope, seen);
     }
     let name = whole_name(text, start, part);
-    put_named_attribute(text, start, name, quote, around, attributes, seen)
+    put_named_attribute(text, start, name, quote, elements, scope, seen)
 }
 
 /// How a start tag ends: behind which place, and whether it is empty.
@@ -637,35 +676,31 @@ fn tag_end(text: &str, at: usize) -> Option<TagEnd>
 fn some_attributes<'input>(
     text: &'input str,
     start: usize,
-    namespaces: &[Namespace<'input>],
-    few: Option<&[u16]>,
-    present: &PrefixBindings<'input>,
-    attributes: &mut AttributeTable<'input>,
+    elements: &mut ElementTables<'input>,
+    scope: u32,
 ) -> Option<TagEnd>
     requires cut { IsCharBoundary text.now start }
     requires short { length text.now < 2 ^ 32 }
-    requires within { LooksWithin (length namespaces.now) (places_view few) present.now }
+    requires scope { HasScope elements.old scope }
     ensures read { IfSome result
-        (λ e. ArePlainAttributes (map namespace_view namespaces.now)
-        (places_view few.entry) present.now text.entry.now start
-        (attribute_rows attributes.old) e.at e.empty (attribute_rows attributes.new)) }
+        (λ e. ArePlainAttributes (map namespace_view elements.old.namespaces.items.items)
+        (few_in elements.old scope) elements.old.present text.entry.now start
+        (attribute_rows elements.old.attributes) e.at e.empty
+        (attribute_rows elements.new.attributes)) }
     ensures cut { IfSome result (λ e. IsCharBoundary text.entry.now e.at) }
     ensures grown { (more : List AttributeRow)
-        × (attribute_rows attributes.new ≡ attribute_rows attributes.old ++ more) }
+        × (elements.new ≡ record elements.old { attributes = elements.new.attributes })
+        × (attribute_rows elements.new.attributes ≡ attribute_rows elements.old.attributes
+        ++ more) }
 {
-    let mut seen = SeenNames::new(attributes.len());
+    let mut seen = SeenNames::new(elements.attributes.len());
     let mut at = start;
     while at + 1 < text.len() {
         let here = near_space_end(text, at);
         if here == at || !begins::<NameStart>(text, here) {
             return tag_end(text, here);
         }
-        let around = Around {
-            namespaces,
-            few,
-            present,
-        };
-        at = put_attribute(text, here, around, attributes, &mut seen);
+        at = put_attribute(text, here, elements, scope, &mut seen);
         if at == 0 {
             return None;
         }
@@ -678,27 +713,28 @@ fn some_attributes<'input>(
 fn plain_attributes<'input>(
     text: &'input str,
     start: usize,
-    namespaces: &[Namespace<'input>],
-    few: Option<&[u16]>,
-    present: &PrefixBindings<'input>,
-    attributes: &mut AttributeTable<'input>,
+    elements: &mut ElementTables<'input>,
+    scope: u32,
 ) -> Option<TagEnd>
     requires cut { IsCharBoundary text.now start }
     requires short { length text.now < 2 ^ 32 }
-    requires within { LooksWithin (length namespaces.now) (places_view few) present.now }
+    requires scope { HasScope elements.old scope }
     ensures read { IfSome result
-        (λ e. ArePlainAttributes (map namespace_view namespaces.now)
-        (places_view few.entry) present.now text.entry.now start
-        (attribute_rows attributes.old) e.at e.empty (attribute_rows attributes.new)) }
+        (λ e. ArePlainAttributes (map namespace_view elements.old.namespaces.items.items)
+        (few_in elements.old scope) elements.old.present text.entry.now start
+        (attribute_rows elements.old.attributes) e.at e.empty
+        (attribute_rows elements.new.attributes)) }
     ensures cut { IfSome result (λ e. IsCharBoundary text.entry.now e.at) }
     ensures grown { (more : List AttributeRow)
-        × (attribute_rows attributes.new ≡ attribute_rows attributes.old ++ more) }
+        × (elements.new ≡ record elements.old { attributes = elements.new.attributes })
+        × (attribute_rows elements.new.attributes ≡ attribute_rows elements.old.attributes
+        ++ more) }
 {
     let bytes = text.as_bytes();
     if start < bytes.len() && bytes[start] > b' ' {
         return tag_end(text, start);
     }
-    some_attributes(text, start, namespaces, few, present, attributes)
+    some_attributes(text, start, elements, scope)
 }
 
 /// A plain start tag that was read, and where it ends.
@@ -783,15 +819,65 @@ pub fn bare_start_tag<'input>(
     Some(PlainTag { tag, end })
 }
 
-/// A start tag behind its `<` at `start`, if it is plain and finds room, of an element whose parent has the scope `above`, one that
-/// lists few: its attributes are in the table then. Else some may stand there too. So many replacement texts may be opened behind
-/// it. The first part of its name ends at `part`.
+/// The namespace of the name of a tag in this scope, if its prefix is known.
+#[inline(never)]
+fn other_namespace(
+    elements: &ElementTables<'_>,
+    name: QName<'_>,
+    at: usize,
+    scope: u32,
+) -> Option<Option<u16>>
+    requires scope { HasScope elements.now scope }
+    requires small { at < 2 ^ 63 }
+    ensures is { IfSome result
+        (λ s. IsNamespaceOf elements.entry.now scope (name_view name.entry) s) }
+    ensures known { IfSome result
+        (λ _. may_name (scope_in_tables elements.entry.now scope) (name_view name.entry) ≡ true) }
+{
+    let places = few_places(&elements.scopes, &elements.listed, scope)?;
+    let namespaces = elements.namespaces.as_slice();
+    match element_namespace(namespaces, Some(places), &elements.present, name, at) {
+        Ok(namespace) => Some(namespace),
+        Err(_) => None,
+    }
+}
+
+/// The same of a tag below this element, in its scope. Most have no prefix, as that has none, or its prefix, and then its
+/// namespace.
+#[inline(always)]
+fn tag_namespace(
+    elements: &ElementTables<'_>,
+    name: QName<'_>,
+    at: usize,
+    parent: &OpenElement<'_>,
+) -> Option<Option<u16>>
+    requires scope { HasScope elements.now parent.now.scope }
+    requires parent { IsNamespaceOf elements.now parent.now.scope (name_view parent.now.name)
+        parent.now.namespace }
+    requires small { at < 2 ^ 63 }
+    ensures is { IfSome result
+        (λ s. IsNamespaceOf elements.entry.now parent.entry.now.scope (name_view name.entry) s) }
+    ensures known { IfSome result
+        (λ _. may_name (scope_in_tables elements.entry.now parent.entry.now.scope)
+        (name_view name.entry) ≡ true) }
+{
+    if name.prefix.is_empty() && parent.name.prefix.is_empty() {
+        return Some(parent.namespace);
+    }
+    if parent.namespace.is_some() && same_text(name.prefix, parent.name.prefix) {
+        return Some(parent.namespace);
+    }
+    other_namespace(elements, name, at, parent.scope)
+}
+
+/// A start tag behind its `<` at `start`, if it is plain and finds room, below this element: its attributes are in the table then.
+/// Else some may stand there too. So many replacement texts may be opened behind it. The first part of its name ends at `part`.
 #[inline]
 fn read_tag<'input>(
     text: &'input str,
     start: usize,
     elements: &mut ElementTables<'input>,
-    above: u32,
+    parent: &OpenElement<'input>,
     openings_left: u32,
     part: usize,
 ) -> Option<PlainTag<'input>>
@@ -804,12 +890,11 @@ fn read_tag<'input>(
         (length elements.old.namespaces.items.items) elements.old.listed.items }
     requires few { length elements.old.namespaces.items.items ≤ most_pairs }
     requires scopes { AreScopes (length elements.old.listed.items) elements.old.scopes.items }
-    requires above { above < length elements.old.scopes.items }
-    requires once { PrefixesOnce (scope_in_tables elements.old above) }
     requires kept { HasBindings elements.old }
+    requires parent { IsOpenWithin elements.old parent.now }
     ensures read { IfSome result
         (λ t. IsPlainTag elements.old elements.new
-        (scope_in_tables elements.old above) text.entry.now start t.end t.tag) }
+        (scope_in_tables elements.old parent.entry.now.scope) text.entry.now start t.end t.tag) }
     ensures openings_left { IfSome result (λ t. t.tag.openings_left ≡ openings_left) }
     ensures grown { (more : List AttributeRow)
         × (elements.new ≡ record elements.old { attributes = elements.new.attributes })
@@ -822,31 +907,18 @@ fn read_tag<'input>(
     if same_text(name.name.prefix, "xmlns") {
         return None;
     }
-    let places = few_places(&elements.scopes, &elements.listed, above)?;
-    let few = Some(places);
-    let namespaces = elements.namespaces.as_slice();
     let from = elements.attributes.len();
-    let end = plain_attributes(
-        text,
-        name.end,
-        namespaces,
-        few,
-        &elements.present,
-        &mut elements.attributes,
-    )?;
+    let namespace = tag_namespace(elements, name.name, name_start, parent)?;
+    let end = plain_attributes(text, name.end, elements, parent.scope)?;
     let until = elements.attributes.len();
     if until > MOST_ATTRIBUTES {
         return None;
     }
-    let Ok(namespace) = element_namespace(namespaces, few, &elements.present, name.name, name_start)
-    else {
-        return None;
-    };
     let element = ElementData {
         local: name.name.local,
         attributes_from: from as u32,
         attributes_until: until as u32,
-        scope: above,
+        scope: parent.scope,
         namespace,
     };
     let tag = StartTag {
@@ -866,7 +938,7 @@ pub fn plain_start_tag<'input>(
     text: &'input str,
     start: usize,
     elements: &mut ElementTables<'input>,
-    above: u32,
+    parent: &OpenElement<'input>,
     openings_left: u32,
     part: usize,
 ) -> Option<PlainTag<'input>>
@@ -879,17 +951,16 @@ pub fn plain_start_tag<'input>(
         (length elements.old.namespaces.items.items) elements.old.listed.items }
     requires few { length elements.old.namespaces.items.items ≤ most_pairs }
     requires scopes { AreScopes (length elements.old.listed.items) elements.old.scopes.items }
-    requires above { above < length elements.old.scopes.items }
-    requires once { PrefixesOnce (scope_in_tables elements.old above) }
     requires kept { HasBindings elements.old }
+    requires parent { IsOpenWithin elements.old parent.now }
     ensures read { IfSome result
         (λ t. IsPlainTag elements.old elements.new
-        (scope_in_tables elements.old above) text.entry.now start t.end t.tag) }
+        (scope_in_tables elements.old parent.entry.now.scope) text.entry.now start t.end t.tag) }
     ensures openings_left { IfSome result (λ t. t.tag.openings_left ≡ openings_left) }
     ensures none { IfNone result (HoldSame elements.old elements.new) }
 {
     let from = elements.attributes.len();
-    let tag = read_tag(text, start, elements, above, openings_left, part);
+    let tag = read_tag(text, start, elements, parent, openings_left, part);
     if tag.is_none() {
         elements.attributes.truncate(from);
     }

@@ -1,6 +1,6 @@
 use Rattle.std.proofs.Common.{map, arith}
-use Rattle.rox_tables.specs.Bindings.{places_view}
 use Rattle.rox_tables.specs.Rows.{namespace_view, attribute_rows}
+use Rattle.rox_build.specs.PlainTag.{few_in}
 use Rattle.rox_build.proofs.PlainTags.{plain_starts, ends_or_not, no_space}
 use Rattle.rox_build.proofs.plain_tag.plain_attributes.Goals as goal
 
@@ -8,12 +8,13 @@ pub returns-then-bytes-start-gt32-clause-read : goal.returns-then-bytes-start-gt
 returns-then-bytes-start-gt32-clause-read c =
     let src = c.args.text.now in
     let start = c.args.start in
-    let namespaces = map namespace_view c.args.namespaces.now in
-    let few = places_view c.args.few in
-    let rows = attribute_rows c.args.attributes.now in
+    let t = c.args.elements.now in
+    let namespaces = map namespace_view t.namespaces.items.items in
+    let few = few_in t c.args.scope in
+    let rows = attribute_rows t.attributes in
     let bytes = c.as_bytes-bytes.ensures in
     let here = c.if-bytes-start-gt32.true in
     let within = rw bytes.value at c.if-start-bytes.true in
     let spaces = no_space src start c.utf8.text c.requires.cut (omega (arith, within)) (rw bytes.value at here) in
-    let none = plain_starts namespaces few c.args.present.now src start rows in
-    ends_or_not namespaces few c.args.present.now src start rows start start rows c.tag_end.result none (omega arith) spaces c.tag_end.ensures.opens c.tag_end.ensures.closes
+    let none = plain_starts namespaces few t.present src start rows in
+    ends_or_not namespaces few t.present src start rows start start rows c.tag_end.result none (omega arith) spaces c.tag_end.ensures.opens c.tag_end.ensures.closes

@@ -2,14 +2,13 @@ use Rattle.std.proofs.Common.{◌≡◌, ◌-◌, ◌+◌, ◌==◌, ◌||◌, t
 use Rattle.std.proofs.lemmas.List.{length-map}
 use Rattle.rox_grammar.specs.Failures.{name_view}
 use Rattle.rox_reading.proofs.Stretches.{range_length}
-use Rattle.rox_tables.specs.Bindings.{places_view}
 use Rattle.rox_tables.specs.Rows.{namespace_view, attribute_rows, NamespaceWithin}
 use Rattle.rox_tables.specs.declared.rows.storage.StringStorage.TheVariants.{Borrowed}
 use Rattle.rox_tables.specs.declared.rows.tables.AttributePlaces.{AttributePlaces}
 use Rattle.rox_tables.specs.declared.namespaces.unresolved_attribute.UnresolvedAttribute.{UnresolvedAttribute}
 use Rattle.rox_tables.specs.declared.namespaces.unresolved_attribute.UsualAttribute.{UsualAttribute}
 use Rattle.rox_tables.proofs.NameTests.{adds_usual}
-use Rattle.rox_build.specs.PlainTag.{IsValueStart, IsPlainAttribute}
+use Rattle.rox_build.specs.PlainTag.{few_in, IsValueStart, IsPlainAttribute}
 use Rattle.rox_build.proofs.PlainTags.{attribute_reads, value_is, value_starts, usual_are, quote_is_some}
 use Rattle.rox_build.proofs.plain_tag.put_named_attribute.Goals as goal
 
@@ -65,9 +64,10 @@ returns-clause-added c = λ _.
       local = local;
       gap = omega arith;
     } in
-    let namespaces = map namespace_view c.args.around.namespaces.now in
-    let found = c.in-Some-attribute_namespace.ensures in
-    let space = c.in-Some-attribute_namespace.namespace in
+    let t = c.args.elements.now in
+    let namespaces = map namespace_view t.namespaces.items.items in
+    let found = c.in-Some-namespace_in.ensures in
+    let space = c.in-Some-namespace_in.namespace in
     let put = c.put_usual_attribute.ensures in
     let true = c.if-not-put_usual_attribute.false in
     let places = usual_are i (n - i - length name.local.now) (length name.local.now) (length c.range.result.now) n s e (omega arith) place (omega (arith, done, long, size)) in
@@ -75,9 +75,9 @@ returns-clause-added c = λ _.
       one = one;
       plain = plain;
       other = sym c.is_namespace_decl.ensures ∙ c.if-is_namespace_decl.false;
-      added = adds_usual namespaces (places_view c.args.around.few) c.args.around.present.now c.args.seen.now.from (attribute_rows c.args.attributes.now) _ one usual space
+      added = adds_usual namespaces (few_in t c.args.scope) t.present c.args.seen.now.from (attribute_rows t.attributes) _ one usual space
           (ap (λ (p : AttributePlaces). (record { local = name.local; value = Borrowed c.range.result; namespace = space }, p)) (sym places))
-          (put.added true) (subst (λ m. NamespaceWithin m space) (sym (length-map c.args.around.namespaces.now namespace_view)) found.within)
-          (λ scope h. found.there scope h) (λ scope h. found.known scope h) (put.first true);
+          (put.added true) (subst (λ m. NamespaceWithin m space) (sym (length-map t.namespaces.items.items namespace_view)) found.within)
+          (λ scope h. found.there scope h) (λ scope h. found.known scope h) (rw c.as_slice.ensures.value at (put.first true));
       end = refl;
     }

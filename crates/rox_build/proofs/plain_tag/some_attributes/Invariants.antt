@@ -1,17 +1,17 @@
 use Rattle.std.proofs.Common.{◌≡◌, ◌-◌, length, map}
 use Rattle.std.specs.Str.{IsCharBoundary}
-use Rattle.rox_tables.specs.Bindings.{places_view}
 use Rattle.rox_tables.specs.Rows.{namespace_view, attribute_rows}
 use Rattle.rox_tables.specs.SeenNames.{AreSeen}
-use Rattle.rox_build.specs.PlainTag.{PlainSoFar}
+use Rattle.rox_build.specs.PlainTag.{PlainSoFar, few_in}
 use Rattle.rox_build.proofs.plain_tag.some_attributes.Given as goal
 
 abbrev pub invariant-loop-at : goal.invariant-loop-at
 invariant-loop-at l = record {
-  from : l.seen.from ≡ length (attribute_rows l.fn.attributes);
-  seen : AreSeen l.seen (attribute_rows l.attributes);
+  others : l.elements ≡ record l.fn.elements { attributes = l.elements.attributes };
+  from : l.seen.from ≡ length (attribute_rows l.fn.elements.attributes);
+  seen : AreSeen l.seen (attribute_rows l.elements.attributes);
   cut : IsCharBoundary l.text l.at;
-  so_far : PlainSoFar (map namespace_view l.namespaces) (places_view l.few) l.present l.text l.start (attribute_rows l.fn.attributes) l.at (attribute_rows l.attributes);
+  so_far : PlainSoFar (map namespace_view l.fn.elements.namespaces.items.items) (few_in l.fn.elements l.scope) l.fn.elements.present l.text l.start (attribute_rows l.fn.elements.attributes) l.at (attribute_rows l.elements.attributes);
 }
 
 abbrev pub decreases-loop-at : goal.decreases-loop-at
