@@ -2,7 +2,8 @@
 
 ghost use Rattle.std.specs.Prelude.{◌<◌, ◌≤◌, ◌+◌, ◌++◌, ◌^◌, ◌≡◌, ◌∷◌, [], ℕ, length, drop, vec_len, set, get_or, max, IfOk, IfErr, IfSome, OnOk};
 ghost use Rattle.rox_tables.specs.declared.rows.tables.NodeData.{NodeData};
-ghost use Rattle.rox_tables.specs.Rows.{node_rows};
+ghost use Rattle.rox_tables.specs.Rows.{node_rows, attribute_rows};
+ghost use Rattle.rox_tables.specs.declared.rows.tables.Scope.TheVariants as scope;
 ghost use Rattle.rox_tables.specs.StoredNodes.{kind_of};
 ghost use Rattle.rox_tables.specs.declared.rows.tables.NodeKind.TheVariants as kind;
 ghost use Rattle.rox_grammar.specs.declared.failure.Failure.TheVariants as failure;
@@ -83,6 +84,19 @@ pub fn empty_scope(alloc: Global) -> Result<Vec<Scope>, Failure>
     Ok(scopes)
 }
 
+/// What memory is asked for at the start, beside the nodes: for no attribute and no open element yet, and for the scope of the
+/// root node, which lists nothing.
+#[derive(Drop)]
+pub struct FirstTables<'input> {
+    pub attributes: AttributeTable<'input>,
+    pub scopes: Vec<Scope>,
+    pub opened: Vec<OpenElement<'input>>,
+    pub taken: Vec<UnresolvedAttribute<'input>>,
+    pub ghost none: { attribute_rows attributes ≡ [] },
+    pub ghost root: { scopes.items ≡ scope.Few (record { from = 0; until = 0 }) ∷ [] },
+    pub ghost shallow: { opened.items ≡ [] },
+}
+
 /// The bytes of a text from a place on.
 #[inline(always)]
 fn from_place<'input>(text: &'input str, start: usize) -> &'input [u8]
@@ -152,7 +166,7 @@ impl<'input> Builder<'input> {
     ghost use Rattle.rox_grammar.specs.Failures.{Fails};
     ghost use Rattle.rox_values.specs.Values.{piece_view};
     ghost use Rattle.rox_build.specs.BuilderState.{Represents, RepresentsFlushed, IsNode, IsOpening, AreSound, Adds, IsConsistent, IsOpened, IsReady, KeepsState, names_in, opened_in, last_row, tables_of};
-    ghost use Rattle.rox_tables.specs.Rows.{HoldsTree, attribute_rows};
+    ghost use Rattle.rox_tables.specs.Rows.{HoldsTree};
     ghost use Rattle.rox_tables.specs.StoredNodes.{IsSmallKind};
     ghost use Rattle.rox_tables.specs.Scopes.{PrefixesOnce};
     ghost use Rattle.rox_build.specs.ElementRow.{scope_in_tables};
@@ -164,16 +178,10 @@ impl<'input> Builder<'input> {
     pub fn of_root(
         alloc: Global,
         nodes: NodeTable<'input>,
-        attributes: AttributeTable<'input>,
-        scopes: Vec<Scope>,
-        opened: Vec<OpenElement<'input>>,
-        taken: Vec<UnresolvedAttribute<'input>>,
+        first: FirstTables<'input>,
         nodes_limit: u32,
     ) -> Builder<'input>
-        requires one { vec_len nodes.rows ≡ 1 }
-        requires none { attribute_rows attributes ≡ [] }
-        requires scopes { scopes.items ≡ Scope.Few (record { from = 0; until = 0 }) ∷ [] }
-        requires opened { opened.items ≡ [] }
+        requires { vec_len nodes.rows ≡ 1 }
         ensures empty { (names_in result.tables ≡ [])
             × (length (attribute_rows result.tables.attributes) ≡ 0) }
         ensures fine { IsConsistent result.tables result.opened.items }
@@ -187,6 +195,12 @@ impl<'input> Builder<'input> {
         ensures limit { result.nodes_limit ≡ nodes_limit }
         ensures openings_left { result.openings_left ≡ 255 }
     {
+        let FirstTables {
+            attributes,
+            scopes,
+            opened,
+            taken,
+        } = first;
         Builder {
             nodes,
             tables: ElementTables {

@@ -436,13 +436,12 @@ fn quote_behind_equals(text: &str, at: usize) -> u8
     quote_here(text, at + 1)
 }
 
-/// The same of the attribute with this name, behind which `=` and this quote stand. Most are usual, and take no call.
+/// The same of the attribute with this name, behind which `=` and a quote stand. Most are usual, and take no call.
 #[inline(always)]
 fn put_named_attribute<'input>(
     text: &'input str,
     start: usize,
     read: PlainName<'input>,
-    quote: u8,
     elements: &mut ElementTables<'input>,
     scope: u32,
     seen: &mut SeenNames,
@@ -452,8 +451,8 @@ fn put_named_attribute<'input>(
     requires name { qname_at text.now start ≡ Ok (name_view read.name, read.end) }
     requires local { start + length read.name.local.now ≤ read.end }
     requires equals { slice_index text.now read.end ≡ 61 }
-    requires quote { slice_index text.now (read.end + 1) ≡ quote }
-    requires is_quote { (quote == 39 || quote == 34) ≡ true }
+    requires quote { (slice_index text.now (read.end + 1) == 39
+        || slice_index text.now (read.end + 1) == 34) ≡ true }
     requires inside { read.end + 1 < length text.now }
     requires scope { HasScope elements.old scope }
     requires from { seen.old.from ≤ length (attribute_rows elements.old.attributes) }
@@ -470,6 +469,7 @@ fn put_named_attribute<'input>(
     ensures refused { result ≡ 0
         → attribute_rows elements.new.attributes ≡ attribute_rows elements.old.attributes }
 {
+    let quote = quote_before(text, read.end + 2);
     let behind = after_byte(text, read.end, b'=');
     let value_start = after_byte(text, behind, quote);
     let Some(value_end) = plain_value_end(text, value_start, quote) else {
@@ -545,7 +545,7 @@ fn put_prefixed_attribute<'input>(
     if quote == 0 {
         return put_other_attribute(text, start, elements, scope, seen);
     }
-    put_named_attribute(text, start, name, quote, elements, scope, seen)
+    put_named_attribute(text, start, name, elements, scope, seen)
 }
 
 /// The name from `start` up to `part`, where its first part ends and `=` stands.
@@ -602,7 +602,7 @@ fn put_attribute<'input>(
         return put_prefixed_attribute(text, start, part, elements, scope, seen);
     }
     let name = whole_name(text, start, part);
-    put_named_attribute(text, start, name, quote, elements, scope, seen)
+    put_named_attribute(text, start, name, elements, scope, seen)
 }
 
 /// How a start tag ends: behind which place, and whether it is empty.

@@ -16,7 +16,7 @@ ghost use Rattle.rox_build.specs.Asking.{AskOutcome};
 ghost use Rattle.rox_build.specs.Built.{Built, BuiltRefusal};
 ghost use Rattle.rox_build.specs.WholeTexts.{Finishes, IsDoctypeReadTo, IsWholeRead, beginning, root_read, start_state};
 
-use crate::builder::{Builder, ROOM_OF_A_TAG, ROOM_TO_OPEN, empty_scope};
+use crate::builder::{Builder, FirstTables, ROOM_OF_A_TAG, ROOM_TO_OPEN, empty_scope};
 use crate::constructs::{comment, element, instruction};
 use crate::content::content;
 use crate::dtd::document_type;
@@ -215,10 +215,14 @@ pub fn build<'input, R: EntityResolver<'input>>(
     let opened = Vec::with_capacity(alloc, ROOM_TO_OPEN)?;
     let taken = Vec::with_capacity(alloc, ROOM_OF_A_TAG)?;
     let nodes = NodeTable::of_text(alloc, bytes)?;
+    let first = FirstTables {
+        attributes,
+        scopes,
+        opened,
+        taken,
+    };
     let limit = options.nodes_limit;
-    let mut builder: Builder<'input> = Builder::of_root(
-        alloc, nodes, attributes, scopes, opened, taken, limit,
-    );
+    let mut builder: Builder<'input> = Builder::of_root(alloc, nodes, first, limit);
     let allow = options.allow_dtd;
     let dtd = document(alloc, &mut cursor, &mut builder, allow, resolver)?;
     builder.end(alloc)?;

@@ -36,7 +36,8 @@ impl<'input> UsualAttribute<'input> {
     /// Where it stands.
     #[inline(always)]
     pub(crate) fn places(self) -> AttributePlaces
-        ensures { result ≡ usual_places self.entry.start self.entry.before (length self.entry.local.now) (length self.entry.value.now) }
+        ensures { result ≡ usual_places self.entry.start self.entry.before
+            (length self.entry.local.now) (length self.entry.value.now) }
     {
         let start = self.start as usize;
         let name_end = start + self.before as usize + self.local.len();

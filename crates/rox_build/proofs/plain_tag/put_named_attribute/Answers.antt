@@ -1,4 +1,4 @@
-use Rattle.std.proofs.Common.{◌≡◌, ◌-◌, ◌+◌, ◌==◌, ◌||◌, true, length, map, slice_index, refl, sym, ap, subst, ◌∙◌, arith}
+use Rattle.std.proofs.Common.{◌≡◌, ◌-◌, ◌+◌, length, map, slice_index, refl, sym, ap, subst, ◌∙◌, arith}
 use Rattle.std.proofs.lemmas.List.{length-map}
 use Rattle.rox_grammar.specs.Failures.{name_view}
 use Rattle.rox_reading.proofs.Stretches.{range_length}
@@ -19,14 +19,15 @@ returns-clause-added c = λ _.
     let name = c.args.read.name in
     let n = c.args.read.end in
     let s = c.after_byte-value_start.result in
-    let q = c.args.quote in
+    let q = c.quote_before-quote.result in
+    let is_quote = c.quote_before-quote.ensures.quote in
     let j = c.in-Some.value_end in
     let e = c.after_byte.result in
     let w = c.in-Some.ensures in
     let place : s ≡ n + 2 = omega (arith, c.after_byte-behind.ensures.place, c.after_byte-value_start.ensures.place) in
-    let quoted : (slice_index src (n + 1) == 39 || slice_index src (n + 1) == 34) ≡ true = ap (λ b. b == 39 || b == 34) c.requires.quote ∙ c.requires.is_quote in
-    let v : IsValueStart src n s = subst (IsValueStart src n) (sym place) (value_starts src n c.utf8.text c.requires.inside c.requires.equals quoted) in
-    let here : slice_index src (s - 1) ≡ q = ap (slice_index src) (omega (arith, place)) ∙ c.requires.quote in
+    let there : slice_index src (n + 1) ≡ q = ap (slice_index src) (omega arith) ∙ c.quote_before-quote.ensures.here in
+    let v : IsValueStart src n s = subst (IsValueStart src n) (sym place) (value_starts src n c.utf8.text c.requires.inside c.requires.equals c.requires.quote) in
+    let here : slice_index src (s - 1) ≡ q = ap (slice_index src) (omega (arith, place)) ∙ there in
     let done = c.after_byte.ensures.place in
     let onward = w.onward in
     let fits = w.cut.0 in
@@ -55,7 +56,7 @@ returns-clause-added c = λ _.
     } in
     let plain : IsPlainAttribute src i one = record {
       value_end = j;
-      read = attribute_reads src i (name_view name) n s q j e c.requires.name v here c.requires.is_quote (quote_is_some q c.requires.is_quote) w.read w.here done;
+      read = attribute_reads src i (name_view name) n s q j e c.requires.name v here is_quote (quote_is_some q is_quote) w.read w.here done;
       start = refl;
       end = done;
       value = λ main es opener openings_left. rw c.range.ensures.value (value_is main es opener src s j openings_left w.verbatim);
