@@ -9,7 +9,7 @@ ghost use Rattle.rox_grammar.specs.Runs.{run_end, begins};
 ghost use Rattle.rox_grammar.specs.Failures.{name_view};
 ghost use Rattle.rox_grammar.specs.Content.{is_verbatim_value};
 ghost use Rattle.rox_reading.specs.Lexical.{qname_at};
-ghost use Rattle.rox_scan.specs.ByteSets.{AllPass, is_part_byte};
+ghost use Rattle.rox_scan.specs.ByteSets.{AllPass, EndsSet, is_part_byte, is_value_byte};
 ghost use Rattle.rox_reading.specs.Markup.{raw_value_at};
 ghost use Rattle.rox_reading.specs.Values.{is_special};
 ghost use Rattle.rox_tables.specs.Storage.{storage_bytes};
@@ -35,6 +35,7 @@ use rox_grammar::name::QName;
 use rox_scan::byte_set::{PartByte, ValueByte, far_space_end, part_end, skip_set};
 use rox_scan::lookahead::{is_special, scan_value};
 use rox_scan::runs::{NameStart, after_byte, begins, is_at, space_end};
+use rox_scan::window::Window;
 use rox_tables::compare::same_text;
 use rox_tables::namespaces::bindings::PrefixBindings;
 use rox_tables::namespaces::namespace_decl::is_namespace_decl;
@@ -142,11 +143,12 @@ fn changes(text: &str, at: usize) -> bool
     at < bytes.len() && is_special(bytes[at])
 }
 
-/// Where the value ends that begins at `start`, behind this quote, if it stands for itself.
+/// Where the value ends that begins at `start`, behind this quote, if it stands for itself: up to `near` each byte does.
 #[inline(always)]
 #[tactic(auto, using(rox_scan::proofs::NearLemmas::near_plain, rox_scan::proofs::NearLemmas::value_cut))]
-fn plain_value_end(text: &str, start: usize, quote: u8) -> Option<usize>
+fn plain_value_end(text: &str, start: usize, quote: u8, near: usize) -> Option<usize>
     requires cut { IsCharBoundary text.now start }
+    requires near { EndsSet is_value_byte text.now start near }
     requires quote { (quote == 39 || quote == 34) ≡ true }
     ensures read { IfSome result (λ j. raw_value_at quote text.now start
         ≡ Ok (slice_range text.now start j, j)) }
@@ -156,11 +158,10 @@ fn plain_value_end(text: &str, start: usize, quote: u8) -> Option<usize>
     ensures onward { IfSome result (λ j. start ≤ j) }
     ensures cut { IfSome result (λ j. IsCharBoundary text.now j) }
 {
-    let end = skip_set::<ValueByte>(text, start);
-    if is_at(text, end, quote) {
-        return Some(end);
+    if is_at(text, near, quote) {
+        return Some(near);
     }
-    if changes(text, end) {
+    if changes(text, near) {
         return None;
     }
     let end = verbatim_value_end(text, start, quote);
@@ -239,7 +240,8 @@ fn plain_attribute<'input>(text: &'input str, start: usize) -> Option<Unresolved
         return None;
     }
     let quote = quote_before(text, value_start);
-    let value_end = plain_value_end(text, value_start, quote)?;
+    let near = skip_set::<ValueByte>(text, value_start);
+    let value_end = plain_value_end(text, value_start, quote, near)?;
     Some(UnresolvedAttribute {
         start,
         name_end: name.end,
@@ -436,24 +438,33 @@ fn quote_behind_equals(text: &str, at: usize) -> u8
     quote_here(text, at + 1)
 }
 
-/// The same of the attribute with this name, behind which `=` and a quote stand. Most are usual, and take no call.
+/// An attribute whose name was read, behind which `=` and a quote stand: up to `near` each byte of its value stands for itself.
+#[derive(Clone, Copy)]
+struct NamedAttribute<'input> {
+    start: usize,
+    name: PlainName<'input>,
+    near: usize,
+}
+
+/// The same of an attribute whose name was read. Most are usual, and take no call.
 #[inline(always)]
 fn put_named_attribute<'input>(
     text: &'input str,
-    start: usize,
-    read: PlainName<'input>,
+    read: NamedAttribute<'input>,
     elements: &mut ElementTables<'input>,
     scope: u32,
     seen: &mut SeenNames,
 ) -> usize
-    requires cut { IsCharBoundary text.now start }
+    requires cut { IsCharBoundary text.now read.start }
     requires short { length text.now < 2 ^ 32 }
-    requires name { qname_at text.now start ≡ Ok (name_view read.name, read.end) }
-    requires local { start + length read.name.local.now ≤ read.end }
-    requires equals { slice_index text.now read.end ≡ 61 }
-    requires quote { (slice_index text.now (read.end + 1) == 39
-        || slice_index text.now (read.end + 1) == 34) ≡ true }
-    requires inside { read.end + 1 < length text.now }
+    requires name { qname_at text.now read.start
+        ≡ Ok (name_view read.name.name, read.name.end) }
+    requires local { read.start + length read.name.name.local.now ≤ read.name.end }
+    requires equals { slice_index text.now read.name.end ≡ 61 }
+    requires quote { (slice_index text.now (read.name.end + 1) == 39
+        || slice_index text.now (read.name.end + 1) == 34) ≡ true }
+    requires inside { read.name.end + 1 < length text.now }
+    requires near { EndsSet is_value_byte text.now (read.name.end + 2) read.near }
     requires scope { HasScope elements.old scope }
     requires from { seen.old.from ≤ length (attribute_rows elements.old.attributes) }
     requires done { AllByRecursion
@@ -461,34 +472,38 @@ fn put_named_attribute<'input>(
         (drop seen.old.from (attribute_rows elements.old.attributes)) }
     requires seen { AreSeen seen.old (attribute_rows elements.old.attributes) }
     ensures added { 0 < result → AddsPlain (map namespace_view elements.old.namespaces.items.items)
-        (few_in elements.old scope) elements.old.present seen.old.from text.entry.now start
-        result (attribute_rows elements.old.attributes) (attribute_rows elements.new.attributes) }
+        (few_in elements.old scope) elements.old.present seen.old.from text.entry.now
+        read.entry.start result (attribute_rows elements.old.attributes)
+        (attribute_rows elements.new.attributes) }
     ensures others { elements.new ≡ record elements.old { attributes = elements.new.attributes } }
     ensures from { seen.new.from ≡ seen.old.from }
     ensures seen { 0 < result → AreSeen seen.new (attribute_rows elements.new.attributes) }
     ensures refused { result ≡ 0
         → attribute_rows elements.new.attributes ≡ attribute_rows elements.old.attributes }
 {
-    let quote = quote_before(text, read.end + 2);
-    let behind = after_byte(text, read.end, b'=');
+    let start = read.start;
+    let name = read.name.name;
+    let name_end = read.name.end;
+    let quote = quote_before(text, name_end + 2);
+    let behind = after_byte(text, name_end, b'=');
     let value_start = after_byte(text, behind, quote);
-    let Some(value_end) = plain_value_end(text, value_start, quote) else {
+    let Some(value_end) = plain_value_end(text, value_start, quote, read.near) else {
         return put_spaced_attribute(text, start, elements, scope, seen);
     };
-    if is_namespace_decl(read.name) {
+    if is_namespace_decl(name) {
         return 0;
     }
-    let before = read.end - start - read.name.local.len();
+    let before = name_end - start - name.local.len();
     if before >= UNUSUAL as usize {
         return put_other_attribute(text, start, elements, scope, seen);
     }
-    let Some(namespace) = namespace_in(elements, scope, read.name) else {
+    let Some(namespace) = namespace_in(elements, scope, name) else {
         return 0;
     };
     let one = UsualAttribute {
         start: start as u32,
         before: before as u8,
-        local: read.name.local,
+        local: name.local,
         value: &text[value_start..value_end],
     };
     if !put_usual_attribute(
@@ -545,7 +560,9 @@ fn put_prefixed_attribute<'input>(
     if quote == 0 {
         return put_other_attribute(text, start, elements, scope, seen);
     }
-    put_named_attribute(text, start, name, elements, scope, seen)
+    let near = skip_set::<ValueByte>(text, name.end + 2);
+    let read = NamedAttribute { start, name, near };
+    put_named_attribute(text, read, elements, scope, seen)
 }
 
 /// The name from `start` up to `part`, where its first part ends and `=` stands.
@@ -569,10 +586,12 @@ fn whole_name<'input>(text: &'input str, start: usize, part: usize) -> PlainName
     PlainName { name, end: part }
 }
 
-/// The same of the attribute that begins at `start`. Most have no prefix.
+/// The same of the attribute that begins at `start`, behind white space from `at` on, from where its bytes are seen. Most have no
+/// prefix.
 #[inline(always)]
 fn put_attribute<'input>(
     text: &'input str,
+    at: usize,
     start: usize,
     elements: &mut ElementTables<'input>,
     scope: u32,
@@ -580,6 +599,7 @@ fn put_attribute<'input>(
 ) -> usize
     requires cut { IsCharBoundary text.now start }
     requires short { length text.now < 2 ^ 32 }
+    requires behind { at ≤ start }
     requires begins { begins is_name_start text.now start ≡ true }
     requires scope { HasScope elements.old scope }
     requires from { seen.old.from ≤ length (attribute_rows elements.old.attributes) }
@@ -596,13 +616,16 @@ fn put_attribute<'input>(
     ensures refused { result ≡ 0
         → attribute_rows elements.new.attributes ≡ attribute_rows elements.old.attributes }
 {
-    let part = skip_set::<PartByte>(text, start);
+    let window = Window::new(text, at);
+    let part = window.part_end(text, start);
     let quote = quote_behind_equals(text, part);
     if quote == 0 {
         return put_prefixed_attribute(text, start, part, elements, scope, seen);
     }
     let name = whole_name(text, start, part);
-    put_named_attribute(text, start, name, elements, scope, seen)
+    let near = window.value_end(text, part + 2);
+    let read = NamedAttribute { start, name, near };
+    put_named_attribute(text, read, elements, scope, seen)
 }
 
 /// How a start tag ends: behind which place, and whether it is empty.
@@ -700,7 +723,7 @@ fn some_attributes<'input>(
         if here == at || !begins::<NameStart>(text, here) {
             return tag_end(text, here);
         }
-        at = put_attribute(text, here, elements, scope, &mut seen);
+        at = put_attribute(text, at, here, elements, scope, &mut seen);
         if at == 0 {
             return None;
         }

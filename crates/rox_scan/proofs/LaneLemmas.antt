@@ -1,10 +1,10 @@
 -- Blocks of bytes, seen through a mask that has a bit for each byte that is not in a set.
-use Rattle.std.proofs.Common.{◌≡◌, ℕ, zero, suc, ◌+◌, ◌-◌, ◌*◌, ◌/◌, ◌%◌, ◌^◌, ◌<◌, ◌≤◌, Bool, true, false, not, cond, eqb, ltb, leb, List, [], ◌∷◌, map, length, get_or, replicate, refl, sym, ap, ap₂, ◌∙◌, arith, inl, inr, w8, Fits}
+use Rattle.std.proofs.Common.{◌≡◌, ℕ, zero, suc, ◌+◌, ◌-◌, ◌*◌, ◌/◌, ◌%◌, ◌^◌, ◌<◌, ◌≤◌, Bool, true, false, not, cond, eqb, ltb, leb, List, [], ◌∷◌, map, length, get_or, replicate, refl, sym, ap, ap₂, ◌∙◌, arith, inl, inr, w8, Fits, shr-shr, take, drop}
 use Rattle.std.specs.List.{prefix_len}
 use Rattle.std.specs.Simd.Lanes.{mask_l, top, zip2, chunk, Each1}
 use Rattle.std.proofs.lemmas.Nat.{and_le_r}
 use Rattle.std.proofs.lemmas.Simd.{Each1-all, Each1-weaker, Each1-zip2, Each2-splat, below_from_Fits, length-zip2, swz_l, SwzOk, SwzOk-from_below, length-swz_l, get_or-swz_l_below, zip2_splat, zip2_of_maps, map-map, mask_l-mod, length-chunk, leading_from_mask_l, trailing_mask_l, run_in_chunk_fails, run_in_chunk_stops}
-use Rattle.std.proofs.lemmas.List.{get_or-map, ext_get_or, length-map}
+use Rattle.std.proofs.lemmas.List.{get_or-map, ext_get_or, length-map, drop-map, drop-take, drop-drop}
 use Rattle.std.proofs.lemmas.Bool.{cases_lt, not-false, not-true}
 use Rattle.rox_scan.specs.ByteSets.{AllPass}
 use Rattle.rox_scan.proofs.TableLemmas.{agree_below, agree_at}
@@ -124,3 +124,53 @@ looked_up t g v js fits e small =
 
 abbrev pub differs : ℕ → ℕ → ℕ
 differs a b = cond (not (eqb a b)) 255 0
+
+-- ---- thirty-two lanes
+
+abbrev pub IsWideBlock : List ℕ → Type 0
+IsWideBlock v = (length v ≡ 32) × Each1 (Fits w8) v
+
+pub wide_high_ok : (v : List ℕ) → IsWideBlock v → SwzOk w8 16 32 0 (zip2 down v (replicate 32 4))
+wide_high_ok v fits =
+    let small = Each1-weaker (λ a. a < 256) (λ a. a / 16 < 16) (λ a h. omega arith) v (below_from_Fits w8 v fits.1) in
+    SwzOk-from_below w8 16 2 32 0 (zip2 down v (replicate 32 4)) refl (omega (arith, length-zip2 down v (replicate 32 4) fits.0))
+    (Each1-zip2 down (λ j. j < 16) v (replicate 32 4) (Each2-splat (λ a b. down a b < 16) v 32 4 small))
+
+pub wide_low_ok : (v : List ℕ) → IsWideBlock v → SwzOk w8 16 32 0 (zip2 bit_and v (replicate 32 15))
+wide_low_ok v fits =
+    let small = Each1-all (λ a. bit_and a 15 < 16) (λ a. omega (arith, and_le_r a 15)) v in
+    SwzOk-from_below w8 16 2 32 0 (zip2 bit_and v (replicate 32 15)) refl (omega (arith, length-zip2 bit_and v (replicate 32 15) fits.0))
+    (Each1-zip2 bit_and (λ j. j < 16) v (replicate 32 15) (Each2-splat (λ a b. bit_and a b < 16) v 32 15 small))
+
+-- a table that stands twice is read alike in both halves
+pub looked_up_twice : (t wide : List ℕ) (g : ℕ → ℕ) (v js : List ℕ) → IsWideBlock v → ((k : ℕ) → k < 32 → get_or wide k 0 ≡ get_or t (k % 16) 0) → js ≡ map g v → ((x : ℕ) → x < 256 → g x < 16)
+    → swz_l w8 16 wide 0 js ≡ map (λ x. get_or t (g x) 0) v
+looked_up_twice t wide g v js fits twice e small =
+    let long : length js ≡ 32 = ap length e ∙ length-map v g ∙ fits.0 in
+    ext_get_or 0 _ _ (length-swz_l w8 16 wide 0 js ∙ long ∙ sym (length-map v (λ x. get_or t (g x) 0) ∙ fits.0)) (λ i h.
+    let lt : i < 32 = omega (arith, length-swz_l w8 16 wide 0 js) in
+    let within : i < length v = omega (arith, fits.0) in
+    let is : get_or js i 0 ≡ g (get_or v i 0) = ap (λ l. get_or l i 0) e ∙ get_or-map g v i 0 0 within in
+    let below : get_or js i 0 < 16 = omega (arith, small (get_or v i 0) (lane_fits v i fits.1)) in
+    get_or-swz_l_below w8 16 wide 0 js i (omega arith) below
+    ∙ twice (16 * ((0 + i) / 16) + get_or js i 0) (omega arith) ∙ ap (λ k. get_or t k 0) (omega arith) ∙ ap (λ k. get_or t k 0) is ∙ sym (get_or-map (λ x. get_or t (g x) 0) v i 0 0 within))
+
+halved : (b : Bool) (m : ℕ) → (cond b 1 0 + 2 * m) / 2 ^ 1 ≡ m
+halved true m = omega arith
+halved false m = omega arith
+
+-- a mask moved down is that of what is left behind so many
+mask_down : (ms : List Bool) (k : ℕ) → mask_l ms / 2 ^ k ≡ mask_l (drop k ms)
+mask_down ms zero = omega arith
+mask_down [] (suc k) = omega arith
+mask_down (b ∷ bs) (suc k) =
+    let half : mask_l (b ∷ bs) / 2 ^ 1 ≡ mask_l bs = halved b (mask_l bs) in
+    let more : suc k ≡ 1 + k = omega arith in
+    ap (λ n. mask_l (b ∷ bs) / 2 ^ n) more ∙ sym (shr-shr (mask_l (b ∷ bs)) 1 k) ∙ ap (λ m. m / 2 ^ k) half ∙ mask_down bs k
+
+-- so that of a block tells what stands from a place inside on
+pub mask_from : (q : ℕ → Bool) (src : List ℕ) (i n k : ℕ) → k ≤ n → mask_l (map q (chunk i n src)) / 2 ^ k ≡ mask_l (map q (chunk (i + k) (n - k) src))
+mask_from q src i n k le =
+    let split : n ≡ k + (n - k) = omega arith in
+    mask_down (map q (chunk i n src)) k
+    ∙ ap mask_l (drop-map q k (chunk i n src) ∙ ap (map q) (ap (λ m. drop k (take m (drop i src))) split ∙ drop-take k (n - k) (drop i src) ∙ ap (take (n - k)) (drop-drop k i src)))

@@ -1,9 +1,8 @@
 -- A run that is a line end and bytes that stand for themselves.
-use Rattle.std.proofs.Common.{◌≡◌, ℕ, ◌+◌, ◌-◌, ◌<◌, ◌≤◌, ◌==◌, ◌||◌, Bool, true, false, List, length, get_or, take, refl, sym, ap, subst, ◌∙◌, arith, inl, inr}
+use Rattle.std.proofs.Common.{◌≡◌, ℕ, ◌+◌, ◌<◌, ◌≤◌, true, false, List, length, get_or, take, refl, sym, ap, ◌∙◌, arith, inl, inr}
 use Rattle.std.specs.Str.{IsUtf8, IsCharBoundary}
 use Rattle.std.proofs.lemmas.Bool.{cases_eq, false≢true}
 use Rattle.std.proofs.lemmas.List.{get_or-take, length-take-le}
-use Rattle.rox_grammar.specs.Search.{byte_from}
 use Rattle.rox_scan.specs.ByteSets.{AllPass, is_text_byte}
 use Rattle.rox_scan.specs.Lookahead.{IsLine, IsLookahead, changes_run, ends_run}
 use Rattle.rox_scan.proofs.CharLemmas.{ascii_char}

@@ -4,3 +4,4 @@ pub mod ByteSets
 pub mod Nibbles
 pub mod DoctypeViews
 pub mod Lookahead
+pub mod Windows

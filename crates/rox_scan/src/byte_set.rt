@@ -10,7 +10,7 @@ ghost use Rattle.rox_scan.specs.ByteSets as near;
 ghost use Rattle.rox_scan.specs.ByteSets.{AllPass};
 
 use crate::chars;
-use crate::nibbles::classes;
+use crate::nibbles::{classes, wide_classes};
 use crate::runs::{PartChar, run_end};
 use std::simd::prelude::*;
 
@@ -48,6 +48,16 @@ impl ByteSet for ValueByte {
             .simd_ne(u8x16::splat(0))
             .to_bitmask()
     }
+}
+
+/// A bit for each of thirty-two bytes that is not in the set, the lowest for the first.
+#[inline(always)]
+pub(crate) fn value_others(block: u8x32) -> u64
+    ensures { result ≡ mask_l (map (λ b. not (near.is_value_byte b)) block) }
+{
+    wide_classes(VALUE_LOW, VALUE_HIGH, block)
+        .simd_ne(u8x32::splat(0))
+        .to_bitmask()
 }
 
 /// The bytes of a comment that stand for themselves.
@@ -122,6 +132,16 @@ impl ByteSet for PartByte {
     }
 }
 
+/// A bit for each of thirty-two bytes that is not in the set, the lowest for the first.
+#[inline(always)]
+pub(crate) fn part_others(block: u8x32) -> u64
+    ensures { result ≡ mask_l (map (λ b. not (near.is_part_byte b)) block) }
+{
+    wide_classes(PART_LOW, PART_HIGH, block)
+        .simd_eq(u8x32::splat(0))
+        .to_bitmask()
+}
+
 /// White space (XML 1.0 [3] S).
 pub struct SpaceByte;
 
@@ -162,7 +182,7 @@ fn others_at<C: ByteSet>(bytes: &[u8], at: usize) -> u64
 
 /// How many bytes come before the first that has a bit.
 #[inline(always)]
-fn before_first(others: u64) -> usize
+pub(crate) fn before_first(others: u64) -> usize
     ensures { result ≡ trailing_zeros w64 others }
 {
     others.trailing_zeros() as usize

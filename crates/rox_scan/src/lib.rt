@@ -14,4 +14,5 @@ pub mod runs;
 pub mod search;
 pub mod source;
 pub mod tag;
+pub mod window;
 pub mod xml_decl;

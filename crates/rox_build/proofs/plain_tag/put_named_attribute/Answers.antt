@@ -15,9 +15,9 @@ use Rattle.rox_build.proofs.plain_tag.put_named_attribute.Goals as goal
 pub returns-clause-added : goal.returns-clause-added
 returns-clause-added c = λ _.
     let src = c.args.text.now in
-    let i = c.args.start in
-    let name = c.args.read.name in
-    let n = c.args.read.end in
+    let i = c.args.read.start in
+    let name = c.args.read.name.name in
+    let n = c.args.read.name.end in
     let s = c.after_byte-value_start.result in
     let q = c.quote_before-quote.result in
     let is_quote = c.quote_before-quote.ensures.quote in
