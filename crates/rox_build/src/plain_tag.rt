@@ -490,7 +490,7 @@ fn put_named_attribute<'input>(
     let Some(value_end) = plain_value_end(text, value_start, quote, read.near) else {
         return put_spaced_attribute(text, start, elements, scope, seen);
     };
-    if is_namespace_decl(name) {
+    if is_namespace_decl(read.name.name) {
         return 0;
     }
     let before = name_end - start - name.local.len();
