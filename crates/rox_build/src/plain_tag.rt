@@ -843,7 +843,7 @@ pub fn bare_start_tag<'input>(
 }
 
 /// The namespace of the name of a tag in this scope, if its prefix is known.
-#[inline(never)]
+#[inline(always)]
 fn other_namespace(
     elements: &ElementTables<'_>,
     name: QName<'_>,
