@@ -358,6 +358,15 @@ last_split os o some is =
     let n = length os - 1 in
     sym (take_all (n + 1) os (omega arith)) ∙ take_more os n o (omega arith) ∙ ap (λ x. take n os ++ x ∷ []) (sym is)
 
+pub split_at : (os : List OpenElement) (n : ℕ) (o : OpenElement) → n ≡ length os → 0 < n → o ≡ get_or os (n - 1) o → os ≡ take (n - 1) os ++ o ∷ []
+split_at os n o count some is =
+    subst (λ (m : ℕ). os ≡ take (m - 1) os ++ o ∷ []) (sym count) (last_split os o (omega (arith, count, some)) (subst (λ (m : ℕ). o ≡ get_or os (m - 1) o) count is))
+
+-- the row of the innermost
+pub innermost_row : (t : ElementTables) (os outer : List OpenElement) (o : OpenElement) → os ≡ outer ++ o ∷ [] → last_row (opened_in t os) ≡ o.row
+innermost_row t os outer o split =
+    ap (λ (xs : List OpenElement). last_row (opened_in t xs)) split ∙ ap last_row (map-append (opened (lists_in t)) outer (o ∷ [])) ∙ last_row-push (opened_in t outer) (opened (lists_in t) o)
+
 pub some_row : (rows : List NodeData) → 0 < length rows → NodeData
 some_row [] h = absurd (omega arith)
 some_row (r ∷ rows) h = r

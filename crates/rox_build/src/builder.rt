@@ -240,7 +240,7 @@ impl<'input> Builder<'input> {
 
     /// The row of the innermost open element, or of the root node.
     #[inline]
-    fn parent(&self) -> u32
+    pub fn parent(&self) -> u32
         ensures { result ≡ last_row (opened_in self.now.tables self.now.opened.items) }
     {
         match self.opened.last() {
@@ -305,10 +305,18 @@ impl<'input> Builder<'input> {
         Ok(())
     }
 
-    /// A row without rows below it, behind those that there are.
+    /// A row without rows below it, behind those that there are, below the innermost open element, whose row this is, or the root
+    /// node.
     #[inline(always)]
-    fn row(&self, start: usize, end: usize, kind: NodeKind<'input>) -> NodeData<'input>
-        requires { vec_len self.now.nodes.rows + 1 < 2 ^ 32 }
+    fn row_below(
+        &self,
+        parent: u32,
+        start: usize,
+        end: usize,
+        kind: NodeKind<'input>,
+    ) -> NodeData<'input>
+        requires small { vec_len self.now.nodes.rows + 1 < 2 ^ 32 }
+        requires parent { parent ≡ last_row (opened_in self.now.tables self.now.opened.items) }
         ensures { result ≡ record {
           start = start;
           end = end;
@@ -320,10 +328,25 @@ impl<'input> Builder<'input> {
         NodeData {
             start,
             end,
-            parent: self.parent(),
+            parent,
             subtree_end: self.nodes.len() as u32 + 1,
             kind,
         }
+    }
+
+    /// The same where that row is not at hand.
+    #[inline(always)]
+    fn row(&self, start: usize, end: usize, kind: NodeKind<'input>) -> NodeData<'input>
+        requires { vec_len self.now.nodes.rows + 1 < 2 ^ 32 }
+        ensures { result ≡ record {
+          start = start;
+          end = end;
+          parent = last_row (opened_in self.now.tables self.now.opened.items);
+          subtree_end = length (node_rows self.now.nodes) + 1;
+          kind = kind.entry;
+        } }
+    {
+        self.row_below(self.parent(), start, end, kind)
     }
 
     /// Writes the text that may go on.
@@ -683,10 +706,12 @@ impl<'input> Builder<'input> {
         true
     }
 
-    /// A node that is no text and has no nodes below it, where there is room for its row.
+    /// A node that is no text and has no nodes below it, where there is room for its row, below the innermost open element, whose
+    /// row this is.
     #[inline(always)]
-    pub fn put_leaf(&mut self, start: usize, end: usize, kind: NodeKind<'input>)
+    pub fn put_leaf(&mut self, parent: u32, start: usize, end: usize, kind: NodeKind<'input>)
         requires ready { IsReady 1 self.old }
+        requires parent { parent ≡ last_row (opened_in self.old.tables self.old.opened.items) }
         requires start { start < 2 ^ 32 }
         requires end { end < 2 ^ 32 }
         requires small { IsSmallKind kind }
@@ -701,14 +726,15 @@ impl<'input> Builder<'input> {
         ensures openings_left { self.new.openings_left ≡ self.old.openings_left }
     {
         self.settle();
-        let row = self.row(start, end, kind);
+        let row = self.row_below(parent, start, end, kind);
         self.nodes.put(row);
     }
 
-    /// An element opens at `start`, where there is room for it.
+    /// An element opens at `start`, where there is room for it, below the innermost open one, whose row this is.
     #[inline(always)]
-    pub fn put_open(&mut self, text: &'input str, start: usize, tag: &StartTag<'input>)
+    pub fn put_open(&mut self, parent: u32, text: &'input str, start: usize, tag: &StartTag<'input>)
         requires ready { IsReady 1 self.old }
+        requires parent { parent ≡ last_row (opened_in self.old.tables self.old.opened.items) }
         requires depth { vec_len self.old.opened < vec_capacity self.old.opened }
         requires start { start < 2 ^ 32 }
         requires within { tag.now.name_start ≤ length text.now }
@@ -727,7 +753,7 @@ impl<'input> Builder<'input> {
     {
         self.settle();
         let row = self.nodes.len() as u32;
-        let mut opening = self.row(start, 0, NodeKind::Element(tag.element));
+        let mut opening = self.row_below(parent, start, 0, NodeKind::Element(tag.element));
         opening.subtree_end = 0;
         self.nodes.put(opening);
         let source = from_place(text, tag.name_start);

@@ -212,7 +212,7 @@ fn bare_element<'input>(
         return false;
     };
     cursor.pos = bare.end;
-    builder.put_open(cursor.text, start, &bare.tag);
+    builder.put_open(parent.row, cursor.text, start, &bare.tag);
     true
 }
 
@@ -244,9 +244,12 @@ fn plain_element<'input>(
     if !builder.has_room_to_open() {
         return false;
     }
-    let Some(parent) = builder.opened.last() else {
+    let depth = builder.opened.len();
+    if depth == 0 {
         return false;
-    };
+    }
+    let parent = &builder.opened[depth - 1];
+    let row = parent.row;
     let start = cursor.pos;
     let openings_left = builder.openings_left;
     let Some(read) = plain_start_tag(
@@ -261,10 +264,10 @@ fn plain_element<'input>(
     };
     cursor.pos = read.end;
     if read.tag.empty {
-        builder.put_leaf(start, read.end, NodeKind::Element(read.tag.element));
+        builder.put_leaf(row, start, read.end, NodeKind::Element(read.tag.element));
         return true;
     }
-    builder.put_open(cursor.text, start, &read.tag);
+    builder.put_open(row, cursor.text, start, &read.tag);
     true
 }
 
@@ -292,7 +295,7 @@ fn plain_comment<'input>(cursor: &mut Cursor<'input>, builder: &mut Builder<'inp
     };
     *cursor = behind;
     let kind = NodeKind::Comment(StringStorage::Borrowed(text));
-    builder.put_leaf(start, cursor.pos, kind);
+    builder.put_leaf(builder.parent(), start, cursor.pos, kind);
     true
 }
 

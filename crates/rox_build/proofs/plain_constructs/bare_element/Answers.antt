@@ -7,6 +7,7 @@ use Rattle.rox_build.specs.ElementRow.{Tagged}
 use Rattle.std.specs.List.{AllByRecursion}
 use Rattle.rox_build.specs.BuilderState.{IsOpenWithin, opened_in}
 use Rattle.rox_build.proofs.SameNames.{all_last}
+use Rattle.rox_build.proofs.Showing.{innermost_row}
 use Rattle.rox_build.proofs.Stepping.{top_scope}
 use Rattle.rox_grammar.specs.declared.fault.Fault.TheVariants as fault
 use Rattle.rox_reading.specs.Tags.{Values}
@@ -63,3 +64,8 @@ put_open-requires-clause-within c =
 
 pub put_open-requires-clause-start : goal.put_open-requires-clause-start
 put_open-requires-clause-start c = omega (arith, c.requires.short, c.args.cursor.now.cut.0)
+
+pub put_open-requires-clause-parent : goal.put_open-requires-clause-parent
+put_open-requires-clause-parent c =
+    let split = c.in-Some.ensures in
+    sym (innermost_row c.args.builder.now.tables c.args.builder.now.opened.items split.0 c.in-Some.parent split.1)

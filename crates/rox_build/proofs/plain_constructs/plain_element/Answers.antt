@@ -1,4 +1,4 @@
-use Rattle.std.proofs.Common.{◌≡◌, ◌-◌, ◌++◌, ◌∷◌, ℕ, Bool, true, [], Ok, length, take, arith, refl, sym, ap, subst, ◌∙◌, List}
+use Rattle.std.proofs.Common.{◌≡◌, ◌-◌, ◌++◌, ◌∷◌, ℕ, Bool, true, [], Ok, take, arith, refl, sym, ap, subst, ◌∙◌, List}
 use Rattle.rox_grammar.specs.Written.{Element, NamespaceDecl}
 use Rattle.rox_grammar.specs.State.{scope_of}
 use Rattle.rox_reading.specs.Machine.{opened_by, cut_off_fault}
@@ -6,7 +6,7 @@ use Rattle.rox_reading.specs.Refusals.{lifted}
 use Rattle.rox_build.specs.ElementRow.{Tagged}
 use Rattle.std.specs.List.{AllByRecursion}
 use Rattle.rox_build.specs.BuilderState.{IsNode, IsOpenWithin, opened_in}
-use Rattle.rox_build.proofs.Showing.{last_split}
+use Rattle.rox_build.proofs.Showing.{split_at, innermost_row}
 use Rattle.rox_build.proofs.Stepping.{top_scope}
 use Rattle.rox_tables.specs.declared.rows.tables.NodeKind.TheVariants as kind
 use Rattle.rox_grammar.specs.declared.fault.Fault.TheVariants as fault
@@ -20,11 +20,10 @@ use Rattle.rox_build.proofs.plain_constructs.plain_element.Goals as goal
 pub plain_start_tag-requires-clause-parent : goal.plain_start_tag-requires-clause-parent
 plain_start_tag-requires-clause-parent c =
     let b = c.args.builder.now in
-    let k = c.in-Some.ensures.item in
-    let os = c.deref.result.now in
-    let o = c.in-Some.parent.now in
-    let outer = take (length os - 1) os in
-    let split : b.opened.items ≡ outer ++ o ∷ [] = sym c.deref.ensures.value ∙ last_split os o k.3.0 (k.3.1 o) in
+    let os = b.opened.items in
+    let o = c.index-parent.result.now in
+    let outer = take (c.len-depth.result - 1) os in
+    let split : os ≡ outer ++ o ∷ [] = split_at os c.len-depth.result o (omega arith) (omega arith) c.index-parent.ensures in
     all_last (IsOpenWithin b.tables) outer o (subst (AllByRecursion (IsOpenWithin b.tables)) split c.requires.fine.elements)
 
 pub returns-then-read-clause-value : goal.returns-then-read-clause-value
@@ -32,20 +31,19 @@ returns-then-read-clause-value c = λ _ context end s h.
     let b = c.args.builder.now in
     let old = b.tables in
     let new = c.plain_start_tag.new.elements in
-    let x = c.in-Some-plain_start_tag.ensures.read in
-    let t = c.in-Some-plain_start_tag.read.tag in
+    let x = c.in-Some.ensures.read in
+    let t = c.in-Some.read.tag in
     let pos = c.args.cursor.now.pos in
-    let e = c.in-Some-plain_start_tag.read.end in
+    let e = c.in-Some.read.end in
     let src = c.args.cursor.now.text.now in
-    let k = c.in-Some.ensures.item in
-    let os = c.deref.result.now in
-    let o = c.in-Some.parent.now in
-    let outer = take (length os - 1) os in
-    let split : b.opened.items ≡ outer ++ o ∷ [] = sym c.deref.ensures.value ∙ last_split os o k.3.0 (k.3.1 o) in
+    let os = b.opened.items in
+    let o = c.index-parent.result.now in
+    let outer = take (c.len-depth.result - 1) os in
+    let split : os ≡ outer ++ o ∷ [] = split_at os c.len-depth.result o (omega arith) (omega arith) c.index-parent.ensures in
     let sc = top_scope old s.stack outer o (sym (ap (opened_in old) split) ∙ h.shows.open_rows) in
     let tg : Tagged old new t (scope_of s.stack) x.tag = subst (λ (a : List NamespaceDecl). Tagged old new t a x.tag) sc x.tagged in
     let cut = cut_off_fault context.values.main s.stack in
-    let kept : t.openings_left ≡ s.openings_left = c.in-Some-plain_start_tag.ensures.openings_left ∙ h.openings_left_is in
+    let kept : t.openings_left ≡ s.openings_left = c.in-Some.ensures.openings_left ∙ h.openings_left_is in
     let shows = grown_shows end s.stack s.done b _ h.shows c.requires.fine.sound c.requires.fine.elements (grown_by old new t (scope_of s.stack) x.tag tg) refl refl refl refl in
     let node : IsNode new (scope_of s.stack) pos e (kind.Element t.element) (Element s.at e x.tag) =
     subst (λ (n : ℕ). IsNode new (scope_of s.stack) pos e (kind.Element t.element) (Element n e x.tag)) h.here (is_node old new t (scope_of s.stack) x.tag pos e tg) in
@@ -59,34 +57,33 @@ returns-clause-value c = λ _ context end s h.
     let b = c.args.builder.now in
     let old = b.tables in
     let new = c.plain_start_tag.new.elements in
-    let x = c.in-Some-plain_start_tag.ensures.read in
-    let t = c.in-Some-plain_start_tag.read.tag in
+    let x = c.in-Some.ensures.read in
+    let t = c.in-Some.read.tag in
     let pos = c.args.cursor.now.pos in
-    let e = c.in-Some-plain_start_tag.read.end in
+    let e = c.in-Some.read.end in
     let src = c.args.cursor.now.text.now in
-    let k = c.in-Some.ensures.item in
-    let os = c.deref.result.now in
-    let o = c.in-Some.parent.now in
-    let outer = take (length os - 1) os in
-    let split : b.opened.items ≡ outer ++ o ∷ [] = sym c.deref.ensures.value ∙ last_split os o k.3.0 (k.3.1 o) in
+    let os = b.opened.items in
+    let o = c.index-parent.result.now in
+    let outer = take (c.len-depth.result - 1) os in
+    let split : os ≡ outer ++ o ∷ [] = split_at os c.len-depth.result o (omega arith) (omega arith) c.index-parent.ensures in
     let sc = top_scope old s.stack outer o (sym (ap (opened_in old) split) ∙ h.shows.open_rows) in
     let tg : Tagged old new t (scope_of s.stack) x.tag = subst (λ (a : List NamespaceDecl). Tagged old new t a x.tag) sc x.tagged in
     let cut = cut_off_fault context.values.main s.stack in
-    let kept : t.openings_left ≡ s.openings_left = c.in-Some-plain_start_tag.ensures.openings_left ∙ h.openings_left_is in
+    let kept : t.openings_left ≡ s.openings_left = c.in-Some.ensures.openings_left ∙ h.openings_left_is in
     let shows = grown_shows end s.stack s.done b _ h.shows c.requires.fine.sound c.requires.fine.elements (grown_by old new t (scope_of s.stack) x.tag tg) refl refl refl refl in
     let adds = c.put_open.ensures.value end e s.openings_left s x.tag shows (sym h.here) (is_opening old new t (scope_of s.stack) x.tag pos tg x.starts) in
     rw (tag_is context src s pos cut _ _ _ x.tag t.empty s.openings_left e h.here refl sc h.attributes h.namespaces (rw kept at (x.read context.values cut))
     ∙ ap (λ (y : Bool). lifted (opened_by context.limit s x.tag y s.openings_left e)) c.if-read.false)
     (open_stepped context.limit end s.openings_left s _ old new b.nodes_limit c.put_open.new.self (Ok tt) t (scope_of s.stack) x.tag tg h.namespaces h.attributes h.limit_is (c.put_open.ensures.openings_left ∙ h.openings_left_is) c.put_open.ensures.tables c.put_open.ensures.limit adds)
 
-pub returns-in_default-plain_start_tag-clause-fine : goal.returns-in_default-plain_start_tag-clause-fine
-returns-in_default-plain_start_tag-clause-fine c = fine_same c.args.builder.now.tables c.plain_start_tag.new.elements c.args.builder.now.opened.items c.in_default-plain_start_tag.ensures.none c.requires.fine
+pub returns-in_default-clause-fine : goal.returns-in_default-clause-fine
+returns-in_default-clause-fine c = fine_same c.args.builder.now.tables c.plain_start_tag.new.elements c.args.builder.now.opened.items c.in_default.ensures.none c.requires.fine
 
 pub returns-then-read-clause-fine : goal.returns-then-read-clause-fine
 returns-then-read-clause-fine c =
     let b = c.args.builder.now in
-    let x = c.in-Some-plain_start_tag.ensures.read in
-    fine_kept (Ok tt) c.plain_start_tag.new.elements b.opened.items c.put_leaf.new.self (fine_by b.tables c.plain_start_tag.new.elements c.in-Some-plain_start_tag.read.tag _ x.tag b.opened.items x.tagged c.requires.fine) c.put_leaf.ensures.tables
+    let x = c.in-Some.ensures.read in
+    fine_kept (Ok tt) c.plain_start_tag.new.elements b.opened.items c.put_leaf.new.self (fine_by b.tables c.plain_start_tag.new.elements c.in-Some.read.tag _ x.tag b.opened.items x.tagged c.requires.fine) c.put_leaf.ensures.tables
     (ap (λ x. x.items) c.put_leaf.ensures.opened)
 
 pub returns-clause-fine : goal.returns-clause-fine
@@ -94,8 +91,8 @@ returns-clause-fine c =
     let b = c.args.builder.now in
     let cursor = c.args.cursor.now in
     let src = cursor.text.now in
-    let x = c.in-Some-plain_start_tag.ensures.read in
-    let t = c.in-Some-plain_start_tag.read.tag in
+    let x = c.in-Some.ensures.read in
+    let t = c.in-Some.read.tag in
     let context : Values = record { main = true; entities = []; opener = λ text i openings_left. Ok ([], openings_left) } in
     fine_more (Ok tt) c.plain_start_tag.new.elements b.opened.items c.put_open.new.self src t
     (fine_by b.tables c.plain_start_tag.new.elements t _ x.tag b.opened.items x.tagged c.requires.fine) c.put_open.ensures.tables c.put_open.ensures.opened x.tagged.element.scope_within x.tagged.once (namespace_by b.tables c.plain_start_tag.new.elements t _ x.tag x.tagged)
@@ -104,7 +101,7 @@ returns-clause-fine c =
 pub put_open-requires-clause-within : goal.put_open-requires-clause-within
 put_open-requires-clause-within c =
     let src = c.args.cursor.now.text.now in
-    let x = c.in-Some-plain_start_tag.ensures.read in
+    let x = c.in-Some.ensures.read in
     let within = stands_within src c.args.cursor.now.pos 60 c.requires.here (omega arith) in
     let starts = x.starts in
     omega arith
@@ -113,7 +110,7 @@ pub put_leaf-requires-clause-start : goal.put_leaf-requires-clause-start
 put_leaf-requires-clause-start c = omega (arith, c.requires.short, c.args.cursor.now.cut.0)
 
 pub put_leaf-requires-clause-end : goal.put_leaf-requires-clause-end
-put_leaf-requires-clause-end c = omega (arith, c.requires.short, c.in-Some-plain_start_tag.ensures.read.cut.0)
+put_leaf-requires-clause-end c = omega (arith, c.requires.short, c.in-Some.ensures.read.cut.0)
 
 pub put_open-requires-clause-start : goal.put_open-requires-clause-start
 put_open-requires-clause-start c = omega (arith, c.requires.short, c.args.cursor.now.cut.0)
@@ -123,3 +120,19 @@ returns-then-read-clause-ready c = λ _ n h. c.put_leaf.ensures.ready n (record 
 
 pub returns-clause-ready : goal.returns-clause-ready
 returns-clause-ready c = λ _ n h. c.put_open.ensures.ready n (record { room = h.room; few = h.few; small = h.small; settled = h.settled })
+
+pub put_leaf-requires-clause-parent : goal.put_leaf-requires-clause-parent
+put_leaf-requires-clause-parent c =
+    let b = c.args.builder.now in
+    let os = b.opened.items in
+    let o = c.index-parent.result.now in
+    let split : os ≡ take (c.len-depth.result - 1) os ++ o ∷ [] = split_at os c.len-depth.result o (omega arith) (omega arith) c.index-parent.ensures in
+    sym (innermost_row c.plain_start_tag.new.elements os _ o split)
+
+pub put_open-requires-clause-parent : goal.put_open-requires-clause-parent
+put_open-requires-clause-parent c =
+    let b = c.args.builder.now in
+    let os = b.opened.items in
+    let o = c.index-parent.result.now in
+    let split : os ≡ take (c.len-depth.result - 1) os ++ o ∷ [] = split_at os c.len-depth.result o (omega arith) (omega arith) c.index-parent.ensures in
+    sym (innermost_row c.plain_start_tag.new.elements os _ o split)

@@ -10,8 +10,8 @@ use Rattle.rox_tables.specs.Rows.{node_rows}
 use Rattle.rox_tables.proofs.StoredNodes.{count_nodes}
 use Rattle.rox_build.proofs.builder.Builder.put_leaf.Goals as goal
 
-pub row-row-requires : goal.row-row-requires
-row-row-requires c = let small = c.requires.ready.small in let same = ap (λ v. v.rows.len) c.settle.ensures.nodes in omega arith
+pub row_below-row-requires-clause-small : goal.row_below-row-requires-clause-small
+row_below-row-requires-clause-small c = let small = c.requires.ready.small in let same = ap (λ v. v.rows.len) c.settle.ensures.nodes in omega arith
 
 pub returns-clause-value : goal.returns-clause-value
 returns-clause-value c = λ total at s item sh is.
@@ -28,5 +28,8 @@ returns-clause-value c = λ total at s item sh is.
       t,
       counted_ok c.args.self.now.nodes_limit t (omega arith),
       leaf_shows total s.stack s.done f _ c.args.start c.args.end c.args.kind item st k
-          (c.put.ensures.rows ∙ ap (λ (r : NodeData). (node_rows f.nodes) ++ r ∷ []) c.row-row.ensures) refl refl refl,
+          (c.put.ensures.rows ∙ ap (λ (r : NodeData). (node_rows f.nodes) ++ r ∷ []) c.row_below-row.ensures) refl refl refl,
     )
+
+pub row_below-row-requires-clause-parent : goal.row_below-row-requires-clause-parent
+row_below-row-requires-clause-parent c = rw (c.settle.ensures.tables, c.settle.ensures.opened) c.requires.parent

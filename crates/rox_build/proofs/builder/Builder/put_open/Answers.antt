@@ -14,8 +14,8 @@ use Rattle.rox_tables.specs.Rows.{node_rows}
 use Rattle.rox_tables.proofs.StoredNodes.{count_nodes}
 use Rattle.rox_build.proofs.builder.Builder.put_open.Goals as goal
 
-pub row-opening-requires : goal.row-opening-requires
-row-opening-requires c = let small = c.requires.ready.small in let same = ap (λ v. v.rows.len) c.settle.ensures.nodes in omega arith
+pub row_below-opening-requires-clause-small : goal.row_below-opening-requires-clause-small
+row_below-opening-requires-clause-small c = let small = c.requires.ready.small in let same = ap (λ v. v.rows.len) c.settle.ensures.nodes in omega arith
 
 pub returns-clause-value : goal.returns-clause-value
 returns-clause-value c = λ total at openings_left s t sh here is.
@@ -36,8 +36,11 @@ returns-clause-value c = λ total at openings_left s t sh here is.
     let view : opened (lists_in f.tables) x ≡ record { row = x.row; name = t.name; name_start = s.at + 1; name_end = t.name_end; scope = listed (scope_of s.stack) t.declarations } =
     rw (op.name, op.name_start, op.name_end, op.scope) refl in
     let rows : node_rows c.put.new.self ≡ (node_rows f.nodes) ++ row_open f.tables 0 f.opened.items s.at k ∷ [] =
-    rw here (c.put.ensures.rows ∙ ap (λ (r : NodeData). (node_rows f.nodes) ++ record r { subtree_end = 0 } ∷ []) c.row-opening.ensures) in (
+    rw here (c.put.ensures.rows ∙ ap (λ (r : NodeData). (node_rows f.nodes) ++ record r { subtree_end = 0 } ∷ []) c.row_below-opening.ensures) in (
       next,
       counted_ok c.args.self.now.nodes_limit next (omega arith),
       open_shows total s.stack s.done f _ s.at k t x st op.node.is op.node.within place view rows refl c.push_reserved.ensures.items refl,
     )
+
+pub row_below-opening-requires-clause-parent : goal.row_below-opening-requires-clause-parent
+row_below-opening-requires-clause-parent c = rw (c.settle.ensures.tables, c.settle.ensures.opened) c.requires.parent
