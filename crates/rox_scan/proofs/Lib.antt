@@ -6,6 +6,7 @@ pub mod RunLemmas
 pub mod TableLemmas
 pub mod Marking
 pub mod QuoteLemmas
+pub mod PairLemmas
 pub mod CharLemmas
 pub mod LongerLemmas
 pub mod ShortLemmas

@@ -1,6 +1,6 @@
 //! The declaration that a text may begin with (XML 1.0 [23] XMLDecl, [77] TextDecl).
 
-ghost use Rattle.std.specs.Prelude.{◌≡◌, ◌==◌, ◌||◌, ◌+◌, ◌<◌, true};
+ghost use Rattle.std.specs.Prelude.{◌≡◌, ◌==◌, ◌||◌, ◌+◌, ◌<◌, Ok, if◌then◌else◌, true};
 ghost use Rattle.rox_grammar.specs.Search.{stands};
 ghost use Rattle.rox_grammar.specs.FixedTexts.{word_text};
 ghost use Rattle.rox_grammar.specs.declared.fault.Word.TheVariants as word;
@@ -8,10 +8,10 @@ ghost use Rattle.rox_reading.specs.Markup as spec;
 ghost use Rattle.rox_scan.specs.ScanResults.{Steps};
 ghost use Rattle.rox_scan.specs.DoctypeViews.{up_to_quote, xml_decl_if};
 
-use crate::byte_set::{ValueByte, skip_set};
+use crate::byte_set::{ValueByte, part_end, skip_set};
 use crate::chars::is_space;
 use crate::cursor::Cursor;
-use crate::runs::is_at;
+use crate::runs::{NameStart, after_byte, begins, is_at};
 use crate::search::either_from;
 use rox_grammar::fault::{Due, Fault, Word};
 
@@ -78,6 +78,101 @@ impl<'input> Cursor<'input> {
         self.gap()
     }
 
+    /// The same at one look, if `=` and a double quote stand right behind the name, and the value has plain bytes alone. Else the
+    /// cursor stands somewhere.
+    #[inline(always)]
+    fn usual_pair(&mut self) -> bool
+        ensures { result ≡ true → Steps (λ x. x) self.old self.new (Ok tt) spec.pair_at }
+    {
+        let text = self.text;
+        let start = self.pos;
+        let equals = part_end(text, start);
+        if !begins::<NameStart>(text, start) || !is_at(text, equals, b'=') {
+            return false;
+        }
+        let before = after_byte(text, equals, b'=');
+        if !is_at(text, before, b'"') {
+            return false;
+        }
+        let from = after_byte(text, before, b'"');
+        let end = skip_set::<ValueByte>(text, from);
+        if !is_at(text, end, b'"') {
+            return false;
+        }
+        self.pos = after_byte(text, end, b'"');
+        true
+    }
+
+    /// The same of the gap behind it.
+    #[inline(always)]
+    #[tactic(auto, unfolding(rox_reading::specs::Markup::gap_at))]
+    fn usual_gap(&mut self) -> bool
+        ensures { result ≡ true → Steps (λ x. x) self.old self.new (Ok tt) spec.gap_at }
+    {
+        if self.pos >= self.text.len() {
+            return false;
+        }
+        if is_space(self.text.as_bytes()[self.pos]) {
+            self.spaces();
+            return true;
+        }
+        self.starts(Word::PIEnd)
+    }
+
+    /// The same of both, if the word stands here.
+    #[inline(always)]
+    #[tactic(auto, unfolding(rox_reading::specs::Markup::pair_if))]
+    fn usual_pair_if(&mut self, name: Word) -> bool
+        ensures { result ≡ true → Steps (λ x. x) self.old self.new (Ok tt) (spec.pair_if name) }
+    {
+        if !self.starts(name) {
+            return true;
+        }
+        if !self.usual_pair() {
+            return false;
+        }
+        self.usual_gap()
+    }
+
+    /// The same of the pair `standalone`, if it stands here, behind which no gap is due.
+    #[inline(always)]
+    fn usual_last_pair(&mut self) -> bool
+        ensures { result ≡ true → Steps (λ x. x) self.old self.new (Ok tt) (λ src i.
+            if stands (word_text word.Standalone) src i then spec.pair_at src i
+            else Ok (tt, i)) }
+    {
+        if !self.starts(Word::Standalone) {
+            return true;
+        }
+        self.usual_pair()
+    }
+
+    /// The same of the XML declaration, from `<?xml` and a space. Its answer is one word, so that nothing is cleared for it.
+    #[inline(never)]
+    #[tactic(auto, unfolding(rox_reading::specs::Markup::xml_decl_at))]
+    fn usual_declaration(&mut self) -> bool
+        requires { stands (word_text word.XmlDeclStart) self.old.text.now self.old.pos ≡ true }
+        ensures { result ≡ true → Steps (λ x. x) self.old self.new (Ok tt) spec.xml_decl_at }
+    {
+        self.skip_xml_decl_start();
+        self.spaces();
+        if !self.starts(Word::Version) || !self.usual_pair_if(Word::Version) {
+            return false;
+        }
+        if !self.usual_pair_if(Word::Encoding) {
+            return false;
+        }
+        if !self.usual_last_pair() {
+            return false;
+        }
+        self.spaces();
+        if !self.starts(Word::PIEnd) {
+            return false;
+        }
+        self.skip(Word::PIEnd);
+        true
+    }
+
     /// Moves past `<?xml`, up to the space behind it.
     #[inline]
     fn skip_xml_decl_start(&mut self)
@@ -90,6 +185,8 @@ impl<'input> Cursor<'input> {
 
     /// The XML declaration, from `<?xml` and a space to its end `?>` (XML 1.0 [23] XMLDecl). Its values are read and not kept.
     #[tactic(auto, unfolding(rox_reading::specs::Markup::xml_decl_at))]
+    #[cold]
+    #[inline(never)]
     pub fn declaration(&mut self) -> Result<(), Fault>
         requires { stands (word_text word.XmlDeclStart) self.old.text.now self.old.pos ≡ true }
         ensures { Steps (λ x. x) self.old self.new result spec.xml_decl_at }
@@ -112,9 +209,14 @@ impl<'input> Cursor<'input> {
     pub fn xml_decl_if(&mut self) -> Result<(), Fault>
         ensures { Steps (λ x. x) self.old self.new result xml_decl_if }
     {
-        if self.starts(Word::XmlDeclStart) {
-            return self.declaration();
+        if !self.starts(Word::XmlDeclStart) {
+            return Ok(());
         }
-        Ok(())
+        let mut look = *self;
+        if look.usual_declaration() {
+            *self = look;
+            return Ok(());
+        }
+        self.declaration()
     }
 }
