@@ -1,16 +1,17 @@
--- Where a value ends that has white space which is no space.
-use Rattle.std.proofs.Common.{◌≡◌, ℕ, ◌+◌, ◌-◌, ◌<◌, ◌≤◌, ◌==◌, ◌||◌, Bool, true, false, not, List, length, get_or, slice_range, drop, refl, sym, ap, ◌∙◌, arith, inl, inr, get_or-drop, length-drop}
+-- Where a value ends that has a reference, or white space which is no space.
+use Rattle.std.proofs.Common.{◌≡◌, ℕ, ◌+◌, ◌-◌, ◌<◌, ◌≤◌, ◌==◌, ◌||◌, true, false, not, List, length, get_or, slice_range, drop, refl, sym, ap, ◌∙◌, arith, get_or-drop, length-drop}
 use Rattle.std.specs.List.{list_any}
 use Rattle.std.specs.Str.{IsUtf8, IsCharBoundary}
-use Rattle.std.proofs.lemmas.Bool.{cases_lt, eqb-true}
 use Rattle.std.proofs.lemmas.Bool.Decides.{nat_tests}
 use Rattle.std.proofs.lemmas.List.{get_or-take, length-take-le}
 use Rattle.std.proofs.lemmas.List.Folds.{list_any_at}
 use Rattle.rox_reading.specs.Values.{is_special}
+use Rattle.rox_grammar.specs.Constructs.{AreChars}
 use Rattle.rox_scan.specs.ByteSets.{AllPass, is_char_byte, is_value_byte}
 use Rattle.rox_scan.specs.Lookahead.{IsLookahead, ends_value}
-use Rattle.rox_scan.proofs.LongerLemmas.{near_looked}
-use Rattle.rox_build.specs.SpacedBytes.{is_spaced_byte}
+use Rattle.rox_scan.proofs.LongerLemmas.{near_looked, char_looked, looked_on}
+use Rattle.rox_scan.proofs.NearLemmas.{value_is_plain, value_cut}
+use Rattle.rox_build.specs.SpacedBytes.{is_spaced_byte, none_changes}
 
 spaced_is_plain : (b : ℕ) → is_spaced_byte b ≡ true → is_char_byte b ≡ true
 unfolding is_spaced_byte is_value_byte
@@ -28,8 +29,11 @@ value_is_spaced : (b : ℕ) → is_value_byte b ≡ true → is_spaced_byte b �
 unfolding is_spaced_byte
 value_is_spaced b h = rw h refl
 
-quote_is_other : (quote : ℕ) → (quote == 39 || quote == 34) ≡ true → is_special quote ≡ false
-quote_is_other quote q = grind (arith, nat_tests)
+value_open : (quote b : ℕ) → (quote == 39 || quote == 34) ≡ true → is_value_byte b ≡ true → (b == quote || b == 60) ≡ false
+value_open quote b q h = spaced_open quote b q (value_is_spaced b h)
+
+wide_open : (quote b : ℕ) → (quote == 39 || quote == 34) ≡ true → 128 ≤ b → (b == quote || b == 60) ≡ false
+wide_open quote b q wide = grind (arith, nat_tests)
 
 -- where the bytes end a character begins
 spaced_cut : (src : List ℕ) (e : ℕ) → e ≤ length src → (e < length src → is_spaced_byte (get_or src e 0) ≡ false) → IsCharBoundary src e
@@ -43,27 +47,34 @@ changed_among src i k e le more within here =
     let long = length-take-le (e - i) (drop i src) (omega (arith, length-drop i src)) in
     list_any_at is_special (slice_range src i e) (k - i) 0 (omega (arith, long)) (ap is_special read ∙ here)
 
-not_equal : (a b : Bool) → a ≡ true → b ≡ false → a ≡ b → false ≡ true
-not_equal a b h k e = sym k ∙ sym e ∙ h
+-- bytes of the set from i on
+pub spaced_near : (src : List ℕ) (quote i e : ℕ) → IsUtf8 src → (quote == 39 || quote == 34) ≡ true → IsCharBoundary src i → i ≤ e → e ≤ length src → AllPass is_spaced_byte src i e
+    → (e < length src → is_spaced_byte (get_or src e 0) ≡ false) → IsLookahead (ends_value quote src) none_changes src i e true
+spaced_near src quote i e utf8 q start le within all stops =
+    near_looked is_spaced_byte none_changes (ends_value quote src) src i e utf8 start le (spaced_cut src e within stops) all spaced_is_plain (λ b h. refl) (λ n h. spaced_open quote _ q h)
 
--- up to a place where white space stands, and from there on up to the quote
-pub spaced_near : (src : List ℕ) (quote i k e : ℕ) → IsUtf8 src → (quote == 39 || quote == 34) ≡ true → IsCharBoundary src i → i ≤ k → AllPass is_value_byte src i k → is_special (get_or src k 0) ≡ true
-    → k ≤ e → e ≤ length src → AllPass is_spaced_byte src k e → (e < length src → is_spaced_byte (get_or src e 0) ≡ false) → (get_or src e 0 == quote) ≡ true
+-- and a character behind them, and the bytes behind that
+pub spaced_on : (src : List ℕ) (quote i j n e : ℕ) → IsUtf8 src → (quote == 39 || quote == 34) ≡ true → IsCharBoundary src i → IsLookahead (ends_value quote src) none_changes src i j true
+    → j < n → IsCharBoundary src n → AreChars src j n → ((k : ℕ) → j < k → k < n → 128 ≤ get_or src k 0) → ends_value quote src j ≡ false
+    → n ≤ e → e ≤ length src → AllPass is_spaced_byte src n e → (e < length src → is_spaced_byte (get_or src e 0) ≡ false) → IsLookahead (ends_value quote src) none_changes src i e true
+spaced_on src quote i j n e utf8 q start f some cut chars wide here le within all stops =
+    let ends = ends_value quote src in
+    let one = char_looked none_changes ends src j n some cut chars wide (λ b h. refl) (λ k h. wide_open quote _ q h) here in
+    let two = looked_on none_changes ends src i j n true true utf8 start f one in
+    looked_on none_changes ends src i n e true true utf8 start two (spaced_near src quote n e utf8 q cut le within all stops)
+
+-- bytes that stand for themselves, and behind them up to the quote others, one of which changes the value
+pub spaced_looked : (src : List ℕ) (quote i j k e : ℕ) → IsUtf8 src → (quote == 39 || quote == 34) ≡ true → IsCharBoundary src i → i ≤ j → j ≤ length src → AllPass is_value_byte src i j
+    → (j < length src → is_value_byte (get_or src j 0) ≡ false) → IsLookahead (ends_value quote src) none_changes src j e true → j ≤ k → k < e → is_special (get_or src k 0) ≡ true
     → IsLookahead (ends_value quote src) is_special src i e false
-spaced_near src quote i k e utf8 q start le front here le' within rest stops at =
-    let all : AllPass is_spaced_byte src i e = λ n low high. elim (cases_lt n k) [ inl before ↦ value_is_spaced _ (front n low before) | inr behind ↦ rest n behind high ] in
-    let look = near_looked is_spaced_byte (λ b. false) (ends_value quote src) src i e utf8 start (omega arith) (spaced_cut src e within stops) all spaced_is_plain (λ b h. refl) (λ n h. spaced_open quote _ q h) in
-    let more : k < e = elim (cases_lt k e) [
-      | inl less ↦ less
-      | inr past ↦
-          let same : k ≡ e = omega arith in
-          let other : is_special (get_or src k 0) ≡ false = ap (λ (n : ℕ). is_special (get_or src n 0)) same ∙ ap is_special (eqb-true _ _ at) ∙ quote_is_other quote q in
-          cc (sym other ∙ here)
-    ] in
+spaced_looked src quote i j k e utf8 q start le within front stops rest low high here =
+    let ends = ends_value quote src in
+    let first = near_looked is_value_byte none_changes ends src i j utf8 start le (value_cut src j within stops) front value_is_plain (λ b h. refl) (λ n h. value_open quote _ q h) in
+    let look = looked_on none_changes ends src i j e true true utf8 start first rest in
     record {
       onward = look.onward;
       cut = look.cut;
       chars = look.chars;
       apart = look.apart;
-      verbatim_is = sym (ap not (changed_among src i k e le more within here));
+      verbatim_is = sym (ap not (changed_among src i k e (omega arith) high look.cut.0 here));
     }

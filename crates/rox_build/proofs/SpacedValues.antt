@@ -1,6 +1,7 @@
--- Values with white space that is no space, and no reference.
+-- Values with references to characters, and with white space that is no space.
 use Rattle.std.proofs.Common.{◌≡◌, ℕ, ◌+◌, ◌-◌, ◌<◌, ◌≤◌, ◌==◌, ◌||◌, ◌&&◌, Bool, true, false, not, List, [], ◌∷◌, ◌++◌, length, take, slice_index, slice_range, inl, inr, refl, sym, ap, subst, ◌∙◌, arith, Ok}
 use Rattle.std.specs.List.{list_all}
+use Rattle.std.specs.Char.{encode_utf8}
 use Rattle.std.specs.Str.{chars, IsUtf8, IsCharBoundary}
 use Rattle.std.proofs.lemmas.Bool.{and_parts, cases_lt}
 use Rattle.std.proofs.lemmas.Bool.Decides.{nat_tests}
@@ -12,12 +13,15 @@ use Rattle.rox_grammar.specs.Constructs.{AreChars}
 use Rattle.rox_grammar.specs.Content.{is_verbatim_value}
 use Rattle.rox_grammar.specs.Entities.{Entity}
 use Rattle.rox_reading.proofs.Stretches.{range_parts}
-use Rattle.rox_reading.specs.Values.{ValueInclusion, is_special, bytes_of, value_bit_at, value_text, value_at}
+use Rattle.rox_grammar.specs.References.{IsCharacter, decimal, hexadecimal, named}
+use Rattle.rox_reading.specs.Values.{ValueInclusion, character_of, is_special, bytes_of, reference_at, value_reference_at, value_bit_at, value_text, value_at}
 use Rattle.rox_scan.proofs.CharLemmas.{chars_all, all_chars}
 use Rattle.rox_scan.proofs.NearLemmas.{near_found}
 use Rattle.rox_scan.specs.ByteSets.{AllPass, is_stretch_byte}
 use Rattle.rox_values.specs.Values.{behind}
 use Rattle.rox_theory.proofs.Basics.{chars_complete}
+use Rattle.rox_theory.proofs.Onward.{reference_onward}
+use Rattle.rox_theory.proofs.ReferenceLemmas.{is_character, reference_sound}
 
 -- a stretch of Chars in two parts
 pub chars_parted : (src : List ℕ) (i k j : ℕ) → IsUtf8 src → IsCharBoundary src i → IsCharBoundary src k → IsCharBoundary src j → i ≤ k → k ≤ j → AreChars src i j → AreChars src i k × AreChars src k j
@@ -62,7 +66,7 @@ stretch_plain : (b : ℕ) → is_stretch_byte b ≡ true → is_special b ≡ fa
 unfolding is_stretch_byte
 stretch_plain b h = grind (arith, nat_tests)
 
-stretch_special : (b : ℕ) → is_stretch_byte b ≡ false → is_special b ≡ true
+pub stretch_special : (b : ℕ) → is_stretch_byte b ≡ false → is_special b ≡ true
 unfolding is_stretch_byte
 stretch_special b h = grind (arith, nat_tests)
 
@@ -161,3 +165,19 @@ pub return_alone : (main : Bool) (es : List Entity) (src : List ℕ) (stop i : �
     → value_bit_at main es src stop i ≡ Ok (bytes_of (32 ∷ []), i + 1)
 unfolding value_bit_at
 return_alone main es src stop i here other = rw (here, other) refl
+
+reference_on : (src : List ℕ) (i c j : ℕ) → IsCharacter src i c j → i < j
+reference_on src i c j (decimal _ e _ _ amp hash is) = let some = is.some in let next = is.next in omega arith
+reference_on src i c j (hexadecimal _ e _ _ amp hash x is) = let some = is.some in let next = is.next in omega arith
+reference_on src i c j (named _ n _ _ is known) = omega (arith, reference_onward src i n j is)
+
+-- a reference to a character ends behind its `&`
+pub character_on : (src : List ℕ) (i c j : ℕ) → slice_index src i ≡ 38 → reference_at src i ≡ Ok (character_of c, j) → i < j
+character_on src i c j amp read = elim (reference_sound src i (character_of c, j) amp read) [ is_character _ _ is ↦ reference_on src i c j is ]
+
+-- a character that is no `<` and no white space stands for itself, whatever reads its reference
+pub reference_is : (main : Bool) (es : List Entity) (src : List ℕ) (stop i c j : ℕ) → slice_index src i ≡ 38 → reference_at src i ≡ Ok (character_of c, j) → (c == 60) ≡ false → (c == 9 || (c == 10 || c == 13)) ≡ false
+    → value_bit_at main es src stop i ≡ Ok (bytes_of (encode_utf8 c), j)
+unfolding value_bit_at value_reference_at
+reference_is true es src stop i c j amp read tag white = rw (amp, read) refl
+reference_is false es src stop i c j amp read tag white = rw (amp, read, tag, white) refl

@@ -1,5 +1,5 @@
-//! Start tags that are plain, read at one look: without declarations, and with few attributes, whose values have no
-//! reference (XML 1.0 section 3.1). Nothing fails here: a tag that is not plain, or finds no room, is left to the general step, which
+//! Start tags that are plain, read at one look: without declarations, and with few attributes, whose values refer to no
+//! entities (XML 1.0 section 3.1). Nothing fails here: a tag that is not plain, or finds no room, is left to the general step, which
 //! reads it from its `<`.
 
 ghost use Rattle.std.specs.Prelude.{◌≡◌, ◌<◌, ◌≤◌, ◌+◌, ◌-◌, ◌^◌, ◌++◌, ◌==◌, ◌||◌, List, Ok, IfSome, IfNone, drop, length, map, slice_index, slice_range, true, false, []};
@@ -33,7 +33,7 @@ use crate::spaced_value::{spaced_value, spaced_value_end};
 use crate::tag::{MOST_ATTRIBUTES, StartTag, byte_count};
 use rox_grammar::name::QName;
 use rox_scan::byte_set::{PartByte, ValueByte, far_space_end, part_end, skip_set};
-use rox_scan::lookahead::{is_special, scan_value};
+use rox_scan::lookahead::{changes, scan_value};
 use rox_scan::runs::{NameStart, after_byte, begins, is_at, space_end};
 use rox_scan::window::Window;
 use rox_tables::compare::same_text;
@@ -132,15 +132,6 @@ fn verbatim_value_end(text: &str, start: usize, quote: u8) -> usize
     } else {
         0
     }
-}
-
-/// Whether a byte stands at `at` that changes a value.
-#[inline(always)]
-fn changes(text: &str, at: usize) -> bool
-    ensures { result ≡ true → is_special (slice_index text.now at) ≡ true }
-{
-    let bytes = text.as_bytes();
-    at < bytes.len() && is_special(bytes[at])
 }
 
 /// Where the value ends that begins at `start`, behind this quote, if it stands for itself: up to `near` each byte does.
@@ -252,7 +243,7 @@ fn plain_attribute<'input>(text: &'input str, start: usize) -> Option<Unresolved
     })
 }
 
-/// The attribute that begins at `start`, if its value has white space that is no space, but no reference: it is a text of its own.
+/// The attribute that begins at `start`, if its value does not stand for itself, but all read it alike: it is a text of its own.
 #[inline(always)]
 fn spaced_attribute<'input>(
     alloc: Global,

@@ -1,5 +1,5 @@
-//! Values of attributes with white space that is no space but no references: what they stand for, whatever reads them (XML 1.0
-//! section 3.3.3).
+//! Values of attributes with references to characters, or white space that is no space: what they stand for, whatever reads them
+//! (XML 1.0 sections 3.3.3, 4.1 and 4.6). A predefined entity stands for its character whether or not it is declared too.
 
 ghost use Rattle.std.specs.Prelude.{◌≡◌, ◌==◌, ◌<◌, ◌≤◌, ◌-◌, ℕ, Bool, List, Ok, IfSome, true, false, ◌||◌, length, slice_index};
 ghost use Rattle.std.specs.Str.{IsCharBoundary};
@@ -11,22 +11,24 @@ ghost use Rattle.rox_scan.specs.Lookahead as longer;
 ghost use Rattle.rox_scan.specs.Lookahead.{IsLookahead};
 ghost use Rattle.rox_tables.specs.Storage.{storage_bytes, is_borrowed};
 ghost use Rattle.rox_values.specs.Values.{behind, text_behind};
-ghost use Rattle.rox_build.specs.SpacedBytes.{is_spaced_byte};
+ghost use Rattle.rox_build.specs.SpacedBytes.{is_spaced_byte, none_changes};
 
 use rox_scan::byte_set::{ByteSet, ValueByte, skip_set};
-use rox_scan::lookahead::{StretchByte, scan_value};
+use rox_scan::cursor::Cursor;
+use rox_scan::lookahead::{StretchByte, after_char, changes, is_special};
 use rox_scan::nibbles::classes;
 use rox_scan::runs::is_at;
 use rox_tables::rows::storage::StringStorage;
+use rox_values::reference::{Reference, read_reference};
 use std::alloc::Global;
 use std::rc::RcStr;
 use std::simd::prelude::*;
 
-/// The bytes of a value that stand for themselves, and white space.
+/// The bytes of a value that stand for themselves, white space, and `&`.
 struct SpacedByte;
 
 // Classes that a byte of the set has none of, and any other has one.
-const SPACED_LOW: [u8; 16] = [1, 1, 3, 1, 1, 1, 3, 3, 1, 16, 16, 1, 5, 16, 1, 9];
+const SPACED_LOW: [u8; 16] = [1, 1, 3, 1, 1, 1, 1, 3, 1, 16, 16, 1, 5, 16, 1, 9];
 
 const SPACED_HIGH: [u8; 16] = [1, 17, 2, 4, 0, 0, 0, 0, 0, 0, 0, 0, 0, 0, 8, 0];
 
@@ -36,7 +38,7 @@ impl ByteSet for SpacedByte {
     #[inline(always)]
     #[tactic(auto, unfolding(crate::specs::SpacedBytes::is_spaced_byte))]
     fn has(byte: u8) -> bool {
-        ValueByte::has(byte) | (byte == b'\t') | (byte == b'\n') | (byte == b'\r')
+        ValueByte::has(byte) | is_special(byte)
     }
 
     #[inline(always)]
@@ -47,35 +49,45 @@ impl ByteSet for SpacedByte {
     }
 }
 
-/// Whether white space stands at `at` that is no space.
+/// Where the Chars from `start` on end that are not this quote and no `<`.
 #[inline(always)]
-fn is_white_at(text: &str, at: usize) -> bool
-    ensures there { result ≡ true → at < length text.now }
-    ensures special { result ≡ true → reading.is_special (slice_index text.now at) ≡ true }
-{
-    let bytes = text.as_bytes();
-    at < bytes.len() && ((bytes[at] == b'\t') | (bytes[at] == b'\n') | (bytes[at] == b'\r'))
-}
-
-/// Where the value ends that begins at `start`, behind this quote, if it is in order, has no reference, and does not stand for
-/// itself, or 0: by a longer look, as it has other bytes too.
-#[cold]
-#[inline(never)]
-fn far_spaced_end(text: &str, start: usize, quote: u8) -> usize
+fn changed_end(text: &str, start: usize, quote: u8) -> usize
     requires cut { IsCharBoundary text.now start }
     requires quote { (quote == 39 || quote == 34) ≡ true }
-    ensures looked { 0 < result → IsLookahead (longer.ends_value quote text.now) reading.is_special
-        text.now start result false }
-    ensures here { 0 < result → (slice_index text.now result == quote) ≡ true }
+    ensures { IsLookahead (longer.ends_value quote text.now) none_changes text.now start
+        result true }
 {
-    let look = scan_value(text, start, quote);
-    if look.is_verbatim || !is_at(text, look.end, quote) {
-        return 0;
+    let bytes = text.as_bytes();
+    let mut end = skip_set::<SpacedByte>(text, start);
+    while end < bytes.len() {
+        let here = bytes[end];
+        if here == quote || here == b'<' {
+            break;
+        }
+        let next = after_char(text, end);
+        if next == end {
+            break;
+        }
+        end = skip_set::<SpacedByte>(text, next);
     }
-    look.end
+    end
 }
 
-/// The same; most values have no byte but those of `SpacedByte`, which is seen first.
+/// The first place from `at` on of a byte that changes a value, or the end. Most often it is `at`.
+#[inline(always)]
+fn change_from(text: &str, at: usize) -> usize
+    requires { at ≤ length text.now }
+    ensures onward { at ≤ result }
+    ensures special { result < length text.now → reading.is_special (slice_index text.now result)
+        ≡ true }
+{
+    if changes(text, at) {
+        return at;
+    }
+    skip_set::<StretchByte>(text, at)
+}
+
+/// Where the value ends that begins at `start`, behind this quote, if it is in order, and does not stand for itself, or 0.
 #[inline(always)]
 pub fn spaced_value_end(text: &str, start: usize, quote: u8) -> usize
     requires cut { IsCharBoundary text.now start }
@@ -84,17 +96,16 @@ pub fn spaced_value_end(text: &str, start: usize, quote: u8) -> usize
         text.now start result false }
     ensures here { 0 < result → (slice_index text.now result == quote) ≡ true }
 {
-    let first = skip_set::<ValueByte>(text, start);
-    if is_at(text, first, b'&') {
+    let near = skip_set::<ValueByte>(text, start);
+    let end = changed_end(text, near, quote);
+    if !is_at(text, end, quote) {
         return 0;
     }
-    if is_white_at(text, first) {
-        let end = skip_set::<SpacedByte>(text, first);
-        if is_at(text, end, quote) {
-            return end;
-        }
+    let first = change_from(text, near);
+    if first >= end {
+        return 0;
     }
-    far_spaced_end(text, start, quote)
+    end
 }
 
 /// Appends a space for the LF or TAB that stands at `at`. Answers the place behind it, or 0 where there is no memory.
@@ -160,8 +171,44 @@ fn put_stretch(text: &str, at: usize, stop: usize, out: &mut String) -> usize
     end
 }
 
+/// Whether a reference to the character gives itself, in the main text as in a replacement text.
+#[inline(always)]
+fn is_given(character: char) -> bool
+    ensures tag { result ≡ true → (character == 60) ≡ false }
+    ensures white { result ≡ true
+        → (character == 9 || (character == 10 || character == 13)) ≡ false }
+{
+    character > '\r' && character != '<'
+}
+
+/// Appends the character that the reference at `at` names, if it is no `<` and no white space, which not all texts may hold.
+/// Answers the place behind it, or 0 where it is another, or there is no memory.
+#[inline(always)]
+fn put_reference(text: &str, at: usize, stop: usize, out: &mut String) -> usize
+    requires here { slice_index text.now at ≡ 38 }
+    requires before { at < stop }
+    requires within { stop ≤ length text.now }
+    ensures value { 0 < result → (main : Bool) (es : List Entity)
+        → behind (string_bytes out.old) (reading.value_bit_at main es text.now stop at)
+        ≡ Ok (reading.bytes_of (string_bytes out.new), result) }
+    ensures place { 0 < result → (at < result) × (result ≤ stop) }
+    ensures cut { 0 < result → IsCharBoundary text.now result }
+{
+    let mut cursor = Cursor::at(text, at);
+    let Ok(Reference::Character(character)) = read_reference(&mut cursor) else {
+        return 0;
+    };
+    if !is_given(character) || cursor.pos > stop {
+        return 0;
+    }
+    if out.push(character).is_err() {
+        return 0;
+    }
+    cursor.pos
+}
+
 /// Appends what stands at `at` in a value: what white space gives that is no space, or all up to the next special byte. Answers
-/// the place behind that, or 0 where a reference stands, or there is no memory.
+/// the place behind that, or 0 where a reference stands that not all read alike, or there is no memory.
 #[inline(always)]
 fn put_bit(text: &str, at: usize, stop: usize, out: &mut String) -> usize
     requires start { IsCharBoundary text.now at }
@@ -182,10 +229,13 @@ fn put_bit(text: &str, at: usize, stop: usize, out: &mut String) -> usize
     if here == b'\r' {
         return put_return(text, at, stop, out);
     }
+    if here == b'&' {
+        return put_reference(text, at, stop, out);
+    }
     put_stretch(text, at, stop, out)
 }
 
-/// Appends what the value's text from `start` up to `stop` stands for, if there are no references, and memory for it.
+/// Appends what the value's text from `start` up to `stop` stands for, if all read it alike, and there is memory for it.
 fn put_spaced(text: &str, start: usize, stop: usize, out: &mut String) -> bool
     requires start { IsCharBoundary text.now start }
     requires stop { IsCharBoundary text.now stop }
@@ -212,7 +262,7 @@ fn put_spaced(text: &str, start: usize, stop: usize, out: &mut String) -> bool
     true
 }
 
-/// What the value from `start` up to `stop` stands for, if it has no references, as a text of its own.
+/// What the value from `start` up to `stop` stands for, if all read it alike, as a text of its own.
 pub fn spaced_value<'input>(
     alloc: Global,
     text: &str,
@@ -235,6 +285,10 @@ pub fn spaced_value<'input>(
     };
     if !put_spaced(text, start, stop, &mut out) {
         return None;
+    }
+    // References can be far longer than what they give.
+    if out.len() < (stop - start) / 4 * 3 {
+        out.shrink_to_fit();
     }
     let Ok(value) = RcStr::from_string(out) else {
         return None;

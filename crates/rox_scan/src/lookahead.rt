@@ -27,7 +27,7 @@ pub struct Lookahead {
 
 /// The place behind the Char that begins at `at`, or `at` where a character begins that is none.
 #[inline(always)]
-pub(crate) fn after_char(text: &str, at: usize) -> usize
+pub fn after_char(text: &str, at: usize) -> usize
     requires cut { IsCharBoundary text.now at }
     requires within { at < length text.now }
     ensures onward { at ≤ result }
@@ -86,6 +86,15 @@ pub fn is_special(byte: u8) -> bool
     ensures { result ≡ reading.is_special byte }
 {
     (byte == b'&') | ((byte == b'\t') | ((byte == b'\n') | (byte == b'\r')))
+}
+
+/// Whether a byte stands at `at` that changes a value.
+#[inline(always)]
+pub fn changes(text: &str, at: usize) -> bool
+    ensures { result ≡ true → reading.is_special (slice_index text.now at) ≡ true }
+{
+    let bytes = text.as_bytes();
+    at < bytes.len() && is_special(bytes[at])
 }
 
 /// The bytes of a stretch of a value: all but `&` and white space that is no space.
