@@ -6,8 +6,7 @@ ghost use Rattle.rox_tables.specs.StoredAttributes.{AreNumbered, AreNumbered-pro
 use crate::rows::growth::{make_room, reserve, trim, with_room};
 use crate::rows::stored_attribute::{StoredAttribute, UNUSUAL, usual_before};
 use crate::rows::tables::{AttributeData, AttributePlaces};
-use rox_grammar::failure::Failure;
-use std::alloc::Global;
+use std::alloc::{AllocError, Global};
 
 /// The attributes of all elements, in document order.
 #[derive(Drop)]
@@ -92,14 +91,13 @@ impl<'input> AttributeTable<'input> {
     /// want of memory, and it is one from there on.
     #[cold]
     #[inline(never)]
-    fn make_room(&mut self, place: usize) -> Result<(), Failure>
+    fn make_room(&mut self, place: usize) -> Result<(), AllocError>
         ensures items { self.new.items.items ≡ self.old.items.items }
         ensures unusual { self.new.unusual ≡ self.old.unusual }
         ensures room { OnOk result (vec_len self.new.items < vec_capacity self.new.items) }
-        ensures err { IfErr result (λ e. e ≡ Failure.Memory) }
     {
         if self.refused {
-            return Err(Failure::Memory);
+            return Err(AllocError);
         }
         let made = if self.items.is_empty() {
             reserve(&mut self.items, first_attributes(self.text_end), FEWEST)
@@ -170,12 +168,11 @@ impl<'input> AttributeTable<'input> {
         &mut self,
         item: AttributeData<'input>,
         places: AttributePlaces,
-    ) -> Result<(), Failure>
+    ) -> Result<(), AllocError>
         requires room { vec_len self.old.items < vec_capacity self.old.items }
         ensures rows { attribute_rows self.new ≡ (if is_ok result
             then attribute_rows self.old ++ (item.entry, places) ∷ []
             else attribute_rows self.old) }
-        ensures err { IfErr result (λ e. e ≡ Failure.Memory) }
     {
         if self.unusual.len() >= self.unusual.capacity() {
             make_room(&mut self.unusual, places.end, self.text_end)?;
@@ -183,7 +180,7 @@ impl<'input> AttributeTable<'input> {
         if self.put_unusual(item, places) {
             Ok(())
         } else {
-            Err(Failure::Memory)
+            Err(AllocError)
         }
     }
 
@@ -213,15 +210,14 @@ impl<'input> AttributeTable<'input> {
 
     /// The same, where want of memory is an error.
     #[inline(always)]
-    pub fn push(&mut self, row: (AttributeData<'input>, AttributePlaces)) -> Result<(), Failure>
+    pub fn push(&mut self, row: (AttributeData<'input>, AttributePlaces)) -> Result<(), AllocError>
         ensures rows { attribute_rows self.new ≡ (if is_ok result
             then attribute_rows self.old ++ row.entry ∷ [] else attribute_rows self.old) }
-        ensures err { IfErr result (λ e. e ≡ Failure.Memory) }
     {
         if self.put(row) {
             Ok(())
         } else {
-            Err(Failure::Memory)
+            Err(AllocError)
         }
     }
 

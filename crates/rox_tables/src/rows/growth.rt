@@ -1,9 +1,8 @@
 //! Growth of tables.
 
-ghost use Rattle.std.specs.Prelude.{◌≡◌, ◌<◌, ◌≤◌, ◌+◌, ◌/◌, ◌^◌, ◌++◌, ◌∷◌, [], if◌then◌else◌, is_ok, min, vec_len, vec_capacity, OnOk, IfErr};
+ghost use Rattle.std.specs.Prelude.{◌≡◌, ◌<◌, ◌≤◌, ◌+◌, ◌/◌, ◌^◌, ◌++◌, ◌∷◌, [], if◌then◌else◌, is_ok, min, vec_len, vec_capacity, OnOk};
 ghost use Rattle.rox_tables.specs.Growth as room;
 
-use rox_grammar::failure::Failure;
 use std::alloc::{AllocError, Global};
 
 /// Makes room for one more. The only error is want of memory.
@@ -40,19 +39,18 @@ const SMALL: usize = 204;
 /// is want of memory.
 #[cold]
 #[inline(never)]
-pub fn reserve<T: Drop>(to: &mut Vec<T>, more: usize, fewer: usize) -> Result<(), Failure>
+pub fn reserve<T: Drop>(to: &mut Vec<T>, more: usize, fewer: usize) -> Result<(), AllocError>
     ensures items { to.new.items ≡ to.old.items }
     ensures len { vec_len to.new ≡ vec_len to.old }
     ensures ok { OnOk result (vec_len to.new + min more fewer ≤ vec_capacity to.new) }
     ensures small { OnOk result (vec_len to.old + more ≤ 204
         → vec_len to.new + more ≤ vec_capacity to.new) }
-    ensures err { IfErr result (λ e. e ≡ Failure.Memory) }
 {
     if to.reserve_exact(more).is_ok() {
         return Ok(());
     }
     if to.len().saturating_add(more) <= SMALL {
-        return Err(Failure::Memory);
+        return Err(AllocError);
     }
     to.reserve_exact(fewer)?;
     Ok(())
@@ -94,14 +92,13 @@ fn foreseen(len: usize, place: usize, end: usize) -> usize
 /// would not be small, it makes room for an eighth more. The only error is want of memory.
 #[cold]
 #[inline(never)]
-pub fn make_room<T: Drop>(to: &mut Vec<T>, place: usize, end: usize) -> Result<(), Failure>
+pub fn make_room<T: Drop>(to: &mut Vec<T>, place: usize, end: usize) -> Result<(), AllocError>
     ensures items { to.new.items ≡ to.old.items }
     ensures len { vec_len to.new ≡ vec_len to.old }
     ensures ok { OnOk result (vec_len to.new < vec_capacity to.new) }
     ensures eighth { OnOk result (vec_len to.new + vec_len to.new / 8 < vec_capacity to.new) }
     ensures small { OnOk result (room.foreseen (vec_len to.old) place end ≤ 204
         → room.foreseen (vec_len to.old) place end ≤ vec_capacity to.new) }
-    ensures err { IfErr result (λ e. e ≡ Failure.Memory) }
 {
     let len = to.len();
     let more = foreseen(len, place, end) - len;

@@ -16,8 +16,7 @@ use crate::rows::stored_node::{
     store_kind, whole_place,
 };
 use crate::rows::tables::{NodeData, NodeKind, PI};
-use rox_grammar::failure::Failure;
-use std::alloc::Global;
+use std::alloc::{AllocError, Global};
 
 /// The nodes of a text, in document order. What few nodes have is kept beside the rows, so that these are small: processing
 /// instructions, and the upper halves of places, which only texts of 4 GiB and more have.
@@ -52,14 +51,13 @@ fn high_places(high: &[HighPlaces], index: usize) -> HighPlaces
 }
 
 /// Fills up with upper halves of 0, and makes room for one more. The only error is want of memory.
-fn fill(high: &mut Vec<HighPlaces>, count: usize) -> Result<(), Failure>
+fn fill(high: &mut Vec<HighPlaces>, count: usize) -> Result<(), AllocError>
     requires { vec_len high.old ≤ count }
     ensures same { (pis : List PI) (rows : List StoredNode)
         → stored.whole_rows pis high.new.items rows ≡ stored.whole_rows pis high.old.items rows }
     ensures count { OnOk result (vec_len high.new ≡ count) }
     ensures most { vec_len high.new ≤ count }
     ensures room { OnOk result (vec_len high.new < vec_capacity high.new) }
-    ensures err { IfErr result (λ e. e ≡ Failure.Memory) }
 {
     while high.len() < count {
         growth::push(high, HighPlaces { start: 0, end: 0 })?;
@@ -126,13 +124,12 @@ impl<'input> NodeTable<'input> {
 
     /// The root node of a text of so many bytes, with some room for more. The only error is want of memory.
     #[inline(always)]
-    pub fn of_text(alloc: Global, bytes: usize) -> Result<NodeTable<'input>, Failure>
+    pub fn of_text(alloc: Global, bytes: usize) -> Result<NodeTable<'input>, AllocError>
         ensures rows { IfOk result
             (λ t. node_rows t
             ≡ record { start = 0; end = bytes; parent = 0; subtree_end = 0; kind = kind.Root }
             ∷ []) }
         ensures len { IfOk result (λ t. vec_len t.rows ≡ 1) }
-        ensures err { IfErr result (λ e. e ≡ Failure.Memory) }
     {
         let room = (bytes / 48 + (bytes / 64).min(MORE_ROWS) + FEWEST_ROWS).min(FIRST_ROWS);
         let mut table = NodeTable::empty(alloc);
@@ -244,11 +241,10 @@ impl<'input> NodeTable<'input> {
     /// error is want of memory.
     #[cold]
     #[inline(never)]
-    fn make_room(&mut self, start: usize, end: usize) -> Result<(), Failure>
+    fn make_room(&mut self, start: usize, end: usize) -> Result<(), AllocError>
         ensures rows { node_rows self.new ≡ node_rows self.old }
         ensures len { vec_len self.new.rows ≡ vec_len self.old.rows }
         ensures ok { OnOk result (vec_len self.new.rows < vec_capacity self.new.rows) }
-        ensures err { IfErr result (λ e. e ≡ Failure.Memory) }
     {
         let text_end = self.text_end();
         growth::make_room(&mut self.rows, start.max(end), text_end)
@@ -256,11 +252,10 @@ impl<'input> NodeTable<'input> {
 
     /// The same where there is no room for one more.
     #[inline(always)]
-    fn foresee(&mut self, start: usize, end: usize) -> Result<(), Failure>
+    fn foresee(&mut self, start: usize, end: usize) -> Result<(), AllocError>
         ensures rows { node_rows self.new ≡ node_rows self.old }
         ensures len { vec_len self.new.rows ≡ vec_len self.old.rows }
         ensures ok { OnOk result (vec_len self.new.rows < vec_capacity self.new.rows) }
-        ensures err { IfErr result (λ e. e ≡ Failure.Memory) }
     {
         if self.has_room() {
             return Ok(());
@@ -290,12 +285,11 @@ impl<'input> NodeTable<'input> {
 
     /// Puts a node at the end. The only error is want of memory, and then the nodes are as before.
     #[inline(always)]
-    pub fn push(&mut self, row: NodeData<'input>) -> Result<(), Failure>
+    pub fn push(&mut self, row: NodeData<'input>) -> Result<(), AllocError>
         ensures rows { node_rows self.new ≡ (if is_ok result
             then node_rows self.old ++ row.entry ∷ [] else node_rows self.old) }
         ensures len { vec_len self.new.rows ≡ (if is_ok result then vec_len self.old.rows + 1
             else vec_len self.old.rows) }
-        ensures err { IfErr result (λ e. e ≡ Failure.Memory) }
     {
         self.foresee(row.start, row.end)?;
         if row.start >= FIRST_HIGH || row.end >= FIRST_HIGH {
@@ -306,7 +300,7 @@ impl<'input> NodeTable<'input> {
 
     /// The same of a node whose places have no upper halves, where there is room for its row.
     #[inline(always)]
-    fn push_near(&mut self, row: NodeData<'input>) -> Result<(), Failure>
+    fn push_near(&mut self, row: NodeData<'input>) -> Result<(), AllocError>
         requires room { vec_len self.old.rows < vec_capacity self.old.rows }
         requires start { row.start < 2 ^ 32 }
         requires end { row.end < 2 ^ 32 }
@@ -314,7 +308,6 @@ impl<'input> NodeTable<'input> {
             then node_rows self.old ++ row.entry ∷ [] else node_rows self.old) }
         ensures len { vec_len self.new.rows ≡ (if is_ok result then vec_len self.old.rows + 1
             else vec_len self.old.rows) }
-        ensures err { IfErr result (λ e. e ≡ Failure.Memory) }
     {
         let kind = store_kind(&mut self.instructions, row.kind)?;
         self.rows.push_reserved(StoredNode {
@@ -330,13 +323,12 @@ impl<'input> NodeTable<'input> {
     /// The same of a node whose places have upper halves, where there is room for its row.
     #[cold]
     #[inline(never)]
-    fn push_far(&mut self, row: NodeData<'input>) -> Result<(), Failure>
+    fn push_far(&mut self, row: NodeData<'input>) -> Result<(), AllocError>
         requires { vec_len self.old.rows < vec_capacity self.old.rows }
         ensures rows { node_rows self.new ≡ (if is_ok result
             then node_rows self.old ++ row.entry ∷ [] else node_rows self.old) }
         ensures len { vec_len self.new.rows ≡ (if is_ok result then vec_len self.old.rows + 1
             else vec_len self.old.rows) }
-        ensures err { IfErr result (λ e. e ≡ Failure.Memory) }
     {
         fill(&mut self.high, self.rows.len())?;
         let kind = store_kind(&mut self.instructions, row.kind)?;
@@ -378,7 +370,7 @@ impl<'input> NodeTable<'input> {
 
     /// The same, whatever the end is. The only error is want of memory, and then the nodes are as before.
     #[inline(always)]
-    pub fn end_row(&mut self, row: u32, end: usize) -> Result<(), Failure>
+    pub fn end_row(&mut self, row: u32, end: usize) -> Result<(), AllocError>
         requires { vec_len self.old.rows < 2 ^ 32 }
         ensures rows { OnOk result ((d : NodeData)
             → node_rows self.new
@@ -390,7 +382,6 @@ impl<'input> NodeTable<'input> {
             })) }
         ensures len { vec_len self.new.rows ≡ vec_len self.old.rows }
         ensures same { IfErr result (λ e. node_rows self.new ≡ node_rows self.old) }
-        ensures err { IfErr result (λ e. e ≡ Failure.Memory) }
     {
         if end >= FIRST_HIGH {
             return self.end_far(row, end);
@@ -402,7 +393,7 @@ impl<'input> NodeTable<'input> {
     /// The same of an end that has an upper half.
     #[cold]
     #[inline(never)]
-    fn end_far(&mut self, row: u32, end: usize) -> Result<(), Failure>
+    fn end_far(&mut self, row: u32, end: usize) -> Result<(), AllocError>
         requires { vec_len self.old.rows < 2 ^ 32 }
         ensures rows { OnOk result ((d : NodeData)
             → node_rows self.new
@@ -414,7 +405,6 @@ impl<'input> NodeTable<'input> {
             })) }
         ensures len { vec_len self.new.rows ≡ vec_len self.old.rows }
         ensures same { IfErr result (λ e. node_rows self.new ≡ node_rows self.old) }
-        ensures err { IfErr result (λ e. e ≡ Failure.Memory) }
     {
         fill(&mut self.high, self.rows.len())?;
         self.put_end(row, end);

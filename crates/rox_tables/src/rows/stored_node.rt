@@ -10,7 +10,7 @@ ghost use Rattle.rox_tables.specs.declared.rows.stored_node.StoredNode.{StoredNo
 use crate::rows::growth::push;
 use crate::rows::storage::StringStorage;
 use crate::rows::tables::{ElementData, NodeKind, PI};
-use rox_grammar::failure::Failure;
+use std::alloc::AllocError;
 
 /// What a node is: 32 bytes. Elements are the first two, and what may own a text the last two, so that one comparison tells either.
 #[derive(Drop)]
@@ -161,7 +161,7 @@ pub(crate) fn small_kind<'input>(kind: NodeKind<'input>) -> StoredKind<'input>
 pub(crate) fn store_kind<'input>(
     instructions: &mut Vec<PI<'input>>,
     kind: NodeKind<'input>,
-) -> Result<StoredKind<'input>, Failure>
+) -> Result<StoredKind<'input>, AllocError>
     ensures value { IfOk result (λ k. stored.whole_kind instructions.new.items k ≡ kind.entry) }
     ensures within { IfOk result (λ k. stored.is_kind_within (length instructions.new.items) k
         ≡ true) }
@@ -171,7 +171,6 @@ pub(crate) fn store_kind<'input>(
         ≡ stored.whole_rows instructions.old.items high rows }
     ensures more { length instructions.old.items ≤ length instructions.new.items }
     ensures none { IfErr result (λ e. instructions.new.items ≡ instructions.old.items) }
-    ensures err { IfErr result (λ e. e ≡ Failure.Memory) }
 {
     match kind {
         NodeKind::PI(instruction) => {
