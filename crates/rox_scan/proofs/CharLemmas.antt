@@ -14,6 +14,7 @@ use Rattle.rox_scan.proofs.RunLemmas.{stands_ascii}
 use Rattle.rox_grammar.specs.Chars.{is_char}
 use Rattle.rox_grammar.specs.Runs.{run_end, passing, first_passes, begins, StandsAt}
 use Rattle.rox_grammar.specs.Constructs.{AreChars}
+use Rattle.rox_scan.specs.Lookahead.{IsStep}
 
 -- if each passes, as many bytes pass as there are
 all_passing : (p : ℕ → Bool) (cs : List ℕ) → list_all p cs ≡ true → passing p cs ≡ length (encodes cs)
@@ -73,10 +74,13 @@ chars_joined src i j k utf8 a b c le le' f g =
     all_chars src i k utf8 (omega arith) a c all
 
 -- no character
-pub no_chars : (src : List ℕ) (i : ℕ) → IsUtf8 src → IsCharBoundary src i → AreChars src i i
+no_chars : (src : List ℕ) (i : ℕ) → IsUtf8 src → IsCharBoundary src i → AreChars src i i
 no_chars src i utf8 cut =
     let none : i - i ≡ 0 = omega arith in
     all_chars src i i utf8 (omega arith) cut cut (rw (none, chars-nil) refl)
+
+pub no_step : (src : List ℕ) (i : ℕ) → IsUtf8 src → IsCharBoundary src i → IsStep src i i
+no_step src i utf8 cut = record { onward = omega arith; chars = no_chars src i utf8 cut; cut = cut; wide = λ k more below. absurd (omega (arith, more, below)) }
 
 -- one that stands there
 pub one_char : (src : List ℕ) (i c : ℕ) → IsUtf8 src → IsCharBoundary src i → StandsAt c src i → IsCharBoundary src (i + len_utf8 c) → is_char c ≡ true → AreChars src i (i + len_utf8 c)

@@ -15,6 +15,13 @@ pub record IsLookahead (ends : ℕ → Bool) (changes : ℕ → Bool) (src : Lis
   pub apart : (k : ℕ) → i ≤ k → k < j → ends k ≡ false
   pub verbatim_is : verbatim ≡ not (list_any changes (slice_range src i j))
 
+-- from i up to j there is one Char, or nothing
+pub record IsStep (src : List ℕ) (i j : ℕ) : Type 0 where
+  pub onward : i ≤ j
+  pub chars : AreChars src i j
+  pub cut : IsCharBoundary src j
+  pub wide : (k : ℕ) → i < k → k < j → 128 ≤ slice_index src k
+
 -- a value ends at its quote or a `<`; it is changed at each special byte
 abbrev pub ends_value : ℕ → List ℕ → ℕ → Bool
 ends_value quote src k = (slice_index src k == quote) || (slice_index src k == 60)

@@ -1,5 +1,6 @@
 -- How the result of a step stands to what is read.
 use Rattle.std.specs.Prelude.{◌≡◌, ◌≤◌, ℕ, List, Result, Ok, Err}
+use Rattle.std.specs.Str.{IsCharBoundary}
 use Rattle.rox_grammar.specs.declared.fault.Fault.{Fault}
 use Rattle.rox_grammar.specs.Failures.{Fails}
 use Rattle.rox_reading.specs.Lexical.{Read}
@@ -21,3 +22,9 @@ pub record Steps {A B : Type 0} (view : A → B) (old new : Cursor) (result : Re
 abbrev pub GivesFrom : {A B : Type 0} → (A → B) → Cursor → Result A Failure → Read B → Type 0
 GivesFrom view after (Ok x) read = read ≡ Ok (view x, after.pos)
 GivesFrom view after (Err e) read = Fails e read
+
+-- What is found from `at` on stands at this place, which is between two characters, as `at` is.
+pub record Finds (text : List ℕ) (at found wanted : ℕ) : Type 0 where
+  pub place : found ≡ wanted
+  pub onward : at ≤ found
+  pub cut : IsCharBoundary text found

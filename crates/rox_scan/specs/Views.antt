@@ -1,10 +1,13 @@
 -- What the scanner's values are without where they lie in memory.
-use Rattle.std.specs.Prelude.{◌≡◌, ◌≤◌, List, ℕ, Option, option_map, slice_range}
+use Rattle.std.specs.Prelude.{◌≡◌, ◌≤◌, List, ℕ, Bool, Option, Result, IfOk, option_map, slice_range}
 use Rattle.std.specs.Borrow.{Bor}
 use Rattle.std.specs.Str.{IsCharBoundary}
 use Rattle.rox_grammar.specs.Content.{is_verbatim_value}
 use Rattle.rox_reading.specs.Markup as markup
 use Rattle.rox_grammar.specs.Failures.{name_view}
+use Rattle.rox_grammar.specs.declared.fault.Fault.{Fault}
+use Rattle.rox_scan.specs.ScanResults.{Steps}
+use Rattle.rox_scan.specs.declared.cursor.Cursor.{Cursor}
 use Rattle.rox_scan.specs.declared.markup.Instruction.{Instruction}
 use Rattle.rox_scan.specs.declared.tag.EndTag.{EndTag}
 use Rattle.rox_scan.specs.declared.tag.RawAttribute.{RawAttribute}
@@ -36,6 +39,11 @@ pub record HasValue (text : List ℕ) (a : RawAttribute) : Type 0 where
   pub is : a.value.now ≡ slice_range text a.value_start a.value_end
   -- it says whether it has nothing to change
   pub verbatim : a.is_verbatim ≡ is_verbatim_value a.value.now
+
+-- a value in these quotes is passed over, up to the quote, and the answer says whether it has nothing to change
+pub record PassesValue (quote : ℕ) (old new : Cursor) (result : Result Bool Fault) : Type 0 where
+  pub read : Steps (λ _. slice_range old.text.now old.pos new.pos) old new result (markup.raw_value_at quote)
+  pub verbatim : IfOk result (λ v. v ≡ is_verbatim_value (slice_range old.text.now old.pos new.pos))
 
 -- the same of an attribute that a start tag holds next
 abbrev pub TagItemHasValue : List ℕ → TagItem → Type 0

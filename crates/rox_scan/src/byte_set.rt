@@ -7,7 +7,8 @@ ghost use Rattle.std.specs.Simd.Lanes.{mask_l};
 ghost use Rattle.rox_grammar.specs.Chars as spec;
 ghost use Rattle.rox_grammar.specs.Runs.{run_end};
 ghost use Rattle.rox_scan.specs.ByteSets as near;
-ghost use Rattle.rox_scan.specs.ByteSets.{AllPass};
+ghost use Rattle.rox_scan.specs.ByteSets.{AllPass, EndsSet};
+ghost use Rattle.rox_scan.specs.ScanResults.{Finds};
 
 use crate::chars;
 use crate::nibbles::{classes, wide_classes};
@@ -170,7 +171,6 @@ impl ByteSet for SpaceByte {
 #[inline(always)]
 fn others_at<C: ByteSet>(bytes: &[u8], at: usize) -> u64
     requires { at + 16 ≤ length bytes.now }
-    ensures value { result ≡ mask_l (map (λ b. not (C.test b)) (take 16 (drop at bytes.now))) }
     ensures none { result ≡ 0 → AllPass C.test bytes.now at (at + 16) }
     ensures few { 0 < result → trailing_zeros w64 result < 16 }
     ensures passes { 0 < result → AllPass C.test bytes.now at (at + trailing_zeros w64 result) }
@@ -192,10 +192,7 @@ pub(crate) fn before_first(others: u64) -> usize
 #[inline(always)]
 fn bytes_end<C: ByteSet>(bytes: &[u8], at: usize) -> usize
     requires { at ≤ length bytes.now }
-    ensures onward { at ≤ result }
-    ensures within { result ≤ length bytes.now }
-    ensures passes { AllPass C.test bytes.now at result }
-    ensures stops { result < length bytes.now → C.test (slice_index bytes.now result) ≡ false }
+    ensures { EndsSet C.test bytes.now at result }
 {
     let mut block = at;
     while bytes.len() - block >= 16 {
@@ -217,10 +214,7 @@ fn bytes_end<C: ByteSet>(bytes: &[u8], at: usize) -> usize
 #[inline(always)]
 pub fn skip_set<C: ByteSet>(text: &str, at: usize) -> usize
     requires { at ≤ length text.now }
-    ensures onward { at ≤ result }
-    ensures within { result ≤ length text.now }
-    ensures passes { AllPass C.test text.now at result }
-    ensures stops { result < length text.now → C.test (slice_index text.now result) ≡ false }
+    ensures { EndsSet C.test text.now at result }
 {
     bytes_end::<C>(text.as_bytes(), at)
 }
@@ -239,9 +233,7 @@ fn is_ascii_at(text: &str, at: usize) -> bool
 #[inline(always)]
 pub fn part_end(text: &str, at: usize) -> usize
     requires { IsCharBoundary text.now at }
-    ensures end { result ≡ run_end spec.is_part_char text.now at }
-    ensures onward { at ≤ result }
-    ensures cut { IsCharBoundary text.now result }
+    ensures { Finds text.now at result (run_end spec.is_part_char text.now at) }
 {
     let near = skip_set::<PartByte>(text, at);
     if is_ascii_at(text, near) {
@@ -254,9 +246,7 @@ pub fn part_end(text: &str, at: usize) -> usize
 #[inline(always)]
 pub fn far_space_end(text: &str, at: usize) -> usize
     requires { IsCharBoundary text.now at }
-    ensures end { result ≡ run_end spec.is_space text.now at }
-    ensures onward { at ≤ result }
-    ensures cut { IsCharBoundary text.now result }
+    ensures { Finds text.now at result (run_end spec.is_space text.now at) }
 {
     skip_set::<SpaceByte>(text, at)
 }

@@ -10,7 +10,7 @@ ghost use Rattle.rox_grammar.specs.Content as content;
 ghost use Rattle.rox_reading.specs.Values as spec;
 ghost use Rattle.rox_scan.specs.ByteSets as near;
 ghost use Rattle.rox_scan.specs.Lookahead as longer;
-ghost use Rattle.rox_scan.specs.Lookahead.{IsLine, IsLookahead};
+ghost use Rattle.rox_scan.specs.Lookahead.{IsLine, IsLookahead, IsStep};
 ghost use Rattle.rox_scan.specs.ScanResults.{Steps};
 
 use crate::byte_set::{ByteSet, skip_set};
@@ -106,10 +106,7 @@ fn after_wide(text: &str, at: usize) -> usize
     requires cut { IsCharBoundary text.now at }
     requires within { at < length text.now }
     requires here { slice_index text.now at ≡ 239 }
-    ensures onward { at ≤ result }
-    ensures chars { AreChars text.now at result }
-    ensures cut { IsCharBoundary text.now result }
-    ensures wide { (k : ℕ) → at < k → k < result → 128 ≤ slice_index text.now k }
+    ensures { IsStep text.now at result }
 {
     if begins_no_char(text, at) {
         return at;

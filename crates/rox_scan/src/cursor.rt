@@ -131,7 +131,6 @@ impl<'input> Cursor<'input> {
     #[inline]
     #[tactic(auto, unfolding(rox_reading::specs::Lexical::quote_at))]
     pub fn quote(&mut self) -> Result<u8, Fault>
-        ensures ascii { IfOk result (λ quote. quote < 128) }
         ensures quote { IfOk result (λ quote. (quote == 39 || quote == 34) ≡ true) }
         ensures read { Steps (λ x. x) self.old self.new result spec.quote_at }
     {

@@ -11,7 +11,8 @@ ghost use Rattle.rox_grammar.specs.Content as content;
 ghost use Rattle.rox_reading.specs.Values as reading;
 ghost use Rattle.rox_scan.specs.ByteSets as near;
 ghost use Rattle.rox_scan.specs.Lookahead as longer;
-ghost use Rattle.rox_scan.specs.Lookahead.{IsLookahead};
+ghost use Rattle.rox_scan.specs.Lookahead.{IsLookahead, IsStep};
+ghost use Rattle.rox_scan.specs.ScanResults.{Finds};
 
 use crate::byte_set::{ByteSet, CharByte, CommentByte, ValueByte, skip_set};
 use crate::nibbles::classes;
@@ -30,10 +31,7 @@ pub struct Lookahead {
 pub fn after_char(text: &str, at: usize) -> usize
     requires cut { IsCharBoundary text.now at }
     requires within { at < length text.now }
-    ensures onward { at ≤ result }
-    ensures chars { AreChars text.now at result }
-    ensures cut { IsCharBoundary text.now result }
-    ensures wide { (k : ℕ) → at < k → k < result → 128 ≤ slice_index text.now k }
+    ensures step { IsStep text.now at result }
     ensures stops { result ≡ at → begins is_char text.now at ≡ false }
 {
     let here = text.as_bytes()[at];
@@ -52,9 +50,7 @@ pub fn after_char(text: &str, at: usize) -> usize
 #[inline]
 pub fn chars_end(text: &str, at: usize) -> usize
     requires { IsCharBoundary text.now at }
-    ensures end { result ≡ run_end is_char text.now at }
-    ensures onward { at ≤ result }
-    ensures cut { IsCharBoundary text.now result }
+    ensures { Finds text.now at result (run_end is_char text.now at) }
 {
     let bytes = text.as_bytes();
     let mut end = skip_set::<CharByte>(text, at);

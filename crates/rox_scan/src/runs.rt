@@ -4,6 +4,7 @@ ghost use Rattle.std.specs.Char.{len_utf8};
 ghost use Rattle.std.specs.Str.{IsCharBoundary, chars};
 ghost use Rattle.rox_grammar.specs.Chars as spec;
 ghost use Rattle.rox_grammar.specs.Runs.{run_end, begins, StandsAt};
+ghost use Rattle.rox_scan.specs.ScanResults.{Finds};
 
 use crate::chars;
 
@@ -108,9 +109,7 @@ pub(crate) fn char_at(text: &str, at: usize) -> char
 #[tactic(auto, using(crate::proofs::RunLemmas::run_steps))]
 pub fn run_end<C: Class>(text: &str, at: usize) -> usize
     requires { IsCharBoundary text.now at }
-    ensures end { result ≡ run_end C.test text.now at }
-    ensures onward { at ≤ result }
-    ensures cut { IsCharBoundary text.now result }
+    ensures { Finds text.now at result (run_end C.test text.now at) }
 {
     let bytes = text.as_bytes();
     let mut i = at;
@@ -137,9 +136,7 @@ pub fn run_end<C: Class>(text: &str, at: usize) -> usize
 #[tactic(auto, using(crate::proofs::RunLemmas::space_steps))]
 pub fn space_end(text: &str, at: usize) -> usize
     requires { IsCharBoundary text.now at }
-    ensures end { result ≡ run_end spec.is_space text.now at }
-    ensures onward { at ≤ result }
-    ensures cut { IsCharBoundary text.now result }
+    ensures { Finds text.now at result (run_end spec.is_space text.now at) }
 {
     let bytes = text.as_bytes();
     let mut end = at;

@@ -4,6 +4,7 @@ ghost use Rattle.std.specs.List.{position_or_len};
 ghost use Rattle.std.specs.Str.{IsCharBoundary};
 ghost use Rattle.rox_grammar.specs.Search as spec;
 ghost use Rattle.rox_grammar.specs.Constructs.{has_mark};
+ghost use Rattle.rox_scan.specs.ScanResults.{Finds};
 
 use memchr::{memchr, memchr2, memmem};
 
@@ -26,10 +27,7 @@ fn next_byte(bytes: &[u8], at: usize, byte: u8) -> usize
 #[inline]
 pub fn before_mark(bytes: &[u8], mark: &[u8]) -> usize
     requires { 0 < length mark.now }
-    ensures value { result ≡ spec.before_mark mark.now bytes.now }
-    ensures within { result ≤ length bytes.now }
-    ensures found { result < length bytes.now
-        → slice_index bytes.now result ≡ slice_index mark.now 0 }
+    ensures { result ≡ spec.before_mark mark.now bytes.now }
 {
     let mut at = 0;
     while at < bytes.len() {
@@ -95,9 +93,7 @@ pub fn mark_from(text: &str, at: usize, mark: &[u8]) -> usize
     requires cut { IsCharBoundary text.now at }
     requires some { 0 < length mark.now }
     requires ascii { slice_index mark.now 0 < 128 }
-    ensures place { result ≡ spec.mark_from mark.now text.now at }
-    ensures onward { at ≤ result }
-    ensures cut { IsCharBoundary text.now result }
+    ensures { Finds text.now at result (spec.mark_from mark.now text.now at) }
 {
     at + before_found(text[at..].as_bytes(), mark)
 }
@@ -108,9 +104,7 @@ pub fn mark_from(text: &str, at: usize, mark: &[u8]) -> usize
 pub fn byte_from(text: &str, at: usize, byte: u8) -> usize
     requires cut { IsCharBoundary text.now at }
     requires ascii { byte < 128 }
-    ensures place { result ≡ spec.byte_from (λ c. c == byte) text.now at }
-    ensures onward { at ≤ result }
-    ensures cut { IsCharBoundary text.now result }
+    ensures finds { Finds text.now at result (spec.byte_from (λ c. c == byte) text.now at) }
     ensures after { result < length text.now → IsCharBoundary text.now (result + 1) }
 {
     at + before_byte(text[at..].as_bytes(), byte)
@@ -123,9 +117,8 @@ pub fn either_from(text: &str, at: usize, one: u8, other: u8) -> usize
     requires cut { IsCharBoundary text.now at }
     requires one { one < 128 }
     requires other { other < 128 }
-    ensures place { result ≡ spec.byte_from (λ c. c == one || c == other) text.now at }
-    ensures onward { at ≤ result }
-    ensures cut { IsCharBoundary text.now result }
+    ensures { Finds text.now at result
+        (spec.byte_from (λ c. c == one || c == other) text.now at) }
 {
     at + before_either(text[at..].as_bytes(), one, other)
 }

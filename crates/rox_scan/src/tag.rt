@@ -7,7 +7,7 @@ ghost use Rattle.rox_grammar.specs.Content.{is_verbatim_value};
 ghost use Rattle.rox_grammar.specs.declared.fault.Word.TheVariants as word;
 ghost use Rattle.rox_reading.specs.Markup as spec;
 ghost use Rattle.rox_scan.specs.ScanResults.{Steps};
-ghost use Rattle.rox_scan.specs.Views.{HasValue, TagItemHasValue, attribute_view, end_tag_view, tag_item_view};
+ghost use Rattle.rox_scan.specs.Views.{HasValue, PassesValue, TagItemHasValue, attribute_view, end_tag_view, tag_item_view};
 
 use crate::byte_set::{ValueByte, skip_set};
 use crate::cursor::Cursor;
@@ -73,8 +73,7 @@ impl<'input> Cursor<'input> {
     #[inline]
     #[tactic(auto, using(crate::proofs::NearLemmas::near_plain, crate::proofs::NearLemmas::value_cut))]
     fn raw_value(&mut self, quote: u8) -> Result<RawValue<'input>, Fault>
-        requires ascii { quote < 128 }
-        requires quote { (quote == 39 || quote == 34) ≡ true }
+        requires { (quote == 39 || quote == 34) ≡ true }
         ensures read { Steps (λ x. x.text.now) self.old self.new result (spec.raw_value_at quote) }
         ensures text { IfOk result
             (λ x. x.text.now ≡ slice_range self.old.text.now self.old.pos self.new.pos) }
@@ -100,14 +99,8 @@ impl<'input> Cursor<'input> {
     /// space but spaces.
     #[inline(never)]
     fn value_by_characters(&mut self, quote: u8) -> Result<bool, Fault>
-        requires ascii { quote < 128 }
-        requires quote { (quote == 39 || quote == 34) ≡ true }
-        ensures read { Steps
-            (λ _. slice_range self.old.text.now self.old.pos self.new.pos) self.old self.new result
-            (spec.raw_value_at quote) }
-        ensures verbatim { IfOk result
-            (λ verbatim. verbatim
-            ≡ is_verbatim_value (slice_range self.old.text.now self.old.pos self.new.pos)) }
+        requires { (quote == 39 || quote == 34) ≡ true }
+        ensures { PassesValue quote self.old self.new result }
     {
         let look = scan_value(self.text, self.pos, quote);
         if is_at(self.text, look.end, quote) {
@@ -121,13 +114,8 @@ impl<'input> Cursor<'input> {
     #[inline(never)]
     #[tactic(auto, unfolding(rox_reading::specs::Markup::raw_value_at))]
     fn slow_value(&mut self, quote: u8) -> Result<bool, Fault>
-        requires ascii { quote < 128 }
-        ensures read { Steps
-            (λ _. slice_range self.old.text.now self.old.pos self.new.pos) self.old self.new result
-            (spec.raw_value_at quote) }
-        ensures verbatim { IfOk result
-            (λ verbatim. verbatim
-            ≡ is_verbatim_value (slice_range self.old.text.now self.old.pos self.new.pos)) }
+        requires { (quote == 39 || quote == 34) ≡ true }
+        ensures { PassesValue quote self.old self.new result }
     {
         let end = either_from(self.text, self.pos, quote, b'<');
         if end >= self.text.len() {

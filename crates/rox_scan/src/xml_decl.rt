@@ -19,8 +19,7 @@ impl<'input> Cursor<'input> {
     /// A value of the XML declaration, up to the quote or a `<`: at one look where the quote stands behind plain bytes.
     #[inline(always)]
     fn value(&mut self, quote: u8) -> Result<&'input str, Fault>
-        requires ascii { quote < 128 }
-        requires quote { (quote == 39 || quote == 34) ≡ true }
+        requires { (quote == 39 || quote == 34) ≡ true }
         ensures { Steps (λ x. x.now) self.old self.new result (up_to_quote quote) }
     {
         let start = self.pos;

@@ -1,5 +1,5 @@
 -- How the code's texts and references stand to what is read.
-use Rattle.std.specs.Prelude.{◌≡◌, ℕ, Bool, true, false, not, ◌==◌, ◌||◌, List, ◌++◌, Option, Some, None, Result, Ok, Err, drop, slice_range, if◌then◌else◌}
+use Rattle.std.specs.Prelude.{◌≡◌, ℕ, Bool, true, false, not, ◌==◌, ◌||◌, List, ◌++◌, Option, Some, None, Result, Ok, Err, IfOk, drop, slice_range, if◌then◌else◌}
 use Rattle.std.specs.List.{list_any}
 use Rattle.rox_grammar.specs.declared.fault.Fault.{Fault}
 use Rattle.rox_grammar.specs.Content.{literals, line_ends}
@@ -11,6 +11,10 @@ use Rattle.rox_grammar.specs.Failures.{Fails}
 use Rattle.rox_scan.specs.declared.cursor.Cursor.{Cursor}
 use Rattle.rox_grammar.specs.declared.failure.Failure.{Failure}
 use Rattle.rox_scan.specs.DoctypeViews.{replacement_view}
+use Rattle.rox_scan.specs.ScanResults.{Steps}
+use Rattle.rox_grammar.specs.Entities.{Entity}
+use Rattle.rox_values.specs.DeclaredEntities.{AreDeclared}
+use Rattle.rox_values.specs.declared.entities.Entities.{Entities}
 use Rattle.rox_values.specs.Refusals.{IsRefusal}
 use Rattle.rox_values.specs.declared.parse_error.ParseError.{ParseError}
 use Rattle.rox_values.specs.declared.reference.Reference.{Reference}
@@ -34,6 +38,11 @@ reference_view (reference.Entity span name) = reading.entity_at span
 abbrev pub HasItsName : List ℕ → Reference → Type 0
 HasItsName src (reference.Character c) = Unit {0}
 HasItsName src (reference.Entity span name) = name.now ≡ slice_range src span.start span.end
+
+-- a reference is read
+pub record ReadsReference (old new : Cursor) (result : Result Reference Fault) (wanted : List ℕ → ℕ → Read reading.Reference) : Type 0 where
+  pub read : Steps reference_view old new result wanted
+  pub name : IfOk result (HasItsName old.text.now)
 
 -- a text, with what the buffer holds where it had to be changed
 abbrev pub piece_view : TextValue → List ℕ → reading.ReadText
@@ -62,6 +71,16 @@ abbrev pub AppendsBit : List ℕ → List ℕ → Cursor → Result (Option Curs
 AppendsBit old new after (Ok None) read = behind old read ≡ Ok (reading.bytes_of new, after.pos)
 AppendsBit old new after (Ok (Some text)) read = (read ≡ Ok (reading.opens (replacement_view text), after.pos)) × (new ≡ old)
 AppendsBit old new after (Err e) read = Fails e read
+
+-- what is read from where the cursor stood was appended, as `Appends` says, and the source stays
+pub record AppendsFrom (old new : List ℕ) (before after : Cursor) (result : Result (Unit {0}) Failure) (read : List Entity → List ℕ → ℕ → Read reading.Bit) : Type 0 where
+  pub value : (es : List Entity) → Appends old new after result (read es before.text.now before.pos)
+  pub source : after.text ≡ before.text
+
+-- the same as `AppendsBit` says, of the entities that are declared
+pub record AppendsBitFrom (entities : Entities) (old new : List ℕ) (before after : Cursor) (result : Result (Option Cursor) Failure) (read : List Entity → List ℕ → ℕ → Read reading.Bit) : Type 0 where
+  pub value : (es : List Entity) → AreDeclared es entities → AppendsBit old new after result (read es before.text.now before.pos)
+  pub source : after.text ≡ before.text
 
 -- a character was appended, or gave this fault
 abbrev pub AppendsCharacter : List ℕ → List ℕ → Result (Unit {0}) Failure → Result reading.Bit Fault → Type 0

@@ -8,12 +8,13 @@ ghost use Rattle.std.specs.Str.{IsCharBoundary};
 ghost use Rattle.rox_grammar.specs.Search.{byte_from};
 ghost use Rattle.rox_reading.specs.Values as spec;
 ghost use Rattle.rox_scan.specs.Views.{HasValue};
+ghost use Rattle.rox_scan.specs.ScanResults.{Finds};
 ghost use Rattle.rox_grammar.specs.Entities.{Entity};
 ghost use Rattle.rox_grammar.specs.declared.fault.Fault.{Fault};
 ghost use Rattle.rox_reading.specs.Machine.{value_opener};
 ghost use Rattle.rox_scan.specs.DoctypeViews.{replacement_view};
 ghost use Rattle.rox_values.specs.DeclaredEntities.{AreDeclared};
-ghost use Rattle.rox_values.specs.Values.{Appends, AppendsBit, AppendsCharacter, AppendsValue, GivesValue, ends_stretch, is_inner_byte, piece_view};
+ghost use Rattle.rox_values.specs.Values.{Appends, AppendsFrom, AppendsBitFrom, AppendsCharacter, AppendsValue, GivesValue, ends_stretch, is_inner_byte, piece_view};
 
 use crate::context::Context;
 use crate::parse_error::ParseError;
@@ -31,12 +32,9 @@ use std::simd::prelude::*;
 
 /// The first place from `at` on of a special byte of a value, or the end.
 #[inline(always)]
-#[tactic(auto, using(rox_scan::proofs::NearLemmas::stretch_cut))]
 fn special_from(text: &str, at: usize) -> usize
     requires { IsCharBoundary text.now at }
-    ensures place { result ≡ byte_from spec.is_special text.now at }
-    ensures onward { at ≤ result }
-    ensures cut { IsCharBoundary text.now result }
+    ensures { Finds text.now at result (byte_from spec.is_special text.now at) }
 {
     skip_set::<StretchByte>(text, at)
 }
@@ -99,10 +97,9 @@ fn expand_in_value<'input>(
     out: &mut String,
 ) -> Result<Option<Cursor<'input>>, Failure>
     requires { slice_index cursor.old.text.now cursor.old.pos ≡ 38 }
-    ensures value { (es : List Entity) → AreDeclared es context.entry.entities.now
-        → AppendsBit (string_bytes out.old) (string_bytes out.new) cursor.new result
-        (spec.value_reference_at context.entry.main es cursor.old.text.now cursor.old.pos) }
-    ensures source { cursor.new.text ≡ cursor.old.text }
+    ensures { AppendsBitFrom context.entry.entities.now (string_bytes out.old)
+        (string_bytes out.new) cursor.old cursor.new result
+        (λ es src at. spec.value_reference_at context.entry.main es src at) }
 {
     let start = cursor.pos;
     match read_reference(cursor)? {
@@ -144,12 +141,9 @@ impl ByteSet for InnerByte {
 
 /// The first place from `at` on of a special byte of a value or a `<`, or the end.
 #[inline(always)]
-#[tactic(auto, using(crate::proofs::InnerBytes::inner_cut))]
 fn stretch_end(text: &str, at: usize) -> usize
     requires { IsCharBoundary text.now at }
-    ensures place { result ≡ byte_from ends_stretch text.now at }
-    ensures onward { at ≤ result }
-    ensures cut { IsCharBoundary text.now result }
+    ensures { Finds text.now at result (byte_from ends_stretch text.now at) }
 {
     skip_set::<InnerByte>(text, at)
 }
@@ -162,10 +156,8 @@ fn inner_stretch(cursor: &mut Cursor<'_>, stop: usize, out: &mut String) -> Resu
     requires before { cursor.old.pos < stop }
     requires cut { IsCharBoundary cursor.old.text.now stop }
     requires plain { spec.is_special (slice_index cursor.old.text.now cursor.old.pos) ≡ false }
-    ensures value { (es : List Entity)
-        → Appends (string_bytes out.old) (string_bytes out.new) cursor.new result
-        (spec.value_bit_at false es cursor.old.text.now stop cursor.old.pos) }
-    ensures source { cursor.new.text ≡ cursor.old.text }
+    ensures { AppendsFrom (string_bytes out.old) (string_bytes out.new) cursor.old cursor.new result
+        (λ es src at. spec.value_bit_at false es src stop at) }
 {
     let text = cursor.text;
     let end = stretch_end(&text[..stop], cursor.pos);
@@ -183,10 +175,8 @@ fn main_stretch(cursor: &mut Cursor<'_>, stop: usize, out: &mut String) -> Resul
     requires before { cursor.old.pos < stop }
     requires cut { IsCharBoundary cursor.old.text.now stop }
     requires plain { spec.is_special (slice_index cursor.old.text.now cursor.old.pos) ≡ false }
-    ensures value { (es : List Entity)
-        → Appends (string_bytes out.old) (string_bytes out.new) cursor.new result
-        (spec.value_bit_at true es cursor.old.text.now stop cursor.old.pos) }
-    ensures source { cursor.new.text ≡ cursor.old.text }
+    ensures { AppendsFrom (string_bytes out.old) (string_bytes out.new) cursor.old cursor.new result
+        (λ es src at. spec.value_bit_at true es src stop at) }
 {
     let start = cursor.pos;
     let text = cursor.text;
@@ -208,10 +198,9 @@ fn value_bit<'input>(
 ) -> Result<Option<Cursor<'input>>, Failure>
     requires before { cursor.old.pos < stop }
     requires cut { IsCharBoundary cursor.old.text.now stop }
-    ensures value { (es : List Entity) → AreDeclared es context.entry.entities.now
-        → AppendsBit (string_bytes out.old) (string_bytes out.new) cursor.new result
-        (spec.value_bit_at context.entry.main es cursor.old.text.now stop cursor.old.pos) }
-    ensures source { cursor.new.text ≡ cursor.old.text }
+    ensures { AppendsBitFrom context.entry.entities.now (string_bytes out.old)
+        (string_bytes out.new) cursor.old cursor.new result
+        (λ es src at. spec.value_bit_at context.entry.main es src stop at) }
 {
     let here = cursor.text.as_bytes()[cursor.pos];
     if here == b'&' {

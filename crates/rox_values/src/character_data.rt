@@ -5,9 +5,10 @@ ghost use Rattle.rox_grammar.specs.Search.{byte_from};
 ghost use Rattle.std.specs.String.{string_bytes};
 ghost use Rattle.std.specs.Str.{IsCharBoundary};
 ghost use Rattle.rox_reading.specs.Values as spec;
+ghost use Rattle.rox_scan.specs.ScanResults.{Finds};
 ghost use Rattle.rox_grammar.specs.Entities.{Entity};
 ghost use Rattle.rox_values.specs.DeclaredEntities.{AreDeclared};
-ghost use Rattle.rox_values.specs.Values.{Appends, AppendsBit, AppendsPart};
+ghost use Rattle.rox_values.specs.Values.{AppendsFrom, AppendsBitFrom, AppendsPart};
 
 use crate::context::Context;
 use crate::line_ends::line_end;
@@ -27,10 +28,9 @@ fn expand<'input>(
     out: &mut String,
 ) -> Result<Option<Cursor<'input>>, Failure>
     requires { slice_index cursor.old.text.now cursor.old.pos ≡ 38 }
-    ensures value { (es : List Entity) → AreDeclared es context.entry.entities.now
-        → AppendsBit (string_bytes out.old) (string_bytes out.new) cursor.new result
-        (spec.expansion_at es cursor.old.text.now cursor.old.pos) }
-    ensures source { cursor.new.text ≡ cursor.old.text }
+    ensures { AppendsBitFrom context.entry.entities.now (string_bytes out.old)
+        (string_bytes out.new) cursor.old cursor.new result
+        (λ es src at. spec.expansion_at es src at) }
 {
     let start = cursor.pos;
     match read_reference(cursor)? {
@@ -47,12 +47,9 @@ fn expand<'input>(
 
 /// The first place from `at` on of a `&` or a CR, or the end.
 #[inline(always)]
-#[tactic(auto, using(rox_scan::proofs::NearLemmas::part_ends_cut))]
 fn change_from(text: &str, at: usize) -> usize
     requires { IsCharBoundary text.now at }
-    ensures place { result ≡ byte_from (λ c. c == 38 || c == 13) text.now at }
-    ensures onward { at ≤ result }
-    ensures cut { IsCharBoundary text.now result }
+    ensures { Finds text.now at result (byte_from (λ c. c == 38 || c == 13) text.now at) }
 {
     skip_set::<RunByte>(text, at)
 }
@@ -64,10 +61,8 @@ fn main_data(cursor: &mut Cursor<'_>, stop: usize, out: &mut String) -> Result<(
     requires cut { IsCharBoundary cursor.old.text.now stop }
     requires no_reference { slice_index cursor.old.text.now cursor.old.pos ≢ 38 }
     requires no_line_end { slice_index cursor.old.text.now cursor.old.pos ≢ 13 }
-    ensures value { (es : List Entity)
-        → Appends (string_bytes out.old) (string_bytes out.new) cursor.new result
-        (spec.data_bit_at true es cursor.old.text.now stop cursor.old.pos) }
-    ensures source { cursor.new.text ≡ cursor.old.text }
+    ensures { AppendsFrom (string_bytes out.old) (string_bytes out.new) cursor.old cursor.new result
+        (λ es src at. spec.data_bit_at true es src stop at) }
 {
     let start = cursor.pos;
     let text = cursor.text;
@@ -83,10 +78,8 @@ fn inner_data(cursor: &mut Cursor<'_>, stop: usize, out: &mut String) -> Result<
     requires before { cursor.old.pos < stop }
     requires cut { IsCharBoundary cursor.old.text.now stop }
     requires no_reference { slice_index cursor.old.text.now cursor.old.pos ≢ 38 }
-    ensures value { (es : List Entity)
-        → Appends (string_bytes out.old) (string_bytes out.new) cursor.new result
-        (spec.data_bit_at false es cursor.old.text.now stop cursor.old.pos) }
-    ensures source { cursor.new.text ≡ cursor.old.text }
+    ensures { AppendsFrom (string_bytes out.old) (string_bytes out.new) cursor.old cursor.new result
+        (λ es src at. spec.data_bit_at false es src stop at) }
 {
     let start = cursor.pos;
     let text = cursor.text;
@@ -107,10 +100,9 @@ fn data_bit<'input>(
 ) -> Result<Option<Cursor<'input>>, Failure>
     requires before { cursor.old.pos < stop }
     requires cut { IsCharBoundary cursor.old.text.now stop }
-    ensures value { (es : List Entity) → AreDeclared es context.entry.entities.now
-        → AppendsBit (string_bytes out.old) (string_bytes out.new) cursor.new result
-        (spec.data_bit_at context.entry.main es cursor.old.text.now stop cursor.old.pos) }
-    ensures source { cursor.new.text ≡ cursor.old.text }
+    ensures { AppendsBitFrom context.entry.entities.now (string_bytes out.old)
+        (string_bytes out.new) cursor.old cursor.new result
+        (λ es src at. spec.data_bit_at context.entry.main es src stop at) }
 {
     let here = cursor.text.as_bytes()[cursor.pos];
     if here == b'&' {

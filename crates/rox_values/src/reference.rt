@@ -7,9 +7,9 @@ ghost use Rattle.rox_grammar.specs.Entities.{Entity, text_of};
 ghost use Rattle.rox_grammar.specs.References as spec;
 ghost use Rattle.rox_grammar.specs.Runs as grammar;
 ghost use Rattle.rox_reading.specs.Values as reading;
-ghost use Rattle.rox_scan.specs.ScanResults.{Steps};
+ghost use Rattle.rox_scan.specs.ScanResults.{Finds};
 ghost use Rattle.rox_values.specs.DeclaredEntities.{AreDeclared};
-ghost use Rattle.rox_values.specs.Values.{FindsEntity, HasItsName, base_of, is_digit_of, reference_view};
+ghost use Rattle.rox_values.specs.Values.{FindsEntity, ReadsReference, base_of, is_digit_of};
 
 use crate::context::Context;
 use rox_grammar::fault::{Fault, Span};
@@ -112,10 +112,8 @@ fn number<'input>(
 ) -> Result<Reference<'input>, Fault>
     requires onward { cursor.old.pos ≤ digits }
     requires within { digits ≤ length cursor.old.text.now }
-    ensures read { Steps reference_view cursor.old cursor.new result
-        (λ src at. reading.number_at (base_of hexadecimal)
-        (is_digit_of hexadecimal) src at digits) }
-    ensures name { IfOk result (HasItsName cursor.old.text.now) }
+    ensures { ReadsReference cursor.old cursor.new result (λ src at. reading.number_at
+        (base_of hexadecimal) (is_digit_of hexadecimal) src at digits) }
 {
     let start = cursor.pos;
     let text = cursor.text;
@@ -150,9 +148,7 @@ fn predefined(name: &str) -> Option<char>
 #[inline(always)]
 fn name_end(text: &str, at: usize) -> usize
     requires { IsCharBoundary text.now at }
-    ensures end { result ≡ grammar.run_end is_name_char text.now at }
-    ensures onward { at ≤ result }
-    ensures cut { IsCharBoundary text.now result }
+    ensures { Finds text.now at result (grammar.run_end is_name_char text.now at) }
 {
     run_end::<NameChar>(text, skip_set::<PartByte>(text, at))
 }
@@ -162,8 +158,7 @@ fn name_end(text: &str, at: usize) -> usize
 #[tactic(auto, unfolding(rox_reading::specs::Values::name_reference_at))]
 fn name_reference<'input>(cursor: &mut Cursor<'input>) -> Result<Reference<'input>, Fault>
     requires { slice_index cursor.old.text.now cursor.old.pos ≡ 38 }
-    ensures read { Steps reference_view cursor.old cursor.new result reading.name_reference_at }
-    ensures name { IfOk result (HasItsName cursor.old.text.now) }
+    ensures { ReadsReference cursor.old cursor.new result reading.name_reference_at }
 {
     let reference = cursor.pos;
     let text = cursor.text;
@@ -188,8 +183,7 @@ fn name_reference<'input>(cursor: &mut Cursor<'input>) -> Result<Reference<'inpu
 #[tactic(auto, unfolding(rox_reading::specs::Values::reference_at))]
 pub fn read_reference<'input>(cursor: &mut Cursor<'input>) -> Result<Reference<'input>, Fault>
     requires { slice_index cursor.old.text.now cursor.old.pos ≡ 38 }
-    ensures read { Steps reference_view cursor.old cursor.new result reading.reference_at }
-    ensures name { IfOk result (HasItsName cursor.old.text.now) }
+    ensures { ReadsReference cursor.old cursor.new result reading.reference_at }
 {
     let start = cursor.pos;
     let text = cursor.text;

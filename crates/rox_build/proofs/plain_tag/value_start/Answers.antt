@@ -16,9 +16,9 @@ returns c = λ _.
     record {
       equals = e.result;
       before = b.result;
-      spaces = e.ensures.end;
+      spaces = e.ensures.place;
       is = eqb-true _ _ (sym c.is_at.ensures ∙ c.if-not-is_at.false);
-      spaces_behind = b.ensures.end ∙ ap (spaces_end src) place;
+      spaces_behind = b.ensures.place ∙ ap (spaces_end src) place;
       quote = ap (λ n. n == 39 || n == 34) quoted.0 ∙ quoted.1;
       start = c.after_byte-2.ensures.place;
       within = c.quote_here-quote.ensures.within some;

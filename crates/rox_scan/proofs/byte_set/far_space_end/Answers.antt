@@ -1,12 +1,11 @@
 use Rattle.rox_scan.proofs.NearLemmas.{spaces_end_there, spaces_cut}
 use Rattle.rox_scan.proofs.byte_set.far_space_end.Goals as goal
 
-pub returns-clause-end : goal.returns-clause-end
-returns-clause-end c =
+pub returns : goal.returns
+returns c =
     let set = c.skip_set.ensures in
-    spaces_end_there c.args.text.now c.args.at _ c.utf8.text c.requires set.onward set.within set.passes set.stops
-
-pub returns-clause-cut : goal.returns-clause-cut
-returns-clause-cut c =
-    let set = c.skip_set.ensures in
-    spaces_cut c.args.text.now c.args.at _ c.utf8.text c.requires set.onward set.within set.passes
+    record {
+      place = spaces_end_there c.args.text.now c.args.at _ c.utf8.text c.requires set.onward set.within set.passes set.stops;
+      onward = set.onward;
+      cut = spaces_cut c.args.text.now c.args.at _ c.utf8.text c.requires set.onward set.within set.passes;
+    }

@@ -1,26 +1,26 @@
 use Rattle.std.proofs.Common.{◌≡◌, ℕ, List, true, ◌<◌, slice_index, ap, sym, ◌∙◌, arith}
 use Rattle.std.proofs.lemmas.Str.{IsCharBoundary-after_ascii}
 use Rattle.rox_grammar.specs.Chars.{is_char}
-use Rattle.rox_scan.proofs.CharLemmas.{no_chars, one_char, ascii_char, wide_bytes}
+use Rattle.rox_scan.proofs.CharLemmas.{no_step, one_char, ascii_char, wide_bytes}
 use Rattle.rox_scan.proofs.RunLemmas.{begins_at, begins_ascii}
 use Rattle.rox_scan.proofs.lookahead.after_char.Goals as goal
 
-pub returns-then-has_byte-clause-cut : goal.returns-then-has_byte-clause-cut
-returns-then-has_byte-clause-cut c =
-    let read = ap (λ (l : List ℕ). slice_index l c.args.at) c.as_bytes.ensures.value in
-    IsCharBoundary-after_ascii c.args.text.now c.args.at c.utf8.text c.requires.within (omega (arith, c.if-here-lt128.true, read))
-
-pub returns-then-has_byte-clause-chars : goal.returns-then-has_byte-clause-chars
-returns-then-has_byte-clause-chars c =
+pub returns-then-has_byte-clause-step : goal.returns-then-has_byte-clause-step
+returns-then-has_byte-clause-step c =
     let src = c.args.text.now in
     let i = c.args.at in
     let read = ap (λ (l : List ℕ). slice_index l i) c.as_bytes.ensures.value in
     let ascii : slice_index src i < 128 = omega (arith, c.if-here-lt128.true, read) in
     let passes : is_char (slice_index src i) ≡ true = ap is_char (sym read) ∙ sym c.has_byte.ensures ∙ c.if-has_byte.true in
-    ascii_char src i c.utf8.text c.requires.within ascii passes
+    record {
+      onward = omega arith;
+      chars = ascii_char src i c.utf8.text c.requires.within ascii passes;
+      cut = IsCharBoundary-after_ascii src i c.utf8.text c.requires.within ascii;
+      wide = λ k more below. absurd (omega (arith, more, below));
+    }
 
-pub returns-else-has_byte-clause-chars : goal.returns-else-has_byte-clause-chars
-returns-else-has_byte-clause-chars c = no_chars c.args.text.now c.args.at c.utf8.text c.requires.cut
+pub returns-else-has_byte-clause-step : goal.returns-else-has_byte-clause-step
+returns-else-has_byte-clause-step c = no_step c.args.text.now c.args.at c.utf8.text c.requires.cut
 
 pub returns-else-has_byte-clause-stops : goal.returns-else-has_byte-clause-stops
 returns-else-has_byte-clause-stops c = λ same.
@@ -30,17 +30,18 @@ returns-else-has_byte-clause-stops c = λ same.
     let ascii : slice_index src i < 128 = omega (arith, c.if-here-lt128.true, read) in
     begins_ascii is_char src i c.utf8.text c.requires.within ascii ∙ ap is_char (sym read) ∙ sym c.has_byte.ensures ∙ c.if-has_byte.false
 
-pub returns-then-has-clause-chars : goal.returns-then-has-clause-chars
-returns-then-has-clause-chars c =
+pub returns-then-has-clause-step : goal.returns-then-has-clause-step
+returns-then-has-clause-step c =
     let s = c.char_at-c.ensures in
-    rw c.len_utf8.ensures.value (one_char c.args.text.now c.args.at c.char_at-c.result c.utf8.text c.requires.cut s.stands s.cut (sym c.has.ensures ∙ c.if-has.true))
+    rw c.len_utf8.ensures.value (record {
+      onward = omega arith;
+      chars = one_char c.args.text.now c.args.at c.char_at-c.result c.utf8.text c.requires.cut s.stands s.cut (sym c.has.ensures ∙ c.if-has.true);
+      cut = s.cut;
+      wide = wide_bytes c.args.text.now c.args.at c.char_at-c.result s.stands;
+    })
 
-pub returns-then-has-clause-wide : goal.returns-then-has-clause-wide
-returns-then-has-clause-wide c = λ k more below.
-    wide_bytes c.args.text.now c.args.at c.char_at-c.result c.char_at-c.ensures.stands k more (omega (arith, c.len_utf8.ensures.value))
-
-pub returns-else-has-clause-chars : goal.returns-else-has-clause-chars
-returns-else-has-clause-chars c = no_chars c.args.text.now c.args.at c.utf8.text c.requires.cut
+pub returns-else-has-clause-step : goal.returns-else-has-clause-step
+returns-else-has-clause-step c = no_step c.args.text.now c.args.at c.utf8.text c.requires.cut
 
 pub returns-else-has-clause-stops : goal.returns-else-has-clause-stops
 returns-else-has-clause-stops c = λ same.

@@ -17,7 +17,7 @@ loop-end-preserved c =
     let src = c.args.text.now in
     let i = c.args.at in
     let f = c.loop-end.invariant in
-    let a = c.after_char-next.ensures in
+    let a = c.after_char-next.ensures.step in
     let n = c.skip_set-end-in-loop-end.ensures in
     let cut = char_cut src _ n.within n.stops in
     let behind = near_chars is_char_byte src _ _ c.utf8.text a.cut n.onward cut n.passes (λ b h. h) in
@@ -28,9 +28,9 @@ loop-end-preserved c =
       chars = chars_joined src i _ _ c.utf8.text c.requires a.cut cut (omega (arith, f.onward, a.onward)) n.onward joined behind;
     }
 
-pub returns-then-next-end-clause-end : goal.returns-then-next-end-clause-end
-returns-then-next-end-clause-end c =
+pub returns-then-next-end : goal.returns-then-next-end
+returns-then-next-end c =
     let src = c.args.text.now in
     let f = c.loop-end.invariant in
     let on = chars_go_on src c.args.at _ c.utf8.text c.requires f.cut f.onward f.chars in
-    sym (run_ends_here is_char src _ (c.after_char-next.ensures.stops c.if-next-end.true)) ∙ on
+    record { place = sym (run_ends_here is_char src _ (c.after_char-next.ensures.stops c.if-next-end.true)) ∙ on; onward = f.onward; cut = f.cut }

@@ -12,7 +12,7 @@ pub loop-end-preserved : goal.loop-end-preserved
 loop-end-preserved c =
     let src = c.args.text.now in
     let j = c.loop-end.end in
-    let a = c.after_char-next.ensures in
+    let a = c.after_char-next.ensures.step in
     let n = c.skip_set-end-in-loop-end.ensures in
     let here : ends_comment src j ≡ false = sym c.is_mark_at.ensures ∙ c.if-is_mark_at.false in
     let some : j < c.after_char-next.result = omega (arith, a.onward, c.if-next-end.false) in

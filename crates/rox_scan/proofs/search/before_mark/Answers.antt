@@ -8,10 +8,10 @@ use Rattle.rox_scan.proofs.search.before_mark.Goals.{After-next_byte-next}
 none_before : (c : After-next_byte-next) → (j : ℕ) → j < c.next_byte-next.result → starts_with ◌==◌ (drop j c.args.bytes.now) c.args.mark.now ≡ false
 none_before c = none_below c.args.mark.now c.args.bytes.now c.loop-at.at c.next_byte-next.result c.requires c.loop-at.invariant.1 c.next_byte-next.ensures.before
 
-pub returns-then-starts_with-clause-value : goal.returns-then-starts_with-clause-value
-returns-then-starts_with-clause-value c =
+pub returns-then-starts_with : goal.returns-then-starts_with
+returns-then-starts_with c =
     let found = rw c.split_at.ensures.back at (sym c.starts_with.ensures.value ∙ c.if-starts_with.true) in
-    sym (before_mark_is c.args.mark.now c.args.bytes.now c.next_byte-next.result (omega arith) (none_before ((goal.at.returns-then-starts_with-clause-value c).After-next_byte-next)) (λ _. found))
+    sym (before_mark_is c.args.mark.now c.args.bytes.now c.next_byte-next.result (omega arith) (none_before ((goal.at.returns-then-starts_with c).After-next_byte-next)) (λ _. found))
 
 pub loop-at-preserved : goal.loop-at-preserved
 loop-at-preserved c =
@@ -19,10 +19,10 @@ loop-at-preserved c =
     let low = none_before ((goal.at.loop-at-preserved c).After-next_byte-next) in
     (omega arith, λ j lt. elim (cases_eq j c.next_byte-next.result) [ inl same ↦ rw same here | inr other ↦ low j (omega arith) ])
 
-pub returns-after-loop-at-clause-value : goal.returns-after-loop-at-clause-value
-returns-after-loop-at-clause-value c =
+pub returns-after-loop-at : goal.returns-after-loop-at
+returns-after-loop-at c =
     sym (before_mark_is c.args.mark.now c.args.bytes.now (length c.args.bytes.now) (omega arith) (λ j lt. c.loop-at.invariant.1 j (omega arith)) (λ more. absurd (omega arith)))
 
-pub returns-then-next-bytes-clause-value : goal.returns-then-next-bytes-clause-value
-returns-then-next-bytes-clause-value c =
-    sym (before_mark_is c.args.mark.now c.args.bytes.now (length c.args.bytes.now) (omega arith) (λ j lt. none_before ((goal.at.returns-then-next-bytes-clause-value c).After-next_byte-next) j (omega arith)) (λ more. absurd (omega arith)))
+pub returns-then-next-bytes : goal.returns-then-next-bytes
+returns-then-next-bytes c =
+    sym (before_mark_is c.args.mark.now c.args.bytes.now (length c.args.bytes.now) (omega arith) (λ j lt. none_before ((goal.at.returns-then-next-bytes c).After-next_byte-next) j (omega arith)) (λ more. absurd (omega arith)))

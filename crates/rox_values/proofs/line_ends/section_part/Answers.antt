@@ -4,4 +4,4 @@ use Rattle.rox_values.proofs.line_ends.section_part.Goals as goal
 
 pub returns-then-as_bytes-at-ne13-clause-moves : goal.returns-then-as_bytes-at-ne13-clause-moves
 returns-then-as_bytes-at-ne13-clause-moves c =
-    stretch_moves c.args.raw.now c.args.at _ c.byte_from-end.ensures.place c.requires.within (λ h. c.if-as_bytes-at-ne13.true (ap (λ t. get_or t c.args.at 0) c.as_bytes.ensures.value ∙ h))
+    stretch_moves c.args.raw.now c.args.at _ c.byte_from-end.ensures.finds.place c.requires.within (λ h. c.if-as_bytes-at-ne13.true (ap (λ t. get_or t c.args.at 0) c.as_bytes.ensures.value ∙ h))

@@ -1,4 +1,4 @@
-use Rattle.std.proofs.Common.{◌∙◌}
+use Rattle.std.proofs.Common.{◌∙◌, arith}
 use Rattle.rox_scan.proofs.NearLemmas.{part_cut}
 use Rattle.rox_values.proofs.NameRuns.{name_goes_on}
 use Rattle.rox_values.proofs.reference.name_end.Goals as goal
@@ -8,7 +8,12 @@ run_end-requires c =
     let near = c.skip_set.ensures in
     part_cut c.args.text.now c.args.at _ c.utf8.text c.requires near.onward near.within near.passes
 
-pub returns-clause-end : goal.returns-clause-end
-returns-clause-end c =
+pub returns : goal.returns
+returns c =
     let near = c.skip_set.ensures in
-    c.run_end.ensures.end ∙ name_goes_on c.args.text.now c.args.at _ c.utf8.text near.onward near.within near.passes
+    let far = c.run_end.ensures in
+    record {
+      place = far.place ∙ name_goes_on c.args.text.now c.args.at _ c.utf8.text near.onward near.within near.passes;
+      onward = omega (arith, near.onward, far.onward);
+      cut = far.cut;
+    }

@@ -7,7 +7,7 @@ returns-then-is_at-clause-read c =
     let s = c.args.self.now in
     let near = c.skip_set-near.ensures in
     record {
-      value = rw c.range.ensures.value (short_value s.text.now s.pos c.skip_set-near.result c.args.quote s.utf8 s.cut c.requires.quote near.onward (value_cut s.text.now _ near.within near.stops) near.passes (sym c.is_at.ensures ∙ c.if-is_at.true));
+      value = rw c.range.ensures.value (short_value s.text.now s.pos c.skip_set-near.result c.args.quote s.utf8 s.cut c.requires near.onward (value_cut s.text.now _ near.within near.stops) near.passes (sym c.is_at.ensures ∙ c.if-is_at.true));
       source = search rules;
       onward = search rules;
     }

@@ -2,10 +2,13 @@ use Rattle.std.proofs.Common.{sym, ◌∙◌, rules}
 use Rattle.rox_scan.proofs.LongerLemmas.{looked_value}
 use Rattle.rox_scan.proofs.cursor.Cursor.value_by_characters.Goals as goal
 
-pub returns-then-is_at-clause-read : goal.returns-then-is_at-clause-read
-returns-then-is_at-clause-read c =
+pub returns-then-is_at : goal.returns-then-is_at
+returns-then-is_at c =
     record {
-      value = looked_value c.args.self.now.text.now c.args.quote c.args.self.now.pos _ _ c.requires.quote c.scan_value-look.ensures.looked (sym c.is_at.ensures ∙ c.if-is_at.true);
-      source = search rules;
-      onward = search rules;
+      read = record {
+        value = looked_value c.args.self.now.text.now c.args.quote c.args.self.now.pos _ _ c.requires c.scan_value-look.ensures.looked (sym c.is_at.ensures ∙ c.if-is_at.true);
+        source = search rules;
+        onward = search rules;
+      };
+      verbatim = c.scan_value-look.ensures.looked.verbatim_is;
     }
