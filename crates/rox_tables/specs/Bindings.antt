@@ -1,5 +1,5 @@
 -- The place that each prefix, or the default, stands for in the innermost of some scopes, and what takes it back to those around it.
-use Rattle.std.specs.Prelude.{◌≡◌, ◌==◌, ◌&&◌, ℕ, ◌≤◌, ◌<◌, Bool, false, List, [], ◌∷◌, ◌++◌, Option, Some, None, length, drop, if◌then◌else◌}
+use Rattle.std.specs.Prelude.{◌≡◌, ◌==◌, ◌&&◌, ℕ, ◌≤◌, ◌<◌, Bool, false, List, [], ◌∷◌, ◌++◌, Option, Some, None, length, map, drop, if◌then◌else◌}
 use Rattle.std.specs.Option.{option_map}
 use Rattle.std.specs.Borrow.{Bor}
 use Rattle.std.specs.BTreeMap.{BTreeMap, get_by}
@@ -7,8 +7,9 @@ use Rattle.std.specs.Cmp.Lexicographic.{slice_cmp}
 use Rattle.std.specs.Ordering.{nat_cmp}
 use Rattle.rox_grammar.specs.Written.{NamespaceDecl}
 use Rattle.rox_grammar.specs.Tree.{same_prefix, uri_of}
-use Rattle.rox_tables.specs.Rows.{namespace_at, scope_at, OptionWithin}
+use Rattle.rox_tables.specs.Rows.{namespace_view, namespace_at, scope_at, OptionWithin}
 use Rattle.rox_tables.specs.Scopes.{prefix_view, entries, others, ArePlaces}
+use Rattle.rox_tables.specs.declared.rows.tables.Namespace.{Namespace}
 use Rattle.rox_tables.specs.declared.namespaces.bindings.Binding.{Binding}
 use Rattle.rox_tables.specs.declared.namespaces.bindings.PrefixBindings.{PrefixBindings}
 use Rattle.rox_tables.specs.declared.namespaces.bindings.ShadowedBinding.{ShadowedBinding}
@@ -77,6 +78,16 @@ LooksWithin n None x = (prefix : Option (List ℕ)) → OptionWithin n (bound_pl
 abbrev pub looked_up : List NamespaceDecl → Option (List ℕ) → PrefixBindings → Option (List ℕ) → Option (List ℕ)
 looked_up namespaces (Some places) x prefix = uri_of (entries namespaces places) prefix
 looked_up namespaces None x prefix = option_map (λ i. (namespace_at namespaces i).uri) (bound_place x prefix)
+
+-- what is found among the places for a prefix, or for the default: the place of the namespace that is listed for it, or none
+abbrev pub FindsPlace : List Namespace → List ℕ → Option (List ℕ) → Option ℕ → Type 0
+FindsPlace table places prefix (Some i) = (i < length table) × (uri_of (entries (map namespace_view table) places) prefix ≡ Some (namespace_at (map namespace_view table) i).uri)
+FindsPlace table places prefix None = uri_of (entries (map namespace_view table) places) prefix ≡ None
+
+-- what is found where that is looked up
+pub record LooksUp (table : List Namespace) (few : Option (List ℕ)) (x : PrefixBindings) (prefix : Option (List ℕ)) (found : Option ℕ) : Type 0 where
+  pub within : OptionWithin (length table) found
+  pub value : option_map (λ i. (namespace_at (map namespace_view table) i).uri) found ≡ looked_up (map namespace_view table) few x prefix
 
 -- it is the one that is listed
 pub record FindsBinding (namespaces : List NamespaceDecl) (few : Option (List ℕ)) (x : PrefixBindings) (listed : List NamespaceDecl) : Type 0 where

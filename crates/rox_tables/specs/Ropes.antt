@@ -1,10 +1,33 @@
 -- What rows of scopes list that were made from others.
-use Rattle.std.specs.Prelude.{◌≡◌, ℕ, ◌<◌, List, ◌++◌, length}
+use Rattle.std.specs.Prelude.{◌≡◌, ℕ, ◌<◌, ◌≤◌, List, ◌++◌, length}
 use Rattle.std.specs.List.{AllByRecursion}
 use Rattle.rox_grammar.specs.Written.{NamespaceDecl}
 use Rattle.rox_tables.specs.Rows.{AreRows, AreScopes, EndsWithin}
 use Rattle.rox_tables.specs.Scopes.{entries, places_in, ArePlaces}
 use Rattle.rox_tables.specs.declared.rows.tables.Scope.{Scope}
+use Rattle.rox_tables.specs.declared.rows.tables.Stretch.{Stretch}
+
+-- a row of these, each of which joins rows before it
+pub record IsRow (table : List Scope) (scope : ℕ) : Type 0 where
+  pub within : scope < length table
+  pub rows : AreRows table
+
+-- the same of rows that list some of these places
+pub record IsScope (listed : List ℕ) (table : List Scope) (scope : ℕ) : Type 0 where
+  pub scopes : AreScopes (length listed) table
+  pub within : scope < length table
+
+-- each of which is that of one of so many namespaces
+pub record IsScopeOf (namespaces : ℕ) (listed : List ℕ) (table : List Scope) (scope : ℕ) : Type 0 where
+  pub places : ArePlaces namespaces listed
+  pub scopes : AreScopes (length listed) table
+  pub within : scope < length table
+
+-- a stretch of what these rows list
+pub record IsStretch (table : List Scope) (stretch : Stretch) : Type 0 where
+  pub rows : AreRows table
+  pub ordered : stretch.from ≤ stretch.until
+  pub ends : (n : ℕ) → AllByRecursion (EndsWithin n) table → stretch.until ≤ n
 
 -- Rows were put behind the others, and the row at this place lists this of any listed places.
 pub record IsRope (old new : List Scope) (scope : ℕ) (list : List ℕ → List ℕ) : Type 0 where

@@ -1,5 +1,6 @@
 -- What the tables hold of the declarations of a start tag, against what is read of it.
-use Rattle.std.specs.Prelude.{◌≡◌, ℕ, ◌≤◌, Bool, List, ◌++◌, length, Result, Ok, Err}
+use Rattle.std.specs.Prelude.{◌≡◌, ℕ, ◌≤◌, Bool, List, ◌++◌, Option, drop, length, map, Result, Ok, Err}
+use Rattle.std.specs.Borrow.{Bor}
 use Rattle.std.specs.List.{list_any}
 use Rattle.rox_grammar.specs.declared.failure.Failure.{Failure}
 use Rattle.rox_grammar.specs.declared.fault.Fault.{Fault}
@@ -8,7 +9,10 @@ use Rattle.rox_grammar.specs.Failures.{Fails, name_view}
 use Rattle.rox_grammar.specs.Tree.{is_xml, listable_of}
 use Rattle.rox_grammar.specs.Written.{Attribute, NamespaceDecl}
 use Rattle.rox_reading.specs.Tags.{TagSoFar}
-use Rattle.rox_tables.specs.Scopes.{entries, ArePlaces}
+use Rattle.rox_tables.specs.Scopes.{entries, ArePlaces, PrefixesOnce}
+use Rattle.rox_tables.specs.PrefixSet.{IsPrefixSet}
+use Rattle.rox_tables.specs.Rows.{namespace_view}
+use Rattle.rox_tables.specs.declared.rows.tables.Namespace.{Namespace}
 use Rattle.rox_tables.specs.Storage.{storage_bytes, is_borrowed}
 use Rattle.rox_tables.specs.declared.namespaces.unresolved_attribute.UnresolvedAttribute.{UnresolvedAttribute}
 
@@ -27,6 +31,14 @@ unresolved_view t = record {
   value = storage_bytes t.value;
   borrowed = is_borrowed t.value;
 }
+
+-- What a tag declares is listed from this place on, each prefix once, and the keys are its prefixes, where these are many.
+pub record HasOwn (table : List Namespace) (listed : List ℕ) (keys : List (Option (Bor (List ℕ)))) (from : ℕ) : Type 0 where
+  pub places : ArePlaces (length table) listed
+  pub own : from ≤ length listed
+  pub few : length table ≤ most_pairs
+  pub prefix_set : IsPrefixSet (map namespace_view table) (drop from listed) keys
+  pub once : PrefixesOnce (entries (map namespace_view table) (drop from listed))
 
 -- The table of pairs, the listed places and the flag for `xml` are those of these declarations, where the table was
 -- `known` and the places `before` when the tag began.

@@ -6,6 +6,7 @@ ghost use Rattle.rox_grammar.specs.Tree.{same_prefix};
 ghost use Rattle.rox_grammar.specs.Written.{NamespaceDecl};
 ghost use Rattle.rox_tables.specs.Rows.{namespace_view, namespace_at, lists_of, scope_at, AreScopes};
 ghost use Rattle.rox_tables.specs.Scopes.{prefix_view, entries, places_in, ArePlaces, others};
+ghost use Rattle.rox_tables.specs.Ropes.{IsScopeOf};
 
 use crate::namespaces::rope::{count, position_at};
 use crate::rows::growth::push;
@@ -287,9 +288,7 @@ impl<'input> PrefixBindings<'input> {
         scopes: &[Scope],
         scope: u32,
     ) -> Result<(), AllocError>
-        requires places { ArePlaces (length namespaces.now) listed.now }
-        requires scopes { AreScopes (length listed.now) scopes.now }
-        requires within { scope < length scopes.now }
+        requires { IsScopeOf (length namespaces.now) listed.now scopes.now scope }
         ensures bound { OnOk result (IsBound (map namespace_view namespaces.now)
             (bound_place self.old) []
             → IsBound (map namespace_view namespaces.now) (bound_place self.new)
@@ -329,9 +328,7 @@ impl<'input> PrefixBindings<'input> {
         scopes: &[Scope],
         scope: u32,
     ) -> Result<(), AllocError>
-        requires places { ArePlaces (length namespaces.now) listed.now }
-        requires scopes { AreScopes (length listed.now) scopes.now }
-        requires within { scope < length scopes.now }
+        requires { IsScopeOf (length namespaces.now) listed.now scopes.now scope }
         ensures value { OnOk result (AreBindingsOf (map namespace_view namespaces.now)
             (lists_of (map namespace_view namespaces.now) listed.now scopes.now) self.old
             → AreBindingsOf (map namespace_view namespaces.now)

@@ -7,12 +7,12 @@ ghost use Rattle.rox_grammar.specs.Document.{most_pairs};
 ghost use Rattle.rox_reading.specs.Tags as spec;
 ghost use Rattle.rox_grammar.specs.Failures.{name_view};
 ghost use Rattle.rox_tables.specs.Rows.{namespace_view, lists_of, AreScopes};
-ghost use Rattle.rox_tables.specs.Scopes.{ArePlaces, PrefixesOnce, entries, prefix_view};
+ghost use Rattle.rox_tables.specs.Scopes.{ArePlaces, entries, prefix_view};
 ghost use Rattle.rox_tables.specs.PrefixSet.{IsPrefixSet};
 ghost use Rattle.rox_tables.specs.Bindings.{AreBindingsOf};
 ghost use Rattle.rox_tables.specs.declared.namespaces.bindings.PrefixBindings.{PrefixBindings};
 ghost use Rattle.rox_tables.specs.declared.rows.tables.Scope.{Scope};
-ghost use Rattle.rox_tables.specs.TagDeclarations.{unresolved_view, declares_xml, Declares, Declared};
+ghost use Rattle.rox_tables.specs.TagDeclarations.{unresolved_view, declares_xml, Declares, Declared, HasOwn};
 ghost use Rattle.rox_grammar.specs.Tree.{is_declared, listable_of};
 ghost use Rattle.rox_reading.specs.Tags.{TagSoFar};
 
@@ -157,27 +157,15 @@ pub fn declare_namespace<'input>(
     xml: bool,
     taken: UnresolvedAttribute<'input>,
 ) -> Result<bool, Failure>
-    requires places { ArePlaces (length namespaces.old.items.items) listed.old.items }
-    requires own { own ≤ length listed.old.items }
-    requires few { length namespaces.old.items.items ≤ most_pairs }
-    requires prefix_set { IsPrefixSet (map namespace_view namespaces.old.items.items)
-        (drop own listed.old.items) prefix_set.old.keys }
-    requires once { PrefixesOnce (entries (map namespace_view namespaces.old.items.items)
-        (drop own listed.old.items)) }
-    ensures places { OnOk result (ArePlaces (length namespaces.new.items.items) listed.new.items) }
-    ensures own { OnOk result (own ≤ length listed.new.items) }
-    ensures few { OnOk result (length namespaces.new.items.items ≤ most_pairs) }
+    requires { HasOwn namespaces.old.items.items listed.old.items prefix_set.old.keys own }
+    ensures own { OnOk result
+        (HasOwn namespaces.new.items.items listed.new.items prefix_set.new.keys own) }
     ensures lists { OnOk result ((scopes : List Scope) → AreScopes own scopes
         → lists_of (map namespace_view namespaces.new.items.items) listed.new.items scopes
         ≡ lists_of (map namespace_view namespaces.old.items.items) listed.old.items scopes) }
     ensures grown { OnOk result ((lists : List (List NamespaceDecl)) (x : PrefixBindings)
         → AreBindingsOf (map namespace_view namespaces.old.items.items) lists x
         → AreBindingsOf (map namespace_view namespaces.new.items.items) lists x) }
-    ensures prefix_set { OnOk result (IsPrefixSet (map namespace_view namespaces.new.items.items)
-        (drop own listed.new.items) prefix_set.new.keys) }
-    ensures once { OnOk result
-        (PrefixesOnce (entries (map namespace_view namespaces.new.items.items)
-        (drop own listed.new.items))) }
     ensures value { (known : List NamespaceDecl) (before : List ℕ) (h : TagSoFar)
         → own ≡ length before
         → Declares known before (map namespace_view namespaces.old.items.items) listed.old.items xml

@@ -449,7 +449,7 @@ pub fn put_changed<'input>(
         value: own.value,
         namespace,
     };
-    attributes.push((item, places)).is_ok()
+    attributes.put((item, places))
 }
 
 /// As `resolve`, of a tag with many attributes: their names are kept in a set, in time n log n.
@@ -480,7 +480,9 @@ fn resolve_many<'input>(
     for turn in 0..taken.len() {
         let namespace = seen_namespace(namespaces, few, present, &mut seen, &taken[turn])?;
         let row = move_row(&mut taken[turn], namespace);
-        attributes.push(row)?;
+        if !attributes.put(row) {
+            return Err(Failure::Memory);
+        }
     }
     Ok(())
 }

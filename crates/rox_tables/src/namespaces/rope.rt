@@ -6,7 +6,7 @@ ghost use Rattle.rox_grammar.specs.Tree.{same_prefix, is_declared};
 ghost use Rattle.std.specs.List.{AllByRecursion};
 ghost use Rattle.rox_tables.specs.Rows.{namespace_view, namespace_at, count_at, AreRows, AreScopes, EndsWithin};
 ghost use Rattle.rox_tables.specs.Scopes.{prefix_view, entries, places_in, ArePlaces};
-ghost use Rattle.rox_tables.specs.Ropes.{AreJoinable, IsRope, Joins};
+ghost use Rattle.rox_tables.specs.Ropes.{AreJoinable, IsRope, IsRow, IsScope, IsScopeOf, IsStretch, Joins};
 
 use crate::namespaces::scope::same_prefix;
 use crate::rows::growth::push;
@@ -25,8 +25,7 @@ const MOST_OF_SCOPE: usize = 65535;
 /// How many a scope lists.
 #[inline]
 pub fn count(scopes: &[Scope], scope: u32) -> usize
-    requires within { scope < length scopes.now }
-    requires rows { AreRows scopes.now }
+    requires { IsRow scopes.now scope }
     ensures value { result ≡ count_at scopes.now scope }
     ensures length { (listed : List ℕ) → AreScopes (length listed) scopes.now
         → result ≡ length (places_in listed scopes.now scope) }
@@ -40,7 +39,7 @@ pub fn count(scopes: &[Scope], scope: u32) -> usize
 
 /// How high a rope is: nothing is stated of it.
 pub fn height(scopes: &[Scope], scope: u32) -> u8
-    requires within { scope < length scopes.now }
+    requires { scope < length scopes.now }
 {
     match scopes[scope as usize] {
         Scope::Concat(both) => both.height,
@@ -50,8 +49,7 @@ pub fn height(scopes: &[Scope], scope: u32) -> u8
 
 /// The lowest listed place of the last leaf: nothing is stated of it.
 fn low(scopes: &[Scope], scope: u32) -> usize
-    requires within { scope < length scopes.now }
-    requires rows { AreRows scopes.now }
+    requires { IsRow scopes.now scope }
 {
     match scopes[scope as usize] {
         Scope::Few(stretch) => stretch.from as usize,
@@ -62,8 +60,7 @@ fn low(scopes: &[Scope], scope: u32) -> usize
 
 /// The position among the listed places of the one at this index of what a scope lists.
 pub fn position_at(scopes: &[Scope], listed: &[u16], scope: u32, index: usize) -> usize
-    requires within { scope < length scopes.now }
-    requires scopes { AreScopes (length listed.now) scopes.now }
+    requires scope { IsScope listed.now scopes.now scope }
     requires index { index < length (places_in listed.now scopes.now scope) }
     ensures within { result < length listed.now }
     ensures value { slice_index listed.now result
@@ -85,8 +82,7 @@ pub fn position_at(scopes: &[Scope], listed: &[u16], scope: u32, index: usize) -
 /// The place at this index of what a scope lists.
 #[inline]
 pub fn place_at(scopes: &[Scope], listed: &[u16], scope: u32, index: usize) -> u16
-    requires within { scope < length scopes.now }
-    requires scopes { AreScopes (length listed.now) scopes.now }
+    requires scope { IsScope listed.now scopes.now scope }
     requires index { index < length (places_in listed.now scopes.now scope) }
     ensures value { result ≡ slice_index (places_in listed.now scopes.now scope) index }
     ensures place { (n : ℕ) → ArePlaces n listed.now → result < n }
@@ -227,9 +223,7 @@ pub fn both(scopes: &mut Vec<Scope>, first: u32, rest: u32) -> Result<u32, Alloc
 
 /// A row of a stretch from its front, but for the one at this index.
 fn without_few(scopes: &mut Vec<Scope>, stretch: Stretch, index: usize) -> Result<u32, AllocError>
-    requires rows { AreRows scopes.old.items }
-    requires ordered { stretch.from ≤ stretch.until }
-    requires ends { (n : ℕ) → AllByRecursion (EndsWithin n) scopes.old.items → stretch.until ≤ n }
+    requires stretch { IsStretch scopes.old.items stretch }
     requires index { index < stretch.until - stretch.from }
     ensures { IfOk result (λ s. IsRope scopes.old.items scopes.new.items s
         (λ listed. take index (slice_range listed stretch.from stretch.until)
@@ -251,9 +245,7 @@ fn without_few(scopes: &mut Vec<Scope>, stretch: Stretch, index: usize) -> Resul
 
 /// The same of a stretch from its back.
 fn without_back(scopes: &mut Vec<Scope>, stretch: Stretch, index: usize) -> Result<u32, AllocError>
-    requires rows { AreRows scopes.old.items }
-    requires ordered { stretch.from ≤ stretch.until }
-    requires ends { (n : ℕ) → AllByRecursion (EndsWithin n) scopes.old.items → stretch.until ≤ n }
+    requires stretch { IsStretch scopes.old.items stretch }
     requires index { index < stretch.until - stretch.from }
     ensures { IfOk result (λ s. IsRope scopes.old.items scopes.new.items s
         (λ listed. take index (reverse (slice_range listed stretch.from stretch.until))
@@ -275,8 +267,7 @@ fn without_back(scopes: &mut Vec<Scope>, stretch: Stretch, index: usize) -> Resu
 
 /// A row of what a scope lists but for the one at this index.
 pub fn without(scopes: &mut Vec<Scope>, scope: u32, index: usize) -> Result<u32, AllocError>
-    requires within { scope < length scopes.old.items }
-    requires rows { AreRows scopes.old.items }
+    requires row { IsRow scopes.old.items scope }
     requires index { index < count_at scopes.old.items scope }
     ensures { IfOk result (λ s. IsRope scopes.old.items scopes.new.items s
         (λ listed. take index (places_in listed scopes.old.items scope)
@@ -299,8 +290,7 @@ pub fn without(scopes: &mut Vec<Scope>, scope: u32, index: usize) -> Result<u32,
 
 /// Where a scope lists the listed place at this position, if positions fall along it: a guess, which the caller is to verify.
 pub fn find(scopes: &[Scope], scope: u32, position: usize) -> Option<usize>
-    requires within { scope < length scopes.now }
-    requires rows { AreRows scopes.now }
+    requires { IsRow scopes.now scope }
     ensures { IfSome result (λ i. i < count_at scopes.now scope) }
 {
     match scopes[scope as usize] {
@@ -339,9 +329,7 @@ fn first_of(
     scope: u32,
     prefix: Option<&str>,
 ) -> Option<usize>
-    requires places { ArePlaces (length namespaces.now) listed.now }
-    requires scopes { AreScopes (length listed.now) scopes.now }
-    requires within { scope < length scopes.now }
+    requires { IsScopeOf (length namespaces.now) listed.now scopes.now scope }
     ensures there { IfSome result (λ i. (i < length (places_in listed.now scopes.now scope))
         × (same_prefix (namespace_at (map namespace_view namespaces.now)
         (slice_index (places_in listed.now scopes.now scope) i)).prefix (prefix_view prefix.entry)
@@ -369,9 +357,7 @@ pub fn index_of(
     prefix: Option<&str>,
     guess: usize,
 ) -> Option<usize>
-    requires places { ArePlaces (length namespaces.now) listed.now }
-    requires scopes { AreScopes (length listed.now) scopes.now }
-    requires within { scope < length scopes.now }
+    requires { IsScopeOf (length namespaces.now) listed.now scopes.now scope }
     ensures there { IfSome result (λ i. (i < length (places_in listed.now scopes.now scope))
         × (same_prefix (namespace_at (map namespace_view namespaces.now)
         (slice_index (places_in listed.now scopes.now scope) i)).prefix (prefix_view prefix.entry)

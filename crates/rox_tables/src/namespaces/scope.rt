@@ -7,7 +7,8 @@ ghost use Rattle.rox_grammar.specs.Tree.{same_prefix, is_declared, uri_of, is_xm
 ghost use Rattle.rox_tables.specs.Rows.{namespace_view, namespace_at, OptionWithin, AreScopes};
 ghost use Rattle.rox_tables.specs.Scopes.{prefix_view, entries, places_in, is_few_at, ArePlaces, others};
 ghost use Rattle.rox_tables.specs.PrefixSet.{IsPrefixSet};
-ghost use Rattle.rox_tables.specs.Bindings.{LooksWithin, looked_up, places_view};
+ghost use Rattle.rox_tables.specs.Ropes.{IsScope};
+ghost use Rattle.rox_tables.specs.Bindings.{FindsPlace, LooksUp, LooksWithin, places_view};
 
 use crate::compare::{LONG, same_short, same_text};
 use crate::namespaces::bindings::PrefixBindings;
@@ -48,12 +49,7 @@ fn is_short_prefix(name: Option<&str>, prefix: &str) -> bool
 /// The first of these places whose namespace has this prefix, or is the default.
 pub fn place_of(namespaces: &[Namespace<'_>], places: &[u16], prefix: Option<&str>) -> Option<u16>
     requires { ArePlaces (length namespaces.now) places.now }
-    ensures there { IfSome result (λ i. (i < length namespaces.now)
-        × (uri_of (entries (map namespace_view namespaces.now) places.now)
-        (prefix_view prefix.entry)
-        ≡ Some (namespace_at (map namespace_view namespaces.now) i).uri)) }
-    ensures absent { IfNone result (uri_of (entries (map namespace_view namespaces.now) places.now)
-        (prefix_view prefix.entry) ≡ None) }
+    ensures { FindsPlace namespaces.now places.now (prefix_view prefix.entry) result }
 {
     for place in places {
         if same_prefix(namespaces[*place as usize].name, prefix) {
@@ -67,11 +63,7 @@ pub fn place_of(namespaces: &[Namespace<'_>], places: &[u16], prefix: Option<&st
 #[inline(always)]
 pub fn default_place(namespaces: &[Namespace<'_>], places: &[u16]) -> Option<u16>
     requires { ArePlaces (length namespaces.now) places.now }
-    ensures there { IfSome result (λ i. (i < length namespaces.now)
-        × (uri_of (entries (map namespace_view namespaces.now) places.now) None
-        ≡ Some (namespace_at (map namespace_view namespaces.now) i).uri)) }
-    ensures absent { IfNone result
-        (uri_of (entries (map namespace_view namespaces.now) places.now) None ≡ None) }
+    ensures { FindsPlace namespaces.now places.now None result }
 {
     for place in places {
         if same_prefix(namespaces[*place as usize].name, None) {
@@ -84,8 +76,7 @@ pub fn default_place(namespaces: &[Namespace<'_>], places: &[u16]) -> Option<u16
 /// The listed places of a scope, where they are few.
 #[inline(always)]
 pub fn few_places<'a>(scopes: &[Scope], listed: &'a [u16], scope: u32) -> Option<&'a [u16]>
-    requires scopes { AreScopes (length listed.now) scopes.now }
-    requires within { scope < length scopes.now }
+    requires { IsScope listed.now scopes.now scope }
     ensures few { IfSome result (λ places. places.now ≡ places_in listed.now scopes.now scope) }
     ensures many { IfNone result (is_few_at scopes.now scope ≡ false) }
 {
@@ -100,11 +91,7 @@ pub fn few_places<'a>(scopes: &[Scope], listed: &'a [u16], scope: u32) -> Option
 #[inline(never)]
 fn place_of_long(namespaces: &[Namespace<'_>], places: &[u16], prefix: &str) -> Option<u16>
     requires { ArePlaces (length namespaces.now) places.now }
-    ensures there { IfSome result (λ i. (i < length namespaces.now)
-        × (uri_of (entries (map namespace_view namespaces.now) places.now) (Some prefix.now)
-        ≡ Some (namespace_at (map namespace_view namespaces.now) i).uri)) }
-    ensures absent { IfNone result (uri_of (entries (map namespace_view namespaces.now) places.now)
-        (Some prefix.now) ≡ None) }
+    ensures { FindsPlace namespaces.now places.now (Some prefix.now) result }
 {
     place_of(namespaces, places, Some(prefix))
 }
@@ -114,11 +101,7 @@ fn place_of_long(namespaces: &[Namespace<'_>], places: &[u16], prefix: &str) -> 
 #[inline(never)]
 fn place_of_prefix(namespaces: &[Namespace<'_>], places: &[u16], prefix: &str) -> Option<u16>
     requires { ArePlaces (length namespaces.now) places.now }
-    ensures there { IfSome result (λ i. (i < length namespaces.now)
-        × (uri_of (entries (map namespace_view namespaces.now) places.now) (Some prefix.now)
-        ≡ Some (namespace_at (map namespace_view namespaces.now) i).uri)) }
-    ensures absent { IfNone result (uri_of (entries (map namespace_view namespaces.now) places.now)
-        (Some prefix.now) ≡ None) }
+    ensures { FindsPlace namespaces.now places.now (Some prefix.now) result }
 {
     if prefix.len() >= LONG {
         return place_of_long(namespaces, places, prefix);
@@ -140,11 +123,7 @@ pub fn find_prefix(
     prefix: &str,
 ) -> Option<u16>
     requires { LooksWithin (length namespaces.now) (places_view few) present.now }
-    ensures within { OptionWithin (length namespaces.now) result }
-    ensures value { option_map
-        (λ i. (namespace_at (map namespace_view namespaces.now) i).uri) result
-        ≡ looked_up (map namespace_view namespaces.now) (places_view few.entry) present.now
-        (Some prefix.now) }
+    ensures { LooksUp namespaces.now (places_view few.entry) present.now (Some prefix.now) result }
 {
     match few {
         Some(places) => place_of_prefix(namespaces, places, prefix),
@@ -160,10 +139,7 @@ pub fn find_default(
     present: &PrefixBindings<'_>,
 ) -> Option<u16>
     requires { LooksWithin (length namespaces.now) (places_view few) present.now }
-    ensures within { OptionWithin (length namespaces.now) result }
-    ensures value { option_map
-        (λ i. (namespace_at (map namespace_view namespaces.now) i).uri) result
-        ≡ looked_up (map namespace_view namespaces.now) (places_view few.entry) present.now None }
+    ensures { LooksUp namespaces.now (places_view few.entry) present.now None result }
 {
     match few {
         Some(places) => default_place(namespaces, places),

@@ -8,7 +8,7 @@ ghost use Rattle.rox_tables.specs.Rows.{namespace_view, AreScopes};
 ghost use Rattle.rox_tables.specs.Scopes.{prefix_view, entries, places_in, ArePlaces, PrefixesOnce, others, unlisted};
 ghost use Rattle.rox_tables.specs.PrefixSet.{IsPrefixSet};
 ghost use Rattle.rox_tables.specs.Bindings.{IsBound, bound_place};
-ghost use Rattle.rox_tables.specs.Ropes.{IsListed};
+ghost use Rattle.rox_tables.specs.Ropes.{IsListed, IsScopeOf};
 ghost use Rattle.rox_tables.specs.TagScopes.{HasOpenTag, HasScope};
 
 use crate::namespaces::bindings::PrefixBindings;
@@ -100,9 +100,7 @@ fn hide<'input>(
     scope: u32,
     prefix: Option<&str>,
 ) -> Result<u32, AllocError>
-    requires places { ArePlaces (length namespaces.now) listed.now }
-    requires scopes { AreScopes (length listed.now) scopes.old.items }
-    requires within { scope < length scopes.old.items }
+    requires scope { IsScopeOf (length namespaces.now) listed.now scopes.old.items scope }
     requires once { PrefixesOnce (entries (map namespace_view namespaces.now)
         (places_in listed.now scopes.old.items scope)) }
     requires absent { bound_place present.now (prefix_view prefix) ≡ None
@@ -134,9 +132,7 @@ fn hide_own<'input>(
     scope: u32,
     own: OwnDeclarations,
 ) -> Result<u32, AllocError>
-    requires places { ArePlaces (length namespaces.now) listed.now }
-    requires scopes { AreScopes (length listed.now) scopes.old.items }
-    requires within { scope < length scopes.old.items }
+    requires scope { IsScopeOf (length namespaces.now) listed.now scopes.old.items scope }
     requires own { own.from ≤ length listed.now }
     requires once { PrefixesOnce (entries (map namespace_view namespaces.now)
         (places_in listed.now scopes.old.items scope)) }
@@ -172,9 +168,7 @@ pub fn listed_below_many<'input>(
     above: u32,
     own: OwnDeclarations,
 ) -> Result<u32, AllocError>
-    requires places { ArePlaces (length namespaces.now) listed.old.items }
-    requires scopes { AreScopes (length listed.old.items) scopes.old.items }
-    requires above { above < length scopes.old.items }
+    requires scope { IsScopeOf (length namespaces.now) listed.old.items scopes.old.items above }
     requires own { own.from ≤ length listed.old.items }
     requires once { PrefixesOnce (entries (map namespace_view namespaces.now)
         (places_in listed.old.items scopes.old.items above)) }

@@ -1,6 +1,6 @@
 //! The table of attributes.
 
-ghost use Rattle.std.specs.Prelude.{◌≡◌, ◌<◌, ◌≤◌, ◌+◌, ◌^◌, ◌/◌, ◌++◌, ◌∷◌, [], true, false, length, take, min, vec_len, vec_capacity, if◌then◌else◌, is_ok, IfOk, OnOk, IfErr};
+ghost use Rattle.std.specs.Prelude.{◌≡◌, ◌<◌, ◌≤◌, ◌+◌, ◌^◌, ◌/◌, ◌++◌, ◌∷◌, [], true, false, length, take, min, vec_len, vec_capacity, if◌then◌else◌, is_ok, IfOk, OnOk};
 ghost use Rattle.rox_tables.specs.StoredAttributes.{AreNumbered, AreNumbered-prop, unusual_count};
 
 use crate::rows::growth::{make_room, reserve, trim, with_room};
@@ -206,19 +206,6 @@ impl<'input> AttributeTable<'input> {
         };
         self.put_usual(item, places, before);
         true
-    }
-
-    /// The same, where want of memory is an error.
-    #[inline(always)]
-    pub fn push(&mut self, row: (AttributeData<'input>, AttributePlaces)) -> Result<(), AllocError>
-        ensures rows { attribute_rows self.new ≡ (if is_ok result
-            then attribute_rows self.old ++ row.entry ∷ [] else attribute_rows self.old) }
-    {
-        if self.put(row) {
-            Ok(())
-        } else {
-            Err(AllocError)
-        }
     }
 
     /// Whether there is no room for one more.

@@ -51,6 +51,8 @@ fn high_places(high: &[HighPlaces], index: usize) -> HighPlaces
 }
 
 /// Fills up with upper halves of 0, and makes room for one more. The only error is want of memory.
+#[cold]
+#[inline(never)]
 fn fill(high: &mut Vec<HighPlaces>, count: usize) -> Result<(), AllocError>
     requires { vec_len high.old ≤ count }
     ensures same { (pis : List PI) (rows : List StoredNode)
@@ -110,18 +112,6 @@ fn close_stored(rows: &mut Vec<StoredNode<'_>>, count: u32)
 impl<'input> NodeTable<'input> {
     ghost use Rattle.rox_tables.specs.Rows.{node_rows};
 
-    /// An empty table.
-    fn empty(alloc: Global) -> NodeTable<'input>
-        ensures rows { node_rows result ≡ [] }
-        ensures len { vec_len result.rows ≡ 0 }
-    {
-        NodeTable {
-            rows: Vec::new(alloc),
-            instructions: Vec::new(alloc),
-            high: Vec::new(alloc),
-        }
-    }
-
     /// The root node of a text of so many bytes, with some room for more. The only error is want of memory.
     #[inline(always)]
     pub fn of_text(alloc: Global, bytes: usize) -> Result<NodeTable<'input>, AllocError>
@@ -132,7 +122,11 @@ impl<'input> NodeTable<'input> {
         ensures len { IfOk result (λ t. vec_len t.rows ≡ 1) }
     {
         let room = (bytes / 48 + (bytes / 64).min(MORE_ROWS) + FEWEST_ROWS).min(FIRST_ROWS);
-        let mut table = NodeTable::empty(alloc);
+        let mut table = NodeTable {
+            rows: Vec::new(alloc),
+            instructions: Vec::new(alloc),
+            high: Vec::new(alloc),
+        };
         reserve(&mut table.rows, room, FEWEST_ROWS)?;
         table.push(NodeData {
             start: 0,
@@ -151,14 +145,6 @@ impl<'input> NodeTable<'input> {
         ensures nodes { result ≡ length (node_rows self.now) }
     {
         self.rows.len()
-    }
-
-    /// Whether there is room for one more row.
-    #[inline(always)]
-    fn has_room(&self) -> bool
-        ensures { result ≡ true → vec_len self.now.rows < vec_capacity self.now.rows }
-    {
-        self.rows.len() < self.rows.capacity()
     }
 
     /// How many more rows there is room for.
@@ -250,19 +236,6 @@ impl<'input> NodeTable<'input> {
         growth::make_room(&mut self.rows, start.max(end), text_end)
     }
 
-    /// The same where there is no room for one more.
-    #[inline(always)]
-    fn foresee(&mut self, start: usize, end: usize) -> Result<(), AllocError>
-        ensures rows { node_rows self.new ≡ node_rows self.old }
-        ensures len { vec_len self.new.rows ≡ vec_len self.old.rows }
-        ensures ok { OnOk result (vec_len self.new.rows < vec_capacity self.new.rows) }
-    {
-        if self.has_room() {
-            return Ok(());
-        }
-        self.make_room(start, end)
-    }
-
     /// Puts a node at the end, where there is room for its row and the row holds it alone.
     #[inline(always)]
     pub fn put(&mut self, row: NodeData<'input>)
@@ -291,7 +264,9 @@ impl<'input> NodeTable<'input> {
         ensures len { vec_len self.new.rows ≡ (if is_ok result then vec_len self.old.rows + 1
             else vec_len self.old.rows) }
     {
-        self.foresee(row.start, row.end)?;
+        if self.rows.len() >= self.rows.capacity() {
+            self.make_room(row.start, row.end)?;
+        }
         if row.start >= FIRST_HIGH || row.end >= FIRST_HIGH {
             return self.push_far(row);
         }
@@ -384,29 +359,8 @@ impl<'input> NodeTable<'input> {
         ensures same { IfErr result (λ e. node_rows self.new ≡ node_rows self.old) }
     {
         if end >= FIRST_HIGH {
-            return self.end_far(row, end);
+            fill(&mut self.high, self.rows.len())?;
         }
-        self.put_end(row, end);
-        Ok(())
-    }
-
-    /// The same of an end that has an upper half.
-    #[cold]
-    #[inline(never)]
-    fn end_far(&mut self, row: u32, end: usize) -> Result<(), AllocError>
-        requires { vec_len self.old.rows < 2 ^ 32 }
-        ensures rows { OnOk result ((d : NodeData)
-            → node_rows self.new
-            ≡ set (node_rows self.old) row
-            (record (get_or (node_rows self.old) row d) {
-              end = end;
-              subtree_end = length
-                  (node_rows self.old);
-            })) }
-        ensures len { vec_len self.new.rows ≡ vec_len self.old.rows }
-        ensures same { IfErr result (λ e. node_rows self.new ≡ node_rows self.old) }
-    {
-        fill(&mut self.high, self.rows.len())?;
         self.put_end(row, end);
         Ok(())
     }

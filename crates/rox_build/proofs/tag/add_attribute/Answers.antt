@@ -13,11 +13,11 @@ returns-then-is_namespace_decl-clause-tables c =
     let namespaces = map namespace_view c.declare_namespace.new.namespaces.items.items in
     let scopes = c.requires.tables.scopes in
     record {
-      places = c.in_ok-xml.ensures.places;
-      own_within = c.in_ok-xml.ensures.own;
-      few = c.in_ok-xml.ensures.few;
-      prefixes = c.in_ok-xml.ensures.prefix_set;
-      once = c.in_ok-xml.ensures.once;
+      places = c.in_ok-xml.ensures.own.places;
+      own_within = c.in_ok-xml.ensures.own.own;
+      few = c.in_ok-xml.ensures.own.few;
+      prefixes = c.in_ok-xml.ensures.own.prefix_set;
+      once = c.in_ok-xml.ensures.own.once;
       scopes = scopes;
       kept = subst (λ ls. AreBindingsOf namespaces ls old.present) (sym (c.in_ok-xml.ensures.lists old.scopes.items scopes)) (c.in_ok-xml.ensures.grown (lists_in old) old.present c.requires.tables.kept);
     }

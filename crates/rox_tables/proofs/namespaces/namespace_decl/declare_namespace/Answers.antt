@@ -1,4 +1,4 @@
-use Rattle.std.proofs.Common.{◌≡◌, ◌<◌, ◌≤◌, ◌∷◌, ◌++◌, [], drop, true, false, refl, sym, ap, ◌∙◌, subst, map, length, Err}
+use Rattle.std.proofs.Common.{◌≡◌, ◌<◌, ◌≤◌, ◌∷◌, ◌++◌, [], drop, true, false, refl, sym, ap, ◌∙◌, subst, map, length, length-append, arith, Err}
 use Rattle.std.proofs.lemmas.List.{drop-append-le}
 use Rattle.std.proofs.lemmas.Result.{err_from_is_err_and}
 use Rattle.std.proofs.lemmas.List.{length-map}
@@ -95,11 +95,6 @@ returns-clause-value c = λ known before h o d.
     declares_other known before namespaces (map namespace_view rows) c.args.listed.now.items c.push.new.self.items c.args.xml a h c.in_ok-place.place d uri new is
     (c.in_ok-place.ensures.table ∙ ap (λ (x : NamespaceDecl). with_new namespaces (x ∷ [])) one) few here (there.1 ∙ one) c.in_ok-push.ensures.items
 
-pub returns-clause-places : goal.returns-clause-places
-returns-clause-places c =
-    places_after c.args.namespaces.now.items.items c.place.new.self.items.items c.args.listed.now.items c.push.new.self.items (pair (prefix_view c.declared_prefix-prefix.result) (storage_bytes c.args.taken.value)) c.in_ok-place.place
-    c.in_ok-place.ensures.table c.in_ok-place.ensures.there.0 c.in_ok-push.ensures.items c.requires.places
-
 pub returns-clause-grown : goal.returns-clause-grown
 returns-clause-grown c = λ lists x h.
     kept_after c.args.namespaces.now.items.items c.place.new.self.items.items lists (pair (prefix_view c.declared_prefix-prefix.result) (storage_bytes c.args.taken.value)) x c.in_ok-place.ensures.table h
@@ -117,35 +112,40 @@ add_prefix-requires c =
     (places_after c.args.namespaces.now.items.items rows c.args.listed.now.items after (pair (prefix_view c.declared_prefix-prefix.result) (storage_bytes c.args.taken.value)) c.in_ok-place.place
     c.in_ok-place.ensures.table c.in_ok-place.ensures.there.0 c.in_ok-push.ensures.items c.requires.places))
 
-pub returns-clause-prefix_set : goal.returns-clause-prefix_set
-returns-clause-prefix_set c =
-    let rows = c.place.new.self.items.items in
-    let namespaces = map namespace_view rows in
-    let listed = c.args.listed.now.items in
-    let after = c.push.new.self.items in
-    let before = drop c.args.own listed in
-    let mine : drop c.args.own after ≡ before ++ c.in_ok-place.place ∷ [] = ap (drop c.args.own) c.in_ok-push.ensures.items ∙ drop-append-le c.args.own listed (c.in_ok-place.place ∷ []) c.requires.own in
-    let seen : slice_range c.deref-2.result.now c.args.own (length c.deref-2.result.now) ≡ drop c.args.own after = slice-rest c.deref-2.result.now c.args.own ∙ ap (drop c.args.own) c.deref-2.ensures.value in
-    let old : IsPrefixSet namespaces before c.args.prefix_set.now.keys =
-    remembers_after c.args.namespaces.now.items.items rows listed (pair (prefix_view c.declared_prefix-prefix.result) (storage_bytes c.args.taken.value)) c.args.own c.args.prefix_set.now.keys c.in_ok-place.ensures.table c.requires.places c.requires.prefix_set in
-    let table = ap (map namespace_view) c.as_slice-2.ensures.value in
-    let prefix_is = ap (λ (d : NamespaceDecl). d.prefix) c.in_ok-place.ensures.there.1 in
-    subst (λ xs. IsPrefixSet namespaces xs c.add_prefix.new.prefixes.keys) seen
-    (subst (λ ns. IsPrefixSet ns (slice_range c.deref-2.result.now c.args.own (length c.deref-2.result.now)) c.add_prefix.new.prefixes.keys) table
-    (c.in_ok-add_prefix.ensures before c.in_ok-place.place (seen ∙ mine)
-    (subst (λ ns. (namespace_at ns c.in_ok-place.place).prefix ≡ prefix_view c.declared_prefix-prefix.result) (sym table) prefix_is)
-    (subst (λ ns. IsPrefixSet ns before c.args.prefix_set.now.keys) (sym table) old)))
-
-pub returns-clause-once : goal.returns-clause-once
-returns-clause-once c =
-    let old = c.args.namespaces.now.items.items in
-    let listed = c.args.listed.now.items in
-    let seen = c.deref.result.now in
-    let one = pair (prefix_view c.declared_prefix-prefix.result) (storage_bytes c.args.taken.value) in
-    let own_is : slice_range seen c.args.own (length seen) ≡ drop c.args.own listed = slice-rest seen c.args.own ∙ ap (drop c.args.own) c.deref.ensures.value in
-    let absent : is_declared one.prefix (entries (map namespace_view old) (drop c.args.own listed)) ≡ false =
-    ap (λ xs. is_declared one.prefix (entries (map namespace_view old) xs)) (sym own_is)
-    ∙ ap (λ ns. is_declared one.prefix (entries ns (slice_range seen c.args.own (length seen)))) (sym (ap (map namespace_view) c.as_slice.ensures.value))
-    ∙ c.is_again.ensures.absent c.if-is_again.false in
-    once_after old c.place.new.self.items.items listed c.push.new.self.items one c.in_ok-place.place c.args.own c.in_ok-place.ensures.table c.in_ok-push.ensures.items c.requires.own c.requires.places
-    c.in_ok-place.ensures.there.1 absent c.requires.once
+pub returns-clause-own : goal.returns-clause-own
+returns-clause-own c = record {
+  places =
+      places_after c.args.namespaces.now.items.items c.place.new.self.items.items c.args.listed.now.items c.push.new.self.items (pair (prefix_view c.declared_prefix-prefix.result) (storage_bytes c.args.taken.value)) c.in_ok-place.place
+      c.in_ok-place.ensures.table c.in_ok-place.ensures.there.0 c.in_ok-push.ensures.items c.requires.places;
+  own = omega (arith, c.requires.own, ap length c.in_ok-push.ensures.items, length-append c.args.listed.now.items (c.in_ok-place.place ∷ []));
+  few = c.in_ok-place.ensures.few;
+  prefix_set =
+      let rows = c.place.new.self.items.items in
+      let namespaces = map namespace_view rows in
+      let listed = c.args.listed.now.items in
+      let after = c.push.new.self.items in
+      let before = drop c.args.own listed in
+      let mine : drop c.args.own after ≡ before ++ c.in_ok-place.place ∷ [] = ap (drop c.args.own) c.in_ok-push.ensures.items ∙ drop-append-le c.args.own listed (c.in_ok-place.place ∷ []) c.requires.own in
+      let seen : slice_range c.deref-2.result.now c.args.own (length c.deref-2.result.now) ≡ drop c.args.own after = slice-rest c.deref-2.result.now c.args.own ∙ ap (drop c.args.own) c.deref-2.ensures.value in
+      let old : IsPrefixSet namespaces before c.args.prefix_set.now.keys =
+      remembers_after c.args.namespaces.now.items.items rows listed (pair (prefix_view c.declared_prefix-prefix.result) (storage_bytes c.args.taken.value)) c.args.own c.args.prefix_set.now.keys c.in_ok-place.ensures.table c.requires.places c.requires.prefix_set in
+      let table = ap (map namespace_view) c.as_slice-2.ensures.value in
+      let prefix_is = ap (λ (d : NamespaceDecl). d.prefix) c.in_ok-place.ensures.there.1 in
+      subst (λ xs. IsPrefixSet namespaces xs c.add_prefix.new.prefixes.keys) seen
+      (subst (λ ns. IsPrefixSet ns (slice_range c.deref-2.result.now c.args.own (length c.deref-2.result.now)) c.add_prefix.new.prefixes.keys) table
+      (c.in_ok-add_prefix.ensures before c.in_ok-place.place (seen ∙ mine)
+      (subst (λ ns. (namespace_at ns c.in_ok-place.place).prefix ≡ prefix_view c.declared_prefix-prefix.result) (sym table) prefix_is)
+      (subst (λ ns. IsPrefixSet ns before c.args.prefix_set.now.keys) (sym table) old)));
+  once =
+      let old = c.args.namespaces.now.items.items in
+      let listed = c.args.listed.now.items in
+      let seen = c.deref.result.now in
+      let one = pair (prefix_view c.declared_prefix-prefix.result) (storage_bytes c.args.taken.value) in
+      let own_is : slice_range seen c.args.own (length seen) ≡ drop c.args.own listed = slice-rest seen c.args.own ∙ ap (drop c.args.own) c.deref.ensures.value in
+      let absent : is_declared one.prefix (entries (map namespace_view old) (drop c.args.own listed)) ≡ false =
+      ap (λ xs. is_declared one.prefix (entries (map namespace_view old) xs)) (sym own_is)
+      ∙ ap (λ ns. is_declared one.prefix (entries ns (slice_range seen c.args.own (length seen)))) (sym (ap (map namespace_view) c.as_slice.ensures.value))
+      ∙ c.is_again.ensures.absent c.if-is_again.false in
+      once_after old c.place.new.self.items.items listed c.push.new.self.items one c.in_ok-place.place c.args.own c.in_ok-place.ensures.table c.in_ok-push.ensures.items c.requires.own c.requires.places
+      c.in_ok-place.ensures.there.1 absent c.requires.once;
+}

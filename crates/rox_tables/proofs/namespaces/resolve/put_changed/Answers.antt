@@ -1,4 +1,4 @@
-use Rattle.std.proofs.Common.{◌≤◌, ◌∙◌, length, drop, sym, ap, arith, subst}
+use Rattle.std.proofs.Common.{◌≤◌, length, drop, sym, ap, arith, subst}
 use Rattle.std.proofs.lemmas.List.{length-map}
 use Rattle.rox_tables.specs.Rows.{namespace_view, attribute_rows, NamespaceWithin}
 use Rattle.rox_tables.specs.SeenNames.{HasNameOf}
@@ -43,7 +43,7 @@ returns-clause-added c = λ done.
     let column = column_behind c.args.attributes.now c.deref.result.now c.args.seen.now.from c.deref.ensures.value in
     record {
       namespace = c.in-Ok.namespace;
-      rows = rw (sym c.is_ok.ensures.value ∙ done) at c.push.ensures.rows;
+      rows = c.put.ensures.put done;
       within = subst (λ n. NamespaceWithin n c.in-Ok.namespace) (sym (length-map c.args.namespaces.now namespace_view)) c.in-Ok.ensures.within;
       there = λ ds h. c.in-Ok.ensures.there ds h;
       tested = λ ds before rest h shown. c.in-Ok.ensures.tested ds (drop c.args.seen.now.from old) before rest h column shown;
@@ -55,5 +55,5 @@ tested_namespace-requires-clause-seen c =
 
 pub returns-clause-seen : goal.returns-clause-seen
 returns-clause-seen c = λ done.
-    seen_more c.args.seen.now c.tested_namespace.new.seen (attribute_rows c.args.attributes.now) _ _ (rw (sym c.is_ok.ensures.value ∙ done) at c.push.ensures.rows)
+    seen_more c.args.seen.now c.tested_namespace.new.seen (attribute_rows c.args.attributes.now) _ _ (c.put.ensures.put done)
     c.in-Ok.ensures.from c.requires.from c.in-Ok.ensures.kept c.in-Ok.ensures.put c.requires.seen

@@ -34,14 +34,14 @@ loop-turn-preserved c =
     let same = read_again l.taken.items l.turn c.index.result.now c.index_mut.result.now here c.index.ensures c.index_mut.ensures.value in
     let m = l.invariant.moving in
     record {
-      moving = moves n initial old l.turn l.taken.items (attribute_rows l.attributes) c.index.result.now c.index_mut.result.now c.move_row-row.new.taken c.in_ok-namespace.namespace c.move_row-row.result (attribute_rows c.push.new.self)
-          m here c.index.ensures c.in_ok-namespace.ensures.within c.move_row-row.ensures c.in_ok-push.ensures.rows;
+      moving = moves n initial old l.turn l.taken.items (attribute_rows l.attributes) c.index.result.now c.index_mut.result.now c.move_row-row.new.taken c.in_ok-namespace.namespace c.move_row-row.result (attribute_rows c.put.new.self)
+          m here c.index.ensures c.in_ok-namespace.ensures.within c.move_row-row.ensures (c.put.ensures.put c.if-not-put.false);
       resolving = λ ds h. resolves n namespaces ds initial old l.turn l.taken.items (attribute_rows l.attributes)
-          c.index.result.now c.index_mut.result.now c.in_ok-namespace.namespace c.move_row-row.result (attribute_rows c.push.new.self)
+          c.index.result.now c.index_mut.result.now c.in_ok-namespace.namespace c.move_row-row.result (attribute_rows c.put.new.self)
           m (l.invariant.resolving ds h) here c.index.ensures
           (λ before rest shown. c.in_ok-namespace.ensures.tested ds (drop (length old) (attribute_rows l.attributes)) before rest h l.invariant.sees shown)
-          (c.in_ok-namespace.ensures.there ds h) c.index_mut.ensures.value c.move_row-row.ensures c.in_ok-push.ensures.rows;
-      sees = sees_next namespaces l.seen.keys c.seen_namespace.new.seen.keys old m.done (attribute_rows l.attributes) (attribute_rows c.push.new.self) c.move_row-row.result m.table_is c.in_ok-push.ensures.rows l.invariant.sees
+          (c.in_ok-namespace.ensures.there ds h) c.index_mut.ensures.value c.move_row-row.ensures (c.put.ensures.put c.if-not-put.false);
+      sees = sees_next namespaces l.seen.keys c.seen_namespace.new.seen.keys old m.done (attribute_rows l.attributes) (attribute_rows c.put.new.self) c.move_row-row.result m.table_is (c.put.ensures.put c.if-not-put.false) l.invariant.sees
           (λ h. c.in_ok-namespace.ensures.more _ c.move_row-row.result.0 h (ap (λ (r : AttributeRow). r.0.namespace) c.move_row-row.ensures)
           (ap (λ (r : AttributeRow). r.0.local) c.move_row-row.ensures ∙ ap (λ (t : UnresolvedAttribute). t.name.local) same));
     }

@@ -7,63 +7,63 @@ use Rattle.rox_tables.proofs.namespaces.rope.+position_at.Goals as goal
 
 pub overflow_add-result : goal.overflow_add-result
 overflow_add-result t c =
-    let f = few_at _ _ _ _ c.args.index c.requires.scopes c.requires.within c.in-Few.is c.requires.index in
+    let f = few_at _ _ _ _ c.args.index c.requires.scope.scopes c.requires.scope.within c.in-Few.is c.requires.index in
     let a = f.0 in
     let b = f.1 in
     omega arith
 
 pub overflow_sub-result : goal.overflow_sub-result
 overflow_sub-result t c =
-    let f = back_at _ _ _ _ c.args.index c.requires.scopes c.requires.within c.in-Back.is c.requires.index in
+    let f = back_at _ _ _ _ c.args.index c.requires.scope.scopes c.requires.scope.within c.in-Back.is c.requires.index in
     let a = f.0 in
     omega arith
 
 pub overflow_sub-result-in-Back : goal.overflow_sub-result-in-Back
 overflow_sub-result-in-Back t c =
-    let f = back_at _ _ _ _ c.args.index c.requires.scopes c.requires.within c.in-Back.is c.requires.index in
+    let f = back_at _ _ _ _ c.args.index c.requires.scope.scopes c.requires.scope.within c.in-Back.is c.requires.index in
     let a = f.0 in
     omega arith
 
 pub returns-in-Few-clause-within : goal.returns-in-Few-clause-within
 returns-in-Few-clause-within t c =
-    let f = few_at _ _ _ _ c.args.index c.requires.scopes c.requires.within c.in-Few.is c.requires.index in
+    let f = few_at _ _ _ _ c.args.index c.requires.scope.scopes c.requires.scope.within c.in-Few.is c.requires.index in
     let a = f.0 in
     let b = f.1 in
     omega arith
 
 pub returns-in-Few-clause-value : goal.returns-in-Few-clause-value
-returns-in-Few-clause-value t c = (few_at _ _ _ _ c.args.index c.requires.scopes c.requires.within c.in-Few.is c.requires.index).2
+returns-in-Few-clause-value t c = (few_at _ _ _ _ c.args.index c.requires.scope.scopes c.requires.scope.within c.in-Few.is c.requires.index).2
 
 pub returns-in-Back-clause-within : goal.returns-in-Back-clause-within
 returns-in-Back-clause-within t c =
-    let f = back_at _ _ _ _ c.args.index c.requires.scopes c.requires.within c.in-Back.is c.requires.index in
+    let f = back_at _ _ _ _ c.args.index c.requires.scope.scopes c.requires.scope.within c.in-Back.is c.requires.index in
     let a = f.0 in
     let b = f.1 in
     omega arith
 
 pub returns-in-Back-clause-value : goal.returns-in-Back-clause-value
-returns-in-Back-clause-value t c = (back_at _ _ _ _ c.args.index c.requires.scopes c.requires.within c.in-Back.is c.requires.index).2
+returns-in-Back-clause-value t c = (back_at _ _ _ _ c.args.index c.requires.scope.scopes c.requires.scope.within c.in-Back.is c.requires.index).2
 
 pub position_at-requires-in-Concat : goal.position_at-requires-in-Concat
 position_at-requires-in-Concat t c =
     let ls = c.args.listed.now in
     let rows = c.args.scopes.now in
-    let f = both_at ls rows c.args.scope _ c.requires.scopes c.requires.within c.in-Concat.is in
+    let f = both_at ls rows c.args.scope _ c.requires.scope.scopes c.requires.scope.within c.in-Concat.is in
     let a : c.in-Concat.parts.rest < c.args.scope = f.1 in
-    let lt = c.requires.within in
+    let lt = c.requires.scope.within in
     let k = c.requires.index in
     let m : count_at rows c.in-Concat.parts.first ≡ length (places_in ls rows c.in-Concat.parts.first) = f.2 in
     let n : c.count-before.result ≡ count_at rows c.in-Concat.parts.first = c.count-before.ensures.value in
     let l : length (places_in ls rows c.args.scope) ≡ length (places_in ls rows c.in-Concat.parts.first) + length (places_in ls rows c.in-Concat.parts.rest) =
     ap length f.3 ∙ length-append (places_in ls rows c.in-Concat.parts.first) (places_in ls rows c.in-Concat.parts.rest) in
     let d = c.decreases in
-    (omega arith, (omega arith, (c.requires.scopes, omega arith)))
+    (omega arith, (record { scopes = c.requires.scope.scopes; within = omega arith }, omega arith))
 
 pub returns-then-index-before-clause-value : goal.returns-then-index-before-clause-value
 returns-then-index-before-clause-value t c =
     let ls = c.args.listed.now in
     let rows = c.args.scopes.now in
-    let f = both_at ls rows c.args.scope _ c.requires.scopes c.requires.within c.in-Concat.is in
+    let f = both_at ls rows c.args.scope _ c.requires.scope.scopes c.requires.scope.within c.in-Concat.is in
     let m : count_at rows c.in-Concat.parts.first ≡ length (places_in ls rows c.in-Concat.parts.first) = f.2 in
     let n : c.count-before.result ≡ count_at rows c.in-Concat.parts.first = c.count-before.ensures.value in
     let lt : c.args.index < length (places_in ls rows c.in-Concat.parts.first) = omega arith in
@@ -73,7 +73,7 @@ pub returns-else-index-before-clause-value : goal.returns-else-index-before-clau
 returns-else-index-before-clause-value t c =
     let ls = c.args.listed.now in
     let rows = c.args.scopes.now in
-    let f = both_at ls rows c.args.scope _ c.requires.scopes c.requires.within c.in-Concat.is in
+    let f = both_at ls rows c.args.scope _ c.requires.scope.scopes c.requires.scope.within c.in-Concat.is in
     let m : count_at rows c.in-Concat.parts.first ≡ length (places_in ls rows c.in-Concat.parts.first) = f.2 in
     let n : c.count-before.result ≡ count_at rows c.in-Concat.parts.first = c.count-before.ensures.value in
     let le : length (places_in ls rows c.in-Concat.parts.first) ≤ c.args.index = omega arith in

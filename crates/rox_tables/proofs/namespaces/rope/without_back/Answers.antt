@@ -15,7 +15,7 @@ both-requires c =
     record {
       first = put.0;
       rest = put.1;
-      rows = leaves_rows _ _ _ _ _ c.in_ok-first.ensures.items one c.in_ok-rest.ensures.items two c.requires.rows;
+      rows = leaves_rows _ _ _ _ _ c.in_ok-first.ensures.items one c.in_ok-rest.ensures.items two c.requires.stretch.rows;
     }
 
 pub returns : goal.returns
@@ -24,6 +24,6 @@ returns c =
     let k = c.requires.index in
     let one : s.until - c.args.index ≤ s.until = omega arith in
     let two : s.from ≤ s.until - c.args.index - 1 = omega arith in
-    let behind : (n : ℕ) → AllByRecursion (EndsWithin n) c.args.scopes.now.items → s.until - c.args.index - 1 ≤ n = λ n h. (let e = c.requires.ends n h in omega arith) in
-    if_ok c.both.result c.both.ensures (λ i z. rope_leaves _ _ _ c.both.new.scopes.items _ _ c.in_ok-first.first c.in_ok-rest.rest i _ c.in_ok-first.ensures.items c.in_ok-first.ensures.value one c.requires.ends
-    c.in_ok-rest.ensures.items c.in_ok-rest.ensures.value two behind c.requires.rows z (λ l h. cut_back l s.from s.until c.args.index c.requires.ordered (c.requires.ends (length l) h.within) c.requires.index))
+    let behind : (n : ℕ) → AllByRecursion (EndsWithin n) c.args.scopes.now.items → s.until - c.args.index - 1 ≤ n = λ n h. (let e = c.requires.stretch.ends n h in omega arith) in
+    if_ok c.both.result c.both.ensures (λ i z. rope_leaves _ _ _ c.both.new.scopes.items _ _ c.in_ok-first.first c.in_ok-rest.rest i _ c.in_ok-first.ensures.items c.in_ok-first.ensures.value one c.requires.stretch.ends
+    c.in_ok-rest.ensures.items c.in_ok-rest.ensures.value two behind c.requires.stretch.rows z (λ l h. cut_back l s.from s.until c.args.index c.requires.stretch.ordered (c.requires.stretch.ends (length l) h.within) c.requires.index))

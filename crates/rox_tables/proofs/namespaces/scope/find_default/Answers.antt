@@ -1,11 +1,11 @@
-use Rattle.std.proofs.Common.{Option, None, length, sym, ◌∙◌, subst}
+use Rattle.std.proofs.Common.{Option, None, length, sym, ◌∙◌, subst, rules}
 use Rattle.rox_tables.specs.Rows.{OptionWithin}
 use Rattle.rox_tables.specs.Bindings.{LooksWithin, bound_namespace, places_view}
 use Rattle.rox_tables.specs.declared.namespaces.bindings.Binding.{Binding}
 use Rattle.rox_tables.proofs.namespaces.scope.find_default.Goals as goal
 
-pub returns-in-Some-get-clause-within : goal.returns-in-Some-get-clause-within
-returns-in-Some-get-clause-within c =
+pub returns-in-Some-get : goal.returns-in-Some-get
+returns-in-Some-get c =
     let n = length c.args.namespaces.now in
     let all = subst (λ o. LooksWithin n (places_view o) c.args.present.now) c.in-None.is c.requires in
-    subst (λ (o : Option Binding). OptionWithin n (bound_namespace o)) (sym c.get.ensures ∙ c.in-Some-get.is) (all None)
+    record { within = subst (λ (o : Option Binding). OptionWithin n (bound_namespace o)) (sym c.get.ensures ∙ c.in-Some-get.is) (all None); value = search rules }

@@ -6,8 +6,8 @@ use Rattle.rox_tables.specs.Scopes.{prefix_view}
 use Rattle.rox_tables.proofs.Pairs.{namespace_at-get, place_at, uri_here, uri_none_more}
 use Rattle.rox_tables.proofs.namespaces.scope.place_of.Goals as goal
 
-pub returns-then-same_prefix-clause-there : goal.returns-then-same_prefix-clause-there
-returns-then-same_prefix-clause-there c =
+pub returns-then-same_prefix : goal.returns-then-same_prefix
+returns-then-same_prefix c =
     let rows = c.args.namespaces.now in
     let places = c.args.places.now in
     let k = c.loop-place.place-index in

@@ -5,8 +5,8 @@ use Rattle.rox_grammar.specs.Written.{NamespaceDecl}
 use Rattle.rox_tables.proofs.Pairs.{namespace_at-get, place_at, uri_here, uri_none_more}
 use Rattle.rox_tables.proofs.namespaces.scope.place_of_prefix.Goals as goal
 
-pub returns-then-is_short_prefix-clause-there : goal.returns-then-is_short_prefix-clause-there
-returns-then-is_short_prefix-clause-there c =
+pub returns-then-is_short_prefix : goal.returns-then-is_short_prefix
+returns-then-is_short_prefix c =
     let rows = c.args.namespaces.now in
     let places = c.args.places.now in
     let k = c.loop-place.place-index in

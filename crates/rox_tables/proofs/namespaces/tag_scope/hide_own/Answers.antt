@@ -11,13 +11,13 @@ use Rattle.rox_tables.proofs.Below.{hides_none, hides_more, hides_xml, hides_own
 use Rattle.rox_tables.proofs.namespaces.tag_scope.hide_own.Goals as goal
 
 pub loop-turn-init : goal.loop-turn-init
-loop-turn-init c = hides_none (map namespace_view c.args.namespaces.now) c.args.listed.now c.args.scopes.now.items c.args.scope c.args.own.from c.requires.scopes c.requires.within
+loop-turn-init c = hides_none (map namespace_view c.args.namespaces.now) c.args.listed.now c.args.scopes.now.items c.args.scope c.args.own.from c.requires.scope.scopes c.requires.scope.within
 
 pub bounds-namespaces-place : goal.bounds-namespaces-place
-bounds-namespaces-place c = let lt : c.loop-turn.turn < length c.args.listed.now = omega arith in place_at (length c.args.namespaces.now) c.args.listed.now c.loop-turn.turn 0 c.requires.places lt
+bounds-namespaces-place c = let lt : c.loop-turn.turn < length c.args.listed.now = omega arith in place_at (length c.args.namespaces.now) c.args.listed.now c.loop-turn.turn 0 c.requires.scope.places lt
 
 pub bounds-namespaces-place-in-loop-turn : goal.bounds-namespaces-place-in-loop-turn
-bounds-namespaces-place-in-loop-turn c = let lt : c.loop-turn.turn < length c.args.listed.now = omega arith in place_at (length c.args.namespaces.now) c.args.listed.now c.loop-turn.turn 0 c.requires.places lt
+bounds-namespaces-place-in-loop-turn c = let lt : c.loop-turn.turn < length c.args.listed.now = omega arith in place_at (length c.args.namespaces.now) c.args.listed.now c.loop-turn.turn 0 c.requires.scope.places lt
 
 pub hide-requires-clause-once : goal.hide-requires-clause-once
 hide-requires-clause-once c =
@@ -41,7 +41,7 @@ loop-turn-preserved c =
     let low : c.args.own.from ≤ c.loop-turn.turn = omega arith in
     let lt : c.loop-turn.turn < length c.args.listed.now = omega arith in
     hides_more rows c.args.listed.now c.args.scopes.now.items c.loop-turn.scopes.items c.hide.new.scopes.items c.args.own.from c.loop-turn.turn place c.loop-turn.left c.in_ok-left.left c.index-namespaces-place.result p ds
-    low lt c.requires.places refl refl c.loop-turn.invariant c.in_ok-left.ensures
+    low lt c.requires.scope.places refl refl c.loop-turn.invariant c.in_ok-left.ensures
 
 pub hide-requires-then-own-clause-once : goal.hide-requires-then-own-clause-once
 hide-requires-then-own-clause-once c =

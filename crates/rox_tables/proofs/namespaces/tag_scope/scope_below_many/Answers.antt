@@ -22,8 +22,14 @@ returns-then-not-own c =
     has_scope o t c.args.above c.args.own.from c.args.above c.args.own.xml refl refl c.requires.tag.places c.requires.tag.scopes c.requires.tag.own_within c.requires.tag.once c.requires.tag.own_once stood.0 (present_by t c.args.above stood.1)
     (nothing_listed (map namespace_view o.namespaces.items.items) o.listed.items o.scopes.items c.args.above c.args.own.from c.args.own.xml c.requires.tag.scopes c.requires.tag.own_within c.requires.tag.above_within none (not-true c.args.own.xml c.if-not-own.true))
 
-pub listed_below_many-requires-clause-scopes : goal.listed_below_many-requires-clause-scopes
-listed_below_many-requires-clause-scopes c = scopes_more c.args.own.from (length c.args.elements.now.listed.items) c.args.elements.now.scopes.items c.requires.tag.own_within c.requires.tag.scopes
+pub listed_below_many-requires-clause-scope : goal.listed_below_many-requires-clause-scope
+listed_below_many-requires-clause-scope c =
+    let o = c.args.elements.now in
+    rw c.as_slice-2.ensures.value (record {
+      places = c.requires.tag.places;
+      scopes = scopes_more c.args.own.from (length o.listed.items) o.scopes.items c.requires.tag.own_within c.requires.tag.scopes;
+      within = c.requires.tag.above_within;
+    })
 
 pub listed_below_many-requires-clause-once : goal.listed_below_many-requires-clause-once
 listed_below_many-requires-clause-once c =

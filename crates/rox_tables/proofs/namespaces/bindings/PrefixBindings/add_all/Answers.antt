@@ -8,7 +8,7 @@ use Rattle.rox_tables.proofs.namespaces.bindings.PrefixBindings.add_all.Goals as
 pub position_at-position-requires : goal.position_at-position-requires
 position_at-position-requires c =
     let n = c.count-count.ensures.length c.args.listed.now c.requires.scopes in
-    record { within = c.requires.within; scopes = c.requires.scopes; index = omega arith }
+    record { scope = record { scopes = c.requires.scopes; within = c.requires.within }; index = omega arith }
 
 pub loop-turn-init : goal.loop-turn-init
 loop-turn-init c = record {
