@@ -498,7 +498,7 @@ fn put_named_attribute<'input>(
         value: &text[value_start..value_end],
     };
     if !put_usual_attribute(
-        elements.namespaces.as_slice(),
+        &elements.namespaces,
         &mut elements.attributes,
         seen,
         namespace,

@@ -1,5 +1,5 @@
 -- Which codes of names were seen.
-use Rattle.std.proofs.Common.{◌≡◌, ℕ, ◌<◌, ◌≤◌, ◌∷◌, ◌++◌, [], List, Bool, true, false, length, set, get_or, drop, bytes_eq, ◌&&◌, refl, sym, ap, ◌∙◌, subst, inl, inr, arith}
+use Rattle.std.proofs.Common.{◌≡◌, ℕ, ◌+◌, ◌<◌, ◌≤◌, ◌∷◌, ◌++◌, [], List, Bool, true, false, length, set, get_or, drop, bytes_eq, ◌&&◌, refl, sym, ap, ◌∙◌, subst, inl, inr, arith}
 use Rattle.std.specs.List.{AllByRecursion, list_any}
 use Rattle.std.proofs.lemmas.Bool.{cases_eq}
 use Rattle.std.proofs.lemmas.List.{get_or-set_same, get_or-set_other}
@@ -14,7 +14,7 @@ use Rattle.rox_tables.specs.ResolvedNames.{has_expanded}
 use Rattle.rox_tables.specs.declared.rows.tables.AttributeNamespace.{AttributeNamespace}
 use Rattle.rox_tables.specs.declared.rows.stored_attribute.StoredAttribute.{StoredAttribute}
 use Rattle.rox_tables.specs.declared.namespaces.seen_names.SeenNames.{SeenNames}
-use Rattle.rox_tables.specs.SeenNames.{name_code, HasCode, HasNameOf, AreSeen}
+use Rattle.rox_tables.specs.SeenNames.{name_code, HasCode, HasNameOf, HaveCodes, AreSeen}
 use Rattle.rox_tables.proofs.Stable.{all_append, all_weaker}
 
 -- a code that was not put is not there
@@ -61,7 +61,7 @@ none_has namespaces s local codes (a ∷ rest) h fresh =
 
 -- one more of them is in the table
 pub seen_more : (old new : SeenNames) (rows more : List AttributeRow) (row : AttributeRow) → more ≡ rows ++ row ∷ [] → new.from ≡ old.from → old.from ≤ length rows
-    → ((code : ℕ) → HasCode old.codes code → HasCode new.codes code) → HasNameOf new.codes row.0 → AreSeen old rows → AreSeen new more
+    → ((code : ℕ) → HasCode old.codes code → HasCode new.codes code) → HasNameOf new.codes row.0 → HaveCodes old rows → HaveCodes new more
 seen_more old new rows more row grown from within kept put seen =
     let P : AttributeRow → Type 0 = λ a. HasNameOf new.codes a.0 in
     let Q : AttributeRow → Type 0 = λ a. HasNameOf old.codes a.0 in
@@ -70,7 +70,26 @@ seen_more old new rows more row grown from within kept put seen =
     subst (AllByRecursion P) (sym behind) (all_append P (drop old.from rows) (row ∷ []) weaker (put, tt))
 
 -- before the first
-pub seen_first : (seen : SeenNames) (rows : List AttributeRow) → seen.from ≡ length rows → AreSeen seen rows
+pub seen_first : (seen : SeenNames) (rows : List AttributeRow) → seen.from ≡ length rows → HaveCodes seen rows
 seen_first seen rows from =
     let none : drop seen.from rows ≡ [] = drop_of_length-le rows (omega arith) in
     subst (AllByRecursion (λ (a : AttributeRow). HasNameOf seen.codes a.0)) (sym none) tt
+
+-- two at most
+pub few_seen : (seen : SeenNames) (rows : List AttributeRow) → length rows ≤ seen.from + 2 → AreSeen seen rows
+few_seen seen rows few = λ more. absurd (omega (arith, few, more))
+
+-- no row has a name whose code was not seen
+pub none_rows : (namespaces : List NamespaceDecl) (s : AttributeNamespace) (local : List ℕ) (codes : List Bool) (rows : List AttributeRow)
+    → AllByRecursion (λ (a : AttributeRow). HasNameOf codes a.0) rows → (HasCode codes (name_code local) → ⊥)
+    → list_any (λ (r : AttributeRow). has_expanded namespaces s local r.0) rows ≡ false
+none_rows namespaces s local codes [] h fresh = refl
+none_rows namespaces s local codes (a ∷ rest) h fresh =
+    let other = neither (same_prefix (attribute_uri namespaces a.0.namespace) (attribute_uri namespaces s)) _ (other_code codes a.0.local.now local h.0 fresh _ refl) in
+    rw other (none_rows namespaces s local codes rest h.1 fresh)
+
+-- the same were seen
+pub same_seen : (old new : SeenNames) (rows : List AttributeRow) → new.codes ≡ old.codes → new.from ≡ old.from → AreSeen old rows → AreSeen new rows
+same_seen old new rows codes from seen = λ more.
+    subst (λ (n : ℕ). AllByRecursion (λ (a : AttributeRow). HasNameOf new.codes a.0) (drop n rows)) (sym from)
+    (subst (λ (cs : List Bool). AllByRecursion (λ (a : AttributeRow). HasNameOf cs a.0) (drop old.from rows)) (sym codes) (seen (omega (arith, more, from))))

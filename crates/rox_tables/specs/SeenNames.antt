@@ -1,21 +1,14 @@
 -- The codes of local names, and which were seen.
-use Rattle.std.specs.Prelude.{◌≡◌, ℕ, ◌+◌, ◌*◌, ◌-◌, ◌/◌, ◌%◌, ◌^◌, Bool, true, false, List, get_or, if◌then◌else◌, drop, leb, eqb, length, slice_index, slice_range}
+use Rattle.std.specs.Prelude.{◌≡◌, ◌<◌, ℕ, ◌+◌, ◌*◌, ◌-◌, ◌%◌, Bool, true, false, List, get_or, if◌then◌else◌, drop, eqb, length, slice_index}
 use Rattle.std.specs.List.{AllByRecursion}
-use Rattle.std.specs.Int.{w32, from_le_bytes}
 use Rattle.rox_tables.specs.Rows.{AttributeRow}
 use Rattle.rox_tables.specs.declared.namespaces.seen_names.SeenNames.{SeenNames}
 use Rattle.rox_tables.specs.declared.rows.tables.AttributeData.{AttributeData}
 
--- what a name's code is made of
-unfoldable pub name_sum : List ℕ → ℕ
-name_sum local = if leb 4 (length local)
-    then from_le_bytes w32 (slice_range local 0 4) + from_le_bytes w32 (slice_range local (length local - 4) (length local)) * 5 + length local
-    else if eqb (length local) 0 then 0
-    else slice_index local 0 + slice_index local (length local / 2) * 256 + slice_index local (length local - 1) * 65536 + length local
-
--- the code of a local name
+-- the code of a local name, made of its length, its first byte and its last
 unfoldable pub name_code : List ℕ → ℕ
-name_code local = name_sum local * 11400714819323198485 % 2 ^ 64 / 2 ^ 56
+name_code local = if eqb (length local) 0 then 0
+    else ((slice_index local (length local - 1) + length local % 128) * 5 + slice_index local 0 * 2) % 128
 
 -- this code was seen
 unfoldable pub HasCode : List Bool → ℕ → Type 0
@@ -25,6 +18,10 @@ HasCode codes code = get_or codes code false ≡ true
 abbrev pub HasNameOf : List Bool → AttributeData → Type 0
 HasNameOf codes a = HasCode codes (name_code a.local.now)
 
--- the attributes of the tag, which are the last of these rows, were seen
+-- the attributes of the tag, which are the last of these rows, have codes that were seen
+abbrev pub HaveCodes : SeenNames → List AttributeRow → Type 0
+HaveCodes seen rows = AllByRecursion (λ a. HasNameOf seen.codes a.0) (drop seen.from rows)
+
+-- they were seen: two at most have no codes yet
 abbrev pub AreSeen : SeenNames → List AttributeRow → Type 0
-AreSeen seen rows = AllByRecursion (λ a. HasNameOf seen.codes a.0) (drop seen.from rows)
+AreSeen seen rows = seen.from + 2 < length rows → HaveCodes seen rows

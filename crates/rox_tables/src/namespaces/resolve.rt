@@ -25,6 +25,7 @@ use crate::compare::same_text;
 use crate::namespaces::bindings::PrefixBindings;
 use crate::namespaces::expanded_names::is_repeated_name;
 use crate::namespaces::namespace_decl::{local_span, prefix_span};
+use crate::namespaces::namespace_table::NamespaceTable;
 use crate::namespaces::scope::{XML_URI, find_default, find_prefix, same_prefix};
 use crate::namespaces::seen_names::SeenNames;
 use crate::namespaces::unresolved_attribute::{UnresolvedAttribute, UsualAttribute};
@@ -301,6 +302,7 @@ pub fn put_resolved<'input>(
     if seen.are_many_again() {
         return false;
     }
+    seen.put_few(attributes);
     let done = &attributes.items[seen.from..];
     let Ok(namespace) = tested_namespace(namespaces, few, present, done, seen, &one) else {
         return false;
@@ -333,51 +335,49 @@ pub fn put_resolved<'input>(
     true
 }
 
-/// Whether an attribute behind these of its tag, which were seen, is refused: one of them has its expanded name, or many codes of
-/// names came again. Its name is seen behind them. Where no name had its code, this takes no call.
-#[inline(always)]
+/// Whether an attribute of this local name, which may come again behind those of its tag, is refused: one of them has its expanded
+/// name, or many codes of names came again.
+#[cold]
+#[inline(never)]
 fn is_refused(
-    namespaces: &[Namespace<'_>],
-    done: &[StoredAttribute<'_>],
+    namespaces: &NamespaceTable<'_>,
+    attributes: &AttributeTable<'_>,
     seen: &mut SeenNames,
     namespace: AttributeNamespace,
     local: &str,
 ) -> bool
+    requires from { seen.old.from ≤ length (attribute_rows attributes.now) }
     requires done { AllByRecursion
-        (λ a. NamespaceWithin (length namespaces.now) (data_of a).namespace) done.now }
-    requires other { NamespaceWithin (length namespaces.now) namespace }
-    requires seen { AllByRecursion (λ a. HasNameOf seen.old.codes (data_of a)) done.now }
+        (λ a. NamespaceWithin (length namespaces.now.items.items) a.0.namespace)
+        (drop seen.old.from (attribute_rows attributes.now)) }
+    requires other { NamespaceWithin (length namespaces.now.items.items) namespace }
     ensures first { result ≡ false → list_any
-        (λ a. has_expanded (map namespace_view namespaces.now) namespace local.now
-        (data_of a)) done.now ≡ false }
-    ensures put { HasCode seen.new.codes (name_code local.now) }
+        (λ r. has_expanded (map namespace_view namespaces.now.items.items) namespace local.now r.0)
+        (drop seen.old.from (attribute_rows attributes.now)) ≡ false }
+    ensures codes { seen.new.codes ≡ seen.old.codes }
     ensures from { seen.new.from ≡ seen.old.from }
-    ensures kept { (code : ℕ) → HasCode seen.old.codes code → HasCode seen.new.codes code }
 {
-    let came = seen.put(local);
-    if !came {
-        return false;
-    }
     if seen.are_many_again() {
         return true;
     }
     seen.count_again();
-    is_among(namespaces, done, namespace, local)
+    let others = &attributes.items[seen.from..];
+    is_among(namespaces.as_slice(), others, namespace, local)
 }
 
 /// Puts an attribute that is usual behind those of its tag, which were `seen`, with this namespace: whether its expanded name is
 /// none of theirs, few codes of names came again, and there is room for it. Else the table is as before.
 #[inline(always)]
 pub fn put_usual_attribute<'input>(
-    namespaces: &[Namespace<'input>],
+    namespaces: &NamespaceTable<'input>,
     attributes: &mut AttributeTable<'input>,
     seen: &mut SeenNames,
     namespace: AttributeNamespace,
     one: UsualAttribute<'input>,
 ) -> bool
-    requires namespace { NamespaceWithin (length namespaces.now) namespace }
+    requires namespace { NamespaceWithin (length namespaces.now.items.items) namespace }
     requires from { seen.old.from ≤ length (attribute_rows attributes.old) }
-    requires done { AllByRecursion (λ a. NamespaceWithin (length namespaces.now) a.0.namespace)
+    requires done { AllByRecursion (λ a. NamespaceWithin (length namespaces.now.items.items) a.0.namespace)
         (drop seen.old.from (attribute_rows attributes.old)) }
     requires seen { AreSeen seen.old (attribute_rows attributes.old) }
     ensures refused { result ≡ false
@@ -386,13 +386,13 @@ pub fn put_usual_attribute<'input>(
         → attribute_rows attributes.new
         ≡ attribute_rows attributes.old ++ row_of_usual one.entry namespace ∷ [] }
     ensures first { result ≡ true → list_any
-        (λ r. has_expanded (map namespace_view namespaces.now) namespace one.entry.local.now r.0)
+        (λ r. has_expanded (map namespace_view namespaces.now.items.items) namespace one.entry.local.now r.0)
         (drop seen.old.from (attribute_rows attributes.old)) ≡ false }
     ensures from { seen.new.from ≡ seen.old.from }
     ensures seen { result ≡ true → AreSeen seen.new (attribute_rows attributes.new) }
 {
-    let others = &attributes.items[seen.from..];
-    if is_refused(namespaces, others, seen, namespace, one.local) {
+    let repeats = seen.may_have(attributes, one.local);
+    if repeats && is_refused(namespaces, attributes, seen, namespace, one.local) {
         return false;
     }
     let places = one.places();
@@ -434,6 +434,7 @@ pub fn put_changed<'input>(
     if seen.are_many_again() {
         return false;
     }
+    seen.put_few(attributes);
     let earlier = &attributes.items[seen.from..];
     let Ok(namespace) = tested_namespace(namespaces, few, present, earlier, seen, &own) else {
         return false;

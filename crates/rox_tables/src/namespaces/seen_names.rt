@@ -1,15 +1,22 @@
 //! Which local names the attributes of a tag have had: a filter that spares most of them from being compared with those before.
 
-ghost use Rattle.std.specs.Prelude.{◌≡◌, ◌≤◌, ◌+◌, ◌<◌, ◌^◌, ℕ, length, false, slice_range};
-ghost use Rattle.rox_tables.specs.SeenNames.{name_sum, name_code, HasCode};
+ghost use Rattle.std.specs.Prelude.{◌≡◌, ◌≤◌, ◌<◌, ◌++◌, ◌∷◌, [], ℕ, List, length, false, drop};
+ghost use Rattle.std.specs.List.{list_any};
+ghost use Rattle.rox_grammar.specs.Written.{NamespaceDecl};
+ghost use Rattle.rox_tables.specs.Rows.{AttributeRow, attribute_rows};
+ghost use Rattle.rox_tables.specs.ResolvedNames.{has_expanded};
+ghost use Rattle.rox_tables.specs.declared.rows.tables.AttributeNamespace.{AttributeNamespace};
+ghost use Rattle.rox_tables.specs.SeenNames.{name_code, HasCode, HaveCodes, AreSeen};
 
-use crate::compare::{WORD, word_at};
+use crate::compare::same_text;
+use crate::rows::attributes::AttributeTable;
 
-/// The attributes of a tag that are in the table: where they begin, and which codes their names have.
+/// The attributes of a tag that are in the table: where they begin, and which codes their names have. The first two have theirs
+/// put there with the third.
 #[derive(Drop)]
 pub struct SeenNames {
     pub from: usize,
-    pub codes: [bool; 256],
+    pub codes: [bool; 128],
     /// How many of them came again.
     pub again: usize,
 }
@@ -17,36 +24,26 @@ pub struct SeenNames {
 /// A tag is left to the general step if more codes than these come again: its names were chosen for that.
 const MOST_AGAIN: usize = 32;
 
-/// By what the sum of a name's bytes is multiplied: 2^64 by the golden ratio, which scatters sums that are near to one another.
-const SCATTER: u64 = 0x9E3779B97F4A7C15;
+/// How many codes there are.
+const CODES: usize = 128;
 
-/// What a name's code is made of: its length, its first bytes and its last.
-#[inline(always)]
-#[tactic(auto, unfolding(crate::specs::SeenNames::name_sum))]
-fn name_sum(bytes: &[u8]) -> u64
-    ensures { result ≡ name_sum bytes.now }
-{
-    let count = bytes.len();
-    if count >= WORD {
-        let last = word_at(bytes, count - WORD);
-        return word_at(bytes, 0) + last * 5 + count as u64;
-    }
-    if count == 0 {
-        return 0;
-    }
-    let middle = bytes[count / 2] as u64;
-    let last = bytes[count - 1] as u64;
-    bytes[0] as u64 + middle * 256 + last * 65536 + count as u64
-}
+/// Up to so many attributes of a tag have no codes yet: most tags have no more.
+const WITHOUT_CODES: usize = 2;
 
-/// The code of a local name: equal names have equal codes, and most others do not.
+/// The code of a local name, by its length, its first byte and its last: equal names have equal codes, and most others do not.
 #[inline(always)]
 #[tactic(auto, unfolding(crate::specs::SeenNames::name_code))]
 fn name_code(local: &str) -> usize
     ensures is { result ≡ name_code local.now }
-    ensures within { result < 256 }
+    ensures within { result < 128 }
 {
-    (name_sum(local.as_bytes()).wrapping_mul(SCATTER) >> 56) as usize
+    let bytes = local.as_bytes();
+    let count = bytes.len();
+    if count == 0 {
+        return 0;
+    }
+    let last = bytes[count - 1] as usize;
+    ((last + count % CODES) * 5 + bytes[0] as usize * 2) % CODES
 }
 
 impl SeenNames {
@@ -57,7 +54,7 @@ impl SeenNames {
     {
         SeenNames {
             from,
-            codes: [false; 256],
+            codes: [false; CODES],
             again: 0,
         }
     }
@@ -74,6 +71,45 @@ impl SeenNames {
         let came = self.codes[code];
         self.codes[code] = true;
         came
+    }
+
+    /// Puts the names of the attributes of the tag there, if they have no codes yet.
+    #[inline(always)]
+    pub(crate) fn put_few(&mut self, attributes: &AttributeTable<'_>)
+        requires from { self.old.from ≤ length (attribute_rows attributes.now) }
+        requires seen { AreSeen self.old (attribute_rows attributes.now) }
+        ensures coded { HaveCodes self.new (attribute_rows attributes.now) }
+        ensures from { self.new.from ≡ self.old.from }
+    {
+        let count = attributes.items.len() - self.from;
+        if count == 0 || count > WITHOUT_CODES {
+            return;
+        }
+        self.put(attributes.items[self.from].local);
+        if count == WITHOUT_CODES {
+            self.put(attributes.items[self.from + 1].local);
+        }
+    }
+
+    /// Whether an attribute of the tag may have this local name, which is seen behind them. The second name is compared with the
+    /// first; where no name had its code, none is.
+    #[inline(always)]
+    pub(crate) fn may_have(&mut self, attributes: &AttributeTable<'_>, local: &str) -> bool
+        requires from { self.old.from ≤ length (attribute_rows attributes.now) }
+        requires seen { AreSeen self.old (attribute_rows attributes.now) }
+        ensures first { result ≡ false → (namespaces : List NamespaceDecl) (s : AttributeNamespace)
+            → list_any (λ r. has_expanded namespaces s local.now r.0)
+            (drop self.old.from (attribute_rows attributes.now)) ≡ false }
+        ensures seen { (row : AttributeRow) → row.0.local.now ≡ local.now
+            → AreSeen self.new (attribute_rows attributes.now ++ row ∷ []) }
+        ensures from { self.new.from ≡ self.old.from }
+    {
+        let count = attributes.items.len() - self.from;
+        if count < WITHOUT_CODES {
+            return count == 1 && same_text(attributes.items[self.from].local, local);
+        }
+        self.put_few(attributes);
+        self.put(local)
     }
 
     /// Counts a name whose code was there.

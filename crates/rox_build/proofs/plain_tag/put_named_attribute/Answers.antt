@@ -79,6 +79,6 @@ returns-clause-added c = λ _.
       added = adds_usual namespaces (few_in t c.args.scope) t.present c.args.seen.now.from (attribute_rows t.attributes) _ one usual space
           (ap (λ (p : AttributePlaces). (record { local = name.local; value = Borrowed c.range.result; namespace = space }, p)) (sym places))
           (put.added true) (subst (λ m. NamespaceWithin m space) (sym (length-map t.namespaces.items.items namespace_view)) found.within)
-          (λ scope h. found.there scope h) (λ scope h. found.known scope h) (rw c.as_slice.ensures.value at (put.first true));
+          (λ scope h. found.there scope h) (λ scope h. found.known scope h) (put.first true);
       end = refl;
     }

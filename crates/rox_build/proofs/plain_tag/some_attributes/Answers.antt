@@ -3,7 +3,7 @@ use Rattle.std.specs.Str.{IsCharBoundary}
 use Rattle.rox_build.specs.PlainTag.{PlainSoFar, few_in}
 use Rattle.rox_tables.specs.Rows.{namespace_view, attribute_rows}
 use Rattle.rox_tables.specs.ResolvedNames.{AddsResolved}
-use Rattle.rox_tables.proofs.SeenCodes.{seen_first}
+use Rattle.rox_tables.proofs.SeenCodes.{few_seen}
 use Rattle.rox_build.proofs.PlainTags.{plain_starts, plain_more, ends_or_not, begins_no_end, done_within, scope_stays, adds_there, others_stay}
 use Rattle.rox_build.proofs.plain_tag.some_attributes.Goals as goal
 
@@ -13,7 +13,7 @@ loop-at-init c =
     record {
       others = refl;
       from = omega arith;
-      seen = seen_first c.new-seen.result (attribute_rows t.attributes) (omega arith);
+      seen = few_seen c.new-seen.result (attribute_rows t.attributes) (omega arith);
       cut = c.requires.cut;
       so_far = plain_starts (map namespace_view t.namespaces.items.items) (few_in t c.args.scope) t.present c.args.text.now c.args.start (attribute_rows t.attributes);
     }
