@@ -1,5 +1,5 @@
 -- One attribute or declaration of a start tag, and the loop over them.
-use Rattle.std.proofs.Common.{◌≡◌, ℕ, zero, suc, ◌+◌, ◌<◌, ◌≤◌, Bool, true, false, cond, eqb, nat_le, if◌then◌else◌, List, [], ◌∷◌, ◌++◌, map, length, get_or, refl, sym, ap, ◌∙◌, subst, Result, Ok, Err, le-leb}
+use Rattle.std.proofs.Common.{◌≡◌, ℕ, zero, suc, ◌+◌, ◌<◌, ◌≤◌, Bool, true, false, cond, eqb, nat_le, if◌then◌else◌, List, [], ◌∷◌, ◌++◌, map, length, get_or, refl, sym, ap, ◌∙◌, subst, Result, Ok, Err, le-leb, inl, inr}
 use Rattle.std.proofs.lemmas.List.{map-append}
 use Rattle.std.proofs.lemmas.Bool.{leb-false, lt-leb}
 use Rattle.rox_grammar.specs.declared.fault.Fault.{Fault}
@@ -15,6 +15,7 @@ use Rattle.rox_grammar.specs.Failures.{Fails, name_view}
 use Rattle.rox_scan.specs.Views.{attribute_view}
 use Rattle.rox_grammar.specs.declared.failure.Failure.{Failure}
 use Rattle.rox_grammar.specs.declared.failure.Failure.TheVariants as failure
+use Rattle.rox_scan.specs.declared.cursor.Cursor.{Cursor}
 use Rattle.rox_scan.specs.declared.tag.RawAttribute.{RawAttribute as CodeRaw}
 use Rattle.rox_values.specs.Refusals.{IsRefusal, of_failure}
 use Rattle.rox_values.specs.declared.parse_error.ParseError.{ParseError}
@@ -23,7 +24,7 @@ use Rattle.rox_tables.specs.declared.rows.tables.ElementTables.{ElementTables}
 use Rattle.rox_tables.specs.Storage.{storage_bytes, is_borrowed}
 use Rattle.rox_tables.specs.declared.namespaces.unresolved_attribute.UnresolvedAttribute.{UnresolvedAttribute}
 use Rattle.rox_tables.specs.TagDeclarations.{unresolved_view, Declared}
-use Rattle.rox_build.specs.TagState.{HoldsTag, KeepsScopes, GivesAttribute, AddsAttribute, value_of}
+use Rattle.rox_build.specs.TagState.{HoldsTag, KeepsScopes, GivesAttribute, GivesTagPart, AddsAttribute, value_of}
 
 -- an attribute with its value is the one that the code makes of it
 pub view_is : (raw : CodeRaw) (v : ReadText) (t : UnresolvedAttribute) → t.start ≡ raw.start → t.name_end ≡ raw.name_end → t.value_start ≡ raw.value_start → t.end ≡ raw.value_end + 1
@@ -222,3 +223,11 @@ pub going_stops : (context : Values) (known : List NamespaceDecl) (before : List
     → IsRefusal e (one_more context known src raw openings_left g.h) → IsRefusal e whole
 going_stops context known before cut src whole n m i j openings_left namespaces listed xml taken raw e g one inside is h =
     refuses_by e (one_more context known src raw openings_left g.h) whole (λ r err. sym g.same ∙ more_turn context cut known src n m i j openings_left g.h raw one inside is ∙ rw err refl) h
+
+-- what stands next is refused
+pub going_refused : (context : Values) (known : List NamespaceDecl) (before : List ℕ) (cut : Fault) (src : List ℕ) (whole : Result (TagRest × ℕ) Refusal) (n m i openings_left : ℕ) (namespaces : List NamespaceDecl) (listed : List ℕ) (xml : Bool) (taken : List UnresolvedAttribute) (after : Cursor) (e : ParseError)
+    → (g : Going context known before cut src whole n i openings_left namespaces listed xml taken) → n ≡ suc m → i < length src → GivesTagPart context src i openings_left after (Err e) → IsRefusal e whole
+going_refused context known before cut src whole n m i openings_left namespaces listed xml taken after e g one inside (inl (f, is, fails)) =
+    rw is (going_fails context known before cut src whole n m i openings_left namespaces listed xml taken f g one inside fails)
+going_refused context known before cut src whole n m i openings_left namespaces listed xml taken after e g one inside (inr (raw, j, is, refused)) =
+    going_stops context known before cut src whole n m i j openings_left namespaces listed xml taken raw e g one inside is (refused_value context known src raw openings_left g.h e refused)

@@ -8,14 +8,15 @@ use Rattle.rox_grammar.specs.Written.{Attribute, NamespaceDecl, Tag, is_namespac
 use Rattle.rox_grammar.specs.Tree.{attribute_in}
 use Rattle.rox_grammar.specs.Entities.{Entity}
 use Rattle.rox_grammar.specs.Failures.{name_view}
-use Rattle.rox_reading.specs.Markup.{attribute_at}
+use Rattle.rox_reading.specs.Markup.{RawAttribute, more, attribute_at, tag_item_at}
 use Rattle.rox_reading.specs.Values.{ValueInclusion, value_at}
-use Rattle.rox_reading.specs.Tags.{TagSoFar, Values, attributes_at, names_tested, tag_at}
+use Rattle.rox_reading.specs.Tags.{TagSoFar, Values, attribute_with, attributes_at, names_tested, tag_at}
 use Rattle.rox_tables.specs.Bindings.{FindsBinding}
 use Rattle.rox_tables.specs.Rows.{AttributeRow, AreScopes, NamespaceWithin, namespace_view, attribute, attribute_rows}
 use Rattle.rox_tables.specs.Scopes.{ArePlaces, places_in}
 use Rattle.rox_tables.specs.declared.namespaces.bindings.PrefixBindings.{PrefixBindings}
 use Rattle.rox_tables.specs.ResolvedNames.{AddsResolved}
+use Rattle.rox_tables.specs.TagDeclarations.{unresolved_view}
 use Rattle.rox_tables.specs.Storage.{storage_bytes, is_borrowed}
 use Rattle.rox_tables.specs.declared.rows.tables.ElementTables.{ElementTables}
 use Rattle.rox_build.specs.ElementRow.{Tagged}
@@ -58,6 +59,15 @@ pub record IsPlainAttribute (src : List ℕ) (i : ℕ) (a : UnresolvedAttribute)
   -- how much of it its parts take
   pub local : a.start + length a.name.local.now ≤ a.name_end
   pub gap : a.name_end + 2 ≤ a.value_start
+
+-- an attribute or a declaration that stands behind white space at this place, and whose value is the same whatever reads it
+pub record IsNearAttribute (src : List ℕ) (i : ℕ) (a : UnresolvedAttribute) : Type 0 where
+  pub raw : RawAttribute
+  pub read : tag_item_at src i ≡ Ok (more raw, a.end)
+  pub value : (main : Bool) (es : List Entity) (opener : ValueInclusion) (openings_left : ℕ)
+      → value_at main es opener src raw.value_start raw.value_end openings_left ≡ Ok (record { value = storage_bytes a.value; borrowed = is_borrowed a.value }, openings_left)
+  pub view : attribute_with raw (record { value = storage_bytes a.value; borrowed = is_borrowed a.value }) ≡ unresolved_view a
+  pub cut : IsCharBoundary src a.end
 
 -- such an attribute, which is no declaration, was put behind those of its tag, which begin at this row
 pub record AddsPlain (namespaces : List NamespaceDecl) (few : Option (List ℕ)) (present : PrefixBindings) (from : ℕ) (src : List ℕ) (i j : ℕ) (old new : List AttributeRow) : Type 0 where

@@ -1,15 +1,18 @@
 -- What the code holds of a start tag, against what is read of it.
-use Rattle.std.specs.Prelude.{◌≡◌, ℕ, ◌≤◌, Bool, List, Option, length, map, drop, Result, Ok, Err}
+use Rattle.std.specs.Prelude.{◌≡◌, ◌⊎◌, ℕ, ◌≤◌, Bool, if◌then◌else◌, List, Option, length, map, drop, Result, Ok, Err}
 use Rattle.std.specs.Borrow.{Bor}
 use Rattle.rox_grammar.specs.Document.{most_pairs}
 use Rattle.rox_grammar.specs.Failures.{Fails}
 use Rattle.rox_grammar.specs.declared.failure.Failure.{Failure}
 use Rattle.rox_grammar.specs.declared.fault.Fault.{Fault}
 use Rattle.rox_grammar.specs.Written.{NamespaceDecl}
-use Rattle.rox_reading.specs.Markup.{RawAttribute}
+use Rattle.rox_reading.specs.Markup.{RawAttribute, more, opened, closed, tag_item_at}
 use Rattle.rox_reading.specs.Refusals.{Refusal}
 use Rattle.rox_reading.specs.Tags.{TagSoFar, TagRest, Values, attribute_with}
 use Rattle.rox_reading.specs.Values.{ReadText, value_at}
+use Rattle.rox_build.specs.declared.tag.TagPart.{TagPart}
+use Rattle.rox_build.specs.declared.tag.TagPart.TheVariants as part
+use Rattle.rox_values.specs.declared.parse_error.ParseError.TheVariants as error
 use Rattle.rox_scan.specs.declared.cursor.Cursor.{Cursor}
 use Rattle.rox_tables.specs.PrefixSet.{IsPrefixSet}
 use Rattle.rox_tables.specs.Rows.{namespace_view, AreScopes}
@@ -43,10 +46,21 @@ pub record HoldsTag (known : List NamespaceDecl) (before : List ℕ) (namespaces
   pub declares : Declares known before namespaces listed xml h.own
   pub attributes : map unresolved_view taken ≡ h.attributes
 
+-- what is read of its value, where so many may be opened
+abbrev pub value_of : Values → List ℕ → RawAttribute → ℕ → Result (ReadText × ℕ) Refusal
+value_of context src raw openings_left = value_at context.main context.entities context.opener src raw.value_start raw.value_end openings_left
+
 -- one attribute or declaration as written, with what is read of its value, and how many replacement texts may be opened behind it
 abbrev pub GivesAttribute : RawAttribute → Result (UnresolvedAttribute × ℕ) ParseError → Result (ReadText × ℕ) Refusal → Type 0
 GivesAttribute raw (Ok x) read = (v : ReadText) × (read ≡ Ok (v, x.1)) × (attribute_with raw v ≡ unresolved_view x.0)
 GivesAttribute raw (Err e) read = IsRefusal e read
+
+-- what a tag holds next at this place: an attribute or a declaration, or the tag's end
+abbrev pub GivesTagPart : Values → List ℕ → (i openings_left : ℕ) → Cursor → Result TagPart ParseError → Type 0
+GivesTagPart context src i openings_left after (Ok (part.One a l)) = (raw : RawAttribute) × (tag_item_at src i ≡ Ok (more raw, after.pos)) × GivesAttribute raw (Ok (a, l)) (value_of context src raw openings_left)
+GivesTagPart context src i openings_left after (Ok (part.End empty)) = tag_item_at src i ≡ Ok ((if empty then closed else opened), after.pos)
+GivesTagPart context src i openings_left after (Err e) =
+    ((f : Fault) × (e ≡ error.Fault f) × (tag_item_at src i ≡ Err f)) ⊎ ((raw : RawAttribute) × (j : ℕ) × (tag_item_at src i ≡ Ok (more raw, j)) × IsRefusal e (value_of context src raw openings_left))
 
 -- what it makes of that
 abbrev pub AddsAttribute : (known : List NamespaceDecl) (before : List ℕ) (namespaces : List NamespaceDecl) (listed : List ℕ) (taken : List UnresolvedAttribute) → Result Bool Failure → Result TagSoFar Fault → Type 0
@@ -58,7 +72,3 @@ abbrev pub AddsAttributes : (known : List NamespaceDecl) (before : List ℕ) (na
 AddsAttributes known before namespaces listed taken after (Ok x) read =
     (h : TagSoFar) × (read ≡ Ok (record { held = h; empty = x.1; openings_left = x.2 }, after.pos)) × HoldsTag known before namespaces listed x.0 taken h
 AddsAttributes known before namespaces listed taken after (Err e) read = IsRefusal e read
-
--- what is read of its value, where so many may be opened
-abbrev pub value_of : Values → List ℕ → RawAttribute → ℕ → Result (ReadText × ℕ) Refusal
-value_of context src raw openings_left = value_at context.main context.entities context.opener src raw.value_start raw.value_end openings_left

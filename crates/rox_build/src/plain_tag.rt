@@ -26,7 +26,7 @@ ghost use Rattle.rox_tables.specs.SeenNames.{AreSeen};
 ghost use Rattle.rox_tables.specs.TagScopes.{HasBindings};
 ghost use Rattle.rox_build.specs.ElementRow.{scope_in_tables};
 ghost use Rattle.rox_build.specs.BuilderState.{IsNamespaceOf, IsOpenWithin};
-ghost use Rattle.rox_build.specs.PlainTag.{HasScope, few_in, IsValueStart, IsPlainAttribute, AddsPlain, ArePlainAttributes, IsPlainTag, HoldSame};
+ghost use Rattle.rox_build.specs.PlainTag.{HasScope, few_in, IsValueStart, IsPlainAttribute, IsNearAttribute, AddsPlain, ArePlainAttributes, IsPlainTag, HoldSame};
 
 use crate::builder::OpenElement;
 use crate::spaced_value::{spaced_value, spaced_value_end};
@@ -427,6 +427,41 @@ fn quote_behind_equals(text: &str, at: usize) -> u8
         return 0;
     }
     quote_here(text, at + 1)
+}
+
+/// The attribute or declaration behind the white space at `at`, if it is written as most are: `=` and a quote stand right behind its
+/// name, and its value stands for itself.
+#[inline(always)]
+pub fn near_attribute<'input>(text: &'input str, at: usize) -> Option<UnresolvedAttribute<'input>>
+    requires { IsCharBoundary text.now at }
+    ensures { IfSome result (λ a. IsNearAttribute text.entry.now at a) }
+{
+    let small = byte_count(text);
+    if at + 1 >= text.len() {
+        return None;
+    }
+    let start = near_space_end(text, at);
+    if start == at || !begins::<NameStart>(text, start) {
+        return None;
+    }
+    let colon = part_end(text, start);
+    let name = plain_name(text, start, colon)?;
+    let quote = quote_behind_equals(text, name.end);
+    if quote == 0 {
+        return None;
+    }
+    let equals = after_byte(text, name.end, b'=');
+    let first = after_byte(text, equals, quote);
+    let near = skip_set::<ValueByte>(text, first);
+    let close = plain_value_end(text, first, quote, near)?;
+    Some(UnresolvedAttribute {
+        start,
+        name_end: name.end,
+        value_start: first,
+        end: after_byte(text, close, quote),
+        name: name.name,
+        value: StringStorage::Borrowed(&text[first..close]),
+    })
 }
 
 /// An attribute whose name was read, behind which `=` and a quote stand: up to `near` each byte of its value stands for itself.

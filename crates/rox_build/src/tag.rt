@@ -16,9 +16,10 @@ ghost use Rattle.rox_tables.specs.Rows.{namespace_view, scope_at, AreScopes, att
 ghost use Rattle.rox_tables.specs.Scopes.{ArePlaces, PrefixesOnce, entries};
 ghost use Rattle.rox_tables.specs.PrefixSet.{IsPrefixSet};
 ghost use Rattle.rox_tables.specs.TagDeclarations.{Declares, unresolved_view};
-ghost use Rattle.rox_build.specs.TagState.{HoldsTag, IsReadingTag, KeepsScopes, GivesAttribute, AddsAttribute, AddsAttributes, value_of};
+ghost use Rattle.rox_build.specs.TagState.{HoldsTag, IsReadingTag, KeepsScopes, GivesAttribute, GivesTagPart, AddsAttribute, AddsAttributes, value_of};
 ghost use Rattle.rox_grammar.specs.Tree.{listed};
 
+use crate::plain_tag::near_attribute;
 use rox_grammar::failure::Failure;
 use rox_grammar::fault::Fault;
 use rox_grammar::name::QName;
@@ -136,6 +137,44 @@ fn unresolved<'input>(
     Ok((one, openings_left))
 }
 
+/// What a start tag holds next: an attribute or a declaration, and how many replacement texts may be opened behind it; or its end,
+/// and whether it is empty.
+#[derive(Drop)]
+pub enum TagPart<'input> {
+    One(UnresolvedAttribute<'input>, u32),
+    End(bool),
+}
+
+/// What a start tag holds next, where so many replacement texts may be opened: most often an attribute or a declaration that is read
+/// at one look.
+#[inline(always)]
+fn tag_part<'input>(
+    alloc: Global,
+    cursor: &mut Cursor<'input>,
+    context: Context<'_, 'input>,
+    openings_left: u32,
+    scratch: &mut String,
+) -> Result<TagPart<'input>, ParseError<'input>>
+    ensures source { cursor.new.text ≡ cursor.old.text }
+    ensures part { (es : List Entity) → AreDeclared es context.entry.entities.now
+        → GivesTagPart (values_in es context.entry) cursor.old.text.now cursor.old.pos
+        openings_left cursor.new result }
+{
+    let small = byte_count(cursor.text);
+    if let Some(one) = near_attribute(cursor.text, cursor.pos) {
+        cursor.pos = one.end;
+        return Ok(TagPart::One(one, openings_left));
+    }
+    match cursor.tag_item()? {
+        TagItem::More(raw) => {
+            let (one, left) = unresolved(alloc, cursor, &raw, context, openings_left, scratch)?;
+            Ok(TagPart::One(one, left))
+        }
+        TagItem::Open => Ok(TagPart::End(false)),
+        TagItem::Empty => Ok(TagPart::End(true)),
+    }
+}
+
 /// Puts an attribute or a declaration of a tag that has these declarations so far, and answers whether it declares `xml` now.
 fn add_attribute<'input>(
     elements: &mut ElementTables<'input>,
@@ -212,16 +251,13 @@ fn attributes<'input>(
         if cursor.is_at_end() {
             return Err(ParseError::Fault(tag.cut));
         }
-        match cursor.tag_item()? {
-            TagItem::More(raw) => {
-                let scratch = &mut buffers.scratch;
-                let (one, left) = unresolved(alloc, cursor, &raw, context, openings_left, scratch)?;
+        match tag_part(alloc, cursor, context, openings_left, &mut buffers.scratch)? {
+            TagPart::One(one, left) => {
                 let own = OwnDeclarations { from: tag.own, xml };
                 xml = add_attribute(elements, buffers, own, one)?;
                 openings_left = left;
             }
-            TagItem::Open => return Ok((xml, false, openings_left)),
-            TagItem::Empty => return Ok((xml, true, openings_left)),
+            TagPart::End(empty) => return Ok((xml, empty, openings_left)),
         }
     }
     Err(ParseError::Fault(tag.cut))
