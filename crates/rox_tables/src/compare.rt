@@ -1,7 +1,7 @@
 //! Equality of short texts.
 
 ghost use Rattle.std.specs.Prelude.{◌≡◌, ◌≤◌, ◌<◌, ◌+◌, ◌^◌, length, bytes_eq, slice_range};
-ghost use Rattle.std.specs.Int.{w32, from_le_bytes};
+ghost use Rattle.std.specs.Int.{w32, from_le_bytes, to_le_bytes};
 
 /// The length from which on the library compares texts.
 pub const LONG: usize = 16;
@@ -14,32 +14,50 @@ pub const WORD: usize = 4;
 pub fn word_at(bytes: &[u8], at: usize) -> u64
     requires { at + 4 ≤ length bytes.now }
     ensures value { result ≡ from_le_bytes w32 (slice_range bytes.now at (at + 4)) }
+    ensures back { to_le_bytes w32 result ≡ slice_range bytes.now at (at + 4) }
     ensures small { result < 2 ^ 32 }
 {
     u32::from_le_bytes([bytes[at], bytes[at + 1], bytes[at + 2], bytes[at + 3]]) as u64
 }
 
-/// Whether two stretches of bytes, one word long or up to two, are the same: their first words are, and their last ones.
-#[inline(always)]
-fn same_words(one: &[u8], other: &[u8]) -> bool
-    requires same { length one.now ≡ length other.now }
-    requires least { 4 ≤ length one.now }
-    requires most { length one.now ≤ 8 }
-    ensures { result ≡ bytes_eq one.now other.now }
-{
-    let last = one.len() - WORD;
-    word_at(one, 0) == word_at(other, 0) && word_at(one, last) == word_at(other, last)
+/// Two stretches of bytes of one length, to be compared.
+#[derive(Clone, Copy)]
+pub struct Pair<'a, 'b> {
+    pub one: &'a [u8],
+    pub other: &'b [u8],
+    pub ghost same: { length one.now ≡ length other.now },
 }
 
-/// Whether two stretches of bytes of one length are the same, byte by byte.
+/// Whether four bytes are the same in both.
 #[inline(always)]
-pub fn same_bytes(one: &[u8], other: &[u8]) -> bool
-    requires { length one.now ≡ length other.now }
-    ensures { result ≡ bytes_eq one.now other.now }
+fn same_word(pair: Pair<'_, '_>, at: usize) -> bool
+    requires { at + 4 ≤ length pair.one.now }
+    ensures { result
+        ≡ bytes_eq (slice_range pair.entry.one.now at (at + 4))
+        (slice_range pair.entry.other.now at (at + 4)) }
+{
+    word_at(pair.one, at) == word_at(pair.other, at)
+}
+
+/// Whether two stretches of four to eight bytes are the same: their first four are, and their last four.
+#[inline(always)]
+pub fn same_words(pair: Pair<'_, '_>) -> bool
+    requires least { 4 ≤ length pair.one.now }
+    requires most { length pair.one.now ≤ 8 }
+    ensures { result ≡ bytes_eq pair.entry.one.now pair.entry.other.now }
+{
+    let last = pair.one.len() - WORD;
+    same_word(pair, 0) && same_word(pair, last)
+}
+
+/// Whether both are the same, byte by byte.
+#[inline(always)]
+pub fn same_bytes(pair: Pair<'_, '_>) -> bool
+    ensures { result ≡ bytes_eq pair.entry.one.now pair.entry.other.now }
 {
     let mut at = 0;
-    while at < one.len() {
-        if one[at] != other[at] {
+    while at < pair.one.len() {
+        if pair.one[at] != pair.other[at] {
             return false;
         }
         at += 1;
@@ -47,16 +65,15 @@ pub fn same_bytes(one: &[u8], other: &[u8]) -> bool
     true
 }
 
-/// Whether two short stretches of bytes of one length are the same.
+/// Whether two short ones are the same.
 #[inline(always)]
-pub fn same_short(one: &[u8], other: &[u8]) -> bool
-    requires { length one.now ≡ length other.now }
-    ensures { result ≡ bytes_eq one.now other.now }
+pub fn same_short(pair: Pair<'_, '_>) -> bool
+    ensures { result ≡ bytes_eq pair.entry.one.now pair.entry.other.now }
 {
-    if one.len() >= WORD && one.len() <= WORD * 2 {
-        return same_words(one, other);
+    if pair.one.len() >= WORD && pair.one.len() <= WORD * 2 {
+        return same_words(pair);
     }
-    same_bytes(one, other)
+    same_bytes(pair)
 }
 
 /// Whether two long texts are the same. It is kept out of line, so that the short ones stay in registers.
@@ -78,5 +95,8 @@ pub fn same_text(one: &str, other: &str) -> bool
     if one.len() >= LONG {
         return same_long_text(one, other);
     }
-    same_short(one.as_bytes(), other.as_bytes())
+    same_short(Pair {
+        one: one.as_bytes(),
+        other: other.as_bytes(),
+    })
 }

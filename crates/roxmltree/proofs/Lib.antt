@@ -9,7 +9,6 @@ pub mod Plain
 pub mod Entries
 pub mod ListedFirst
 pub mod PrefixFirst
-pub mod Words
 pub mod Parts
 pub mod Ends
 pub mod AttributeRows

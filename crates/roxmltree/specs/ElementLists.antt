@@ -42,9 +42,3 @@ pub record NamespacesWithin (n : namespaces.Inside) : Type 0 where
   pub is_row : n.from < n.until → n.scope < length n.scopes.now
   pub scopes : AreScopes (length n.listed.now) n.scopes.now
   pub each : ArePlaces (length n.namespaces.now) n.listed.now
-
--- a scope of these, which lists some of these places, each that of one of so many namespaces
-pub record IsScopeOf (namespaces : ℕ) (listed : List ℕ) (table : List Scope) (scope : ℕ) : Type 0 where
-  pub is_row : scope < length table
-  pub scopes : AreScopes (length listed) table
-  pub named : ArePlaces namespaces listed

@@ -1,11 +1,11 @@
 //! Names with their namespaces (Namespaces in XML 1.0 section 2.1).
 
 ghost use Rattle.std.specs.Prelude.{◌≡◌, ◌≤◌, ◌+◌, length, Some, None, bytes_eq, slice_range};
-ghost use Rattle.std.specs.Int.{w32, w64, from_le_bytes, to_le_bytes};
+ghost use Rattle.std.specs.Int.{w64, from_le_bytes, to_le_bytes};
 ghost use Rattle.std.specs.Option.{option_map};
 ghost use Rattle.roxmltree.specs.ExpandedNames.{expanded, same_expanded_name};
 
-use rox_tables::compare::same_bytes;
+use rox_tables::compare::{Pair, WORD, same_bytes, same_words};
 use std::fmt;
 
 /// The namespace of the prefix `xml`.
@@ -17,54 +17,11 @@ pub const NS_XMLNS_URI: &str = "http://www.w3.org/2000/xmlns/";
 /// The length from which on two names are compared out of line.
 const LONG: usize = 17;
 
-/// How many bytes a word has.
-const WORD: usize = 4;
-
 /// How many bytes a long word has.
 const LONG_WORD: usize = 8;
 
 /// How many bytes two long words have.
 const STRETCH: usize = 16;
-
-/// Two names of one length, to be compared.
-#[derive(Clone, Copy)]
-struct Pair<'a, 'b> {
-    one: &'a [u8],
-    other: &'b [u8],
-    ghost same: { length one.now ≡ length other.now },
-}
-
-/// Four bytes as one word.
-#[inline(always)]
-fn word_at(bytes: &[u8], at: usize) -> u32
-    requires { at + 4 ≤ length bytes.now }
-    ensures value { result ≡ from_le_bytes w32 (slice_range bytes.now at (at + 4)) }
-    ensures back { to_le_bytes w32 result ≡ slice_range bytes.now at (at + 4) }
-{
-    u32::from_le_bytes([bytes[at], bytes[at + 1], bytes[at + 2], bytes[at + 3]])
-}
-
-/// Whether four bytes are the same in both.
-#[inline(always)]
-fn same_word(pair: Pair<'_, '_>, at: usize) -> bool
-    requires { at + 4 ≤ length pair.one.now }
-    ensures { result
-        ≡ bytes_eq (slice_range pair.entry.one.now at (at + 4))
-        (slice_range pair.entry.other.now at (at + 4)) }
-{
-    word_at(pair.one, at) == word_at(pair.other, at)
-}
-
-/// Whether two stretches of four to eight bytes, of one length, are the same: their first four are, and their last four.
-#[inline(always)]
-fn same_words(pair: Pair<'_, '_>) -> bool
-    requires least { 4 ≤ length pair.one.now }
-    requires most { length pair.one.now ≤ 8 }
-    ensures { result ≡ bytes_eq pair.entry.one.now pair.entry.other.now }
-{
-    let last = pair.one.len() - WORD;
-    same_word(pair, 0) && same_word(pair, last)
-}
 
 /// Eight bytes as one long word.
 #[inline(always)]
@@ -165,7 +122,7 @@ pub(crate) fn equal_names(one: &str, other: &str) -> bool
     if one.len() >= WORD {
         return same_words(pair);
     }
-    same_bytes(pair.one, pair.other)
+    same_bytes(pair)
 }
 
 /// A local name and, if it has one, its namespace. Two are equal where their local names are equal, and both have no

@@ -37,7 +37,7 @@ impl<'a, 'input> NamespaceIter<'a, 'input> {
     ghost use Rattle.std.specs.Prelude.{[], map, ◌<◌, ◌^◌};
     ghost use Rattle.rox_tables.specs.Rows.{namespace_at};
     ghost use Rattle.rox_tables.specs.Scopes.{places_in};
-    ghost use Rattle.roxmltree.specs.ElementLists.{IsScopeOf};
+    ghost use Rattle.rox_tables.specs.Ropes.{IsScopeOf};
 
     /// All that a scope lists of these places, in this table of namespaces.
     #[inline]

@@ -6,7 +6,7 @@ ghost use Rattle.std.specs.Option.{option_map};
 ghost use Rattle.rox_grammar.specs.Tree.{same_prefix, uri_of};
 ghost use Rattle.rox_tables.specs.Rows.{namespace_view};
 ghost use Rattle.rox_tables.specs.Scopes.{prefix_view, entries, places_in, ArePlaces};
-ghost use Rattle.roxmltree.specs.ElementLists.{IsScopeOf};
+ghost use Rattle.rox_tables.specs.Ropes.{IsScopeOf};
 ghost use Rattle.roxmltree.specs.ExpandedNames.{first_prefix};
 
 use crate::names::equal_names;

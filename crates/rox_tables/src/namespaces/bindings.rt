@@ -121,7 +121,6 @@ impl<'input> PrefixBindings<'input> {
         ensures keeps { OnOk result
             ((namespaces : List NamespaceDecl) (lists : List (List NamespaceDecl))
             → AreBindingsOf namespaces lists self.old → AreBindingsOf namespaces lists self.new) }
-        ensures layers { self.new.layers ≡ self.old.layers }
     {
         let before = self.get(prefix);
         push(&mut self.replaced, ShadowedBinding { prefix, before })?;
@@ -217,7 +216,6 @@ impl<'input> PrefixBindings<'input> {
         ensures keeps { OnOk result
             ((namespaces : List NamespaceDecl) (lists : List (List NamespaceDecl))
             → AreBindingsOf namespaces lists self.old → AreBindingsOf namespaces lists self.new) }
-        ensures layers { self.new.layers ≡ self.old.layers }
     {
         if !xml {
             return Ok(());
@@ -243,7 +241,6 @@ impl<'input> PrefixBindings<'input> {
         ensures keeps { OnOk result
             ((namespaces : List NamespaceDecl) (lists : List (List NamespaceDecl))
             → AreBindingsOf namespaces lists self.old → AreBindingsOf namespaces lists self.new) }
-        ensures layers { self.new.layers ≡ self.old.layers }
     {
         let namespace = listed[position];
         let place = Binding {
@@ -272,7 +269,6 @@ impl<'input> PrefixBindings<'input> {
         ensures keeps { OnOk result
             ((namespaces : List NamespaceDecl) (lists : List (List NamespaceDecl))
             → AreBindingsOf namespaces lists self.old → AreBindingsOf namespaces lists self.new) }
-        ensures layers { self.new.layers ≡ self.old.layers }
     {
         for position in from..until {
             self.bind(namespaces, listed, position)?;
@@ -296,7 +292,6 @@ impl<'input> PrefixBindings<'input> {
         ensures keeps { OnOk result
             ((namespaces : List NamespaceDecl) (lists : List (List NamespaceDecl))
             → AreBindingsOf namespaces lists self.old → AreBindingsOf namespaces lists self.new) }
-        ensures layers { self.new.layers ≡ self.old.layers }
     {
         let count = count(scopes, scope);
         for turn in 0..count {

@@ -10,7 +10,7 @@ ghost use Rattle.rox_tables.specs.PrefixSet.{IsPrefixSet};
 ghost use Rattle.rox_tables.specs.Ropes.{IsScope};
 ghost use Rattle.rox_tables.specs.Bindings.{FindsPlace, LooksUp, LooksWithin, places_view};
 
-use crate::compare::{LONG, same_short, same_text};
+use crate::compare::{LONG, Pair, same_short, same_text};
 use crate::namespaces::bindings::PrefixBindings;
 use crate::namespaces::prefix_set::{FEW, has_prefix};
 use crate::rows::tables::{Namespace, Scope};
@@ -41,7 +41,15 @@ fn is_short_prefix(name: Option<&str>, prefix: &str) -> bool
     ensures { result ≡ same_prefix (prefix_view name.entry) (Some prefix.now) }
 {
     match name {
-        Some(name) => name.len() == prefix.len() && same_short(name.as_bytes(), prefix.as_bytes()),
+        Some(name) => {
+            if name.len() != prefix.len() {
+                return false;
+            }
+            same_short(Pair {
+                one: name.as_bytes(),
+                other: prefix.as_bytes(),
+            })
+        }
         None => false,
     }
 }

@@ -11,19 +11,19 @@ use Rattle.roxmltree.proofs.scopes.+scope.Goals as goal
 pub first_in_scope-returns-in-Few : goal.first_in_scope-returns-in-Few
 first_in_scope-returns-in-Few t c =
     let namespaces = map namespace_view c.args.namespaces.now in
-    let r = row_found c.args.listed.now _ _ _ c.requires.scopes.rows c.requires.is_row c.in-Few.is in
+    let r = row_found c.args.listed.now _ _ _ c.requires.scopes.rows c.requires.within c.in-Few.is in
     c.first_of.ensures ∙ ap (λ (xs : List ℕ). uri_of (entries namespaces xs) (prefix_view c.args.prefix)) (sym r.lists)
 
 pub first_in_scope-returns-in-Back : goal.first_in_scope-returns-in-Back
 first_in_scope-returns-in-Back t c =
     let namespaces = map namespace_view c.args.namespaces.now in
-    let r = row_found c.args.listed.now _ _ _ c.requires.scopes.rows c.requires.is_row c.in-Back.is in
+    let r = row_found c.args.listed.now _ _ _ c.requires.scopes.rows c.requires.within c.in-Back.is in
     c.last_of.ensures ∙ ap (λ (xs : List ℕ). uri_of (entries namespaces xs) (prefix_view c.args.prefix)) (sym r.lists)
 
 pub first_in_scope-returns-in-Concat : goal.first_in_scope-returns-in-Concat
 first_in_scope-returns-in-Concat t c =
     let namespaces = map namespace_view c.args.namespaces.now in
-    let r = row_found c.args.listed.now _ _ _ c.requires.scopes.rows c.requires.is_row c.in-Concat.is in
+    let r = row_found c.args.listed.now _ _ _ c.requires.scopes.rows c.requires.within c.in-Concat.is in
     c.first_in_parts.ensures ∙ ap (λ (xs : List ℕ). uri_of (entries namespaces xs) (prefix_view c.args.prefix)) (sym r.lists)
 
 pub first_in_parts-returns-in-Some : goal.first_in_parts-returns-in-Some

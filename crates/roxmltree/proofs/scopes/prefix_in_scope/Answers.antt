@@ -8,5 +8,5 @@ use Rattle.roxmltree.proofs.scopes.prefix_in_scope.Goals as goal
 pub returns-in-Few : goal.returns-in-Few
 returns-in-Few c =
     let namespaces = map namespace_view c.args.namespaces.now in
-    let r = row_found c.args.listed.now _ _ _ c.requires.scopes.rows c.requires.is_row c.in-Few.is in
+    let r = row_found c.args.listed.now _ _ _ c.requires.scopes.rows c.requires.within c.in-Few.is in
     c.prefix_among.ensures ∙ ap (λ (xs : List ℕ). first_prefix c.args.uri.now (entries namespaces xs)) (sym r.lists)

@@ -24,9 +24,9 @@ first_in_scope-requires c =
     let v : tree_in c.document.inside.tables ≡ c.args.self.now.document.now.tree = ap (λ d. d.tree) c.document.view_is in
     let l : c.args.self.now.id.0 < size (tree_in c.document.inside.tables) = rw v c.args.self.now.in_tree in
     record {
-      is_row = rw c.as_slice-scopes.ensures.value ((element_within c.document.inside.tables (tree_in c.document.inside.tables) _ _ _ c.document.invariant.holds l c.kind-node_kind.ensures.1 (sym c.kind-node_kind.ensures.2 ∙ ap kind_of c.in-Element.is)).2);
+      within = rw c.as_slice-scopes.ensures.value ((element_within c.document.inside.tables (tree_in c.document.inside.tables) _ _ _ c.document.invariant.holds l c.kind-node_kind.ensures.1 (sym c.kind-node_kind.ensures.2 ∙ ap kind_of c.in-Element.is)).2);
       scopes = rw (c.as_slice-scopes.ensures.value, c.as_slice-listed.ensures.value) c.document.invariant.holds.sound.scopes;
-      named = rw (c.as_slice-listed.ensures.value, c.as_slice-namespaces.ensures.value) c.document.invariant.holds.sound.listed;
+      places = rw (c.as_slice-listed.ensures.value, c.as_slice-namespaces.ensures.value) c.document.invariant.holds.sound.listed;
     }
 
 pub returns : goal.returns

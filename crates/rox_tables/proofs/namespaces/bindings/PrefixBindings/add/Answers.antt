@@ -10,7 +10,6 @@ loop-position-init c = record {
   bound = λ ds h.
       subst (λ xs. IsBound (map namespace_view c.args.namespaces.now) (bound_place c.args.self.now) (entries (map namespace_view c.args.namespaces.now) xs ++ ds)) (sym (reverse_none c.args.listed.now c.args.from)) h;
   keeps = λ namespaces lists h. h;
-  layers = refl;
 }
 
 pub loop-position-preserved : goal.loop-position-preserved
@@ -23,5 +22,4 @@ loop-position-preserved c =
           subst (λ xs. IsBound (map namespace_view c.args.namespaces.now) (bound_place c.bind.new.self) (entries (map namespace_view c.args.namespaces.now) xs ++ ds)) (sym (reverse_more c.args.listed.now c.args.from l.position low lt))
           (c.in_ok-bind.ensures.bound _ (l.invariant.bound ds h));
       keeps = λ namespaces lists h. c.in_ok-bind.ensures.keeps namespaces lists (l.invariant.keeps namespaces lists h);
-      layers = c.in_ok-bind.ensures.layers ∙ l.invariant.layers;
     }

@@ -9,5 +9,4 @@ abbrev pub invariant-loop-position : goal.invariant-loop-position
 invariant-loop-position l = record {
   bound : (ds : List NamespaceDecl) → IsBound (map namespace_view l.namespaces) (bound_place l.fn.self) ds → IsBound (map namespace_view l.namespaces) (bound_place l.self) (entries (map namespace_view l.namespaces) (reverse (slice_range l.listed l.from l.position)) ++ ds);
   keeps : (namespaces : List NamespaceDecl) (lists : List (List NamespaceDecl)) → AreBindingsOf namespaces lists l.fn.self → AreBindingsOf namespaces lists l.self;
-  layers : l.self.layers ≡ l.fn.self.layers;
 }

@@ -14,7 +14,6 @@ pub loop-turn-init : goal.loop-turn-init
 loop-turn-init c = record {
   bound = λ h. bound_none (map namespace_view c.args.namespaces.now) (places_in c.args.listed.now c.args.scopes.now c.args.scope) (bound_place c.args.self.now) h;
   keeps = λ namespaces lists h. h;
-  layers = refl;
 }
 
 pub loop-turn-preserved : goal.loop-turn-preserved
@@ -27,7 +26,6 @@ loop-turn-preserved c =
     record {
       bound = λ h. bound_from (map namespace_view c.args.namespaces.now) places l.turn (bound_place c.bind.new.self) _ lt (c.position_at-position.ensures.value ∙ ap (λ k. get_or places k 0) i) (c.in_ok-bind.ensures.bound _ (l.invariant.bound h));
       keeps = λ namespaces lists h. c.in_ok-bind.ensures.keeps namespaces lists (l.invariant.keeps namespaces lists h);
-      layers = c.in_ok-bind.ensures.layers ∙ l.invariant.layers;
     }
 
 pub returns-clause-bound : goal.returns-clause-bound

@@ -10,5 +10,4 @@ invariant-loop-turn l = record {
   bound : IsBound (map namespace_view l.namespaces) (bound_place l.fn.self) []
       → IsBound (map namespace_view l.namespaces) (bound_place l.self) (entries (map namespace_view l.namespaces) (drop (length (places_in l.listed l.scopes l.scope) - l.turn) (places_in l.listed l.scopes l.scope)));
   keeps : (namespaces : List NamespaceDecl) (lists : List (List NamespaceDecl)) → AreBindingsOf namespaces lists l.fn.self → AreBindingsOf namespaces lists l.self;
-  layers : l.self.layers ≡ l.fn.self.layers;
 }
