@@ -1,14 +1,21 @@
 -- The codes of local names, and which were seen.
-use Rattle.std.specs.Prelude.{◌≡◌, ◌<◌, ℕ, ◌+◌, ◌*◌, ◌-◌, ◌%◌, Bool, true, false, List, get_or, if◌then◌else◌, drop, eqb, length, slice_index}
+use Rattle.std.specs.Prelude.{◌≡◌, ◌<◌, ℕ, ◌+◌, ◌*◌, ◌-◌, ◌/◌, ◌%◌, ◌^◌, Bool, true, false, List, get_or, if◌then◌else◌, drop, leb, eqb, length, slice_index, slice_range}
 use Rattle.std.specs.List.{AllByRecursion}
+use Rattle.std.specs.Int.{w32, from_le_bytes}
 use Rattle.rox_tables.specs.Rows.{AttributeRow}
 use Rattle.rox_tables.specs.declared.namespaces.seen_names.SeenNames.{SeenNames}
 use Rattle.rox_tables.specs.declared.rows.tables.AttributeData.{AttributeData}
 
--- the code of a local name, made of its length, its first byte and its last
+-- what a name's code is made of
+unfoldable pub name_sum : List ℕ → ℕ
+name_sum local = if leb 4 (length local)
+    then from_le_bytes w32 (slice_range local 0 4) + from_le_bytes w32 (slice_range local (length local - 4) (length local)) * 5 + length local
+    else if eqb (length local) 0 then 0
+    else slice_index local 0 + slice_index local (length local / 2) * 256 + slice_index local (length local - 1) * 65536 + length local
+
+-- the code of a local name
 unfoldable pub name_code : List ℕ → ℕ
-name_code local = if eqb (length local) 0 then 0
-    else ((slice_index local (length local - 1) + length local % 128) * 5 + slice_index local 0 * 2) % 128
+name_code local = name_sum local * 11400714819323198485 % 2 ^ 64 / 2 ^ 56
 
 -- this code was seen
 unfoldable pub HasCode : List Bool → ℕ → Type 0

@@ -377,7 +377,8 @@ pub fn put_usual_attribute<'input>(
 ) -> bool
     requires namespace { NamespaceWithin (length namespaces.now.items.items) namespace }
     requires from { seen.old.from ≤ length (attribute_rows attributes.old) }
-    requires done { AllByRecursion (λ a. NamespaceWithin (length namespaces.now.items.items) a.0.namespace)
+    requires done { AllByRecursion
+        (λ a. NamespaceWithin (length namespaces.now.items.items) a.0.namespace)
         (drop seen.old.from (attribute_rows attributes.old)) }
     requires seen { AreSeen seen.old (attribute_rows attributes.old) }
     ensures refused { result ≡ false
@@ -386,7 +387,8 @@ pub fn put_usual_attribute<'input>(
         → attribute_rows attributes.new
         ≡ attribute_rows attributes.old ++ row_of_usual one.entry namespace ∷ [] }
     ensures first { result ≡ true → list_any
-        (λ r. has_expanded (map namespace_view namespaces.now.items.items) namespace one.entry.local.now r.0)
+        (λ r. has_expanded (map namespace_view namespaces.now.items.items) namespace
+        one.entry.local.now r.0)
         (drop seen.old.from (attribute_rows attributes.old)) ≡ false }
     ensures from { seen.new.from ≡ seen.old.from }
     ensures seen { result ≡ true → AreSeen seen.new (attribute_rows attributes.new) }

@@ -1,14 +1,14 @@
 //! Which local names the attributes of a tag have had: a filter that spares most of them from being compared with those before.
 
-ghost use Rattle.std.specs.Prelude.{◌≡◌, ◌≤◌, ◌<◌, ◌++◌, ◌∷◌, [], ℕ, List, length, false, drop};
+ghost use Rattle.std.specs.Prelude.{◌≡◌, ◌≤◌, ◌+◌, ◌<◌, ◌^◌, ◌++◌, ◌∷◌, [], ℕ, List, length, false, drop, slice_range};
 ghost use Rattle.std.specs.List.{list_any};
 ghost use Rattle.rox_grammar.specs.Written.{NamespaceDecl};
 ghost use Rattle.rox_tables.specs.Rows.{AttributeRow, attribute_rows};
 ghost use Rattle.rox_tables.specs.ResolvedNames.{has_expanded};
 ghost use Rattle.rox_tables.specs.declared.rows.tables.AttributeNamespace.{AttributeNamespace};
-ghost use Rattle.rox_tables.specs.SeenNames.{name_code, HasCode, HaveCodes, AreSeen};
+ghost use Rattle.rox_tables.specs.SeenNames.{name_sum, name_code, HasCode, HaveCodes, AreSeen};
 
-use crate::compare::same_text;
+use crate::compare::{WORD, same_text, word_at};
 use crate::rows::attributes::AttributeTable;
 
 /// The attributes of a tag that are in the table: where they begin, and which codes their names have. The first two have theirs
@@ -16,7 +16,7 @@ use crate::rows::attributes::AttributeTable;
 #[derive(Drop)]
 pub struct SeenNames {
     pub from: usize,
-    pub codes: [bool; 128],
+    pub codes: [bool; 256],
     /// How many of them came again.
     pub again: usize,
 }
@@ -25,25 +25,41 @@ pub struct SeenNames {
 const MOST_AGAIN: usize = 32;
 
 /// How many codes there are.
-const CODES: usize = 128;
+const CODES: usize = 256;
 
 /// Up to so many attributes of a tag have no codes yet: most tags have no more.
 const WITHOUT_CODES: usize = 2;
 
-/// The code of a local name, by its length, its first byte and its last: equal names have equal codes, and most others do not.
+/// By what the sum of a name's bytes is multiplied: 2^64 by the golden ratio, which scatters sums that are near to one another.
+const SCATTER: u64 = 0x9E3779B97F4A7C15;
+
+/// What a name's code is made of: its length, its first bytes and its last.
+#[inline(always)]
+#[tactic(auto, unfolding(crate::specs::SeenNames::name_sum))]
+fn name_sum(bytes: &[u8]) -> u64
+    ensures { result ≡ name_sum bytes.now }
+{
+    let count = bytes.len();
+    if count >= WORD {
+        let last = word_at(bytes, count - WORD);
+        return word_at(bytes, 0) + last * 5 + count as u64;
+    }
+    if count == 0 {
+        return 0;
+    }
+    let middle = bytes[count / 2] as u64;
+    let last = bytes[count - 1] as u64;
+    bytes[0] as u64 + middle * 256 + last * 65536 + count as u64
+}
+
+/// The code of a local name: equal names have equal codes, and most others do not.
 #[inline(always)]
 #[tactic(auto, unfolding(crate::specs::SeenNames::name_code))]
 fn name_code(local: &str) -> usize
     ensures is { result ≡ name_code local.now }
-    ensures within { result < 128 }
+    ensures within { result < 256 }
 {
-    let bytes = local.as_bytes();
-    let count = bytes.len();
-    if count == 0 {
-        return 0;
-    }
-    let last = bytes[count - 1] as usize;
-    ((last + count % CODES) * 5 + bytes[0] as usize * 2) % CODES
+    (name_sum(local.as_bytes()).wrapping_mul(SCATTER) >> 56) as usize
 }
 
 impl SeenNames {
