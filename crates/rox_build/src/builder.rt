@@ -73,14 +73,17 @@ pub const ROOM_TO_OPEN: usize = 12;
 /// So many attributes of a tag find room before their buffer grows.
 pub const ROOM_OF_A_TAG: usize = 11;
 
+/// So many scopes find room before their table grows: most texts have few.
+pub const ROOM_FOR_SCOPES: usize = 4;
+
 /// The scope of the root node, which lists nothing.
 pub fn empty_scope(alloc: Global) -> Result<Vec<Scope>, Failure>
     ensures ok { IfOk result (λ scopes. scopes.items ≡ Scope.Few (record { from = 0; until = 0 })
         ∷ []) }
     ensures err { IfErr result (λ e. e ≡ failure.Memory) }
 {
-    let mut scopes = Vec::new(alloc);
-    push(&mut scopes, Scope::Few(Stretch { from: 0, until: 0 }))?;
+    let mut scopes = Vec::with_capacity(alloc, ROOM_FOR_SCOPES)?;
+    scopes.push_reserved(Scope::Few(Stretch { from: 0, until: 0 }));
     Ok(scopes)
 }
 

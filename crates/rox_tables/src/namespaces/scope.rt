@@ -104,9 +104,9 @@ fn place_of_long(namespaces: &[Namespace<'_>], places: &[u16], prefix: &str) -> 
     place_of(namespaces, places, Some(prefix))
 }
 
-/// The first of these places whose namespace has this prefix. Short ones are compared in line, so that nothing has to be kept
-/// while another function runs.
-#[inline(never)]
+/// The first of these places whose namespace has this prefix. It is in line, as it is short for short ones, which most are: so
+/// nothing has to be kept while another function runs.
+#[inline(always)]
 fn place_of_prefix(namespaces: &[Namespace<'_>], places: &[u16], prefix: &str) -> Option<u16>
     requires { ArePlaces (length namespaces.now) places.now }
     ensures { FindsPlace namespaces.now places.now (Some prefix.now) result }
