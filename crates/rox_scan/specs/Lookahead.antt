@@ -1,10 +1,14 @@
 -- What a longer look tells of a stretch of a text.
-use Rattle.std.specs.Prelude.{◌≡◌, ◌≤◌, ◌<◌, ◌+◌, ◌==◌, ◌||◌, ℕ, Bool, false, not, List, length, take, slice_index, slice_range}
+use Rattle.std.specs.Prelude.{◌≡◌, ◌≤◌, ◌<◌, ◌+◌, ◌==◌, ◌||◌, ℕ, Bool, false, not, List, length, take, slice_index, slice_range, Ok}
 use Rattle.std.specs.List.{list_any}
 use Rattle.std.specs.Str.{IsCharBoundary}
 use Rattle.rox_grammar.specs.declared.fault.Word.TheVariants as word
 use Rattle.rox_grammar.specs.FixedTexts.{word_text}
 use Rattle.rox_grammar.specs.Search.{byte_from, stands}
+use Rattle.rox_grammar.specs.Chars.{is_char}
+use Rattle.rox_grammar.specs.Runs.{begins}
+use Rattle.rox_grammar.specs.Content.{is_verbatim}
+use Rattle.rox_reading.specs.Values.{raw_character_data_at}
 use Rattle.rox_grammar.specs.Constructs.{AreChars, double_dash}
 
 -- from i up to j there are Chars alone, it ends at no place among them, and whether they stand for themselves
@@ -14,6 +18,11 @@ pub record IsLookahead (ends : ℕ → Bool) (changes : ℕ → Bool) (src : Lis
   pub chars : AreChars src i j
   pub apart : (k : ℕ) → i ≤ k → k < j → ends k ≡ false
   pub verbatim_is : verbatim ≡ not (list_any changes (slice_range src i j))
+
+-- the same where it ends at j, the text does, or a character begins there that is no Char
+pub record LooksAhead (ends : ℕ → Bool) (changes : ℕ → Bool) (src : List ℕ) (i j : ℕ) (verbatim : Bool) : Type 0 where
+  pub looked : IsLookahead ends changes src i j verbatim
+  pub stops : j < length src → ends j ≡ false → begins is_char src j ≡ false
 
 -- from i up to j there is one Char, or nothing
 pub record IsStep (src : List ℕ) (i j : ℕ) : Type 0 where
@@ -49,3 +58,10 @@ pub record IsLine (src : List ℕ) (i j : ℕ) : Type 0 where
   pub cr : slice_index src i ≡ 13
   pub feed : slice_index src (i + 1) ≡ 10
   pub rest : byte_from (λ c. c == 38 || c == 13) (take j src) (i + 1 + 1) ≡ j
+
+-- the same where the run ends at j
+pub record IsLineRun (src : List ℕ) (i j : ℕ) : Type 0 where
+  pub line : IsLine src i j
+  pub value : raw_character_data_at src i ≡ Ok (slice_range src i j, j)
+  pub verbatim : is_verbatim (slice_range src i j) ≡ false
+  pub cut : IsCharBoundary src j

@@ -1,5 +1,6 @@
 -- How the result of a step stands to what is read.
-use Rattle.std.specs.Prelude.{◌≡◌, ◌≤◌, ℕ, List, Result, Ok, Err}
+use Rattle.std.specs.Prelude.{◌≡◌, ◌≤◌, ◌<◌, ℕ, Bool, true, List, length, slice_index, Result, Ok, Err}
+use Rattle.std.specs.List.{position_or_len}
 use Rattle.std.specs.Str.{IsCharBoundary}
 use Rattle.rox_grammar.specs.declared.fault.Fault.{Fault}
 use Rattle.rox_grammar.specs.Failures.{Fails}
@@ -23,8 +24,19 @@ abbrev pub GivesFrom : {A B : Type 0} → (A → B) → Cursor → Result A Fail
 GivesFrom view after (Ok x) read = read ≡ Ok (view x, after.pos)
 GivesFrom view after (Err e) read = Fails e read
 
+-- the cursor stands at this place of its source
+pub record MovesTo (to : ℕ) (old new : Cursor) : Type 0 where
+  pub place : new.pos ≡ to
+  pub source : new.text ≡ old.text
+
 -- What is found from `at` on stands at this place, which is between two characters, as `at` is.
 pub record Finds (text : List ℕ) (at found wanted : ℕ) : Type 0 where
   pub place : found ≡ wanted
   pub onward : at ≤ found
   pub cut : IsCharBoundary text found
+
+-- so many bytes come before the first that passes the test, or all
+pub record FindsByte (test : ℕ → Bool) (bytes : List ℕ) (count : ℕ) : Type 0 where
+  pub value : count ≡ position_or_len test bytes
+  pub within : count ≤ length bytes
+  pub found : count < length bytes → test (slice_index bytes count) ≡ true

@@ -2,12 +2,14 @@
 use Rattle.std.specs.Prelude.{◌≡◌, ◌≤◌, List, ℕ, Bool, Option, Result, IfOk, option_map, slice_range}
 use Rattle.std.specs.Borrow.{Bor}
 use Rattle.std.specs.Str.{IsCharBoundary}
-use Rattle.rox_grammar.specs.Content.{is_verbatim_value}
+use Rattle.rox_grammar.specs.Content.{is_verbatim, is_verbatim_value}
 use Rattle.rox_reading.specs.Markup as markup
+use Rattle.rox_reading.specs.Values.{raw_character_data_at}
 use Rattle.rox_grammar.specs.Failures.{name_view}
 use Rattle.rox_grammar.specs.declared.fault.Fault.{Fault}
 use Rattle.rox_scan.specs.ScanResults.{Steps}
 use Rattle.rox_scan.specs.declared.cursor.Cursor.{Cursor}
+use Rattle.rox_scan.specs.declared.character_data.RawCharacterData.{RawCharacterData}
 use Rattle.rox_scan.specs.declared.markup.Instruction.{Instruction}
 use Rattle.rox_scan.specs.declared.tag.EndTag.{EndTag}
 use Rattle.rox_scan.specs.declared.tag.RawAttribute.{RawAttribute}
@@ -50,3 +52,8 @@ abbrev pub TagItemHasValue : List ℕ → TagItem → Type 0
 TagItemHasValue text (item.More a) = HasValue text a
 TagItemHasValue text item.Open = Unit {0}
 TagItemHasValue text item.Empty = Unit {0}
+
+-- a run of character data is read, and it says whether it has nothing to change
+pub record ReadsRun (old new : Cursor) (result : Result RawCharacterData Fault) : Type 0 where
+  pub read : Steps (λ raw. raw.text.now) old new result raw_character_data_at
+  pub verbatim : IfOk result (λ raw. raw.is_verbatim ≡ is_verbatim raw.text.now)

@@ -10,8 +10,8 @@ ghost use Rattle.rox_grammar.specs.Content as content;
 ghost use Rattle.rox_reading.specs.Values as spec;
 ghost use Rattle.rox_scan.specs.ByteSets as near;
 ghost use Rattle.rox_scan.specs.Lookahead as longer;
-ghost use Rattle.rox_scan.specs.Lookahead.{IsLine, IsLookahead, IsStep};
-ghost use Rattle.rox_scan.specs.ScanResults.{Steps};
+ghost use Rattle.rox_scan.specs.Lookahead.{IsLineRun, IsLookahead, IsStep, LooksAhead};
+ghost use Rattle.rox_scan.specs.Views.{ReadsRun};
 
 use crate::byte_set::{ByteSet, skip_set};
 use crate::chars;
@@ -67,10 +67,8 @@ fn changes_run(byte: u8) -> bool
 /// A run of character data as far as it is in order, up to a `<`, a `]]>` or the end.
 pub fn scan_character_data(text: &str, at: usize) -> Lookahead
     requires { IsCharBoundary text.now at }
-    ensures looked { IsLookahead (longer.ends_run text.now) longer.changes_run text.now at
-        result.end result.is_verbatim }
-    ensures stops { result.end < length text.now → longer.ends_run text.now result.end ≡ false
-        → begins is_char text.now result.end ≡ false }
+    ensures { LooksAhead (longer.ends_run text.now) longer.changes_run text.now at result.end
+        result.is_verbatim }
 {
     let bytes = text.as_bytes();
     let mut is_verbatim = true;
@@ -153,12 +151,7 @@ fn wide_run_end(text: &str, at: usize) -> usize
 #[inline(always)]
 pub fn line_run_end(text: &str, start: usize) -> Option<usize>
     requires { IsCharBoundary text.now start }
-    ensures line { IfSome result (λ end. IsLine text.now start end) }
-    ensures value { IfSome result (λ end. spec.raw_character_data_at text.now start
-        ≡ Ok (slice_range text.now start end, end)) }
-    ensures verbatim { IfSome result (λ end. content.is_verbatim (slice_range text.now start end)
-        ≡ false) }
-    ensures cut { IfSome result (λ end. IsCharBoundary text.now end) }
+    ensures { IfSome result (λ end. IsLineRun text.now start end) }
 {
     if !is_at(text, start, b'\r') {
         return None;
@@ -194,9 +187,7 @@ pub struct RawCharacterData<'input> {
 pub fn raw_character_data<'input>(
     cursor: &mut Cursor<'input>,
 ) -> Result<RawCharacterData<'input>, Fault>
-    ensures read { Steps
-        (λ raw. raw.text.now) cursor.old cursor.new result spec.raw_character_data_at }
-    ensures verbatim { IfOk result (λ raw. raw.is_verbatim ≡ content.is_verbatim raw.text.now) }
+    ensures { ReadsRun cursor.old cursor.new result }
 {
     let start = cursor.pos;
     let text = cursor.text;
@@ -218,9 +209,7 @@ pub fn raw_character_data<'input>(
 fn faulty_character_data<'input>(
     cursor: &mut Cursor<'input>,
 ) -> Result<RawCharacterData<'input>, Fault>
-    ensures read { Steps
-        (λ raw. raw.text.now) cursor.old cursor.new result spec.raw_character_data_at }
-    ensures verbatim { IfOk result (λ raw. raw.is_verbatim ≡ content.is_verbatim raw.text.now) }
+    ensures { ReadsRun cursor.old cursor.new result }
 {
     let end = byte_from(cursor.text, cursor.pos, b'<');
     let raw = cursor.chars_up_to(end)?;

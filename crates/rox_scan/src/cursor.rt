@@ -22,7 +22,7 @@ pub struct Cursor<'input> {
 
 impl<'input> Cursor<'input> {
     ghost use Rattle.rox_grammar.specs.Failures.{name_view};
-    ghost use Rattle.rox_scan.specs.ScanResults.{Steps};
+    ghost use Rattle.rox_scan.specs.ScanResults.{MovesTo, Steps};
     ghost use Rattle.rox_grammar.specs.Search.{stands};
     ghost use Rattle.rox_grammar.specs.FixedTexts.{word_text};
     ghost use Rattle.rox_grammar.specs.Names.{spaces_end};
@@ -76,8 +76,7 @@ impl<'input> Cursor<'input> {
     pub fn advance(&mut self)
         requires there { self.old.pos < length self.old.text.now }
         requires ascii { slice_index self.old.text.now self.old.pos < 128 }
-        ensures place { self.new.pos ≡ self.old.pos + 1 }
-        ensures source { self.new.text ≡ self.old.text }
+        ensures { MovesTo (self.old.pos + 1) self.old self.new }
     {
         self.pos += 1;
     }
@@ -172,8 +171,7 @@ impl<'input> Cursor<'input> {
     #[inline]
     pub fn skip(&mut self, word: Word)
         requires { stands (word_text word) self.old.text.now self.old.pos ≡ true }
-        ensures place { self.new.pos ≡ self.old.pos + length (word_text word) }
-        ensures source { self.new.text ≡ self.old.text }
+        ensures { MovesTo (self.old.pos + length (word_text word)) self.old self.new }
     {
         self.pos += word.text().len();
     }

@@ -11,7 +11,7 @@ ghost use Rattle.rox_grammar.specs.Content as content;
 ghost use Rattle.rox_reading.specs.Values as reading;
 ghost use Rattle.rox_scan.specs.ByteSets as near;
 ghost use Rattle.rox_scan.specs.Lookahead as longer;
-ghost use Rattle.rox_scan.specs.Lookahead.{IsLookahead, IsStep};
+ghost use Rattle.rox_scan.specs.Lookahead.{IsLookahead, IsStep, LooksAhead};
 ghost use Rattle.rox_scan.specs.ScanResults.{Finds};
 
 use crate::byte_set::{ByteSet, CharByte, CommentByte, ValueByte, skip_set};
@@ -175,10 +175,8 @@ pub fn scan_value(text: &str, at: usize, quote: u8) -> Lookahead
 /// A comment as far as it is in order, up to two dashes or the end.
 pub fn comment_end(text: &str, at: usize) -> usize
     requires { IsCharBoundary text.now at }
-    ensures looked { IsLookahead (longer.ends_comment text.now) longer.changes_comment text.now at
-        result true }
-    ensures stops { result < length text.now → longer.ends_comment text.now result ≡ false
-        → begins is_char text.now result ≡ false }
+    ensures { LooksAhead (longer.ends_comment text.now) longer.changes_comment text.now at result
+        true }
 {
     let bytes = text.as_bytes();
     let mut end = skip_set::<CommentByte>(text, at);

@@ -1,10 +1,9 @@
 //! The first place of a byte or of a fixed text.
 ghost use Rattle.std.specs.Prelude.{◌≡◌, ◌≢◌, ℕ, ◌+◌, ◌<◌, ◌≤◌, ◌||◌, ◌==◌, length, slice_index, true};
-ghost use Rattle.std.specs.List.{position_or_len};
 ghost use Rattle.std.specs.Str.{IsCharBoundary};
 ghost use Rattle.rox_grammar.specs.Search as spec;
 ghost use Rattle.rox_grammar.specs.Constructs.{has_mark};
-ghost use Rattle.rox_scan.specs.ScanResults.{Finds};
+ghost use Rattle.rox_scan.specs.ScanResults.{Finds, FindsByte};
 
 use memchr::{memchr, memchr2, memmem};
 
@@ -58,9 +57,7 @@ fn before_found(bytes: &[u8], mark: &[u8]) -> usize
 /// How many bytes come before the first of this byte, or all.
 #[inline]
 pub fn before_byte(bytes: &[u8], byte: u8) -> usize
-    ensures value { result ≡ position_or_len (λ c. c == byte) bytes.now }
-    ensures within { result ≤ length bytes.now }
-    ensures found { result < length bytes.now → slice_index bytes.now result ≡ byte }
+    ensures { FindsByte (λ c. c == byte) bytes.now result }
 {
     memchr(byte, bytes).unwrap_or(bytes.len())
 }
@@ -68,10 +65,7 @@ pub fn before_byte(bytes: &[u8], byte: u8) -> usize
 /// How many bytes come before the first of either byte, or all.
 #[inline]
 pub fn before_either(bytes: &[u8], one: u8, other: u8) -> usize
-    ensures value { result ≡ position_or_len (λ c. c == one || c == other) bytes.now }
-    ensures within { result ≤ length bytes.now }
-    ensures found { result < length bytes.now
-        → (slice_index bytes.now result == one || slice_index bytes.now result == other) ≡ true }
+    ensures { FindsByte (λ c. c == one || c == other) bytes.now result }
 {
     memchr2(one, other, bytes).unwrap_or(bytes.len())
 }

@@ -5,7 +5,7 @@ ghost use Rattle.rox_grammar.specs.Search.{stands};
 ghost use Rattle.rox_grammar.specs.FixedTexts.{word_text};
 ghost use Rattle.rox_grammar.specs.declared.fault.Word.TheVariants as word;
 ghost use Rattle.rox_reading.specs.Markup as spec;
-ghost use Rattle.rox_scan.specs.ScanResults.{Steps};
+ghost use Rattle.rox_scan.specs.ScanResults.{MovesTo, Steps};
 ghost use Rattle.rox_scan.specs.DoctypeViews.{up_to_quote, xml_decl_if};
 
 use crate::byte_set::{ValueByte, part_end, skip_set};
@@ -176,8 +176,7 @@ impl<'input> Cursor<'input> {
     #[inline]
     fn skip_xml_decl_start(&mut self)
         requires { stands (word_text word.XmlDeclStart) self.old.text.now self.old.pos ≡ true }
-        ensures place { self.new.pos ≡ self.old.pos + 5 }
-        ensures source { self.new.text ≡ self.old.text }
+        ensures { MovesTo (self.old.pos + 5) self.old self.new }
     {
         self.pos += 5;
     }

@@ -1,10 +1,12 @@
 -- The prefixes that a tag declares, as a set, where it has many declarations.
-use Rattle.std.specs.Prelude.{◌≡◌, ℕ, ◌<◌, Bool, List, Option, length}
+use Rattle.std.specs.Prelude.{◌≡◌, ℕ, ◌<◌, Bool, List, Option, length, map}
 use Rattle.std.specs.List.{list_any}
 use Rattle.std.specs.Borrow.{Bor}
 use Rattle.rox_grammar.specs.Written.{NamespaceDecl}
 use Rattle.rox_grammar.specs.Tree.{same_prefix, is_declared}
-use Rattle.rox_tables.specs.Scopes.{prefix_view, entries}
+use Rattle.rox_tables.specs.Scopes.{prefix_view, entries, ArePlaces}
+use Rattle.rox_tables.specs.Rows.{namespace_view}
+use Rattle.rox_tables.specs.declared.rows.tables.Namespace.{Namespace}
 
 abbrev pub has_prefix : Option (List ℕ) → List (Option (Bor (List ℕ))) → Bool
 has_prefix prefix keys = list_any (λ k. same_prefix (prefix_view k) prefix) keys
@@ -12,3 +14,8 @@ has_prefix prefix keys = list_any (λ k. same_prefix (prefix_view k) prefix) key
 -- the keys are the prefixes at these places, if they are many
 unfoldable pub IsPrefixSet : List NamespaceDecl → List ℕ → List (Option (Bor (List ℕ))) → Type 0
 IsPrefixSet namespaces places keys = 16 < length places → (prefix : Option (List ℕ)) → has_prefix prefix keys ≡ is_declared prefix (entries namespaces places)
+
+-- each is a place of this table, and the keys are the prefixes there, if they are many
+pub record HasPrefixes (table : List Namespace) (own : List ℕ) (keys : List (Option (Bor (List ℕ)))) : Type 0 where
+  pub places : ArePlaces (length table) own
+  pub prefix_set : IsPrefixSet (map namespace_view table) own keys

@@ -1,6 +1,7 @@
 -- How the code's texts and references stand to what is read.
-use Rattle.std.specs.Prelude.{◌≡◌, ℕ, Bool, true, false, not, ◌==◌, ◌||◌, List, ◌++◌, Option, Some, None, Result, Ok, Err, IfOk, drop, slice_range, if◌then◌else◌}
+use Rattle.std.specs.Prelude.{◌≡◌, ◌<◌, ℕ, Bool, true, false, not, ◌==◌, ◌||◌, List, ◌++◌, Option, Some, None, Result, Ok, Err, IfOk, drop, slice_range, if◌then◌else◌}
 use Rattle.std.specs.List.{list_any}
+use Rattle.std.specs.Str.{IsCharBoundary}
 use Rattle.rox_grammar.specs.declared.fault.Fault.{Fault}
 use Rattle.rox_grammar.specs.Content.{literals, line_ends}
 use Rattle.rox_grammar.specs.References.{is_digit, is_hex_digit}
@@ -71,6 +72,11 @@ abbrev pub AppendsBit : List ℕ → List ℕ → Cursor → Result (Option Curs
 AppendsBit old new after (Ok None) read = behind old read ≡ Ok (reading.bytes_of new, after.pos)
 AppendsBit old new after (Ok (Some text)) read = (read ≡ Ok (reading.opens (replacement_view text), after.pos)) × (new ≡ old)
 AppendsBit old new after (Err e) read = Fails e read
+
+-- reading that stands before this place stops there, between two characters
+pub record StopsAt (text : List ℕ) (at stop : ℕ) : Type 0 where
+  pub before : at < stop
+  pub cut : IsCharBoundary text stop
 
 -- what is read from where the cursor stood was appended, as `Appends` says, and the source stays
 pub record AppendsFrom (old new : List ℕ) (before after : Cursor) (result : Result (Unit {0}) Failure) (read : List Entity → List ℕ → ℕ → Read reading.Bit) : Type 0 where

@@ -14,7 +14,7 @@ ghost use Rattle.rox_grammar.specs.declared.fault.Fault.{Fault};
 ghost use Rattle.rox_reading.specs.Machine.{value_opener};
 ghost use Rattle.rox_scan.specs.DoctypeViews.{replacement_view};
 ghost use Rattle.rox_values.specs.DeclaredEntities.{AreDeclared};
-ghost use Rattle.rox_values.specs.Values.{Appends, AppendsFrom, AppendsBitFrom, AppendsCharacter, AppendsValue, GivesValue, ends_stretch, is_inner_byte, piece_view};
+ghost use Rattle.rox_values.specs.Values.{Appends, AppendsFrom, AppendsBitFrom, StopsAt, AppendsCharacter, AppendsValue, GivesValue, ends_stretch, is_inner_byte, piece_view};
 
 use crate::context::Context;
 use crate::parse_error::ParseError;
@@ -44,8 +44,7 @@ fn special_from(text: &str, at: usize) -> usize
 fn white_space(cursor: &mut Cursor<'_>, stop: usize, out: &mut String) -> Result<(), Failure>
     requires here { spec.is_special (slice_index cursor.old.text.now cursor.old.pos) ≡ true }
     requires no_reference { slice_index cursor.old.text.now cursor.old.pos ≢ 38 }
-    requires before { cursor.old.pos < stop }
-    requires cut { IsCharBoundary cursor.old.text.now stop }
+    requires stop { StopsAt cursor.old.text.now cursor.old.pos stop }
     ensures value { (main : Bool) (es : List Entity)
         → Appends (string_bytes out.old) (string_bytes out.new) cursor.new result
         (spec.value_bit_at main es cursor.old.text.now stop cursor.old.pos) }
@@ -153,8 +152,7 @@ fn stretch_end(text: &str, at: usize) -> usize
 #[inline(never)]
 #[tactic(auto, unfolding(rox_reading::specs::Values::value_bit_at, rox_reading::specs::Values::stretch_at))]
 fn inner_stretch(cursor: &mut Cursor<'_>, stop: usize, out: &mut String) -> Result<(), Failure>
-    requires before { cursor.old.pos < stop }
-    requires cut { IsCharBoundary cursor.old.text.now stop }
+    requires stop { StopsAt cursor.old.text.now cursor.old.pos stop }
     requires plain { spec.is_special (slice_index cursor.old.text.now cursor.old.pos) ≡ false }
     ensures { AppendsFrom (string_bytes out.old) (string_bytes out.new) cursor.old cursor.new result
         (λ es src at. spec.value_bit_at false es src stop at) }
@@ -172,8 +170,7 @@ fn inner_stretch(cursor: &mut Cursor<'_>, stop: usize, out: &mut String) -> Resu
 /// Appends all of a value in the main text up to the next special byte.
 #[tactic(auto, unfolding(rox_reading::specs::Values::value_bit_at, rox_reading::specs::Values::stretch_at))]
 fn main_stretch(cursor: &mut Cursor<'_>, stop: usize, out: &mut String) -> Result<(), Failure>
-    requires before { cursor.old.pos < stop }
-    requires cut { IsCharBoundary cursor.old.text.now stop }
+    requires stop { StopsAt cursor.old.text.now cursor.old.pos stop }
     requires plain { spec.is_special (slice_index cursor.old.text.now cursor.old.pos) ≡ false }
     ensures { AppendsFrom (string_bytes out.old) (string_bytes out.new) cursor.old cursor.new result
         (λ es src at. spec.value_bit_at true es src stop at) }
@@ -196,8 +193,7 @@ fn value_bit<'input>(
     context: Context<'_, 'input>,
     out: &mut String,
 ) -> Result<Option<Cursor<'input>>, Failure>
-    requires before { cursor.old.pos < stop }
-    requires cut { IsCharBoundary cursor.old.text.now stop }
+    requires { StopsAt cursor.old.text.now cursor.old.pos stop }
     ensures { AppendsBitFrom context.entry.entities.now (string_bytes out.old)
         (string_bytes out.new) cursor.old cursor.new result
         (λ es src at. spec.value_bit_at context.entry.main es src stop at) }

@@ -8,7 +8,7 @@ ghost use Rattle.rox_reading.specs.Values as spec;
 ghost use Rattle.rox_scan.specs.ScanResults.{Finds};
 ghost use Rattle.rox_grammar.specs.Entities.{Entity};
 ghost use Rattle.rox_values.specs.DeclaredEntities.{AreDeclared};
-ghost use Rattle.rox_values.specs.Values.{AppendsFrom, AppendsBitFrom, AppendsPart};
+ghost use Rattle.rox_values.specs.Values.{AppendsFrom, AppendsBitFrom, AppendsPart, StopsAt};
 
 use crate::context::Context;
 use crate::line_ends::line_end;
@@ -57,8 +57,7 @@ fn change_from(text: &str, at: usize) -> usize
 /// Appends all of a run up to the next `&` or CR.
 #[tactic(auto, unfolding(rox_reading::specs::Values::data_bit_at))]
 fn main_data(cursor: &mut Cursor<'_>, stop: usize, out: &mut String) -> Result<(), Failure>
-    requires before { cursor.old.pos < stop }
-    requires cut { IsCharBoundary cursor.old.text.now stop }
+    requires stop { StopsAt cursor.old.text.now cursor.old.pos stop }
     requires no_reference { slice_index cursor.old.text.now cursor.old.pos ≢ 38 }
     requires no_line_end { slice_index cursor.old.text.now cursor.old.pos ≢ 13 }
     ensures { AppendsFrom (string_bytes out.old) (string_bytes out.new) cursor.old cursor.new result
@@ -75,8 +74,7 @@ fn main_data(cursor: &mut Cursor<'_>, stop: usize, out: &mut String) -> Result<(
 /// Appends all of a run of a replacement text up to the next `&`.
 #[tactic(auto, unfolding(rox_reading::specs::Values::data_bit_at))]
 fn inner_data(cursor: &mut Cursor<'_>, stop: usize, out: &mut String) -> Result<(), Failure>
-    requires before { cursor.old.pos < stop }
-    requires cut { IsCharBoundary cursor.old.text.now stop }
+    requires stop { StopsAt cursor.old.text.now cursor.old.pos stop }
     requires no_reference { slice_index cursor.old.text.now cursor.old.pos ≢ 38 }
     ensures { AppendsFrom (string_bytes out.old) (string_bytes out.new) cursor.old cursor.new result
         (λ es src at. spec.data_bit_at false es src stop at) }
@@ -98,8 +96,7 @@ fn data_bit<'input>(
     context: Context<'_, 'input>,
     out: &mut String,
 ) -> Result<Option<Cursor<'input>>, Failure>
-    requires before { cursor.old.pos < stop }
-    requires cut { IsCharBoundary cursor.old.text.now stop }
+    requires { StopsAt cursor.old.text.now cursor.old.pos stop }
     ensures { AppendsBitFrom context.entry.entities.now (string_bytes out.old)
         (string_bytes out.new) cursor.old cursor.new result
         (λ es src at. spec.data_bit_at context.entry.main es src stop at) }

@@ -4,7 +4,7 @@ ghost use Rattle.std.specs.Prelude.{◌≡◌, ◌++◌, List, IfOk, OnOk, ◌<�
 ghost use Rattle.std.specs.String.{string_bytes};
 ghost use Rattle.std.specs.Str.{IsCharBoundary};
 ghost use Rattle.rox_reading.specs.Values as spec;
-ghost use Rattle.rox_values.specs.Values.{AppendsFrom, section_rest};
+ghost use Rattle.rox_values.specs.Values.{AppendsFrom, StopsAt, section_rest};
 
 use rox_grammar::failure::Failure;
 use rox_scan::cursor::Cursor;
@@ -20,8 +20,7 @@ pub(crate) fn line_end(
     out: &mut String,
 ) -> Result<(), Failure>
     requires here { slice_index cursor.old.text.now cursor.old.pos ≡ 13 }
-    requires before { cursor.old.pos < stop }
-    requires cut { IsCharBoundary cursor.old.text.now stop }
+    requires stop { StopsAt cursor.old.text.now cursor.old.pos stop }
     ensures { AppendsFrom (string_bytes out.old) (string_bytes out.new) cursor.old cursor.new result
         (λ es src at. spec.data_bit_at true es src stop at) }
 {

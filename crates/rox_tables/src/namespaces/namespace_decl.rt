@@ -8,7 +8,7 @@ ghost use Rattle.rox_reading.specs.Tags as spec;
 ghost use Rattle.rox_grammar.specs.Failures.{name_view};
 ghost use Rattle.rox_tables.specs.Rows.{namespace_view, lists_of, AreScopes};
 ghost use Rattle.rox_tables.specs.Scopes.{ArePlaces, entries, prefix_view};
-ghost use Rattle.rox_tables.specs.PrefixSet.{IsPrefixSet};
+ghost use Rattle.rox_tables.specs.PrefixSet.{HasPrefixes};
 ghost use Rattle.rox_tables.specs.Bindings.{AreBindingsOf};
 ghost use Rattle.rox_tables.specs.declared.namespaces.bindings.PrefixBindings.{PrefixBindings};
 ghost use Rattle.rox_tables.specs.declared.rows.tables.Scope.{Scope};
@@ -133,9 +133,7 @@ fn is_again<'a>(
     xml: bool,
     prefix: Option<&'a str>,
 ) -> bool
-    requires places { ArePlaces (length namespaces.now) own.now }
-    requires prefix_set { IsPrefixSet
-        (map namespace_view namespaces.now) own.now prefix_set.now.keys }
+    requires { HasPrefixes namespaces.now own.now prefix_set.now.keys }
     ensures value { (ds : List NamespaceDecl) → xml ≡ declares_xml ds
         → entries (map namespace_view namespaces.now) own.now ≡ listable_of ds
         → result ≡ is_declared (prefix_view prefix.entry) ds }

@@ -6,7 +6,7 @@ ghost use Rattle.std.specs.Option.{option_map};
 ghost use Rattle.rox_grammar.specs.Tree.{same_prefix, is_declared, uri_of, is_xml};
 ghost use Rattle.rox_tables.specs.Rows.{namespace_view, namespace_at, OptionWithin, AreScopes};
 ghost use Rattle.rox_tables.specs.Scopes.{prefix_view, entries, places_in, is_few_at, ArePlaces, others};
-ghost use Rattle.rox_tables.specs.PrefixSet.{IsPrefixSet};
+ghost use Rattle.rox_tables.specs.PrefixSet.{HasPrefixes, IsPrefixSet};
 ghost use Rattle.rox_tables.specs.Ropes.{IsScope};
 ghost use Rattle.rox_tables.specs.Bindings.{FindsPlace, LooksUp, LooksWithin, places_view};
 
@@ -195,9 +195,7 @@ fn is_among<'a>(
     prefix_set: &BTreeSet<Option<&'a str>>,
     prefix: Option<&'a str>,
 ) -> bool
-    requires places { ArePlaces (length namespaces.now) own.now }
-    requires prefix_set { IsPrefixSet
-        (map namespace_view namespaces.now) own.now prefix_set.now.keys }
+    requires { HasPrefixes namespaces.now own.now prefix_set.now.keys }
     ensures { result ≡ is_declared (prefix_view prefix.entry)
         (entries (map namespace_view namespaces.now) own.now) }
 {
@@ -217,9 +215,7 @@ pub fn is_own<'a>(
     xml: bool,
     prefix: Option<&'a str>,
 ) -> bool
-    requires places { ArePlaces (length namespaces.now) own.now }
-    requires prefix_set { IsPrefixSet
-        (map namespace_view namespaces.now) own.now prefix_set.now.keys }
+    requires { HasPrefixes namespaces.now own.now prefix_set.now.keys }
     ensures { result ≡ (is_declared (prefix_view prefix.entry)
         (entries (map namespace_view namespaces.now) own.now)
         || (xml && is_xml (prefix_view prefix.entry))) }

@@ -9,34 +9,19 @@ use Rattle.rox_scan.proofs.character_data.line_run_end.Goals as goal
 within : (src : List ℕ) (i b : ℕ) → get_or src i 0 ≡ b → 0 < b → i < length src
 within src i b is some = elim (cases_lt i (length src)) [ inl more ↦ more | inr past ↦ absurd (omega (arith, is, get_or_past src i 0 past)) ]
 
-pub returns-clause-line : goal.returns-clause-line
-returns-clause-line c =
+pub returns : goal.returns
+returns c =
     let src = c.args.text.now in
     let i = c.args.start in
     let n = c.skip_set-end.ensures in
     let cr = eqb-true _ _ (sym c.is_at.ensures ∙ c.if-not-is_at.false) in
     let next = c.after_byte-feed.ensures.place in
     let feed = eqb-true _ _ (sym c.is_at-2.ensures ∙ c.if-not-is_at-2.false) in
-    line_is src i c.skip_set-end.result cr (rw next at feed) (rw next at (within src _ 10 feed (omega arith))) (rw next at n.onward) n.within (rw next at n.passes) n.stops
-
-pub returns-clause-value : goal.returns-clause-value
-returns-clause-value c =
-    let src = c.args.text.now in
-    let i = c.args.start in
-    let n = c.skip_set-end.ensures in
-    let cr = eqb-true _ _ (sym c.is_at.ensures ∙ c.if-not-is_at.false) in
-    let next = c.after_byte-feed.ensures.place in
     let cut = c.after_byte-feed.ensures.cut in
     let look = line_looked src i c.skip_set-end.result c.utf8.text c.requires (within src i 13 cr (omega arith)) cr (rw next at cut) (rw next at n.onward) n.within (rw next at n.passes) n.stops in
-    longer_run src i c.skip_set-end.result _ look (sym c.ends_character_data.ensures ∙ c.if-not-ends_character_data.false)
-
-pub returns-clause-verbatim : goal.returns-clause-verbatim
-returns-clause-verbatim c =
-    let src = c.args.text.now in
-    let i = c.args.start in
-    let n = c.skip_set-end.ensures in
-    let cr = eqb-true _ _ (sym c.is_at.ensures ∙ c.if-not-is_at.false) in
-    let next = c.after_byte-feed.ensures.place in
-    let cut = c.after_byte-feed.ensures.cut in
-    let look = line_looked src i c.skip_set-end.result c.utf8.text c.requires (within src i 13 cr (omega arith)) cr (rw next at cut) (rw next at n.onward) n.within (rw next at n.passes) n.stops in
-    sym look.verbatim_is
+    record {
+      line = line_is src i c.skip_set-end.result cr (rw next at feed) (rw next at (within src _ 10 feed (omega arith))) (rw next at n.onward) n.within (rw next at n.passes) n.stops;
+      value = longer_run src i c.skip_set-end.result _ look (sym c.ends_character_data.ensures ∙ c.if-not-ends_character_data.false);
+      verbatim = sym look.verbatim_is;
+      cut = look.cut;
+    }
