@@ -30,7 +30,7 @@ use rox_tables::rows::tables::{
 };
 use rox_values::context::MOST_WITHIN;
 use rox_values::text_value::TextValue;
-use std::alloc::Global;
+use std::alloc::{AllocError, Global};
 use std::collections::BTreeSet;
 
 /// An element that is open: its row, its scope, its name, which stands from `name_start` up to `name_end`, the namespace of that,
@@ -77,10 +77,9 @@ pub const ROOM_OF_A_TAG: usize = 11;
 pub const ROOM_FOR_SCOPES: usize = 4;
 
 /// The scope of the root node, which lists nothing.
-pub fn empty_scope(alloc: Global) -> Result<Vec<Scope>, Failure>
+pub fn empty_scope(alloc: Global) -> Result<Vec<Scope>, AllocError>
     ensures ok { IfOk result (λ scopes. scopes.items ≡ Scope.Few (record { from = 0; until = 0 })
         ∷ []) }
-    ensures err { IfErr result (λ e. e ≡ failure.Memory) }
 {
     let mut scopes = Vec::with_capacity(alloc, ROOM_FOR_SCOPES)?;
     scopes.push_reserved(Scope::Few(Stretch { from: 0, until: 0 }));
@@ -117,9 +116,8 @@ struct TextRange {
 }
 
 /// Puts the text of a text node into an empty buffer. The only error is want of memory.
-fn start_joined(joined: &mut String, kind: KindRef<'_, '_>) -> Result<(), Failure>
+fn start_joined(joined: &mut String, kind: KindRef<'_, '_>) -> Result<(), AllocError>
     ensures ok { OnOk result (string_bytes joined.new ≡ text_of (kind_of kind.entry)) }
-    ensures err { IfErr result (λ e. e ≡ failure.Memory) }
 {
     joined.clear();
     if let KindRef::Text(before) = kind {
@@ -136,7 +134,7 @@ fn join_last(
     nodes: &mut NodeTable<'_>,
     joined: &mut String,
     text: &str,
-) -> Result<TextRange, Failure>
+) -> Result<TextRange, AllocError>
     requires { 0 < vec_len nodes.old.rows }
     ensures taken { IfOk result (λ r. (last : NodeData)
         × (node_rows nodes.old ≡ node_rows nodes.new ++ last ∷ [])
@@ -144,7 +142,6 @@ fn join_last(
         × (string_bytes joined.new ≡ text_of last.kind ++ text.now)) }
     ensures count { OnOk result (vec_len nodes.old.rows ≡ vec_len nodes.new.rows + 1) }
     ensures same { IfErr result (λ e. nodes.new ≡ nodes.old) }
-    ensures err { IfErr result (λ e. e ≡ failure.Memory) }
 {
     let last = nodes.len() - 1;
     let row = nodes.row(last);
@@ -354,7 +351,7 @@ impl<'input> Builder<'input> {
 
     /// Writes the text that may go on.
     #[inline(always)]
-    fn flush(&mut self, alloc: Global) -> Result<(), Failure>
+    fn flush(&mut self, alloc: Global) -> Result<(), AllocError>
         ensures ok { OnOk result ((end : ℕ) (stack : Open) (done : Forest Item)
             → Represents end stack done self.old → RepresentsFlushed end stack done self.new) }
         ensures empty { OnOk result (waiting self.new.pending ≡ 0) }
@@ -364,7 +361,6 @@ impl<'input> Builder<'input> {
         ensures opened { self.new.opened ≡ self.old.opened }
         ensures limit { self.new.nodes_limit ≡ self.old.nodes_limit }
         ensures openings_left { self.new.openings_left ≡ self.old.openings_left }
-        ensures err { IfErr result (λ e. e ≡ failure.Memory) }
     {
         match self.pending {
             Pending::None => Ok(()),
@@ -381,7 +377,7 @@ impl<'input> Builder<'input> {
 
     /// Writes the text in the buffer. The only error is want of memory.
     #[inline(never)]
-    fn flush_joined(&mut self, alloc: Global) -> Result<(), Failure>
+    fn flush_joined(&mut self, alloc: Global) -> Result<(), AllocError>
         requires { self.old.pending ≡ pending.Joined }
         ensures ok { OnOk result ((end : ℕ) (stack : Open) (done : Forest Item)
             → Represents end stack done self.old → RepresentsFlushed end stack done self.new) }
@@ -392,7 +388,6 @@ impl<'input> Builder<'input> {
         ensures opened { self.new.opened ≡ self.old.opened }
         ensures limit { self.new.nodes_limit ≡ self.old.nodes_limit }
         ensures openings_left { self.new.openings_left ≡ self.old.openings_left }
-        ensures err { IfErr result (λ e. e ≡ failure.Memory) }
     {
         let text = self.recent.owned(alloc, self.joined.text.as_str())?;
         let row = self.row(self.joined.start, self.joined.end, NodeKind::Text(text));
@@ -597,7 +592,7 @@ impl<'input> Builder<'input> {
 
     /// The innermost open element ends. The only error is want of memory.
     #[inline(always)]
-    pub fn close(&mut self, alloc: Global, end: usize) -> Result<(), Failure>
+    pub fn close(&mut self, alloc: Global, end: usize) -> Result<(), AllocError>
         ensures ok { OnOk result ((total start : ℕ) (t : Tag) (before : Forest Item) (up : Open)
             (done : Forest Item) → Represents total (inside start t before up) done self.old
             → Represents total up (join before (Cons (Element start end t) (merge done) Nil))
@@ -607,7 +602,6 @@ impl<'input> Builder<'input> {
             ≡ take (length self.old.opened.items - 1) self.old.opened.items) }
         ensures limit { self.new.nodes_limit ≡ self.old.nodes_limit }
         ensures openings_left { self.new.openings_left ≡ self.old.openings_left }
-        ensures err { IfErr result (λ e. e ≡ failure.Memory) }
     {
         self.flush(alloc)?;
         if let Some(element) = self.opened.pop() {
@@ -795,11 +789,10 @@ impl<'input> Builder<'input> {
 
     /// The text ends. The only error is want of memory.
     #[inline(always)]
-    pub fn end(&mut self, alloc: Global) -> Result<(), Failure>
+    pub fn end(&mut self, alloc: Global) -> Result<(), AllocError>
         ensures ok { OnOk result ((end : ℕ) (done : Forest Item)
             → Represents end root done self.old → AreSound self.old.tables
             → HoldsTree (tables_of self.new) (document_tree end (merge done))) }
-        ensures err { IfErr result (λ e. e ≡ failure.Memory) }
     {
         self.flush(alloc)?;
         let count = self.nodes.len() as u32;

@@ -38,7 +38,7 @@ use rox_values::attribute_value::value;
 use rox_values::context::Context;
 use rox_values::parse_error::ParseError;
 use rox_values::text_value::TextValue;
-use std::alloc::Global;
+use std::alloc::{AllocError, Global};
 use std::collections::BTreeSet;
 
 /// A start tag that was read: its name, from `name_start` up to `name_end`, and what its element has.
@@ -73,12 +73,11 @@ pub fn stored<'input>(
     alloc: Global,
     piece: TextValue<'input>,
     scratch: &str,
-) -> Result<StringStorage<'input>, Failure>
+) -> Result<StringStorage<'input>, AllocError>
     ensures bytes { IfOk result
         (λ s. storage_bytes s ≡ (piece_view piece.entry scratch.now).value) }
     ensures kind { IfOk result
         (λ s. is_borrowed s ≡ (piece_view piece.entry scratch.now).borrowed) }
-    ensures err { IfErr result (λ e. e ≡ Failure.Memory) }
 {
     match piece {
         TextValue::Plain(text) => Ok(StringStorage::Borrowed(text)),
