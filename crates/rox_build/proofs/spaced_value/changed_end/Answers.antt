@@ -16,7 +16,7 @@ pub loop-end-preserved : goal.loop-end-preserved
 loop-end-preserved c =
     let src = c.args.text.now in
     let j = c.loop-end.end in
-    let a = c.after_char-next.ensures in
+    let a = c.after_char-next.ensures.step in
     let n = c.skip_set-end-in-loop-end.ensures in
     let read = ap (λ (l : List ℕ). get_or l j 0) c.as_bytes-bytes.ensures.value in
     let other = ne_eqb (get_or src j 0) c.args.quote (λ h. c.if-here-quote.false (read ∙ h)) in
