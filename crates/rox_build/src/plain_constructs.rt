@@ -16,6 +16,7 @@ ghost use Rattle.rox_grammar.specs.State.{is_root};
 ghost use Rattle.rox_build.specs.BuilderState.{IsConsistent, IsInState, IsReady, KeepsState, ScansTo};
 ghost use Rattle.rox_build.specs.PlainSteps.{Reads};
 ghost use Rattle.rox_build.specs.PendingText.{waiting};
+ghost use Rattle.rox_scan.specs.declared.cursor.Cursor.{Cursor};
 
 use crate::builder::Builder;
 use crate::plain_tag::{bare_start_tag, plain_start_tag};
@@ -31,6 +32,9 @@ use std::alloc::Global;
 
 /// The most bytes of a text whose places all fit rows.
 const MOST_BYTES: usize = 4294967295;
+
+/// Stands for the place behind a construct that was not read.
+const NOT_READ: usize = usize::MAX;
 
 /// Character data, up to the next `<`, if it is a slice of the source, and no text is open that it goes on with.
 #[inline(always)]
@@ -216,59 +220,60 @@ fn bare_element<'input>(
     true
 }
 
-/// A start tag, from its `<`, if it is plain. The first part of its name ends at `part`.
+/// A start tag, from its `<` at `start`, if it is plain. The first part of its name ends at `part`. Answers the place behind it, or
+/// `NOT_READ`: a place that is passed on and answered by itself stays in registers.
 #[inline(never)]
 fn plain_element<'input>(
-    cursor: &mut Cursor<'input>,
+    text: &'input str,
+    start: usize,
     builder: &mut Builder<'input>,
     part: usize,
-) -> bool
-    requires here { slice_index cursor.old.text.now cursor.old.pos ≡ 60 }
-    requires part { part ≡ run_end is_part_char cursor.old.text.now (cursor.old.pos + 1) }
-    requires cut { IsCharBoundary cursor.old.text.now part }
-    requires onward { cursor.old.pos + 1 ≤ part }
-    requires short { length cursor.old.text.now < 2 ^ 32 }
+) -> usize
+    requires here { slice_index text.now start ≡ 60 }
+    requires start { IsCharBoundary text.now start }
+    requires part { part ≡ run_end is_part_char text.now (start + 1) }
+    requires cut { IsCharBoundary text.now part }
+    requires onward { start + 1 ≤ part }
+    requires short { length text.now < 2 ^ 32 }
     requires ready { IsReady 1 builder.old }
     requires fine { IsConsistent builder.old.tables builder.old.opened.items }
-    ensures value { result ≡ true → (context : machine.Context) (end : ℕ) (s : State)
-        → IsInState context.limit end s cursor.old builder.old
-        → ScansTo context.limit end (Ok tt) cursor.new builder.new
-        (machine.tag_step context cursor.old.text.now s) }
-    ensures other { result ≡ false → (cursor.new ≡ cursor.old)
-        × KeepsState builder.old builder.new }
-    ensures ready { result ≡ true → (n : ℕ) → IsReady (n + 1) builder.old
+    ensures value { result < 2 ^ 32 → (context : machine.Context) (end : ℕ) (s : State)
+        (here behind : Cursor) → here.pos ≡ start → behind.pos ≡ result
+        → IsInState context.limit end s here builder.old
+        → ScansTo context.limit end (Ok tt) behind builder.new
+        (machine.tag_step context text.entry.now s) }
+    ensures other { 2 ^ 32 ≤ result → KeepsState builder.old builder.new }
+    ensures cut { result < 2 ^ 32 → IsCharBoundary text.entry.now result }
+    ensures ready { result < 2 ^ 32 → (n : ℕ) → IsReady (n + 1) builder.old
         → IsReady n builder.new }
     ensures fine { IsConsistent builder.new.tables builder.new.opened.items }
-    ensures source { cursor.new.text ≡ cursor.old.text }
 {
     if !builder.has_room_to_open() {
-        return false;
+        return NOT_READ;
     }
     let depth = builder.opened.len();
     if depth == 0 {
-        return false;
+        return NOT_READ;
     }
     let parent = &builder.opened[depth - 1];
     let row = parent.row;
-    let start = cursor.pos;
     let openings_left = builder.openings_left;
     let Some(read) = plain_start_tag(
-        cursor.text,
+        text,
         start,
         &mut builder.tables,
         parent,
         openings_left,
         part,
     ) else {
-        return false;
+        return NOT_READ;
     };
-    cursor.pos = read.end;
     if read.tag.empty {
         builder.put_leaf(row, start, read.end, NodeKind::Element(read.tag.element));
-        return true;
+        return read.end;
     }
-    builder.put_open(row, cursor.text, start, &read.tag);
-    true
+    builder.put_open(row, text, start, &read.tag);
+    read.end
 }
 
 /// A comment, from `<!--`, if it is in order.
@@ -359,17 +364,27 @@ fn plain_markup<'input>(
         return plain_end_tag(cursor, builder, open_around);
     }
     if next == b'!' {
-        return plain_section(cursor, builder);
+        // The place itself stays in a register: another is lent to the call.
+        let mut behind = *cursor;
+        let read = plain_section(&mut behind, builder);
+        *cursor = behind;
+        return read;
     }
     if next == b'?' {
         return false;
     }
-    let name_start = after_byte(cursor.text, cursor.pos, b'<');
-    let part = part_end(cursor.text, name_start);
+    let text = cursor.text;
+    let start = cursor.pos;
+    let part = part_end(text, after_byte(text, start, b'<'));
     if bare_element(cursor, builder, part) {
         return true;
     }
-    plain_element(cursor, builder, part)
+    let end = plain_element(text, start, builder, part);
+    if end > MOST_BYTES {
+        return false;
+    }
+    cursor.pos = end;
+    true
 }
 
 /// How many constructs were read, and whether they are all that were looked for.
@@ -454,6 +469,7 @@ pub fn plain_stretch<'input>(
     ensures fine { IsConsistent builder.new.tables builder.new.opened.items }
     ensures source { cursor.new.text ≡ cursor.old.text }
 {
+    let mut here = *cursor;
     let mut read = 0;
     if cursor.text.len() > MOST_BYTES {
         return read;
@@ -461,15 +477,16 @@ pub fn plain_stretch<'input>(
     let mut left = pairs;
     while left > 0 {
         if builder.is_at_root() {
-            return read;
+            break;
         }
-        let pair = plain_pair(cursor, builder, open_around);
+        let pair = plain_pair(&mut here, builder, open_around);
         read += pair.read;
         if !pair.whole {
-            return read;
+            break;
         }
         left -= 1;
     }
+    *cursor = here;
     read
 }
 

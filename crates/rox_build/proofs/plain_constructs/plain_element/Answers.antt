@@ -1,11 +1,11 @@
-use Rattle.std.proofs.Common.{◌≡◌, ◌-◌, ◌++◌, ◌∷◌, ℕ, Bool, true, [], Ok, take, arith, refl, sym, ap, subst, ◌∙◌, List}
+use Rattle.std.proofs.Common.{◌≡◌, ◌-◌, ◌++◌, ◌∷◌, ℕ, Bool, true, false, [], Ok, take, arith, refl, sym, ap, subst, ◌∙◌, List}
 use Rattle.rox_grammar.specs.Written.{Element, NamespaceDecl}
 use Rattle.rox_grammar.specs.State.{scope_of}
 use Rattle.rox_reading.specs.Machine.{opened_by, cut_off_fault}
 use Rattle.rox_reading.specs.Refusals.{lifted}
 use Rattle.rox_build.specs.ElementRow.{Tagged}
 use Rattle.std.specs.List.{AllByRecursion}
-use Rattle.rox_build.specs.BuilderState.{IsNode, IsOpenWithin, opened_in}
+use Rattle.rox_build.specs.BuilderState.{Adds, IsNode, IsOpenWithin, ScansTo, opened_in}
 use Rattle.rox_build.proofs.Showing.{split_at, innermost_row}
 use Rattle.rox_build.proofs.Stepping.{top_scope}
 use Rattle.rox_tables.specs.declared.rows.tables.NodeKind.TheVariants as kind
@@ -27,15 +27,16 @@ plain_start_tag-requires-clause-parent c =
     all_last (IsOpenWithin b.tables) outer o (subst (AllByRecursion (IsOpenWithin b.tables)) split c.requires.fine.elements)
 
 pub returns-then-read-clause-value : goal.returns-then-read-clause-value
-returns-then-read-clause-value c = λ _ context end s h.
+returns-then-read-clause-value c = λ _ context end s here behind start stop h.
     let b = c.args.builder.now in
     let old = b.tables in
     let new = c.plain_start_tag.new.elements in
     let x = c.in-Some.ensures.read in
     let t = c.in-Some.read.tag in
-    let pos = c.args.cursor.now.pos in
+    let pos = c.args.start in
+    let at : pos ≡ s.at = sym start ∙ h.here in
     let e = c.in-Some.read.end in
-    let src = c.args.cursor.now.text.now in
+    let src = c.args.text.now in
     let os = b.opened.items in
     let o = c.index-parent.result.now in
     let outer = take (c.len-depth.result - 1) os in
@@ -46,22 +47,26 @@ returns-then-read-clause-value c = λ _ context end s h.
     let kept : t.openings_left ≡ s.openings_left = c.in-Some.ensures.openings_left ∙ h.openings_left_is in
     let shows = grown_shows end s.stack s.done b _ h.shows c.requires.fine.sound c.requires.fine.elements (grown_by old new t (scope_of s.stack) x.tag tg) refl refl refl refl in
     let node : IsNode new (scope_of s.stack) pos e (kind.Element t.element) (Element s.at e x.tag) =
-    subst (λ (n : ℕ). IsNode new (scope_of s.stack) pos e (kind.Element t.element) (Element n e x.tag)) h.here (is_node old new t (scope_of s.stack) x.tag pos e tg) in
+    subst (λ (n : ℕ). IsNode new (scope_of s.stack) pos e (kind.Element t.element) (Element n e x.tag)) at (is_node old new t (scope_of s.stack) x.tag pos e tg) in
+    let u = c.put_leaf.new.self in
     let adds = c.put_leaf.ensures.value end e s (Element s.at e x.tag) shows node in
-    rw (tag_is context src s pos cut _ _ _ x.tag t.empty s.openings_left e h.here refl sc h.attributes h.namespaces (rw kept at (x.read context.values cut))
+    rw (tag_is context src s pos cut _ _ _ x.tag t.empty s.openings_left e at refl sc h.attributes h.namespaces (rw kept at (x.read context.values cut))
     ∙ ap (λ (y : Bool). lifted (opened_by context.limit s x.tag y s.openings_left e)) c.if-read.true)
-    (empty_stepped context.limit end s.openings_left s _ old new b.nodes_limit c.put_leaf.new.self (Ok tt) t (scope_of s.stack) x.tag tg h.namespaces h.attributes h.limit_is (c.put_leaf.ensures.openings_left ∙ h.openings_left_is) c.put_leaf.ensures.tables c.put_leaf.ensures.limit adds)
+    (subst (λ (n : ℕ). ScansTo context.limit end (Ok tt) behind u (lifted (opened_by context.limit s x.tag true s.openings_left n))) stop
+    (empty_stepped context.limit end s.openings_left s behind old new b.nodes_limit u (Ok tt) t (scope_of s.stack) x.tag tg h.namespaces h.attributes h.limit_is (c.put_leaf.ensures.openings_left ∙ h.openings_left_is) c.put_leaf.ensures.tables c.put_leaf.ensures.limit
+    (subst (λ (n : ℕ). Adds end (Ok tt) u (opened_by b.nodes_limit s x.tag true s.openings_left n)) (sym stop) adds)))
 
 pub returns-clause-value : goal.returns-clause-value
-returns-clause-value c = λ _ context end s h.
+returns-clause-value c = λ _ context end s here behind start stop h.
     let b = c.args.builder.now in
     let old = b.tables in
     let new = c.plain_start_tag.new.elements in
     let x = c.in-Some.ensures.read in
     let t = c.in-Some.read.tag in
-    let pos = c.args.cursor.now.pos in
+    let pos = c.args.start in
+    let at : pos ≡ s.at = sym start ∙ h.here in
     let e = c.in-Some.read.end in
-    let src = c.args.cursor.now.text.now in
+    let src = c.args.text.now in
     let os = b.opened.items in
     let o = c.index-parent.result.now in
     let outer = take (c.len-depth.result - 1) os in
@@ -71,10 +76,13 @@ returns-clause-value c = λ _ context end s h.
     let cut = cut_off_fault context.values.main s.stack in
     let kept : t.openings_left ≡ s.openings_left = c.in-Some.ensures.openings_left ∙ h.openings_left_is in
     let shows = grown_shows end s.stack s.done b _ h.shows c.requires.fine.sound c.requires.fine.elements (grown_by old new t (scope_of s.stack) x.tag tg) refl refl refl refl in
-    let adds = c.put_open.ensures.value end e s.openings_left s x.tag shows (sym h.here) (is_opening old new t (scope_of s.stack) x.tag pos tg x.starts) in
-    rw (tag_is context src s pos cut _ _ _ x.tag t.empty s.openings_left e h.here refl sc h.attributes h.namespaces (rw kept at (x.read context.values cut))
+    let u = c.put_open.new.self in
+    let adds = c.put_open.ensures.value end e s.openings_left s x.tag shows (sym at) (is_opening old new t (scope_of s.stack) x.tag pos tg x.starts) in
+    rw (tag_is context src s pos cut _ _ _ x.tag t.empty s.openings_left e at refl sc h.attributes h.namespaces (rw kept at (x.read context.values cut))
     ∙ ap (λ (y : Bool). lifted (opened_by context.limit s x.tag y s.openings_left e)) c.if-read.false)
-    (open_stepped context.limit end s.openings_left s _ old new b.nodes_limit c.put_open.new.self (Ok tt) t (scope_of s.stack) x.tag tg h.namespaces h.attributes h.limit_is (c.put_open.ensures.openings_left ∙ h.openings_left_is) c.put_open.ensures.tables c.put_open.ensures.limit adds)
+    (subst (λ (n : ℕ). ScansTo context.limit end (Ok tt) behind u (lifted (opened_by context.limit s x.tag false s.openings_left n))) stop
+    (open_stepped context.limit end s.openings_left s behind old new b.nodes_limit u (Ok tt) t (scope_of s.stack) x.tag tg h.namespaces h.attributes h.limit_is (c.put_open.ensures.openings_left ∙ h.openings_left_is) c.put_open.ensures.tables c.put_open.ensures.limit
+    (subst (λ (n : ℕ). Adds end (Ok tt) u (opened_by b.nodes_limit s x.tag false s.openings_left n)) (sym stop) adds)))
 
 pub returns-in_default-clause-fine : goal.returns-in_default-clause-fine
 returns-in_default-clause-fine c = fine_same c.args.builder.now.tables c.plain_start_tag.new.elements c.args.builder.now.opened.items c.in_default.ensures.none c.requires.fine
@@ -89,31 +97,30 @@ returns-then-read-clause-fine c =
 pub returns-clause-fine : goal.returns-clause-fine
 returns-clause-fine c =
     let b = c.args.builder.now in
-    let cursor = c.args.cursor.now in
-    let src = cursor.text.now in
+    let src = c.args.text.now in
     let x = c.in-Some.ensures.read in
     let t = c.in-Some.read.tag in
     let context : Values = record { main = true; entities = []; opener = λ text i openings_left. Ok ([], openings_left) } in
     fine_more (Ok tt) c.plain_start_tag.new.elements b.opened.items c.put_open.new.self src t
     (fine_by b.tables c.plain_start_tag.new.elements t _ x.tag b.opened.items x.tagged c.requires.fine) c.put_open.ensures.tables c.put_open.ensures.opened x.tagged.element.scope_within x.tagged.once (namespace_by b.tables c.plain_start_tag.new.elements t _ x.tag x.tagged)
-    (λ o by. opened_named context fault.NoRootNode _ _ _ src cursor.pos t.openings_left _ _ t o cursor.utf8 c.requires.here (x.read context fault.NoRootNode) x.tagged.name x.tagged.name_end x.starts by)
+    (λ o by. opened_named context fault.NoRootNode _ _ _ src c.args.start t.openings_left _ _ t o c.utf8.text c.requires.here (x.read context fault.NoRootNode) x.tagged.name x.tagged.name_end x.starts by)
 
 pub put_open-requires-clause-within : goal.put_open-requires-clause-within
 put_open-requires-clause-within c =
-    let src = c.args.cursor.now.text.now in
+    let src = c.args.text.now in
     let x = c.in-Some.ensures.read in
-    let within = stands_within src c.args.cursor.now.pos 60 c.requires.here (omega arith) in
+    let within = stands_within src c.args.start 60 c.requires.here (omega arith) in
     let starts = x.starts in
     omega arith
 
 pub put_leaf-requires-clause-start : goal.put_leaf-requires-clause-start
-put_leaf-requires-clause-start c = omega (arith, c.requires.short, c.args.cursor.now.cut.0)
+put_leaf-requires-clause-start c = omega (arith, c.requires.short, c.requires.start.0)
 
 pub put_leaf-requires-clause-end : goal.put_leaf-requires-clause-end
 put_leaf-requires-clause-end c = omega (arith, c.requires.short, c.in-Some.ensures.read.cut.0)
 
 pub put_open-requires-clause-start : goal.put_open-requires-clause-start
-put_open-requires-clause-start c = omega (arith, c.requires.short, c.args.cursor.now.cut.0)
+put_open-requires-clause-start c = omega (arith, c.requires.short, c.requires.start.0)
 
 pub returns-then-read-clause-ready : goal.returns-then-read-clause-ready
 returns-then-read-clause-ready c = λ _ n h. c.put_leaf.ensures.ready n (record { room = h.room; few = h.few; small = h.small; settled = h.settled })

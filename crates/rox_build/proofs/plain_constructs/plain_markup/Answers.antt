@@ -1,4 +1,4 @@
-use Rattle.std.proofs.Common.{ℕ, List, ◌+◌, slice_index, ne_eqb, refl, ap, ◌∙◌}
+use Rattle.std.proofs.Common.{ℕ, List, ◌+◌, slice_index, ne_eqb, refl, ap, ◌∙◌, arith}
 use Rattle.rox_build.specs.BuilderState.{IsInState}
 use Rattle.rox_build.proofs.Stepping.{step_is_markup, state_kept}
 use Rattle.rox_build.proofs.plain_constructs.plain_markup.Goals as goal
@@ -16,21 +16,21 @@ returns-then-bare_element-clause-value c = λ _ context end s around h.
     rw (is, ne_eqb b 63 c.if-next-eq63.false, ne_eqb b 47 c.if-next-eq47.false) (c.bare_element.ensures.value c.if-bare_element.true context end s h)
 
 pub returns-clause-value : goal.returns-clause-value
-returns-clause-value c = λ yes context end s around h.
+returns-clause-value c = λ _ context end s around h.
     let i = c.args.cursor.now.pos in
     let b = slice_index c.as_bytes-bytes.result.now (i + 1) in
     let is = step_is_markup context c.args.cursor.now.text.now _ s i b c.as_bytes-bytes.ensures.value h.here (ap (λ (xs : List ℕ). slice_index xs c.args.cursor.now.pos) c.as_bytes-bytes.ensures.value ∙ c.requires.here) c.if-cursor-bytes.false refl c.if-next-eq33.false in
     let o = c.bare_element.ensures.other c.if-bare_element.false in
-    let sees : IsInState context.limit end s c.bare_element.new.cursor c.bare_element.new.builder = rw (o.0, o.1) h in
-    let same = ap (λ x. x.text.now) o.0 in
-    rw (is, ne_eqb b 63 c.if-next-eq63.false, ne_eqb b 47 c.if-next-eq47.false) (rw same at (c.plain_element.ensures.value yes context end s sees))
+    let sees : IsInState context.limit end s c.args.cursor.now c.bare_element.new.builder = rw (o.1) h in
+    rw (is, ne_eqb b 63 c.if-next-eq63.false, ne_eqb b 47 c.if-next-eq47.false)
+    (c.plain_element-end.ensures.value (omega (arith, c.if-end-gt-MOST_BYTES.false)) context end s c.args.cursor.now _ refl refl sees)
 
-pub returns-clause-other : goal.returns-clause-other
-returns-clause-other c = λ no context end s h.
+pub returns-then-end-gt-MOST_BYTES-clause-other : goal.returns-then-end-gt-MOST_BYTES-clause-other
+returns-then-end-gt-MOST_BYTES-clause-other c = λ no context end s h.
     let u = c.bare_element.ensures.other c.if-bare_element.false in
     let sees : IsInState context.limit end s c.bare_element.new.cursor c.bare_element.new.builder = rw (u.0, u.1) h in
-    let o = c.plain_element.ensures.other no in
-    state_kept context.limit end s c.bare_element.new.cursor c.plain_element.new.cursor c.bare_element.new.builder c.plain_element.new.builder sees o.0 o.1
+    let o = c.plain_element-end.ensures.other (omega (arith, c.if-end-gt-MOST_BYTES.true)) in
+    state_kept context.limit end s c.bare_element.new.cursor c.bare_element.new.cursor c.bare_element.new.builder c.plain_element-end.new.builder sees refl o
 
 pub returns-clause-ready : goal.returns-clause-ready
-returns-clause-ready c = λ yes n h. let same = (c.bare_element.ensures.other c.if-bare_element.false).1 in c.plain_element.ensures.ready yes n (rw same h)
+returns-clause-ready c = λ _ n h. let same = (c.bare_element.ensures.other c.if-bare_element.false).1 in c.plain_element-end.ensures.ready (omega (arith, c.if-end-gt-MOST_BYTES.false)) n (rw same h)

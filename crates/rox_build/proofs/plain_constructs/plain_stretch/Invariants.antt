@@ -7,11 +7,11 @@ use Rattle.rox_build.proofs.plain_constructs.plain_stretch.Given as goal
 
 abbrev pub invariant-loop-left : goal.invariant-loop-left
 invariant-loop-left l = record {
-  source : l.cursor.text ≡ l.fn.cursor.text;
+  source : l.here.text ≡ l.fn.cursor.text;
   fine : IsConsistent l.builder.tables l.builder.opened.items;
   count : l.read + 2 * l.left ≤ 2 * l.fn.pairs;
   ready : 0 < l.left → IsReady (2 * l.left) l.builder;
-  reads : (context : Context) (end : ℕ) (s : State) → context.open_around ≡ l.fn.open_around → IsInState context.limit end s l.fn.cursor l.fn.builder → Reads context end l.read l.cursor l.builder l.fn.cursor.text.now s;
+  reads : (context : Context) (end : ℕ) (s : State) → context.open_around ≡ l.fn.open_around → IsInState context.limit end s l.fn.cursor l.fn.builder → Reads context end l.read l.here l.builder l.fn.cursor.text.now s;
 }
 
 abbrev pub decreases-loop-left : goal.decreases-loop-left
