@@ -208,7 +208,15 @@ static void measure(const char* path, double nanoseconds, int rounds, const char
     fflush(stdout);
 }
 
+// Has the allocator keep the pages that it was given back, for all parsers alike. Else it hands them to the system and gets them anew,
+// at thresholds that move with what was freed before, so that a parser would be charged for the sizes of another's tables.
+static void keep_pages() {
+    mallopt(M_MMAP_THRESHOLD, 32 << 20);
+    mallopt(M_TRIM_THRESHOLD, 1 << 30);
+}
+
 int main(int count, char** words) {
+    keep_pages();
     if (count > 5 && !strcmp(words[1], "measure")) {
         for (int i = 5; i < count; i++) {
             measure(words[i], atof(words[2]) * 1000, atoi(words[3]), words[4]);
