@@ -18,6 +18,7 @@ use rox_grammar::fault::Fault;
 use rox_grammar::name::QName;
 use rox_tables::namespaces::bindings::PrefixBindings;
 use rox_tables::namespaces::namespace_table::NamespaceTable;
+use rox_tables::namespaces::seen_names::SeenNames;
 use rox_tables::namespaces::unresolved_attribute::UnresolvedAttribute;
 use rox_tables::rows::attributes::AttributeTable;
 use rox_tables::rows::growth::push;
@@ -222,6 +223,7 @@ impl<'input> Builder<'input> {
                 raw: String::new(alloc),
                 taken,
                 prefix_set: BTreeSet::new(alloc),
+                seen: SeenNames::new(0),
             },
             recent: Recent::new(alloc),
             nodes_limit,

@@ -19,7 +19,7 @@ ghost use Rattle.rox_build.specs.PendingText.{waiting};
 ghost use Rattle.rox_scan.specs.declared.cursor.Cursor.{Cursor};
 
 use crate::builder::Builder;
-use crate::plain_tag::{bare_start_tag, plain_start_tag};
+use crate::plain_tag::{TagPlace, bare_start_tag, plain_start_tag};
 use crate::same_front::same_front;
 use rox_grammar::fault::Word;
 use rox_scan::byte_set::{part_end, skip_set};
@@ -260,11 +260,11 @@ fn plain_element<'input>(
     let openings_left = builder.openings_left;
     let Some(read) = plain_start_tag(
         text,
-        start,
+        TagPlace { start, part },
         &mut builder.tables,
         parent,
         openings_left,
-        part,
+        &mut builder.buffers.seen,
     ) else {
         return NOT_READ;
     };

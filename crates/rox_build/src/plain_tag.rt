@@ -1,6 +1,6 @@
-//! Start tags that are plain, read at one look: without declarations, and with few attributes, whose values refer to no
-//! entities (XML 1.0 section 3.1). Nothing fails here: a tag that is not plain, or finds no room, is left to the general step, which
-//! reads it from its `<`.
+//! Start tags that are plain, read at one look: without declarations, and with attributes whose values all read alike, as they
+//! refer to no entities but the predefined ones (XML 1.0 sections 3.1 and 4.6). Nothing fails here: a tag that is not plain, or finds
+//! no room, is left to the general step, which reads it from its `<`.
 
 ghost use Rattle.std.specs.Prelude.{◌≡◌, ◌<◌, ◌≤◌, ◌+◌, ◌-◌, ◌^◌, ◌++◌, ◌==◌, ◌||◌, List, Ok, IfSome, IfNone, drop, length, map, slice_index, slice_range, true, false, []};
 ghost use Rattle.std.specs.Str.{IsCharBoundary};
@@ -727,6 +727,7 @@ fn some_attributes<'input>(
     start: usize,
     elements: &mut ElementTables<'input>,
     scope: u32,
+    seen: &mut SeenNames,
 ) -> Option<TagEnd>
     requires cut { IsCharBoundary text.now start }
     requires short { length text.now < 2 ^ 32 }
@@ -742,14 +743,14 @@ fn some_attributes<'input>(
         × (attribute_rows elements.new.attributes ≡ attribute_rows elements.old.attributes
         ++ more) }
 {
-    let mut seen = SeenNames::new(elements.attributes.len());
+    seen.begin(elements.attributes.len());
     let mut at = start;
     while at + 1 < text.len() {
         let here = near_space_end(text, at);
         if here == at || !begins::<NameStart>(text, here) {
             return tag_end(text, here);
         }
-        at = put_attribute(text, at, here, elements, scope, &mut seen);
+        at = put_attribute(text, at, here, elements, scope, seen);
         if at == 0 {
             return None;
         }
@@ -764,6 +765,7 @@ fn plain_attributes<'input>(
     start: usize,
     elements: &mut ElementTables<'input>,
     scope: u32,
+    seen: &mut SeenNames,
 ) -> Option<TagEnd>
     requires cut { IsCharBoundary text.now start }
     requires short { length text.now < 2 ^ 32 }
@@ -783,7 +785,7 @@ fn plain_attributes<'input>(
     if start < bytes.len() && bytes[start] > b' ' {
         return tag_end(text, start);
     }
-    some_attributes(text, start, elements, scope)
+    some_attributes(text, start, elements, scope, seen)
 }
 
 /// A plain start tag that was read, and where it ends.
@@ -919,21 +921,28 @@ fn tag_namespace(
     other_namespace(elements, name, at, parent.scope)
 }
 
-/// A start tag behind its `<` at `start`, if it is plain and finds room, below this element: its attributes are in the table then.
-/// Else some may stand there too. So many replacement texts may be opened behind it. The first part of its name ends at `part`.
+/// Where a start tag begins, and where the first part of its name ends.
+#[derive(Clone, Copy)]
+pub struct TagPlace {
+    pub start: usize,
+    pub part: usize,
+}
+
+/// The start tag at this place, if it is plain and finds room, below this element: its attributes are in the table then. Else some
+/// may stand there too. So many replacement texts may be opened behind it.
 #[inline]
 fn read_tag<'input>(
     text: &'input str,
-    start: usize,
+    place: TagPlace,
     elements: &mut ElementTables<'input>,
     parent: &OpenElement<'input>,
     openings_left: u32,
-    part: usize,
+    seen: &mut SeenNames,
 ) -> Option<PlainTag<'input>>
-    requires here { slice_index text.now start ≡ 60 }
-    requires part { part ≡ run_end is_part_char text.now (start + 1) }
-    requires cut { IsCharBoundary text.now part }
-    requires onward { start + 1 ≤ part }
+    requires here { slice_index text.now place.start ≡ 60 }
+    requires part { place.part ≡ run_end is_part_char text.now (place.start + 1) }
+    requires cut { IsCharBoundary text.now place.part }
+    requires onward { place.start + 1 ≤ place.part }
     requires short { length text.now < 2 ^ 32 }
     requires places { ArePlaces
         (length elements.old.namespaces.items.items) elements.old.listed.items }
@@ -943,7 +952,8 @@ fn read_tag<'input>(
     requires parent { IsOpenWithin elements.old parent.now }
     ensures read { IfSome result
         (λ t. IsPlainTag elements.old elements.new
-        (scope_in_tables elements.old parent.entry.now.scope) text.entry.now start t.end t.tag) }
+        (scope_in_tables elements.old parent.entry.now.scope) text.entry.now place.start
+        t.end t.tag) }
     ensures openings_left { IfSome result (λ t. t.tag.openings_left ≡ openings_left) }
     ensures grown { (more : List AttributeRow)
         × (elements.new ≡ record elements.old { attributes = elements.new.attributes })
@@ -951,14 +961,14 @@ fn read_tag<'input>(
         ++ more) }
 {
     let small = byte_count(text);
-    let name_start = after_byte(text, start, b'<');
-    let name = plain_name(text, name_start, part)?;
+    let name_start = after_byte(text, place.start, b'<');
+    let name = plain_name(text, name_start, place.part)?;
     if same_text(name.name.prefix, "xmlns") {
         return None;
     }
     let from = elements.attributes.len();
     let namespace = tag_namespace(elements, name.name, name_start, parent)?;
-    let end = plain_attributes(text, name.end, elements, parent.scope)?;
+    let end = plain_attributes(text, name.end, elements, parent.scope, seen)?;
     let until = elements.attributes.len();
     if until > MOST_ATTRIBUTES {
         return None;
@@ -985,16 +995,16 @@ fn read_tag<'input>(
 #[inline]
 pub fn plain_start_tag<'input>(
     text: &'input str,
-    start: usize,
+    place: TagPlace,
     elements: &mut ElementTables<'input>,
     parent: &OpenElement<'input>,
     openings_left: u32,
-    part: usize,
+    seen: &mut SeenNames,
 ) -> Option<PlainTag<'input>>
-    requires here { slice_index text.now start ≡ 60 }
-    requires part { part ≡ run_end is_part_char text.now (start + 1) }
-    requires cut { IsCharBoundary text.now part }
-    requires onward { start + 1 ≤ part }
+    requires here { slice_index text.now place.start ≡ 60 }
+    requires part { place.part ≡ run_end is_part_char text.now (place.start + 1) }
+    requires cut { IsCharBoundary text.now place.part }
+    requires onward { place.start + 1 ≤ place.part }
     requires short { length text.now < 2 ^ 32 }
     requires places { ArePlaces
         (length elements.old.namespaces.items.items) elements.old.listed.items }
@@ -1004,12 +1014,13 @@ pub fn plain_start_tag<'input>(
     requires parent { IsOpenWithin elements.old parent.now }
     ensures read { IfSome result
         (λ t. IsPlainTag elements.old elements.new
-        (scope_in_tables elements.old parent.entry.now.scope) text.entry.now start t.end t.tag) }
+        (scope_in_tables elements.old parent.entry.now.scope) text.entry.now place.start
+        t.end t.tag) }
     ensures openings_left { IfSome result (λ t. t.tag.openings_left ≡ openings_left) }
     ensures none { IfNone result (HoldSame elements.old elements.new) }
 {
     let from = elements.attributes.len();
-    let tag = read_tag(text, start, elements, parent, openings_left, part);
+    let tag = read_tag(text, place, elements, parent, openings_left, seen);
     if tag.is_none() {
         elements.attributes.truncate(from);
     }

@@ -29,6 +29,7 @@ use rox_tables::compare::same_text;
 use rox_tables::namespaces::namespace_decl::{declare_namespace, is_namespace_decl};
 use rox_tables::namespaces::resolve::{element_namespace, resolve};
 use rox_tables::namespaces::scope::{OwnDeclarations, few_places};
+use rox_tables::namespaces::seen_names::SeenNames;
 use rox_tables::namespaces::tag_scope::scope_of_tag;
 use rox_tables::namespaces::unresolved_attribute::UnresolvedAttribute;
 use rox_tables::rows::growth::push;
@@ -65,6 +66,8 @@ pub struct Buffers<'input> {
     pub taken: Vec<UnresolvedAttribute<'input>>,
     /// The prefixes that the tag declares, where these are many.
     pub prefix_set: BTreeSet<Option<&'input str>>,
+    /// The names that the attributes of a plain tag have had.
+    pub seen: SeenNames,
 }
 
 /// A text to keep: a slice of the source where it is one, else a copy of the buffer.

@@ -12,7 +12,7 @@ use crate::compare::{WORD, same_text, word_at};
 use crate::rows::attributes::AttributeTable;
 
 /// The attributes of a tag that are in the table: where they begin, and which codes their names have. The first two have theirs
-/// put there with the third.
+/// put there with the third; until then the codes are those of a tag before.
 #[derive(Drop)]
 pub struct SeenNames {
     pub from: usize,
@@ -75,6 +75,15 @@ impl SeenNames {
         }
     }
 
+    /// Begins with a tag whose attributes begin at this place of the table: none yet. The codes stay, as most tags need none.
+    #[inline(always)]
+    pub fn begin(&mut self, from: usize)
+        ensures { self.new.from ≡ from }
+    {
+        self.from = from;
+        self.again = 0;
+    }
+
     /// Puts a name there. Answers whether one with its code was there before.
     #[inline(always)]
     pub(crate) fn put(&mut self, local: &str) -> bool
@@ -89,7 +98,7 @@ impl SeenNames {
         came
     }
 
-    /// Puts the names of the attributes of the tag there, if they have no codes yet.
+    /// Puts the names of the attributes of the tag there, and those alone, if they have no codes yet.
     #[inline(always)]
     pub(crate) fn put_few(&mut self, attributes: &AttributeTable<'_>)
         requires from { self.old.from ≤ length (attribute_rows attributes.now) }
@@ -98,7 +107,11 @@ impl SeenNames {
         ensures from { self.new.from ≡ self.old.from }
     {
         let count = attributes.items.len() - self.from;
-        if count == 0 || count > WITHOUT_CODES {
+        if count > WITHOUT_CODES {
+            return;
+        }
+        self.codes = [false; CODES];
+        if count == 0 {
             return;
         }
         self.put(attributes.items[self.from].local);

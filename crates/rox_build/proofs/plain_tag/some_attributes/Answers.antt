@@ -13,7 +13,7 @@ loop-at-init c =
     record {
       others = refl;
       from = omega arith;
-      seen = few_seen c.new-seen.result (attribute_rows t.attributes) (omega arith);
+      seen = few_seen c.begin.new.self (attribute_rows t.attributes) (omega arith);
       cut = c.requires.cut;
       so_far = plain_starts (map namespace_view t.namespaces.items.items) (few_in t c.args.scope) t.present c.args.text.now c.args.start (attribute_rows t.attributes);
     }
