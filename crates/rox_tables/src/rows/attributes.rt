@@ -25,14 +25,17 @@ pub struct AttributeTable<'input> {
 /// How many attributes a table begins with room for, at most.
 const FIRST_ATTRIBUTES: usize = 32768;
 
-/// And where there is no memory for so many.
+/// How many more than its length alone lets expect, so that the table of a short text seldom grows.
+const MORE_ATTRIBUTES: usize = 10;
+
+/// How many where there is no memory for so many.
 const FEWEST: usize = 4;
 
 /// How many attributes a table begins with room for, of a text of so many bytes.
 fn first_attributes(bytes: usize) -> usize
-    ensures { result ≡ min (bytes / 112 + 4) 32768 }
+    ensures { result ≡ min (bytes / 120 + 10) 32768 }
 {
-    (bytes / 112 + FEWEST).min(FIRST_ATTRIBUTES)
+    (bytes / 120 + MORE_ATTRIBUTES).min(FIRST_ATTRIBUTES)
 }
 
 /// How many of these are unusual.

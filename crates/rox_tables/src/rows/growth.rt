@@ -1,6 +1,6 @@
 //! Growth of tables.
 
-ghost use Rattle.std.specs.Prelude.{◌≡◌, ◌<◌, ◌≤◌, ◌+◌, ◌/◌, ◌^◌, ◌++◌, ◌∷◌, [], if◌then◌else◌, is_ok, min, vec_len, vec_capacity, OnOk};
+ghost use Rattle.std.specs.Prelude.{◌≡◌, ◌<◌, ◌≤◌, ◌+◌, ◌/◌, ◌^◌, ◌++◌, ◌∷◌, [], if◌then◌else◌, is_ok, min, vec_len, vec_capacity, IfOk, OnOk};
 ghost use Rattle.rox_tables.specs.Growth as room;
 
 use std::alloc::{AllocError, Global};
@@ -58,8 +58,7 @@ pub fn reserve<T: Drop>(to: &mut Vec<T>, more: usize, fewer: usize) -> Result<()
 
 /// An empty table that is to have so many rows. Where that is small its room is asked for with the first row; else there is room
 /// already, or none where there is no memory for it: it is then asked for as the table grows.
-#[cold]
-#[inline(never)]
+#[inline(always)]
 pub fn with_room<T: Drop>(alloc: Global, room: usize) -> Vec<T>
     ensures items { result.items ≡ [] }
     ensures room { vec_capacity result ≤ room }
@@ -72,6 +71,22 @@ pub fn with_room<T: Drop>(alloc: Global, room: usize) -> Vec<T>
         Ok(items) => items,
         Err(_) => Vec::new(alloc),
     }
+}
+
+/// An empty table with room for so many rows. Where that is refused and the table would not be small, it has room for `fewer`. The
+/// only error is want of memory.
+#[inline(always)]
+pub(crate) fn first_room<T: Drop>(alloc: Global, room: usize, fewer: usize) -> Result<Vec<T>, AllocError>
+    ensures items { IfOk result (λ table. table.items ≡ []) }
+{
+    if let Ok(table) = Vec::with_capacity(alloc, room) {
+        return Ok(table);
+    }
+    if room > SMALL {
+        let table = Vec::with_capacity(alloc, fewer)?;
+        return Ok(table);
+    }
+    Err(AllocError)
 }
 
 /// How many rows there is to be room for where a table is full with `len`, which the first `place` bytes of a text of `end`

@@ -10,7 +10,7 @@ ghost use Rattle.rox_tables.specs.declared.rows.tables.NodeKind.TheVariants as k
 ghost use Rattle.rox_tables.specs.declared.rows.stored_node.StoredNode.{StoredNode};
 ghost use Rattle.rox_tables.specs.declared.rows.stored_node.HighPlaces.{HighPlaces};
 
-use crate::rows::growth::{self, reserve, trim};
+use crate::rows::growth::{self, first_room, trim};
 use crate::rows::stored_node::{
     FIRST_HIGH, HighPlaces, KindRef, RowRef, StoredNode, high_half, kind_ref, low_half, small_kind,
     store_kind, whole_place,
@@ -121,13 +121,13 @@ impl<'input> NodeTable<'input> {
             ∷ []) }
         ensures len { IfOk result (λ t. vec_len t.rows ≡ 1) }
     {
-        let room = (bytes / 48 + (bytes / 64).min(MORE_ROWS) + FEWEST_ROWS).min(FIRST_ROWS);
+        let room = (bytes / 48 + (bytes / 72).min(MORE_ROWS) + FEWEST_ROWS).min(FIRST_ROWS);
+        let rows = first_room(alloc, room, FEWEST_ROWS)?;
         let mut table = NodeTable {
-            rows: Vec::new(alloc),
+            rows,
             instructions: Vec::new(alloc),
             high: Vec::new(alloc),
         };
-        reserve(&mut table.rows, room, FEWEST_ROWS)?;
         table.push(NodeData {
             start: 0,
             end: bytes,
