@@ -358,9 +358,14 @@ pub fn content<'input>(
     let mut left = cursor.text.len();
     while left > 0 {
         let pairs = builder.rows_left().min(left) / 2;
-        left -= plain_stretch(cursor, builder, context.open_around, pairs);
+        let read = plain_stretch(cursor, builder, context.open_around, pairs);
+        left -= read;
         if builder.is_at_root() {
             return Ok(());
+        }
+        // So many may be read that there is room for more.
+        if pairs > 0 && read >= pairs {
+            continue;
         }
         if left == 0 {
             return Err(ParseError::Fault(Fault::UnclosedRootNode));

@@ -15,10 +15,10 @@ returns-then-is_at_root-clause-value c = λ limit end es s declared sees.
     let src = c.args.cursor.now.text.now in
     let context = context_of limit es c.args.context in
     let s0 = ap (λ t. t.now) c.loop-left.invariant.source in
-    let k = c.plain_stretch-left.result in
-    let few : k ≤ c.loop-left.left = (let n = c.plain_stretch-left.ensures.count in let m = c.min-pairs.ensures in omega arith) in
+    let k = c.plain_stretch-read.result in
+    let few : k ≤ c.loop-left.left = (let n = c.plain_stretch-read.ensures.count in let m = c.min-pairs.ensures in omega arith) in
     let g0 = c.loop-left.invariant.reads limit end es s declared sees in
-    let g = drives_past context end src _ c.loop-left.left k _ _ _ _ g0 few (rw s0 at (c.plain_stretch-left.ensures.value context end g0.s refl g0.sees)) in
+    let g = drives_past context end src _ c.loop-left.left k _ _ _ _ g0 few (rw s0 at (c.plain_stretch-read.ensures.value context end g0.s refl g0.sees)) in
     drive_done context end src _ _ _ _ g (sym (c.is_at_root.ensures end g.s.stack g.s.done g.sees.shows) ∙ c.if-is_at_root.true)
 
 pub returns-then-left-eq0-clause-value : goal.returns-then-left-eq0-clause-value
@@ -26,10 +26,10 @@ returns-then-left-eq0-clause-value c = λ limit end es s declared sees.
     let src = c.args.cursor.now.text.now in
     let context = context_of limit es c.args.context in
     let s0 = ap (λ t. t.now) c.loop-left.invariant.source in
-    let k = c.plain_stretch-left.result in
-    let few : k ≤ c.loop-left.left = (let n = c.plain_stretch-left.ensures.count in let m = c.min-pairs.ensures in omega arith) in
+    let k = c.plain_stretch-read.result in
+    let few : k ≤ c.loop-left.left = (let n = c.plain_stretch-read.ensures.count in let m = c.min-pairs.ensures in omega arith) in
     let g0 = c.loop-left.invariant.reads limit end es s declared sees in
-    let g = drives_past context end src _ c.loop-left.left k _ _ _ _ g0 few (rw s0 at (c.plain_stretch-left.ensures.value context end g0.s refl g0.sees)) in
+    let g = drives_past context end src _ c.loop-left.left k _ _ _ _ g0 few (rw s0 at (c.plain_stretch-read.ensures.value context end g0.s refl g0.sees)) in
     let inner : is_root g.s.stack ≡ false = sym (c.is_at_root.ensures end g.s.stack g.s.done g.sees.shows) ∙ c.if-is_at_root.false in
     drive_spent context end src _ _ _ _ g inner c.if-left-eq0.true
 
@@ -38,30 +38,44 @@ returns-then-is_at_end-clause-value c = λ limit end es s declared sees.
     let src = c.args.cursor.now.text.now in
     let context = context_of limit es c.args.context in
     let s0 = ap (λ t. t.now) c.loop-left.invariant.source in
-    let s1 = ap (λ t. t.now) c.plain_stretch-left.ensures.source ∙ s0 in
-    let k = c.plain_stretch-left.result in
-    let few : k ≤ c.loop-left.left = (let n = c.plain_stretch-left.ensures.count in let m = c.min-pairs.ensures in omega arith) in
+    let s1 = ap (λ t. t.now) c.plain_stretch-read.ensures.source ∙ s0 in
+    let k = c.plain_stretch-read.result in
+    let few : k ≤ c.loop-left.left = (let n = c.plain_stretch-read.ensures.count in let m = c.min-pairs.ensures in omega arith) in
     let g0 = c.loop-left.invariant.reads limit end es s declared sees in
-    let g = drives_past context end src _ c.loop-left.left k _ _ _ _ g0 few (rw s0 at (c.plain_stretch-left.ensures.value context end g0.s refl g0.sees)) in
+    let g = drives_past context end src _ c.loop-left.left k _ _ _ _ g0 few (rw s0 at (c.plain_stretch-read.ensures.value context end g0.s refl g0.sees)) in
     let inner : is_root g.s.stack ≡ false = sym (c.is_at_root.ensures end g.s.stack g.s.done g.sees.shows) ∙ c.if-is_at_root.false in
     let past : length src ≤ g.s.at = rw (s1, g.sees.here) at (leb-true _ _ (sym c.is_at_end.ensures ∙ c.if-is_at_end.true)) in
     drive_cut context end src _ _ _ _ g inner past
 
+pub loop-left-preserved-then-read-pairs : goal.loop-left-preserved-then-read-pairs
+loop-left-preserved-then-read-pairs c = record {
+  source = c.plain_stretch-read.ensures.source ∙ c.loop-left.invariant.source;
+  fine = c.plain_stretch-read.ensures.fine;
+  reads = λ limit end es s declared sees.
+      let src = c.args.cursor.now.text.now in
+      let context = context_of limit es c.args.context in
+      let s0 = ap (λ t. t.now) c.loop-left.invariant.source in
+      let k = c.plain_stretch-read.result in
+      let few : k ≤ c.loop-left.left = (let n = c.plain_stretch-read.ensures.count in let m = c.min-pairs.ensures in omega arith) in
+      let g0 = c.loop-left.invariant.reads limit end es s declared sees in
+      drives_past context end src _ c.loop-left.left k _ _ _ _ g0 few (rw s0 at (c.plain_stretch-read.ensures.value context end g0.s refl g0.sees));
+}
+
 pub loop-left-preserved-then-plain_main_line : goal.loop-left-preserved-then-plain_main_line
 loop-left-preserved-then-plain_main_line c = record {
-  source = c.plain_main_line.ensures.source ∙ c.plain_stretch-left.ensures.source ∙ c.loop-left.invariant.source;
+  source = c.plain_main_line.ensures.source ∙ c.plain_stretch-read.ensures.source ∙ c.loop-left.invariant.source;
   fine = c.plain_main_line.ensures.fine;
   reads = λ limit end es s declared sees.
       let src = c.args.cursor.now.text.now in
       let context = context_of limit es c.args.context in
       let s0 = ap (λ t. t.now) c.loop-left.invariant.source in
-      let s1 = ap (λ t. t.now) c.plain_stretch-left.ensures.source ∙ s0 in
-      let k = c.plain_stretch-left.result in
+      let s1 = ap (λ t. t.now) c.plain_stretch-read.ensures.source ∙ s0 in
+      let k = c.plain_stretch-read.result in
       let n = c.loop-left.left - k in
       let one : n ≡ suc (n - 1) = (let more = c.if-left-eq0.false in omega arith) in
-      let few : k ≤ c.loop-left.left = (let n = c.plain_stretch-left.ensures.count in let m = c.min-pairs.ensures in omega arith) in
+      let few : k ≤ c.loop-left.left = (let n = c.plain_stretch-read.ensures.count in let m = c.min-pairs.ensures in omega arith) in
       let g0 = c.loop-left.invariant.reads limit end es s declared sees in
-      let g = drives_past context end src _ c.loop-left.left k _ _ _ _ g0 few (rw s0 at (c.plain_stretch-left.ensures.value context end g0.s refl g0.sees)) in
+      let g = drives_past context end src _ c.loop-left.left k _ _ _ _ g0 few (rw s0 at (c.plain_stretch-read.ensures.value context end g0.s refl g0.sees)) in
       let inner : is_root g.s.stack ≡ false = sym (c.is_at_root.ensures end g.s.stack g.s.done g.sees.shows) ∙ c.if-is_at_root.false in
       let inside : g.s.at < length src = rw (s1, g.sees.here) at (leb-false _ _ (sym c.is_at_end.ensures ∙ c.if-is_at_end.false)) in
       let stepped : ScansTo limit end (Ok tt) c.plain_main_line.new.cursor c.plain_main_line.new.builder (step context src g.s) =
@@ -71,20 +85,20 @@ loop-left-preserved-then-plain_main_line c = record {
 
 pub loop-left-preserved : goal.loop-left-preserved
 loop-left-preserved c = record {
-  source = c.in_ok-general_step.ensures.source ∙ c.plain_main_line.ensures.source ∙ c.plain_stretch-left.ensures.source ∙ c.loop-left.invariant.source;
+  source = c.in_ok-general_step.ensures.source ∙ c.plain_main_line.ensures.source ∙ c.plain_stretch-read.ensures.source ∙ c.loop-left.invariant.source;
   fine = c.in_ok-general_step.ensures.fine;
   reads = λ limit end es s declared sees.
       let src = c.args.cursor.now.text.now in
       let context = context_of limit es c.args.context in
       let s0 = ap (λ t. t.now) c.loop-left.invariant.source in
-      let s1 = ap (λ t. t.now) c.plain_stretch-left.ensures.source ∙ s0 in
+      let s1 = ap (λ t. t.now) c.plain_stretch-read.ensures.source ∙ s0 in
       let s2 = ap (λ t. t.now) c.plain_main_line.ensures.source ∙ s1 in
-      let k = c.plain_stretch-left.result in
+      let k = c.plain_stretch-read.result in
       let n = c.loop-left.left - k in
       let one : n ≡ suc (n - 1) = (let more = c.if-left-eq0.false in omega arith) in
-      let few : k ≤ c.loop-left.left = (let n = c.plain_stretch-left.ensures.count in let m = c.min-pairs.ensures in omega arith) in
+      let few : k ≤ c.loop-left.left = (let n = c.plain_stretch-read.ensures.count in let m = c.min-pairs.ensures in omega arith) in
       let g0 = c.loop-left.invariant.reads limit end es s declared sees in
-      let g = drives_past context end src _ c.loop-left.left k _ _ _ _ g0 few (rw s0 at (c.plain_stretch-left.ensures.value context end g0.s refl g0.sees)) in
+      let g = drives_past context end src _ c.loop-left.left k _ _ _ _ g0 few (rw s0 at (c.plain_stretch-read.ensures.value context end g0.s refl g0.sees)) in
       let inner : is_root g.s.stack ≡ false = sym (c.is_at_root.ensures end g.s.stack g.s.done g.sees.shows) ∙ c.if-is_at_root.false in
       let inside : g.s.at < length src = rw (s1, g.sees.here) at (leb-false _ _ (sym c.is_at_end.ensures ∙ c.if-is_at_end.false)) in
       let still = c.plain_main_line.ensures.other c.if-plain_main_line.false context end g.s g.sees in
@@ -97,14 +111,14 @@ returns-in_err-general_step-clause-value c = λ limit end es s declared sees.
     let src = c.args.cursor.now.text.now in
     let context = context_of limit es c.args.context in
     let s0 = ap (λ t. t.now) c.loop-left.invariant.source in
-    let s1 = ap (λ t. t.now) c.plain_stretch-left.ensures.source ∙ s0 in
+    let s1 = ap (λ t. t.now) c.plain_stretch-read.ensures.source ∙ s0 in
     let s2 = ap (λ t. t.now) c.plain_main_line.ensures.source ∙ s1 in
-    let k = c.plain_stretch-left.result in
+    let k = c.plain_stretch-read.result in
     let n = c.loop-left.left - k in
     let one : n ≡ suc (n - 1) = (let more = c.if-left-eq0.false in omega arith) in
-    let few : k ≤ c.loop-left.left = (let n = c.plain_stretch-left.ensures.count in let m = c.min-pairs.ensures in omega arith) in
+    let few : k ≤ c.loop-left.left = (let n = c.plain_stretch-read.ensures.count in let m = c.min-pairs.ensures in omega arith) in
     let g0 = c.loop-left.invariant.reads limit end es s declared sees in
-    let g = drives_past context end src _ c.loop-left.left k _ _ _ _ g0 few (rw s0 at (c.plain_stretch-left.ensures.value context end g0.s refl g0.sees)) in
+    let g = drives_past context end src _ c.loop-left.left k _ _ _ _ g0 few (rw s0 at (c.plain_stretch-read.ensures.value context end g0.s refl g0.sees)) in
     let inner : is_root g.s.stack ≡ false = sym (c.is_at_root.ensures end g.s.stack g.s.done g.sees.shows) ∙ c.if-is_at_root.false in
     let inside : g.s.at < length src = rw (s1, g.sees.here) at (leb-false _ _ (sym c.is_at_end.ensures ∙ c.if-is_at_end.false)) in
     let still = c.plain_main_line.ensures.other c.if-plain_main_line.false context end g.s g.sees in
