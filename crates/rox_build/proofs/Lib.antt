@@ -12,6 +12,7 @@ pub mod Opening
 pub mod Parting
 pub mod TextLooping
 pub mod TextOpening
+pub mod Joining
 pub mod Looping
 pub mod Twice
 pub mod Wholes

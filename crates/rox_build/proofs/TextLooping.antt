@@ -20,7 +20,7 @@ pub record Texting (context : Context) (end : ℕ) (src : List ℕ) (whole : Res
   pub sees : IsInState context.limit end s c b
   pub same : drive_text context n src s ≡ whole
 
-texted : (context : Context) (n m : ℕ) (src : List ℕ) (s : State) → n ≡ suc m → s.at < length src → drive_text context n src s ≡ (step context src s >>= λ t. drive_text context m src t)
+pub texted : (context : Context) (n m : ℕ) (src : List ℕ) (s : State) → n ≡ suc m → s.at < length src → drive_text context n src s ≡ (step context src s >>= λ t. drive_text context m src t)
 unfolding drive_text
 texted context n m src s one more = let k = lt-ltb _ _ more in rw (one, k) refl
 
@@ -34,7 +34,7 @@ pub text_fails : (context : Context) (end : ℕ) (src : List ℕ) (whole : Resul
 text_fails context end src whole n m c b e g one more h = refuses_by e (step context src g.s) whole (λ r err. sym g.same ∙ texted context n m src g.s one more ∙ rw err refl) h
 
 -- the end of the text
-ended : (context : Context) (n : ℕ) (src : List ℕ) (s : State) → length src ≤ s.at → drive_text context n src s ≡ text_ends context s
+pub ended : (context : Context) (n : ℕ) (src : List ℕ) (s : State) → length src ≤ s.at → drive_text context n src s ≡ text_ends context s
 unfolding drive_text
 ended context zero src s past = refl
 ended context (suc n) src s past = let k = le-ltb _ _ past in rw k refl

@@ -457,6 +457,22 @@ impl<'input> Builder<'input> {
         Ok(())
     }
 
+    /// The same where a text waits for its row. The only error is want of memory.
+    #[inline(always)]
+    pub fn join_piece(&mut self, start: usize, end: usize, text: &str) -> Result<(), AllocError>
+        requires { self.old.pending ≡ pending.Joined }
+        ensures value { OnOk result ((total at : ℕ) (s : State)
+            → Represents total s.stack s.done self.old → Adds total (Ok tt) self.new
+            (with_item self.old.nodes_limit s at (Text start end text.now true))) }
+        ensures tables { self.new.tables ≡ self.old.tables }
+        ensures opened { self.new.opened ≡ self.old.opened }
+        ensures limit { self.new.nodes_limit ≡ self.old.nodes_limit }
+        ensures openings_left { self.new.openings_left ≡ self.old.openings_left }
+    {
+        self.joined.text.push_str(text)?;
+        Ok(())
+    }
+
     /// A piece of text of these bytes that counts as owned: what the source has there is longer. The only fault is that there are
     /// too many nodes.
     #[inline(always)]
@@ -630,6 +646,17 @@ impl<'input> Builder<'input> {
         ensures { result ≡ true → vec_len self.now.opened < vec_capacity self.now.opened }
     {
         self.opened.len() < self.opened.capacity()
+    }
+
+    /// Whether a text waits in the buffer for its row.
+    #[inline(always)]
+    pub fn is_joining(&self) -> bool
+        ensures { result ≡ true → self.now.pending ≡ pending.Joined }
+    {
+        match self.pending {
+            Pending::Joined => true,
+            _ => false,
+        }
     }
 
     /// Whether text may go on.

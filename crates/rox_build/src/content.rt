@@ -1,6 +1,6 @@
 //! Content: character data and replacement texts, one construct after another (XML 1.0 sections 2.4, 3.1, 4.3.2, 4.4.2).
 
-ghost use Rattle.std.specs.Prelude.{◌≡◌, ◌<◌, ◌-◌, ℕ, List, OnOk, length, true, false};
+ghost use Rattle.std.specs.Prelude.{◌≡◌, ◌<◌, ◌-◌, ℕ, List, Ok, IfOk, OnOk, length, true, false};
 ghost use Rattle.std.specs.Str.{IsCharBoundary};
 ghost use Rattle.std.specs.String.{string_bytes};
 ghost use Rattle.rox_reading.specs.State.{State};
@@ -29,7 +29,7 @@ use rox_values::character_data::data_part;
 use rox_values::context::Context;
 use rox_values::line_ends::line_feeds;
 use rox_values::parse_error::ParseError;
-use std::alloc::Global;
+use std::alloc::{AllocError, Global};
 
 /// Character data, up to the next `<` or the end, which is no slice of the source as far as a quick look tells.
 #[cycle(content)]
@@ -154,7 +154,8 @@ fn part<'input>(
 
 /// A part of a run from `start` up to `stop`: its piece, if it has a character. It ends at the run's end or a reference to an
 /// entity, whose replacement text it answers.
-fn part_piece<'input>(
+#[inline(never)]
+fn other_part_piece<'input>(
     alloc: Global,
     cursor: &mut Cursor<'input>,
     builder: &mut Builder<'input>,
@@ -179,11 +180,96 @@ fn part_piece<'input>(
     Ok(next)
 }
 
+/// The same: where a text of the main text waits for its row, the part is appended to it.
+#[inline(always)]
+fn part_piece<'input>(
+    alloc: Global,
+    cursor: &mut Cursor<'input>,
+    builder: &mut Builder<'input>,
+    context: Context<'_, 'input>,
+    start: usize,
+    stop: usize,
+) -> Result<Option<Cursor<'input>>, Failure>
+    requires stop { IsCharBoundary cursor.old.text.now stop }
+    requires fine { IsConsistent builder.old.tables builder.old.opened.items }
+    ensures value { (limit end : ℕ) (es : List Entity) (s : State)
+        → AreDeclared es context.entry.entities.now → IsInState limit end s cursor.old builder.old
+        → GivesDataPart limit end result cursor.new builder.new
+        (next_part (context_of limit es context.entry) cursor.old.text.now start stop s) }
+    ensures fine { OnOk result (IsConsistent builder.new.tables builder.new.opened.items) }
+    ensures source { cursor.new.text ≡ cursor.old.text }
+{
+    if context.main && builder.is_joining() {
+        return data_part(cursor, stop, context, &mut builder.joined.text);
+    }
+    other_part_piece(alloc, cursor, builder, context, start, stop)
+}
+
+/// A replacement text that is character data as it stands, named in the main text, where a text waits for its row: it joins that.
+/// Answers false where it is another, and then all is as before. The only error is want of memory.
+#[inline(always)]
+fn joins<'input>(
+    builder: &mut Builder<'input>,
+    context: Context<'_, 'input>,
+    text: Cursor<'input>,
+) -> Result<bool, AllocError>
+    ensures value { IfOk result (λ yes. yes ≡ true → (limit end after : ℕ) (es : List Entity)
+        (s : State) → HoldsState limit end s builder.old
+        → ParsesToHeld limit end (Ok tt) builder.new
+        (machine.opener limit es context.entry.depth_left context.entry.main
+        (replacement_view text.entry) after s)) }
+    ensures other { IfOk result (λ yes. yes ≡ false → builder.new ≡ builder.old) }
+    ensures tables { builder.new.tables ≡ builder.old.tables }
+    ensures opened { builder.new.opened ≡ builder.old.opened }
+{
+    if !context.main || context.depth_left == 0 {
+        return Ok(false);
+    }
+    let (source, start) = (text.text, text.pos);
+    let end = source.len();
+    if start == end {
+        return Ok(true);
+    }
+    if !builder.is_joining() || source.as_bytes()[start] == b'<' {
+        return Ok(false);
+    }
+    if plain_run_end(source, start) != end {
+        return Ok(false);
+    }
+    builder.join_piece(start, end, &source[start..end])?;
+    Ok(true)
+}
+
 /// A replacement text, in content. Its reference ends at `after`.
+#[cycle(content)]
+#[inline(always)]
+fn open_text<'input>(
+    alloc: Global,
+    after: usize,
+    builder: &mut Builder<'input>,
+    context: Context<'_, 'input>,
+    text: Cursor<'input>,
+) -> Result<(), ParseError<'input>>
+    requires fine { IsConsistent builder.old.tables builder.old.opened.items }
+    ensures value { (limit end : ℕ) (es : List Entity) (s : State)
+        → AreDeclared es context.entry.entities.now → HoldsState limit end s builder.old
+        → ParsesToHeld limit end result builder.new
+        (machine.opener limit es context.entry.depth_left context.entry.main
+        (replacement_view text.entry) after s) }
+    ensures fine { OnOk result (IsConsistent builder.new.tables builder.new.opened.items) }
+{
+    let joined = joins(builder, context, text)?;
+    if joined {
+        return Ok(());
+    }
+    open_other_text(alloc, after, builder, context, text)
+}
+
+/// The same of any text, construct by construct.
 #[cycle(content)]
 #[cold]
 #[inline(never)]
-fn open_text<'input>(
+fn open_other_text<'input>(
     alloc: Global,
     after: usize,
     builder: &mut Builder<'input>,

@@ -180,13 +180,20 @@ data_parts-returns-clause-value t c = λ limit end es s declared h.
 
 -- ---- a replacement text
 
-pub open_text-returns-in_err-within-clause-value : goal.open_text-returns-in_err-within-clause-value
-open_text-returns-in_err-within-clause-value t c = λ limit end es s declared h.
+pub open_text-returns-then-joined-clause-value : goal.open_text-returns-then-joined-clause-value
+open_text-returns-then-joined-clause-value t c = λ limit end es s declared h. c.in_ok-joined.ensures.value c.if-joined.true limit end c.args.after es s h
+
+pub open_text-returns-clause-value : goal.open_text-returns-clause-value
+open_text-returns-clause-value t c = λ limit end es s declared h.
+    c.open_other_text.ensures.value limit end es s declared (rw (c.in_ok-joined.ensures.other c.if-joined.false) h)
+
+pub open_other_text-returns-in_err-within-clause-value : goal.open_other_text-returns-in_err-within-clause-value
+open_other_text-returns-in_err-within-clause-value t c = λ limit end es s declared h.
     let p = err_from_is_err_and c.from_residual.result c.from_residual.ensures.1 in
     rw (p.1, p.2) (opens_err limit es c.args.context.depth_left c.args.context.main (replacement_view c.args.text) c.args.after s c.in_err-within.field-0.0 (rw h.openings_left_is at c.in_err-within.ensures.value))
 
-pub open_text-returns-in-Ok-clause-value : goal.open_text-returns-in-Ok-clause-value
-open_text-returns-in-Ok-clause-value t c = λ limit end es s declared h.
+pub open_other_text-returns-in-Ok-clause-value : goal.open_other_text-returns-in-Ok-clause-value
+open_other_text-returns-in-Ok-clause-value t c = λ limit end es s declared h.
     let b = c.args.builder.now in
     let w = c.in_ok-within.ensures.context in
     let k = b.opened.ok.0 in
@@ -207,8 +214,8 @@ open_text-returns-in-Ok-clause-value t c = λ limit end es s declared h.
       },
     )
 
-pub open_text-returns-in-Err-clause-value : goal.open_text-returns-in-Err-clause-value
-open_text-returns-in-Err-clause-value t c = λ limit end es s declared h.
+pub open_other_text-returns-in-Err-clause-value : goal.open_other_text-returns-in-Err-clause-value
+open_other_text-returns-in-Err-clause-value t c = λ limit end es s declared h.
     let b = c.args.builder.now in
     let w = c.in_ok-within.ensures.context in
     let k = b.opened.ok.0 in

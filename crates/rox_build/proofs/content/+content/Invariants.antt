@@ -9,29 +9,32 @@ use Rattle.rox_build.proofs.Parting.{Parting}
 use Rattle.rox_build.proofs.TextLooping.{Texting}
 use Rattle.rox_build.proofs.content.+content.Given as goal
 
+abbrev pub decreases-open_other_text : goal.decreases-open_other_text
+decreases-open_other_text l = 16 * l.context.depth_left
+
 abbrev pub decreases-open_text : goal.decreases-open_text
-decreases-open_text l = 8 * l.context.depth_left
+decreases-open_text l = 16 * l.context.depth_left + 1
 
 abbrev pub decreases-data_parts : goal.decreases-data_parts
-decreases-data_parts l = 8 * l.context.depth_left + 1
+decreases-data_parts l = 16 * l.context.depth_left + 2
 
 abbrev pub decreases-slow_character_data : goal.decreases-slow_character_data
-decreases-slow_character_data l = 8 * l.context.depth_left + 2
+decreases-slow_character_data l = 16 * l.context.depth_left + 3
 
 abbrev pub decreases-character_data : goal.decreases-character_data
-decreases-character_data l = 8 * l.context.depth_left + 3
+decreases-character_data l = 16 * l.context.depth_left + 4
 
 abbrev pub decreases-general_step : goal.decreases-general_step
-decreases-general_step l = 8 * l.context.depth_left + 4
+decreases-general_step l = 16 * l.context.depth_left + 5
 
 abbrev pub decreases-step : goal.decreases-step
-decreases-step l = 8 * l.context.depth_left + 5
+decreases-step l = 16 * l.context.depth_left + 6
 
 abbrev pub decreases-inner_step : goal.decreases-inner_step
-decreases-inner_step l = 8 * l.context.depth_left + 6
+decreases-inner_step l = 16 * l.context.depth_left + 7
 
 abbrev pub decreases-content_text : goal.decreases-content_text
-decreases-content_text l = 8 * l.context.depth_left + 7
+decreases-content_text l = 16 * l.context.depth_left + 8
 
 abbrev pub invariant-data_parts-loop-turn : goal.invariant-data_parts-loop-turn
 invariant-data_parts-loop-turn l = record {

@@ -1,0 +1,20 @@
+use Rattle.std.proofs.Common.{◌++◌, true, refl, ap, List, ℕ, arith}
+use Rattle.rox_grammar.specs.Forest.{join}
+use Rattle.rox_grammar.specs.Written.{Text, leaf}
+use Rattle.rox_reading.specs.State.{State}
+use Rattle.rox_build.specs.PendingText.{waiting}
+use Rattle.rox_build.proofs.Showing.{piece_more, more_count, counted_ok}
+use Rattle.rox_tables.proofs.StoredNodes.{count_nodes}
+use Rattle.rox_build.proofs.builder.Builder.join_piece.Goals as goal
+
+pub returns-clause-value : goal.returns-clause-value
+returns-clause-value c = λ total at s sh.
+    let b = c.args.self.now in
+    let v : List ℕ = c.args.text.now in
+    let t : State = record { at = at; done = join s.done (leaf (Text c.args.start c.args.end v true)); stack = s.stack; openings_left = s.openings_left } in
+    let n = more_count total s.stack s.done b c.args.start c.args.end v true sh c.requires in
+    let w = ap waiting c.requires in
+    let len = count_nodes b.nodes in
+    let most = b.counted in
+    let some = b.shallow in
+    (t, counted_ok b.nodes_limit t (omega arith), piece_more total s.stack s.done b _ c.args.start c.args.end v true sh c.requires refl refl refl c.requires refl refl c.in_ok-push_str.ensures.bytes)
