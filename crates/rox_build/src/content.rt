@@ -339,11 +339,11 @@ fn text_end<'input>(
     }
 }
 
-/// One construct of content, whichever it is.
+/// The same of any construct.
 #[tactic(auto, unfolding(rox_reading::specs::Machine::step))]
 #[cycle(content)]
 #[inline(never)]
-fn general_step<'input>(
+fn other_step<'input>(
     alloc: Global,
     cursor: &mut Cursor<'input>,
     builder: &mut Builder<'input>,
@@ -372,6 +372,32 @@ fn general_step<'input>(
     }
     markup(alloc, cursor, builder, context)?;
     Ok(())
+}
+
+/// One construct of content, whichever it is. A run that was not read at one look, where no text may go on, is hardly a slice.
+#[tactic(auto, unfolding(rox_reading::specs::Machine::step))]
+#[cycle(content)]
+#[inline(always)]
+fn general_step<'input>(
+    alloc: Global,
+    cursor: &mut Cursor<'input>,
+    builder: &mut Builder<'input>,
+    context: Context<'_, 'input>,
+) -> Result<(), ParseError<'input>>
+    requires there { cursor.old.pos < length cursor.old.text.now }
+    requires fine { IsConsistent builder.old.tables builder.old.opened.items }
+    ensures value { (limit end : ℕ) (es : List Entity) (s : State)
+        → AreDeclared es context.entry.entities.now → IsInState limit end s cursor.old builder.old
+        → ParsesTo limit end result cursor.new builder.new
+        (machine.step (context_of limit es context.entry) cursor.old.text.now s) }
+    ensures fine { OnOk result (IsConsistent builder.new.tables builder.new.opened.items) }
+    ensures source { cursor.new.text ≡ cursor.old.text }
+{
+    let bytes = cursor.text.as_bytes();
+    if bytes[cursor.pos] != b'<' && !builder.is_text_open() {
+        return slow_character_data(alloc, cursor, builder, context);
+    }
+    other_step(alloc, cursor, builder, context)
 }
 
 /// One construct of content: at one look if it is plain.

@@ -291,20 +291,20 @@ pub inner_step-returns-then-bytes-cursor-ne60-clause-value : goal.inner_step-ret
 inner_step-returns-then-bytes-cursor-ne60-clause-value t c = λ limit end es s declared h.
     rw (step_is_run (context_of limit es c.args.context) c.args.cursor.now.text.now _ s c.args.cursor.now.pos c.as_bytes-bytes.ensures.value h.here c.if-bytes-cursor-ne60.true) (c.character_data.ensures.value limit end es s declared h)
 
-pub general_step-end_tag-requires-clause-here : goal.general_step-end_tag-requires-clause-here
-general_step-end_tag-requires-clause-here t c =
+pub other_step-end_tag-requires-clause-here : goal.other_step-end_tag-requires-clause-here
+other_step-end_tag-requires-clause-here t c =
     let e = c.as_bytes-bytes.ensures.value in
     let i = c.args.cursor.now.pos in
     let l = c.as_bytes-bytes.ensures.len in
     let more = c.if-cursor-bytes.false in
     two_stand c.args.cursor.now.text.now i 60 47 (omega arith) (ap (λ (xs : List ℕ). slice_index xs i) (sym e) ∙ c.if-bytes-cursor-ne60.false) (ap (λ (xs : List ℕ). slice_index xs (i + 1)) (sym e) ∙ c.if-next-eq47.true)
 
-pub general_step-returns-then-bytes-cursor-ne60-clause-value : goal.general_step-returns-then-bytes-cursor-ne60-clause-value
-general_step-returns-then-bytes-cursor-ne60-clause-value t c = λ limit end es s declared h.
+pub other_step-returns-then-bytes-cursor-ne60-clause-value : goal.other_step-returns-then-bytes-cursor-ne60-clause-value
+other_step-returns-then-bytes-cursor-ne60-clause-value t c = λ limit end es s declared h.
     rw (step_is_run (context_of limit es c.args.context) c.args.cursor.now.text.now _ s c.args.cursor.now.pos c.as_bytes-bytes.ensures.value h.here c.if-bytes-cursor-ne60.true) (c.character_data.ensures.value limit end es s declared h)
 
-pub general_step-returns-in_err-end_tag-clause-value : goal.general_step-returns-in_err-end_tag-clause-value
-general_step-returns-in_err-end_tag-clause-value t c = λ limit end es s declared h.
+pub other_step-returns-in_err-end_tag-clause-value : goal.other_step-returns-in_err-end_tag-clause-value
+other_step-returns-in_err-end_tag-clause-value t c = λ limit end es s declared h.
     let p = err_from_is_err_and c.from_residual.result c.from_residual.ensures.1 in
     rw (
       p.1,
@@ -313,7 +313,11 @@ general_step-returns-in_err-end_tag-clause-value t c = λ limit end es s declare
     )
     (refused_too c.in_err-end_tag.field-0.0 _ (c.in_err-end_tag.ensures.value limit end es s h))
 
-pub general_step-returns-then-next-eq47-clause-value : goal.general_step-returns-then-next-eq47-clause-value
-general_step-returns-then-next-eq47-clause-value t c = λ limit end es s declared h.
+pub other_step-returns-then-next-eq47-clause-value : goal.other_step-returns-then-next-eq47-clause-value
+other_step-returns-then-next-eq47-clause-value t c = λ limit end es s declared h.
     rw (step_is_markup (context_of limit es c.args.context) c.args.cursor.now.text.now _ s c.args.cursor.now.pos 47 c.as_bytes-bytes.ensures.value h.here c.if-bytes-cursor-ne60.false c.if-cursor-bytes.false c.if-next-eq47.true (λ e. cc e))
     (c.in_ok-end_tag.ensures.value limit end es s h)
+
+pub general_step-returns-then-not-is_text_open-clause-value : goal.general_step-returns-then-not-is_text_open-clause-value
+general_step-returns-then-not-is_text_open-clause-value t c = λ limit end es s declared h.
+    rw (step_is_run (context_of limit es c.args.context) c.args.cursor.now.text.now _ s c.args.cursor.now.pos c.as_bytes-bytes.ensures.value h.here c.if-bytes-cursor-ne60.true) (c.slow_character_data.ensures.value limit end es s declared h)

@@ -24,17 +24,20 @@ decreases-slow_character_data l = 16 * l.context.depth_left + 3
 abbrev pub decreases-character_data : goal.decreases-character_data
 decreases-character_data l = 16 * l.context.depth_left + 4
 
+abbrev pub decreases-other_step : goal.decreases-other_step
+decreases-other_step l = 16 * l.context.depth_left + 5
+
 abbrev pub decreases-general_step : goal.decreases-general_step
-decreases-general_step l = 16 * l.context.depth_left + 5
+decreases-general_step l = 16 * l.context.depth_left + 6
 
 abbrev pub decreases-step : goal.decreases-step
-decreases-step l = 16 * l.context.depth_left + 6
+decreases-step l = 16 * l.context.depth_left + 7
 
 abbrev pub decreases-inner_step : goal.decreases-inner_step
-decreases-inner_step l = 16 * l.context.depth_left + 7
+decreases-inner_step l = 16 * l.context.depth_left + 8
 
 abbrev pub decreases-content_text : goal.decreases-content_text
-decreases-content_text l = 16 * l.context.depth_left + 8
+decreases-content_text l = 16 * l.context.depth_left + 9
 
 abbrev pub invariant-data_parts-loop-turn : goal.invariant-data_parts-loop-turn
 invariant-data_parts-loop-turn l = record {
