@@ -1,5 +1,5 @@
 -- What a node says by itself, its namespaces and attributes set aside.
-use Rattle.std.proofs.Common.{◌≡◌, ℕ, ◌<◌, List, get_or, refl, ap, ◌∙◌, Some, length, sym, subst}
+use Rattle.std.proofs.Common.{◌≡◌, ℕ, ◌<◌, List, [], get_or, refl, ap, ◌∙◌, Some, length, sym, subst, false, true≢false}
 use Rattle.std.proofs.lemmas.List.Elements.{All-from_recursion}
 use Rattle.rox_tables.specs.Storage.{storage_bytes}
 use Rattle.rox_tables.specs.StoredNodes.{is_element, is_text}
@@ -13,7 +13,7 @@ use Rattle.rox_tables.specs.declared.rows.tables.Tables.{Tables}
 use Rattle.rox_grammar.specs.Written.{NamespaceDecl}
 use Rattle.roxmltree.specs.Places.{place}
 use Rattle.roxmltree.specs.Stripped.{stripped, stripped_row}
-use Rattle.roxmltree.specs.NodeParts.{is_root_node, is_element_node, is_text_node, is_comment_node, is_pi_node, start_of, end_of, local_of, pi_of, text_content, content_of}
+use Rattle.roxmltree.specs.NodeParts.{is_root_node, is_element_node, is_text_node, is_comment_node, is_pi_node, start_of, end_of, local_of, pi_of, text_content, content_of, attributes_of}
 use Rattle.roxmltree.specs.Kinds.{type_of}
 use Rattle.roxmltree.specs.Stripped.{content_in}
 use Rattle.rox_tables.specs.Rows.{node_rows}
@@ -168,3 +168,11 @@ pub row_content : (t : Tables) (f : Forest Node) (i : ℕ) (x : NodeData) → Ho
 row_content t f i x h l e =
     content_kind (attribute_rows t.attributes) (names_of t) (scopes_of t) _ _ _ x.start x.end x.kind (row_within t f i x h l e)
     ∙ ap (λ r. content_of r.node) (row_line t f i x h (in_rows t f i h l) e)
+
+-- a node that is no element has none
+pub attributes_none : (i : Node) → is_element_node i ≡ false → attributes_of i ≡ []
+attributes_none (Root end) h = refl
+attributes_none (Element start end namespace local listed attributes) h = absurd (true≢false h)
+attributes_none (Text start end value borrowed) h = refl
+attributes_none (Comment start end text) h = refl
+attributes_none (PI start end target value) h = refl

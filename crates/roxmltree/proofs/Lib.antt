@@ -15,6 +15,7 @@ pub mod AttributeRows
 pub mod Stretches
 pub mod Ranges
 pub mod Few
+pub mod Fronts
 pub mod FewAttributes
 pub mod Everywhere
 pub mod Contained

@@ -9,7 +9,7 @@ ghost use Rattle.rox_tables.specs.Scopes.{prefix_view, entries, places_in, ArePl
 ghost use Rattle.rox_tables.specs.Ropes.{IsScopeOf};
 ghost use Rattle.roxmltree.specs.ExpandedNames.{first_prefix};
 
-use crate::names::equal_names;
+use crate::names::{equal_names, equal_uris};
 use crate::namespaces::NamespaceIter;
 use rox_tables::rows::tables::{Concat, Namespace, Scope};
 
@@ -133,24 +133,31 @@ fn prefix_among<'input>(
 {
     for place in places {
         let namespace = &namespaces[*place as usize];
-        if equal_names(namespace.uri(), uri) {
+        if equal_uris(namespace.uri(), uri) {
             return namespace.name();
         }
     }
     None
 }
 
-/// The first of these namespaces that is of this URI. It is kept out of line, since few scopes list many.
+/// The first that any scope lists of this URI. It is kept out of line, since few scopes list many.
+#[cold]
 #[inline(never)]
 fn first_of_uri<'a, 'input>(
-    namespaces: NamespaceIter<'a, 'input>,
+    scopes: &'a [Scope],
+    listed: &'a [u16],
+    namespaces: &'a [Namespace<'input>],
+    scope: u32,
     uri: &str,
 ) -> Option<&'a Namespace<'input>>
-    ensures some { IfSome result
-        (λ n. (namespace_view n.now).prefix ≡ first_prefix uri.now namespaces.entry) }
-    ensures none { IfNone result (first_prefix uri.now namespaces.entry ≡ None) }
+    requires { IsScopeOf (length namespaces.now) listed.now scopes.now scope }
+    ensures some { IfSome result (λ n. (namespace_view n.now).prefix
+        ≡ first_prefix uri.now (entries (map namespace_view namespaces.now)
+        (places_in listed.now scopes.now scope))) }
+    ensures none { IfNone result (first_prefix uri.now (entries (map namespace_view namespaces.now)
+        (places_in listed.now scopes.now scope)) ≡ None) }
 {
-    for namespace in namespaces {
+    for namespace in NamespaceIter::of_scope(scopes, listed, namespaces, scope) {
         if namespace.uri() == uri {
             return Some(namespace);
         }
@@ -176,8 +183,7 @@ pub(crate) fn prefix_in_scope<'input>(
         let places = &listed[stretch.from as usize..stretch.until as usize];
         return prefix_among(namespaces, places, uri);
     }
-    let all = NamespaceIter::of_scope(scopes, listed, namespaces, scope);
-    match first_of_uri(all, uri) {
+    match first_of_uri(scopes, listed, namespaces, scope, uri) {
         Some(namespace) => namespace.name(),
         None => None,
     }

@@ -228,12 +228,16 @@ impl<'a, 'input> Node<'a, 'input> {
 
     /// The attributes of an element.
     #[inline]
+    #[tactic(auto, using(crate::proofs::Bare::attributes_none))]
     pub(crate) fn own_attributes(&self) -> Attributes<'a, 'input>
         ensures { result ≡ attributes_of (item_of self.now) }
     {
         let document = self.document;
         let table = &document.tables.attributes;
         let namespaces = document.tables.namespaces.as_slice();
+        if !self.is_element() {
+            return Attributes::part(table, 0, 0, namespaces);
+        }
         match document.tables.nodes.kind(self.id.0 as usize) {
             KindRef::Element(element) => {
                 let from = element.attributes_from as usize;
@@ -252,6 +256,9 @@ impl<'a, 'input> Node<'a, 'input> {
             (λ s. s.now) prefix.entry) }
     {
         let document = self.document;
+        if !self.is_element() {
+            return None;
+        }
         let node_kind = document.tables.nodes.kind(self.id.0 as usize);
         let namespaces = document.tables.namespaces.as_slice();
         if namespaces.is_empty() {
@@ -272,6 +279,9 @@ impl<'a, 'input> Node<'a, 'input> {
             ≡ first_prefix uri.now (listed_of (item_of self.now)) }
     {
         let document = self.document;
+        if !self.is_element() {
+            return None;
+        }
         let node_kind = document.tables.nodes.kind(self.id.0 as usize);
         let namespaces = document.tables.namespaces.as_slice();
         if namespaces.is_empty() {

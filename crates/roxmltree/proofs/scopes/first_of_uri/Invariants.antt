@@ -1,6 +1,9 @@
-use Rattle.std.proofs.Common.{◌≡◌}
+use Rattle.std.proofs.Common.{◌≡◌, map}
+use Rattle.rox_tables.specs.Rows.{namespace_view}
+use Rattle.rox_tables.specs.Scopes.{entries, places_in}
 use Rattle.roxmltree.specs.ExpandedNames.{first_prefix}
 use Rattle.roxmltree.proofs.scopes.first_of_uri.Given as goal
 
 abbrev pub invariant-loop-namespace : goal.invariant-loop-namespace
-invariant-loop-namespace l = first_prefix l.uri l.namespace-iterator ≡ first_prefix l.uri l.fn.namespaces
+invariant-loop-namespace l =
+    first_prefix l.uri l.namespace-iterator ≡ first_prefix l.uri (entries (map namespace_view l.fn.namespaces) (places_in l.fn.listed l.fn.scopes l.fn.scope))

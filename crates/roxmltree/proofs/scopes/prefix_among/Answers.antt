@@ -6,8 +6,8 @@ use Rattle.roxmltree.proofs.Entries.{entry_is}
 use Rattle.roxmltree.proofs.PrefixFirst.{prefix_here, prefix_next}
 use Rattle.roxmltree.proofs.scopes.prefix_among.Goals as goal
 
-pub returns-then-equal_names : goal.returns-then-equal_names
-returns-then-equal_names c =
+pub returns-then-equal_uris : goal.returns-then-equal_uris
+returns-then-equal_uris c =
     let rows = c.args.namespaces.now in
     let places = c.args.places.now in
     let uri = c.args.uri.now in
@@ -17,7 +17,7 @@ returns-then-equal_names c =
     let lt : k < length places = omega arith in
     let here : place < length rows = place_at (length rows) places k 0 c.requires lt in
     let e = sym (entry_is rows place item here c.index-namespaces-place.is) in
-    let same : bytes_eq (namespace_view item).uri uri ≡ true = sym (ap (λ (u : List ℕ). bytes_eq u uri) c.uri.ensures) ∙ sym c.equal_names.ensures ∙ c.if-equal_names.true in
+    let same : bytes_eq (namespace_view item).uri uri ≡ true = sym (ap (λ (u : List ℕ). bytes_eq u uri) c.uri.ensures) ∙ sym c.equal_uris.ensures ∙ c.if-equal_uris.true in
     c.name.ensures ∙ ap (λ (d : NamespaceDecl). d.prefix) (sym e)
     ∙ sym (prefix_here (map namespace_view rows) places k uri lt (ap (λ (d : NamespaceDecl). bytes_eq d.uri uri) e ∙ same))
     ∙ c.loop-place.invariant
@@ -33,6 +33,6 @@ loop-place-preserved c =
     let lt : k < length places = omega arith in
     let here : place < length rows = place_at (length rows) places k 0 c.requires lt in
     let e = sym (entry_is rows place item here c.index-namespaces-place.is) in
-    let other : bytes_eq (namespace_view item).uri uri ≡ false = sym (ap (λ (u : List ℕ). bytes_eq u uri) c.uri.ensures) ∙ sym c.equal_names.ensures ∙ c.if-equal_names.false in
+    let other : bytes_eq (namespace_view item).uri uri ≡ false = sym (ap (λ (u : List ℕ). bytes_eq u uri) c.uri.ensures) ∙ sym c.equal_uris.ensures ∙ c.if-equal_uris.false in
     sym (prefix_next (map namespace_view rows) places k uri lt (ap (λ (d : NamespaceDecl). bytes_eq d.uri uri) e ∙ other))
     ∙ c.loop-place.invariant

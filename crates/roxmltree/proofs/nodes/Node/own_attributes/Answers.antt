@@ -14,13 +14,21 @@ kind-requires c =
     let l : c.args.self.now.id.0 < size (tree_in c.document.inside.tables) = rw v c.args.self.now.in_tree in
     omega (arith, in_rows c.document.inside.tables (tree_in c.document.inside.tables) c.args.self.now.id.0 c.document.invariant.holds l, count_nodes c.document.inside.tables.nodes)
 
-pub part-requires : goal.part-requires
-part-requires c =
+pub part-requires-in-Element : goal.part-requires-in-Element
+part-requires-in-Element c =
     let v : tree_in c.document.inside.tables ≡ c.args.self.now.document.now.tree = ap (λ d. d.tree) c.document.view_is in
     let l : c.args.self.now.id.0 < size (tree_in c.document.inside.tables) = rw v c.args.self.now.in_tree in
     record {
       ordered = (element_within c.document.inside.tables (tree_in c.document.inside.tables) _ _ _ c.document.invariant.holds l c.kind.ensures.1 (sym c.kind.ensures.2 ∙ ap kind_of c.in-Element.is)).0;
       within = (element_within c.document.inside.tables (tree_in c.document.inside.tables) _ _ _ c.document.invariant.holds l c.kind.ensures.1 (sym c.kind.ensures.2 ∙ ap kind_of c.in-Element.is)).1;
+      each = rw (c.as_slice-namespaces.ensures.value) c.document.invariant.holds.sound.attributes;
+    }
+
+pub part-requires : goal.part-requires
+part-requires c =
+    record {
+      ordered = omega arith;
+      within = omega arith;
       each = rw (c.as_slice-namespaces.ensures.value) c.document.invariant.holds.sound.attributes;
     }
 
@@ -36,7 +44,7 @@ pub returns-in-Element : goal.returns-in-Element
 returns-in-Element c =
     let v : tree_in c.document.inside.tables ≡ c.args.self.now.document.now.tree = ap (λ d. d.tree) c.document.view_is in
     let l : c.args.self.now.id.0 < size (tree_in c.document.inside.tables) = rw v c.args.self.now.in_tree in
-    rw (c.part.ensures, c.as_slice-namespaces.ensures.value, ← v) (row_attributes c.document.inside.tables (tree_in c.document.inside.tables) _ _ _ c.document.invariant.holds l c.kind.ensures.1 (sym c.kind.ensures.2 ∙ ap kind_of c.in-Element.is))
+    rw (c.part-in-Element.ensures, c.as_slice-namespaces.ensures.value, ← v) (row_attributes c.document.inside.tables (tree_in c.document.inside.tables) _ _ _ c.document.invariant.holds l c.kind.ensures.1 (sym c.kind.ensures.2 ∙ ap kind_of c.in-Element.is))
 
 pub returns-in_default : goal.returns-in_default
 returns-in_default c =
