@@ -21,6 +21,20 @@ still_inside (inside start tag before up) (inside start' tag' before' up') same 
 pub ready_fewer : (n m : ℕ) (b : Builder) → m ≤ n → IsReady n b → IsReady m b
 ready_fewer n m b fewer h = record { room = omega (arith, fewer, h.room); few = omega (arith, fewer, h.few); small = omega (arith, fewer, h.small); settled = h.settled }
 
+-- the place alone counts, not the cursor that stands there
+pub stands_there : (limit end : ℕ) (s : State) (c d : Cursor) (b : Builder) → d.pos ≡ c.pos → IsInState limit end s c b → IsInState limit end s d b
+stands_there limit end s c d b same h = record {
+  here = same ∙ h.here;
+  limit_is = h.limit_is;
+  shows = h.shows;
+  namespaces = h.namespaces;
+  attributes = h.attributes;
+  openings_left_is = h.openings_left_is;
+}
+
+pub scans_there : (limit end : ℕ) (c d : Cursor) (b : Builder) (read : Result State Refusal) → d.pos ≡ c.pos → ScansTo limit end (Ok tt) c b read → ScansTo limit end (Ok tt) d b read
+scans_there limit end c d b read same (t, is, sees) = (t, is, stands_there limit end t c d b same sees)
+
 -- nothing was read
 pub reads_none : (context : Context) (end : ℕ) (src : List ℕ) (s : State) (c : Cursor) (b : Builder) → IsInState context.limit end s c b → Reads context end 0 c b src s
 reads_none context end src s c b h = record { behind = s; steps = no_step s; sees = h }
@@ -37,20 +51,6 @@ run_behind context end src s t c d b u h inner opens sees here =
     let deep : depth_of s.stack ≡ depth_of t.stack = sym (opened_deep end s.stack s.done b h.shows) ∙ ap (λ os. length os.items) (sym opens) ∙ opened_deep end t.stack t.done u sees.shows in
     (still_inside s.stack t.stack deep inner, subst (λ (n : ℕ). n < length src) sees.here (stands_within src d.pos 60 here (omega arith)))
 
--- a run, and the markup behind it
-pub twice_read : (context : Context) (end : ℕ) (src : List ℕ) (s : State) (c d e : Cursor) (b u v : Builder) → IsInState context.limit end s c b → is_root s.stack ≡ false → s.at < length src → u.opened ≡ b.opened
-    → ScansTo context.limit end (Ok tt) d u (step context src s) → slice_index src d.pos ≡ 60 → ((t : State) → IsInState context.limit end t d u → ScansTo context.limit end (Ok tt) e v (step context src t))
-    → Reads context end 2 e v src s
-twice_read context end src s c d e b u v h inner within opens (t, read, sees) here second =
-    let behind = run_behind context end src s t c d b u h inner opens sees here in
-    let next = second t sees in
-    record { behind = next.0; steps = one_more 1 s t next.0 inner within read (one_more 0 t next.0 next.0 behind.0 behind.1 next.1 (no_step next.0)); sees = next.2 }
-
--- a run, behind which nothing is read
-pub run_read : (context : Context) (end : ℕ) (src : List ℕ) (s : State) (d e : Cursor) (u v : Builder) → is_root s.stack ≡ false → s.at < length src
-    → ScansTo context.limit end (Ok tt) d u (step context src s) → ((t : State) → IsInState context.limit end t d u → IsInState context.limit end t e v) → Reads context end 1 e v src s
-run_read context end src s d e u v inner within (t, read, sees) other = record { behind = t; steps = one_more 0 s t t inner within read (no_step t); sees = other t sees }
-
 steps_then : (context : Context) (src : List ℕ) (n m : ℕ) (s t u : State) → Steps context src n s t → Steps context src m t u → Steps context src (n + m) s u
 steps_then context src n m s t u (no_step _) more = let e : m ≡ 0 + m = omega arith in subst (λ (j : ℕ). Steps context src j s u) e more
 steps_then context src n m s t u (one_more k _ r _ inner within read rest) more =
@@ -60,6 +60,27 @@ steps_then context src n m s t u (one_more k _ r _ inner within read rest) more 
 -- what was read, and what was read behind it
 pub reads_then : (context : Context) (end n m : ℕ) (src : List ℕ) (s : State) (c d : Cursor) (b u : Builder) (x : Reads context end n c b src s) → Reads context end m d u src x.behind → Reads context end (n + m) d u src s
 reads_then context end n m src s c d b u x y = record { behind = y.behind; steps = steps_then context src n m s x.behind y.behind x.steps y.steps; sees = y.sees }
+
+-- what was read up to a place inside the root element and before the end
+abbrev pub Between : (context : Context) (end n : ℕ) (c : Cursor) (b : Builder) (src : List ℕ) (s : State) → Type 0
+Between context end n c b src s = (x : Reads context end n c b src s) × (is_root x.behind.stack ≡ false) × (x.behind.at < length src)
+
+-- and a run behind it, before `<`
+pub reads_run : (context : Context) (end n : ℕ) (src : List ℕ) (s : State) (c d : Cursor) (b u : Builder) (x : Between context end n c b src s) → u.opened ≡ b.opened
+    → ScansTo context.limit end (Ok tt) d u (step context src x.0.behind) → slice_index src d.pos ≡ 60 → Between context end (n + 1) d u src s
+reads_run context end n src s c d b u (g, inner, within) opens (t, read, sees) here =
+    let behind = run_behind context end src g.behind t c d b u g.sees inner opens sees here in
+    (record { behind = t; steps = steps_then context src n 1 s g.behind t g.steps (one_more 0 g.behind t t inner within read (no_step t)); sees = sees }, behind.0, behind.1)
+
+-- and markup behind it
+pub reads_markup : (context : Context) (end n : ℕ) (src : List ℕ) (s : State) (c d : Cursor) (b u : Builder) → Between context end n c b src s
+    → ((t : State) → IsInState context.limit end t c b → ScansTo context.limit end (Ok tt) d u (step context src t)) → Reads context end (n + 1) d u src s
+reads_markup context end n src s c d b u (g, inner, within) next = reads_then context end n 1 src s c d b u g (reads_one context end src g.behind d u inner within (next g.behind g.sees))
+
+-- where nothing was read behind it
+pub reads_kept : (context : Context) (end n : ℕ) (src : List ℕ) (s : State) (c d : Cursor) (b u : Builder) → Reads context end n c b src s
+    → ((t : State) → IsInState context.limit end t c b → IsInState context.limit end t d u) → Reads context end n d u src s
+reads_kept context end n src s c d b u g other = record { behind = g.behind; steps = g.steps; sees = other g.behind g.sees }
 
 drive_past : (context : Context) (src : List ℕ) (n m k : ℕ) (s t : State) → Steps context src k s t → n ≡ k + m → drive context n src s ≡ drive context m src t
 drive_past context src n m k s t (no_step _) all = let e : n ≡ m = omega (arith, all) in ap (λ (j : ℕ). drive context j src s) e

@@ -12,7 +12,6 @@ ghost use Rattle.rox_grammar.specs.declared.fault.Word.TheVariants as word;
 ghost use Rattle.rox_reading.specs.Machine as machine;
 ghost use Rattle.rox_reading.specs.Refusals.{lifted};
 ghost use Rattle.rox_reading.specs.State.{State};
-ghost use Rattle.rox_grammar.specs.State.{is_root};
 ghost use Rattle.rox_build.specs.BuilderState.{IsConsistent, IsInState, IsReady, KeepsState, ScansTo};
 ghost use Rattle.rox_build.specs.PlainSteps.{Reads};
 ghost use Rattle.rox_build.specs.PendingText.{waiting};
@@ -304,30 +303,37 @@ fn plain_comment<'input>(cursor: &mut Cursor<'input>, builder: &mut Builder<'inp
     true
 }
 
-/// What `<!` begins, if it is a comment in order.
+/// What `<!` begins at `start`, if it is a comment in order. Answers the place behind it, or `NOT_READ`: a cursor that is lent to a
+/// call would leave its registers.
 #[inline(never)]
 #[tactic(auto, unfolding(rox_reading::specs::Machine::step))]
-fn plain_section<'input>(cursor: &mut Cursor<'input>, builder: &mut Builder<'input>) -> bool
-    requires there { cursor.old.pos + 1 < length cursor.old.text.now }
-    requires here { slice_index cursor.old.text.now cursor.old.pos ≡ 60 }
-    requires next { slice_index cursor.old.text.now (cursor.old.pos + 1) ≡ 33 }
-    requires short { length cursor.old.text.now < 2 ^ 32 }
+fn plain_section<'input>(text: &'input str, start: usize, builder: &mut Builder<'input>) -> usize
+    requires cut { IsCharBoundary text.now start }
+    requires there { start + 1 < length text.now }
+    requires here { slice_index text.now start ≡ 60 }
+    requires next { slice_index text.now (start + 1) ≡ 33 }
+    requires short { length text.now < 2 ^ 32 }
     requires ready { IsReady 1 builder.old }
     requires fine { IsConsistent builder.old.tables builder.old.opened.items }
-    ensures value { result ≡ true → (context : machine.Context) (end : ℕ) (s : State)
-        → IsInState context.limit end s cursor.old builder.old
-        → ScansTo context.limit end (Ok tt) cursor.new builder.new
-        (machine.step context cursor.old.text.now s) }
-    ensures other { result ≡ false → (cursor.new ≡ cursor.old) × (builder.new ≡ builder.old) }
-    ensures ready { result ≡ true → (n : ℕ) → IsReady (n + 1) builder.old
+    ensures value { result < 2 ^ 32 → (context : machine.Context) (end : ℕ) (s : State)
+        (here behind : Cursor) → here.pos ≡ start → behind.pos ≡ result
+        → IsInState context.limit end s here builder.old
+        → ScansTo context.limit end (Ok tt) behind builder.new
+        (machine.step context text.entry.now s) }
+    ensures other { 2 ^ 32 ≤ result → builder.new ≡ builder.old }
+    ensures cut { result < 2 ^ 32 → IsCharBoundary text.entry.now result }
+    ensures ready { result < 2 ^ 32 → (n : ℕ) → IsReady (n + 1) builder.old
         → IsReady n builder.new }
     ensures fine { IsConsistent builder.new.tables builder.new.opened.items }
-    ensures source { cursor.new.text ≡ cursor.old.text }
 {
+    let mut cursor = Cursor { text, pos: start };
     if !cursor.starts(Word::CommentStart) {
-        return false;
+        return NOT_READ;
     }
-    plain_comment(cursor, builder)
+    if !plain_comment(&mut cursor, builder) {
+        return NOT_READ;
+    }
+    cursor.pos
 }
 
 /// What `<` begins, if it is plain and finds room; else nothing is read.
@@ -363,18 +369,19 @@ fn plain_markup<'input>(
     if next == b'/' {
         return plain_end_tag(cursor, builder, open_around);
     }
-    if next == b'!' {
-        // The place itself stays in a register: another is lent to the call.
-        let mut behind = *cursor;
-        let read = plain_section(&mut behind, builder);
-        *cursor = behind;
-        return read;
-    }
     if next == b'?' {
         return false;
     }
     let text = cursor.text;
     let start = cursor.pos;
+    if next == b'!' {
+        let behind = plain_section(text, start, builder);
+        if behind > MOST_BYTES {
+            return false;
+        }
+        cursor.pos = behind;
+        return true;
+    }
     let part = part_end(text, after_byte(text, start, b'<'));
     if bare_element(cursor, builder, part) {
         return true;
@@ -385,70 +392,6 @@ fn plain_markup<'input>(
     }
     cursor.pos = end;
     true
-}
-
-/// How many constructs were read, and whether they are all that were looked for.
-#[derive(Clone, Copy)]
-struct Pair {
-    read: usize,
-    whole: bool,
-}
-
-/// A run, if one stands here, and the markup behind it, as far as they are plain, inside the root element.
-#[inline(always)]
-fn plain_pair<'input>(
-    cursor: &mut Cursor<'input>,
-    builder: &mut Builder<'input>,
-    open_around: usize,
-) -> Pair
-    requires short { length cursor.old.text.now < 2 ^ 32 }
-    requires ready { IsReady 2 builder.old }
-    requires fine { IsConsistent builder.old.tables builder.old.opened.items }
-    ensures value { (context : machine.Context) (end : ℕ) (s : State)
-        → context.open_around ≡ open_around → IsInState context.limit end s cursor.old builder.old
-        → is_root s.stack ≡ false
-        → Reads context end result.read cursor.new builder.new cursor.old.text.now s }
-    ensures count { result.read ≤ 2 }
-    ensures ready { result.whole ≡ true → (n : ℕ) → IsReady (n + 2) builder.old
-        → IsReady n builder.new }
-    ensures fine { IsConsistent builder.new.tables builder.new.opened.items }
-    ensures source { cursor.new.text ≡ cursor.old.text }
-{
-    let bytes = cursor.text.as_bytes();
-    if cursor.pos + 1 >= bytes.len() {
-        return Pair {
-            read: 0,
-            whole: false,
-        };
-    }
-    if bytes[cursor.pos] == b'<' {
-        if plain_markup(cursor, builder, open_around) {
-            return Pair {
-                read: 1,
-                whole: true,
-            };
-        }
-        return Pair {
-            read: 0,
-            whole: false,
-        };
-    }
-    if !plain_character_data(cursor, builder) {
-        return Pair {
-            read: 0,
-            whole: false,
-        };
-    }
-    if plain_markup(cursor, builder, open_around) {
-        return Pair {
-            read: 2,
-            whole: true,
-        };
-    }
-    Pair {
-        read: 1,
-        whole: false,
-    }
 }
 
 /// The constructs from here on inside the root element, as long as they are plain, at most two for each of `pairs`, for which
@@ -479,11 +422,20 @@ pub fn plain_stretch<'input>(
         if builder.is_at_root() {
             break;
         }
-        let pair = plain_pair(&mut here, builder, open_around);
-        read += pair.read;
-        if !pair.whole {
+        let bytes = here.text.as_bytes();
+        if here.pos + 1 >= bytes.len() {
             break;
         }
+        if bytes[here.pos] != b'<' {
+            if !plain_character_data(&mut here, builder) {
+                break;
+            }
+            read += 1;
+        }
+        if !plain_markup(&mut here, builder, open_around) {
+            break;
+        }
+        read += 1;
         left -= 1;
     }
     *cursor = here;

@@ -8,6 +8,17 @@ returns-then-next-eq47-clause-value c = λ yes context end s around h.
     rw (step_is_markup context c.args.cursor.now.text.now _ s c.args.cursor.now.pos 47 c.as_bytes-bytes.ensures.value h.here (ap (λ (xs : List ℕ). slice_index xs c.args.cursor.now.pos) c.as_bytes-bytes.ensures.value ∙ c.requires.here) c.if-cursor-bytes.false c.if-next-eq47.true (λ e. cc e))
     (c.plain_end_tag.ensures.value yes context end s around h)
 
+pub returns-then-next-eq33-clause-value : goal.returns-then-next-eq33-clause-value
+returns-then-next-eq33-clause-value c = λ _ context end s around h.
+    c.plain_section-behind.ensures.value (omega (arith, c.if-behind-gt-MOST_BYTES.false)) context end s c.args.cursor.now _ refl refl h
+
+pub returns-then-next-eq33-clause-ready : goal.returns-then-next-eq33-clause-ready
+returns-then-next-eq33-clause-ready c = λ _ n h. c.plain_section-behind.ensures.ready (omega (arith, c.if-behind-gt-MOST_BYTES.false)) n h
+
+pub returns-then-behind-gt-MOST_BYTES-clause-other : goal.returns-then-behind-gt-MOST_BYTES-clause-other
+returns-then-behind-gt-MOST_BYTES-clause-other c = λ no context end s h.
+    rw (c.plain_section-behind.ensures.other (omega (arith, c.if-behind-gt-MOST_BYTES.true))) h
+
 pub returns-then-bare_element-clause-value : goal.returns-then-bare_element-clause-value
 returns-then-bare_element-clause-value c = λ _ context end s around h.
     let i = c.args.cursor.now.pos in
