@@ -16,6 +16,7 @@ use crate::tag::{Buffers, StartTag};
 use rox_grammar::failure::Failure;
 use rox_grammar::fault::Fault;
 use rox_grammar::name::QName;
+use rox_scan::runs::is_at;
 use rox_tables::namespaces::bindings::PrefixBindings;
 use rox_tables::namespaces::namespace_table::NamespaceTable;
 use rox_tables::namespaces::seen_names::SeenNames;
@@ -395,6 +396,29 @@ impl<'input> Builder<'input> {
         let row = self.row(self.joined.start, self.joined.end, NodeKind::Text(text));
         self.pending = Pending::None;
         self.nodes.push(row)?;
+        Ok(())
+    }
+
+    /// A run ends at `at`: a text that waits has its row where no text can go on there. The only error is want of memory.
+    #[inline(always)]
+    pub fn end_run(&mut self, alloc: Global, text: &str, at: usize) -> Result<(), AllocError>
+        requires { at ≤ length text.now }
+        ensures ok { OnOk result ((end : ℕ) (stack : Open) (done : Forest Item)
+            → Represents end stack done self.old → Represents end stack done self.new) }
+        ensures tables { self.new.tables ≡ self.old.tables }
+        ensures opened { self.new.opened ≡ self.old.opened }
+        ensures limit { self.new.nodes_limit ≡ self.old.nodes_limit }
+        ensures openings_left { self.new.openings_left ≡ self.old.openings_left }
+    {
+        if !self.is_joining() {
+            return Ok(());
+        }
+        // A comment or a section may stand between two texts.
+        if !is_at(text, at, b'<') || is_at(text, at + 1, b'!') {
+            return Ok(());
+        }
+        self.flush_joined(alloc)?;
+        self.pending = Pending::Written;
         Ok(())
     }
 

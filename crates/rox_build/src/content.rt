@@ -67,6 +67,28 @@ fn slow_character_data<'input>(
     data_parts(alloc, cursor, builder, context, start, stop)
 }
 
+/// The same: a text that waits has its row then, where none can go on.
+#[cycle(content)]
+#[inline(always)]
+fn ended_character_data<'input>(
+    alloc: Global,
+    cursor: &mut Cursor<'input>,
+    builder: &mut Builder<'input>,
+    context: Context<'_, 'input>,
+) -> Result<(), ParseError<'input>>
+    requires fine { IsConsistent builder.old.tables builder.old.opened.items }
+    ensures value { (limit end : ℕ) (es : List Entity) (s : State)
+        → AreDeclared es context.entry.entities.now → IsInState limit end s cursor.old builder.old
+        → ParsesTo limit end result cursor.new builder.new
+        (machine.character_data_step (context_of limit es context.entry) cursor.old.text.now s) }
+    ensures fine { OnOk result (IsConsistent builder.new.tables builder.new.opened.items) }
+    ensures source { cursor.new.text ≡ cursor.old.text }
+{
+    slow_character_data(alloc, cursor, builder, context)?;
+    builder.end_run(alloc, cursor.text, cursor.pos)?;
+    Ok(())
+}
+
 /// Character data, up to the next `<` or the end.
 #[cycle(content)]
 #[inline(always)]
@@ -395,7 +417,7 @@ fn general_step<'input>(
 {
     let bytes = cursor.text.as_bytes();
     if bytes[cursor.pos] != b'<' && !builder.is_text_open() {
-        return slow_character_data(alloc, cursor, builder, context);
+        return ended_character_data(alloc, cursor, builder, context);
     }
     other_step(alloc, cursor, builder, context)
 }

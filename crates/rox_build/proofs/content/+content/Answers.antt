@@ -115,6 +115,27 @@ slow_character_data-returns-in_err-owned_piece-clause-value t c = λ limit end e
     (text_stepped limit end s c.args.cursor.now (record { text = c.args.cursor.now.text; pos = j; utf8 = c.args.cursor.now.utf8; cut = run.cut }) b c.owned_piece.new.self (Err c.in_err-owned_piece.field-0.0) text h c.owned_piece.ensures.tables c.owned_piece.ensures.limit c.owned_piece.ensures.openings_left
     (rw c.range.ensures.value at (c.in_err-owned_piece.ensures.value end j s h.shows))))
 
+pub ended_character_data-returns-in_err-slow_character_data-clause-value : goal.ended_character_data-returns-in_err-slow_character_data-clause-value
+ended_character_data-returns-in_err-slow_character_data-clause-value t c = λ limit end es s declared h.
+    let p = err_from_is_err_and c.from_residual.result c.from_residual.ensures.1 in
+    rw (p.1, p.2) (c.in_err-slow_character_data.ensures.value limit end es s declared h)
+
+pub ended_character_data-returns-clause-value : goal.ended_character_data-returns-clause-value
+ended_character_data-returns-clause-value t c = λ limit end es s declared h.
+    let r = c.in_ok-slow_character_data.ensures.value limit end es s declared h in
+    let k = r.2 in (
+      r.0,
+      r.1,
+      record {
+        here = k.here;
+        limit_is = c.end_run.ensures.limit ∙ k.limit_is;
+        shows = c.in_ok-end_run.ensures.ok end r.0.stack r.0.done k.shows;
+        namespaces = rw c.end_run.ensures.tables k.namespaces;
+        attributes = rw c.end_run.ensures.tables k.attributes;
+        openings_left_is = c.end_run.ensures.openings_left ∙ k.openings_left_is;
+      },
+    )
+
 -- ---- its parts
 
 pub data_parts-returns-in_err-text-clause-value : goal.data_parts-returns-in_err-text-clause-value
@@ -320,4 +341,4 @@ other_step-returns-then-next-eq47-clause-value t c = λ limit end es s declared 
 
 pub general_step-returns-then-not-is_text_open-clause-value : goal.general_step-returns-then-not-is_text_open-clause-value
 general_step-returns-then-not-is_text_open-clause-value t c = λ limit end es s declared h.
-    rw (step_is_run (context_of limit es c.args.context) c.args.cursor.now.text.now _ s c.args.cursor.now.pos c.as_bytes-bytes.ensures.value h.here c.if-bytes-cursor-ne60.true) (c.slow_character_data.ensures.value limit end es s declared h)
+    rw (step_is_run (context_of limit es c.args.context) c.args.cursor.now.text.now _ s c.args.cursor.now.pos c.as_bytes-bytes.ensures.value h.here c.if-bytes-cursor-ne60.true) (c.ended_character_data.ensures.value limit end es s declared h)

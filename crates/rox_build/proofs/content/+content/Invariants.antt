@@ -21,6 +21,9 @@ decreases-data_parts l = 16 * l.context.depth_left + 2
 abbrev pub decreases-slow_character_data : goal.decreases-slow_character_data
 decreases-slow_character_data l = 16 * l.context.depth_left + 3
 
+abbrev pub decreases-ended_character_data : goal.decreases-ended_character_data
+decreases-ended_character_data l = 16 * l.context.depth_left + 4
+
 abbrev pub decreases-character_data : goal.decreases-character_data
 decreases-character_data l = 16 * l.context.depth_left + 4
 
