@@ -219,6 +219,22 @@ piece_first end o done b u s e v p k h was is within nodes tables opens waits =
       within = rw (nodes, tables) w;
     }
 
+-- the first piece of a text that waits
+pub waiting_first : (end : ℕ) (o : Open) (done : Forest Item) (b u : Builder) (s e : ℕ) (v : List ℕ) → Represents end o done b → b.pending ≡ pending.None → u.nodes ≡ b.nodes → u.tables ≡ b.tables → u.opened ≡ b.opened
+    → u.pending ≡ pending.Joined → u.joined.start ≡ s → u.joined.end ≡ e → string_bytes u.joined.text ≡ v → Represents end o (join done (leaf (Text s e v false))) u
+waiting_first end o done b u s e v h was nodes tables opens waits from until joined =
+    let m = merged_none end o done b h was in
+    record {
+      front = h.front;
+      last = leaf (Text s e v false);
+      merged = merge-piece done s e v false ∙ ap (add s e v false) m ∙ add_clean h.front s e v false h.clean;
+      is_last = rw (waits, from, until, joined) refl;
+      clean = h.clean;
+      rows = rw (waits, nodes, tables) (rows_none end o done b h was);
+      open_rows = rw (tables, opens) h.open_rows;
+      within = rw (nodes, tables) h.within;
+    }
+
 -- one more piece of what is in the buffer
 pub piece_more : (end : ℕ) (o : Open) (done : Forest Item) (b u : Builder) (s e : ℕ) (v : List ℕ) (p : Bool) → Represents end o done b
     → b.pending ≡ pending.Joined → u.nodes ≡ b.nodes → u.tables ≡ b.tables → u.opened ≡ b.opened

@@ -535,7 +535,7 @@ impl<'input> Builder<'input> {
     }
 
     /// A piece of text that stands in the buffer for values. The only fault is that there are too many nodes.
-    pub fn buffered_piece(&mut self, alloc: Global, start: usize, end: usize) -> Result<(), Failure>
+    pub fn scratch_piece(&mut self, alloc: Global, start: usize, end: usize) -> Result<(), Failure>
         ensures value { (total at : ℕ) (s : State) → Represents total s.stack s.done self.old
             → Adds total result self.new
             (with_item self.old.nodes_limit s at
@@ -565,6 +565,52 @@ impl<'input> Builder<'input> {
         Ok(())
     }
 
+    /// The same of the first piece of a text, which waits for its row.
+    #[inline(never)]
+    fn waiting_piece(&mut self, start: usize, end: usize) -> Result<(), Failure>
+        requires { self.old.pending ≡ pending.None }
+        ensures value { (total at : ℕ) (s : State) → Represents total s.stack s.done self.old
+            → Adds total result self.new
+            (with_item self.old.nodes_limit s at
+            (Text start end (string_bytes self.old.buffers.scratch) false)) }
+        ensures tables { self.new.tables ≡ self.old.tables }
+        ensures opened { self.new.opened ≡ self.old.opened }
+        ensures limit { self.new.nodes_limit ≡ self.old.nodes_limit }
+        ensures openings_left { self.new.openings_left ≡ self.old.openings_left }
+    {
+        self.room()?;
+        self.joined.text.clear();
+        self.joined.text.push_str(self.buffers.scratch.as_str())?;
+        self.joined.start = start;
+        self.joined.end = end;
+        self.pending = Pending::Joined;
+        Ok(())
+    }
+
+    /// The same of a part of a run, where more of the run follows or not.
+    #[inline(always)]
+    pub fn buffered_piece(
+        &mut self,
+        alloc: Global,
+        start: usize,
+        end: usize,
+        more: bool,
+    ) -> Result<(), Failure>
+        ensures value { (total at : ℕ) (s : State) → Represents total s.stack s.done self.old
+            → Adds total result self.new
+            (with_item self.old.nodes_limit s at
+            (Text start end (string_bytes self.old.buffers.scratch) false)) }
+        ensures tables { self.new.tables ≡ self.old.tables }
+        ensures opened { self.new.opened ≡ self.old.opened }
+        ensures limit { self.new.nodes_limit ≡ self.old.nodes_limit }
+        ensures openings_left { self.new.openings_left ≡ self.old.openings_left }
+    {
+        if more && !self.is_text_open() {
+            return self.waiting_piece(start, end);
+        }
+        self.scratch_piece(alloc, start, end)
+    }
+
     /// A piece of text: a slice of the source where it is one, else what the buffer for values holds. The only fault is that
     /// there are too many nodes.
     #[inline(always)]
@@ -586,7 +632,7 @@ impl<'input> Builder<'input> {
     {
         match piece {
             TextValue::Plain(text) => self.slice_piece(start, end, text),
-            TextValue::Changed => self.buffered_piece(alloc, start, end),
+            TextValue::Changed => self.scratch_piece(alloc, start, end),
         }
     }
 

@@ -198,7 +198,7 @@ fn other_part_piece<'input>(
     if builder.buffers.scratch.is_empty() {
         return Ok(next);
     }
-    builder.buffered_piece(alloc, start, stop)?;
+    builder.buffered_piece(alloc, start, stop, next.is_some())?;
     Ok(next)
 }
 

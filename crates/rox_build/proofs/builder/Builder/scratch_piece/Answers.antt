@@ -15,7 +15,7 @@ use Rattle.rox_tables.specs.TagScopes.{lists_in}
 use Rattle.rox_build.specs.BuilderState.{names_in}
 use Rattle.rox_build.proofs.Showing.{piece_first, slice_more, piece_more, first_count, written_count, more_count, counted_ok, counted_err}
 use Rattle.rox_tables.proofs.StoredNodes.{count_nodes}
-use Rattle.rox_build.proofs.builder.Builder.buffered_piece.Goals as goal
+use Rattle.rox_build.proofs.builder.Builder.scratch_piece.Goals as goal
 
 pub returns-in_err-room-in-None-clause-value : goal.returns-in_err-room-in-None-clause-value
 returns-in_err-room-in-None-clause-value c = λ total at s sh.
