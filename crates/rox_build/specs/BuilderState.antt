@@ -236,6 +236,19 @@ pub record IsReady (n : ℕ) (b : Builder) : Type 0 where
   pub small : vec_len b.nodes.rows + n < 2 ^ 32
   pub settled : waiting b.pending ≡ 0
 
+-- neither the tables of elements change nor the limits
+pub record KeepsTables (old new : Builder) : Type 0 where
+  pub tables : new.tables ≡ old.tables
+  pub limit : new.nodes_limit ≡ old.nodes_limit
+  pub openings_left : new.openings_left ≡ old.openings_left
+
+-- nor what is open
+pub record KeepsOpen (old new : Builder) : Type 0 where
+  pub opened : new.opened ≡ old.opened
+  pub tables : new.tables ≡ old.tables
+  pub limit : new.nodes_limit ≡ old.nodes_limit
+  pub openings_left : new.openings_left ≡ old.openings_left
+
 -- the builder holds the same, whatever room it has for attributes
 pub record KeepsState (old new : Builder) : Type 0 where
   pub nodes : new.nodes ≡ old.nodes

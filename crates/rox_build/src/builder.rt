@@ -167,7 +167,7 @@ impl<'input> Builder<'input> {
     ghost use Rattle.rox_reading.specs.Machine.{with_item, opened_by, counted};
     ghost use Rattle.rox_grammar.specs.Failures.{Fails};
     ghost use Rattle.rox_values.specs.Values.{piece_view};
-    ghost use Rattle.rox_build.specs.BuilderState.{Represents, RepresentsFlushed, IsNode, IsOpening, AreSound, Adds, IsConsistent, IsOpened, IsReady, KeepsState, names_in, opened_in, last_row, tables_of};
+    ghost use Rattle.rox_build.specs.BuilderState.{Represents, RepresentsFlushed, IsNode, IsOpening, AreSound, Adds, IsConsistent, IsOpened, IsReady, KeepsOpen, KeepsState, KeepsTables, names_in, opened_in, last_row, tables_of};
     ghost use Rattle.rox_tables.specs.Rows.{HoldsTree};
     ghost use Rattle.rox_tables.specs.StoredNodes.{IsSmallKind};
     ghost use Rattle.rox_tables.specs.Scopes.{PrefixesOnce};
@@ -360,10 +360,7 @@ impl<'input> Builder<'input> {
         ensures empty { OnOk result (waiting self.new.pending ≡ 0) }
         ensures count { OnOk result (vec_len self.new.nodes.rows ≡ vec_len self.old.nodes.rows
             + waiting self.old.pending) }
-        ensures tables { self.new.tables ≡ self.old.tables }
-        ensures opened { self.new.opened ≡ self.old.opened }
-        ensures limit { self.new.nodes_limit ≡ self.old.nodes_limit }
-        ensures openings_left { self.new.openings_left ≡ self.old.openings_left }
+        ensures kept { KeepsOpen self.old self.new }
     {
         match self.pending {
             Pending::None => Ok(()),
@@ -387,10 +384,7 @@ impl<'input> Builder<'input> {
         ensures empty { OnOk result (waiting self.new.pending ≡ 0) }
         ensures count { OnOk result (vec_len self.new.nodes.rows ≡ vec_len self.old.nodes.rows
             + 1) }
-        ensures tables { self.new.tables ≡ self.old.tables }
-        ensures opened { self.new.opened ≡ self.old.opened }
-        ensures limit { self.new.nodes_limit ≡ self.old.nodes_limit }
-        ensures openings_left { self.new.openings_left ≡ self.old.openings_left }
+        ensures kept { KeepsOpen self.old self.new }
     {
         let text = self.recent.owned(alloc, self.joined.text.as_str())?;
         let row = self.row(self.joined.start, self.joined.end, NodeKind::Text(text));
@@ -435,10 +429,7 @@ impl<'input> Builder<'input> {
             → Represents total s.stack s.done self.old
             → IsNode self.old.tables (scope_of s.stack) start end kind.entry item
             → Adds total result self.new (with_item self.old.nodes_limit s at item) }
-        ensures tables { self.new.tables ≡ self.old.tables }
-        ensures opened { self.new.opened ≡ self.old.opened }
-        ensures limit { self.new.nodes_limit ≡ self.old.nodes_limit }
-        ensures openings_left { self.new.openings_left ≡ self.old.openings_left }
+        ensures kept { KeepsOpen self.old self.new }
     {
         self.flush(alloc)?;
         self.room()?;
@@ -458,10 +449,7 @@ impl<'input> Builder<'input> {
         ensures value { (total at : ℕ) (s : State) → Represents total s.stack s.done self.old
             → Adds total result self.new
             (with_item self.old.nodes_limit s at (Text start end text.now true)) }
-        ensures tables { self.new.tables ≡ self.old.tables }
-        ensures opened { self.new.opened ≡ self.old.opened }
-        ensures limit { self.new.nodes_limit ≡ self.old.nodes_limit }
-        ensures openings_left { self.new.openings_left ≡ self.old.openings_left }
+        ensures kept { KeepsOpen self.old self.new }
     {
         match self.pending {
             Pending::None => {
@@ -488,10 +476,7 @@ impl<'input> Builder<'input> {
         ensures value { OnOk result ((total at : ℕ) (s : State)
             → Represents total s.stack s.done self.old → Adds total (Ok tt) self.new
             (with_item self.old.nodes_limit s at (Text start end text.now true))) }
-        ensures tables { self.new.tables ≡ self.old.tables }
-        ensures opened { self.new.opened ≡ self.old.opened }
-        ensures limit { self.new.nodes_limit ≡ self.old.nodes_limit }
-        ensures openings_left { self.new.openings_left ≡ self.old.openings_left }
+        ensures kept { KeepsOpen self.old self.new }
     {
         self.joined.text.push_str(text)?;
         Ok(())
@@ -510,10 +495,7 @@ impl<'input> Builder<'input> {
         ensures value { (total at : ℕ) (s : State) → Represents total s.stack s.done self.old
             → Adds total result self.new
             (with_item self.old.nodes_limit s at (Text start end changed.now false)) }
-        ensures tables { self.new.tables ≡ self.old.tables }
-        ensures opened { self.new.opened ≡ self.old.opened }
-        ensures limit { self.new.nodes_limit ≡ self.old.nodes_limit }
-        ensures openings_left { self.new.openings_left ≡ self.old.openings_left }
+        ensures kept { KeepsOpen self.old self.new }
     {
         match self.pending {
             Pending::None => {
@@ -540,10 +522,7 @@ impl<'input> Builder<'input> {
             → Adds total result self.new
             (with_item self.old.nodes_limit s at
             (Text start end (string_bytes self.old.buffers.scratch) false)) }
-        ensures tables { self.new.tables ≡ self.old.tables }
-        ensures opened { self.new.opened ≡ self.old.opened }
-        ensures limit { self.new.nodes_limit ≡ self.old.nodes_limit }
-        ensures openings_left { self.new.openings_left ≡ self.old.openings_left }
+        ensures kept { KeepsOpen self.old self.new }
     {
         match self.pending {
             Pending::None => {
@@ -625,10 +604,7 @@ impl<'input> Builder<'input> {
             → let text = piece_view piece.entry (string_bytes self.old.buffers.scratch) in
             Adds total result self.new
             (with_item self.old.nodes_limit s at (Text start end text.value text.borrowed)) }
-        ensures tables { self.new.tables ≡ self.old.tables }
-        ensures opened { self.new.opened ≡ self.old.opened }
-        ensures limit { self.new.nodes_limit ≡ self.old.nodes_limit }
-        ensures openings_left { self.new.openings_left ≡ self.old.openings_left }
+        ensures kept { KeepsOpen self.old self.new }
     {
         match piece {
             TextValue::Plain(text) => self.slice_piece(start, end, text),
@@ -651,12 +627,10 @@ impl<'input> Builder<'input> {
             → IsOpening self.old.tables (scope_of s.stack) start tag.now t
             → Adds total result self.new
             (opened_by self.old.nodes_limit s t false openings_left at) }
-        ensures tables { self.new.tables ≡ self.old.tables }
+        ensures kept { KeepsTables self.old self.new }
         ensures opened { OnOk result ((x : OpenElement)
             × (self.new.opened.items ≡ self.old.opened.items ++ x ∷ [])
             × IsOpened text.now tag.now x) }
-        ensures limit { self.new.nodes_limit ≡ self.old.nodes_limit }
-        ensures openings_left { self.new.openings_left ≡ self.old.openings_left }
     {
         self.flush(alloc)?;
         self.room()?;
@@ -685,11 +659,9 @@ impl<'input> Builder<'input> {
             (done : Forest Item) → Represents total (inside start t before up) done self.old
             → Represents total up (join before (Cons (Element start end t) (merge done) Nil))
             self.new) }
-        ensures tables { self.new.tables ≡ self.old.tables }
+        ensures kept { KeepsTables self.old self.new }
         ensures opened { OnOk result (self.new.opened.items
             ≡ take (length self.old.opened.items - 1) self.old.opened.items) }
-        ensures limit { self.new.nodes_limit ≡ self.old.nodes_limit }
-        ensures openings_left { self.new.openings_left ≡ self.old.openings_left }
     {
         self.flush(alloc)?;
         if let Some(element) = self.opened.pop() {
@@ -747,10 +719,7 @@ impl<'input> Builder<'input> {
         ensures ok { (end : ℕ) (stack : Open) (done : Forest Item)
             → Represents end stack done self.old → RepresentsFlushed end stack done self.new }
         ensures nodes { self.new.nodes ≡ self.old.nodes }
-        ensures tables { self.new.tables ≡ self.old.tables }
-        ensures opened { self.new.opened ≡ self.old.opened }
-        ensures limit { self.new.nodes_limit ≡ self.old.nodes_limit }
-        ensures openings_left { self.new.openings_left ≡ self.old.openings_left }
+        ensures kept { KeepsOpen self.old self.new }
         ensures empty { self.new.pending ≡ pending.None }
     {
         self.pending = Pending::None;
@@ -767,10 +736,7 @@ impl<'input> Builder<'input> {
             → Adds total (Ok tt) self.new
             (with_item self.old.nodes_limit s at (Text start end text.now true)) }
         ensures ready { (n : ℕ) → IsReady (n + 1) self.old → IsReady n self.new }
-        ensures tables { self.new.tables ≡ self.old.tables }
-        ensures opened { self.new.opened ≡ self.old.opened }
-        ensures limit { self.new.nodes_limit ≡ self.old.nodes_limit }
-        ensures openings_left { self.new.openings_left ≡ self.old.openings_left }
+        ensures kept { KeepsOpen self.old self.new }
     {
         let row = self.row(start, end, NodeKind::Text(StringStorage::Borrowed(text)));
         self.nodes.put(row);
@@ -788,10 +754,7 @@ impl<'input> Builder<'input> {
             → Represents total s.stack s.done self.old → Adds total (Ok tt) self.new
             (with_item self.old.nodes_limit s at (Text start end changed.now false)) }
         ensures other { result ≡ false → KeepsState self.old self.new }
-        ensures tables { self.new.tables ≡ self.old.tables }
-        ensures opened { self.new.opened ≡ self.old.opened }
-        ensures limit { self.new.nodes_limit ≡ self.old.nodes_limit }
-        ensures openings_left { self.new.openings_left ≡ self.old.openings_left }
+        ensures kept { KeepsOpen self.old self.new }
     {
         let Ok(owned) = self.recent.owned(alloc, changed) else {
             return false;
@@ -816,10 +779,7 @@ impl<'input> Builder<'input> {
             → IsNode self.old.tables (scope_of s.stack) start end kind.entry item
             → Adds total (Ok tt) self.new (with_item self.old.nodes_limit s at item) }
         ensures ready { (n : ℕ) → IsReady (n + 1) self.old → IsReady n self.new }
-        ensures tables { self.new.tables ≡ self.old.tables }
-        ensures opened { self.new.opened ≡ self.old.opened }
-        ensures limit { self.new.nodes_limit ≡ self.old.nodes_limit }
-        ensures openings_left { self.new.openings_left ≡ self.old.openings_left }
+        ensures kept { KeepsOpen self.old self.new }
     {
         self.settle();
         let row = self.row_below(parent, start, end, kind);
@@ -840,12 +800,10 @@ impl<'input> Builder<'input> {
             → Adds total (Ok tt) self.new
             (opened_by self.old.nodes_limit s t false openings_left at) }
         ensures ready { (n : ℕ) → IsReady (n + 1) self.old → IsReady n self.new }
-        ensures tables { self.new.tables ≡ self.old.tables }
+        ensures kept { KeepsTables self.old self.new }
         ensures opened { (x : OpenElement)
             × (self.new.opened.items ≡ self.old.opened.items ++ x ∷ [])
             × IsOpened text.now tag.now x }
-        ensures limit { self.new.nodes_limit ≡ self.old.nodes_limit }
-        ensures openings_left { self.new.openings_left ≡ self.old.openings_left }
     {
         self.settle();
         let row = self.nodes.len() as u32;
@@ -874,11 +832,9 @@ impl<'input> Builder<'input> {
             → Represents total up (join before (Cons (Element start end t) (merge done) Nil))
             self.new }
         ensures ready { (n : ℕ) → IsReady n self.old → IsReady n self.new }
-        ensures tables { self.new.tables ≡ self.old.tables }
+        ensures kept { KeepsTables self.old self.new }
         ensures opened { self.new.opened.items
             ≡ take (length self.old.opened.items - 1) self.old.opened.items }
-        ensures limit { self.new.nodes_limit ≡ self.old.nodes_limit }
-        ensures openings_left { self.new.openings_left ≡ self.old.openings_left }
     {
         self.settle();
         if let Some(element) = self.opened.pop() {

@@ -16,7 +16,7 @@ returns-clause-value c = λ limit end s h.
     let k : section_text raw ≡ t = sym c.in_ok-piece.ensures in
     let a = c.piece.ensures.value end j s (same_shows end s.stack s.done b _ h.shows refl refl refl refl refl) in
     rw (cdata_is limit src s c.args.cursor.now.pos j raw t h.here c.in_ok-raw.ensures.value k)
-    (text_stepped limit end s c.args.cursor.now c.cdata.new.self b c.piece.new.self c.piece.result t h c.piece.ensures.tables c.piece.ensures.limit c.piece.ensures.openings_left a)
+    (text_stepped limit end s c.args.cursor.now c.cdata.new.self b c.piece.new.self c.piece.result t h c.piece.ensures.kept.tables c.piece.ensures.kept.limit c.piece.ensures.kept.openings_left a)
 
 pub returns-in_err-raw-clause-value : goal.returns-in_err-raw-clause-value
 returns-in_err-raw-clause-value c = λ limit end s h.

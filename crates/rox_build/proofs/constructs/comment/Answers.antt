@@ -15,7 +15,7 @@ returns-clause-value c = λ limit end s h.
     let i : Item = Comment s.at j text in
     let a = c.leaf.ensures.value end j s i h.shows (record { is = ap (λ (n : ℕ). tree.Comment n j text) h.here; within = refl; no_text = refl }) in
     rw (comment_is limit src s c.args.cursor.now.pos j text h.here c.in_ok-text.ensures.value)
-    (item_stepped limit end s c.args.cursor.now c.comment.new.self b c.leaf.new.self c.leaf.result i h refl refl c.leaf.ensures.tables c.leaf.ensures.limit c.leaf.ensures.openings_left a)
+    (item_stepped limit end s c.args.cursor.now c.comment.new.self b c.leaf.new.self c.leaf.result i h refl refl c.leaf.ensures.kept.tables c.leaf.ensures.kept.limit c.leaf.ensures.kept.openings_left a)
 
 pub returns-in_err-text-clause-value : goal.returns-in_err-text-clause-value
 returns-in_err-text-clause-value c = λ limit end s h.

@@ -49,7 +49,7 @@ returns-then-tag-clause-value c = λ limit end es s declared h.
     rw (tag_is (context_of limit es c.args.context) c.args.cursor.now.text.now s pos _ _ _ _ v.0 t.empty t.openings_left d.pos h.here (c.cut_off_fault-cut.ensures end s.stack s.done h.shows) sc h.attributes h.namespaces v.1
     ∙ ap (λ (e : Bool). lifted (opened_by limit s v.0 e t.openings_left d.pos)) c.if-tag.true)
     (subst (λ r. ScansTo limit end r d c.leaf.new.self (lifted (opened_by limit s v.0 true t.openings_left d.pos))) c.in_ok-leaf.was
-    (empty_stepped limit end t.openings_left s d old new b.nodes_limit c.leaf.new.self c.leaf.result t (scope_of s.stack) v.0 tg h.namespaces h.attributes h.limit_is c.leaf.ensures.openings_left c.leaf.ensures.tables c.leaf.ensures.limit adds))
+    (empty_stepped limit end t.openings_left s d old new b.nodes_limit c.leaf.new.self c.leaf.result t (scope_of s.stack) v.0 tg h.namespaces h.attributes h.limit_is c.leaf.ensures.kept.openings_left c.leaf.ensures.kept.tables c.leaf.ensures.kept.limit adds))
 
 pub returns-in_err-leaf-clause-value : goal.returns-in_err-leaf-clause-value
 returns-in_err-leaf-clause-value c = λ limit end es s declared h.
@@ -74,7 +74,7 @@ returns-in_err-leaf-clause-value c = λ limit end es s declared h.
           ∙ ap (λ (e : Bool). lifted (opened_by limit s v.0 e t.openings_left d.pos)) c.if-tag.true,
     )
     (refused_too c.in_err-leaf.field-0.0 (lifted (opened_by limit s v.0 true t.openings_left d.pos)) (subst (λ r. ScansTo limit end r d c.leaf.new.self (lifted (opened_by limit s v.0 true t.openings_left d.pos))) c.in_err-leaf.was
-    (empty_stepped limit end t.openings_left s d old new b.nodes_limit c.leaf.new.self c.leaf.result t (scope_of s.stack) v.0 tg h.namespaces h.attributes h.limit_is c.leaf.ensures.openings_left c.leaf.ensures.tables c.leaf.ensures.limit adds)))
+    (empty_stepped limit end t.openings_left s d old new b.nodes_limit c.leaf.new.self c.leaf.result t (scope_of s.stack) v.0 tg h.namespaces h.attributes h.limit_is c.leaf.ensures.kept.openings_left c.leaf.ensures.kept.tables c.leaf.ensures.kept.limit adds)))
 
 pub returns-clause-value : goal.returns-clause-value
 returns-clause-value c = λ limit end es s declared h.
@@ -92,7 +92,7 @@ returns-clause-value c = λ limit end es s declared h.
     rw (tag_is (context_of limit es c.args.context) c.args.cursor.now.text.now s pos _ _ _ _ v.0 t.empty t.openings_left d.pos h.here (c.cut_off_fault-cut.ensures end s.stack s.done h.shows) sc h.attributes h.namespaces v.1
     ∙ ap (λ (e : Bool). lifted (opened_by limit s v.0 e t.openings_left d.pos)) c.if-tag.false)
     (subst (λ r. ScansTo limit end r d c.open_element.new.self (lifted (opened_by limit s v.0 false t.openings_left d.pos))) c.in_ok-open_element.was
-    (open_stepped limit end t.openings_left s d old new b.nodes_limit c.open_element.new.self c.open_element.result t (scope_of s.stack) v.0 tg h.namespaces h.attributes h.limit_is c.open_element.ensures.openings_left c.open_element.ensures.tables c.open_element.ensures.limit adds))
+    (open_stepped limit end t.openings_left s d old new b.nodes_limit c.open_element.new.self c.open_element.result t (scope_of s.stack) v.0 tg h.namespaces h.attributes h.limit_is c.open_element.ensures.kept.openings_left c.open_element.ensures.kept.tables c.open_element.ensures.kept.limit adds))
 
 pub returns-in_err-open_element-clause-value : goal.returns-in_err-open_element-clause-value
 returns-in_err-open_element-clause-value c = λ limit end es s declared h.
@@ -115,7 +115,7 @@ returns-in_err-open_element-clause-value c = λ limit end es s declared h.
           ∙ ap (λ (e : Bool). lifted (opened_by limit s v.0 e t.openings_left d.pos)) c.if-tag.false,
     )
     (refused_too c.in_err-open_element.field-0.0 (lifted (opened_by limit s v.0 false t.openings_left d.pos)) (subst (λ r. ScansTo limit end r d c.open_element.new.self (lifted (opened_by limit s v.0 false t.openings_left d.pos))) c.in_err-open_element.was
-    (open_stepped limit end t.openings_left s d old new b.nodes_limit c.open_element.new.self c.open_element.result t (scope_of s.stack) v.0 tg h.namespaces h.attributes h.limit_is c.open_element.ensures.openings_left c.open_element.ensures.tables c.open_element.ensures.limit adds)))
+    (open_stepped limit end t.openings_left s d old new b.nodes_limit c.open_element.new.self c.open_element.result t (scope_of s.stack) v.0 tg h.namespaces h.attributes h.limit_is c.open_element.ensures.kept.openings_left c.open_element.ensures.kept.tables c.open_element.ensures.kept.limit adds)))
 
 pub returns-then-tag-clause-fine : goal.returns-then-tag-clause-fine
 returns-then-tag-clause-fine c =
@@ -123,8 +123,8 @@ returns-then-tag-clause-fine c =
     let v = c.in_ok-tag.ensures.value d.0 d.1 in
     let b = c.args.builder.now in
     subst (λ r. OnOk r (IsConsistent c.leaf.new.self.tables c.leaf.new.self.opened.items)) c.in_ok-leaf.was
-    (fine_kept c.leaf.result c.start_tag.new.elements b.opened.items c.leaf.new.self (fine_by b.tables c.start_tag.new.elements c.in_ok-tag.tag _ v.0 b.opened.items v.2 c.requires.fine) c.leaf.ensures.tables
-    (ap (λ x. x.items) c.leaf.ensures.opened))
+    (fine_kept c.leaf.result c.start_tag.new.elements b.opened.items c.leaf.new.self (fine_by b.tables c.start_tag.new.elements c.in_ok-tag.tag _ v.0 b.opened.items v.2 c.requires.fine) c.leaf.ensures.kept.tables
+    (ap (λ x. x.items) c.leaf.ensures.kept.opened))
 
 pub returns-clause-fine : goal.returns-clause-fine
 returns-clause-fine c =
@@ -138,7 +138,7 @@ returns-clause-fine c =
     (ap (λ x. x.now) c.start_tag.ensures.source) c.open_element.ensures.opened in
     subst (λ r. OnOk r (IsConsistent c.open_element.new.self.tables c.open_element.new.self.opened.items)) c.in_ok-open_element.was
     (fine_more c.open_element.result c.start_tag.new.elements b.opened.items c.open_element.new.self src t
-    (fine_by b.tables c.start_tag.new.elements t _ v.0 b.opened.items v.2 c.requires.fine) c.open_element.ensures.tables opens v.2.element.scope_within v.2.once (namespace_by b.tables c.start_tag.new.elements t _ v.0 v.2)
+    (fine_by b.tables c.start_tag.new.elements t _ v.0 b.opened.items v.2 c.requires.fine) c.open_element.ensures.kept.tables opens v.2.element.scope_within v.2.once (namespace_by b.tables c.start_tag.new.elements t _ v.0 v.2)
     (λ o by. opened_named _ _ _ _ _ src cursor.pos _ _ _ t o cursor.utf8 c.requires.here v.1 v.2.name v.2.name_end c.in_ok-tag.ensures.starts by))
 
 pub open_element-requires : goal.open_element-requires

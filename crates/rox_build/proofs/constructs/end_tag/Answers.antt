@@ -82,4 +82,4 @@ returns-clause-value c = λ limit end es s h.
     let split : b.opened.items ≡ outer ++ o ∷ [] = sym c.deref.ensures.value ∙ last_split os o k.3.0 (k.3.1 o) in
     let same = sym c.same_qname.ensures ∙ c.if-not-same_qname.false in
     rw (end_is (context_of limit es c.args.context) src s pos d.pos t h.here c.in_ok-tag.ensures.value (let k = opened_deep end s.stack s.done b h.shows in let l = c.len.ensures in let m = c.if-len-context.false in lt-leb _ _ (omega arith)))
-    (closed_stepped limit end s c.args.cursor.now d b c.close.new.self outer o pos t.name_end t.name h split same c.close.ensures.tables c.close.ensures.limit c.close.ensures.openings_left c.in_ok-close.ensures.ok)
+    (closed_stepped limit end s c.args.cursor.now d b c.close.new.self outer o pos t.name_end t.name h split same c.close.ensures.kept.tables c.close.ensures.kept.limit c.close.ensures.kept.openings_left c.in_ok-close.ensures.ok)

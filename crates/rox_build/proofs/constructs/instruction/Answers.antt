@@ -16,7 +16,7 @@ returns-clause-value c = λ limit end s h.
     let i : Item = PI s.at j p.target p.value in
     let a = c.leaf.ensures.value end j s i h.shows (record { is = ap (λ (n : ℕ). tree.PI n j p.target p.value) h.here; within = tt; no_text = refl }) in
     rw (instruction_is limit src s c.args.cursor.now.pos j p h.here c.in_ok-pi.ensures.value)
-    (item_stepped limit end s c.args.cursor.now c.instruction.new.self b c.leaf.new.self c.leaf.result i h refl refl c.leaf.ensures.tables c.leaf.ensures.limit c.leaf.ensures.openings_left a)
+    (item_stepped limit end s c.args.cursor.now c.instruction.new.self b c.leaf.new.self c.leaf.result i h refl refl c.leaf.ensures.kept.tables c.leaf.ensures.kept.limit c.leaf.ensures.kept.openings_left a)
 
 pub returns-in_err-pi-clause-value : goal.returns-in_err-pi-clause-value
 returns-in_err-pi-clause-value c = λ limit end s h.

@@ -28,7 +28,7 @@ character_data-returns-then-ends_character_data-clause-value t c = λ limit end 
     let plain : is_verbatim (slice_range src i e) ≡ true = sym look.verbatim_is in
     let text : ReadText = record { value = slice_range src i e; borrowed = true } in
     rw (plain_run (context_of limit es c.args.context) src s i e (slice_range src i e) h.here read plain)
-    (text_stepped limit end s c.args.cursor.now _ b c.slice_piece.new.self (Ok c.in_ok-slice_piece.field-0) text h c.slice_piece.ensures.tables c.slice_piece.ensures.limit c.slice_piece.ensures.openings_left
+    (text_stepped limit end s c.args.cursor.now _ b c.slice_piece.new.self (Ok c.in_ok-slice_piece.field-0) text h c.slice_piece.ensures.kept.tables c.slice_piece.ensures.kept.limit c.slice_piece.ensures.kept.openings_left
     (rw c.range.ensures.value at (c.in_ok-slice_piece.ensures.value end e s h.shows)))
 
 pub character_data-returns-in_err-slice_piece-clause-value : goal.character_data-returns-in_err-slice_piece-clause-value
@@ -44,7 +44,7 @@ character_data-returns-in_err-slice_piece-clause-value t c = λ limit end es s d
     let p = err_from_is_err_and c.from_residual.result c.from_residual.ensures.1 in
     rw (p.1, p.2, plain_run (context_of limit es c.args.context) src s i e (slice_range src i e) h.here read plain)
     (refused_too c.in_err-slice_piece.field-0.0 _
-    (text_stepped limit end s c.args.cursor.now (record { text = c.args.cursor.now.text; pos = e; utf8 = c.args.cursor.now.utf8; cut = look.cut }) b c.slice_piece.new.self (Err c.in_err-slice_piece.field-0.0) text h c.slice_piece.ensures.tables c.slice_piece.ensures.limit c.slice_piece.ensures.openings_left
+    (text_stepped limit end s c.args.cursor.now (record { text = c.args.cursor.now.text; pos = e; utf8 = c.args.cursor.now.utf8; cut = look.cut }) b c.slice_piece.new.self (Err c.in_err-slice_piece.field-0.0) text h c.slice_piece.ensures.kept.tables c.slice_piece.ensures.kept.limit c.slice_piece.ensures.kept.openings_left
     (rw c.range.ensures.value at (c.in_err-slice_piece.ensures.value end e s h.shows))))
 
 pub slow_character_data-returns-in_err-raw-clause-value : goal.slow_character_data-returns-in_err-raw-clause-value
@@ -61,7 +61,7 @@ slow_character_data-returns-then-raw-clause-value t c = λ limit end es s declar
     let plain : is_verbatim raw ≡ true = sym c.in_ok-raw.ensures.verbatim ∙ c.if-raw.true in
     let text : ReadText = record { value = raw; borrowed = true } in
     rw (plain_run (context_of limit es c.args.context) src s c.args.cursor.now.pos j raw h.here c.in_ok-raw.ensures.read.value plain)
-    (text_stepped limit end s c.args.cursor.now c.raw_character_data.new.cursor b c.slice_piece.new.self (Ok c.in_ok-slice_piece.field-0) text h c.slice_piece.ensures.tables c.slice_piece.ensures.limit c.slice_piece.ensures.openings_left
+    (text_stepped limit end s c.args.cursor.now c.raw_character_data.new.cursor b c.slice_piece.new.self (Ok c.in_ok-slice_piece.field-0) text h c.slice_piece.ensures.kept.tables c.slice_piece.ensures.kept.limit c.slice_piece.ensures.kept.openings_left
     (c.in_ok-slice_piece.ensures.value end j s h.shows))
 
 pub slow_character_data-returns-in_err-slice_piece-clause-value : goal.slow_character_data-returns-in_err-slice_piece-clause-value
@@ -75,7 +75,7 @@ slow_character_data-returns-in_err-slice_piece-clause-value t c = λ limit end e
     let p = err_from_is_err_and c.from_residual-in_err-slice_piece.result c.from_residual-in_err-slice_piece.ensures.1 in
     rw (p.1, p.2, plain_run (context_of limit es c.args.context) src s c.args.cursor.now.pos j raw h.here c.in_ok-raw.ensures.read.value plain)
     (refused_too c.in_err-slice_piece.field-0.0 _
-    (text_stepped limit end s c.args.cursor.now c.raw_character_data.new.cursor b c.slice_piece.new.self (Err c.in_err-slice_piece.field-0.0) text h c.slice_piece.ensures.tables c.slice_piece.ensures.limit c.slice_piece.ensures.openings_left
+    (text_stepped limit end s c.args.cursor.now c.raw_character_data.new.cursor b c.slice_piece.new.self (Err c.in_err-slice_piece.field-0.0) text h c.slice_piece.ensures.kept.tables c.slice_piece.ensures.kept.limit c.slice_piece.ensures.kept.openings_left
     (c.in_err-slice_piece.ensures.value end j s h.shows)))
 
 pub slow_character_data-returns-clause-value : goal.slow_character_data-returns-clause-value
@@ -98,7 +98,7 @@ slow_character_data-returns-in-Some-clause-value t c = λ limit end es s declare
     let run = c.in-Some.ensures in
     let text : ReadText = record { value = slice_range src (i + 1) j; borrowed = false } in
     rw (parted_run (context_of limit es c.args.context) src s i j (slice_range src i j) h.here run.value run.verbatim, line_run (context_of limit es c.args.context) src s i j h.here c.if-context.true run.line)
-    (text_stepped limit end s c.args.cursor.now _ b c.owned_piece.new.self (Ok c.in_ok-owned_piece.field-0) text h c.owned_piece.ensures.tables c.owned_piece.ensures.limit c.owned_piece.ensures.openings_left
+    (text_stepped limit end s c.args.cursor.now _ b c.owned_piece.new.self (Ok c.in_ok-owned_piece.field-0) text h c.owned_piece.ensures.kept.tables c.owned_piece.ensures.kept.limit c.owned_piece.ensures.kept.openings_left
     (rw c.range.ensures.value at (c.in_ok-owned_piece.ensures.value end j s h.shows)))
 
 pub slow_character_data-returns-in_err-owned_piece-clause-value : goal.slow_character_data-returns-in_err-owned_piece-clause-value
@@ -112,7 +112,7 @@ slow_character_data-returns-in_err-owned_piece-clause-value t c = λ limit end e
     let p = err_from_is_err_and c.from_residual.result c.from_residual.ensures.1 in
     rw (p.1, p.2, parted_run (context_of limit es c.args.context) src s i j (slice_range src i j) h.here run.value run.verbatim, line_run (context_of limit es c.args.context) src s i j h.here c.if-context.true run.line)
     (refused_too c.in_err-owned_piece.field-0.0 _
-    (text_stepped limit end s c.args.cursor.now (record { text = c.args.cursor.now.text; pos = j; utf8 = c.args.cursor.now.utf8; cut = run.cut }) b c.owned_piece.new.self (Err c.in_err-owned_piece.field-0.0) text h c.owned_piece.ensures.tables c.owned_piece.ensures.limit c.owned_piece.ensures.openings_left
+    (text_stepped limit end s c.args.cursor.now (record { text = c.args.cursor.now.text; pos = j; utf8 = c.args.cursor.now.utf8; cut = run.cut }) b c.owned_piece.new.self (Err c.in_err-owned_piece.field-0.0) text h c.owned_piece.ensures.kept.tables c.owned_piece.ensures.kept.limit c.owned_piece.ensures.kept.openings_left
     (rw c.range.ensures.value at (c.in_err-owned_piece.ensures.value end j s h.shows))))
 
 pub ended_character_data-returns-in_err-slow_character_data-clause-value : goal.ended_character_data-returns-in_err-slow_character_data-clause-value

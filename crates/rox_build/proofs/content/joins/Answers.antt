@@ -23,6 +23,6 @@ returns-clause-value c = λ yes limit end after es s h.
     let onward = look.onward in
     let more : i < n = omega (arith, c.if-start-end.false) in
     run_opened limit end es c.args.context.depth_left c.args.context.main (replacement_view c.args.text) after s c.args.builder.now _ c.if-not-context.false c.if-context-eq0.false h
-    c.join_piece.ensures.tables c.join_piece.ensures.limit c.join_piece.ensures.openings_left
+    c.join_piece.ensures.kept.tables c.join_piece.ensures.kept.limit c.join_piece.ensures.kept.openings_left
     (rw c.range.ensures.value at (c.in_ok-join_piece.ensures.value end n s h.shows)) more
     (λ is. c.if-as_bytes-start-eq60.false (ap (λ xs. slice_index xs i) c.as_bytes.ensures.value ∙ is)) read plain

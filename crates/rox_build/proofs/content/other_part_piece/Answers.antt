@@ -35,5 +35,5 @@ returns-clause-value c = λ limit end es s declared h.
     let ok = c.part.new.buffers.scratch.bytes.ok.0 in
     let some : text ≡ [] → ⊥ = λ none. eqb-false _ 0 (sym c.is_empty.ensures ∙ c.if-is_empty.false) (let k = ap length none in omega arith) in
     let a = c.in_ok-buffered_piece.ensures.value end c.args.stop s (same_shows end s.stack s.done b _ h.shows refl refl refl refl refl) in
-    let t = text_rests limit end s b c.buffered_piece.new.self _ c.args.start c.args.stop text false (rests_of limit end s c.args.cursor.now b h) c.buffered_piece.ensures.tables c.buffered_piece.ensures.limit c.buffered_piece.ensures.openings_left a in
+    let t = text_rests limit end s b c.buffered_piece.new.self _ c.args.start c.args.stop text false (rests_of limit end s c.args.cursor.now b h) c.buffered_piece.ensures.kept.tables c.buffered_piece.ensures.kept.limit c.buffered_piece.ensures.kept.openings_left a in
     (t.0, part_piece_is (context_of limit es c.args.context) src c.args.start c.args.stop s t.0 e.0 text next read e.2 some t.1, t.2)

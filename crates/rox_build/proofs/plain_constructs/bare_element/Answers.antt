@@ -40,7 +40,7 @@ returns-clause-value c = λ _ context end s h.
     let adds = c.put_open.ensures.value end e s.openings_left s x.tag h.shows (sym h.here) (is_opening old old t (scope_of s.stack) x.tag pos tg x.starts) in
     rw (tag_is context src s pos cut _ _ _ x.tag t.empty s.openings_left e h.here refl sc h.attributes h.namespaces (rw kept at (x.read context.values cut))
     ∙ ap (λ (y : Bool). lifted (opened_by context.limit s x.tag y s.openings_left e)) c.in-Some-bare_start_tag.ensures.opens)
-    (open_stepped context.limit end s.openings_left s _ old old b.nodes_limit c.put_open.new.self (Ok tt) t (scope_of s.stack) x.tag tg h.namespaces h.attributes h.limit_is (c.put_open.ensures.openings_left ∙ h.openings_left_is) c.put_open.ensures.tables c.put_open.ensures.limit adds)
+    (open_stepped context.limit end s.openings_left s _ old old b.nodes_limit c.put_open.new.self (Ok tt) t (scope_of s.stack) x.tag tg h.namespaces h.attributes h.limit_is (c.put_open.ensures.kept.openings_left ∙ h.openings_left_is) c.put_open.ensures.kept.tables c.put_open.ensures.kept.limit adds)
 
 pub returns-clause-fine : goal.returns-clause-fine
 returns-clause-fine c =
@@ -51,7 +51,7 @@ returns-clause-fine c =
     let t = c.in-Some-bare_start_tag.bare.tag in
     let context : Values = record { main = true; entities = []; opener = λ text i openings_left. Ok ([], openings_left) } in
     fine_more (Ok tt) b.tables b.opened.items c.put_open.new.self src t
-    (fine_by b.tables b.tables t _ x.tag b.opened.items x.tagged c.requires.fine) c.put_open.ensures.tables c.put_open.ensures.opened x.tagged.element.scope_within x.tagged.once (namespace_by b.tables b.tables t _ x.tag x.tagged)
+    (fine_by b.tables b.tables t _ x.tag b.opened.items x.tagged c.requires.fine) c.put_open.ensures.kept.tables c.put_open.ensures.opened x.tagged.element.scope_within x.tagged.once (namespace_by b.tables b.tables t _ x.tag x.tagged)
     (λ o by. opened_named context fault.NoRootNode _ _ _ src cursor.pos t.openings_left _ _ t o cursor.utf8 c.requires.here (x.read context fault.NoRootNode) x.tagged.name x.tagged.name_end x.starts by)
 
 pub put_open-requires-clause-within : goal.put_open-requires-clause-within

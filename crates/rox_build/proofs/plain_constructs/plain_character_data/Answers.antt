@@ -19,7 +19,7 @@ returns-clause-value c = λ _ context end s h.
     let r = short_run src i e cursor.utf8 cursor.cut n.onward cut n.passes here in
     let text : ReadText = record { value = slice_range src i e; borrowed = true } in
     rw (plain_run context src s i e (slice_range src i e) h.here r.0 r.1)
-    (text_stepped context.limit end s cursor _ b c.put_text.new.self (Ok tt) text h c.put_text.ensures.tables c.put_text.ensures.limit c.put_text.ensures.openings_left (rw c.range.ensures.value at (c.put_text.ensures.value end e s h.shows)))
+    (text_stepped context.limit end s cursor _ b c.put_text.new.self (Ok tt) text h c.put_text.ensures.kept.tables c.put_text.ensures.kept.limit c.put_text.ensures.kept.openings_left (rw c.range.ensures.value at (c.put_text.ensures.value end e s h.shows)))
 
 pub put_text-requires-clause-start : goal.put_text-requires-clause-start
 put_text-requires-clause-start c = omega (arith, c.requires.short, c.args.cursor.now.cut.0)

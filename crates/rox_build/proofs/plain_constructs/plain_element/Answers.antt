@@ -53,7 +53,7 @@ returns-then-read-clause-value c = λ _ context end s here behind start stop h.
     rw (tag_is context src s pos cut _ _ _ x.tag t.empty s.openings_left e at refl sc h.attributes h.namespaces (rw kept at (x.read context.values cut))
     ∙ ap (λ (y : Bool). lifted (opened_by context.limit s x.tag y s.openings_left e)) c.if-read.true)
     (subst (λ (n : ℕ). ScansTo context.limit end (Ok tt) behind u (lifted (opened_by context.limit s x.tag true s.openings_left n))) stop
-    (empty_stepped context.limit end s.openings_left s behind old new b.nodes_limit u (Ok tt) t (scope_of s.stack) x.tag tg h.namespaces h.attributes h.limit_is (c.put_leaf.ensures.openings_left ∙ h.openings_left_is) c.put_leaf.ensures.tables c.put_leaf.ensures.limit
+    (empty_stepped context.limit end s.openings_left s behind old new b.nodes_limit u (Ok tt) t (scope_of s.stack) x.tag tg h.namespaces h.attributes h.limit_is (c.put_leaf.ensures.kept.openings_left ∙ h.openings_left_is) c.put_leaf.ensures.kept.tables c.put_leaf.ensures.kept.limit
     (subst (λ (n : ℕ). Adds end (Ok tt) u (opened_by b.nodes_limit s x.tag true s.openings_left n)) (sym stop) adds)))
 
 pub returns-clause-value : goal.returns-clause-value
@@ -81,7 +81,7 @@ returns-clause-value c = λ _ context end s here behind start stop h.
     rw (tag_is context src s pos cut _ _ _ x.tag t.empty s.openings_left e at refl sc h.attributes h.namespaces (rw kept at (x.read context.values cut))
     ∙ ap (λ (y : Bool). lifted (opened_by context.limit s x.tag y s.openings_left e)) c.if-read.false)
     (subst (λ (n : ℕ). ScansTo context.limit end (Ok tt) behind u (lifted (opened_by context.limit s x.tag false s.openings_left n))) stop
-    (open_stepped context.limit end s.openings_left s behind old new b.nodes_limit u (Ok tt) t (scope_of s.stack) x.tag tg h.namespaces h.attributes h.limit_is (c.put_open.ensures.openings_left ∙ h.openings_left_is) c.put_open.ensures.tables c.put_open.ensures.limit
+    (open_stepped context.limit end s.openings_left s behind old new b.nodes_limit u (Ok tt) t (scope_of s.stack) x.tag tg h.namespaces h.attributes h.limit_is (c.put_open.ensures.kept.openings_left ∙ h.openings_left_is) c.put_open.ensures.kept.tables c.put_open.ensures.kept.limit
     (subst (λ (n : ℕ). Adds end (Ok tt) u (opened_by b.nodes_limit s x.tag false s.openings_left n)) (sym stop) adds)))
 
 pub returns-in_default-clause-fine : goal.returns-in_default-clause-fine
@@ -91,8 +91,8 @@ pub returns-then-read-clause-fine : goal.returns-then-read-clause-fine
 returns-then-read-clause-fine c =
     let b = c.args.builder.now in
     let x = c.in-Some.ensures.read in
-    fine_kept (Ok tt) c.plain_start_tag.new.elements b.opened.items c.put_leaf.new.self (fine_by b.tables c.plain_start_tag.new.elements c.in-Some.read.tag _ x.tag b.opened.items x.tagged c.requires.fine) c.put_leaf.ensures.tables
-    (ap (λ x. x.items) c.put_leaf.ensures.opened)
+    fine_kept (Ok tt) c.plain_start_tag.new.elements b.opened.items c.put_leaf.new.self (fine_by b.tables c.plain_start_tag.new.elements c.in-Some.read.tag _ x.tag b.opened.items x.tagged c.requires.fine) c.put_leaf.ensures.kept.tables
+    (ap (λ x. x.items) c.put_leaf.ensures.kept.opened)
 
 pub returns-clause-fine : goal.returns-clause-fine
 returns-clause-fine c =
@@ -102,7 +102,7 @@ returns-clause-fine c =
     let t = c.in-Some.read.tag in
     let context : Values = record { main = true; entities = []; opener = λ text i openings_left. Ok ([], openings_left) } in
     fine_more (Ok tt) c.plain_start_tag.new.elements b.opened.items c.put_open.new.self src t
-    (fine_by b.tables c.plain_start_tag.new.elements t _ x.tag b.opened.items x.tagged c.requires.fine) c.put_open.ensures.tables c.put_open.ensures.opened x.tagged.element.scope_within x.tagged.once (namespace_by b.tables c.plain_start_tag.new.elements t _ x.tag x.tagged)
+    (fine_by b.tables c.plain_start_tag.new.elements t _ x.tag b.opened.items x.tagged c.requires.fine) c.put_open.ensures.kept.tables c.put_open.ensures.opened x.tagged.element.scope_within x.tagged.once (namespace_by b.tables c.plain_start_tag.new.elements t _ x.tag x.tagged)
     (λ o by. opened_named context fault.NoRootNode _ _ _ src c.args.start t.openings_left _ _ t o c.utf8.text c.requires.here (x.read context fault.NoRootNode) x.tagged.name x.tagged.name_end x.starts by)
 
 pub put_open-requires-clause-within : goal.put_open-requires-clause-within

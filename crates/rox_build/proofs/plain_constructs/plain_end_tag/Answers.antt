@@ -36,7 +36,7 @@ returns-clause-value c = λ _ context end s around h.
     end_tag_close src pos j o named cursor.utf8 same (rw (← start) closes) (rw (← start) c.after_byte-end.ensures.place) in
     let within : leb (depth_of s.stack) context.open_around ≡ false = (let d = opened_deep end s.stack s.done b h.shows in let l = c.len.ensures in let m = c.if-len-open_around.false in lt-leb _ _ (omega arith)) in
     rw (end_is context src s pos j _ h.here tag within)
-    (closed_stepped context.limit end s cursor _ b c.put_close.new.self outer o pos (pos + 2 + name_count o) (name_view o.name) h split (same_itself (name_view o.name)) c.put_close.ensures.tables c.put_close.ensures.limit c.put_close.ensures.openings_left c.put_close.ensures.ok)
+    (closed_stepped context.limit end s cursor _ b c.put_close.new.self outer o pos (pos + 2 + name_count o) (name_view o.name) h split (same_itself (name_view o.name)) c.put_close.ensures.kept.tables c.put_close.ensures.kept.limit c.put_close.ensures.kept.openings_left c.put_close.ensures.ok)
 
 pub put_close-requires-clause-short : goal.put_close-requires-clause-short
 put_close-requires-clause-short c = omega (arith, c.requires.short, c.after_byte-end.ensures.cut.0)
@@ -49,7 +49,7 @@ returns-clause-fine c =
     let taken : IsConsistent b.tables (take n b.opened.items) =
     record { sound = f.sound; elements = all_take (IsOpenWithin b.tables) n b.opened.items f.elements; empty = f.empty; kept = f.kept; few_names = f.few_names; few_attributes = f.few_attributes } in
     subst (λ (qs : List OpenElement). IsConsistent c.put_close.new.self.tables qs) (sym c.put_close.ensures.opened)
-    (subst (λ (t : ElementTables). IsConsistent t (take n b.opened.items)) (sym c.put_close.ensures.tables) taken)
+    (subst (λ (t : ElementTables). IsConsistent t (take n b.opened.items)) (sym c.put_close.ensures.kept.tables) taken)
 
 pub returns-clause-ready : goal.returns-clause-ready
 returns-clause-ready c = λ _ n h. c.put_close.ensures.ready n (ready_fewer (n + 1) n c.args.builder.now (omega arith) h)

@@ -14,5 +14,5 @@ returns-clause-value c = λ _ context end s main h.
     let run = c.in-Some.ensures in
     let text : ReadText = record { value = slice_range src (i + 1) j; borrowed = false } in
     rw (step_is_run context src src s i refl h.here (λ e. cc (sym e ∙ run.line.cr)), parted_run context src s i j (slice_range src i j) h.here run.value run.verbatim, line_run context src s i j h.here main run.line)
-    (text_stepped context.limit end s cursor _ b c.put_owned.new.self (Ok tt) text h c.put_owned.ensures.tables c.put_owned.ensures.limit c.put_owned.ensures.openings_left
+    (text_stepped context.limit end s cursor _ b c.put_owned.new.self (Ok tt) text h c.put_owned.ensures.kept.tables c.put_owned.ensures.kept.limit c.put_owned.ensures.kept.openings_left
     (rw c.range.ensures.value at (c.put_owned.ensures.value c.if-not-put_owned.false end j s h.shows)))

@@ -15,13 +15,13 @@ pub returns-clause-value : goal.returns-clause-value
 returns-clause-value c = λ total at s item sh is.
     let f = c.flush.new.self in
     let st = c.in_ok-flush.ensures.ok total s.stack s.done sh in
-    let k : IsNode f.tables (scope_of s.stack) c.args.start c.args.end c.args.kind item = rw c.flush.ensures.tables is in
+    let k : IsNode f.tables (scope_of s.stack) c.args.start c.args.end c.args.kind item = rw c.flush.ensures.kept.tables is in
     let t : State = record { at = at; done = join s.done (leaf item); stack = s.stack; openings_left = s.openings_left } in
     let n = settled_count total s.stack s.done f st in
     let m = leaf_count s.stack s.done item is.no_text in
     let room = c.in_ok-room.ensures.ok in
     let len = count_nodes f.nodes in
-    let limit = c.flush.ensures.limit in
+    let limit = c.flush.ensures.kept.limit in
     let empty = c.in_ok-flush.ensures.empty in (
       t,
       counted_ok c.args.self.now.nodes_limit t (omega arith),
@@ -40,6 +40,6 @@ returns-in_err-room-clause-value c = λ total at s item sh is.
     let e = c.in_err-room.ensures.err in
     let over = e.1 in
     let len = count_nodes f.nodes in
-    let limit = c.flush.ensures.limit in
+    let limit = c.flush.ensures.kept.limit in
     let empty = c.in_ok-flush.ensures.empty in
     rw (p.1, p.2, e.0) (counted_err c.args.self.now.nodes_limit t (omega arith))

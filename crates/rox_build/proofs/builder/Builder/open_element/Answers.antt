@@ -20,13 +20,13 @@ returns-clause-value c = λ total at openings_left s t sh here is.
     let f = c.flush.new.self in
     let tag = c.args.tag.now in
     let st = c.in_ok-flush.ensures.ok total s.stack s.done sh in
-    let op : IsOpening f.tables (scope_of s.stack) s.at tag t = rw (c.flush.ensures.tables, here) is in
+    let op : IsOpening f.tables (scope_of s.stack) s.at tag t = rw (c.flush.ensures.kept.tables, here) is in
     let next : State = record { at = at; done = Nil; stack = inside s.at t s.done s.stack; openings_left = openings_left } in
     let n = settled_count total s.stack s.done f st in
     let m = open_count s.stack s.at t s.done in
     let room = c.in_ok-room.ensures.ok in
     let len = count_nodes f.nodes in
-    let limit = c.flush.ensures.limit in
+    let limit = c.flush.ensures.kept.limit in
     let empty = c.in_ok-flush.ensures.empty in
     let k : NodeKind = kind.Element tag.element in
     let x : OpenElement = record { row = c.len-row.result; name = tag.name; name_start = tag.name_start; name_end = tag.name_end; scope = tag.element.scope; namespace = tag.element.namespace; source = c.from_place-source.result } in
@@ -51,6 +51,6 @@ returns-in_err-room-clause-value c = λ total at openings_left s t sh here is.
     let e = c.in_err-room.ensures.err in
     let over = e.1 in
     let len = count_nodes f.nodes in
-    let limit = c.flush.ensures.limit in
+    let limit = c.flush.ensures.kept.limit in
     let empty = c.in_ok-flush.ensures.empty in
     rw (p.1, p.2, e.0) (counted_err c.args.self.now.nodes_limit next (omega arith))

@@ -17,7 +17,7 @@ pub returns-clause-value : goal.returns-clause-value
 returns-clause-value c = λ total at s item sh is.
     let f = c.settle.new.self in
     let st = c.settle.ensures.ok total s.stack s.done sh in
-    let k : IsNode f.tables (scope_of s.stack) c.args.start c.args.end c.args.kind item = rw c.settle.ensures.tables is in
+    let k : IsNode f.tables (scope_of s.stack) c.args.start c.args.end c.args.kind item = rw c.settle.ensures.kept.tables is in
     let t : State = record { at = at; done = join s.done (leaf item); stack = s.stack; openings_left = s.openings_left } in
     let n = settled_count total s.stack s.done f st in
     let m = leaf_count s.stack s.done item is.no_text in
@@ -32,4 +32,4 @@ returns-clause-value c = λ total at s item sh is.
     )
 
 pub row_below-row-requires-clause-parent : goal.row_below-row-requires-clause-parent
-row_below-row-requires-clause-parent c = rw (c.settle.ensures.tables, c.settle.ensures.opened) c.requires.parent
+row_below-row-requires-clause-parent c = rw (c.settle.ensures.kept.tables, c.settle.ensures.kept.opened) c.requires.parent

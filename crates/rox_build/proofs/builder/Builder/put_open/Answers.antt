@@ -22,7 +22,7 @@ returns-clause-value c = λ total at openings_left s t sh here is.
     let f = c.settle.new.self in
     let tag = c.args.tag.now in
     let st = c.settle.ensures.ok total s.stack s.done sh in
-    let op : IsOpening f.tables (scope_of s.stack) s.at tag t = rw (c.settle.ensures.tables, here) is in
+    let op : IsOpening f.tables (scope_of s.stack) s.at tag t = rw (c.settle.ensures.kept.tables, here) is in
     let next : State = record { at = at; done = Nil; stack = inside s.at t s.done s.stack; openings_left = openings_left } in
     let n = settled_count total s.stack s.done f st in
     let m = open_count s.stack s.at t s.done in
@@ -43,4 +43,4 @@ returns-clause-value c = λ total at openings_left s t sh here is.
     )
 
 pub row_below-opening-requires-clause-parent : goal.row_below-opening-requires-clause-parent
-row_below-opening-requires-clause-parent c = rw (c.settle.ensures.tables, c.settle.ensures.opened) c.requires.parent
+row_below-opening-requires-clause-parent c = rw (c.settle.ensures.kept.tables, c.settle.ensures.kept.opened) c.requires.parent
