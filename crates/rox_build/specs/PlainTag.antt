@@ -1,5 +1,5 @@
 -- Start tags that are read at one look: without declarations, and with attributes whose values have no reference.
-use Rattle.std.specs.Prelude.{◌≡◌, ℕ, ◌+◌, ◌<◌, ◌≤◌, ◌==◌, ◌||◌, Bool, true, false, List, [], ◌++◌, Option, Some, Ok, length, map, slice_index}
+use Rattle.std.specs.Prelude.{◌≡◌, ℕ, ◌+◌, ◌<◌, ◌≤◌, ◌==◌, ◌||◌, Bool, true, false, List, [], ◌++◌, Option, Some, Ok, drop, length, map, slice_index}
 use Rattle.std.specs.List.{AllByRecursion}
 use Rattle.std.specs.Str.{IsCharBoundary}
 use Rattle.rox_grammar.specs.declared.fault.Fault.{Fault}
@@ -17,6 +17,8 @@ use Rattle.rox_tables.specs.Scopes.{ArePlaces, places_in}
 use Rattle.rox_tables.specs.declared.namespaces.bindings.PrefixBindings.{PrefixBindings}
 use Rattle.rox_tables.specs.ResolvedNames.{AddsResolved}
 use Rattle.rox_tables.specs.TagDeclarations.{unresolved_view}
+use Rattle.rox_tables.specs.SeenNames.{AreSeen}
+use Rattle.rox_tables.specs.declared.namespaces.seen_names.SeenNames.{SeenNames}
 use Rattle.rox_tables.specs.Storage.{storage_bytes, is_borrowed}
 use Rattle.rox_tables.specs.declared.rows.tables.ElementTables.{ElementTables}
 use Rattle.rox_build.specs.ElementRow.{Tagged}
@@ -76,6 +78,21 @@ pub record AddsPlain (namespaces : List NamespaceDecl) (few : Option (List ℕ))
   pub other : is_namespace_decl (name_view one.name) ≡ false
   pub added : AddsResolved namespaces few present from old new one
   pub end : one.end ≡ j
+
+-- a tag has these attributes so far, which were seen: the last of the table, each with a namespace that stands there
+pub record HoldsTag (t : ElementTables) (n : ℕ) (s : SeenNames) : Type 0 where
+  pub scope : HasScope t n
+  pub from : s.from ≤ length (attribute_rows t.attributes)
+  pub done : AllByRecursion (λ a. NamespaceWithin (length t.namespaces.items.items) a.0.namespace) (drop s.from (attribute_rows t.attributes))
+  pub seen : AreSeen s (attribute_rows t.attributes)
+
+-- the attribute from i to j was put behind those that were seen, or, where j is 0, none
+pub record PutsPlain (old new : ElementTables) (n : ℕ) (s after : SeenNames) (src : List ℕ) (i j : ℕ) : Type 0 where
+  pub added : 0 < j → AddsPlain (map namespace_view old.namespaces.items.items) (few_in old n) old.present s.from src i j (attribute_rows old.attributes) (attribute_rows new.attributes)
+  pub others : new ≡ record old { attributes = new.attributes }
+  pub from : after.from ≡ s.from
+  pub seen : 0 < j → AreSeen after (attribute_rows new.attributes)
+  pub refused : j ≡ 0 → attribute_rows new.attributes ≡ attribute_rows old.attributes
 
 -- a tag that holds these attributes, and no declaration
 abbrev pub holding : List Attribute → TagSoFar

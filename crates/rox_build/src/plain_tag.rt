@@ -26,7 +26,7 @@ ghost use Rattle.rox_tables.specs.SeenNames.{AreSeen};
 ghost use Rattle.rox_tables.specs.TagScopes.{HasBindings};
 ghost use Rattle.rox_build.specs.ElementRow.{scope_in_tables};
 ghost use Rattle.rox_build.specs.BuilderState.{IsNamespaceOf, IsOpenWithin};
-ghost use Rattle.rox_build.specs.PlainTag.{HasScope, few_in, IsValueStart, IsPlainAttribute, IsNearAttribute, AddsPlain, ArePlainAttributes, IsPlainTag, HoldSame};
+ghost use Rattle.rox_build.specs.PlainTag.{HasScope, few_in, IsValueStart, IsPlainAttribute, IsNearAttribute, HoldsTag, PutsPlain, ArePlainAttributes, IsPlainTag, HoldSame};
 
 use crate::builder::OpenElement;
 use crate::spaced_value::{spaced_value, spaced_value_end};
@@ -320,20 +320,9 @@ fn put_spaced_attribute<'input>(
     seen: &mut SeenNames,
 ) -> usize
     requires cut { IsCharBoundary text.now start }
-    requires scope { HasScope elements.old scope }
-    requires from { seen.old.from ≤ length (attribute_rows elements.old.attributes) }
-    requires done { AllByRecursion
-        (λ a. NamespaceWithin (length elements.old.namespaces.items.items) a.0.namespace)
-        (drop seen.old.from (attribute_rows elements.old.attributes)) }
-    requires seen { AreSeen seen.old (attribute_rows elements.old.attributes) }
-    ensures added { 0 < result → AddsPlain (map namespace_view elements.old.namespaces.items.items)
-        (few_in elements.old scope) elements.old.present seen.old.from text.entry.now start
-        result (attribute_rows elements.old.attributes) (attribute_rows elements.new.attributes) }
-    ensures others { elements.new ≡ record elements.old { attributes = elements.new.attributes } }
-    ensures from { seen.new.from ≡ seen.old.from }
-    ensures seen { 0 < result → AreSeen seen.new (attribute_rows elements.new.attributes) }
-    ensures refused { result ≡ 0
-        → attribute_rows elements.new.attributes ≡ attribute_rows elements.old.attributes }
+    requires holds { HoldsTag elements.old scope seen.old }
+    ensures { PutsPlain elements.old elements.new scope seen.old seen.new text.entry.now
+        start result }
 {
     let alloc = *elements.attributes.items.allocator();
     let Some(one) = spaced_attribute(alloc, text, start) else {
@@ -373,20 +362,9 @@ fn put_other_attribute<'input>(
 ) -> usize
     requires cut { IsCharBoundary text.now start }
     requires short { length text.now < 2 ^ 32 }
-    requires scope { HasScope elements.old scope }
-    requires from { seen.old.from ≤ length (attribute_rows elements.old.attributes) }
-    requires done { AllByRecursion
-        (λ a. NamespaceWithin (length elements.old.namespaces.items.items) a.0.namespace)
-        (drop seen.old.from (attribute_rows elements.old.attributes)) }
-    requires seen { AreSeen seen.old (attribute_rows elements.old.attributes) }
-    ensures added { 0 < result → AddsPlain (map namespace_view elements.old.namespaces.items.items)
-        (few_in elements.old scope) elements.old.present seen.old.from text.entry.now start
-        result (attribute_rows elements.old.attributes) (attribute_rows elements.new.attributes) }
-    ensures others { elements.new ≡ record elements.old { attributes = elements.new.attributes } }
-    ensures from { seen.new.from ≡ seen.old.from }
-    ensures seen { 0 < result → AreSeen seen.new (attribute_rows elements.new.attributes) }
-    ensures refused { result ≡ 0
-        → attribute_rows elements.new.attributes ≡ attribute_rows elements.old.attributes }
+    requires holds { HoldsTag elements.old scope seen.old }
+    ensures { PutsPlain elements.old elements.new scope seen.old seen.new text.entry.now
+        start result }
 {
     let Some(one) = plain_attribute(text, start) else {
         return put_spaced_attribute(text, start, elements, scope, seen);
@@ -491,21 +469,9 @@ fn put_named_attribute<'input>(
         || slice_index text.now (read.name.end + 1) == 34) ≡ true }
     requires inside { read.name.end + 1 < length text.now }
     requires near { EndsSet is_value_byte text.now (read.name.end + 2) read.near }
-    requires scope { HasScope elements.old scope }
-    requires from { seen.old.from ≤ length (attribute_rows elements.old.attributes) }
-    requires done { AllByRecursion
-        (λ a. NamespaceWithin (length elements.old.namespaces.items.items) a.0.namespace)
-        (drop seen.old.from (attribute_rows elements.old.attributes)) }
-    requires seen { AreSeen seen.old (attribute_rows elements.old.attributes) }
-    ensures added { 0 < result → AddsPlain (map namespace_view elements.old.namespaces.items.items)
-        (few_in elements.old scope) elements.old.present seen.old.from text.entry.now
-        read.entry.start result (attribute_rows elements.old.attributes)
-        (attribute_rows elements.new.attributes) }
-    ensures others { elements.new ≡ record elements.old { attributes = elements.new.attributes } }
-    ensures from { seen.new.from ≡ seen.old.from }
-    ensures seen { 0 < result → AreSeen seen.new (attribute_rows elements.new.attributes) }
-    ensures refused { result ≡ 0
-        → attribute_rows elements.new.attributes ≡ attribute_rows elements.old.attributes }
+    requires holds { HoldsTag elements.old scope seen.old }
+    ensures { PutsPlain elements.old elements.new scope seen.old seen.new text.entry.now
+        read.entry.start result }
 {
     let start = read.start;
     let name = read.name.name;
@@ -561,20 +527,9 @@ fn put_prefixed_attribute<'input>(
     requires inside { part ≤ length text.now }
     requires passes { AllPass is_part_byte text.now start part }
     requires stops { part < length text.now → is_part_byte (slice_index text.now part) ≡ false }
-    requires scope { HasScope elements.old scope }
-    requires from { seen.old.from ≤ length (attribute_rows elements.old.attributes) }
-    requires done { AllByRecursion
-        (λ a. NamespaceWithin (length elements.old.namespaces.items.items) a.0.namespace)
-        (drop seen.old.from (attribute_rows elements.old.attributes)) }
-    requires seen { AreSeen seen.old (attribute_rows elements.old.attributes) }
-    ensures added { 0 < result → AddsPlain (map namespace_view elements.old.namespaces.items.items)
-        (few_in elements.old scope) elements.old.present seen.old.from text.entry.now start
-        result (attribute_rows elements.old.attributes) (attribute_rows elements.new.attributes) }
-    ensures others { elements.new ≡ record elements.old { attributes = elements.new.attributes } }
-    ensures from { seen.new.from ≡ seen.old.from }
-    ensures seen { 0 < result → AreSeen seen.new (attribute_rows elements.new.attributes) }
-    ensures refused { result ≡ 0
-        → attribute_rows elements.new.attributes ≡ attribute_rows elements.old.attributes }
+    requires holds { HoldsTag elements.old scope seen.old }
+    ensures { PutsPlain elements.old elements.new scope seen.old seen.new text.entry.now
+        start result }
 {
     if !is_at(text, part, b':') {
         return put_other_attribute(text, start, elements, scope, seen);
@@ -627,20 +582,9 @@ fn put_attribute<'input>(
     requires short { length text.now < 2 ^ 32 }
     requires behind { at ≤ start }
     requires begins { begins is_name_start text.now start ≡ true }
-    requires scope { HasScope elements.old scope }
-    requires from { seen.old.from ≤ length (attribute_rows elements.old.attributes) }
-    requires done { AllByRecursion
-        (λ a. NamespaceWithin (length elements.old.namespaces.items.items) a.0.namespace)
-        (drop seen.old.from (attribute_rows elements.old.attributes)) }
-    requires seen { AreSeen seen.old (attribute_rows elements.old.attributes) }
-    ensures added { 0 < result → AddsPlain (map namespace_view elements.old.namespaces.items.items)
-        (few_in elements.old scope) elements.old.present seen.old.from text.entry.now start
-        result (attribute_rows elements.old.attributes) (attribute_rows elements.new.attributes) }
-    ensures others { elements.new ≡ record elements.old { attributes = elements.new.attributes } }
-    ensures from { seen.new.from ≡ seen.old.from }
-    ensures seen { 0 < result → AreSeen seen.new (attribute_rows elements.new.attributes) }
-    ensures refused { result ≡ 0
-        → attribute_rows elements.new.attributes ≡ attribute_rows elements.old.attributes }
+    requires holds { HoldsTag elements.old scope seen.old }
+    ensures { PutsPlain elements.old elements.new scope seen.old seen.new text.entry.now
+        start result }
 {
     let window = Window::new(text, at);
     let part = window.part_end(text, start);

@@ -12,8 +12,8 @@ use Rattle.rox_build.specs.PlainTag.{few_in, IsValueStart, IsPlainAttribute}
 use Rattle.rox_build.proofs.PlainTags.{attribute_reads, value_is, value_starts, usual_are, quote_is_some}
 use Rattle.rox_build.proofs.plain_tag.put_named_attribute.Goals as goal
 
-pub returns-clause-added : goal.returns-clause-added
-returns-clause-added c = λ _.
+pub returns : goal.returns
+returns c =
     let src = c.args.text.now in
     let i = c.args.read.start in
     let name = c.args.read.name.name in
@@ -72,7 +72,7 @@ returns-clause-added c = λ _.
     let put = c.put_usual_attribute.ensures in
     let true = c.if-not-put_usual_attribute.false in
     let places = usual_are i (n - i - length name.local.now) (length name.local.now) (length c.range.result.now) n s e (omega arith) place (omega (arith, done, long, size)) in
-    record {
+    record { added = λ _. record {
       one = one;
       plain = plain;
       other = sym c.is_namespace_decl.ensures ∙ c.if-is_namespace_decl.false;
@@ -81,4 +81,4 @@ returns-clause-added c = λ _.
           (put.added true) (subst (λ m. NamespaceWithin m space) (sym (length-map t.namespaces.items.items namespace_view)) found.within)
           (λ scope h. found.there scope h) (λ scope h. found.known scope h) (put.first true);
       end = refl;
-    }
+    }; others = search; from = search; seen = λ _. put.seen true; refused = λ none. absurd (omega (arith, none, done)) }

@@ -1,18 +1,18 @@
-use Rattle.std.proofs.Common.{refl, sym, ◌∙◌}
+use Rattle.std.proofs.Common.{refl, sym, ◌∙◌, arith}
 use Rattle.rox_build.proofs.PlainTags.{few_within, few_is}
 use Rattle.rox_build.proofs.plain_tag.put_other_attribute.Goals as goal
 
 pub put_resolved-requires-clause-within : goal.put_resolved-requires-clause-within
 put_resolved-requires-clause-within c =
-    few_within c.args.elements.now c.as_slice-namespaces.result.now c.deref.result.now c.deref-2.result.now c.in-Some-few_places.places.now c.args.scope c.as_slice-namespaces.ensures.value c.deref.ensures.value c.deref-2.ensures.value c.requires.scope.places c.in-Some-few_places.ensures.few
+    few_within c.args.elements.now c.as_slice-namespaces.result.now c.deref.result.now c.deref-2.result.now c.in-Some-few_places.places.now c.args.scope c.as_slice-namespaces.ensures.value c.deref.ensures.value c.deref-2.ensures.value c.requires.holds.scope.places c.in-Some-few_places.ensures.few
 
-pub returns-clause-added : goal.returns-clause-added
-returns-clause-added c = λ some.
+pub returns : goal.returns
+returns c =
     let few = few_is c.args.elements.now c.deref.result.now c.deref-2.result.now c.in-Some-few_places.places.now c.args.scope c.deref.ensures.value c.deref-2.ensures.value c.in-Some-few_places.ensures.few in
-    record {
+    record { added = λ some. record {
       one = c.in-Some.one;
       plain = c.in-Some.ensures.read;
       other = sym c.is_namespace_decl.ensures ∙ c.if-is_namespace_decl.false;
       added = rw (c.as_slice-namespaces.ensures.value, few) at (c.put_resolved.ensures.added c.if-not-put_resolved.false);
       end = refl;
-    }
+    }; others = search; from = search; seen = λ _. c.put_resolved.ensures.seen c.if-not-put_resolved.false; refused = λ none. absurd (omega (arith, none, c.in-Some.ensures.read.onward)) }

@@ -1,4 +1,5 @@
-use Rattle.std.proofs.Common.{◌<◌, ℕ, length, map, refl, sym, subst, ◌∙◌, arith}
+use Rattle.std.proofs.Common.{◌<◌, ℕ, length, map, refl, sym, ap, subst, ◌∙◌, arith}
+use Rattle.std.proofs.lemmas.List.{length-append}
 use Rattle.std.specs.Str.{IsCharBoundary}
 use Rattle.rox_build.specs.PlainTag.{PlainSoFar, few_in}
 use Rattle.rox_tables.specs.Rows.{namespace_view, attribute_rows}
@@ -26,15 +27,12 @@ returns-then-here-at-clause-read c =
     ends_or_not (map namespace_view t.namespaces.items.items) (few_in t c.args.scope) t.present c.args.text.now c.args.start (attribute_rows t.attributes) l.at near.result (attribute_rows l.elements.attributes) c.tag_end.result
     l.invariant.so_far near.ensures.onward near.ensures.end c.tag_end.ensures.opens c.tag_end.ensures.closes
 
-pub put_attribute-at-requires-clause-scope : goal.put_attribute-at-requires-clause-scope
-put_attribute-at-requires-clause-scope c = scope_stays c.args.elements.now c.loop-at.elements c.args.scope c.loop-at.invariant.others c.requires.scope
-
-pub put_attribute-at-requires-clause-done : goal.put_attribute-at-requires-clause-done
-put_attribute-at-requires-clause-done c =
+pub put_attribute-at-requires-clause-holds : goal.put_attribute-at-requires-clause-holds
+put_attribute-at-requires-clause-holds c =
     let l = c.loop-at in
     let t = c.args.elements.now in
-    rw l.invariant.others
-    (done_within t.namespaces.items.items (few_in t c.args.scope) t.present c.args.text.now c.args.start l.seen.from (attribute_rows t.attributes) l.at (attribute_rows l.elements.attributes) l.invariant.so_far l.invariant.from)
+    record { from = omega (arith, l.invariant.from, ap length l.invariant.so_far.rows, length-append (attribute_rows t.attributes) l.invariant.so_far.more); seen = l.invariant.seen; scope = scope_stays t l.elements c.args.scope l.invariant.others c.requires.scope; done = rw l.invariant.others
+    (done_within t.namespaces.items.items (few_in t c.args.scope) t.present c.args.text.now c.args.start l.seen.from (attribute_rows t.attributes) l.at (attribute_rows l.elements.attributes) l.invariant.so_far l.invariant.from) }
 
 pub loop-at-preserved : goal.loop-at-preserved
 loop-at-preserved c =
