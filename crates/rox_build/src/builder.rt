@@ -399,10 +399,7 @@ impl<'input> Builder<'input> {
         requires { at ≤ length text.now }
         ensures ok { OnOk result ((end : ℕ) (stack : Open) (done : Forest Item)
             → Represents end stack done self.old → Represents end stack done self.new) }
-        ensures tables { self.new.tables ≡ self.old.tables }
-        ensures opened { self.new.opened ≡ self.old.opened }
-        ensures limit { self.new.nodes_limit ≡ self.old.nodes_limit }
-        ensures openings_left { self.new.openings_left ≡ self.old.openings_left }
+        ensures kept { KeepsOpen self.old self.new }
     {
         if !self.is_joining() {
             return Ok(());
@@ -552,10 +549,7 @@ impl<'input> Builder<'input> {
             → Adds total result self.new
             (with_item self.old.nodes_limit s at
             (Text start end (string_bytes self.old.buffers.scratch) false)) }
-        ensures tables { self.new.tables ≡ self.old.tables }
-        ensures opened { self.new.opened ≡ self.old.opened }
-        ensures limit { self.new.nodes_limit ≡ self.old.nodes_limit }
-        ensures openings_left { self.new.openings_left ≡ self.old.openings_left }
+        ensures kept { KeepsOpen self.old self.new }
     {
         self.room()?;
         self.joined.text.clear();
@@ -579,10 +573,7 @@ impl<'input> Builder<'input> {
             → Adds total result self.new
             (with_item self.old.nodes_limit s at
             (Text start end (string_bytes self.old.buffers.scratch) false)) }
-        ensures tables { self.new.tables ≡ self.old.tables }
-        ensures opened { self.new.opened ≡ self.old.opened }
-        ensures limit { self.new.nodes_limit ≡ self.old.nodes_limit }
-        ensures openings_left { self.new.openings_left ≡ self.old.openings_left }
+        ensures kept { KeepsOpen self.old self.new }
     {
         if more && !self.is_text_open() {
             return self.waiting_piece(start, end);

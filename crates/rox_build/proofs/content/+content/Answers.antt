@@ -128,11 +128,11 @@ ended_character_data-returns-clause-value t c = λ limit end es s declared h.
       r.1,
       record {
         here = k.here;
-        limit_is = c.end_run.ensures.limit ∙ k.limit_is;
+        limit_is = c.end_run.ensures.kept.limit ∙ k.limit_is;
         shows = c.in_ok-end_run.ensures.ok end r.0.stack r.0.done k.shows;
-        namespaces = rw c.end_run.ensures.tables k.namespaces;
-        attributes = rw c.end_run.ensures.tables k.attributes;
-        openings_left_is = c.end_run.ensures.openings_left ∙ k.openings_left_is;
+        namespaces = rw c.end_run.ensures.kept.tables k.namespaces;
+        attributes = rw c.end_run.ensures.kept.tables k.attributes;
+        openings_left_is = c.end_run.ensures.kept.openings_left ∙ k.openings_left_is;
       },
     )
 
