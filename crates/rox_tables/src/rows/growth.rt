@@ -76,7 +76,11 @@ pub fn with_room<T: Drop>(alloc: Global, room: usize) -> Vec<T>
 /// An empty table with room for so many rows. Where that is refused and the table would not be small, it has room for `fewer`. The
 /// only error is want of memory.
 #[inline(always)]
-pub(crate) fn first_room<T: Drop>(alloc: Global, room: usize, fewer: usize) -> Result<Vec<T>, AllocError>
+pub(crate) fn first_room<T: Drop>(
+    alloc: Global,
+    room: usize,
+    fewer: usize,
+) -> Result<Vec<T>, AllocError>
     ensures items { IfOk result (λ table. table.items ≡ []) }
 {
     if let Ok(table) = Vec::with_capacity(alloc, room) {

@@ -62,11 +62,11 @@ loop-left-preserved c =
           let within : g.behind.at < length src = omega (arith, c.if-here-bytes.false, len, g.sees.here) in
           let between : Between context end c.if-bytes-here-ne60.read c.if-bytes-here-ne60.here c.if-bytes-here-ne60.builder src s = elim c.if-bytes-here-ne60.branch [
             | then-bytes-here-ne60+else-not-plain_character_data w ↦ (
-              let yes = w.if-not-plain_character_data.false in
-              rw (w.read-is, w.here-is, w.builder-is)
-              (reads_run context end c.loop-left.read src s c.loop-left.here w.plain_character_data.new.cursor c.loop-left.builder w.plain_character_data.new.builder (g, inner, within) w.plain_character_data.ensures.opened
-              (rw (step_is_run context src _ g.behind c.loop-left.here.pos (c.as_bytes-bytes.ensures.value ∙ s0) g.sees.here w.if-bytes-here-ne60.true) (rw s0 at (w.plain_character_data.ensures.value yes context end g.behind g.sees)))
-              (rw s0 at (w.plain_character_data.ensures.behind yes))))
+                let yes = w.if-not-plain_character_data.false in
+                rw (w.read-is, w.here-is, w.builder-is)
+                (reads_run context end c.loop-left.read src s c.loop-left.here w.plain_character_data.new.cursor c.loop-left.builder w.plain_character_data.new.builder (g, inner, within) w.plain_character_data.ensures.opened
+                (rw (step_is_run context src _ g.behind c.loop-left.here.pos (c.as_bytes-bytes.ensures.value ∙ s0) g.sees.here w.if-bytes-here-ne60.true) (rw s0 at (w.plain_character_data.ensures.value yes context end g.behind g.sees)))
+                (rw s0 at (w.plain_character_data.ensures.behind yes))))
             | else-bytes-here-ne60 w ↦ rw (w.read-is, w.here-is, w.builder-is) (g, inner, within)
           ] in
           reads_markup context end c.if-bytes-here-ne60.read src s c.if-bytes-here-ne60.here c.plain_markup.new.cursor c.if-bytes-here-ne60.builder c.plain_markup.new.builder between
@@ -83,11 +83,11 @@ returns-then-not-plain_markup-clause-value c = λ context end s around h.
     let within : g.behind.at < length src = omega (arith, c.if-here-bytes.false, len, g.sees.here) in
     let between : Between context end c.if-bytes-here-ne60.read c.if-bytes-here-ne60.here c.if-bytes-here-ne60.builder src s = elim c.if-bytes-here-ne60.branch [
       | then-bytes-here-ne60+else-not-plain_character_data w ↦ (
-        let yes = w.if-not-plain_character_data.false in
-        rw (w.read-is, w.here-is, w.builder-is)
-        (reads_run context end c.loop-left.read src s c.loop-left.here w.plain_character_data.new.cursor c.loop-left.builder w.plain_character_data.new.builder (g, inner, within) w.plain_character_data.ensures.opened
-        (rw (step_is_run context src _ g.behind c.loop-left.here.pos (c.as_bytes-bytes.ensures.value ∙ s0) g.sees.here w.if-bytes-here-ne60.true) (rw s0 at (w.plain_character_data.ensures.value yes context end g.behind g.sees)))
-        (rw s0 at (w.plain_character_data.ensures.behind yes))))
+          let yes = w.if-not-plain_character_data.false in
+          rw (w.read-is, w.here-is, w.builder-is)
+          (reads_run context end c.loop-left.read src s c.loop-left.here w.plain_character_data.new.cursor c.loop-left.builder w.plain_character_data.new.builder (g, inner, within) w.plain_character_data.ensures.opened
+          (rw (step_is_run context src _ g.behind c.loop-left.here.pos (c.as_bytes-bytes.ensures.value ∙ s0) g.sees.here w.if-bytes-here-ne60.true) (rw s0 at (w.plain_character_data.ensures.value yes context end g.behind g.sees)))
+          (rw s0 at (w.plain_character_data.ensures.behind yes))))
       | else-bytes-here-ne60 w ↦ rw (w.read-is, w.here-is, w.builder-is) (g, inner, within)
     ] in
     reads_kept context end c.if-bytes-here-ne60.read src s c.if-bytes-here-ne60.here c.plain_markup.new.cursor c.if-bytes-here-ne60.builder c.plain_markup.new.builder between.0

@@ -72,13 +72,19 @@ returns c =
     let put = c.put_usual_attribute.ensures in
     let true = c.if-not-put_usual_attribute.false in
     let places = usual_are i (n - i - length name.local.now) (length name.local.now) (length c.range.result.now) n s e (omega arith) place (omega (arith, done, long, size)) in
-    record { added = λ _. record {
-      one = one;
-      plain = plain;
-      other = sym c.is_namespace_decl.ensures ∙ c.if-is_namespace_decl.false;
-      added = adds_usual namespaces (few_in t c.args.scope) t.present c.args.seen.now.from (attribute_rows t.attributes) _ one usual space
-          (ap (λ (p : AttributePlaces). (record { local = name.local; value = Borrowed c.range.result; namespace = space }, p)) (sym places))
-          (put.added true) (subst (λ m. NamespaceWithin m space) (sym (length-map t.namespaces.items.items namespace_view)) found.within)
-          (λ scope h. found.there scope h) (λ scope h. found.known scope h) (put.first true);
-      end = refl;
-    }; others = search; from = search; seen = λ _. put.seen true; refused = λ none. absurd (omega (arith, none, done)) }
+    record {
+      added = λ _. record {
+        one = one;
+        plain = plain;
+        other = sym c.is_namespace_decl.ensures ∙ c.if-is_namespace_decl.false;
+        added = adds_usual namespaces (few_in t c.args.scope) t.present c.args.seen.now.from (attribute_rows t.attributes) _ one usual space
+            (ap (λ (p : AttributePlaces). (record { local = name.local; value = Borrowed c.range.result; namespace = space }, p)) (sym places))
+            (put.added true) (subst (λ m. NamespaceWithin m space) (sym (length-map t.namespaces.items.items namespace_view)) found.within)
+            (λ scope h. found.there scope h) (λ scope h. found.known scope h) (put.first true);
+        end = refl;
+      };
+      others = search;
+      from = search;
+      seen = λ _. put.seen true;
+      refused = λ none. absurd (omega (arith, none, done));
+    }

@@ -9,10 +9,16 @@ put_resolved-requires-clause-within c =
 pub returns : goal.returns
 returns c =
     let few = few_is c.args.elements.now c.deref.result.now c.deref-2.result.now c.in-Some-few_places.places.now c.args.scope c.deref.ensures.value c.deref-2.ensures.value c.in-Some-few_places.ensures.few in
-    record { added = λ some. record {
-      one = c.in-Some.one;
-      plain = c.in-Some.ensures.read;
-      other = sym c.is_namespace_decl.ensures ∙ c.if-is_namespace_decl.false;
-      added = rw (c.as_slice-namespaces.ensures.value, few) at (c.put_resolved.ensures.added c.if-not-put_resolved.false);
-      end = refl;
-    }; others = search; from = search; seen = λ _. c.put_resolved.ensures.seen c.if-not-put_resolved.false; refused = λ none. absurd (omega (arith, none, c.in-Some.ensures.read.onward)) }
+    record {
+      added = λ some. record {
+        one = c.in-Some.one;
+        plain = c.in-Some.ensures.read;
+        other = sym c.is_namespace_decl.ensures ∙ c.if-is_namespace_decl.false;
+        added = rw (c.as_slice-namespaces.ensures.value, few) at (c.put_resolved.ensures.added c.if-not-put_resolved.false);
+        end = refl;
+      };
+      others = search;
+      from = search;
+      seen = λ _. c.put_resolved.ensures.seen c.if-not-put_resolved.false;
+      refused = λ none. absurd (omega (arith, none, c.in-Some.ensures.read.onward));
+    }

@@ -31,8 +31,13 @@ pub put_attribute-at-requires-clause-holds : goal.put_attribute-at-requires-clau
 put_attribute-at-requires-clause-holds c =
     let l = c.loop-at in
     let t = c.args.elements.now in
-    record { from = omega (arith, l.invariant.from, ap length l.invariant.so_far.rows, length-append (attribute_rows t.attributes) l.invariant.so_far.more); seen = l.invariant.seen; scope = scope_stays t l.elements c.args.scope l.invariant.others c.requires.scope; done = rw l.invariant.others
-    (done_within t.namespaces.items.items (few_in t c.args.scope) t.present c.args.text.now c.args.start l.seen.from (attribute_rows t.attributes) l.at (attribute_rows l.elements.attributes) l.invariant.so_far l.invariant.from) }
+    record {
+      from = omega (arith, l.invariant.from, ap length l.invariant.so_far.rows, length-append (attribute_rows t.attributes) l.invariant.so_far.more);
+      seen = l.invariant.seen;
+      scope = scope_stays t l.elements c.args.scope l.invariant.others c.requires.scope;
+      done = rw l.invariant.others
+          (done_within t.namespaces.items.items (few_in t c.args.scope) t.present c.args.text.now c.args.start l.seen.from (attribute_rows t.attributes) l.at (attribute_rows l.elements.attributes) l.invariant.so_far l.invariant.from);
+    }
 
 pub loop-at-preserved : goal.loop-at-preserved
 loop-at-preserved c =
