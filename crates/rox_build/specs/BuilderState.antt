@@ -236,6 +236,11 @@ pub record IsReady (n : ℕ) (b : Builder) : Type 0 where
   pub small : vec_len b.nodes.rows + n < 2 ^ 32
   pub settled : waiting b.pending ≡ 0
 
+-- a step stays in its source, and what the builder holds is consistent
+pub record GoesOn (old new : Cursor) (b : Builder) : Type 0 where
+  pub source : new.text ≡ old.text
+  pub fine : IsConsistent b.tables b.opened.items
+
 -- neither the tables of elements change nor the limits
 pub record KeepsTables (old new : Builder) : Type 0 where
   pub tables : new.tables ≡ old.tables

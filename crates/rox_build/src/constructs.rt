@@ -15,7 +15,7 @@ ghost use Rattle.rox_grammar.specs.Entities.{Entity};
 ghost use Rattle.rox_reading.specs.Refusals.{lifted};
 ghost use Rattle.rox_values.specs.DeclaredEntities.{AreDeclared};
 ghost use Rattle.rox_values.specs.Contexts.{context_of};
-ghost use Rattle.rox_build.specs.BuilderState.{IsConsistent, IsInState, ScansTo, ParsesTo, Represents};
+ghost use Rattle.rox_build.specs.BuilderState.{GoesOn, IsConsistent, IsInState, ScansTo, ParsesTo, Represents};
 
 use crate::builder::Builder;
 use crate::tag::{TagContext, start_tag};
@@ -42,8 +42,7 @@ pub fn comment<'input>(
     ensures value { (limit end : ℕ) (s : State) → IsInState limit end s cursor.old builder.old
         → ScansTo limit end result cursor.new builder.new
         (lifted (machine.comment_step limit cursor.old.text.now s)) }
-    ensures fine { OnOk result (IsConsistent builder.new.tables builder.new.opened.items) }
-    ensures source { cursor.new.text ≡ cursor.old.text }
+    ensures goes { OnOk result (GoesOn cursor.old cursor.new builder.new) }
 {
     let start = cursor.pos;
     let text = cursor.comment()?;
@@ -66,8 +65,7 @@ pub fn instruction<'input>(
     ensures value { (limit end : ℕ) (s : State) → IsInState limit end s cursor.old builder.old
         → ScansTo limit end result cursor.new builder.new
         (lifted (machine.instruction_step limit cursor.old.text.now s)) }
-    ensures fine { OnOk result (IsConsistent builder.new.tables builder.new.opened.items) }
-    ensures source { cursor.new.text ≡ cursor.old.text }
+    ensures goes { OnOk result (GoesOn cursor.old cursor.new builder.new) }
 {
     let start = cursor.pos;
     let pi = cursor.instruction()?;
@@ -93,8 +91,7 @@ fn cdata<'input>(
     ensures value { (limit end : ℕ) (s : State) → IsInState limit end s cursor.old builder.old
         → ScansTo limit end result cursor.new builder.new
         (lifted (machine.cdata_step limit cursor.old.text.now s)) }
-    ensures fine { OnOk result (IsConsistent builder.new.tables builder.new.opened.items) }
-    ensures source { cursor.new.text ≡ cursor.old.text }
+    ensures goes { OnOk result (GoesOn cursor.old cursor.new builder.new) }
 {
     let start = cursor.pos;
     let raw = cursor.cdata()?;
@@ -117,8 +114,7 @@ fn comment_or_section<'input>(
         → IsInState context.limit end s cursor.old builder.old
         → ScansTo context.limit end result cursor.new builder.new
         (machine.step context cursor.old.text.now s) }
-    ensures fine { OnOk result (IsConsistent builder.new.tables builder.new.opened.items) }
-    ensures source { cursor.new.text ≡ cursor.old.text }
+    ensures goes { OnOk result (GoesOn cursor.old cursor.new builder.new) }
 {
     if cursor.starts(Word::CommentStart) {
         return comment(alloc, cursor, builder);
@@ -157,8 +153,7 @@ pub fn element<'input>(
         → AreDeclared es context.entry.entities.now → IsInState limit end s cursor.old builder.old
         → ParsesTo limit end result cursor.new builder.new
         (machine.tag_step (context_of limit es context.entry) cursor.old.text.now s) }
-    ensures fine { OnOk result (IsConsistent builder.new.tables builder.new.opened.items) }
-    ensures source { cursor.new.text ≡ cursor.old.text }
+    ensures goes { OnOk result (GoesOn cursor.old cursor.new builder.new) }
 {
     let start = cursor.pos;
     let cut = cut_off_fault(builder, context);
@@ -224,8 +219,7 @@ pub fn end_tag<'input>(
         → IsInState limit end s cursor.old builder.old
         → ScansTo limit end result cursor.new builder.new
         (lifted (machine.end_step (context_of limit es context.entry) cursor.old.text.now s)) }
-    ensures fine { OnOk result (IsConsistent builder.new.tables builder.new.opened.items) }
-    ensures source { cursor.new.text ≡ cursor.old.text }
+    ensures goes { OnOk result (GoesOn cursor.old cursor.new builder.new) }
 {
     let start = cursor.pos;
     let tag = cursor.end_tag()?;
@@ -261,8 +255,7 @@ pub fn markup<'input>(
         → AreDeclared es context.entry.entities.now → IsInState limit end s cursor.old builder.old
         → ParsesTo limit end result cursor.new builder.new
         (machine.step (context_of limit es context.entry) cursor.old.text.now s) }
-    ensures fine { OnOk result (IsConsistent builder.new.tables builder.new.opened.items) }
-    ensures source { cursor.new.text ≡ cursor.old.text }
+    ensures goes { OnOk result (GoesOn cursor.old cursor.new builder.new) }
 {
     let bytes = cursor.text.as_bytes();
     let next = bytes[cursor.pos + 1];

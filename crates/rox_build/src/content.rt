@@ -12,7 +12,7 @@ ghost use Rattle.rox_reading.specs.Values as spec;
 ghost use Rattle.rox_scan.specs.DoctypeViews.{replacement_view};
 ghost use Rattle.rox_values.specs.DeclaredEntities.{AreDeclared};
 ghost use Rattle.rox_values.specs.Contexts.{context_of};
-ghost use Rattle.rox_build.specs.BuilderState.{IsConsistent, IsInState, ParsesTo, HoldsState, ParsesToHeld, GivesPart, Adds, Represents};
+ghost use Rattle.rox_build.specs.BuilderState.{GoesOn, IsConsistent, IsInState, ParsesTo, HoldsState, ParsesToHeld, GivesPart, Adds, Represents};
 ghost use Rattle.rox_build.specs.DataParts.{GivesDataPart, next_part};
 
 use crate::builder::Builder;
@@ -45,8 +45,7 @@ fn slow_character_data<'input>(
         → AreDeclared es context.entry.entities.now → IsInState limit end s cursor.old builder.old
         → ParsesTo limit end result cursor.new builder.new
         (machine.character_data_step (context_of limit es context.entry) cursor.old.text.now s) }
-    ensures fine { OnOk result (IsConsistent builder.new.tables builder.new.opened.items) }
-    ensures source { cursor.new.text ≡ cursor.old.text }
+    ensures goes { OnOk result (GoesOn cursor.old cursor.new builder.new) }
 {
     let start = cursor.pos;
     let text = cursor.text;
@@ -81,8 +80,7 @@ fn ended_character_data<'input>(
         → AreDeclared es context.entry.entities.now → IsInState limit end s cursor.old builder.old
         → ParsesTo limit end result cursor.new builder.new
         (machine.character_data_step (context_of limit es context.entry) cursor.old.text.now s) }
-    ensures fine { OnOk result (IsConsistent builder.new.tables builder.new.opened.items) }
-    ensures source { cursor.new.text ≡ cursor.old.text }
+    ensures goes { OnOk result (GoesOn cursor.old cursor.new builder.new) }
 {
     slow_character_data(alloc, cursor, builder, context)?;
     builder.end_run(alloc, cursor.text, cursor.pos)?;
@@ -103,8 +101,7 @@ fn character_data<'input>(
         → AreDeclared es context.entry.entities.now → IsInState limit end s cursor.old builder.old
         → ParsesTo limit end result cursor.new builder.new
         (machine.character_data_step (context_of limit es context.entry) cursor.old.text.now s) }
-    ensures fine { OnOk result (IsConsistent builder.new.tables builder.new.opened.items) }
-    ensures source { cursor.new.text ≡ cursor.old.text }
+    ensures goes { OnOk result (GoesOn cursor.old cursor.new builder.new) }
 {
     let start = cursor.pos;
     let text = cursor.text;
@@ -134,8 +131,7 @@ fn data_parts<'input>(
         → ParsesTo limit end result cursor.new builder.new
         (machine.data_parts (context_of limit es context.entry)
         (length cursor.old.text.now) cursor.old.text.now start stop s) }
-    ensures fine { OnOk result (IsConsistent builder.new.tables builder.new.opened.items) }
-    ensures source { cursor.new.text ≡ cursor.old.text }
+    ensures goes { OnOk result (GoesOn cursor.old cursor.new builder.new) }
 {
     for _turn in 0..cursor.text.len() {
         match part_piece(alloc, cursor, builder, context, start, stop)? {
@@ -191,8 +187,7 @@ fn other_part_piece<'input>(
         → AreDeclared es context.entry.entities.now → IsInState limit end s cursor.old builder.old
         → GivesDataPart limit end result cursor.new builder.new
         (next_part (context_of limit es context.entry) cursor.old.text.now start stop s) }
-    ensures fine { OnOk result (IsConsistent builder.new.tables builder.new.opened.items) }
-    ensures source { cursor.new.text ≡ cursor.old.text }
+    ensures goes { OnOk result (GoesOn cursor.old cursor.new builder.new) }
 {
     let next = part(cursor, &mut builder.buffers, context, stop)?;
     if builder.buffers.scratch.is_empty() {
@@ -218,8 +213,7 @@ fn part_piece<'input>(
         → AreDeclared es context.entry.entities.now → IsInState limit end s cursor.old builder.old
         → GivesDataPart limit end result cursor.new builder.new
         (next_part (context_of limit es context.entry) cursor.old.text.now start stop s) }
-    ensures fine { OnOk result (IsConsistent builder.new.tables builder.new.opened.items) }
-    ensures source { cursor.new.text ≡ cursor.old.text }
+    ensures goes { OnOk result (GoesOn cursor.old cursor.new builder.new) }
 {
     if context.main && builder.is_joining() {
         return data_part(cursor, stop, context, &mut builder.joined.text);
@@ -377,8 +371,7 @@ fn other_step<'input>(
         → AreDeclared es context.entry.entities.now → IsInState limit end s cursor.old builder.old
         → ParsesTo limit end result cursor.new builder.new
         (machine.step (context_of limit es context.entry) cursor.old.text.now s) }
-    ensures fine { OnOk result (IsConsistent builder.new.tables builder.new.opened.items) }
-    ensures source { cursor.new.text ≡ cursor.old.text }
+    ensures goes { OnOk result (GoesOn cursor.old cursor.new builder.new) }
 {
     let bytes = cursor.text.as_bytes();
     if bytes[cursor.pos] != b'<' {
@@ -412,8 +405,7 @@ fn general_step<'input>(
         → AreDeclared es context.entry.entities.now → IsInState limit end s cursor.old builder.old
         → ParsesTo limit end result cursor.new builder.new
         (machine.step (context_of limit es context.entry) cursor.old.text.now s) }
-    ensures fine { OnOk result (IsConsistent builder.new.tables builder.new.opened.items) }
-    ensures source { cursor.new.text ≡ cursor.old.text }
+    ensures goes { OnOk result (GoesOn cursor.old cursor.new builder.new) }
 {
     let bytes = cursor.text.as_bytes();
     if bytes[cursor.pos] != b'<' && !builder.is_text_open() {
@@ -437,8 +429,7 @@ fn step<'input>(
         → AreDeclared es context.entry.entities.now → IsInState limit end s cursor.old builder.old
         → ParsesTo limit end result cursor.new builder.new
         (machine.step (context_of limit es context.entry) cursor.old.text.now s) }
-    ensures fine { OnOk result (IsConsistent builder.new.tables builder.new.opened.items) }
-    ensures source { cursor.new.text ≡ cursor.old.text }
+    ensures goes { OnOk result (GoesOn cursor.old cursor.new builder.new) }
 {
     if plain_step(cursor, builder, context.open_around) {
         return Ok(());
@@ -463,8 +454,7 @@ fn inner_step<'input>(
         → AreDeclared es context.entry.entities.now → IsInState limit end s cursor.old builder.old
         → ParsesTo limit end result cursor.new builder.new
         (machine.step (context_of limit es context.entry) cursor.old.text.now s) }
-    ensures fine { OnOk result (IsConsistent builder.new.tables builder.new.opened.items) }
-    ensures source { cursor.new.text ≡ cursor.old.text }
+    ensures goes { OnOk result (GoesOn cursor.old cursor.new builder.new) }
 {
     let bytes = cursor.text.as_bytes();
     if bytes[cursor.pos] != b'<' {
@@ -486,8 +476,7 @@ pub fn content<'input>(
         → ParsesTo limit end result cursor.new builder.new
         (machine.drive (context_of limit es context.entry)
         (length cursor.old.text.now) cursor.old.text.now s) }
-    ensures fine { OnOk result (IsConsistent builder.new.tables builder.new.opened.items) }
-    ensures source { cursor.new.text ≡ cursor.old.text }
+    ensures goes { OnOk result (GoesOn cursor.old cursor.new builder.new) }
 {
     let mut left = cursor.text.len();
     while left > 0 {

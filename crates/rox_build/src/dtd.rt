@@ -12,7 +12,7 @@ ghost use Rattle.rox_build.specs.Requests.{Reply, Allows, MayAsk};
 ghost use Rattle.rox_scan.specs.DoctypeViews.{definition_view, request_view};
 ghost use Rattle.rox_build.specs.Asking.{AskOutcome, IsDefined, IsEntityRead, IsSubsetSoFar, IsDoctypeRead, ItemOutcome};
 ghost use Rattle.rox_values.specs.DeclaredEntities.{AreDeclared};
-ghost use Rattle.rox_build.specs.BuilderState.{IsConsistent, IsInState};
+ghost use Rattle.rox_build.specs.BuilderState.{GoesOn, IsConsistent, IsInState};
 
 use crate::builder::Builder;
 use crate::constructs::{comment, instruction};
@@ -109,8 +109,7 @@ fn item<'input, R: EntityResolver<'input>>(
         (Allows R.allows resolver.now) run cursor.old builder.old entities.old
         → ItemOutcome limit end start m cursor.old.text.now
         (Allows R.allows resolver.now) run cursor.new builder.new entities.new result }
-    ensures fine { OnOk result (IsConsistent builder.new.tables builder.new.opened.items) }
-    ensures source { cursor.new.text ≡ cursor.old.text }
+    ensures goes { OnOk result (GoesOn cursor.old cursor.new builder.new) }
 {
     cursor.spaces();
     if cursor.starts(Word::EntityStart) {
@@ -156,8 +155,7 @@ fn subset<'input, R: EntityResolver<'input>>(
         (λ asked x. IsDoctypeRead limit end
         (λ replies. reading.subset limit start (length cursor.old.text.now) cursor.old.text.now
         (left_with replies d)) cursor.new builder.new entities.new asked) result }
-    ensures fine { OnOk result (IsConsistent builder.new.tables builder.new.opened.items) }
-    ensures source { cursor.new.text ≡ cursor.old.text }
+    ensures goes { OnOk result (GoesOn cursor.old cursor.new builder.new) }
 {
     for _turn in 0..cursor.text.len() {
         if cursor.is_at_end() {
@@ -188,8 +186,7 @@ pub fn document_type<'input, R: EntityResolver<'input>>(
         (λ asked x. IsDoctypeRead limit end
         (λ replies. reading.doctype_step limit cursor.old.text.now (left_with replies d)) cursor.new
         builder.new entities.new asked) result }
-    ensures fine { OnOk result (IsConsistent builder.new.tables builder.new.opened.items) }
-    ensures source { cursor.new.text ≡ cursor.old.text }
+    ensures goes { OnOk result (GoesOn cursor.old cursor.new builder.new) }
 {
     let start = cursor.pos;
     cursor.doctype_head()?;

@@ -12,7 +12,7 @@ ghost use Rattle.rox_grammar.specs.declared.fault.Word.TheVariants as word;
 ghost use Rattle.rox_reading.specs.Machine as machine;
 ghost use Rattle.rox_reading.specs.Refusals.{lifted};
 ghost use Rattle.rox_reading.specs.State.{State};
-ghost use Rattle.rox_build.specs.BuilderState.{IsConsistent, IsInState, IsReady, KeepsState, ScansTo};
+ghost use Rattle.rox_build.specs.BuilderState.{GoesOn, IsConsistent, IsInState, IsReady, KeepsState, ScansTo};
 ghost use Rattle.rox_build.specs.PlainSteps.{Reads};
 ghost use Rattle.rox_build.specs.PendingText.{waiting};
 ghost use Rattle.rox_scan.specs.declared.cursor.Cursor.{Cursor};
@@ -116,8 +116,7 @@ pub fn plain_main_line<'input>(
         → IsInState context.limit end s cursor.old builder.old
         → IsInState context.limit end s cursor.new builder.new }
     ensures place { result ≡ false → cursor.new ≡ cursor.old }
-    ensures fine { IsConsistent builder.new.tables builder.new.opened.items }
-    ensures source { cursor.new.text ≡ cursor.old.text }
+    ensures goes { GoesOn cursor.old cursor.new builder.new }
 {
     if !main {
         return false;
@@ -144,8 +143,7 @@ fn plain_end_tag(cursor: &mut Cursor<'_>, builder: &mut Builder<'_>, open_around
     ensures other { result ≡ false → (cursor.new ≡ cursor.old) × (builder.new ≡ builder.old) }
     ensures ready { result ≡ true → (n : ℕ) → IsReady (n + 1) builder.old
         → IsReady n builder.new }
-    ensures fine { IsConsistent builder.new.tables builder.new.opened.items }
-    ensures source { cursor.new.text ≡ cursor.old.text }
+    ensures goes { GoesOn cursor.old cursor.new builder.new }
 {
     if builder.opened.len() <= open_around {
         return false;
@@ -192,8 +190,7 @@ fn bare_element<'input>(
     ensures other { result ≡ false → (cursor.new ≡ cursor.old) × (builder.new ≡ builder.old) }
     ensures ready { result ≡ true → (n : ℕ) → IsReady (n + 1) builder.old
         → IsReady n builder.new }
-    ensures fine { IsConsistent builder.new.tables builder.new.opened.items }
-    ensures source { cursor.new.text ≡ cursor.old.text }
+    ensures goes { GoesOn cursor.old cursor.new builder.new }
 {
     // Most tags have more than a name, which is seen first.
     if !is_at(cursor.text, part, b'>') || !builder.has_room_to_open() {
@@ -289,8 +286,7 @@ fn plain_comment<'input>(cursor: &mut Cursor<'input>, builder: &mut Builder<'inp
     ensures other { result ≡ false → (cursor.new ≡ cursor.old) × (builder.new ≡ builder.old) }
     ensures ready { result ≡ true → (n : ℕ) → IsReady (n + 1) builder.old
         → IsReady n builder.new }
-    ensures fine { IsConsistent builder.new.tables builder.new.opened.items }
-    ensures source { cursor.new.text ≡ cursor.old.text }
+    ensures goes { GoesOn cursor.old cursor.new builder.new }
 {
     let start = cursor.pos;
     let mut behind = *cursor;
@@ -358,8 +354,7 @@ fn plain_markup<'input>(
     ensures place { result ≡ false → cursor.new ≡ cursor.old }
     ensures ready { result ≡ true → (n : ℕ) → IsReady (n + 1) builder.old
         → IsReady n builder.new }
-    ensures fine { IsConsistent builder.new.tables builder.new.opened.items }
-    ensures source { cursor.new.text ≡ cursor.old.text }
+    ensures goes { GoesOn cursor.old cursor.new builder.new }
 {
     let bytes = cursor.text.as_bytes();
     if cursor.pos + 1 >= bytes.len() {
@@ -409,8 +404,7 @@ pub fn plain_stretch<'input>(
         → context.open_around ≡ open_around → IsInState context.limit end s cursor.old builder.old
         → Reads context end result cursor.new builder.new cursor.old.text.now s }
     ensures count { result ≤ 2 * pairs }
-    ensures fine { IsConsistent builder.new.tables builder.new.opened.items }
-    ensures source { cursor.new.text ≡ cursor.old.text }
+    ensures goes { GoesOn cursor.old cursor.new builder.new }
 {
     let mut here = *cursor;
     let mut read = 0;
@@ -460,8 +454,7 @@ pub fn plain_step<'input>(
         → IsInState context.limit end s cursor.old builder.old
         → IsInState context.limit end s cursor.new builder.new }
     ensures place { result ≡ false → cursor.new ≡ cursor.old }
-    ensures fine { IsConsistent builder.new.tables builder.new.opened.items }
-    ensures source { cursor.new.text ≡ cursor.old.text }
+    ensures goes { GoesOn cursor.old cursor.new builder.new }
 {
     let bytes = cursor.text.as_bytes();
     if bytes.len() > MOST_BYTES || builder.rows_left() == 0 {

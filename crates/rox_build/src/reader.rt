@@ -8,7 +8,7 @@ ghost use Rattle.rox_grammar.specs.Entities.{Entity};
 ghost use Rattle.rox_reading.specs.Refusals.{lifted};
 ghost use Rattle.rox_reading.specs.WholeText as whole;
 ghost use Rattle.rox_values.specs.DeclaredEntities.{AreDeclared};
-ghost use Rattle.rox_build.specs.BuilderState.{IsConsistent, IsInState, ScansTo, ParsesToWith};
+ghost use Rattle.rox_build.specs.BuilderState.{GoesOn, IsConsistent, IsInState, ScansTo, ParsesToWith};
 ghost use Rattle.rox_reading.specs.Doctype.{Dtd};
 ghost use Rattle.rox_reading.specs.Answering.{left_with};
 ghost use Rattle.rox_build.specs.Requests.{Allows, MayAsk};
@@ -52,8 +52,7 @@ fn misc<'input>(
     ensures value { (limit end : ℕ) (s : State) → IsInState limit end s cursor.old builder.old
         → ScansTo limit end result cursor.new builder.new
         (lifted (whole.misc limit (length cursor.old.text.now) cursor.old.text.now s)) }
-    ensures fine { OnOk result (IsConsistent builder.new.tables builder.new.opened.items) }
-    ensures source { cursor.new.text ≡ cursor.old.text }
+    ensures goes { OnOk result (GoesOn cursor.old cursor.new builder.new) }
 {
     for _turn in 0..cursor.text.len() {
         cursor.spaces();
@@ -80,8 +79,7 @@ fn body<'input>(
         → IsInState limit end s cursor.old builder.old
         → ParsesToWith limit end result cursor.new builder.new
         (whole.body limit es cursor.old.text.now s) }
-    ensures fine { OnOk result (IsConsistent builder.new.tables builder.new.opened.items) }
-    ensures source { cursor.new.text ≡ cursor.old.text }
+    ensures goes { OnOk result (GoesOn cursor.old cursor.new builder.new) }
 {
     if cursor.is_at_end() || cursor.text.as_bytes()[cursor.pos] != b'<' {
         return Ok(false);
@@ -104,8 +102,7 @@ fn prolog_start<'input>(
         → IsInState limit end (start_state cursor.old.pos) cursor.old builder.old
         → ScansTo limit end result cursor.new builder.new
         (lifted (beginning limit cursor.old.text.now)) }
-    ensures fine { OnOk result (IsConsistent builder.new.tables builder.new.opened.items) }
-    ensures source { cursor.new.text ≡ cursor.old.text }
+    ensures goes { OnOk result (GoesOn cursor.old cursor.new builder.new) }
 {
     cursor.xml_decl_if()?;
     misc(alloc, cursor, builder)
@@ -129,8 +126,7 @@ fn doctype<'input, R: EntityResolver<'input>>(
         (λ replies. whole.doctype limit allow cursor.old.text.now (left_with replies d))
         (λ asked some. IsDoctypeReadTo limit end allow cursor.old.text.now d cursor.new builder.new
         entities.new asked some) result }
-    ensures fine { OnOk result (IsConsistent builder.new.tables builder.new.opened.items) }
-    ensures source { cursor.new.text ≡ cursor.old.text }
+    ensures goes { OnOk result (GoesOn cursor.old cursor.new builder.new) }
 {
     if !cursor.starts(Word::DoctypeStart) {
         return Ok(false);
@@ -154,8 +150,7 @@ fn rest<'input>(
     ensures value { (limit end : ℕ) (es : List Entity) (s : State) → AreDeclared es entities.now
         → IsInState limit end s cursor.old builder.old → s.stack ≡ root
         → Finishes end result builder.new (root_read limit es cursor.old.text.now s) }
-    ensures fine { OnOk result (IsConsistent builder.new.tables builder.new.opened.items) }
-    ensures source { cursor.new.text ≡ cursor.old.text }
+    ensures goes { OnOk result (GoesOn cursor.old cursor.new builder.new) }
 {
     let some = body(alloc, cursor, builder, entities)?;
     if !cursor.is_at_end() {

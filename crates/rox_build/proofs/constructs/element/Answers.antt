@@ -117,17 +117,20 @@ returns-in_err-open_element-clause-value c = λ limit end es s declared h.
     (refused_too c.in_err-open_element.field-0.0 (lifted (opened_by limit s v.0 false t.openings_left d.pos)) (subst (λ r. ScansTo limit end r d c.open_element.new.self (lifted (opened_by limit s v.0 false t.openings_left d.pos))) c.in_err-open_element.was
     (open_stepped limit end t.openings_left s d old new b.nodes_limit c.open_element.new.self c.open_element.result t (scope_of s.stack) v.0 tg h.namespaces h.attributes h.limit_is c.open_element.ensures.kept.openings_left c.open_element.ensures.kept.tables c.open_element.ensures.kept.limit adds)))
 
-pub returns-then-tag-clause-fine : goal.returns-then-tag-clause-fine
-returns-then-tag-clause-fine c =
+pub returns-then-tag-clause-goes : goal.returns-then-tag-clause-goes
+returns-then-tag-clause-goes c =
     let d = some_declare c.args.context.entities.now in
     let v = c.in_ok-tag.ensures.value d.0 d.1 in
     let b = c.args.builder.now in
-    subst (λ r. OnOk r (IsConsistent c.leaf.new.self.tables c.leaf.new.self.opened.items)) c.in_ok-leaf.was
-    (fine_kept c.leaf.result c.start_tag.new.elements b.opened.items c.leaf.new.self (fine_by b.tables c.start_tag.new.elements c.in_ok-tag.tag _ v.0 b.opened.items v.2 c.requires.fine) c.leaf.ensures.kept.tables
-    (ap (λ x. x.items) c.leaf.ensures.kept.opened))
+    record {
+      source = c.start_tag.ensures.source;
+      fine = subst (λ r. OnOk r (IsConsistent c.leaf.new.self.tables c.leaf.new.self.opened.items)) c.in_ok-leaf.was
+          (fine_kept c.leaf.result c.start_tag.new.elements b.opened.items c.leaf.new.self (fine_by b.tables c.start_tag.new.elements c.in_ok-tag.tag _ v.0 b.opened.items v.2 c.requires.fine) c.leaf.ensures.kept.tables
+          (ap (λ x. x.items) c.leaf.ensures.kept.opened));
+    }
 
-pub returns-clause-fine : goal.returns-clause-fine
-returns-clause-fine c =
+pub returns-clause-goes : goal.returns-clause-goes
+returns-clause-goes c =
     let d = some_declare c.args.context.entities.now in
     let v = c.in_ok-tag.ensures.value d.0 d.1 in
     let b = c.args.builder.now in
@@ -136,10 +139,13 @@ returns-clause-fine c =
     let t = c.in_ok-tag.tag in
     let opens = subst (λ (text : List ℕ). OnOk c.open_element.result ((x : OpenElement) × (c.open_element.new.self.opened.items ≡ b.opened.items ++ x ∷ []) × IsOpened text t x))
     (ap (λ x. x.now) c.start_tag.ensures.source) c.open_element.ensures.opened in
-    subst (λ r. OnOk r (IsConsistent c.open_element.new.self.tables c.open_element.new.self.opened.items)) c.in_ok-open_element.was
-    (fine_more c.open_element.result c.start_tag.new.elements b.opened.items c.open_element.new.self src t
-    (fine_by b.tables c.start_tag.new.elements t _ v.0 b.opened.items v.2 c.requires.fine) c.open_element.ensures.kept.tables opens v.2.element.scope_within v.2.once (namespace_by b.tables c.start_tag.new.elements t _ v.0 v.2)
-    (λ o by. opened_named _ _ _ _ _ src cursor.pos _ _ _ t o cursor.utf8 c.requires.here v.1 v.2.name v.2.name_end c.in_ok-tag.ensures.starts by))
+    record {
+      source = c.start_tag.ensures.source;
+      fine = subst (λ r. OnOk r (IsConsistent c.open_element.new.self.tables c.open_element.new.self.opened.items)) c.in_ok-open_element.was
+          (fine_more c.open_element.result c.start_tag.new.elements b.opened.items c.open_element.new.self src t
+          (fine_by b.tables c.start_tag.new.elements t _ v.0 b.opened.items v.2 c.requires.fine) c.open_element.ensures.kept.tables opens v.2.element.scope_within v.2.once (namespace_by b.tables c.start_tag.new.elements t _ v.0 v.2)
+          (λ o by. opened_named _ _ _ _ _ src cursor.pos _ _ _ t o cursor.utf8 c.requires.here v.1 v.2.name v.2.name_end c.in_ok-tag.ensures.starts by));
+    }
 
 pub open_element-requires : goal.open_element-requires
 open_element-requires c =

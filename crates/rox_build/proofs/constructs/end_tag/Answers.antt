@@ -1,4 +1,4 @@
-use Rattle.std.proofs.Common.{◌≡◌, ◌++◌, ◌∷◌, [], ◌-◌, refl, sym, ap, ◌∙◌, List, arith, length, take, Err}
+use Rattle.std.proofs.Common.{◌≡◌, ◌++◌, ◌∷◌, [], ◌-◌, refl, sym, subst, ap, ◌∙◌, List, arith, length, take, Err}
 use Rattle.std.proofs.lemmas.Bool.{lt-leb, le-leb}
 use Rattle.std.proofs.lemmas.Result.{err_from_is_err_and}
 use Rattle.std.proofs.Common.{slice_get, None, inl, inr}
@@ -8,10 +8,12 @@ use Rattle.rox_grammar.specs.Failures.{name_view}
 use Rattle.rox_reading.specs.Machine.{name_span}
 use Rattle.rox_values.specs.Contexts.{context_of}
 use Rattle.rox_reading.specs.Refusals.{here, lifted}
-use Rattle.rox_build.specs.BuilderState.{opened_in}
+use Rattle.rox_build.specs.BuilderState.{IsConsistent, IsOpenWithin, opened_in}
 use Rattle.rox_build.specs.declared.builder.OpenElement.{OpenElement}
 use Rattle.rox_grammar.specs.declared.fault.Span.{Span}
 use Rattle.rox_grammar.specs.declared.fault.Fault.TheVariants as fault
+use Rattle.rox_tables.proofs.Stable.{all_take}
+use Rattle.rox_tables.specs.declared.rows.tables.ElementTables.{ElementTables}
 use Rattle.rox_build.proofs.Showing.{last_split}
 use Rattle.rox_build.proofs.Stepping.{end_is, end_fails, end_below, opened_deep, closed_at_root, closed_other, closed_stepped}
 use Rattle.rox_build.proofs.constructs.end_tag.Goals as goal
@@ -83,3 +85,16 @@ returns-clause-value c = λ limit end es s h.
     let same = sym c.same_qname.ensures ∙ c.if-not-same_qname.false in
     rw (end_is (context_of limit es c.args.context) src s pos d.pos t h.here c.in_ok-tag.ensures.value (let k = opened_deep end s.stack s.done b h.shows in let l = c.len.ensures in let m = c.if-len-context.false in lt-leb _ _ (omega arith)))
     (closed_stepped limit end s c.args.cursor.now d b c.close.new.self outer o pos t.name_end t.name h split same c.close.ensures.kept.tables c.close.ensures.kept.limit c.close.ensures.kept.openings_left c.in_ok-close.ensures.ok)
+
+pub returns-clause-goes : goal.returns-clause-goes
+returns-clause-goes c =
+    let b = c.args.builder.now in
+    let f = c.requires.fine in
+    let n = length b.opened.items - 1 in
+    let taken : IsConsistent b.tables (take n b.opened.items) =
+    record { sound = f.sound; elements = all_take (IsOpenWithin b.tables) n b.opened.items f.elements; empty = f.empty; kept = f.kept; few_names = f.few_names; few_attributes = f.few_attributes } in
+    record {
+      source = search;
+      fine = subst (λ (qs : List OpenElement). IsConsistent c.close.new.self.tables qs) (sym c.in_ok-close.ensures.opened)
+          (subst (λ (t : ElementTables). IsConsistent t (take n b.opened.items)) (sym c.close.ensures.kept.tables) taken);
+    }

@@ -175,7 +175,7 @@ data_parts-returns-in-None-clause-value t c = λ limit end es s declared h.
 
 pub data_parts-loop-turn-preserved : goal.data_parts-loop-turn-preserved
 data_parts-loop-turn-preserved t c = record {
-  source = c.in_ok-text.ensures.source ∙ c.loop-turn.invariant.source;
+  source = c.in_ok-text.ensures.goes.source ∙ c.loop-turn.invariant.source;
   fine = c.in_ok-open_text-in-Some.ensures.fine;
   reads = λ limit end es s declared h.
       let src = c.args.cursor.now.text.now in
@@ -269,8 +269,8 @@ content_text-returns-in_err-inner_step-clause-value t c = λ limit end es s decl
 
 pub content_text-loop-turn-preserved : goal.content_text-loop-turn-preserved
 content_text-loop-turn-preserved t c = record {
-  source = c.in_ok-inner_step.ensures.source ∙ c.loop-turn.invariant.source;
-  fine = c.in_ok-inner_step.ensures.fine;
+  source = c.in_ok-inner_step.ensures.goes.source ∙ c.loop-turn.invariant.source;
+  fine = c.in_ok-inner_step.ensures.goes.fine;
   reads = λ limit end es s declared h at.
       let src = c.args.text.text.now in
       let n = length src - c.loop-turn._turn in

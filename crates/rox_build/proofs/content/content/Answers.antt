@@ -38,7 +38,7 @@ returns-then-is_at_end-clause-value c = λ limit end es s declared sees.
     let src = c.args.cursor.now.text.now in
     let context = context_of limit es c.args.context in
     let s0 = ap (λ t. t.now) c.loop-left.invariant.source in
-    let s1 = ap (λ t. t.now) c.plain_stretch-read.ensures.source ∙ s0 in
+    let s1 = ap (λ t. t.now) c.plain_stretch-read.ensures.goes.source ∙ s0 in
     let k = c.plain_stretch-read.result in
     let few : k ≤ c.loop-left.left = (let n = c.plain_stretch-read.ensures.count in let m = c.min-pairs.ensures in omega arith) in
     let g0 = c.loop-left.invariant.reads limit end es s declared sees in
@@ -49,8 +49,8 @@ returns-then-is_at_end-clause-value c = λ limit end es s declared sees.
 
 pub loop-left-preserved-then-read-pairs : goal.loop-left-preserved-then-read-pairs
 loop-left-preserved-then-read-pairs c = record {
-  source = c.plain_stretch-read.ensures.source ∙ c.loop-left.invariant.source;
-  fine = c.plain_stretch-read.ensures.fine;
+  source = c.plain_stretch-read.ensures.goes.source ∙ c.loop-left.invariant.source;
+  fine = c.plain_stretch-read.ensures.goes.fine;
   reads = λ limit end es s declared sees.
       let src = c.args.cursor.now.text.now in
       let context = context_of limit es c.args.context in
@@ -63,13 +63,13 @@ loop-left-preserved-then-read-pairs c = record {
 
 pub loop-left-preserved-then-plain_main_line : goal.loop-left-preserved-then-plain_main_line
 loop-left-preserved-then-plain_main_line c = record {
-  source = c.plain_main_line.ensures.source ∙ c.plain_stretch-read.ensures.source ∙ c.loop-left.invariant.source;
-  fine = c.plain_main_line.ensures.fine;
+  source = c.plain_main_line.ensures.goes.source ∙ c.plain_stretch-read.ensures.goes.source ∙ c.loop-left.invariant.source;
+  fine = c.plain_main_line.ensures.goes.fine;
   reads = λ limit end es s declared sees.
       let src = c.args.cursor.now.text.now in
       let context = context_of limit es c.args.context in
       let s0 = ap (λ t. t.now) c.loop-left.invariant.source in
-      let s1 = ap (λ t. t.now) c.plain_stretch-read.ensures.source ∙ s0 in
+      let s1 = ap (λ t. t.now) c.plain_stretch-read.ensures.goes.source ∙ s0 in
       let k = c.plain_stretch-read.result in
       let n = c.loop-left.left - k in
       let one : n ≡ suc (n - 1) = (let more = c.if-left-eq0.false in omega arith) in
@@ -85,14 +85,14 @@ loop-left-preserved-then-plain_main_line c = record {
 
 pub loop-left-preserved : goal.loop-left-preserved
 loop-left-preserved c = record {
-  source = c.in_ok-general_step.ensures.source ∙ c.plain_main_line.ensures.source ∙ c.plain_stretch-read.ensures.source ∙ c.loop-left.invariant.source;
-  fine = c.in_ok-general_step.ensures.fine;
+  source = c.in_ok-general_step.ensures.goes.source ∙ c.plain_main_line.ensures.goes.source ∙ c.plain_stretch-read.ensures.goes.source ∙ c.loop-left.invariant.source;
+  fine = c.in_ok-general_step.ensures.goes.fine;
   reads = λ limit end es s declared sees.
       let src = c.args.cursor.now.text.now in
       let context = context_of limit es c.args.context in
       let s0 = ap (λ t. t.now) c.loop-left.invariant.source in
-      let s1 = ap (λ t. t.now) c.plain_stretch-read.ensures.source ∙ s0 in
-      let s2 = ap (λ t. t.now) c.plain_main_line.ensures.source ∙ s1 in
+      let s1 = ap (λ t. t.now) c.plain_stretch-read.ensures.goes.source ∙ s0 in
+      let s2 = ap (λ t. t.now) c.plain_main_line.ensures.goes.source ∙ s1 in
       let k = c.plain_stretch-read.result in
       let n = c.loop-left.left - k in
       let one : n ≡ suc (n - 1) = (let more = c.if-left-eq0.false in omega arith) in
@@ -111,8 +111,8 @@ returns-in_err-general_step-clause-value c = λ limit end es s declared sees.
     let src = c.args.cursor.now.text.now in
     let context = context_of limit es c.args.context in
     let s0 = ap (λ t. t.now) c.loop-left.invariant.source in
-    let s1 = ap (λ t. t.now) c.plain_stretch-read.ensures.source ∙ s0 in
-    let s2 = ap (λ t. t.now) c.plain_main_line.ensures.source ∙ s1 in
+    let s1 = ap (λ t. t.now) c.plain_stretch-read.ensures.goes.source ∙ s0 in
+    let s2 = ap (λ t. t.now) c.plain_main_line.ensures.goes.source ∙ s1 in
     let k = c.plain_stretch-read.result in
     let n = c.loop-left.left - k in
     let one : n ≡ suc (n - 1) = (let more = c.if-left-eq0.false in omega arith) in

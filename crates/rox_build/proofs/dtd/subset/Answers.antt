@@ -64,8 +64,8 @@ returns-then-branch-clause-value g c = λ limit end d sees declared.
 
 pub loop-turn-preserved : goal.loop-turn-preserved
 loop-turn-preserved g c = record {
-  source = c.in_ok-item.ensures.source ∙ c.loop-turn.invariant.source;
-  fine = c.in_ok-item.ensures.fine;
+  source = c.in_ok-item.ensures.goes.source ∙ c.loop-turn.invariant.source;
+  fine = c.in_ok-item.ensures.goes.fine;
   reads = λ limit end d sees declared.
       let src = c.args.cursor.now.text.now in
       let n = length src - c.loop-turn._turn in

@@ -42,17 +42,20 @@ returns-clause-value c = λ _ context end s h.
     ∙ ap (λ (y : Bool). lifted (opened_by context.limit s x.tag y s.openings_left e)) c.in-Some-bare_start_tag.ensures.opens)
     (open_stepped context.limit end s.openings_left s _ old old b.nodes_limit c.put_open.new.self (Ok tt) t (scope_of s.stack) x.tag tg h.namespaces h.attributes h.limit_is (c.put_open.ensures.kept.openings_left ∙ h.openings_left_is) c.put_open.ensures.kept.tables c.put_open.ensures.kept.limit adds)
 
-pub returns-clause-fine : goal.returns-clause-fine
-returns-clause-fine c =
+pub returns-clause-goes : goal.returns-clause-goes
+returns-clause-goes c =
     let b = c.args.builder.now in
     let cursor = c.args.cursor.now in
     let src = cursor.text.now in
     let x = c.in-Some-bare_start_tag.ensures.read in
     let t = c.in-Some-bare_start_tag.bare.tag in
     let context : Values = record { main = true; entities = []; opener = λ text i openings_left. Ok ([], openings_left) } in
-    fine_more (Ok tt) b.tables b.opened.items c.put_open.new.self src t
-    (fine_by b.tables b.tables t _ x.tag b.opened.items x.tagged c.requires.fine) c.put_open.ensures.kept.tables c.put_open.ensures.opened x.tagged.element.scope_within x.tagged.once (namespace_by b.tables b.tables t _ x.tag x.tagged)
-    (λ o by. opened_named context fault.NoRootNode _ _ _ src cursor.pos t.openings_left _ _ t o cursor.utf8 c.requires.here (x.read context fault.NoRootNode) x.tagged.name x.tagged.name_end x.starts by)
+    record {
+      source = refl;
+      fine = fine_more (Ok tt) b.tables b.opened.items c.put_open.new.self src t
+          (fine_by b.tables b.tables t _ x.tag b.opened.items x.tagged c.requires.fine) c.put_open.ensures.kept.tables c.put_open.ensures.opened x.tagged.element.scope_within x.tagged.once (namespace_by b.tables b.tables t _ x.tag x.tagged)
+          (λ o by. opened_named context fault.NoRootNode _ _ _ src cursor.pos t.openings_left _ _ t o cursor.utf8 c.requires.here (x.read context fault.NoRootNode) x.tagged.name x.tagged.name_end x.starts by);
+    }
 
 pub put_open-requires-clause-within : goal.put_open-requires-clause-within
 put_open-requires-clause-within c =

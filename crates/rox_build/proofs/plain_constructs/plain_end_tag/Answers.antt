@@ -1,4 +1,4 @@
-use Rattle.std.proofs.Common.{◌≡◌, ◌++◌, ◌∷◌, [], ◌-◌, ◌+◌, List, false, sym, subst, ap, ◌∙◌, arith, length, take, drop, slice_index, Ok, leb}
+use Rattle.std.proofs.Common.{◌≡◌, ◌++◌, ◌∷◌, [], ◌-◌, ◌+◌, List, false, refl, sym, subst, ap, ◌∙◌, arith, length, take, drop, slice_index, Ok, leb}
 use Rattle.std.specs.List.{AllByRecursion}
 use Rattle.std.proofs.lemmas.Bool.{lt-leb, eqb-true}
 use Rattle.std.proofs.lemmas.List.{take_rest}
@@ -41,15 +41,18 @@ returns-clause-value c = λ _ context end s around h.
 pub put_close-requires-clause-short : goal.put_close-requires-clause-short
 put_close-requires-clause-short c = omega (arith, c.requires.short, c.after_byte-end.ensures.cut.0)
 
-pub returns-clause-fine : goal.returns-clause-fine
-returns-clause-fine c =
+pub returns-clause-goes : goal.returns-clause-goes
+returns-clause-goes c =
     let b = c.args.builder.now in
     let f = c.requires.fine in
     let n = length b.opened.items - 1 in
     let taken : IsConsistent b.tables (take n b.opened.items) =
     record { sound = f.sound; elements = all_take (IsOpenWithin b.tables) n b.opened.items f.elements; empty = f.empty; kept = f.kept; few_names = f.few_names; few_attributes = f.few_attributes } in
-    subst (λ (qs : List OpenElement). IsConsistent c.put_close.new.self.tables qs) (sym c.put_close.ensures.opened)
-    (subst (λ (t : ElementTables). IsConsistent t (take n b.opened.items)) (sym c.put_close.ensures.kept.tables) taken)
+    record {
+      source = refl;
+      fine = subst (λ (qs : List OpenElement). IsConsistent c.put_close.new.self.tables qs) (sym c.put_close.ensures.opened)
+          (subst (λ (t : ElementTables). IsConsistent t (take n b.opened.items)) (sym c.put_close.ensures.kept.tables) taken);
+    }
 
 pub returns-clause-ready : goal.returns-clause-ready
 returns-clause-ready c = λ _ n h. c.put_close.ensures.ready n (ready_fewer (n + 1) n c.args.builder.now (omega arith) h)

@@ -43,8 +43,8 @@ loop-left-preserved c =
       | else-bytes-here-ne60 w ↦ omega (arith, w.read-is)
     ] in
     record {
-      source = c.plain_markup.ensures.source ∙ source;
-      fine = c.plain_markup.ensures.fine;
+      source = c.plain_markup.ensures.goes.source ∙ source;
+      fine = c.plain_markup.ensures.goes.fine;
       count = omega (arith, most, some, c.loop-left.invariant.count);
       ready = λ more.
           let n = 2 * (c.loop-left.left - 1) in

@@ -37,7 +37,7 @@ returns-in_err-dtd-clause-value g c = λ limit end here sees.
     let q = err_from_is_err_and c.from_residual-in_err-dtd.result c.from_residual-in_err-dtd.ensures.1 in
     let src = c.args.cursor.now.text.now in
     let l = c.in_ok-prolog_start.ensures.value limit end here sees in
-    let same = ap (λ t. t.now) c.in_ok-prolog_start.ensures.source in
+    let same = ap (λ t. t.now) c.in_ok-prolog_start.ensures.goes.source in
     let x = rw same at (c.in_err-dtd.ensures.value limit end (undeclared l.0) l.2 c.new-entities.ensures) in
     beginning_parts limit src l.0 (lifted_ok (beginning limit src) l.0 l.1) (λ i is before. (
       x.0,
@@ -53,10 +53,10 @@ returns-in_err-rest-clause-value g c = λ limit end here sees.
     let q = err_from_is_err_and c.from_residual-in_err-rest.result c.from_residual-in_err-rest.ensures.1 in
     let src = c.args.cursor.now.text.now in
     let l = c.in_ok-prolog_start.ensures.value limit end here sees in
-    let same = ap (λ t. t.now) c.in_ok-prolog_start.ensures.source in
+    let same = ap (λ t. t.now) c.in_ok-prolog_start.ensures.goes.source in
     let x = rw same at (c.in_ok-dtd.ensures.value limit end (undeclared l.0) l.2 c.new-entities.ensures) in
     let d = x.2.read.dtd in
-    let text = ap (λ t. t.now) c.in_ok-dtd.ensures.source ∙ same in
+    let text = ap (λ t. t.now) c.in_ok-dtd.ensures.goes.source ∙ same in
     beginning_parts limit src l.0 (lifted_ok (beginning limit src) l.0 l.1) (λ i is before.
     let none = top limit c.args.allow src i l.0 x.0 d before x.2.read.answered in
     let k = rw text at (c.in_err-rest.ensures.value limit end d.entities d.state x.2.read.declared x.2.read.sees none) in
@@ -66,10 +66,10 @@ pub returns-clause-value : goal.returns-clause-value
 returns-clause-value g c = λ limit end here sees.
     let src = c.args.cursor.now.text.now in
     let l = c.in_ok-prolog_start.ensures.value limit end here sees in
-    let same = ap (λ t. t.now) c.in_ok-prolog_start.ensures.source in
+    let same = ap (λ t. t.now) c.in_ok-prolog_start.ensures.goes.source in
     let x = rw same at (c.in_ok-dtd.ensures.value limit end (undeclared l.0) l.2 c.new-entities.ensures) in
     let d = x.2.read.dtd in
-    let text = ap (λ t. t.now) c.in_ok-dtd.ensures.source ∙ same in
+    let text = ap (λ t. t.now) c.in_ok-dtd.ensures.goes.source ∙ same in
     let begun = lifted_ok (beginning limit src) l.0 l.1 in
     beginning_parts limit src l.0 begun (λ i is before.
     let none = top limit c.args.allow src i l.0 x.0 d before x.2.read.answered in

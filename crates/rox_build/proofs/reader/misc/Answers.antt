@@ -61,8 +61,8 @@ returns-else-starts-2-clause-value c = λ limit end s sees.
 pub loop-turn-preserved : goal.loop-turn-preserved
 loop-turn-preserved c = elim c.if-starts.branch [
   | then-starts+in_ok-comment w ↦ record {
-    source = ap (λ (x : Cursor). x.text) w.cursor-is ∙ w.in_ok-comment.ensures.source ∙ c.spaces.ensures.source ∙ c.loop-turn.invariant.source;
-    fine = rw w.builder-is w.in_ok-comment.ensures.fine;
+    source = ap (λ (x : Cursor). x.text) w.cursor-is ∙ w.in_ok-comment.ensures.goes.source ∙ c.spaces.ensures.source ∙ c.loop-turn.invariant.source;
+    fine = rw w.builder-is w.in_ok-comment.ensures.goes.fine;
     reads = λ limit end s sees.
         let src = c.args.cursor.now.text.now in
         let n = length src - c.loop-turn._turn in
@@ -78,8 +78,8 @@ loop-turn-preserved c = elim c.if-starts.branch [
         rw (w.cursor-is, w.builder-is) (comment_on limit end src _ n (length src - (c.loop-turn._turn + 1)) c.loop-turn.cursor _ c.loop-turn.builder _ _ g one is stepped);
   }
   | else-starts+then-starts-2+in_ok-instruction w ↦ record {
-    source = ap (λ (x : Cursor). x.text) w.cursor-is ∙ w.in_ok-instruction.ensures.source ∙ c.spaces.ensures.source ∙ c.loop-turn.invariant.source;
-    fine = rw w.builder-is w.in_ok-instruction.ensures.fine;
+    source = ap (λ (x : Cursor). x.text) w.cursor-is ∙ w.in_ok-instruction.ensures.goes.source ∙ c.spaces.ensures.source ∙ c.loop-turn.invariant.source;
+    fine = rw w.builder-is w.in_ok-instruction.ensures.goes.fine;
     reads = λ limit end s sees.
         let src = c.args.cursor.now.text.now in
         let n = length src - c.loop-turn._turn in
