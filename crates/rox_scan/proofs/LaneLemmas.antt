@@ -125,36 +125,6 @@ looked_up t g v js fits e small =
 abbrev pub differs : ℕ → ℕ → ℕ
 differs a b = cond (not (eqb a b)) 255 0
 
--- ---- thirty-two lanes
-
-abbrev pub IsWideBlock : List ℕ → Type 0
-IsWideBlock v = (length v ≡ 32) × Each1 (Fits w8) v
-
-pub wide_high_ok : (v : List ℕ) → IsWideBlock v → SwzOk w8 16 32 0 (zip2 down v (replicate 32 4))
-wide_high_ok v fits =
-    let small = Each1-weaker (λ a. a < 256) (λ a. a / 16 < 16) (λ a h. omega arith) v (below_from_Fits w8 v fits.1) in
-    SwzOk-from_below w8 16 2 32 0 (zip2 down v (replicate 32 4)) refl (omega (arith, length-zip2 down v (replicate 32 4) fits.0))
-    (Each1-zip2 down (λ j. j < 16) v (replicate 32 4) (Each2-splat (λ a b. down a b < 16) v 32 4 small))
-
-pub wide_low_ok : (v : List ℕ) → IsWideBlock v → SwzOk w8 16 32 0 (zip2 bit_and v (replicate 32 15))
-wide_low_ok v fits =
-    let small = Each1-all (λ a. bit_and a 15 < 16) (λ a. omega (arith, and_le_r a 15)) v in
-    SwzOk-from_below w8 16 2 32 0 (zip2 bit_and v (replicate 32 15)) refl (omega (arith, length-zip2 bit_and v (replicate 32 15) fits.0))
-    (Each1-zip2 bit_and (λ j. j < 16) v (replicate 32 15) (Each2-splat (λ a b. bit_and a b < 16) v 32 15 small))
-
--- a table that stands twice is read alike in both halves
-pub looked_up_twice : (t wide : List ℕ) (g : ℕ → ℕ) (v js : List ℕ) → IsWideBlock v → ((k : ℕ) → k < 32 → get_or wide k 0 ≡ get_or t (k % 16) 0) → js ≡ map g v → ((x : ℕ) → x < 256 → g x < 16)
-    → swz_l w8 16 wide 0 js ≡ map (λ x. get_or t (g x) 0) v
-looked_up_twice t wide g v js fits twice e small =
-    let long : length js ≡ 32 = ap length e ∙ length-map v g ∙ fits.0 in
-    ext_get_or 0 _ _ (length-swz_l w8 16 wide 0 js ∙ long ∙ sym (length-map v (λ x. get_or t (g x) 0) ∙ fits.0)) (λ i h.
-    let lt : i < 32 = omega (arith, length-swz_l w8 16 wide 0 js) in
-    let within : i < length v = omega (arith, fits.0) in
-    let is : get_or js i 0 ≡ g (get_or v i 0) = ap (λ l. get_or l i 0) e ∙ get_or-map g v i 0 0 within in
-    let below : get_or js i 0 < 16 = omega (arith, small (get_or v i 0) (lane_fits v i fits.1)) in
-    get_or-swz_l_below w8 16 wide 0 js i (omega arith) below
-    ∙ twice (16 * ((0 + i) / 16) + get_or js i 0) (omega arith) ∙ ap (λ k. get_or t k 0) (omega arith) ∙ ap (λ k. get_or t k 0) is ∙ sym (get_or-map (λ x. get_or t (g x) 0) v i 0 0 within))
-
 halved : (b : Bool) (m : ℕ) → (cond b 1 0 + 2 * m) / 2 ^ 1 ≡ m
 halved true m = omega arith
 halved false m = omega arith

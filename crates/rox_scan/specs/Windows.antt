@@ -4,11 +4,11 @@ use Rattle.std.specs.Simd.Lanes.{mask_l}
 use Rattle.rox_scan.specs.ByteSets.{is_part_byte, is_value_byte}
 use Rattle.rox_scan.specs.declared.window.Window.{Window}
 
--- those from i up to j, at most thirty-two
+-- those from i up to j, at most sixteen
 pub record IsSeen (p : ℕ → Bool) (src : List ℕ) (i j others : ℕ) : Type 0 where
   pub onward : i ≤ j
   pub within : j ≤ length src
-  pub few : j ≤ i + 32
+  pub few : j ≤ i + 16
   pub mask : others ≡ mask_l (map (λ b. not (p b)) (take (j - i) (drop i src)))
 
 -- a window tells both sets

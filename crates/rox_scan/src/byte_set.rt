@@ -11,7 +11,7 @@ ghost use Rattle.rox_scan.specs.ByteSets.{AllPass, EndsSet};
 ghost use Rattle.rox_scan.specs.ScanResults.{Finds};
 
 use crate::chars;
-use crate::nibbles::{classes, wide_classes};
+use crate::nibbles::classes;
 use crate::runs::{PartChar, run_end};
 use std::simd::prelude::*;
 
@@ -49,16 +49,6 @@ impl ByteSet for ValueByte {
             .simd_ne(u8x16::splat(0))
             .to_bitmask()
     }
-}
-
-/// A bit for each of thirty-two bytes that is not in the set, the lowest for the first.
-#[inline(always)]
-pub(crate) fn value_others(block: u8x32) -> u64
-    ensures { result ≡ mask_l (map (λ b. not (near.is_value_byte b)) block) }
-{
-    wide_classes(VALUE_LOW, VALUE_HIGH, block)
-        .simd_ne(u8x32::splat(0))
-        .to_bitmask()
 }
 
 /// The bytes of a comment that stand for themselves.
@@ -131,16 +121,6 @@ impl ByteSet for PartByte {
             .simd_eq(u8x16::splat(0))
             .to_bitmask()
     }
-}
-
-/// A bit for each of thirty-two bytes that is not in the set, the lowest for the first.
-#[inline(always)]
-pub(crate) fn part_others(block: u8x32) -> u64
-    ensures { result ≡ mask_l (map (λ b. not (near.is_part_byte b)) block) }
-{
-    wide_classes(PART_LOW, PART_HIGH, block)
-        .simd_eq(u8x32::splat(0))
-        .to_bitmask()
 }
 
 /// White space (XML 1.0 [3] S).

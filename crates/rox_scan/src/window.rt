@@ -1,16 +1,15 @@
-//! Thirty-two bytes of a tag, seen at once: the end of a value that begins among them does not wait for that of the name before it.
+//! Sixteen bytes of a tag, seen at once: the end of a value that begins among them, or behind them, does not wait for that of the
+//! name before it.
 
 ghost use Rattle.std.specs.Prelude.{◌≡◌, ◌≤◌, length};
 ghost use Rattle.rox_scan.specs.ByteSets.{EndsSet, is_part_byte, is_value_byte};
 ghost use Rattle.rox_scan.specs.Windows.{IsSeen, Sees};
 
-use crate::byte_set::{
-    ByteSet, PartByte, ValueByte, before_first, part_others, skip_set, value_others,
-};
+use crate::byte_set::{ByteSet, PartByte, ValueByte, before_first, skip_set};
 use std::simd::prelude::*;
 
 /// How many bytes are seen at once.
-const WIDTH: usize = 32;
+const WIDTH: usize = 16;
 
 /// What was seen from `at` up to `end`.
 #[derive(Clone, Copy)]
@@ -42,7 +41,7 @@ fn seen_end<C: ByteSet>(text: &str, at: usize, end: usize, others: u64, from: us
 }
 
 impl Window {
-    /// What is seen from `at` on: thirty-two bytes, or none where there are fewer.
+    /// What is seen from `at` on: sixteen bytes, or none where there are fewer.
     #[inline(always)]
     pub fn new(text: &str, at: usize) -> Window
         requires { at ≤ length text.now }
@@ -58,12 +57,14 @@ impl Window {
                 values: 0,
             };
         }
-        let block = u8x32::from_slice(&bytes[at..]);
+        let block = u8x16::from_slice(&bytes[at..]);
+        let parts = PartByte::others(block);
+        let values = ValueByte::others(block);
         Window {
             at,
             end: at + WIDTH,
-            parts: part_others(block),
-            values: value_others(block),
+            parts,
+            values,
         }
     }
 
