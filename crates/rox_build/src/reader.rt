@@ -26,6 +26,7 @@ use rox_grammar::fault::{Fault, Word};
 use rox_scan::cursor::Cursor;
 use rox_scan::source::start_of;
 use rox_tables::rows::attributes::AttributeTable;
+use rox_tables::rows::forecast::first_rows;
 use rox_tables::rows::node_table::NodeTable;
 use rox_tables::rows::tables::Tables;
 use rox_values::context::Context;
@@ -204,12 +205,13 @@ pub fn build<'input, R: EntityResolver<'input>>(
 {
     let mut cursor: Cursor<'input> = start_of(text);
     let bytes = text.len();
+    let rows = first_rows(text);
     // An allocator often gives places in turn, and a table behind which nothing stands grows where it is: the rows come last.
-    let attributes = AttributeTable::of_text(alloc, bytes);
+    let attributes = AttributeTable::of_text(alloc, bytes, rows.attributes);
     let scopes = empty_scope(alloc)?;
     let opened = Vec::with_capacity(alloc, ROOM_TO_OPEN)?;
     let taken = Vec::with_capacity(alloc, ROOM_OF_A_TAG)?;
-    let nodes = NodeTable::of_text(alloc, bytes)?;
+    let nodes = NodeTable::of_text(alloc, bytes, rows.nodes)?;
     let first = FirstTables {
         attributes,
         scopes,

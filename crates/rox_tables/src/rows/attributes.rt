@@ -16,27 +16,16 @@ pub struct AttributeTable<'input> {
     pub unusual: Vec<AttributePlaces>,
     /// Where the text ends.
     pub text_end: usize,
+    /// How many there is room for at first.
+    pub first: usize,
     /// Whether there was no memory for more: then no more is asked for, so that no refusal is passed over.
     pub refused: bool,
     pub ghost numbered: { AreNumbered 0 items.items } by { AreNumbered-prop 0 items.items },
     pub ghost counted: { length unusual.items ≡ unusual_count items.items },
 }
 
-/// How many attributes a table begins with room for, at most.
-const FIRST_ATTRIBUTES: usize = 32768;
-
-/// How many more than its length alone lets expect, so that the table of a short text seldom grows.
-const MORE_ATTRIBUTES: usize = 10;
-
-/// How many where there is no memory for so many.
+/// How many attributes a table begins with room for, where there is no memory for more.
 const FEWEST: usize = 4;
-
-/// How many attributes a table begins with room for, of a text of so many bytes.
-fn first_attributes(bytes: usize) -> usize
-    ensures { result ≡ min (bytes / 120 + 10) 32768 }
-{
-    (bytes / 120 + MORE_ATTRIBUTES).min(FIRST_ATTRIBUTES)
-}
 
 /// How many of these are unusual.
 fn count_unusual(rows: &[StoredAttribute<'_>]) -> usize
@@ -57,14 +46,15 @@ impl<'input> AttributeTable<'input> {
     ghost use Rattle.rox_tables.specs.UsualPlaces.{usual_places};
     ghost use Rattle.rox_tables.specs.Storage.{storage_bytes};
 
-    /// The table of a text of so many bytes, without attributes.
-    pub fn of_text(alloc: Global, bytes: usize) -> AttributeTable<'input>
+    /// The table of a text of so many bytes, without attributes, with room for so many.
+    pub fn of_text(alloc: Global, bytes: usize, room: usize) -> AttributeTable<'input>
         ensures { attribute_rows result ≡ [] }
     {
         AttributeTable {
-            items: with_room(alloc, first_attributes(bytes)),
+            items: with_room(alloc, room),
             unusual: Vec::new(alloc),
             text_end: bytes,
+            first: room,
             refused: false,
         }
     }
@@ -103,7 +93,7 @@ impl<'input> AttributeTable<'input> {
             return Err(AllocError);
         }
         let made = if self.items.is_empty() {
-            reserve(&mut self.items, first_attributes(self.text_end), FEWEST)
+            reserve(&mut self.items, self.first.max(FEWEST), FEWEST)
         } else {
             make_room(&mut self.items, place, self.text_end)
         };

@@ -82,6 +82,7 @@ pub(crate) fn first_room<T: Drop>(
     fewer: usize,
 ) -> Result<Vec<T>, AllocError>
     ensures items { IfOk result (λ table. table.items ≡ []) }
+    ensures room { IfOk result (λ table. min room fewer ≤ vec_capacity table) }
 {
     if let Ok(table) = Vec::with_capacity(alloc, room) {
         return Ok(table);

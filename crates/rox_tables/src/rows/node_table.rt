@@ -30,14 +30,8 @@ pub struct NodeTable<'input> {
     pub ghost within: { are_within (length instructions.items) rows.items ≡ true } by { Prim.hlevel props },
 }
 
-/// How many rows a table begins with room for, at most.
-const FIRST_ROWS: usize = 65536;
-
-/// And at least.
+/// How many rows a table begins with room for, where there is no memory for more.
 const FEWEST_ROWS: usize = 16;
-
-/// How many more there is room for at first, at most: the table of a short text seldom grows.
-const MORE_ROWS: usize = 32;
 
 /// The upper halves of a row's places, where these are those of the first rows.
 #[inline(always)]
@@ -112,16 +106,19 @@ fn close_stored(rows: &mut Vec<StoredNode<'_>>, count: u32)
 impl<'input> NodeTable<'input> {
     ghost use Rattle.rox_tables.specs.Rows.{node_rows};
 
-    /// The root node of a text of so many bytes, with some room for more. The only error is want of memory.
+    /// The root node of a text of so many bytes, with room for so many rows. The only error is want of memory.
     #[inline(always)]
-    pub fn of_text(alloc: Global, bytes: usize) -> Result<NodeTable<'input>, AllocError>
+    pub fn of_text(
+        alloc: Global,
+        bytes: usize,
+        room: usize,
+    ) -> Result<NodeTable<'input>, AllocError>
         ensures rows { IfOk result
             (λ t. node_rows t
             ≡ record { start = 0; end = bytes; parent = 0; subtree_end = 0; kind = kind.Root }
             ∷ []) }
         ensures len { IfOk result (λ t. vec_len t.rows ≡ 1) }
     {
-        let room = (bytes / 48 + (bytes / 72).min(MORE_ROWS) + FEWEST_ROWS).min(FIRST_ROWS);
         let rows = first_room(alloc, room, FEWEST_ROWS)?;
         let mut table = NodeTable {
             rows,

@@ -1,4 +1,4 @@
-use Rattle.std.proofs.Common.{◌<◌, ◌≤◌, ◌++◌, map, length, refl, sym, subst, ◌∙◌, arith}
+use Rattle.std.proofs.Common.{◌<◌, ◌≤◌, ◌++◌, map, length, sym, subst, arith}
 use Rattle.rox_tables.specs.Rows.{namespace_view}
 use Rattle.rox_tables.specs.Scopes.{entries}
 use Rattle.rox_tables.specs.Bindings.{bound_place, IsBound}

@@ -1,4 +1,4 @@
-use Rattle.std.proofs.Common.{◌≡◌, ◌<◌, ◌-◌, map, length, get_or, ap, refl, ◌∙◌, arith}
+use Rattle.std.proofs.Common.{◌≡◌, ◌<◌, ◌-◌, map, length, get_or, ap, ◌∙◌, arith}
 use Rattle.rox_tables.specs.Rows.{namespace_view}
 use Rattle.rox_tables.specs.Scopes.{places_in}
 use Rattle.rox_tables.specs.Bindings.{bound_place}
