@@ -29,6 +29,9 @@ const SHIFTS: usize = 32;
 /// So many bytes have one row at most, of each kind, however dense the sample is.
 const DENSEST: usize = 12;
 
+/// A short text has room for so many nodes more than its length foretells at most, and for twice as many attributes.
+const MORE_AT_FIRST: usize = 16;
+
 /// There is room for so many nodes more.
 const MORE_NODES: usize = 16;
 
@@ -94,12 +97,13 @@ fn by_sample(bytes: &[u8]) -> RowCounts
     }
 }
 
-/// What the length of a short text foretells. There is some room more, so that its tables seldom grow.
+/// What the length of a short text foretells, and room for some more, so that its tables seldom grow.
 #[inline(always)]
 fn by_length(len: usize) -> RowCounts {
+    let attributes = len / 120;
     RowCounts {
-        nodes: len / 48 + (len / 72).min(32),
-        attributes: len / 120,
+        nodes: len / 48 + (len / 72).min(MORE_AT_FIRST),
+        attributes: attributes + attributes.min(2 * MORE_AT_FIRST),
     }
 }
 
