@@ -44,6 +44,7 @@ pub struct Options {
 }
 
 /// Comments, processing instructions and white space.
+#[inline(always)]
 fn misc<'input>(
     alloc: Global,
     cursor: &mut Cursor<'input>,
