@@ -147,7 +147,7 @@ impl<'input> Cursor<'input> {
     }
 
     /// The same of the XML declaration, from `<?xml` and a space. Its answer is one word, so that nothing is cleared for it.
-    #[inline(never)]
+    #[inline(always)]
     #[tactic(auto, unfolding(rox_reading::specs::Markup::xml_decl_at))]
     fn usual_declaration(&mut self) -> bool
         requires { stands (word_text word.XmlDeclStart) self.old.text.now self.old.pos ≡ true }

@@ -263,9 +263,8 @@ fn scope_below_many<'input>(
     Ok(scope)
 }
 
-/// The same whatever that scope lists. It is called where a tag declares something or many are listed above it: what most tags
-/// do stays short without it.
-#[inline(never)]
+/// The same whatever that scope lists.
+#[inline(always)]
 fn scope_below<'input>(
     elements: &mut ElementTables<'input>,
     prefix_set: &BTreeSet<Option<&'input str>>,

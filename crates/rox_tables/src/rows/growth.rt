@@ -37,8 +37,7 @@ const SMALL: usize = 204;
 
 /// Makes room for `more` rows. Where that is refused and the table would not be small, it makes room for `fewer`. The only error
 /// is want of memory.
-#[cold]
-#[inline(never)]
+#[inline(always)]
 pub fn reserve<T: Drop>(to: &mut Vec<T>, more: usize, fewer: usize) -> Result<(), AllocError>
     ensures items { to.new.items ≡ to.old.items }
     ensures len { vec_len to.new ≡ vec_len to.old }
