@@ -134,8 +134,11 @@ impl SeenNames {
         ensures from { self.new.from ≡ self.old.from }
     {
         let count = attributes.items.len() - self.from;
+        if count == 0 {
+            return false;
+        }
         if count < WITHOUT_CODES {
-            return count == 1 && same_text(attributes.items[self.from].local, local);
+            return same_text(attributes.items[self.from].local, local);
         }
         self.put_few(attributes);
         self.put(local)
